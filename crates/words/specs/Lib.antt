@@ -1,0 +1,3 @@
+pub mod PlainQueue
+pub mod Refusal
+pub mod Text

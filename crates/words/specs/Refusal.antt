@@ -1,0 +1,70 @@
+-- The number, the name and the text of each refusal.
+use Rattle.std.specs.Prelude.{ℕ, List, ◌++◌, codes, decimal}
+use Rattle.words.specs.declared.refusal.Refusal.{Refusal}
+use Rattle.words.specs.declared.refusal.Refusal.TheVariants.{NoWord, BadMagic, BadCount, Truncated, TrailingBytes, NoMemory, BadClients, BadRecords, StaleNumber, Busy, NoRoom, NotReady, NoClient, Idle, AlreadyReady, BadName, Exists, DirectoryFull, Gap, Old, NoQueue, WrongKind, TooLong, BadJson, BadRequest, ReadFailed, WriteFailed, BadLine, Damaged}
+
+abbrev pub code_of : Refusal → ℕ
+code_of NoWord = 1
+code_of BadMagic = 2
+code_of BadCount = 3
+code_of Truncated = 4
+code_of TrailingBytes = 5
+code_of NoMemory = 6
+code_of BadClients = 7
+code_of BadRecords = 8
+code_of StaleNumber = 9
+code_of Busy = 10
+code_of NoRoom = 11
+code_of NotReady = 12
+code_of NoClient = 13
+code_of Idle = 14
+code_of AlreadyReady = 15
+code_of BadName = 16
+code_of Exists = 17
+code_of DirectoryFull = 18
+code_of Gap = 19
+code_of Old = 20
+code_of NoQueue = 21
+code_of WrongKind = 22
+code_of TooLong = 23
+code_of BadJson = 24
+code_of BadRequest = 25
+code_of ReadFailed = 26
+code_of WriteFailed = 27
+code_of BadLine = 28
+code_of Damaged = 29
+
+abbrev pub name_of : Refusal → List ℕ
+name_of NoWord = codes "NoWord"
+name_of BadMagic = codes "BadMagic"
+name_of BadCount = codes "BadCount"
+name_of Truncated = codes "Truncated"
+name_of TrailingBytes = codes "TrailingBytes"
+name_of NoMemory = codes "NoMemory"
+name_of BadClients = codes "BadClients"
+name_of BadRecords = codes "BadRecords"
+name_of StaleNumber = codes "StaleNumber"
+name_of Busy = codes "Busy"
+name_of NoRoom = codes "NoRoom"
+name_of NotReady = codes "NotReady"
+name_of NoClient = codes "NoClient"
+name_of Idle = codes "Idle"
+name_of AlreadyReady = codes "AlreadyReady"
+name_of BadName = codes "BadName"
+name_of Exists = codes "Exists"
+name_of DirectoryFull = codes "DirectoryFull"
+name_of Gap = codes "Gap"
+name_of Old = codes "Old"
+name_of NoQueue = codes "NoQueue"
+name_of WrongKind = codes "WrongKind"
+name_of TooLong = codes "TooLong"
+name_of BadJson = codes "BadJson"
+name_of BadRequest = codes "BadRequest"
+name_of ReadFailed = codes "ReadFailed"
+name_of WriteFailed = codes "WriteFailed"
+name_of BadLine = codes "BadLine"
+name_of Damaged = codes "Damaged"
+
+-- the number, a space and the name
+abbrev pub refusal_text : Refusal → List ℕ
+refusal_text refusal = decimal (code_of refusal) ++ codes " " ++ name_of refusal
