@@ -1,0 +1,82 @@
+-- The words of a durable queue.
+use Rattle.std.specs.Prelude.{◌≡◌, ℕ, ◌+◌, ◌*◌, ◌-◌, ◌/◌, ◌%◌, ◌<◌, ◌≤◌, Option, Some, None, ◌==◌, nat_lt, if◌then◌else◌, MatchOption}
+use Rattle.std.proofs.Common.{arith}
+use Rattle.std.proofs.lemmas.Bool.Decides.{nat_tests}
+use Rattle.words.specs.declared.call.Kind.TheVariants.{Durable}
+use Rattle.arena.specs.Shape.{Shape, greatest}
+use Rattle.arena.specs.Place.{IsPlace}
+use Rattle.arena.specs.Laws.{IsLaidOut}
+use Rattle.arena.specs.declared.place.Place.{Place}
+use Rattle.arena.specs.declared.place.Place.TheVariants.{Head, Tail, Announcement, Bump, Value, Next, Mark, Cell, Insert, Number, EntryKind, Status, EntryNode}
+
+-- where the nodes begin, three words each, and where the cells do
+abbrev pub nodes_from : Shape → ℕ
+nodes_from s = 2 + 2 * s.clients
+
+abbrev pub cells_from : Shape → ℕ
+cells_from s = 5 + 2 * s.clients + 3 * greatest s
+
+abbrev pub durable_size : Shape → ℕ
+durable_size s = 5 + 2 * s.clients + 4 * greatest s
+
+abbrev pub durable_word : Shape → Place → ℕ
+durable_word s Head = 0
+durable_word s Tail = 1
+durable_word s (Announcement t) = 2 + t.0
+durable_word s (Bump t) = 2 + s.clients + t.0
+durable_word s (Value n) = nodes_from s + 3 * n.0
+durable_word s (Next n) = nodes_from s + 3 * n.0 + 1
+durable_word s (Mark n) = nodes_from s + 3 * n.0 + 2
+durable_word s (Cell c) = cells_from s + c.0 - 1
+-- the other places are those of a log queue
+durable_word s _ = 0
+
+abbrev pub durable_node_place : ℕ → ℕ → Place
+durable_node_place n field =
+    if field == 0 then Value (record { 0 = n }) else (if field == 1 then Next (record { 0 = n }) else Mark (record { 0 = n }))
+
+abbrev pub durable_place : Shape → ℕ → Option Place
+durable_place s w =
+    if w == 0 then Some Head
+    else (if w == 1 then Some Tail
+    else (if nat_lt w (2 + s.clients) then Some (Announcement (record { 0 = w - 2 }))
+    else (if nat_lt w (nodes_from s) then Some (Bump (record { 0 = w - 2 - s.clients }))
+    else (if nat_lt w (cells_from s) then Some (durable_node_place ((w - nodes_from s) / 3) ((w - nodes_from s) % 3))
+    else (if nat_lt w (durable_size s) then Some (Cell (record { 0 = w - cells_from s + 1 }))
+    else None)))))
+
+below : (s : Shape) (p : Place) → s.kind ≡ Durable → IsPlace s p → durable_word s p < durable_size s
+below s Head kind h = grind arith
+below s Tail kind h = grind arith
+below s (Announcement x) kind h = grind arith
+below s (Bump x) kind h = grind arith
+below s (Value x) kind h = grind arith
+below s (Next x) kind h = grind arith
+below s (Mark x) kind h = grind arith
+below s (Cell x) kind h = grind arith
+below s (Insert x) kind h = absurd (cc)
+below s (Number x) kind h = absurd (cc)
+below s (EntryKind x) kind h = absurd (cc)
+below s (Status x) kind h = absurd (cc)
+below s (EntryNode x) kind h = absurd (cc)
+
+own : (s : Shape) (p : Place) → s.kind ≡ Durable → IsPlace s p → durable_place s (durable_word s p) ≡ Some p
+own s Head kind h = grind (arith, nat_tests)
+own s Tail kind h = grind (arith, nat_tests)
+own s (Announcement x) kind h = grind (arith, nat_tests)
+own s (Bump x) kind h = grind (arith, nat_tests)
+own s (Value x) kind h = grind (arith, nat_tests)
+own s (Next x) kind h = grind (arith, nat_tests)
+own s (Mark x) kind h = grind (arith, nat_tests)
+own s (Cell x) kind h = grind (arith, nat_tests)
+own s (Insert x) kind h = absurd (cc)
+own s (Number x) kind h = absurd (cc)
+own s (EntryKind x) kind h = absurd (cc)
+own s (Status x) kind h = absurd (cc)
+own s (EntryNode x) kind h = absurd (cc)
+
+named : (s : Shape) (w : ℕ) → s.kind ≡ Durable → MatchOption (durable_place s w) (durable_size s ≤ w) (λ p. IsPlace s p × (durable_word s p ≡ w))
+named s w kind = grind (arith, nat_tests)
+
+pub durable_laid_out : (s : Shape) → s.kind ≡ Durable → IsLaidOut s (durable_word s) (durable_place s) (durable_size s)
+durable_laid_out s kind = record { below = λ p. below s p kind; own = λ p. own s p kind; named = λ w. named s w kind }

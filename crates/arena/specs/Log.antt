@@ -1,0 +1,94 @@
+-- The words of a log queue.
+use Rattle.std.specs.Prelude.{◌≡◌, ℕ, ◌+◌, ◌*◌, ◌-◌, ◌/◌, ◌%◌, ◌<◌, ◌≤◌, Option, Some, None, ◌==◌, nat_lt, if◌then◌else◌, MatchOption}
+use Rattle.std.proofs.Common.{arith}
+use Rattle.std.proofs.lemmas.Bool.Decides.{nat_tests}
+use Rattle.words.specs.declared.call.Kind.TheVariants.{Log}
+use Rattle.arena.specs.Shape.{Shape, greatest}
+use Rattle.arena.specs.Place.{IsPlace}
+use Rattle.arena.specs.Laws.{IsLaidOut}
+use Rattle.arena.specs.declared.place.Place.{Place}
+use Rattle.arena.specs.declared.place.Place.TheVariants.{Head, Tail, Announcement, Bump, Value, Next, Mark, Cell, Insert, Number, EntryKind, Status, EntryNode}
+
+-- where the nodes begin, and where the entries do, four words each
+abbrev pub nodes_from : Shape → ℕ
+nodes_from s = 2 + 2 * s.clients
+
+abbrev pub entries_from : Shape → ℕ
+entries_from s = 6 + 2 * s.clients + 4 * greatest s
+
+abbrev pub log_size : Shape → ℕ
+log_size s = 6 + 2 * s.clients + 8 * greatest s
+
+abbrev pub log_word : Shape → Place → ℕ
+log_word s Head = 0
+log_word s Tail = 1
+log_word s (Announcement t) = 2 + t.0
+log_word s (Bump t) = 2 + s.clients + t.0
+log_word s (Value n) = nodes_from s + 4 * n.0
+log_word s (Next n) = nodes_from s + 4 * n.0 + 1
+log_word s (Insert n) = nodes_from s + 4 * n.0 + 2
+log_word s (Mark n) = nodes_from s + 4 * n.0 + 3
+log_word s (Number e) = entries_from s + 4 * (e.0 - 1)
+log_word s (EntryKind e) = entries_from s + 4 * (e.0 - 1) + 1
+log_word s (Status e) = entries_from s + 4 * (e.0 - 1) + 2
+log_word s (EntryNode e) = entries_from s + 4 * (e.0 - 1) + 3
+-- the other place is one of a durable queue
+log_word s (Cell c) = 0
+
+abbrev pub log_node_place : ℕ → ℕ → Place
+log_node_place n field =
+    if field == 0 then Value (record { 0 = n })
+    else (if field == 1 then Next (record { 0 = n })
+    else (if field == 2 then Insert (record { 0 = n }) else Mark (record { 0 = n })))
+
+abbrev pub entry_place : ℕ → ℕ → Place
+entry_place e field =
+    if field == 0 then Number (record { 0 = e })
+    else (if field == 1 then EntryKind (record { 0 = e })
+    else (if field == 2 then Status (record { 0 = e }) else EntryNode (record { 0 = e })))
+
+abbrev pub log_place : Shape → ℕ → Option Place
+log_place s w =
+    if w == 0 then Some Head
+    else (if w == 1 then Some Tail
+    else (if nat_lt w (2 + s.clients) then Some (Announcement (record { 0 = w - 2 }))
+    else (if nat_lt w (nodes_from s) then Some (Bump (record { 0 = w - 2 - s.clients }))
+    else (if nat_lt w (entries_from s) then Some (log_node_place ((w - nodes_from s) / 4) ((w - nodes_from s) % 4))
+    else (if nat_lt w (log_size s) then Some (entry_place ((w - entries_from s) / 4 + 1) ((w - entries_from s) % 4))
+    else None)))))
+
+below : (s : Shape) (p : Place) → s.kind ≡ Log → IsPlace s p → log_word s p < log_size s
+below s Head kind h = grind arith
+below s Tail kind h = grind arith
+below s (Announcement x) kind h = grind arith
+below s (Bump x) kind h = grind arith
+below s (Value x) kind h = grind arith
+below s (Next x) kind h = grind arith
+below s (Mark x) kind h = grind arith
+below s (Cell x) kind h = absurd (cc)
+below s (Insert x) kind h = grind arith
+below s (Number x) kind h = grind arith
+below s (EntryKind x) kind h = grind arith
+below s (Status x) kind h = grind arith
+below s (EntryNode x) kind h = grind arith
+
+own : (s : Shape) (p : Place) → s.kind ≡ Log → IsPlace s p → log_place s (log_word s p) ≡ Some p
+own s Head kind h = grind (arith, nat_tests)
+own s Tail kind h = grind (arith, nat_tests)
+own s (Announcement x) kind h = grind (arith, nat_tests)
+own s (Bump x) kind h = grind (arith, nat_tests)
+own s (Value x) kind h = grind (arith, nat_tests)
+own s (Next x) kind h = grind (arith, nat_tests)
+own s (Mark x) kind h = grind (arith, nat_tests)
+own s (Cell x) kind h = absurd (cc)
+own s (Insert x) kind h = grind (arith, nat_tests)
+own s (Number x) kind h = grind (arith, nat_tests)
+own s (EntryKind x) kind h = grind (arith, nat_tests)
+own s (Status x) kind h = grind (arith, nat_tests)
+own s (EntryNode x) kind h = grind (arith, nat_tests)
+
+named : (s : Shape) (w : ℕ) → s.kind ≡ Log → MatchOption (log_place s w) (log_size s ≤ w) (λ p. IsPlace s p × (log_word s p ≡ w))
+named s w kind = grind (arith, nat_tests)
+
+pub log_laid_out : (s : Shape) → s.kind ≡ Log → IsLaidOut s (log_word s) (log_place s) (log_size s)
+log_laid_out s kind = record { below = λ p. below s p kind; own = λ p. own s p kind; named = λ w. named s w kind }

@@ -1,0 +1,154 @@
+//! The layout of a durable queue.
+
+ghost use Rattle.std.specs.Prelude.{◌≡◌, ◌↔◌, ◌⊎◌, ◌<◌, ◌≤◌, IfOk, IfErr, IsOk, Err, Ok};
+ghost use Rattle.arena.specs.Shape.{greatest, shape_of};
+ghost use Rattle.arena.specs.Limits.{AreCounts};
+ghost use Rattle.arena.specs.Durable.{durable_node_place};
+
+use crate::layout::{Layout, MAX_CLIENTS, MAX_RECORDS, check_counts};
+use crate::place::{Place, Write};
+use std::marker::Model;
+use words::{Client, Kind, NodeId, Refusal, Token};
+
+/// The words of a durable queue.
+#[derive(Clone, Copy, Debug)]
+pub struct DurableLayout {
+    clients: u32,
+    records: u32,
+}
+
+impl Model for DurableLayout {
+    ghost use Rattle.arena.specs.Shape.{Counts};
+    ghost use Rattle.arena.specs.Limits.{AreCounts};
+
+    ghost Value = { Counts };
+
+    ghost view = { λ l. record { clients = l.clients; records = l.records } };
+
+    ghost invariant = { λ l. AreCounts l.clients l.records };
+
+    ghost inverse = { λ s. record { clients = s.clients; records = s.records } };
+}
+
+impl DurableLayout {
+    /// A layout for 1 to 16 clients with 1 to 4,096 records each.
+    pub fn make(clients: u32, records: u32) -> Result<Self, Refusal>
+        ensures ok { IsOk result ↔ AreCounts clients records }
+        ensures made { IfOk result (λ l. l ≡ record { clients = clients; records = records }) }
+        ensures bad_clients { result ≡ Err Refusal.BadClients ↔ ((clients ≡ 0) ⊎ (MAX_CLIENTS < clients)) }
+        ensures errors { IfErr result (λ e. (e ≡ Refusal.BadClients) ⊎ (e ≡ Refusal.BadRecords)) }
+    {
+        check_counts(clients, records)?;
+        Ok(DurableLayout { clients, records })
+    }
+
+    /// The greatest number of a node.
+    fn greatest(&self) -> usize
+        ensures value { result ≡ greatest (shape_of Kind.Durable self.now) }
+        ensures small { result ≤ 65536 }
+        ensures counts { AreCounts self.now.clients self.now.records }
+    {
+        self.clients as usize * self.records as usize
+    }
+}
+
+/// One of the three words of a node.
+fn node_place(node: NodeId, field: usize) -> Place
+    ensures { result ≡ durable_node_place node.0 field }
+{
+    match field {
+        0 => Place::Value(node),
+        1 => Place::Next(node),
+        _ => Place::Mark(node),
+    }
+}
+
+impl Layout for DurableLayout {
+    ghost use Rattle.std.specs.Prelude.{refl};
+    ghost use Rattle.words.specs.declared.call.Kind.TheVariants.{Durable};
+    ghost use Rattle.arena.specs.Shape.{shape_of};
+    ghost use Rattle.arena.specs.Durable.{durable_word, durable_place, durable_size, durable_laid_out};
+
+    ghost shape = { shape_of Durable };
+
+    ghost word_of = { λ l. durable_word (shape_of Durable l) };
+
+    ghost place_at = { λ l. durable_place (shape_of Durable l) };
+
+    ghost size_of = { λ l. durable_size (shape_of Durable l) };
+
+    ghost laid_out = { λ l. durable_laid_out (shape_of Durable l) refl };
+
+    fn size(&self) -> usize {
+        let greatest = self.greatest();
+        5 + 2 * self.clients as usize + 4 * greatest
+    }
+
+    fn kind(&self) -> Kind {
+        Kind::Durable
+    }
+
+    fn clients(&self) -> u32 {
+        self.clients
+    }
+
+    fn records(&self) -> u32 {
+        self.records
+    }
+
+    fn word(&self, place: Place) -> usize {
+        let greatest = self.greatest();
+        let clients = self.clients as usize;
+        let nodes_from = 2 + 2 * clients;
+        match place {
+            Place::Head => 0,
+            Place::Tail => 1,
+            Place::Announcement(client) => 2 + client.0 as usize,
+            Place::Bump(client) => 2 + clients + client.0 as usize,
+            Place::Value(node) => nodes_from + 3 * node.0 as usize,
+            Place::Next(node) => nodes_from + 3 * node.0 as usize + 1,
+            Place::Mark(node) => nodes_from + 3 * node.0 as usize + 2,
+            Place::Cell(token) => 5 + 2 * clients + 3 * greatest + token.0 as usize - 1,
+            // The others are places of a log queue.
+            _ => unreachable!(),
+        }
+    }
+
+    fn what_is(&self, word: usize) -> Option<Place> {
+        let greatest = self.greatest();
+        let clients = self.clients as usize;
+        let nodes_from = 2 + 2 * clients;
+        let cells_from = 5 + 2 * clients + 3 * greatest;
+        if word == 0 {
+            Some(Place::Head)
+        } else if word == 1 {
+            Some(Place::Tail)
+        } else if word < 2 + clients {
+            Some(Place::Announcement(Client((word - 2) as u8)))
+        } else if word < nodes_from {
+            Some(Place::Bump(Client((word - 2 - clients) as u8)))
+        } else if word < cells_from {
+            let node = NodeId(((word - nodes_from) / 3) as u32);
+            Some(node_place(node, (word - nodes_from) % 3))
+        } else if word < 5 + 2 * clients + 4 * greatest {
+            Some(Place::Cell(Token((word - cells_from + 1) as u32)))
+        } else {
+            None
+        }
+    }
+
+    fn empty_answer(&self, token: Token) -> Write {
+        Write {
+            place: Place::Cell(token),
+            value: 1,
+        }
+    }
+
+    fn result(&self, token: Token, node: NodeId, value: u32) -> Write {
+        let _node = node;
+        Write {
+            place: Place::Cell(token),
+            value: value as u64 + 2,
+        }
+    }
+}

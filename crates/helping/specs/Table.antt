@@ -1,0 +1,168 @@
+-- The table of the steps: the access of each waiting point, and what comes then.
+use Rattle.std.specs.Prelude.{ℕ, ◌≤◌, if◌then◌else◌, ◌==◌}
+use Rattle.words.specs.declared.call.Kind.{Kind}
+use Rattle.words.specs.declared.call.NodeId.{NodeId}
+use Rattle.words.specs.declared.call.Token.{Token}
+use Rattle.words.specs.declared.call.Call.{Call}
+use Rattle.words.specs.declared.call.Call.TheVariants.{Enq, Deq}
+use Rattle.words.specs.declared.call.Reply.TheVariants.{Done as Answered, Got, Empty}
+use Rattle.persist.specs.Memory.{Access, Load, Store, Cas, Flush}
+use Rattle.arena.specs.Shape.{Shape}
+use Rattle.arena.specs.Place.{IsNode, IsRecord}
+use Rattle.arena.specs.Answers.{empty_answer_of, result_of}
+use Rattle.arena.specs.declared.place.Write.{Write}
+use Rattle.arena.specs.declared.place.Place.{Place}
+use Rattle.arena.specs.declared.place.Place.TheVariants.{Head, Tail, Value, Next, Mark}
+use Rattle.stepper.specs.Preparation.{prepared_to, store_access, flush_access, store_successor, flush_successor, IsPreparing}
+use Rattle.stepper.specs.declared.After.{After}
+use Rattle.stepper.specs.declared.After.TheVariants.{More, Done}
+use Rattle.stepper.specs.declared.prepare.Begun.{Begun}
+use Rattle.stepper.specs.declared.prepare.Prepare.{Prepare}
+use Rattle.stepper.specs.declared.prepare.Prepare.TheVariants.{Store as prepare_store, Flush as prepare_flush, Prepared as prepared}
+use Rattle.helping.specs.Claims.{winner}
+use Rattle.helping.specs.declared.dequeue.Claim.{Claim}
+use Rattle.helping.specs.declared.dequeue.Claim.TheVariants.{Won, LostTo}
+use Rattle.helping.specs.declared.op.Op.{Op}
+use Rattle.helping.specs.declared.op.Op.TheVariants.{PrepareStore, PrepareFlush, EnqueueLoadTail, EnqueueLoadNext, EnqueueCheckTail, EnqueueLink, EnqueueFlushLink, EnqueueMoveTail, EnqueueFlushPassedLink, EnqueueHelpTail, DequeueLoadHead, DequeueLoadTail, DequeueLoadNext, DequeueCheckHead, DequeueStoreEmpty, DequeueFlushEmpty, DequeueFlushPassedLink, DequeueHelpTail, DequeueLoadValue, DequeueClaim, DequeueFlushClaim, DequeueStoreResult, DequeueFlushResult, DequeueMoveHead}
+
+abbrev pub node_of : ℕ → NodeId
+node_of n = record { 0 = n }
+
+abbrev pub token_of : ℕ → Token
+token_of n = record { 0 = n }
+
+-- the store, and the flush, of a write
+abbrev pub store : Write → Access Place
+store w = Store w.place w.value
+
+abbrev pub flush : Write → Access Place
+flush w = Flush w.place
+
+-- the one access of each waiting point
+abbrev pub access_of : Kind → Op → Access Place
+access_of kind (PrepareStore p) = store_access p
+access_of kind (PrepareFlush p) = flush_access p
+access_of kind (EnqueueLoadTail p) = Load Tail
+access_of kind (EnqueueLoadNext p) = Load (Next p.last)
+access_of kind (EnqueueCheckTail p) = Load Tail
+access_of kind (EnqueueLink p) = Cas (Next p.last) 0 p.node.0
+access_of kind (EnqueueFlushLink p) = Flush (Next p.last)
+access_of kind (EnqueueMoveTail p) = Cas Tail p.last.0 p.node.0
+access_of kind (EnqueueFlushPassedLink p) = Flush (Next p.last)
+access_of kind (EnqueueHelpTail p) = Cas Tail p.last.0 p.next.0
+access_of kind (DequeueLoadHead p) = Load Head
+access_of kind (DequeueLoadTail p) = Load Tail
+access_of kind (DequeueLoadNext p) = Load (Next p.first)
+access_of kind (DequeueCheckHead p) = Load Head
+access_of kind (DequeueStoreEmpty p) = store (empty_answer_of kind p.token)
+access_of kind (DequeueFlushEmpty p) = flush (empty_answer_of kind p.token)
+access_of kind (DequeueFlushPassedLink p) = Flush (Next p.last)
+access_of kind (DequeueHelpTail p) = Cas Tail p.last.0 p.next.0
+access_of kind (DequeueLoadValue p) = Load (Value p.next)
+access_of kind (DequeueClaim p) = Cas (Mark p.next) 0 p.token.0
+access_of kind (DequeueFlushClaim p) = Flush (Mark p.next)
+access_of kind (DequeueStoreResult p) = store (result_of kind (winner p.claim p.token) p.next p.value)
+access_of kind (DequeueFlushResult p) = flush (result_of kind (winner p.claim p.token) p.next p.value)
+access_of kind (DequeueMoveHead p) = Cas Head p.first.0 p.next.0
+
+-- where a call acts, once its record is prepared
+abbrev pub first_from : Call → Begun → Op
+first_from (Enq value) b = EnqueueLoadTail (record { node = node_of b.record.0 })
+first_from Deq b = DequeueLoadHead (record { token = b.record })
+
+abbrev pub first_of : Begun → Op
+first_of b = first_from b.call b
+
+abbrev pub prepared_op : Prepare → Op
+prepared_op (prepare_store p) = PrepareStore p
+prepared_op (prepare_flush p) = PrepareFlush p
+prepared_op (prepared b) = first_of b
+
+-- where a call begins that took its record
+abbrev pub begun_at : Kind → Begun → Op
+begun_at kind b = prepared_op (prepared_to kind b 0)
+
+abbrev pub going_on : After Prepare → After Op
+going_on (More prepare) = More (prepared_op prepare)
+going_on (Done reply) = Done reply
+
+abbrev pub answer_or_again : Claim → Token → ℕ → After Op
+answer_or_again Won token value = Done (Got value)
+answer_or_again (LostTo other) token value = More (DequeueLoadHead (record { token = token }))
+
+-- what comes after the access found this value
+abbrev pub successor : Kind → Op → ℕ → After Op
+successor kind (PrepareStore p) found = going_on (store_successor p)
+successor kind (PrepareFlush p) found = going_on (flush_successor kind p)
+successor kind (EnqueueLoadTail p) found = More (EnqueueLoadNext (record { node = p.node; last = node_of found }))
+successor kind (EnqueueLoadNext p) found = More (EnqueueCheckTail (record { node = p.node; last = p.last; next = node_of found }))
+successor kind (EnqueueCheckTail p) found =
+    if found == p.last.0
+    then (if p.next.0 == 0
+    then More (EnqueueLink (record { node = p.node; last = p.last }))
+    else More (EnqueueFlushPassedLink (record { node = p.node; last = p.last; next = p.next })))
+    else More (EnqueueLoadTail (record { node = p.node }))
+successor kind (EnqueueLink p) found =
+    if found == 0
+    then More (EnqueueFlushLink (record { node = p.node; last = p.last }))
+    else More (EnqueueLoadTail (record { node = p.node }))
+successor kind (EnqueueFlushLink p) found = More (EnqueueMoveTail (record { node = p.node; last = p.last }))
+successor kind (EnqueueMoveTail p) found = Done Answered
+successor kind (EnqueueFlushPassedLink p) found = More (EnqueueHelpTail (record { node = p.node; last = p.last; next = p.next }))
+successor kind (EnqueueHelpTail p) found = More (EnqueueLoadTail (record { node = p.node }))
+successor kind (DequeueLoadHead p) found = More (DequeueLoadTail (record { token = p.token; first = node_of found }))
+successor kind (DequeueLoadTail p) found = More (DequeueLoadNext (record { token = p.token; first = p.first; last = node_of found }))
+successor kind (DequeueLoadNext p) found = More (DequeueCheckHead (record { token = p.token; first = p.first; last = p.last; next = node_of found }))
+successor kind (DequeueCheckHead p) found =
+    if found == p.first.0
+    then (if p.first.0 == p.last.0
+    then (if p.next.0 == 0
+    then More (DequeueStoreEmpty (record { token = p.token }))
+    else More (DequeueFlushPassedLink (record { token = p.token; last = p.last; next = p.next })))
+    else More (DequeueLoadValue (record { token = p.token; first = p.first; next = p.next })))
+    else More (DequeueLoadHead (record { token = p.token }))
+successor kind (DequeueStoreEmpty p) found = More (DequeueFlushEmpty (record { token = p.token }))
+successor kind (DequeueFlushEmpty p) found = Done Empty
+successor kind (DequeueFlushPassedLink p) found = More (DequeueHelpTail (record { token = p.token; last = p.last; next = p.next }))
+successor kind (DequeueHelpTail p) found = More (DequeueLoadHead (record { token = p.token }))
+successor kind (DequeueLoadValue p) found = More (DequeueClaim (record { token = p.token; first = p.first; next = p.next; value = found }))
+successor kind (DequeueClaim p) found =
+    More (DequeueFlushClaim (record { token = p.token; first = p.first; next = p.next; value = p.value; claim = if found == 0 then Won else LostTo (token_of found) }))
+successor kind (DequeueFlushClaim p) found =
+    More (DequeueStoreResult (record { token = p.token; first = p.first; next = p.next; value = p.value; claim = p.claim }))
+successor kind (DequeueStoreResult p) found =
+    More (DequeueFlushResult (record { token = p.token; first = p.first; next = p.next; value = p.value; claim = p.claim }))
+successor kind (DequeueFlushResult p) found =
+    More (DequeueMoveHead (record { token = p.token; first = p.first; next = p.next; value = p.value; claim = p.claim }))
+successor kind (DequeueMoveHead p) found = answer_or_again p.claim p.token p.value
+
+-- the numbers of a claim, and of what follows it
+abbrev pub IsClaiming : Shape → ℕ → ℕ → ℕ → ℕ → Type 0
+IsClaiming s token first next value = IsRecord s token × IsNode s first × IsNode s next × (value ≤ 4294967295)
+
+-- what the call learnt is in range
+abbrev pub IsPoint : Shape → Op → Type 0
+IsPoint s (PrepareStore p) = IsPreparing s p.begun p.index p.write
+IsPoint s (PrepareFlush p) = IsPreparing s p.begun p.index p.write
+IsPoint s (EnqueueLoadTail p) = IsRecord s p.node.0
+IsPoint s (EnqueueLoadNext p) = IsRecord s p.node.0 × IsNode s p.last.0
+IsPoint s (EnqueueCheckTail p) = IsRecord s p.node.0 × IsNode s p.last.0 × IsNode s p.next.0
+IsPoint s (EnqueueLink p) = IsRecord s p.node.0 × IsNode s p.last.0
+IsPoint s (EnqueueFlushLink p) = IsRecord s p.node.0 × IsNode s p.last.0
+IsPoint s (EnqueueMoveTail p) = IsRecord s p.node.0 × IsNode s p.last.0
+IsPoint s (EnqueueFlushPassedLink p) = IsRecord s p.node.0 × IsNode s p.last.0 × IsNode s p.next.0
+IsPoint s (EnqueueHelpTail p) = IsRecord s p.node.0 × IsNode s p.last.0 × IsNode s p.next.0
+IsPoint s (DequeueLoadHead p) = IsRecord s p.token.0
+IsPoint s (DequeueLoadTail p) = IsRecord s p.token.0 × IsNode s p.first.0
+IsPoint s (DequeueLoadNext p) = IsRecord s p.token.0 × IsNode s p.first.0 × IsNode s p.last.0
+IsPoint s (DequeueCheckHead p) = IsRecord s p.token.0 × IsNode s p.first.0 × IsNode s p.last.0 × IsNode s p.next.0
+IsPoint s (DequeueStoreEmpty p) = IsRecord s p.token.0
+IsPoint s (DequeueFlushEmpty p) = IsRecord s p.token.0
+IsPoint s (DequeueFlushPassedLink p) = IsRecord s p.token.0 × IsNode s p.last.0 × IsNode s p.next.0
+IsPoint s (DequeueHelpTail p) = IsRecord s p.token.0 × IsNode s p.last.0 × IsNode s p.next.0
+IsPoint s (DequeueLoadValue p) = IsRecord s p.token.0 × IsNode s p.first.0 × IsNode s p.next.0
+IsPoint s (DequeueClaim p) = IsClaiming s p.token.0 p.first.0 p.next.0 p.value
+IsPoint s (DequeueFlushClaim p) = IsClaiming s p.token.0 p.first.0 p.next.0 p.value × IsRecord s (winner p.claim p.token).0
+IsPoint s (DequeueStoreResult p) = IsClaiming s p.token.0 p.first.0 p.next.0 p.value × IsRecord s (winner p.claim p.token).0
+IsPoint s (DequeueFlushResult p) = IsClaiming s p.token.0 p.first.0 p.next.0 p.value × IsRecord s (winner p.claim p.token).0
+IsPoint s (DequeueMoveHead p) = IsClaiming s p.token.0 p.first.0 p.next.0 p.value × IsRecord s (winner p.claim p.token).0

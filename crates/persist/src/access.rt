@@ -1,0 +1,75 @@
+//! What a step machine sees of a memory, and what an inspector does.
+
+ghost use Rattle.std.specs.Prelude.{◌≡◌, ◌<◌, ◌≤◌, length, slice_index, Ok, Err, ℕ, List};
+ghost use Rattle.persist.specs.Memory.{Words, Load, Store, Cas, Flush, after};
+ghost use Rattle.persist.specs.Changes.{change_of, swap_of};
+
+use words::Refusal;
+
+/// A change of a kept value.
+#[derive(Clone, Copy, Debug, PartialEq, Eq, Hash)]
+pub struct Change {
+    pub word: usize,
+    pub old: u64,
+    pub new: u64,
+}
+
+/// What a compare-and-swap answers.
+#[derive(Clone, Copy, Debug, PartialEq, Eq, Hash)]
+pub enum Swap {
+    /// The word had the old value, and has the new one.
+    Done,
+    /// The word had this other value, and keeps it.
+    Found(u64),
+}
+
+/// Words of 64 bits, each with a cached and a kept value: all that a step machine sees of a memory.
+/// A load, a store and a compare-and-swap work on cached values; a flush makes the cached value the kept one.
+pub trait WordMemory {
+    ghost words: { Self → Words };
+
+    /// How many words there are.
+    fn size(&self) -> usize
+        ensures cached { result ≡ length (words self.now).cached }
+        ensures kept { result ≡ length (words self.now).kept };
+
+    fn load(&mut self, word: usize) -> Result<u64, Refusal>
+        ensures found { word < length (words self.old).cached → result ≡ Ok (slice_index (words self.old).cached word) }
+        ensures done { word < length (words self.old).cached → words self.new ≡ after (Load word) (words self.old) }
+        ensures refused { length (words self.old).cached ≤ word → result ≡ Err Refusal.NoWord }
+        ensures same { length (words self.old).cached ≤ word → words self.new ≡ words self.old };
+
+    fn store(&mut self, word: usize, value: u64) -> Result<(), Refusal>
+        ensures ok { word < length (words self.old).cached → result ≡ Ok tt }
+        ensures done { word < length (words self.old).cached → words self.new ≡ after (Store word value) (words self.old) }
+        ensures refused { length (words self.old).cached ≤ word → result ≡ Err Refusal.NoWord }
+        ensures same { length (words self.old).cached ≤ word → words self.new ≡ words self.old };
+
+    /// Writes `new` where the cached value is `old`.
+    fn cas(&mut self, word: usize, old: u64, new: u64) -> Result<Swap, Refusal>
+        ensures swap { word < length (words self.old).cached → result ≡ Ok (swap_of (words self.old) word old) }
+        ensures done { word < length (words self.old).cached → words self.new ≡ after (Cas word old new) (words self.old) }
+        ensures refused { length (words self.old).cached ≤ word → result ≡ Err Refusal.NoWord }
+        ensures same { length (words self.old).cached ≤ word → words self.new ≡ words self.old };
+
+    /// Keeps the word's cached value. It answers the change, where the kept value changed.
+    fn flush(&mut self, word: usize) -> Result<Option<Change>, Refusal>
+        ensures change { word < length (words self.old).cached → result ≡ Ok (change_of (words self.old) word) }
+        ensures done { word < length (words self.old).cached → words self.new ≡ after (Flush word) (words self.old) }
+        ensures refused { length (words self.old).cached ≤ word → result ≡ Err Refusal.NoWord }
+        ensures same { length (words self.old).cached ≤ word → words self.new ≡ words self.old };
+}
+
+/// Kept values, for inspection: looking at them is no access.
+pub trait KeptWords {
+    ghost kept_words: { Self → List ℕ };
+
+    /// How many words there are.
+    fn size(&self) -> usize
+        ensures { result ≡ length (kept_words self.now) };
+
+    /// The kept value of a word.
+    fn kept(&self, word: usize) -> u64
+        requires { word < length (kept_words self.now) }
+        ensures { result ≡ slice_index (kept_words self.now) word };
+}

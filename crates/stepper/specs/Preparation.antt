@@ -1,0 +1,75 @@
+-- What a call prepares in its record before it acts: words that each take a store and a flush, in order.
+use Rattle.std.specs.Prelude.{◌≡◌, ℕ, ◌+◌, ◌≤◌, ◌<◌, List, [], ◌∷◌, Option, Some, None, slice_get}
+use Rattle.words.specs.declared.call.Kind.{Kind}
+use Rattle.words.specs.declared.call.Kind.TheVariants.{Durable, Log}
+use Rattle.words.specs.declared.call.Call.{Call}
+use Rattle.words.specs.declared.call.Call.TheVariants.{Enq, Deq}
+use Rattle.arena.specs.Shape.{Shape, record_of}
+use Rattle.arena.specs.Place.{IsClient, IsRecord}
+use Rattle.arena.specs.declared.place.Write.{Write}
+use Rattle.arena.specs.declared.place.Place.{Place}
+use Rattle.arena.specs.declared.place.Place.TheVariants.{Announcement, Bump, Value, Insert, Number, EntryKind, EntryNode}
+use Rattle.persist.specs.Memory.{Access, Store, Flush}
+use Rattle.stepper.specs.declared.After.{After}
+use Rattle.stepper.specs.declared.After.TheVariants.{More}
+use Rattle.stepper.specs.declared.prepare.Begun.{Begun}
+use Rattle.stepper.specs.declared.prepare.Prepare.{Prepare}
+use Rattle.stepper.specs.declared.prepare.Prepare.TheVariants.{Store as store_next, Flush as flush_next, Prepared as prepared}
+use Rattle.stepper.specs.declared.prepare.PrepareStore.{PrepareStore}
+use Rattle.stepper.specs.declared.prepare.PrepareFlush.{PrepareFlush}
+
+abbrev pub write : Place → ℕ → Write
+write place value = record { place = place; value = value }
+
+-- that the record is used
+abbrev pub bump : Begun → Write
+bump b = write (Bump b.client) (b.used + 1)
+
+-- that the record is the client's last
+abbrev pub announcement : Begun → Write
+announcement b = write (Announcement b.client) b.record.0
+
+abbrev pub preparation_from : Kind → Call → Begun → List Write
+preparation_from Durable (Enq value) b = bump b ∷ write (Value (record { 0 = b.record.0 })) value ∷ []
+preparation_from Durable Deq b = bump b ∷ announcement b ∷ []
+preparation_from Log (Enq value) b =
+    bump b ∷ write (Number b.record) b.number ∷ write (EntryKind b.record) 1 ∷ write (EntryNode b.record) b.record.0
+    ∷ write (Value (record { 0 = b.record.0 })) value ∷ write (Insert (record { 0 = b.record.0 })) b.record.0 ∷ announcement b ∷ []
+preparation_from Log Deq b = bump b ∷ write (Number b.record) b.number ∷ write (EntryKind b.record) 2 ∷ announcement b ∷ []
+
+abbrev pub preparation_of : Kind → Begun → List Write
+preparation_of kind b = preparation_from kind b.call b
+
+-- what comes with the write at this index, or after the last
+abbrev pub prepared_with : Begun → ℕ → Option Write → Prepare
+prepared_with b index (Some w) = store_next (record { begun = b; index = index; write = w })
+prepared_with b index None = prepared b
+
+abbrev pub prepared_to : Kind → Begun → ℕ → Prepare
+prepared_to kind b index = prepared_with b index (slice_get (preparation_of kind b) index)
+
+abbrev pub store_access : PrepareStore → Access Place
+store_access p = Store p.write.place p.write.value
+
+abbrev pub flush_access : PrepareFlush → Access Place
+flush_access p = Flush p.write.place
+
+abbrev pub store_successor : PrepareStore → After Prepare
+store_successor p = More (flush_next (record { begun = p.begun; index = p.index; write = p.write }))
+
+abbrev pub flush_successor : Kind → PrepareFlush → After Prepare
+flush_successor kind p = More (prepared_to kind p.begun (p.index + 1))
+
+-- a call that took a record of its client's
+pub record IsBegun (s : Shape) (b : Begun) : Type 0 where
+  pub client : IsClient s b.client.0
+  pub unused : b.used < s.records
+  pub is_record : IsRecord s b.record.0
+  pub own : b.record.0 ≡ record_of s b.client.0 b.used
+  pub number : b.number ≤ 1099511627776
+  pub value : (v : ℕ) → b.call ≡ Enq v → v ≤ 4294967295
+
+-- the write in hand is the one at the index
+pub record IsPreparing (s : Shape) (b : Begun) (index : ℕ) (w : Write) : Type 0 where
+  pub begun : IsBegun s b
+  pub in_hand : slice_get (preparation_of s.kind b) index ≡ Some w

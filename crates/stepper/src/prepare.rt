@@ -1,0 +1,204 @@
+//! The preparation of a call: it writes its record, each word with a store and a flush, before it acts.
+
+ghost use Rattle.std.specs.Prelude.{◌≡◌, slice_get};
+ghost use Rattle.stepper.specs.Preparation.{preparation_from, prepared_to, bump as bump_of, announcement as announcement_of};
+
+use crate::After;
+use crate::places::{flush_at, store_at};
+use crate::resume::Resume;
+use arena::{Layout, Place, Write};
+use persist::WordMemory;
+use words::{Call, Client, Kind, NodeId, Token};
+
+/// A call that has taken a record of its client's.
+#[derive(Clone, Copy, Debug, PartialEq, Eq, Hash)]
+pub struct Begun {
+    pub client: Client,
+    /// How many records the client had used before.
+    pub used: u32,
+    /// Its record: the number of its cell or entry and, for an enqueue, of its node.
+    pub record: Token,
+    /// Its operation number, in a log queue.
+    pub number: u64,
+    pub call: Call,
+}
+
+/// Where a preparation is.
+#[derive(Clone, Copy, Debug, PartialEq, Eq, Hash)]
+pub enum Prepare {
+    Store(PrepareStore),
+    Flush(PrepareFlush),
+    /// It is at its end: each of its words is kept.
+    Prepared(Begun),
+}
+
+/// About to store a word of the record.
+#[derive(Clone, Copy, Debug, PartialEq, Eq, Hash)]
+pub struct PrepareStore {
+    pub(crate) begun: Begun,
+    pub(crate) index: u8,
+    pub(crate) write: Write,
+}
+
+/// About to keep it.
+#[derive(Clone, Copy, Debug, PartialEq, Eq, Hash)]
+pub struct PrepareFlush {
+    pub(crate) begun: Begun,
+    pub(crate) index: u8,
+    pub(crate) write: Write,
+}
+
+/// The words that a durable enqueue prepares, from 0 up, and none beyond the last.
+fn durable_enqueue(begun: Begun, value: u32, index: u8) -> Option<Write>
+    ensures { result ≡ slice_get (preparation_from Kind.Durable (Call.Enq value) begun) index }
+{
+    match index {
+        0 => Some(bump(begun)),
+        1 => Some(Write {
+            place: Place::Value(NodeId(begun.record.0)),
+            value: value as u64,
+        }),
+        _ => None,
+    }
+}
+
+/// The words that a durable dequeue prepares.
+fn durable_dequeue(begun: Begun, index: u8) -> Option<Write>
+    ensures { result ≡ slice_get (preparation_from Kind.Durable Call.Deq begun) index }
+{
+    match index {
+        0 => Some(bump(begun)),
+        1 => Some(announcement(begun)),
+        _ => None,
+    }
+}
+
+/// The words that a log enqueue prepares.
+fn log_enqueue(begun: Begun, value: u32, index: u8) -> Option<Write>
+    ensures { result ≡ slice_get (preparation_from Kind.Log (Call.Enq value) begun) index }
+{
+    let node = NodeId(begun.record.0);
+    let number = begun.record.0 as u64;
+    let (place, value) = match index {
+        0 => return Some(bump(begun)),
+        1 => (Place::Number(begun.record), begun.number),
+        2 => (Place::EntryKind(begun.record), 1),
+        3 => (Place::EntryNode(begun.record), number),
+        4 => (Place::Value(node), value as u64),
+        5 => (Place::Insert(node), number),
+        6 => return Some(announcement(begun)),
+        _ => return None,
+    };
+    Some(Write { place, value })
+}
+
+/// The words that a log dequeue prepares.
+fn log_dequeue(begun: Begun, index: u8) -> Option<Write>
+    ensures { result ≡ slice_get (preparation_from Kind.Log Call.Deq begun) index }
+{
+    let (place, value) = match index {
+        0 => return Some(bump(begun)),
+        1 => (Place::Number(begun.record), begun.number),
+        2 => (Place::EntryKind(begun.record), 2),
+        3 => return Some(announcement(begun)),
+        _ => return None,
+    };
+    Some(Write { place, value })
+}
+
+/// That the record is used.
+fn bump(begun: Begun) -> Write
+    ensures { result ≡ bump_of begun }
+{
+    Write {
+        place: Place::Bump(begun.client),
+        value: begun.used as u64 + 1,
+    }
+}
+
+/// That the record is the client's last.
+fn announcement(begun: Begun) -> Write
+    ensures { result ≡ announcement_of begun }
+{
+    Write {
+        place: Place::Announcement(begun.client),
+        value: begun.record.0 as u64,
+    }
+}
+
+/// Where a preparation comes to its write at this index.
+fn prepare_at(kind: Kind, begun: Begun, index: u8) -> Prepare
+    ensures { result ≡ prepared_to kind begun index }
+{
+    let write = match (kind, begun.call) {
+        (Kind::Durable, Call::Enq(value)) => durable_enqueue(begun, value, index),
+        (Kind::Durable, Call::Deq) => durable_dequeue(begun, index),
+        (Kind::Log, Call::Enq(value)) => log_enqueue(begun, value, index),
+        (Kind::Log, Call::Deq) => log_dequeue(begun, index),
+    };
+    match write {
+        Some(write) => Prepare::Store(PrepareStore {
+            begun,
+            index,
+            write,
+        }),
+        None => Prepare::Prepared(begun),
+    }
+}
+
+impl Prepare {
+    /// Where the preparation of a call begins.
+    pub fn begin(kind: Kind, begun: Begun) -> Self
+        ensures { result ≡ prepared_to kind begun 0 }
+    {
+        prepare_at(kind, begun, 0)
+    }
+}
+
+impl Resume for PrepareStore {
+    type Op = Prepare;
+
+    ghost use Rattle.stepper.specs.Preparation.{store_access, store_successor, IsPreparing};
+
+    ghost access = { λ kind p. store_access p };
+
+    ghost next = { λ kind p found. store_successor p };
+
+    ghost in_range = { λ s p. IsPreparing s p.begun p.index p.write };
+
+    fn step<L: Layout, M: WordMemory>(self, layout: &L, memory: &mut M) -> After<Prepare> {
+        let PrepareStore {
+            begun,
+            index,
+            write,
+        } = self;
+        store_at(layout, memory, write);
+        After::More(Prepare::Flush(PrepareFlush {
+            begun,
+            index,
+            write,
+        }))
+    }
+}
+
+impl Resume for PrepareFlush {
+    type Op = Prepare;
+
+    ghost use Rattle.stepper.specs.Preparation.{flush_access, flush_successor, IsPreparing};
+
+    ghost access = { λ kind p. flush_access p };
+
+    ghost next = { λ kind p found. flush_successor kind p };
+
+    ghost in_range = { λ s p. IsPreparing s p.begun p.index p.write };
+
+    fn step<L: Layout, M: WordMemory>(self, layout: &L, memory: &mut M) -> After<Prepare> {
+        let PrepareFlush {
+            begun,
+            index,
+            write,
+        } = self;
+        flush_at(layout, memory, write.place);
+        After::More(prepare_at(layout.kind(), begun, index + 1))
+    }
+}
