@@ -67,8 +67,8 @@ access_of kind (DequeueMoveHead p) = Cas Head p.first.0 p.next.0
 
 -- where a call acts, once its record is prepared
 abbrev pub first_from : Call → Begun → Op
-first_from (Enq value) b = EnqueueLoadTail (record { node = node_of b.record.0 })
-first_from Deq b = DequeueLoadHead (record { token = b.record })
+first_from (Enq value) b = EnqueueLoadTail (record { node = node_of b.token.0 })
+first_from Deq b = DequeueLoadHead (record { token = b.token })
 
 abbrev pub first_of : Begun → Op
 first_of b = first_from b.call b

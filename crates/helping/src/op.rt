@@ -60,10 +60,10 @@ impl Op {
     {
         match begun.call {
             Call::Enq(_) => Op::EnqueueLoadTail(EnqueueLoadTail {
-                node: NodeId(begun.record.0),
+                node: NodeId(begun.token.0),
             }),
             Call::Deq => Op::DequeueLoadHead(DequeueLoadHead {
-                token: begun.record,
+                token: begun.token,
             }),
         }
     }

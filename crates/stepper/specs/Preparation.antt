@@ -27,15 +27,15 @@ bump b = write (Bump b.client) (b.used + 1)
 
 -- that the record is the client's last
 abbrev pub announcement : Begun → Write
-announcement b = write (Announcement b.client) b.record.0
+announcement b = write (Announcement b.client) b.token.0
 
 abbrev pub preparation_from : Kind → Call → Begun → List Write
-preparation_from Durable (Enq value) b = bump b ∷ write (Value (record { 0 = b.record.0 })) value ∷ []
+preparation_from Durable (Enq value) b = bump b ∷ write (Value (record { 0 = b.token.0 })) value ∷ []
 preparation_from Durable Deq b = bump b ∷ announcement b ∷ []
 preparation_from Log (Enq value) b =
-    bump b ∷ write (Number b.record) b.number ∷ write (EntryKind b.record) 1 ∷ write (EntryNode b.record) b.record.0
-    ∷ write (Value (record { 0 = b.record.0 })) value ∷ write (Insert (record { 0 = b.record.0 })) b.record.0 ∷ announcement b ∷ []
-preparation_from Log Deq b = bump b ∷ write (Number b.record) b.number ∷ write (EntryKind b.record) 2 ∷ announcement b ∷ []
+    bump b ∷ write (Number b.token) b.number ∷ write (EntryKind b.token) 1 ∷ write (EntryNode b.token) b.token.0
+    ∷ write (Value (record { 0 = b.token.0 })) value ∷ write (Insert (record { 0 = b.token.0 })) b.token.0 ∷ announcement b ∷ []
+preparation_from Log Deq b = bump b ∷ write (Number b.token) b.number ∷ write (EntryKind b.token) 2 ∷ announcement b ∷ []
 
 abbrev pub preparation_of : Kind → Begun → List Write
 preparation_of kind b = preparation_from kind b.call b
@@ -64,8 +64,8 @@ flush_successor kind p = More (prepared_to kind p.begun (p.index + 1))
 pub record IsBegun (s : Shape) (b : Begun) : Type 0 where
   pub client : IsClient s b.client.0
   pub unused : b.used < s.records
-  pub is_record : IsRecord s b.record.0
-  pub own : b.record.0 ≡ record_of s b.client.0 b.used
+  pub is_record : IsRecord s b.token.0
+  pub own : b.token.0 ≡ record_of s b.client.0 b.used
   pub number : b.number ≤ 1099511627776
   pub value : (v : ℕ) → b.call ≡ Enq v → v ≤ 4294967295
 

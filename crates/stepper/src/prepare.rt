@@ -17,7 +17,7 @@ pub struct Begun {
     /// How many records the client had used before.
     pub used: u32,
     /// Its record: the number of its cell or entry and, for an enqueue, of its node.
-    pub record: Token,
+    pub token: Token,
     /// Its operation number, in a log queue.
     pub number: u64,
     pub call: Call,
@@ -55,7 +55,7 @@ fn durable_enqueue(begun: Begun, value: u32, index: u8) -> Option<Write>
     match index {
         0 => Some(bump(begun)),
         1 => Some(Write {
-            place: Place::Value(NodeId(begun.record.0)),
+            place: Place::Value(NodeId(begun.token.0)),
             value: value as u64,
         }),
         _ => None,
@@ -77,13 +77,13 @@ fn durable_dequeue(begun: Begun, index: u8) -> Option<Write>
 fn log_enqueue(begun: Begun, value: u32, index: u8) -> Option<Write>
     ensures { result ≡ slice_get (preparation_from Kind.Log (Call.Enq value) begun) index }
 {
-    let node = NodeId(begun.record.0);
-    let number = begun.record.0 as u64;
+    let node = NodeId(begun.token.0);
+    let number = begun.token.0 as u64;
     let (place, value) = match index {
         0 => return Some(bump(begun)),
-        1 => (Place::Number(begun.record), begun.number),
-        2 => (Place::EntryKind(begun.record), 1),
-        3 => (Place::EntryNode(begun.record), number),
+        1 => (Place::Number(begun.token), begun.number),
+        2 => (Place::EntryKind(begun.token), 1),
+        3 => (Place::EntryNode(begun.token), number),
         4 => (Place::Value(node), value as u64),
         5 => (Place::Insert(node), number),
         6 => return Some(announcement(begun)),
@@ -98,8 +98,8 @@ fn log_dequeue(begun: Begun, index: u8) -> Option<Write>
 {
     let (place, value) = match index {
         0 => return Some(bump(begun)),
-        1 => (Place::Number(begun.record), begun.number),
-        2 => (Place::EntryKind(begun.record), 2),
+        1 => (Place::Number(begun.token), begun.number),
+        2 => (Place::EntryKind(begun.token), 2),
         3 => return Some(announcement(begun)),
         _ => return None,
     };
@@ -122,7 +122,7 @@ fn announcement(begun: Begun) -> Write
 {
     Write {
         place: Place::Announcement(begun.client),
-        value: begun.record.0 as u64,
+        value: begun.token.0 as u64,
     }
 }
 

@@ -1,7 +1,21 @@
--- The number, the name and the text of each refusal.
+-- The number, the name and the text of each refusal, and the number of each rule.
 use Rattle.std.specs.Prelude.{ℕ, List, ◌++◌, codes, decimal}
 use Rattle.words.specs.declared.refusal.Refusal.{Refusal}
 use Rattle.words.specs.declared.refusal.Refusal.TheVariants.{NoWord, BadMagic, BadCount, Truncated, TrailingBytes, NoMemory, BadClients, BadRecords, StaleNumber, Busy, NoRoom, NotReady, NoClient, Idle, AlreadyReady, BadName, Exists, DirectoryFull, Gap, Old, NoQueue, WrongKind, TooLong, BadJson, BadRequest, ReadFailed, WriteFailed, BadLine, Damaged}
+use Rattle.words.specs.declared.refusal.Rule.{Rule}
+use Rattle.words.specs.declared.refusal.Rule.TheVariants.{Size, Records, Chain, Claims, Ends, Rows, Entries, Image, Directory}
+
+-- the number of a rule of sound words
+abbrev pub number_of : Rule → ℕ
+number_of Size = 1
+number_of Records = 2
+number_of Chain = 3
+number_of Claims = 4
+number_of Ends = 5
+number_of Rows = 6
+number_of Entries = 7
+number_of Image = 8
+number_of Directory = 9
 
 abbrev pub code_of : Refusal → ℕ
 code_of NoWord = 1
@@ -31,8 +45,8 @@ code_of BadJson = 24
 code_of BadRequest = 25
 code_of ReadFailed = 26
 code_of WriteFailed = 27
-code_of BadLine = 28
-code_of Damaged = 29
+code_of (BadLine line) = 28
+code_of (Damaged rule) = 29
 
 abbrev pub name_of : Refusal → List ℕ
 name_of NoWord = codes "NoWord"
@@ -62,8 +76,8 @@ name_of BadJson = codes "BadJson"
 name_of BadRequest = codes "BadRequest"
 name_of ReadFailed = codes "ReadFailed"
 name_of WriteFailed = codes "WriteFailed"
-name_of BadLine = codes "BadLine"
-name_of Damaged = codes "Damaged"
+name_of (BadLine line) = codes "BadLine"
+name_of (Damaged rule) = codes "Damaged"
 
 -- the number, a space and the name
 abbrev pub refusal_text : Refusal → List ℕ

@@ -6,5 +6,5 @@ mod refusal;
 mod told;
 
 pub use call::{Call, Client, Kind, NodeId, Reply, Token};
-pub use refusal::Refusal;
+pub use refusal::{Refusal, Rule};
 pub use told::{Outcome, Row, Told, Verdict};

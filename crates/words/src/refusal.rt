@@ -59,10 +59,55 @@ pub enum Refusal {
     ReadFailed,
     /// The writing device failed.
     WriteFailed,
-    /// A line of a script is none that is served.
-    BadLine,
-    /// Booted words break a rule of sound words.
-    Damaged,
+    /// This line of a script, the first one being line 1, is none that is served.
+    BadLine(u32),
+    /// Booted words break a rule of sound words, this one first.
+    Damaged(Rule),
+}
+
+/// The rules of sound words, in the order in which they are looked at.
+#[derive(Clone, Copy, Debug, PartialEq, Eq, Hash)]
+pub enum Rule {
+    /// The count of words is the layout's.
+    Size,
+    /// Bump words are within the records, and a record that is not used is all zero.
+    Records,
+    /// The chain has used nodes, each once, and ends; other nodes are loose.
+    Chain,
+    /// Values are in range, and the claimed nodes come first, each with a claim of its own.
+    Claims,
+    /// The head is at the sentinel or a claimed node, the tail on the chain.
+    Ends,
+    /// Durable queues: each row names a cell of its client, and each cell has its answer.
+    Rows,
+    /// Log queues: each log names an entry of its client, and each entry tells what became of it.
+    Entries,
+    /// A broker's image has its clients, its records and their count of words.
+    Image,
+    /// A broker's directory has good names, none twice.
+    Directory,
+}
+
+impl Rule {
+    ghost use Rattle.std.specs.Prelude.{◌≡◌};
+    ghost use Rattle.words.specs.Refusal.{number_of};
+
+    /// Its number, from 1 to 9.
+    pub fn number(self) -> u8
+        ensures { result ≡ number_of self }
+    {
+        match self {
+            Rule::Size => 1,
+            Rule::Records => 2,
+            Rule::Chain => 3,
+            Rule::Claims => 4,
+            Rule::Ends => 5,
+            Rule::Rows => 6,
+            Rule::Entries => 7,
+            Rule::Image => 8,
+            Rule::Directory => 9,
+        }
+    }
 }
 
 impl Refusal {
@@ -101,8 +146,8 @@ impl Refusal {
             Refusal::BadRequest => 25,
             Refusal::ReadFailed => 26,
             Refusal::WriteFailed => 27,
-            Refusal::BadLine => 28,
-            Refusal::Damaged => 29,
+            Refusal::BadLine(_) => 28,
+            Refusal::Damaged(_) => 29,
         }
     }
 
@@ -138,8 +183,8 @@ impl Refusal {
             Refusal::BadRequest => "BadRequest",
             Refusal::ReadFailed => "ReadFailed",
             Refusal::WriteFailed => "WriteFailed",
-            Refusal::BadLine => "BadLine",
-            Refusal::Damaged => "Damaged",
+            Refusal::BadLine(_) => "BadLine",
+            Refusal::Damaged(_) => "Damaged",
         }
     }
 }
