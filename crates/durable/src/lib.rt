@@ -1,0 +1,73 @@
+//! The durable queue: after a crash it tells each client what became of its last dequeue.
+#![tactic(auto)]
+
+ghost use Rattle.std.specs.Prelude.{◌≡◌, ◌≤◌, ◌<◌, slice_get};
+ghost use Rattle.helping.specs.Table.{begun_at};
+ghost use Rattle.durable.specs.Rows.{no_calls, row_of};
+
+pub use helping::Op;
+use std::marker::Model;
+use stepper::Begun;
+use words::{Client, Kind, Row, Told};
+
+/// What a durable queue tells its clients: at first what the base tells, then what the last recovery read.
+#[derive(Clone, Copy, Debug)]
+pub struct DurableQueue {
+    told: [Told; 16],
+}
+
+impl Model for DurableQueue {
+    ghost use Rattle.std.specs.Prelude.{List};
+    ghost use Rattle.words.specs.declared.told.Told.{Told};
+
+    ghost Value = { List Told };
+
+    ghost view = { λ q. q.told };
+
+    ghost inverse = { λ told. record { told = told } };
+}
+
+impl DurableQueue {
+    /// A queue of so many clients, none of which has called.
+    pub fn new(clients: u32) -> Self
+        requires { clients ≤ 16 }
+        ensures { result ≡ no_calls clients }
+    {
+        let mut told = [Told::None; 16];
+        for client in 0..clients as usize {
+            told[client] = Told::Row(Row::NoCall);
+        }
+        DurableQueue { told }
+    }
+
+    /// A queue whose clients are told this.
+    pub fn recovered(told: [Told; 16]) -> Self
+        ensures { result ≡ told }
+    {
+        DurableQueue { told }
+    }
+
+    /// What each client is told.
+    pub fn told(&self) -> &[Told; 16]
+        ensures { result.now ≡ self.now }
+    {
+        &self.told
+    }
+
+    /// What a client's row said when it was last read. A client that there is not has called nothing.
+    pub fn row(&self, client: Client) -> Row
+        ensures { result ≡ row_of (slice_get self.now client.0) }
+    {
+        match self.told.get(client.0 as usize) {
+            Some(Told::Row(row)) => *row,
+            _ => Row::NoCall,
+        }
+    }
+
+    /// Where a call begins that took its record.
+    pub fn begin(&self, begun: Begun) -> Op
+        ensures { result ≡ begun_at Kind.Durable begun }
+    {
+        Op::begin(Kind::Durable, begun)
+    }
+}

@@ -1,0 +1,110 @@
+//! The log queue: after a crash it tells each client what became of its last announced call. Calls have
+//! numbers, which rise.
+#![tactic(auto)]
+
+ghost use Rattle.std.specs.Prelude.{◌≡◌, ◌↔◌, ◌<◌, IsTrue, slice_get, slice_index, slice_set};
+ghost use Rattle.helping.specs.Table.{begun_at};
+ghost use Rattle.logqueue.specs.Numbers.{new_queue, told_queue, verdict_of, floor_of, IsStale};
+
+pub use helping::Op;
+use std::marker::Model;
+use stepper::Begun;
+use words::{Client, Kind, Outcome, Told, Verdict};
+
+/// The greatest number of an operation, 2^40.
+pub const MAX_NUMBER: u64 = 1_099_511_627_776;
+
+/// What a log queue tells its clients, at first what the base tells and then what the last recovery read,
+/// and the floor of each client's numbers.
+#[derive(Clone, Copy, Debug)]
+pub struct LogQueue {
+    told: [Told; 16],
+    floors: [u64; 16],
+}
+
+impl Model for LogQueue {
+    ghost use Rattle.logqueue.specs.Queue.{LogClients};
+
+    ghost Value = { LogClients };
+
+    ghost view = { λ q. record { told = q.told; floors = q.floors } };
+
+    ghost inverse = { λ q. record { told = q.told; floors = q.floors } };
+}
+
+impl LogQueue {
+    /// A queue whose clients announced nothing yet.
+    pub fn new() -> Self
+        ensures { result ≡ new_queue }
+    {
+        LogQueue {
+            told: [Told::None; 16],
+            floors: [0; 16],
+        }
+    }
+
+    /// A queue whose clients are told this. Each one's floor is the number of a call that took effect, or
+    /// below that of one that did not.
+    pub fn recovered(told: [Told; 16]) -> Self
+        ensures { result ≡ told_queue told }
+    {
+        let mut floors = [0; 16];
+        for client in 0..16 {
+            floors[client] = floor(told[client]);
+        }
+        LogQueue { told, floors }
+    }
+
+    /// What each client is told.
+    pub fn told(&self) -> &[Told; 16]
+        ensures { result.now ≡ self.now.told }
+    {
+        &self.told
+    }
+
+    /// The verdict that a client was last told, if it was told one.
+    pub fn verdict(&self, client: Client) -> Option<Verdict>
+        ensures { result ≡ verdict_of (slice_get self.now.told client.0) }
+    {
+        match self.told.get(client.0 as usize) {
+            Some(Told::Verdict(verdict)) => Some(*verdict),
+            _ => None,
+        }
+    }
+
+    /// Whether a number may not begin a call: it is 0, above 2^40, or not above the client's floor.
+    pub fn is_stale(&self, client: Client, number: u64) -> bool
+        requires { client.0 < 16 }
+        ensures { IsTrue result ↔ IsStale (slice_index self.now.floors client.0) number }
+    {
+        number == 0 || number > MAX_NUMBER || number <= self.floors[client.0 as usize]
+    }
+
+    /// Raises a client's floor to the number of a call that was answered.
+    pub fn returned(&mut self, client: Client, number: u64)
+        requires { client.0 < 16 }
+        ensures { self.new ≡ record self.old { floors = slice_set self.old.floors client.0 number } }
+    {
+        self.floors[client.0 as usize] = number;
+    }
+
+    /// Where a call begins that took its record.
+    pub fn begin(&self, begun: Begun) -> Op
+        ensures { result ≡ begun_at Kind.Log begun }
+    {
+        Op::begin(Kind::Log, begun)
+    }
+}
+
+/// The floor that a client has after it was told this.
+fn floor(told: Told) -> u64
+    ensures { result ≡ floor_of told }
+{
+    match told {
+        Told::Verdict(verdict) => match verdict.outcome {
+            Outcome::Taken(_) => verdict.number,
+            Outcome::NotTaken => verdict.number.saturating_sub(1),
+        },
+        _ => 0,
+    }
+}
