@@ -6,3 +6,4 @@ pub mod Laws
 pub mod Durable
 pub mod Log
 pub mod Answers
+pub mod Content

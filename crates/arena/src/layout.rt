@@ -34,6 +34,7 @@ pub trait Layout {
     /// How many words there are.
     fn size(&self) -> usize
         ensures value { result ≡ size_of self.now }
+        ensures some { 0 < result }
         ensures small { result ≤ 600000 };
 
     fn kind(&self) -> Kind

@@ -1,5 +1,5 @@
 -- Verdicts, and the floor of each client's numbers.
-use Rattle.std.specs.Prelude.{◌≡◌, ℕ, ◌-◌, ◌<◌, ◌≤◌, ◌⊎◌, List, map, replicate, Option, Some, None}
+use Rattle.std.specs.Prelude.{ℕ, ◌-◌, Bool, ◌||◌, ◌==◌, nat_lt, nat_le, List, map, replicate, Option, Some, None}
 use Rattle.words.specs.declared.told.Outcome.{Outcome}
 use Rattle.words.specs.declared.told.Outcome.TheVariants.{NotTaken, Taken}
 use Rattle.words.specs.declared.told.Row.{Row}
@@ -25,9 +25,9 @@ floor_of (told_verdict verdict) = floor_from verdict.number verdict.outcome
 floor_of (told_row row) = 0
 floor_of told_none = 0
 
--- a number may not begin a call
-abbrev pub IsStale : ℕ → ℕ → Type 0
-IsStale floor number = (number ≡ 0) ⊎ (1099511627776 < number) ⊎ (number ≤ floor)
+-- whether a number may not begin a call: it is 0, above 2^40, or not above the floor
+abbrev pub is_stale : ℕ → ℕ → Bool
+is_stale floor number = (number == 0) || nat_lt 1099511627776 number || nat_le number floor
 
 abbrev pub told_queue : List Told → LogClients
 told_queue told = record { told = told; floors = map floor_of told }

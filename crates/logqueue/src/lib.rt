@@ -2,9 +2,9 @@
 //! numbers, which rise.
 #![tactic(auto)]
 
-ghost use Rattle.std.specs.Prelude.{◌≡◌, ◌↔◌, ◌<◌, IsTrue, slice_get, slice_index, slice_set};
+ghost use Rattle.std.specs.Prelude.{◌≡◌, ◌<◌, slice_get, slice_index, slice_set};
 ghost use Rattle.helping.specs.Table.{begun_at};
-ghost use Rattle.logqueue.specs.Numbers.{new_queue, told_queue, verdict_of, floor_of, IsStale};
+ghost use Rattle.logqueue.specs.Numbers.{new_queue, told_queue, verdict_of, floor_of, is_stale};
 
 pub use helping::Op;
 use std::marker::Model;
@@ -75,7 +75,7 @@ impl LogQueue {
     /// Whether a number may not begin a call: it is 0, above 2^40, or not above the client's floor.
     pub fn is_stale(&self, client: Client, number: u64) -> bool
         requires { client.0 < 16 }
-        ensures { IsTrue result ↔ IsStale (slice_index self.now.floors client.0) number }
+        ensures { result ≡ is_stale (slice_index self.now.floors client.0) number }
     {
         number == 0 || number > MAX_NUMBER || number <= self.floors[client.0 as usize]
     }

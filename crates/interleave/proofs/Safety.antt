@@ -1,0 +1,117 @@
+-- Each act keeps the ranges.
+use Rattle.std.proofs.Common.{◌≡◌, ℕ, ◌<◌, ◌≤◌, ◌⊎◌, inl, inr, List, length, Option, Some, None, Bool, true, false, slice_index, slice_set, slice_get, ◌==◌, arith, refl, subst, get_or-set_other}
+use Rattle.std.proofs.lemmas.Bool.Decides.{eqb_tells}
+use Rattle.std.proofs.lemmas.Grind.{get_or-set_at, common_steps}
+use Rattle.std.proofs.lemmas.Option.{get_or_from_slice_get}
+use Rattle.words.specs.declared.call.Call.{Call}
+use Rattle.words.specs.declared.call.Call.TheVariants.{Enq}
+use Rattle.words.specs.declared.call.Client.{Client}
+use Rattle.persist.specs.Memory.{Words, Access, Load, Store, Cas, Flush}
+use Rattle.arena.specs.Shape.{Shape}
+use Rattle.arena.specs.Place.{IsPlace, is_same, is_same-true}
+use Rattle.arena.specs.Ranges.{Fits}
+use Rattle.arena.specs.Laws.{IsLaidOut, at-written}
+use Rattle.arena.specs.declared.place.Place.{Place}
+use Rattle.arena.specs.declared.place.Place.TheVariants.{Bump}
+use Rattle.stepper.specs.Step.{after_one, found, place_of}
+use Rattle.stepper.specs.Preparation.{IsBegun}
+use Rattle.helping.specs.Table.{access_of, successor, begun_at}
+use Rattle.interleave.specs.Ranges.{AllFit, WordsFit, CallFits, IfCall, IsSafe}
+use Rattle.interleave.specs.declared.calls.UnderWay.{UnderWay}
+use Rattle.interleave.specs.State.{begun_call}
+use Rattle.interleave.proofs.Records.{record_in_range}
+use Rattle.interleave.proofs.Steps.{AccessFits, AfterFits, at_place, access_fits, successor_fits, begun_fits}
+
+bool_cases : (b : Bool) → (b ≡ true) ⊎ (b ≡ false)
+bool_cases true = inl refl
+bool_cases false = inr refl
+
+-- a write of a value that fits
+AllFit-set : (s : Shape) (word_of : Place → ℕ) (place_at : ℕ → Option Place) (size : ℕ) → IsLaidOut s word_of place_at size → (ws : List ℕ) (p : Place) (v : ℕ) → size ≤ length ws → IsPlace s p → Fits s p v → AllFit s word_of ws → AllFit s word_of (slice_set ws (word_of p) v)
+AllFit-set s word_of place_at size laid ws p v long hp fits all = λ q hq.
+    rw (at-written s word_of place_at size laid p q hp hq ws v long)
+    (elim (bool_cases (is_same p q)) [
+      | inl e ↦ rw e (subst (λ (r : Place). Fits s r v) (is_same-true p q e) fits)
+      | inr e ↦ rw e (all q hq)
+    ])
+
+pub WordsFit-after : (s : Shape) (word_of : Place → ℕ) (place_at : ℕ → Option Place) (size : ℕ) → IsLaidOut s word_of place_at size → (access : Access Place) → AccessFits s access → (ws : Words) → WordsFit s word_of size ws → WordsFit s word_of size (after_one word_of access ws)
+WordsFit-after s word_of place_at size laid (Load p) h ws w = record { room = w.room; same = w.same; cached = w.cached; kept = w.kept }
+WordsFit-after s word_of place_at size laid (Store p v) h ws w = record {
+  room = grind (arith, common_steps, w.room);
+  same = grind (arith, common_steps, w.same);
+  cached = AllFit-set s word_of place_at size laid ws.cached p v w.room h.0 h.1 w.cached;
+  kept = w.kept;
+}
+WordsFit-after s word_of place_at size laid (Cas p old new) h ws w =
+    elim (bool_cases (slice_index ws.cached (word_of p) == old)) [
+      | inl e ↦ rw e (record {
+        room = grind (arith, common_steps, w.room);
+        same = grind (arith, common_steps, w.same);
+        cached = AllFit-set s word_of place_at size laid ws.cached p new w.room h.0 h.1 w.cached;
+        kept = w.kept;
+      })
+      | inr e ↦ rw e (record { room = w.room; same = w.same; cached = w.cached; kept = w.kept })
+    ]
+WordsFit-after s word_of place_at size laid (Flush p) h ws w = record {
+  room = w.room;
+  same = grind (arith, common_steps, w.same);
+  cached = w.cached;
+  kept = AllFit-set s word_of place_at size laid ws.kept p (slice_index ws.cached (word_of p)) (omega (arith, w.room, w.same)) h (w.cached p h) w.kept;
+}
+
+-- the call of a client that has one
+pub call_fits : (s : Shape) (word_of : Place → ℕ) (size : ℕ) (ws : Words) (calls : List (Option UnderWay)) (t : ℕ) (u : UnderWay) → IsSafe s word_of size ws calls → slice_get calls t ≡ Some (Some u) → CallFits s u
+call_fits s word_of size ws calls t u safe here = subst (IfCall s) (get_or_from_slice_get calls t (Some u) None here) (safe.calls_fit t)
+
+-- what its step reads is in range
+pub read_fits : (s : Shape) (word_of : Place → ℕ) (size : ℕ) (ws : Words) (calls : List (Option UnderWay)) (u : UnderWay) → IsSafe s word_of size ws calls → CallFits s u → Fits s (place_of (access_of s.kind u.op)) (found word_of (access_of s.kind u.op) ws)
+read_fits s word_of size ws calls u safe fits =
+    safe.words.cached (place_of (access_of s.kind u.op)) (at_place s (access_of s.kind u.op) (access_fits s s.kind u.op refl fits.point))
+
+-- a client's place is written
+pub IsSafe-put : (s : Shape) (word_of : Place → ℕ) (size : ℕ) (ws : Words) (calls : List (Option UnderWay)) (t : ℕ) (x : Option UnderWay) → IsSafe s word_of size ws calls → t < length calls → IfCall s x → IsSafe s word_of size ws (slice_set calls t x)
+IsSafe-put s word_of size ws calls t x safe within fits = record {
+  words = safe.words;
+  clients = grind (arith, common_steps, safe.clients);
+  few = safe.few;
+  calls_fit = λ u. elim (eqb_tells u t) [
+    | inl e ↦ rw (get_or-set_at calls t u x None e.1 within) fits
+    | inr e ↦ rw (get_or-set_other calls t u x None e.1) (safe.calls_fit u)
+  ];
+}
+
+-- the words after an access that fits
+pub IsSafe-accessed : (s : Shape) (word_of : Place → ℕ) (place_at : ℕ → Option Place) (size : ℕ) → IsLaidOut s word_of place_at size → (ws : Words) (calls : List (Option UnderWay)) (access : Access Place) → AccessFits s access → IsSafe s word_of size ws calls → IsSafe s word_of size (after_one word_of access ws) calls
+IsSafe-accessed s word_of place_at size laid ws calls access fits safe = record {
+  words = WordsFit-after s word_of place_at size laid access fits ws safe.words;
+  clients = safe.clients;
+  few = safe.few;
+  calls_fit = safe.calls_fit;
+}
+
+-- so a step of a call keeps the words in range
+pub IsSafe-stepped : (s : Shape) (word_of : Place → ℕ) (place_at : ℕ → Option Place) (size : ℕ) → IsLaidOut s word_of place_at size → (ws : Words) (calls : List (Option UnderWay)) (u : UnderWay) → CallFits s u → IsSafe s word_of size ws calls → IsSafe s word_of size (after_one word_of (access_of s.kind u.op) ws) calls
+IsSafe-stepped s word_of place_at size laid ws calls u fits safe =
+    IsSafe-accessed s word_of place_at size laid ws calls (access_of s.kind u.op) (access_fits s s.kind u.op refl fits.point) safe
+
+-- and what it leads to
+pub next_fits : (s : Shape) (word_of : Place → ℕ) (size : ℕ) (ws : Words) (calls : List (Option UnderWay)) (u : UnderWay) → CallFits s u → IsSafe s word_of size ws calls → AfterFits s (successor s.kind u.op (found word_of (access_of s.kind u.op) ws))
+next_fits s word_of size ws calls u fits safe = successor_fits s u.op _ fits.point (read_fits s word_of size ws calls u safe fits)
+
+-- a client without a call begins one, with a record that is left
+pub IsSafe-begun : (s : Shape) (word_of : Place → ℕ) (place_at : ℕ → Option Place) (size : ℕ) → IsLaidOut s word_of place_at size → (ws : Words) (calls : List (Option UnderWay)) (client : Client) (used number : ℕ) (call : Call)
+    → IsSafe s word_of size ws calls → client.0 < length calls → used < s.records → number ≤ 1099511627776 → ((v : ℕ) → call ≡ Enq v → v ≤ 4294967295)
+    → IsSafe s word_of size (after_one word_of (Load (Bump client)) ws) (slice_set calls client.0 (Some (record { begun = begun_call s used client number call; op = begun_at s.kind (begun_call s used client number call) })))
+IsSafe-begun s word_of place_at size laid ws calls client used number call safe within room few fits =
+    let client_in : client.0 < s.clients = omega (arith, safe.clients) in
+    let b : IsBegun s (begun_call s used client number call) = record {
+      client = client_in;
+      unused = room;
+      is_record = (omega arith, record_in_range s.clients s.records client.0 used client_in room);
+      own = refl;
+      number = few;
+      value = fits;
+    } in
+    IsSafe-put s word_of size _ calls client.0 _ (IsSafe-accessed s word_of place_at size laid ws calls (Load (Bump client)) client_in safe) within
+    (record { begun = b; point = begun_fits s (begun_call s used client number call) b })

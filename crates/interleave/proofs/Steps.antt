@@ -1,0 +1,136 @@
+-- Each step's access is at a place of the layout, what it writes fits there, and what it leads to is in range.
+use Rattle.std.proofs.Common.{◌≡◌, ℕ, zero, suc, ◌+◌, List, [], ◌∷◌, Option, Some, None, slice_get, arith, refl, subst}
+use Rattle.std.proofs.lemmas.Bool.Decides.{nat_tests}
+use Rattle.words.specs.declared.call.Kind.{Kind}
+use Rattle.words.specs.declared.call.Kind.TheVariants.{Durable, Log}
+use Rattle.words.specs.declared.call.Token.{Token}
+use Rattle.words.specs.declared.call.Call.{Call}
+use Rattle.words.specs.declared.call.Call.TheVariants.{Enq, Deq}
+use Rattle.persist.specs.Memory.{Access, Load, Store, Cas, Flush}
+use Rattle.arena.specs.Shape.{Shape}
+use Rattle.arena.specs.Place.{IsPlace}
+use Rattle.arena.specs.Ranges.{Fits}
+use Rattle.arena.specs.declared.place.Place.{Place}
+use Rattle.arena.specs.declared.place.Write.{Write}
+use Rattle.stepper.specs.Step.{place_of}
+use Rattle.stepper.specs.Preparation.{preparation_from, preparation_of, prepared_with, IsBegun, IsPreparing}
+use Rattle.stepper.specs.declared.After.{After}
+use Rattle.stepper.specs.declared.After.TheVariants.{More, Done}
+use Rattle.stepper.specs.declared.prepare.Begun.{Begun}
+use Rattle.helping.specs.declared.dequeue.Claim.{Claim}
+use Rattle.helping.specs.declared.dequeue.Claim.TheVariants.{Won, LostTo}
+use Rattle.helping.specs.Table.{access_of, successor, first_from, prepared_op, begun_at, answer_or_again, IsPoint}
+use Rattle.helping.specs.declared.op.Op.{Op}
+use Rattle.helping.specs.declared.op.Op.TheVariants.{PrepareStore, PrepareFlush, EnqueueLoadTail, EnqueueLoadNext, EnqueueCheckTail, EnqueueLink, EnqueueFlushLink, EnqueueMoveTail, EnqueueFlushPassedLink, EnqueueHelpTail, DequeueLoadHead, DequeueLoadTail, DequeueLoadNext, DequeueCheckHead, DequeueStoreEmpty, DequeueFlushEmpty, DequeueFlushPassedLink, DequeueHelpTail, DequeueLoadValue, DequeueClaim, DequeueFlushClaim, DequeueStoreResult, DequeueFlushResult, DequeueMoveHead}
+
+-- the access is at a place, and what it may write fits there
+abbrev pub AccessFits : Shape → Access Place → Type 0
+AccessFits s (Load p) = IsPlace s p
+AccessFits s (Store p v) = IsPlace s p × Fits s p v
+AccessFits s (Cas p old new) = IsPlace s p × Fits s p new
+AccessFits s (Flush p) = IsPlace s p
+
+abbrev pub AfterFits : Shape → After Op → Type 0
+AfterFits s (More op) = IsPoint s op
+AfterFits s (Done reply) = Unit {0}
+
+pub at_place : (s : Shape) (access : Access Place) → AccessFits s access → IsPlace s (place_of access)
+at_place s (Load p) h = h
+at_place s (Store p v) h = h.0
+at_place s (Cas p old new) h = h.0
+at_place s (Flush p) h = h
+
+record WriteFits (s : Shape) (w : Write) : Type 0 where
+  is_place : IsPlace s w.place
+  fits : Fits s w.place w.value
+
+abbrev AllWritesFit : Shape → List Write → Type 0
+AllWritesFit s [] = Unit {0}
+AllWritesFit s (w ∷ ws) = WriteFits s w × AllWritesFit s ws
+
+one_of : (s : Shape) (ws : List Write) (i : ℕ) (w : Write) → AllWritesFit s ws → slice_get ws i ≡ Some w → WriteFits s w
+one_of s [] i w all e = cc
+one_of s (v ∷ ws) zero w all e = let same : v ≡ w = cc in subst (WriteFits s) same all.0
+one_of s (v ∷ ws) (suc i) w all e = one_of s ws i w all.1 e
+
+-- what a call prepares fits
+preparation_fits : (s : Shape) (kind : Kind) (call : Call) (b : Begun) → s.kind ≡ kind → b.call ≡ call → IsBegun s b → AllWritesFit s (preparation_from kind call b)
+preparation_fits s Durable (Enq value) b k c h = (record { is_place = h.client; fits = grind (arith, h.unused) }, (record { is_place = grind (arith, h.is_record); fits = h.value value c }, tt))
+preparation_fits s Durable Deq b k c h = (record { is_place = h.client; fits = grind (arith, h.unused) }, (record { is_place = h.client; fits = grind (arith, h.is_record) }, tt))
+preparation_fits s Log (Enq value) b k c h =
+    (record { is_place = h.client; fits = grind (arith, h.unused) }, (record { is_place = (k, h.is_record); fits = h.number }, (record { is_place = (k, h.is_record); fits = grind arith }, (record { is_place = (k, h.is_record); fits = grind (arith, h.is_record) }, (record { is_place = grind (arith, h.is_record); fits = h.value value c }, (record { is_place = (k, grind (arith, h.is_record)); fits = grind (arith, h.is_record) }, (record { is_place = h.client; fits = grind (arith, h.is_record) }, tt)))))))
+preparation_fits s Log Deq b k c h = (record { is_place = h.client; fits = grind (arith, h.unused) }, (record { is_place = (k, h.is_record); fits = h.number }, (record { is_place = (k, h.is_record); fits = grind arith }, (record { is_place = h.client; fits = grind (arith, h.is_record) }, tt))))
+
+in_hand_fits : (s : Shape) (b : Begun) (i : ℕ) (w : Write) → IsPreparing s b i w → WriteFits s w
+in_hand_fits s b i w h = one_of s (preparation_of s.kind b) i w (preparation_fits s s.kind b.call b refl refl h.begun) h.in_hand
+
+first_fits : (s : Shape) (b : Begun) (call : Call) → IsBegun s b → IsPoint s (first_from call b)
+first_fits s b (Enq value) h = h.is_record
+first_fits s b Deq h = h.is_record
+
+prepared_fits : (s : Shape) (b : Begun) (i : ℕ) (w : Option Write) → slice_get (preparation_of s.kind b) i ≡ w → IsBegun s b → IsPoint s (prepared_op (prepared_with b i w))
+prepared_fits s b i None e h = first_fits s b b.call h
+prepared_fits s b i (Some w) e h = record { begun = h; in_hand = e }
+
+pub begun_fits : (s : Shape) (b : Begun) → IsBegun s b → IsPoint s (begun_at s.kind b)
+begun_fits s b h = prepared_fits s b 0 (slice_get (preparation_of s.kind b) 0) refl h
+
+again_fits : (s : Shape) (claim : Claim) (p : Token) (v : ℕ) → IsPoint s (DequeueLoadHead (record { token = p })) → AfterFits s (answer_or_again claim p v)
+again_fits s Won p v h = tt
+again_fits s (LostTo other) p v h = h
+
+pub access_fits : (s : Shape) (kind : Kind) (op : Op) → s.kind ≡ kind → IsPoint s op → AccessFits s (access_of kind op)
+access_fits s kind (PrepareStore p) k h = let w = in_hand_fits s p.begun p.index p.write h in (w.is_place, w.fits)
+access_fits s kind (PrepareFlush p) k h = (in_hand_fits s p.begun p.index p.write h).is_place
+access_fits s kind (EnqueueLoadTail p) k h = tt
+access_fits s kind (EnqueueLoadNext p) k h = grind arith
+access_fits s kind (EnqueueCheckTail p) k h = tt
+access_fits s kind (EnqueueLink p) k h = grind arith
+access_fits s kind (EnqueueFlushLink p) k h = grind arith
+access_fits s kind (EnqueueMoveTail p) k h = grind arith
+access_fits s kind (EnqueueFlushPassedLink p) k h = grind arith
+access_fits s kind (EnqueueHelpTail p) k h = grind arith
+access_fits s kind (DequeueLoadHead p) k h = tt
+access_fits s kind (DequeueLoadTail p) k h = tt
+access_fits s kind (DequeueLoadNext p) k h = grind arith
+access_fits s kind (DequeueCheckHead p) k h = tt
+access_fits s Durable (DequeueStoreEmpty p) k h = grind arith
+access_fits s Log (DequeueStoreEmpty p) k h = grind arith
+access_fits s Durable (DequeueFlushEmpty p) k h = grind arith
+access_fits s Log (DequeueFlushEmpty p) k h = grind arith
+access_fits s kind (DequeueFlushPassedLink p) k h = grind arith
+access_fits s kind (DequeueHelpTail p) k h = grind arith
+access_fits s kind (DequeueLoadValue p) k h = grind arith
+access_fits s kind (DequeueClaim p) k h = grind arith
+access_fits s kind (DequeueFlushClaim p) k h = grind arith
+access_fits s Durable (DequeueStoreResult p) k h = grind arith
+access_fits s Log (DequeueStoreResult p) k h = grind arith
+access_fits s Durable (DequeueFlushResult p) k h = grind arith
+access_fits s Log (DequeueFlushResult p) k h = grind arith
+access_fits s kind (DequeueMoveHead p) k h = grind arith
+
+pub successor_fits : (s : Shape) (op : Op) (v : ℕ) → IsPoint s op → Fits s (place_of (access_of s.kind op)) v → AfterFits s (successor s.kind op v)
+successor_fits s (PrepareStore p) v h f = h
+successor_fits s (PrepareFlush p) v h f = prepared_fits s p.begun (p.index + 1) (slice_get (preparation_of s.kind p.begun) (p.index + 1)) refl h.begun
+successor_fits s (EnqueueLoadTail p) v h f = grind (arith, nat_tests)
+successor_fits s (EnqueueLoadNext p) v h f = grind (arith, nat_tests)
+successor_fits s (EnqueueCheckTail p) v h f = grind (arith, nat_tests)
+successor_fits s (EnqueueLink p) v h f = grind (arith, nat_tests)
+successor_fits s (EnqueueFlushLink p) v h f = grind (arith, nat_tests)
+successor_fits s (EnqueueMoveTail p) v h f = tt
+successor_fits s (EnqueueFlushPassedLink p) v h f = grind (arith, nat_tests)
+successor_fits s (EnqueueHelpTail p) v h f = grind (arith, nat_tests)
+successor_fits s (DequeueLoadHead p) v h f = grind (arith, nat_tests)
+successor_fits s (DequeueLoadTail p) v h f = grind (arith, nat_tests)
+successor_fits s (DequeueLoadNext p) v h f = grind (arith, nat_tests)
+successor_fits s (DequeueCheckHead p) v h f = grind (arith, nat_tests)
+successor_fits s (DequeueStoreEmpty p) v h f = grind (arith, nat_tests)
+successor_fits s (DequeueFlushEmpty p) v h f = tt
+successor_fits s (DequeueFlushPassedLink p) v h f = grind (arith, nat_tests)
+successor_fits s (DequeueHelpTail p) v h f = grind (arith, nat_tests)
+successor_fits s (DequeueLoadValue p) v h f = grind (arith, nat_tests)
+successor_fits s (DequeueClaim p) v h f = grind (arith, nat_tests)
+successor_fits s (DequeueFlushClaim p) v h f = grind (arith, nat_tests)
+successor_fits s (DequeueStoreResult p) v h f = grind (arith, nat_tests)
+successor_fits s (DequeueFlushResult p) v h f = grind (arith, nat_tests)
+successor_fits s (DequeueMoveHead p) v h f = again_fits s p.claim p.token p.value h.0.0

@@ -1,0 +1,32 @@
+use Rattle.std.proofs.Common.{◌≡◌, ℕ, ◌+◌, ◌-◌, ◌*◌, ◌≤◌, List, ◌++◌, slice_index, sym, ap, ◌∙◌, append_assoc, arith}
+use Rattle.std.proofs.lemmas.List.{append-nil}
+use Rattle.arena.specs.Shape.{greatest}
+use Rattle.arena.specs.Content.{unclaimed, content_from}
+use Rattle.arena.specs.declared.place.Place.{Place}
+use Rattle.arena.specs.declared.place.Place.TheVariants.{Next}
+use Rattle.interleave.proofs.Contents.{content_end, content_next}
+use Rattle.interleave.proofs.content.content.Goals as goal
+
+pub returns-then-next-eq0-clause-content : goal.returns-then-next-eq0-clause-content
+returns-then-next-eq0-clause-content g c =
+    let word : Place → ℕ = λ p. slice_index c.args.memory.now.kept (g.L.Layout.word_of c.args.layout.now p) in
+    sym (append-nil c.loop.values.items)
+    ∙ ap (λ xs. c.loop.values.items ++ xs) (sym (content_end word _ c.loop.node.0 (sym c.kept_at.ensures ∙ c.if-next-eq0.true)))
+    ∙ c.loop.invariant.content
+
+pub loop-preserved : goal.loop-preserved
+loop-preserved g c =
+    let word : Place → ℕ = λ p. slice_index c.args.memory.now.kept (g.L.Layout.word_of c.args.layout.now p) in
+    let links : ℕ = c.clients.result * c.records.result in
+    let rest : List ℕ = content_from word (links - (c.loop.counter + 1)) c.kept_at.result in
+    let fits : word (Next c.loop.node) ≤ greatest (g.L.Layout.shape c.args.layout.now) = c.requires.kept (Next c.loop.node) c.loop.invariant.node in
+    let read : c.kept_at.result ≡ word (Next c.loop.node) = c.kept_at.ensures in
+    record {
+      links = c.loop.invariant.links;
+      node = omega (arith, fits, read);
+      content =
+          ap (λ xs. xs ++ rest) c.in_ok-add_unclaimed.ensures.added
+          ∙ append_assoc c.loop.values.items (unclaimed word c.kept_at.result) rest
+          ∙ ap (λ xs. c.loop.values.items ++ xs) (sym (content_next word links c.loop.counter c.loop.node.0 c.kept_at.result c.loop-test.true (sym read) c.if-next-eq0.false))
+          ∙ c.loop.invariant.content;
+    }

@@ -1,0 +1,17 @@
+use Rattle.std.proofs.Common.{◌≡◌, ℕ, ◌-◌, ◌++◌, slice_index}
+use Rattle.arena.specs.Shape.{greatest}
+use Rattle.arena.specs.Place.{IsNode}
+use Rattle.arena.specs.Content.{content_from, content_of}
+use Rattle.arena.specs.declared.place.Place.{Place}
+use Rattle.interleave.proofs.content.content.Given as goal
+
+-- what was found and what the links that are left reach is all that there is
+abbrev pub invariant-loop : goal.invariant-loop
+invariant-loop g l =
+    let s = g.L.Layout.shape l.layout in
+    let word : Place → ℕ = λ p. slice_index l.memory.kept (g.L.Layout.word_of l.layout p) in
+    record {
+      links : l.links ≡ greatest s;
+      node : IsNode s l.node.0;
+      content : l.values.items ++ content_from word (l.links - l.counter) l.node.0 ≡ content_of s word;
+    }

@@ -1,0 +1,5 @@
+pub mod Queue
+pub mod Calls
+pub mod State
+pub mod Ranges
+pub mod OneAccess

@@ -1,0 +1,26 @@
+-- What a queue keeps for its clients beside its memory.
+use Rattle.std.specs.Prelude.{ℕ, Result, Ok, Err, slice_index, slice_set, if◌then◌else◌}
+use Rattle.words.specs.declared.call.Client.{Client}
+use Rattle.words.specs.declared.call.Kind.{Kind}
+use Rattle.words.specs.declared.call.Kind.TheVariants.{Durable as durable_kind, Log as log_kind}
+use Rattle.words.specs.declared.refusal.Refusal.{Refusal}
+use Rattle.words.specs.declared.refusal.Refusal.TheVariants.{StaleNumber}
+use Rattle.durable.specs.Rows.{no_calls}
+use Rattle.logqueue.specs.Numbers.{is_stale, new_queue as new_log_queue}
+use Rattle.interleave.specs.declared.queue.Queue.{Queue}
+use Rattle.interleave.specs.declared.queue.Queue.TheVariants.{Durable, Log}
+
+abbrev pub new_queue : Kind → ℕ → Queue
+new_queue durable_kind clients = Durable (no_calls clients)
+new_queue log_kind clients = Log new_log_queue
+
+-- the number of a call in the history, or why it may not begin
+abbrev pub number_check : Queue → Client → ℕ → Result ℕ Refusal
+number_check (Durable told) client number = Ok 0
+number_check (Log clients) client number =
+    if is_stale (slice_index clients.floors client.0) number then Err StaleNumber else Ok number
+
+-- the number of an answered call becomes the floor of its client
+abbrev pub after_return : Queue → Client → ℕ → Queue
+after_return (Durable told) client number = Durable told
+after_return (Log clients) client number = Log (record clients { floors = slice_set clients.floors client.0 number })

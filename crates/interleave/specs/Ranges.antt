@@ -1,0 +1,50 @@
+-- Every word of every place, and every number of a waiting call, is in its range: so each step is safe, in every interleaving.
+use Rattle.std.specs.Prelude.{◌≡◌, ℕ, ◌≤◌, List, Option, Some, None, length, slice_index, slice_index_or}
+use Rattle.persist.specs.Memory.{Words}
+use Rattle.arena.specs.Shape.{Shape}
+use Rattle.arena.specs.Place.{IsPlace}
+use Rattle.arena.specs.Ranges.{Fits}
+use Rattle.arena.specs.declared.place.Place.{Place}
+use Rattle.stepper.specs.Preparation.{IsBegun}
+use Rattle.helping.specs.Table.{IsPoint}
+use Rattle.words.specs.declared.call.Kind.{Kind}
+use Rattle.words.specs.declared.call.Kind.TheVariants.{Durable as durable_kind, Log as log_kind}
+use Rattle.interleave.specs.declared.calls.UnderWay.{UnderWay}
+use Rattle.interleave.specs.declared.queue.Queue.{Queue}
+use Rattle.interleave.specs.declared.queue.Queue.TheVariants.{Durable, Log}
+use Rattle.interleave.specs.State.{State, Laid}
+
+abbrev pub AllFit : Shape → (Place → ℕ) → List ℕ → Type 0
+AllFit s word_of ws = (p : Place) → IsPlace s p → Fits s p (slice_index ws (word_of p))
+
+pub record WordsFit (s : Shape) (word_of : Place → ℕ) (size : ℕ) (ws : Words) : Type 0 where
+  pub room : size ≤ length ws.cached
+  pub same : length ws.kept ≡ length ws.cached
+  pub cached : AllFit s word_of ws.cached
+  pub kept : AllFit s word_of ws.kept
+
+-- what a call under way learnt is in range
+pub record CallFits (s : Shape) (u : UnderWay) : Type 0 where
+  pub begun : IsBegun s u.begun
+  pub point : IsPoint s u.op
+
+abbrev pub IfCall : Shape → Option UnderWay → Type 0
+IfCall s None = Unit {0}
+IfCall s (Some u) = CallFits s u
+
+-- the queue is of the layout's kind
+abbrev pub IsOfKind : Kind → Queue → Type 0
+IsOfKind durable_kind (Durable told) = Unit {0}
+IsOfKind durable_kind (Log clients) = ⊥
+IsOfKind log_kind (Durable told) = ⊥
+IsOfKind log_kind (Log clients) = Unit {0}
+
+pub record IsSafe (s : Shape) (word_of : Place → ℕ) (size : ℕ) (ws : Words) (calls : List (Option UnderWay)) : Type 0 where
+  pub words : WordsFit s word_of size ws
+  pub clients : length calls ≡ s.clients
+  pub few : s.clients ≤ 16
+  pub calls_fit : (t : ℕ) → IfCall s (slice_index_or calls t None)
+
+pub record IsSafeWorld {L : Type 0} (laid : Laid L) (w : State L) : Type 0 where
+  pub safe : IsSafe (laid.shape w.layout) (laid.word_of w.layout) (laid.size_of w.layout) w.words w.calls
+  pub kind : IsOfKind (laid.shape w.layout).kind w.queue

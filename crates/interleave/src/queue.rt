@@ -1,0 +1,56 @@
+//! What a queue keeps for its clients beside its memory, by its kind.
+
+ghost use Rattle.std.specs.Prelude.{◌≡◌, ◌<◌, ◌≤◌, Ok, Err};
+ghost use Rattle.interleave.specs.Queue.{new_queue, number_check, after_return};
+
+use durable::DurableQueue;
+use logqueue::LogQueue;
+use words::{Client, Kind, Refusal};
+
+/// What a queue keeps for its clients, by its kind.
+#[derive(Clone, Copy, Debug)]
+pub enum Queue {
+    Durable(DurableQueue),
+    Log(LogQueue),
+}
+
+impl Queue {
+    /// That of a new queue.
+    pub(crate) fn new(kind: Kind, clients: u32) -> Self
+        requires { clients ≤ 16 }
+        ensures { result ≡ new_queue kind clients }
+    {
+        match kind {
+            Kind::Durable => Queue::Durable(DurableQueue::new(clients)),
+            Kind::Log => Queue::Log(LogQueue::new()),
+        }
+    }
+
+    /// The number that a call has in the history: a durable queue ignores it. A log queue refuses a stale one.
+    pub(crate) fn number(&self, client: Client, number: u64) -> Result<u64, Refusal>
+        requires { client.0 < 16 }
+        ensures { result ≡ number_check self.now client number }
+    {
+        match self {
+            Queue::Durable(_) => Ok(0),
+            Queue::Log(queue) => {
+                if queue.is_stale(client, number) {
+                    Err(Refusal::StaleNumber)
+                } else {
+                    Ok(number)
+                }
+            }
+        }
+    }
+
+    /// Notes that a call of this number was answered.
+    pub(crate) fn returned(&mut self, client: Client, number: u64)
+        requires { client.0 < 16 }
+        ensures { self.new ≡ after_return self.old client number }
+    {
+        match self {
+            Queue::Durable(_) => {}
+            Queue::Log(queue) => queue.returned(client, number),
+        }
+    }
+}
