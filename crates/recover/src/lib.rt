@@ -1,0 +1,17 @@
+//! Recovery after a crash, as a step machine over any layout.
+#![tactic(auto)]
+
+mod ends;
+mod recovery;
+mod telling;
+
+pub use ends::{
+    RecoveryFlushHead, RecoveryFlushResult, RecoveryFlushStatus, RecoveryFlushTail,
+    RecoveryLoadHead, RecoveryLoadInsert, RecoveryLoadMark, RecoveryLoadNext, RecoveryLoadValue,
+    RecoveryStoreHead, RecoveryStoreResult, RecoveryStoreStatus, RecoveryStoreTail,
+};
+pub use recovery::{Recover, Recovered, Recovery, boot};
+pub use telling::{
+    RecoveryLoadAnnouncement, RecoveryLoadCell, RecoveryLoadEntryNode, RecoveryLoadKind,
+    RecoveryLoadNumber, RecoveryLoadRemove, RecoveryLoadRemovedValue, RecoveryLoadStatus,
+};
