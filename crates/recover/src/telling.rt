@@ -46,10 +46,11 @@ fn tell<L: Layout>(layout: &L, client: Client, told: [Told; 16], tell: Told) -> 
     requires { client.0 < (L.shape layout.now).clients }
     ensures { result ≡ telling (L.shape layout.now) client told tell }
 {
+    let clients = layout.clients();
     let mut told = told;
     told[client.0 as usize] = tell;
     let next = client.0 + 1;
-    if (next as u32) < layout.clients() {
+    if (next as u32) < clients {
         Recovered::More(Recovery::RecoveryLoadAnnouncement(RecoveryLoadAnnouncement {
             client: Client(next),
             told,
