@@ -1,7 +1,8 @@
 //! A call under way, by the point where it waits.
 
 ghost use Rattle.std.specs.Prelude.{◌≡◌};
-ghost use Rattle.helping.specs.Table.{first_of, begun_at, going_on, prepared_op};
+ghost use Rattle.stepper.specs.Step.{kept_by};
+ghost use Rattle.helping.specs.Table.{access_of, first_of, begun_at, going_on, prepared_op};
 
 use crate::dequeue::{
     DequeueCheckHead, DequeueClaim, DequeueFlushClaim, DequeueFlushEmpty, DequeueFlushPassedLink,
@@ -12,7 +13,7 @@ use crate::enqueue::{
     EnqueueCheckTail, EnqueueFlushLink, EnqueueFlushPassedLink, EnqueueHelpTail, EnqueueLink,
     EnqueueLoadNext, EnqueueLoadTail, EnqueueMoveTail,
 };
-use arena::Layout;
+use arena::{Layout, Place};
 use persist::WordMemory;
 use stepper::{After, Begun, Prepare, PrepareFlush, PrepareStore, Resume};
 use words::{Call, Kind, NodeId};
@@ -54,6 +55,25 @@ impl Op {
         Op::prepared(Prepare::begin(kind, begun))
     }
 
+    /// The place whose word the next step keeps, if that step is a flush.
+    pub fn keeps<L: Layout>(&self, layout: &L) -> Option<Place>
+        ensures { result ≡ kept_by (access_of (L.shape layout.now).kind self.now) }
+    {
+        match self {
+            Op::PrepareFlush(point) => Some(point.place()),
+            Op::EnqueueFlushLink(point) => Some(Place::Next(point.last)),
+            Op::EnqueueFlushPassedLink(point) => Some(Place::Next(point.last)),
+            Op::DequeueFlushEmpty(point) => Some(layout.empty_answer(point.token).place),
+            Op::DequeueFlushPassedLink(point) => Some(Place::Next(point.last)),
+            Op::DequeueFlushClaim(point) => Some(Place::Mark(point.next)),
+            Op::DequeueFlushResult(point) => {
+                let winner = point.claim.winner(point.token);
+                Some(layout.result(winner, point.next, point.value).place)
+            }
+            _ => None,
+        }
+    }
+
     /// Where a call acts, once its record is prepared.
     fn first(begun: Begun) -> Self
         ensures { result ≡ first_of begun }
@@ -62,9 +82,7 @@ impl Op {
             Call::Enq(_) => Op::EnqueueLoadTail(EnqueueLoadTail {
                 node: NodeId(begun.token.0),
             }),
-            Call::Deq => Op::DequeueLoadHead(DequeueLoadHead {
-                token: begun.token,
-            }),
+            Call::Deq => Op::DequeueLoadHead(DequeueLoadHead { token: begun.token }),
         }
     }
 
@@ -93,7 +111,8 @@ fn go_on(after: After<Prepare>) -> After<Op>
 impl Resume for Op {
     type Op = Op;
 
-    ghost use Rattle.helping.specs.Table.{access_of, successor, IsPoint};
+    ghost use Rattle.stepper.specs.Step.{kept_by};
+    ghost use Rattle.helping.specs.Table.{access_of, access_of, successor, IsPoint};
 
     ghost access = { access_of };
 

@@ -1,5 +1,5 @@
 -- One access to a memory, at a place, and what a step makes of it.
-use Rattle.std.specs.Prelude.{ℕ, slice_index}
+use Rattle.std.specs.Prelude.{ℕ, Option, Some, None, slice_index}
 use Rattle.persist.specs.Memory.{Words, Access, Load, Store, Cas, Flush, after}
 use Rattle.arena.specs.declared.place.Place.{Place}
 
@@ -23,3 +23,10 @@ after_one word_of access ws = after (at_word word_of access) ws
 -- the cached value that the access finds
 abbrev pub found : (Place → ℕ) → Access Place → Words → ℕ
 found word_of access ws = slice_index ws.cached (word_of (place_of access))
+
+-- the place whose word the access keeps, if it is a flush
+abbrev pub kept_by : Access Place → Option Place
+kept_by (Load place) = None
+kept_by (Store place value) = None
+kept_by (Cas place old new) = None
+kept_by (Flush place) = Some place

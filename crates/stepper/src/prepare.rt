@@ -1,7 +1,8 @@
 //! The preparation of a call: it writes its record, each word with a store and a flush, before it acts.
 
-ghost use Rattle.std.specs.Prelude.{◌≡◌, slice_get};
-ghost use Rattle.stepper.specs.Preparation.{preparation_from, prepared_to, bump as bump_of, announcement as announcement_of};
+ghost use Rattle.std.specs.Prelude.{◌≡◌, Some, slice_get};
+ghost use Rattle.stepper.specs.Step.{kept_by};
+ghost use Rattle.stepper.specs.Preparation.{flush_access, preparation_from, prepared_to, bump as bump_of, announcement as announcement_of};
 
 use crate::After;
 use crate::places::{flush_at, store_at};
@@ -178,6 +179,15 @@ impl Resume for PrepareStore {
             index,
             write,
         }))
+    }
+}
+
+impl PrepareFlush {
+    /// The place whose word it keeps.
+    pub fn place(&self) -> Place
+        ensures { Some result ≡ kept_by (flush_access self.now) }
+    {
+        self.write.place
     }
 }
 

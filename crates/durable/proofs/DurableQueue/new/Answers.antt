@@ -11,9 +11,9 @@ one_more : (i : ℕ) → i < 16 → set (replicate i (told_row NoCall) ++ replic
 one_more i h =
     let one : 16 - i ≡ suc (16 - (i + 1)) = omega arith in
     rw one (
-      set_at (replicate i (told_row NoCall)) told_none (replicate (16 - (i + 1)) told_none) (told_row NoCall) i (length-replicate i (told_row NoCall))
-      ∙ sym (append_assoc (replicate i (told_row NoCall)) (told_row NoCall ∷ []) (replicate (16 - (i + 1)) told_none))
-      ∙ ap (λ xs. xs ++ replicate (16 - (i + 1)) told_none) (replicate_more i (told_row NoCall))
+    set_at (replicate i (told_row NoCall)) told_none (replicate (16 - (i + 1)) told_none) (told_row NoCall) i (length-replicate i (told_row NoCall))
+    ∙ sym (append_assoc (replicate i (told_row NoCall)) (told_row NoCall ∷ []) (replicate (16 - (i + 1)) told_none))
+    ∙ ap (λ xs. xs ++ replicate (16 - (i + 1)) told_none) (replicate_more i (told_row NoCall))
     )
 
 pub loop-client-preserved : goal.loop-client-preserved

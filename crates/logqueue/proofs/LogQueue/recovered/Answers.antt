@@ -11,10 +11,10 @@ one_more told i x d all h e =
     let within : i < length told = omega arith in
     let front : length (map floor_of (take i told)) ≡ i = length-map (take i told) floor_of ∙ length-take-le i told (omega arith) in
     rw one (
-      set_at (map floor_of (take i told)) 0 (replicate (16 - (i + 1)) 0) x i front
-      ∙ sym (append_assoc (map floor_of (take i told)) (x ∷ []) (replicate (16 - (i + 1)) 0))
-      ∙ ap (λ y. (map floor_of (take i told) ++ y ∷ []) ++ replicate (16 - (i + 1)) 0) e
-      ∙ ap (λ xs. xs ++ replicate (16 - (i + 1)) 0) (sym (map_more floor_of told i d within))
+    set_at (map floor_of (take i told)) 0 (replicate (16 - (i + 1)) 0) x i front
+    ∙ sym (append_assoc (map floor_of (take i told)) (x ∷ []) (replicate (16 - (i + 1)) 0))
+    ∙ ap (λ y. (map floor_of (take i told) ++ y ∷ []) ++ replicate (16 - (i + 1)) 0) e
+    ∙ ap (λ xs. xs ++ replicate (16 - (i + 1)) 0) (sym (map_more floor_of told i d within))
     )
 
 pub loop-client-preserved : goal.loop-client-preserved
