@@ -1,25 +1,21 @@
--- What a queue holds: the values of the nodes that links reach from the sentinel, the claimed ones left out.
-use Rattle.std.specs.Prelude.{ℕ, zero, suc, List, [], ◌∷◌, ◌++◌, if◌then◌else◌, ◌==◌}
-use Rattle.words.specs.declared.call.NodeId.{NodeId}
+-- What the kept words say that the queue holds.
+use Rattle.std.specs.Prelude.{ℕ, List, map, filter, not, ◌==◌}
 use Rattle.arena.specs.Shape.{Shape, greatest}
 use Rattle.arena.specs.declared.place.Place.{Place}
-use Rattle.arena.specs.declared.place.Place.TheVariants.{Value, Next, Mark}
+use Rattle.arena.specs.Words.{links, marks, values}
+use Rattle.arena.specs.Chain.{walk}
 
-abbrev pub node : ℕ → NodeId
-node n = record { 0 = n }
+-- the nodes that kept links reach from node 0
+abbrev pub chain_of : Shape → (Place → ℕ) → List ℕ
+chain_of s kept = walk (greatest s) (links kept) 0
 
--- the value of a node, if it is not claimed
-abbrev pub unclaimed : (Place → ℕ) → ℕ → List ℕ
-unclaimed word n = if word (Mark (node n)) == 0 then word (Value (node n)) ∷ [] else []
+-- those with a kept mark, and those without one
+abbrev pub claimed_of : Shape → (Place → ℕ) → List ℕ
+claimed_of s kept = filter (λ n. not (marks kept n == 0)) (chain_of s kept)
 
--- what so many links from a node on reach, where each word has this value
-abbrev pub content_from : (Place → ℕ) → ℕ → ℕ → List ℕ
-content_from word zero n = []
-content_from word (suc links) n =
-    if word (Next (node n)) == 0
-    then []
-    else unclaimed word (word (Next (node n))) ++ content_from word links (word (Next (node n)))
+abbrev pub waiting_of : Shape → (Place → ℕ) → List ℕ
+waiting_of s kept = filter (λ n. marks kept n == 0) (chain_of s kept)
 
--- there are no more links than nodes that may be linked
-abbrev pub content_of : Shape → (Place → ℕ) → List ℕ
-content_of s word = content_from word (greatest s) 0
+-- the values of the nodes without one
+abbrev pub kept_content : Shape → (Place → ℕ) → List ℕ
+kept_content s kept = map (values kept) (waiting_of s kept)

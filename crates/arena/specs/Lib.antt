@@ -6,4 +6,6 @@ pub mod Laws
 pub mod Durable
 pub mod Log
 pub mod Answers
+pub mod Words
+pub mod Chain
 pub mod Content

@@ -1,3 +1,4 @@
+pub mod Content
 pub mod Queue
 pub mod Calls
 pub mod State

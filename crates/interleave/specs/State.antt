@@ -7,7 +7,7 @@ use Rattle.words.specs.declared.refusal.Refusal.{Refusal}
 use Rattle.words.specs.declared.refusal.Refusal.TheVariants.{NoRoom}
 use Rattle.persist.specs.Memory.{Words, counted, zero_words}
 use Rattle.arena.specs.Shape.{Shape, record_of}
-use Rattle.arena.specs.Content.{content_of}
+use Rattle.arena.specs.Content.{kept_content as content_of}
 use Rattle.arena.specs.declared.place.Place.{Place}
 use Rattle.arena.specs.declared.place.Place.TheVariants.{Bump}
 use Rattle.stepper.specs.Step.{after_one, found}

@@ -2,7 +2,8 @@
 
 ghost use Rattle.std.specs.Prelude.{◌≡◌, ◌++◌, IfOk, IfErr, OnOk, slice_index};
 ghost use Rattle.arena.specs.Place.{IsPlace, IsNode};
-ghost use Rattle.arena.specs.Content.{unclaimed, content_of};
+ghost use Rattle.arena.specs.Content.{kept_content};
+ghost use Rattle.interleave.specs.Content.{unclaimed};
 ghost use Rattle.interleave.specs.Ranges.{WordsFit};
 
 use arena::{Layout, Place};
@@ -49,7 +50,7 @@ pub(crate) fn content<L: Layout>(
     memory: &Memory,
 ) -> Result<Vec<u32>, Refusal>
     requires { WordsFit (L.shape layout.now) (L.word_of layout.now) (L.size_of layout.now) memory.now }
-    ensures content { IfOk result (λ values. values.items ≡ content_of (L.shape layout.now) (λ p. slice_index memory.now.kept (L.word_of layout.now p))) }
+    ensures content { IfOk result (λ values. values.items ≡ kept_content (L.shape layout.now) (λ p. slice_index memory.now.kept (L.word_of layout.now p))) }
     ensures errors { IfErr result (λ e. e ≡ Refusal.NoMemory) }
 {
     let mut values = Vec::new(alloc);

@@ -1,10 +1,10 @@
 use Rattle.std.proofs.Common.{◌≡◌, ℕ, ◌+◌, ◌-◌, ◌*◌, ◌≤◌, List, ◌++◌, slice_index, sym, ap, ◌∙◌, append_assoc, arith}
 use Rattle.std.proofs.lemmas.List.{append-nil}
 use Rattle.arena.specs.Shape.{greatest}
-use Rattle.arena.specs.Content.{unclaimed, content_from}
+use Rattle.interleave.specs.Content.{unclaimed}
 use Rattle.arena.specs.declared.place.Place.{Place}
 use Rattle.arena.specs.declared.place.Place.TheVariants.{Next}
-use Rattle.interleave.proofs.Contents.{content_end, content_next}
+use Rattle.interleave.proofs.Contents.{content_from, content_end, content_next}
 use Rattle.interleave.proofs.content.content.Goals as goal
 
 pub returns-then-next-eq0-clause-content : goal.returns-then-next-eq0-clause-content

@@ -1,7 +1,8 @@
 use Rattle.std.proofs.Common.{◌≡◌, ℕ, ◌-◌, ◌++◌, slice_index}
 use Rattle.arena.specs.Shape.{greatest}
 use Rattle.arena.specs.Place.{IsNode}
-use Rattle.arena.specs.Content.{content_from, content_of}
+use Rattle.arena.specs.Content.{kept_content}
+use Rattle.interleave.proofs.Contents.{content_from}
 use Rattle.arena.specs.declared.place.Place.{Place}
 use Rattle.interleave.proofs.content.content.Given as goal
 
@@ -13,5 +14,5 @@ invariant-loop g l =
     record {
       links : l.links ≡ greatest s;
       node : IsNode s l.node.0;
-      content : l.values.items ++ content_from word (l.links - l.counter) l.node.0 ≡ content_of s word;
+      content : l.values.items ++ content_from word (l.links - l.counter) l.node.0 ≡ kept_content s word;
     }
