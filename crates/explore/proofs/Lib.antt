@@ -1,0 +1,6 @@
+pub mod Numbers
+pub mod Cuts
+pub mod Rows
+pub mod Scripts
+pub mod Unique
+pub mod Plays

@@ -1,0 +1,134 @@
+-- How what a script says grows by a line.
+use Rattle.std.proofs.Common.{◌≡◌, ℕ, ◌<◌, ◌≤◌, ◌+◌, ◌-◌, Bool, true, false, cond, List, [], ◌∷◌, ◌++◌, length, take, get_or, filter, map, sym, ap, subst, ◌∙◌, arith, refl, length-append}
+use Rattle.std.proofs.lemmas.List.{map-append, append-nil, take_more, length-take}
+use Rattle.std.proofs.lemmas.List.Elements.{filter-append, All-head, All-tail, All-push}
+use Rattle.std.specs.Prelude.{Option, Some, None, All, is_some, not}
+use Rattle.explore.specs.Lines.{words_of, is_told}
+use Rattle.explore.specs.Grammar.{queue_words, command_words, IsServed, SaysQueue, SaysCommand}
+use Rattle.explore.specs.Script.{Says, Continues, EndsBadly, IsFirstBad}
+use Rattle.std.proofs.lemmas.Bool.{false≢true, not-false}
+use Rattle.explore.specs.declared.command.Command.{Command}
+use Rattle.explore.specs.declared.command.QueueLine.{QueueLine}
+
+told_more : (lines : List (List ℕ)) (line : List ℕ) → is_told line ≡ true → map words_of (filter is_told (lines ++ line ∷ [])) ≡ map words_of (filter is_told lines) ++ words_of line ∷ []
+told_more lines line told =
+    ap (map words_of) (filter-append is_told lines (line ∷ []) ∙ ap (λ (b : Bool). filter is_told lines ++ cond b (line ∷ []) []) told)
+    ∙ map-append words_of (filter is_told lines) (line ∷ [])
+
+told_same : (lines : List (List ℕ)) (line : List ℕ) → is_told line ≡ false → map words_of (filter is_told (lines ++ line ∷ [])) ≡ map words_of (filter is_told lines)
+told_same lines line told =
+    ap (map words_of) (filter-append is_told lines (line ∷ []) ∙ ap (λ (b : Bool). filter is_told lines ++ cond b (line ∷ []) []) told ∙ append-nil (filter is_told lines))
+
+one_more : (lines : List (List ℕ)) (line : List ℕ) → length lines < 1000 → length (lines ++ line ∷ []) ≤ 1000
+one_more lines line few = omega (arith, length-append lines (line ∷ []))
+
+pub says_skip : (lines : List (List ℕ)) (line : List ℕ) (queue : Option QueueLine) (commands : List Command) → Says lines queue commands → length lines < 1000 → is_told line ≡ false → Says (lines ++ line ∷ []) queue commands
+says_skip lines line queue commands says few told = record {
+  few = one_more lines line few;
+  words = told_same lines line told ∙ says.words;
+  queue_first = says.queue_first;
+  queue_served = says.queue_served;
+  commands_served = says.commands_served;
+}
+
+pub says_queue : (lines : List (List ℕ)) (line : List ℕ) (queue : QueueLine) (commands : List Command) → Says lines None commands → length lines < 1000 → is_told line ≡ true → SaysQueue line queue → Says (lines ++ line ∷ []) (Some queue) commands
+says_queue lines line queue commands says few told line_says =
+    let none : commands ≡ [] = says.queue_first refl in
+    record {
+      few = one_more lines line few;
+      words =
+          told_more lines line told
+          ∙ ap (λ ws. ws ++ words_of line ∷ []) (says.words ∙ ap (map command_words) none)
+          ∙ ap (λ w. w ∷ []) line_says.words
+          ∙ ap (λ cs. queue_words queue ∷ map command_words cs) (sym none);
+      queue_first = λ e. absurd (cc);
+      queue_served = line_says.served;
+      commands_served = says.commands_served;
+    }
+
+pub says_command : (lines : List (List ℕ)) (line : List ℕ) (queue : QueueLine) (commands : List Command) (command : Command) → Says lines (Some queue) commands → length lines < 1000 → is_told line ≡ true → SaysCommand line command → Says (lines ++ line ∷ []) (Some queue) (commands ++ command ∷ [])
+says_command lines line queue commands command says few told line_says = record {
+  few = one_more lines line few;
+  words =
+      told_more lines line told
+      ∙ ap (λ ws. ws ++ words_of line ∷ []) says.words
+      ∙ ap (λ w. (queue_words queue ∷ map command_words commands) ++ w ∷ []) line_says.words
+      ∙ ap (λ ws. queue_words queue ∷ ws) (sym (map-append command_words commands (command ∷ [])));
+  queue_first = λ e. absurd (cc);
+  queue_served = says.queue_served;
+  commands_served = All-push IsServed commands command says.commands_served line_says.served;
+}
+
+-- where the last of some words is a command's
+last_command : (xs : List (List (List ℕ))) (word : List (List ℕ)) (commands : List Command) → xs ++ word ∷ [] ≡ map command_words commands → All IsServed commands → (command : Command) × (word ≡ command_words command) × IsServed command
+last_command [] word [] same served = absurd (cc)
+last_command [] word (command ∷ commands) same served = (command, (cc), All-head IsServed command commands served)
+last_command (x ∷ xs) word [] same served = absurd (cc)
+last_command (x ∷ xs) word (command ∷ commands) same served = last_command xs word commands (cc) (All-tail IsServed command commands served)
+
+-- a line that is no queue's can't be the first
+pub bad_first : (lines : List (List ℕ)) (line : List ℕ) (commands : List Command) → Says lines None commands → is_told line ≡ true → ((queue : QueueLine) → SaysQueue line queue → ⊥) → (queue : Option QueueLine) (more : List Command) → Says (lines ++ line ∷ []) queue more → ⊥
+bad_first lines line commands says told never None more bad =
+    let some : map words_of (filter is_told lines) ++ words_of line ∷ [] ≡ map command_words more = sym (told_more lines line told) ∙ bad.words in
+    let none : map command_words more ≡ [] = ap (map command_words) (bad.queue_first refl) in
+    let long : length (map words_of (filter is_told lines) ++ words_of line ∷ []) ≡ 0 = ap length (some ∙ none) in
+    omega (arith, long, length-append (map words_of (filter is_told lines)) (words_of line ∷ []))
+bad_first lines line commands says told never (Some queue) more bad =
+    let before : map words_of (filter is_told lines) ≡ [] = says.words ∙ ap (map command_words) (says.queue_first refl) in
+    let same : words_of line ∷ [] ≡ queue_words queue ∷ map command_words more = ap (λ ws. ws ++ words_of line ∷ []) (sym before) ∙ sym (told_more lines line told) ∙ bad.words in
+    never queue (record { words = cc; served = bad.queue_served })
+
+-- a line that is no command's can't come later
+pub bad_later : (lines : List (List ℕ)) (line : List ℕ) (first : QueueLine) (commands : List Command) → Says lines (Some first) commands → is_told line ≡ true → ((command : Command) → SaysCommand line command → ⊥) → (queue : Option QueueLine) (more : List Command) → Says (lines ++ line ∷ []) queue more → ⊥
+bad_later lines line first commands says told never None more bad =
+    let some : map words_of (filter is_told lines) ++ words_of line ∷ [] ≡ map command_words more = sym (told_more lines line told) ∙ bad.words in
+    let none : map command_words more ≡ [] = ap (map command_words) (bad.queue_first refl) in
+    let long : length (map words_of (filter is_told lines) ++ words_of line ∷ []) ≡ 0 = ap length (some ∙ none) in
+    omega (arith, long, length-append (map words_of (filter is_told lines)) (words_of line ∷ []))
+bad_later lines line first commands says told never (Some queue) more bad =
+    let same : queue_words first ∷ (map command_words commands ++ words_of line ∷ []) ≡ queue_words queue ∷ map command_words more = ap (λ ws. ws ++ words_of line ∷ []) (sym says.words) ∙ sym (told_more lines line told) ∙ bad.words in
+    let last = last_command (map command_words commands) (words_of line) more (cc) bad.commands_served in
+    never last.0 (record { words = last.1; served = last.2 })
+
+-- there is no line past the 1,000th
+pub too_many : (lines : List (List ℕ)) (line : List ℕ) (queue : Option QueueLine) (commands : List Command) → 1000 ≤ length lines → Says (lines ++ line ∷ []) queue commands → ⊥
+too_many lines line queue commands many says = let few = says.few in omega (arith, few, length-append lines (line ∷ []))
+
+-- once there is a queue, a line that is no command's ends badly
+pub ends_badly : (queue : Option QueueLine) (commands : List Command) (line : List ℕ) → is_some queue ≡ true → not (is_told line) ≡ false → ((command : Command) → SaysCommand line command → ⊥) → EndsBadly queue commands line
+ends_badly None commands line named told never = absurd (false≢true named)
+ends_badly (Some first) commands line named told never = λ lines says. bad_later lines line first commands says (not-false (is_told line) told) never
+
+-- the lines up to the one at k
+next_lines : (lines : List (List ℕ)) (k : ℕ) (line : List ℕ) → (k < length lines) × (line ≡ get_or lines k line) → take (k + 1) lines ≡ take k lines ++ line ∷ []
+next_lines lines k line turn = take_more lines k line turn.0 ∙ ap (λ (l : List ℕ). take k lines ++ l ∷ []) (sym turn.1)
+
+-- a good line
+pub goes_on : (lines : List (List ℕ)) (k : ℕ) (line : List ℕ) → (k < length lines) × (line ≡ get_or lines k line) → k < 1000 → (queue new_queue : Option QueueLine) (commands new_commands : List Command) → Says (take k lines) queue commands → Continues queue commands line new_queue new_commands → Says (take (k + 1) lines) new_queue new_commands
+goes_on lines k line turn few queue new_queue commands new_commands says continues =
+    let here = turn.0 in
+    subst (λ (ls : List (List ℕ)). Says ls new_queue new_commands) (sym (next_lines lines k line turn)) (continues (take k lines) says (omega (arith, length-take k lines)))
+
+-- a bad line
+pub stops : (lines : List (List ℕ)) (k : ℕ) (line : List ℕ) → (k < length lines) × (line ≡ get_or lines k line) → (queue : Option QueueLine) (commands : List Command) → Says (take k lines) queue commands → EndsBadly queue commands line → IsFirstBad lines (k + 1)
+stops lines k line turn queue commands says ends =
+    let here = turn.0 in
+    let before : k ≡ k + 1 - 1 = omega arith in
+    record {
+      some = omega arith;
+      there = omega arith;
+      good = (queue, commands, subst (λ (n : ℕ). Says (take n lines) queue commands) before says);
+      bad = λ other more bad. ends (take k lines) says other more (subst (λ (ls : List (List ℕ)). Says ls other more) (next_lines lines k line turn) bad);
+    }
+
+-- the 1,001st line
+pub stops_past : (lines : List (List ℕ)) (k : ℕ) (line : List ℕ) → (k < length lines) × (line ≡ get_or lines k line) → 1000 ≤ k → (queue : Option QueueLine) (commands : List Command) → Says (take k lines) queue commands → IsFirstBad lines (k + 1)
+stops_past lines k line turn many queue commands says =
+    let here = turn.0 in
+    let before : k ≡ k + 1 - 1 = omega arith in
+    record {
+      some = omega arith;
+      there = omega arith;
+      good = (queue, commands, subst (λ (n : ℕ). Says (take n lines) queue commands) before says);
+      bad = λ other more bad. too_many (take k lines) line other more (omega (arith, length-take k lines)) (subst (λ (ls : List (List ℕ)). Says ls other more) (next_lines lines k line turn) bad);
+    }

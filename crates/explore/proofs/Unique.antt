@@ -1,0 +1,98 @@
+-- Lines say at most one script: each command, and each queue, is read back from its words.
+use Rattle.std.proofs.Common.{◌≡◌, ℕ, ◌<◌, ◌+◌, ◌*◌, ◌^◌, ◌==◌, List, [], ◌∷◌, length, slice_index, slice_index_or, drop, map, decimal, sym, ap, ◌∙◌, arith, refl, if◌then◌else◌}
+use Rattle.std.proofs.lemmas.Fmt.{digits_value-decimal}
+use Rattle.std.proofs.lemmas.List.Elements.{All-head, All-tail}
+use Rattle.std.specs.Prelude.{Option, Some, None, All}
+use Rattle.std.specs.Str.Parse.{digits_value}
+use Rattle.arena.specs.Limits.{AreCounts}
+use Rattle.words.specs.declared.call.Client.{Client}
+use Rattle.words.specs.declared.call.Kind.{Kind}
+use Rattle.explore.specs.Grammar.{kind_word, queue_words, command_words, IsServedQueue, IsServed}
+use Rattle.explore.specs.Script.{Says}
+use Rattle.explore.specs.declared.command.Command.{Command}
+use Rattle.explore.specs.declared.command.Command.TheVariants.{Enq, Deq, Step, Content}
+use Rattle.explore.specs.declared.command.QueueLine.{QueueLine}
+use Rattle.explore.proofs.Numbers.{own}
+
+-- a number read back
+read : (n : ℕ) → n < 2 ^ 64 → digits_value 10 (decimal n) ≡ n
+read n small = digits_value-decimal own n small
+
+-- which row some words are of: by how many there are, and by the first bytes of the first
+tag : List (List ℕ) → ℕ
+tag [] = 0
+tag (name ∷ rest) = ((slice_index name 0 * 256 + slice_index name 1) * 256 + slice_index name 2) * 4 + length rest
+
+-- the numbers among some words
+numbers : List (List ℕ) → List ℕ
+numbers words = map (digits_value 10) (drop 1 words)
+
+client_of : List ℕ → Client
+client_of ns = record { 0 = slice_index ns 0 }
+
+command_of : ℕ → List ℕ → Command
+command_of row ns =
+    (if row == 26589638 then Enq (client_of ns) (slice_index ns 1) else
+    (if row == 26318277 then Deq (client_of ns) else
+    (if row == 30265750 then Step (client_of ns) (slice_index ns 1) else
+    Content)))
+
+read_back : (command : Command) → IsServed command → command_of (tag (command_words command)) (numbers (command_words command)) ≡ command
+unfolding command_of tag numbers client_of
+read_back (Enq client value) served =
+    let e0 : digits_value 10 (decimal client.0) ≡ client.0 = read client.0 (omega (arith, served)) in
+    let e1 : digits_value 10 (decimal value) ≡ value = read value (omega (arith, served)) in
+    ap (λ n. Enq (record { 0 = n }) (digits_value 10 (decimal value))) e0 ∙ ap (λ n. Enq (record { 0 = client.0 }) (n)) e1
+read_back (Deq client) served =
+    let e0 : digits_value 10 (decimal client.0) ≡ client.0 = read client.0 (omega (arith, served)) in
+    ap (λ n. Deq (record { 0 = n })) e0
+read_back (Step client most) served =
+    let e0 : digits_value 10 (decimal client.0) ≡ client.0 = read client.0 (omega (arith, served)) in
+    let e1 : digits_value 10 (decimal most) ≡ most = read most (omega (arith, served)) in
+    ap (λ n. Step (record { 0 = n }) (digits_value 10 (decimal most))) e0 ∙ ap (λ n. Step (record { 0 = client.0 }) (n)) e1
+read_back Content served = refl
+
+same_command : (c d : Command) → IsServed c → IsServed d → command_words c ≡ command_words d → c ≡ d
+same_command c d sc sd e = sym (read_back c sc) ∙ ap (λ (ws : List (List ℕ)). command_of (tag ws) (numbers ws)) e ∙ read_back d sd
+
+same_commands : (cs ds : List Command) → All IsServed cs → All IsServed ds → map command_words cs ≡ map command_words ds → cs ≡ ds
+same_commands [] [] sc sd e = refl
+same_commands [] (d ∷ ds) sc sd e = absurd (cc)
+same_commands (c ∷ cs) [] sc sd e = absurd (cc)
+same_commands (c ∷ cs) (d ∷ ds) sc sd e =
+    let first : c ≡ d = same_command c d (All-head IsServed c cs sc) (All-head IsServed d ds sd) (cc) in
+    let rest : cs ≡ ds = same_commands cs ds (All-tail IsServed c cs sc) (All-tail IsServed d ds sd) (cc) in
+    cc
+
+-- the counts read back, with the kind at hand
+queue_of : Kind → List (List ℕ) → QueueLine
+queue_of kind ws = record { kind = kind; clients = digits_value 10 (slice_index_or ws 2 []); records = digits_value 10 (slice_index_or ws 3 []) }
+
+queue_back : (queue : QueueLine) → AreCounts queue.clients queue.records → queue_of queue.kind (queue_words queue) ≡ queue
+unfolding queue_of
+queue_back queue counts =
+    let few = counts.few_clients in
+    let small = counts.few_records in
+    let e0 : digits_value 10 (decimal queue.clients) ≡ queue.clients = read queue.clients (omega arith) in
+    let e1 : digits_value 10 (decimal queue.records) ≡ queue.records = read queue.records (omega arith) in
+    ap (λ n. record queue { clients = n; records = digits_value 10 (decimal queue.records) }) e0 ∙ ap (λ n. record queue { records = n }) e1
+
+same_queue : (q r : QueueLine) → IsServedQueue q → IsServedQueue r → queue_words q ≡ queue_words r → q ≡ r
+same_queue q r sq sr e =
+    let words : kind_word q.kind ≡ kind_word r.kind = cc in
+    let kind : q.kind ≡ r.kind = sq.kind ∙ sym sr.kind in
+    sym (queue_back q sq.counts) ∙ (ap (λ k. queue_of k (queue_words q)) kind ∙ ap (queue_of r.kind) e) ∙ queue_back r sr.counts
+
+pub same_script : (lines : List (List ℕ)) (q r : Option QueueLine) (cs ds : List Command) → Says lines q cs → Says lines r ds → (q ≡ r) × (cs ≡ ds)
+same_script lines None None cs ds a b = (refl, a.queue_first refl ∙ sym (b.queue_first refl))
+same_script lines None (Some r) cs ds a b =
+    let none : map command_words cs ≡ [] = ap (map command_words) (a.queue_first refl) in
+    let some : map command_words cs ≡ queue_words r ∷ map command_words ds = sym a.words ∙ b.words in
+    absurd (cc)
+same_script lines (Some q) None cs ds a b =
+    let none : map command_words ds ≡ [] = ap (map command_words) (b.queue_first refl) in
+    let some : map command_words ds ≡ queue_words q ∷ map command_words cs = sym b.words ∙ a.words in
+    absurd (cc)
+same_script lines (Some q) (Some r) cs ds a b =
+    let both : queue_words q ∷ map command_words cs ≡ queue_words r ∷ map command_words ds = sym a.words ∙ b.words in
+    (ap Some (same_queue q r a.queue_served b.queue_served (cc)), same_commands cs ds a.commands_served b.commands_served (cc))

@@ -1,0 +1,133 @@
+-- What a world prints that follows a script.
+use Rattle.std.specs.Prelude.{ℕ, zero, suc, ◌+◌, min, List, [], ◌∷◌, ◌++◌, Option, Some, None, Result, Ok, Err, codes, decimal, replicate, slice_index, slice_set}
+use Rattle.std.specs.List.{join_with_byte, flat_map}
+use Rattle.words.specs.Refusal.{refusal_text}
+use Rattle.words.specs.Text.{reply_text}
+use Rattle.words.specs.declared.call.Call.{Call}
+use Rattle.words.specs.declared.call.Call.TheVariants.{Enq as enq_call, Deq as deq_call}
+use Rattle.words.specs.declared.call.Client.{Client}
+use Rattle.words.specs.declared.call.Kind.TheVariants.{Durable}
+use Rattle.words.specs.declared.call.Reply.{Reply}
+use Rattle.words.specs.declared.refusal.Refusal.{Refusal}
+use Rattle.arena.specs.Shape.{Counts, shape_of}
+use Rattle.arena.specs.Durable.{durable_word, durable_size}
+use Rattle.interleave.specs.State.{State, Laid, new_world, after_start, start_result, after_step, step_result, kept_content}
+use Rattle.explore.specs.Grammar.{command_words}
+use Rattle.explore.specs.declared.command.Command.{Command}
+use Rattle.explore.specs.declared.command.Command.TheVariants.{Enq, Deq, Step, Content}
+use Rattle.explore.specs.declared.command.QueueLine.{QueueLine}
+
+-- a world, and how many steps each client's call has made
+pub record Play (L : Type 0) : Type 0 where
+  pub world : State L
+  pub steps : List ℕ
+
+-- a command as its line has it
+abbrev pub command_text : Command → List ℕ
+command_text command = join_with_byte 32 (command_words command)
+
+-- the lines that are printed
+abbrev pub size_line : ℕ → List ℕ
+size_line size = codes "size " ++ decimal size ++ codes "\n"
+
+abbrev pub call_line : Command → List ℕ
+call_line command = codes "call " ++ command_text command ++ codes "\n"
+
+abbrev pub return_line : Client → Reply → ℕ → List ℕ
+return_line client reply steps = codes "return " ++ decimal client.0 ++ codes " " ++ reply_text reply ++ codes " steps " ++ decimal steps ++ codes "\n"
+
+abbrev pub refused_line : Refusal → List ℕ
+refused_line refusal = codes "refused " ++ refusal_text refusal ++ codes "\n"
+
+abbrev pub value_text : ℕ → List ℕ
+value_text value = codes " " ++ decimal value
+
+abbrev pub values_text : List ℕ → List ℕ
+values_text [] = codes " -"
+values_text (value ∷ values) = flat_map value_text (value ∷ values)
+
+abbrev pub content_line : List ℕ → List ℕ
+content_line values = codes "content" ++ values_text values ++ codes "\n"
+
+-- a start prints its line, or why it was refused, and a call that was started has made no step
+abbrev pub start_text : Command → Result Unit Refusal → List ℕ
+start_text command (Ok u) = call_line command
+start_text command (Err refusal) = refused_line refusal
+
+abbrev pub steps_with : Client → List ℕ → Result Unit Refusal → List ℕ
+steps_with client steps (Ok u) = slice_set steps client.0 0
+steps_with client steps (Err refusal) = steps
+
+abbrev pub started : {L : Type 0} → Laid L → Play L → Client → Call → Play L
+started laid play client call = record {
+  world = after_start laid play.world client 0 call;
+  steps = steps_with client play.steps (start_result laid play.world client 0);
+}
+
+-- a step counts; the count stays at its greatest value
+abbrev pub counted : ℕ → ℕ
+counted steps = min (steps + 1) 18446744073709551615
+
+abbrev pub stepped : {L : Type 0} → Laid L → Play L → Client → Play L
+stepped laid play client = record {
+  world = after_step laid play.world client;
+  steps = slice_set play.steps client.0 (counted (slice_index play.steps client.0));
+}
+
+-- up to so many steps: they end early at the one that answers, which prints the answer, or that is refused
+abbrev pub play_then : {A : Type 0} → Result (Option Reply) Refusal → A → A → A → A
+play_then (Ok None) going answered refused = going
+play_then (Ok (Some reply)) going answered refused = answered
+play_then (Err refusal) going answered refused = refused
+
+abbrev pub after_steps : {L : Type 0} → Laid L → Client → ℕ → Play L → Play L
+after_steps laid client zero play = play
+after_steps laid client (suc most) play =
+    play_then (step_result laid play.world client) (after_steps laid client most (stepped laid play client)) (stepped laid play client) play
+
+abbrev pub text_then : Client → ℕ → Result (Option Reply) Refusal → List ℕ → List ℕ
+text_then client steps (Ok None) going = going
+text_then client steps (Ok (Some reply)) going = return_line client reply steps
+text_then client steps (Err refusal) going = refused_line refusal
+
+abbrev pub steps_text : {L : Type 0} → Laid L → Client → ℕ → Play L → List ℕ
+steps_text laid client zero play = []
+steps_text laid client (suc most) play =
+    text_then client (counted (slice_index play.steps client.0)) (step_result laid play.world client) (steps_text laid client most (stepped laid play client))
+
+-- what a command does, and what it prints
+abbrev pub after_command : {L : Type 0} → Laid L → Play L → Command → Play L
+after_command laid play (Enq client value) = started laid play client (enq_call value)
+after_command laid play (Deq client) = started laid play client deq_call
+after_command laid play (Step client most) = after_steps laid client most play
+after_command laid play Content = play
+
+abbrev pub command_prints : {L : Type 0} → Laid L → Play L → Command → List ℕ
+command_prints laid play (Enq client value) = start_text (Enq client value) (start_result laid play.world client 0)
+command_prints laid play (Deq client) = start_text (Deq client) (start_result laid play.world client 0)
+command_prints laid play (Step client most) = steps_text laid client most play
+command_prints laid play Content = content_line (kept_content laid play.world)
+
+abbrev pub commands_print : {L : Type 0} → Laid L → Play L → List Command → List ℕ
+commands_print laid play [] = []
+commands_print laid play (command ∷ commands) = command_prints laid play command ++ commands_print laid (after_command laid play command) commands
+
+-- a new world, in which no call has made a step
+abbrev pub new_play : {L : Type 0} → Laid L → L → Play L
+new_play laid layout = record { world = new_world laid layout; steps = replicate 16 0 }
+
+-- the layout of a durable queue
+abbrev pub durable_laid : Laid Counts
+durable_laid = record {
+  shape = shape_of Durable;
+  word_of = λ counts. durable_word (shape_of Durable counts);
+  size_of = λ counts. durable_size (shape_of Durable counts);
+}
+
+-- the whole of it: a script with no queue prints nothing
+abbrev pub queue_prints : {L : Type 0} → Laid L → L → List Command → List ℕ
+queue_prints laid layout commands = size_line (laid.size_of layout) ++ commands_print laid (new_play laid layout) commands
+
+abbrev pub script_prints : Option QueueLine → List Command → List ℕ
+script_prints None commands = []
+script_prints (Some queue) commands = queue_prints durable_laid (record { clients = queue.clients; records = queue.records }) commands

@@ -1,0 +1,106 @@
+//! The words of a line, and the numbers among them.
+
+ghost use Rattle.std.specs.Prelude.{◌≡◌, ◌≢◌, ◌↔◌, ◌==◌, ◌<◌, ◌^◌, ℕ, List, ◌∷◌, [], MatchOption, IsTrue, decimal, position, false};
+ghost use Rattle.explore.specs.Lines.{words_of, HasPlainStart};
+ghost use Rattle.explore.specs.Limits.{IsWithin};
+
+use std::str;
+
+/// Whether a word begins as no number does: with a sign, or with a needless zero.
+fn begins_wrong(word: &[u8]) -> bool
+    ensures wrong { IsTrue result → (n : ℕ) → n < 2 ^ 64 → word.now ≢ decimal n }
+    ensures right { result ≡ false → HasPlainStart word.now }
+{
+    match word.first() {
+        Some(b'+') => true,
+        Some(b'0') => word.len() > 1,
+        _ => false,
+    }
+}
+
+/// A number as scripts write it: decimal, without sign or needless leading zeros, below 2^64.
+fn number(word: &[u8]) -> Option<u64>
+    ensures { MatchOption result ((n : ℕ) → n < 2 ^ 64 → word.now ≢ decimal n) (λ n. word.now ≡ decimal n) }
+{
+    if begins_wrong(word) {
+        return None;
+    }
+    match str::from_utf8(word) {
+        Ok(text) => text.parse().ok(),
+        Err(_) => None,
+    }
+}
+
+/// Which numbers may stand in a place.
+#[derive(Clone, Copy)]
+pub(crate) struct Limits {
+    pub(crate) least: u64,
+    pub(crate) most: u64,
+}
+
+/// A number within limits.
+fn number_within(word: &[u8], limits: Limits) -> Option<u64>
+    ensures { MatchOption result ((n : ℕ) → IsWithin limits n → word.now ≢ decimal n) (λ n. (word.now ≡ decimal n) × IsWithin limits n) }
+{
+    let n = number(word)?;
+    if n < limits.least || n > limits.most {
+        return None;
+    }
+    Some(n)
+}
+
+/// Where the first space of a text is.
+fn first_space(text: &[u8]) -> Option<usize>
+    ensures { result ≡ position (λ byte. byte == 32) text.now }
+{
+    text.iter().position(|byte| *byte == b' ')
+}
+
+/// The first word of a text, and what follows the space after it.
+fn first_word(text: &[u8]) -> (&[u8], Option<&[u8]>)
+    ensures { MatchOption result.1 (words_of text.now ≡ result.0.now ∷ []) (λ rest. words_of text.now ≡ result.0.now ∷ words_of rest.now) }
+{
+    match first_space(text) {
+        None => (text, None),
+        Some(at) => (&text[..at], Some(&text[at + 1..])),
+    }
+}
+
+/// What follows a name and one space.
+pub(crate) fn after_name<'a>(line: &'a [u8], name: &[u8]) -> Option<&'a [u8]>
+    ensures { MatchOption result ((rest : List (List ℕ)) → words_of line.now ≡ name.now ∷ rest → rest ≡ []) (λ rest. words_of line.now ≡ name.now ∷ words_of rest.now) }
+{
+    let (word, rest) = first_word(line);
+    if word == name { rest } else { None }
+}
+
+/// The number that is all of a text.
+pub(crate) fn one_number(text: &[u8], limits: Limits) -> Option<u64>
+    ensures { MatchOption result ((n : ℕ) → IsWithin limits n → words_of text.now ≢ decimal n ∷ []) (λ n. (words_of text.now ≡ decimal n ∷ []) × IsWithin limits n) }
+{
+    let (word, rest) = first_word(text);
+    if rest.is_some() {
+        return None;
+    }
+    number_within(word, limits)
+}
+
+/// The two numbers that are all of a text.
+pub(crate) fn two_numbers(text: &[u8], first: Limits, second: Limits) -> Option<(u64, u64)>
+    ensures { MatchOption result ((m n : ℕ) → IsWithin first m → IsWithin second n → words_of text.now ≢ decimal m ∷ decimal n ∷ []) (λ r. (words_of text.now ≡ decimal r.0 ∷ decimal r.1 ∷ []) × IsWithin first r.0 × IsWithin second r.1) }
+{
+    let (word, rest) = first_word(text);
+    let m = number_within(word, first)?;
+    let n = one_number(rest?, second)?;
+    Some((m, n))
+}
+
+/// Whether a line is a name alone.
+pub(crate) fn is_name(line: &[u8], name: &[u8]) -> bool
+    ensures { IsTrue result ↔ (words_of line.now ≡ name.now ∷ []) }
+{
+    match first_word(line) {
+        (word, None) => word == name,
+        (_, Some(_)) => false,
+    }
+}

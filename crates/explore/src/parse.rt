@@ -1,0 +1,81 @@
+//! A script read from its text.
+
+ghost use Rattle.std.specs.Prelude.{◌≡◌, ◌⊎◌, ◌<◌, ℕ, List, ◌∷◌, [], ◌++◌, Option, None, Some, Ok, IfOk, IfErr, IfNone, length, not, true, false};
+ghost use Rattle.explore.specs.Lines.{lines_of, without_last_newline, is_told};
+ghost use Rattle.explore.specs.Script.{Says, IsFirstBad, Continues, EndsBadly};
+
+use crate::command::{Command, QueueLine, Script};
+use crate::grammar::{command, queue_line};
+use std::alloc::Global;
+use words::Refusal;
+
+/// The most lines of a script.
+pub const MAX_LINES: u32 = 1_000;
+
+/// Whether a line is empty or a comment.
+fn is_skipped(line: &[u8]) -> bool
+    ensures { result ≡ not (is_told line.now) }
+{
+    match line.first() {
+        None => true,
+        Some(byte) => *byte == b'#',
+    }
+}
+
+/// The text without the newline at its end, if it has one.
+fn body(text: &[u8]) -> &[u8]
+    ensures { result.now ≡ without_last_newline text.now }
+{
+    match text.last() {
+        Some(b'\n') => &text[..text.len() - 1],
+        _ => text,
+    }
+}
+
+/// Takes in the next line, and answers whether it is a good one.
+fn add_line(
+    queue: &mut Option<QueueLine>,
+    commands: &mut Vec<Command>,
+    line: &[u8],
+) -> Result<bool, Refusal>
+    ensures good { result ≡ Ok true → Continues queue.old commands.old.items line.now queue.new commands.new.items }
+    ensures bad { result ≡ Ok false → EndsBadly queue.old commands.old.items line.now }
+    ensures same { result ≡ Ok false → (queue.new ≡ queue.old) × (commands.new.items ≡ commands.old.items) }
+    ensures errors { IfErr result (λ e. e ≡ Refusal.NoMemory) }
+{
+    if is_skipped(line) {
+        return Ok(true);
+    }
+    if queue.is_none() {
+        *queue = queue_line(line);
+        return Ok(queue.is_some());
+    }
+    let Some(next) = command(line) else {
+        return Ok(false);
+    };
+    match commands.push(next) {
+        Ok(()) => Ok(true),
+        Err(_) => Err(Refusal::NoMemory),
+    }
+}
+
+/// The script that a text says. It is refused where memory is (NoMemory), and else where a line is none that is
+/// served, or is past the 1,000th: BadLine, with the number of the first such line.
+pub fn parse_script(alloc: Global, text: &[u8]) -> Result<Script, Refusal>
+    ensures script { IfOk result (λ script. Says (lines_of text.now) script.queue script.commands.items) }
+    ensures errors { IfErr result (λ e. (e ≡ Refusal.NoMemory) ⊎ ((number : ℕ) × (e ≡ Refusal.BadLine number) × IsFirstBad (lines_of text.now) number)) }
+{
+    let mut queue = None;
+    let mut commands = Vec::new(alloc);
+    let mut number = 0;
+    for line in body(text).split(|byte| *byte == b'\n') {
+        number += 1;
+        if number > MAX_LINES {
+            return Err(Refusal::BadLine(number));
+        }
+        if !add_line(&mut queue, &mut commands, line)? {
+            return Err(Refusal::BadLine(number));
+        }
+    }
+    Ok(Script { queue, commands })
+}

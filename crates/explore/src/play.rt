@@ -1,0 +1,142 @@
+//! A world that follows a script, and what it prints.
+
+ghost use Rattle.std.specs.Prelude.{◌≡◌, ◌++◌, IfOk, IfErr, IfSome, OnOk, slice_index, slice_set, string_bytes};
+ghost use Rattle.interleave.specs.State.{start_result};
+ghost use Rattle.explore.specs.Grammar.{IsServedQueue};
+ghost use Rattle.explore.specs.Transcript.{started, start_text, after_steps, steps_text, after_command, command_prints, commands_print, queue_prints, script_prints};
+
+use crate::command::{Command, Script};
+use crate::text::{write_call, write_content, write_refused, write_return, write_size};
+use arena::{DurableLayout, Layout};
+use interleave::World;
+use std::alloc::Global;
+use words::{Call, Client, Refusal};
+
+/// The most clients of a world.
+const CLIENTS: usize = 16;
+
+/// How many steps a client's call has made.
+fn steps_of(steps: &[u64], client: Client) -> u64
+    ensures { result ≡ slice_index steps.now client.0 }
+{
+    steps.get(client.0 as usize).copied().unwrap_or(0)
+}
+
+/// Notes how many steps a client's call has made.
+fn set_steps(steps: &mut [u64], client: Client, count: u64)
+    ensures { steps.new ≡ slice_set steps.old client.0 count }
+{
+    let at = client.0 as usize;
+    if at < steps.len() {
+        steps[at] = count;
+    }
+}
+
+/// Starts a call.
+fn play_start<L: Layout + Drop>(
+    world: &mut World<L>,
+    steps: &mut [u64],
+    out: &mut String,
+    command: Command,
+    client: Client,
+    call: Call,
+) -> Result<(), Refusal>
+    ensures play { OnOk result (record { world = world.new; steps = steps.new }
+        ≡ started (record { shape = L.shape; word_of = L.word_of; size_of = L.size_of }) (record { world = world.old; steps = steps.old }) client call) }
+    ensures text { OnOk result (string_bytes out.new ≡ string_bytes out.old ++ start_text command (start_result (record { shape = L.shape; word_of = L.word_of; size_of = L.size_of }) world.old client 0)) }
+    ensures errors { IfErr result (λ e. e ≡ Refusal.NoMemory) }
+{
+    match world.start(client, 0, call) {
+        Ok(()) => {
+            set_steps(steps, client, 0);
+            write_call(out, command)
+        }
+        Err(refusal) => write_refused(out, refusal),
+    }
+}
+
+/// Goes on with a call by at most so many steps.
+fn play_steps<L: Layout + Drop>(
+    world: &mut World<L>,
+    steps: &mut [u64],
+    out: &mut String,
+    client: Client,
+    most: u32,
+) -> Result<(), Refusal>
+    ensures play { OnOk result (record { world = world.new; steps = steps.new }
+        ≡ after_steps (record { shape = L.shape; word_of = L.word_of; size_of = L.size_of }) client most (record { world = world.old; steps = steps.old })) }
+    ensures text { OnOk result (string_bytes out.new ≡ string_bytes out.old ++ steps_text (record { shape = L.shape; word_of = L.word_of; size_of = L.size_of }) client most (record { world = world.old; steps = steps.old })) }
+    ensures errors { IfErr result (λ e. e ≡ Refusal.NoMemory) }
+{
+    for _ in 0..most {
+        match world.step(client) {
+            Err(refusal) => return write_refused(out, refusal),
+            Ok(answer) => {
+                let count = steps_of(steps, client).saturating_add(1);
+                set_steps(steps, client, count);
+                if let Some(reply) = answer {
+                    return write_return(out, client, reply, count);
+                }
+            }
+        }
+    }
+    Ok(())
+}
+
+/// Follows one command.
+fn play_command<L: Layout + Drop>(
+    world: &mut World<L>,
+    steps: &mut [u64],
+    out: &mut String,
+    command: Command,
+) -> Result<(), Refusal>
+    ensures play { OnOk result (record { world = world.new; steps = steps.new }
+        ≡ after_command (record { shape = L.shape; word_of = L.word_of; size_of = L.size_of }) (record { world = world.old; steps = steps.old }) command) }
+    ensures text { OnOk result (string_bytes out.new ≡ string_bytes out.old ++ command_prints (record { shape = L.shape; word_of = L.word_of; size_of = L.size_of }) (record { world = world.old; steps = steps.old }) command) }
+    ensures errors { IfErr result (λ e. e ≡ Refusal.NoMemory) }
+{
+    match command {
+        Command::Enq { client, value } => {
+            play_start(world, steps, out, command, client, Call::Enq(value))
+        }
+        Command::Deq { client } => play_start(world, steps, out, command, client, Call::Deq),
+        Command::Step { client, most } => play_steps(world, steps, out, client, most),
+        Command::Content => {
+            let values = world.content()?;
+            write_content(out, &values)
+        }
+    }
+}
+
+/// Follows all commands on a new world.
+fn play<L: Layout + Drop>(
+    alloc: Global,
+    layout: L,
+    commands: &[Command],
+    out: &mut String,
+) -> Result<(), Refusal>
+    ensures text { OnOk result (string_bytes out.new ≡ string_bytes out.old ++ queue_prints (record { shape = L.shape; word_of = L.word_of; size_of = L.size_of }) layout commands.now) }
+    ensures errors { IfErr result (λ e. e ≡ Refusal.NoMemory) }
+{
+    write_size(out, layout.size())?;
+    let mut world = World::make(alloc, layout)?;
+    let mut steps = [0; CLIENTS];
+    for command in commands {
+        play_command(&mut world, &mut steps, out, *command)?;
+    }
+    Ok(())
+}
+
+/// What a world prints that follows a script: the whole text, or NoMemory.
+pub fn transcript(alloc: Global, script: &Script) -> Result<Vec<u8>, Refusal>
+    requires { IfSome script.now.queue IsServedQueue }
+    ensures text { IfOk result (λ text. text.items ≡ script_prints script.now.queue script.now.commands.items) }
+    ensures errors { IfErr result (λ e. e ≡ Refusal.NoMemory) }
+{
+    let mut out = String::new(alloc);
+    if let Some(queue) = script.queue {
+        let layout = DurableLayout::make(queue.clients, queue.records)?;
+        play(alloc, layout, &script.commands, &mut out)?;
+    }
+    Ok(out.into_bytes())
+}

@@ -1,0 +1,89 @@
+//! The lines that are printed.
+
+ghost use Rattle.std.specs.Prelude.{◌≡◌, ◌++◌, OnOk, IfErr, string_bytes};
+ghost use Rattle.explore.specs.Transcript.{size_line, call_line, return_line, refused_line, content_line, values_text, value_text};
+
+use crate::command::Command;
+use std::fmt::{self, Write};
+use words::{Client, Refusal, Reply};
+
+/// As a script spells it: `enq 0 5`.
+impl fmt::Display for Command {
+    ghost use Rattle.std.specs.Prelude.{Some};
+    ghost use Rattle.explore.specs.Transcript.{command_text};
+
+    ghost output = { λ command. Some (command_text command) };
+
+    fn fmt<W: fmt::Write>(&self, f: &mut fmt::Formatter<W>) -> fmt::Result {
+        match *self {
+            Command::Enq { client, value } => write!(f, "enq {} {value}", client.0),
+            Command::Deq { client } => write!(f, "deq {}", client.0),
+            Command::Step { client, most } => write!(f, "step {} {most}", client.0),
+            Command::Content => write!(f, "content"),
+        }
+    }
+}
+
+/// `size 15`
+pub(crate) fn write_size(out: &mut String, size: usize) -> Result<(), Refusal>
+    ensures text { OnOk result (string_bytes out.new ≡ string_bytes out.old ++ size_line size) }
+    ensures errors { IfErr result (λ e. e ≡ Refusal.NoMemory) }
+{
+    writeln!(out, "size {size}").map_err(|_| Refusal::NoMemory)
+}
+
+/// `call enq 0 5`
+pub(crate) fn write_call(out: &mut String, command: Command) -> Result<(), Refusal>
+    ensures text { OnOk result (string_bytes out.new ≡ string_bytes out.old ++ call_line command) }
+    ensures errors { IfErr result (λ e. e ≡ Refusal.NoMemory) }
+{
+    writeln!(out, "call {command}").map_err(|_| Refusal::NoMemory)
+}
+
+/// `return 0 done steps 10`
+pub(crate) fn write_return(
+    out: &mut String,
+    client: Client,
+    reply: Reply,
+    steps: u64,
+) -> Result<(), Refusal>
+    ensures text { OnOk result (string_bytes out.new ≡ string_bytes out.old ++ return_line client reply steps) }
+    ensures errors { IfErr result (λ e. e ≡ Refusal.NoMemory) }
+{
+    writeln!(out, "return {} {reply} steps {steps}", client.0).map_err(|_| Refusal::NoMemory)
+}
+
+/// `refused 11 NoRoom`; want of memory is not printed, but ends the transcript.
+pub(crate) fn write_refused(out: &mut String, refusal: Refusal) -> Result<(), Refusal>
+    ensures text { OnOk result (string_bytes out.new ≡ string_bytes out.old ++ refused_line refusal) }
+    ensures errors { IfErr result (λ e. e ≡ Refusal.NoMemory) }
+{
+    if let Refusal::NoMemory = refusal {
+        return Err(refusal);
+    }
+    writeln!(out, "refused {refusal}").map_err(|_| Refusal::NoMemory)
+}
+
+/// The values, each after a space, or a dash where there are none.
+fn write_values(out: &mut String, values: &[u32]) -> Result<(), Refusal>
+    ensures text { OnOk result (string_bytes out.new ≡ string_bytes out.old ++ values_text values.now) }
+    ensures errors { IfErr result (λ e. e ≡ Refusal.NoMemory) }
+{
+    if values.is_empty() {
+        return write!(out, " -").map_err(|_| Refusal::NoMemory);
+    }
+    for value in values {
+        write!(out, " {value}").map_err(|_| Refusal::NoMemory)?;
+    }
+    Ok(())
+}
+
+/// `content 10 20`, or `content -`
+pub(crate) fn write_content(out: &mut String, values: &[u32]) -> Result<(), Refusal>
+    ensures text { OnOk result (string_bytes out.new ≡ string_bytes out.old ++ content_line values.now) }
+    ensures errors { IfErr result (λ e. e ≡ Refusal.NoMemory) }
+{
+    write!(out, "content").map_err(|_| Refusal::NoMemory)?;
+    write_values(out, values)?;
+    writeln!(out).map_err(|_| Refusal::NoMemory)
+}
