@@ -1,5 +1,5 @@
 -- What a world prints that follows a script.
-use Rattle.std.specs.Prelude.{ℕ, zero, suc, ◌+◌, min, List, [], ◌∷◌, ◌++◌, Option, Some, None, Result, Ok, Err, codes, decimal, replicate, slice_index, slice_set}
+use Rattle.std.specs.Prelude.{ℕ, false, zero, suc, ◌+◌, min, List, [], ◌∷◌, ◌++◌, Option, Some, None, Result, Ok, Err, codes, decimal, replicate, slice_index, slice_set}
 use Rattle.std.specs.List.{join_with_byte, flat_map}
 use Rattle.words.specs.Refusal.{refusal_text}
 use Rattle.words.specs.Text.{reply_text}
@@ -10,7 +10,7 @@ use Rattle.words.specs.declared.call.Kind.TheVariants.{Durable}
 use Rattle.words.specs.declared.call.Reply.{Reply}
 use Rattle.words.specs.declared.refusal.Refusal.{Refusal}
 use Rattle.arena.specs.Shape.{Counts, shape_of}
-use Rattle.arena.specs.Durable.{durable_word, durable_size}
+use Rattle.arena.specs.Durable.{durable_word, durable_place, durable_size}
 use Rattle.interleave.specs.State.{State, Laid, new_world, after_start, start_result, after_step, step_result, kept_content}
 use Rattle.explore.specs.Grammar.{command_words}
 use Rattle.explore.specs.declared.command.Command.{Command}
@@ -60,8 +60,8 @@ steps_with client steps (Err refusal) = steps
 
 abbrev pub started : {L : Type 0} → Laid L → Play L → Client → Call → Play L
 started laid play client call = record {
-  world = after_start laid play.world client 0 call;
-  steps = steps_with client play.steps (start_result laid play.world client 0);
+  world = after_start laid false play.world client 0 call;
+  steps = steps_with client play.steps (start_result laid false play.world client 0);
 }
 
 -- a step counts; the count stays at its greatest value
@@ -70,7 +70,7 @@ counted steps = min (steps + 1) 18446744073709551615
 
 abbrev pub stepped : {L : Type 0} → Laid L → Play L → Client → Play L
 stepped laid play client = record {
-  world = after_step laid play.world client;
+  world = after_step laid false play.world client;
   steps = slice_set play.steps client.0 (counted (slice_index play.steps client.0));
 }
 
@@ -83,7 +83,7 @@ play_then (Err refusal) going answered refused = refused
 abbrev pub after_steps : {L : Type 0} → Laid L → Client → ℕ → Play L → Play L
 after_steps laid client zero play = play
 after_steps laid client (suc most) play =
-    play_then (step_result laid play.world client) (after_steps laid client most (stepped laid play client)) (stepped laid play client) play
+    play_then (step_result laid false play.world client) (after_steps laid client most (stepped laid play client)) (stepped laid play client) play
 
 abbrev pub text_then : Client → ℕ → Result (Option Reply) Refusal → List ℕ → List ℕ
 text_then client steps (Ok None) going = going
@@ -93,7 +93,7 @@ text_then client steps (Err refusal) going = refused_line refusal
 abbrev pub steps_text : {L : Type 0} → Laid L → Client → ℕ → Play L → List ℕ
 steps_text laid client zero play = []
 steps_text laid client (suc most) play =
-    text_then client (counted (slice_index play.steps client.0)) (step_result laid play.world client) (steps_text laid client most (stepped laid play client))
+    text_then client (counted (slice_index play.steps client.0)) (step_result laid false play.world client) (steps_text laid client most (stepped laid play client))
 
 -- what a command does, and what it prints
 abbrev pub after_command : {L : Type 0} → Laid L → Play L → Command → Play L
@@ -103,8 +103,8 @@ after_command laid play (Step client most) = after_steps laid client most play
 after_command laid play Content = play
 
 abbrev pub command_prints : {L : Type 0} → Laid L → Play L → Command → List ℕ
-command_prints laid play (Enq client value) = start_text (Enq client value) (start_result laid play.world client 0)
-command_prints laid play (Deq client) = start_text (Deq client) (start_result laid play.world client 0)
+command_prints laid play (Enq client value) = start_text (Enq client value) (start_result laid false play.world client 0)
+command_prints laid play (Deq client) = start_text (Deq client) (start_result laid false play.world client 0)
 command_prints laid play (Step client most) = steps_text laid client most play
 command_prints laid play Content = content_line (kept_content laid play.world)
 
@@ -121,6 +121,7 @@ abbrev pub durable_laid : Laid Counts
 durable_laid = record {
   shape = shape_of Durable;
   word_of = λ counts. durable_word (shape_of Durable counts);
+  place_at = λ counts. durable_place (shape_of Durable counts);
   size_of = λ counts. durable_size (shape_of Durable counts);
 }
 

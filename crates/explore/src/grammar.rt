@@ -8,13 +8,17 @@ ghost use Rattle.explore.specs.declared.command.QueueLine.{QueueLine};
 
 use crate::command::{Command, QueueLine};
 use crate::line::{Limits, after_name, is_name, one_number, two_numbers};
+use arena::{MAX_CLIENTS, MAX_RECORDS};
 use words::{Client, Kind};
 
-const CLIENTS: Limits = Limits { least: 1, most: 16 };
+const CLIENTS: Limits = Limits {
+    least: 1,
+    most: MAX_CLIENTS as u64,
+};
 
 const RECORDS: Limits = Limits {
     least: 1,
-    most: 4_096,
+    most: MAX_RECORDS as u64,
 };
 
 const CLIENT: Limits = Limits {

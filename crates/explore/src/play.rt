@@ -1,19 +1,16 @@
 //! A world that follows a script, and what it prints.
 
-ghost use Rattle.std.specs.Prelude.{◌≡◌, ◌++◌, IfOk, IfErr, IfSome, OnOk, slice_index, slice_set, string_bytes};
+ghost use Rattle.std.specs.Prelude.{◌≡◌, ◌++◌, IfOk, IfErr, IfSome, OnOk, false, slice_index, slice_set, string_bytes};
 ghost use Rattle.interleave.specs.State.{start_result};
 ghost use Rattle.explore.specs.Grammar.{IsServedQueue};
 ghost use Rattle.explore.specs.Transcript.{started, start_text, after_steps, steps_text, after_command, command_prints, commands_print, queue_prints, script_prints};
 
 use crate::command::{Command, Script};
 use crate::text::{write_call, write_content, write_refused, write_return, write_size};
-use arena::{DurableLayout, Layout};
+use arena::{DurableLayout, Layout, MAX_CLIENTS};
 use interleave::World;
 use std::alloc::Global;
 use words::{Call, Client, Refusal};
-
-/// The most clients of a world.
-const CLIENTS: usize = 16;
 
 /// How many steps a client's call has made.
 fn steps_of(steps: &[u64], client: Client) -> u64
@@ -41,9 +38,9 @@ fn play_start<L: Layout + Drop>(
     client: Client,
     call: Call,
 ) -> Result<(), Refusal>
-    ensures play { OnOk result (record { world = world.new; steps = steps.new }
-        ≡ started (record { shape = L.shape; word_of = L.word_of; size_of = L.size_of }) (record { world = world.old; steps = steps.old }) client call) }
-    ensures text { OnOk result (string_bytes out.new ≡ string_bytes out.old ++ start_text command (start_result (record { shape = L.shape; word_of = L.word_of; size_of = L.size_of }) world.old client 0)) }
+    ensures play { OnOk result (record { world = world.new.now; steps = steps.new }
+        ≡ started (record { shape = L.shape; word_of = L.word_of; place_at = L.place_at; size_of = L.size_of }) (record { world = world.old.now; steps = steps.old }) client call) }
+    ensures text { OnOk result (string_bytes out.new ≡ string_bytes out.old ++ start_text command (start_result (record { shape = L.shape; word_of = L.word_of; place_at = L.place_at; size_of = L.size_of }) false world.old.now client 0)) }
     ensures errors { IfErr result (λ e. e ≡ Refusal.NoMemory) }
 {
     match world.start(client, 0, call) {
@@ -63,9 +60,9 @@ fn play_steps<L: Layout + Drop>(
     client: Client,
     most: u32,
 ) -> Result<(), Refusal>
-    ensures play { OnOk result (record { world = world.new; steps = steps.new }
-        ≡ after_steps (record { shape = L.shape; word_of = L.word_of; size_of = L.size_of }) client most (record { world = world.old; steps = steps.old })) }
-    ensures text { OnOk result (string_bytes out.new ≡ string_bytes out.old ++ steps_text (record { shape = L.shape; word_of = L.word_of; size_of = L.size_of }) client most (record { world = world.old; steps = steps.old })) }
+    ensures play { OnOk result (record { world = world.new.now; steps = steps.new }
+        ≡ after_steps (record { shape = L.shape; word_of = L.word_of; place_at = L.place_at; size_of = L.size_of }) client most (record { world = world.old.now; steps = steps.old })) }
+    ensures text { OnOk result (string_bytes out.new ≡ string_bytes out.old ++ steps_text (record { shape = L.shape; word_of = L.word_of; place_at = L.place_at; size_of = L.size_of }) client most (record { world = world.old.now; steps = steps.old })) }
     ensures errors { IfErr result (λ e. e ≡ Refusal.NoMemory) }
 {
     for _ in 0..most {
@@ -90,9 +87,9 @@ fn play_command<L: Layout + Drop>(
     out: &mut String,
     command: Command,
 ) -> Result<(), Refusal>
-    ensures play { OnOk result (record { world = world.new; steps = steps.new }
-        ≡ after_command (record { shape = L.shape; word_of = L.word_of; size_of = L.size_of }) (record { world = world.old; steps = steps.old }) command) }
-    ensures text { OnOk result (string_bytes out.new ≡ string_bytes out.old ++ command_prints (record { shape = L.shape; word_of = L.word_of; size_of = L.size_of }) (record { world = world.old; steps = steps.old }) command) }
+    ensures play { OnOk result (record { world = world.new.now; steps = steps.new }
+        ≡ after_command (record { shape = L.shape; word_of = L.word_of; place_at = L.place_at; size_of = L.size_of }) (record { world = world.old.now; steps = steps.old }) command) }
+    ensures text { OnOk result (string_bytes out.new ≡ string_bytes out.old ++ command_prints (record { shape = L.shape; word_of = L.word_of; place_at = L.place_at; size_of = L.size_of }) (record { world = world.old.now; steps = steps.old }) command) }
     ensures errors { IfErr result (λ e. e ≡ Refusal.NoMemory) }
 {
     match command {
@@ -115,12 +112,12 @@ fn play<L: Layout + Drop>(
     commands: &[Command],
     out: &mut String,
 ) -> Result<(), Refusal>
-    ensures text { OnOk result (string_bytes out.new ≡ string_bytes out.old ++ queue_prints (record { shape = L.shape; word_of = L.word_of; size_of = L.size_of }) layout commands.now) }
+    ensures text { OnOk result (string_bytes out.new ≡ string_bytes out.old ++ queue_prints (record { shape = L.shape; word_of = L.word_of; place_at = L.place_at; size_of = L.size_of }) layout commands.now) }
     ensures errors { IfErr result (λ e. e ≡ Refusal.NoMemory) }
 {
     write_size(out, layout.size())?;
     let mut world = World::make(alloc, layout)?;
-    let mut steps = [0; CLIENTS];
+    let mut steps = [0; MAX_CLIENTS as usize];
     for command in commands {
         play_command(&mut world, &mut steps, out, *command)?;
     }

@@ -1,6 +1,6 @@
 //! The lines that are printed.
 
-ghost use Rattle.std.specs.Prelude.{◌≡◌, ◌++◌, OnOk, IfErr, string_bytes};
+ghost use Rattle.std.specs.Prelude.{◌≡◌, ◌≢◌, ◌++◌, OnOk, IfErr, string_bytes};
 ghost use Rattle.explore.specs.Transcript.{size_line, call_line, return_line, refused_line, content_line, values_text, value_text};
 
 use crate::command::Command;
@@ -56,6 +56,7 @@ pub(crate) fn write_return(
 /// `refused 11 NoRoom`; want of memory is not printed, but ends the transcript.
 pub(crate) fn write_refused(out: &mut String, refusal: Refusal) -> Result<(), Refusal>
     ensures text { OnOk result (string_bytes out.new ≡ string_bytes out.old ++ refused_line refusal) }
+    ensures another { OnOk result (refusal ≢ Refusal.NoMemory) }
     ensures errors { IfErr result (λ e. e ≡ Refusal.NoMemory) }
 {
     if let Refusal::NoMemory = refusal {

@@ -3,6 +3,7 @@
 ghost use Rattle.std.specs.Prelude.{◌≡◌};
 ghost use Rattle.stepper.specs.Step.{kept_by};
 ghost use Rattle.helping.specs.Table.{access_of, first_of, begun_at, going_on, prepared_op};
+ghost use Rattle.helping.specs.Looks.{is_look, found_no_node};
 
 use crate::dequeue::{
     DequeueCheckHead, DequeueClaim, DequeueFlushClaim, DequeueFlushEmpty, DequeueFlushPassedLink,
@@ -71,6 +72,23 @@ impl Op {
                 Some(layout.result(winner, point.next, point.value).place)
             }
             _ => None,
+        }
+    }
+
+    /// Whether the next step of this dequeue looks for the node after the head.
+    pub fn looks(&self) -> bool
+        ensures { result ≡ is_look self.now }
+    {
+        matches!(self, Op::DequeueLoadNext(_))
+    }
+
+    /// Whether this dequeue found no node there.
+    pub fn found_no_node(&self) -> bool
+        ensures { result ≡ found_no_node self.now }
+    {
+        match self {
+            Op::DequeueCheckHead(point) => point.next.0 == 0,
+            _ => false,
         }
     }
 

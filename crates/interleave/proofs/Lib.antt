@@ -1,5 +1,13 @@
+pub mod ShownLaws
+pub mod Unsettled
 pub mod Records
 pub mod Contents
-pub mod Steps
+pub mod InRange
+pub mod NoteLaws
 pub mod Safety
-pub mod OneAccessLemmas
+pub mod MachineFacts
+pub mod EvictLaws
+pub mod StartLaws
+pub mod AloneLaws
+pub mod EveryAct
+pub mod HoldsKept

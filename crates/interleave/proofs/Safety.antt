@@ -1,26 +1,33 @@
 -- Each act keeps the ranges.
-use Rattle.std.proofs.Common.{◌≡◌, ℕ, ◌<◌, ◌≤◌, ◌⊎◌, inl, inr, List, length, Option, Some, None, Bool, true, false, slice_index, slice_set, slice_get, ◌==◌, arith, refl, subst, get_or-set_other}
+use Rattle.std.proofs.Common.{◌≡◌, ap, sym, ℕ, ◌<◌, ◌≤◌, ◌⊎◌, inl, inr, List, length, Option, Some, None, Bool, true, false, slice_index, slice_set, slice_get, ◌==◌, arith, refl, subst, get_or-set_other}
 use Rattle.std.proofs.lemmas.Bool.Decides.{eqb_tells}
 use Rattle.std.proofs.lemmas.Grind.{get_or-set_at, common_steps}
-use Rattle.std.proofs.lemmas.Option.{get_or_from_slice_get}
+use Rattle.std.proofs.lemmas.Option.{get_or_from_slice_get, slice_get_within}
 use Rattle.words.specs.declared.call.Call.{Call}
 use Rattle.words.specs.declared.call.Call.TheVariants.{Enq}
 use Rattle.words.specs.declared.call.Client.{Client}
-use Rattle.persist.specs.Memory.{Words, Access, Load, Store, Cas, Flush}
-use Rattle.arena.specs.Shape.{Shape}
+use Rattle.persist.specs.Memory.{Words, Access, Load, Store, Cas, Flush, evicted as evicted_word}
+use Rattle.arena.specs.Shape.{Shape, record_of}
 use Rattle.arena.specs.Place.{IsPlace, is_same, is_same-true}
 use Rattle.arena.specs.Ranges.{Fits}
 use Rattle.arena.specs.Laws.{IsLaidOut, at-written}
 use Rattle.arena.specs.declared.place.Place.{Place}
 use Rattle.arena.specs.declared.place.Place.TheVariants.{Bump}
 use Rattle.stepper.specs.Step.{after_one, found, place_of}
+use Rattle.words.specs.declared.told.Told.{Told}
 use Rattle.stepper.specs.Preparation.{IsBegun}
+use Rattle.stepper.specs.declared.After.{After}
+use Rattle.stepper.specs.declared.After.TheVariants.{More, Done}
+use Rattle.stepper.specs.declared.prepare.Begun.{Begun}
+use Rattle.helping.specs.declared.op.Op.{Op}
 use Rattle.helping.specs.Table.{access_of, successor, begun_at}
 use Rattle.interleave.specs.Ranges.{AllFit, WordsFit, CallFits, IfCall, IsSafe}
-use Rattle.interleave.specs.declared.calls.UnderWay.{UnderWay}
-use Rattle.interleave.specs.State.{begun_call}
+use Rattle.protocol.specs.Machine.{Log, next_of, with_next}
+use Rattle.protocol.specs.declared.UnderWay.{UnderWay}
+use Rattle.interleave.specs.State.{machine_of}
+use Rattle.interleave.proofs.ShownLaws.{shown_at}
 use Rattle.interleave.proofs.Records.{record_in_range}
-use Rattle.interleave.proofs.Steps.{AccessFits, AfterFits, at_place, access_fits, successor_fits, begun_fits}
+use Rattle.interleave.proofs.InRange.{AccessFits, AfterFits, at_place, access_fits, successor_fits, begun_fits}
 
 bool_cases : (b : Bool) → (b ≡ true) ⊎ (b ≡ false)
 bool_cases true = inl refl
@@ -99,11 +106,51 @@ IsSafe-stepped s word_of place_at size laid ws calls u fits safe =
 pub next_fits : (s : Shape) (word_of : Place → ℕ) (size : ℕ) (ws : Words) (calls : List (Option UnderWay)) (u : UnderWay) → CallFits s u → IsSafe s word_of size ws calls → AfterFits s (successor s.kind u.op (found word_of (access_of s.kind u.op) ws))
 next_fits s word_of size ws calls u fits safe = successor_fits s u.op _ fits.point (read_fits s word_of size ws calls u safe fits)
 
+-- a call that goes on is in range
+after_in_range : (s : Shape) (u : UnderWay) (a : After Op) → CallFits s u → AfterFits s a → IfCall s (with_next u a)
+after_in_range s u (More op) fits h = record { begun = fits.begun; point = h }
+after_in_range s u (Done reply) fits h = tt
+
+-- what the machine goes on to is what the step finds
+pub next_is : (s : Shape) (word_of : Place → ℕ) (size : ℕ) (ws : Words) (calls : List (Option UnderWay)) (base : List ℕ) (told : List Told) (log : Log) (u : UnderWay) → CallFits s u → IsSafe s word_of size ws calls
+    → successor s.kind u.op (found word_of (access_of s.kind u.op) ws) ≡ next_of (machine_of s word_of ws calls base told log) u
+next_is s word_of size ws calls base told log u fits safe =
+    ap (successor s.kind u.op) (sym (shown_at s word_of ws.cached (place_of (access_of s.kind u.op)) (at_place s (access_of s.kind u.op) (access_fits s s.kind u.op refl fits.point))))
+
+-- a client's call made its access, and went on
+pub IsSafe-gone_on : (s : Shape) (word_of : Place → ℕ) (place_at : ℕ → Option Place) (size : ℕ) → IsLaidOut s word_of place_at size → (ws : Words) (calls : List (Option UnderWay)) (base : List ℕ) (told : List Told) (log : Log) (t : ℕ) (u : UnderWay) → IsSafe s word_of size ws calls → slice_get calls t ≡ Some (Some u)
+    → IsSafe s word_of size (after_one word_of (access_of s.kind u.op) ws) (slice_set calls t (with_next u (next_of (machine_of s word_of ws calls base told log) u)))
+IsSafe-gone_on s word_of place_at size laid ws calls base told log t u safe here =
+    let fits : CallFits s u = call_fits s word_of size ws calls t u safe here in
+    let next : AfterFits s (next_of (machine_of s word_of ws calls base told log) u) = subst (AfterFits s) (next_is s word_of size ws calls base told log u fits safe) (next_fits s word_of size ws calls u fits safe) in
+    IsSafe-put s word_of size _ calls t _ (IsSafe-stepped s word_of place_at size laid ws calls u fits safe) (slice_get_within calls t (Some u) here) (after_in_range s u _ fits next)
+
+-- an eviction
+pub IsSafe-evicted : (s : Shape) (word_of : Place → ℕ) (place_at : ℕ → Option Place) (size : ℕ) → IsLaidOut s word_of place_at size → (ws : Words) (calls : List (Option UnderWay)) (p : Place) → IsPlace s p → IsSafe s word_of size ws calls → IsSafe s word_of size (evicted_word (word_of p) ws) calls
+IsSafe-evicted s word_of place_at size laid ws calls p hp safe =
+    let flushed = IsSafe-accessed s word_of place_at size laid ws calls (Flush p) hp safe in
+    record {
+      words = record { room = flushed.words.room; same = flushed.words.same; cached = flushed.words.cached; kept = flushed.words.kept };
+      clients = safe.clients;
+      few = safe.few;
+      calls_fit = safe.calls_fit;
+    }
+
+-- the call of a client with its next record
+abbrev pub begun_call : Shape → ℕ → Client → ℕ → Call → Begun
+begun_call s used client number call = record {
+  client = client;
+  used = used;
+  token = record { 0 = record_of s client.0 used };
+  number = number;
+  call = call;
+}
+
 -- a client without a call begins one, with a record that is left
-pub IsSafe-begun : (s : Shape) (word_of : Place → ℕ) (place_at : ℕ → Option Place) (size : ℕ) → IsLaidOut s word_of place_at size → (ws : Words) (calls : List (Option UnderWay)) (client : Client) (used number : ℕ) (call : Call)
+pub IsSafe-begun : (s : Shape) (word_of : Place → ℕ) (place_at : ℕ → Option Place) (size : ℕ) → IsLaidOut s word_of place_at size → (ws : Words) (calls : List (Option UnderWay)) (client : Client) (used number place : ℕ) (call : Call)
     → IsSafe s word_of size ws calls → client.0 < length calls → used < s.records → number ≤ 1099511627776 → ((v : ℕ) → call ≡ Enq v → v ≤ 4294967295)
-    → IsSafe s word_of size (after_one word_of (Load (Bump client)) ws) (slice_set calls client.0 (Some (record { begun = begun_call s used client number call; op = begun_at s.kind (begun_call s used client number call) })))
-IsSafe-begun s word_of place_at size laid ws calls client used number call safe within room few fits =
+    → IsSafe s word_of size (after_one word_of (Load (Bump client)) ws) (slice_set calls client.0 (Some (record { place = place; begun = begun_call s used client number call; op = begun_at s.kind (begun_call s used client number call) })))
+IsSafe-begun s word_of place_at size laid ws calls client used number place call safe within room few fits =
     let client_in : client.0 < s.clients = omega (arith, safe.clients) in
     let b : IsBegun s (begun_call s used client number call) = record {
       client = client_in;

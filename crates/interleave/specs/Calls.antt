@@ -1,18 +1,15 @@
 -- Calls under way.
-use Rattle.std.specs.Prelude.{Option, Some, None, Result, Ok, Err}
+use Rattle.std.specs.Prelude.{Bool, true, false, Option, Some, None, Result, Ok, Err}
 use Rattle.words.specs.declared.call.Reply.{Reply}
 use Rattle.words.specs.declared.refusal.Refusal.{Refusal}
-use Rattle.words.specs.declared.refusal.Refusal.TheVariants.{NoClient, Busy, Idle}
+use Rattle.words.specs.declared.refusal.Refusal.TheVariants.{NoClient, Busy, Idle, NoMemory}
 use Rattle.stepper.specs.declared.After.{After}
 use Rattle.stepper.specs.declared.After.TheVariants.{More, Done}
+use Rattle.helping.specs.Looks.{found_no_node}
 use Rattle.helping.specs.declared.op.Op.{Op}
-use Rattle.interleave.specs.declared.calls.UnderWay.{UnderWay}
+use Rattle.protocol.specs.declared.UnderWay.{UnderWay}
 
--- what a step leaves under way, and what it answers
-abbrev pub with_next : UnderWay → After Op → Option UnderWay
-with_next u (More op) = Some (record u { op = op })
-with_next u (Done reply) = None
-
+-- what a step answers
 abbrev pub answer_of : After Op → Option Reply
 answer_of (More op) = None
 answer_of (Done reply) = Some reply
@@ -28,3 +25,13 @@ abbrev pub waiting_result : Option (Option UnderWay) → Result UnderWay Refusal
 waiting_result None = Err NoClient
 waiting_result (Some None) = Err Idle
 waiting_result (Some (Some u)) = Ok u
+
+-- whether memory was refused
+abbrev pub is_no_memory : {X : Type 0} → Result X Refusal → Bool
+is_no_memory (Err NoMemory) = true
+is_no_memory _ = false
+
+-- whether a step went on with no node found
+abbrev pub went_on_to_nothing : After Op → Bool
+went_on_to_nothing (More op) = found_no_node op
+went_on_to_nothing (Done reply) = false

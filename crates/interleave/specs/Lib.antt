@@ -1,6 +1,12 @@
 pub mod Content
 pub mod Queue
 pub mod Calls
+pub mod Shown
+pub mod Effects
+pub mod Trace
 pub mod State
+pub mod Holds
+pub mod Keeping
 pub mod Ranges
 pub mod OneAccess
+pub mod OneEvent

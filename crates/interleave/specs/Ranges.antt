@@ -9,10 +9,9 @@ use Rattle.stepper.specs.Preparation.{IsBegun}
 use Rattle.helping.specs.Table.{IsPoint}
 use Rattle.words.specs.declared.call.Kind.{Kind}
 use Rattle.words.specs.declared.call.Kind.TheVariants.{Durable as durable_kind, Log as log_kind}
-use Rattle.interleave.specs.declared.calls.UnderWay.{UnderWay}
+use Rattle.protocol.specs.declared.UnderWay.{UnderWay}
 use Rattle.interleave.specs.declared.queue.Queue.{Queue}
 use Rattle.interleave.specs.declared.queue.Queue.TheVariants.{Durable, Log}
-use Rattle.interleave.specs.State.{State, Laid}
 
 abbrev pub AllFit : Shape → (Place → ℕ) → List ℕ → Type 0
 AllFit s word_of ws = (p : Place) → IsPlace s p → Fits s p (slice_index ws (word_of p))
@@ -44,7 +43,3 @@ pub record IsSafe (s : Shape) (word_of : Place → ℕ) (size : ℕ) (ws : Words
   pub clients : length calls ≡ s.clients
   pub few : s.clients ≤ 16
   pub calls_fit : (t : ℕ) → IfCall s (slice_index_or calls t None)
-
-pub record IsSafeWorld {L : Type 0} (laid : Laid L) (w : State L) : Type 0 where
-  pub safe : IsSafe (laid.shape w.layout) (laid.word_of w.layout) (laid.size_of w.layout) w.words w.calls
-  pub kind : IsOfKind (laid.shape w.layout).kind w.queue

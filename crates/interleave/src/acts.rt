@@ -15,6 +15,10 @@ pub enum Act {
     Step {
         client: Client,
     },
+    /// The environment keeps a word.
+    Evict {
+        word: usize,
+    },
 }
 
 /// How a list of acts went.

@@ -1,25 +1,11 @@
-//! Calls under way, and their steps.
+//! Calls under way.
 
-ghost use Rattle.std.specs.Prelude.{◌≡◌, ◌<◌, ◌≤◌, ◌+◌, ◌*◌, length, replicate, slice_get, slice_set, Some, None, Ok, Err, IfOk};
-ghost use Rattle.stepper.specs.Step.{after_one, found};
-ghost use Rattle.helping.specs.Table.{access_of, successor};
-ghost use Rattle.interleave.specs.Calls.{with_next, answer_of, idle_result, waiting_result};
-ghost use Rattle.interleave.specs.Ranges.{IsSafe};
+ghost use Rattle.std.specs.Prelude.{◌≡◌, ◌<◌, ◌≤◌, ◌+◌, ◌*◌, replicate, slice_get, None, IfOk};
+ghost use Rattle.interleave.specs.Calls.{idle_result, waiting_result};
 
-use arena::Layout;
-use helping::Op;
-use persist::Memory;
+use protocol::UnderWay;
 use std::alloc::{AllocError, Global};
-use stepper::{After, Begun, Resume};
-use words::{Client, Refusal, Reply, Token};
-
-/// A call under way.
-#[derive(Clone, Copy, Debug, PartialEq, Eq)]
-pub struct UnderWay {
-    pub begun: Begun,
-    /// Where it waits.
-    pub op: Op,
-}
+use words::{Client, Refusal, Token};
 
 /// No call under way, for any of so many clients.
 pub(crate) fn nobody(alloc: Global, clients: u32) -> Result<Vec<Option<UnderWay>>, AllocError>
@@ -65,36 +51,4 @@ pub(crate) fn record_number(clients: u32, records: u32, client: Client, used: u3
     ensures few { result.0 ≤ clients * records }
 {
     Token(1 + client.0 as u32 * records + used)
-}
-
-/// One step of a client's call: what the call leads to takes its place.
-pub(crate) fn advance<L: Layout>(
-    layout: &L,
-    memory: &mut Memory,
-    calls: &mut [Option<UnderWay>],
-    client: Client,
-    under_way: UnderWay,
-) -> Option<Reply>
-    requires safe { IsSafe (L.shape layout.now) (L.word_of layout.now) (L.size_of layout.now) memory.old calls.old }
-    requires waits { slice_get calls.old client.0 ≡ Some (Some under_way) }
-    ensures safe { IsSafe (L.shape layout.now) (L.word_of layout.now) (L.size_of layout.now) memory.new calls.new }
-    ensures one_access { memory.new ≡ after_one (L.word_of layout.now) (access_of (L.shape layout.now).kind under_way.op) memory.old }
-    ensures calls { calls.new ≡ slice_set calls.old client.0 (with_next under_way (successor (L.shape layout.now).kind under_way.op
-        (found (L.word_of layout.now) (access_of (L.shape layout.now).kind under_way.op) memory.old))) }
-    ensures answer { result ≡ answer_of (successor (L.shape layout.now).kind under_way.op
-        (found (L.word_of layout.now) (access_of (L.shape layout.now).kind under_way.op) memory.old)) }
-{
-    match under_way.op.step(layout, memory) {
-        After::More(op) => {
-            calls[client.0 as usize] = Some(UnderWay {
-                begun: under_way.begun,
-                op,
-            });
-            None
-        }
-        After::Done(reply) => {
-            calls[client.0 as usize] = None;
-            Some(reply)
-        }
-    }
 }

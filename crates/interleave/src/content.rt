@@ -1,25 +1,17 @@
 //! What a queue holds.
 
-ghost use Rattle.std.specs.Prelude.{◌≡◌, ◌++◌, IfOk, IfErr, OnOk, slice_index};
-ghost use Rattle.arena.specs.Place.{IsPlace, IsNode};
+ghost use Rattle.std.specs.Prelude.{◌≡◌, ◌++◌, IfOk, IfErr, OnOk};
+ghost use Rattle.arena.specs.Place.{IsNode};
 ghost use Rattle.arena.specs.Content.{kept_content};
 ghost use Rattle.interleave.specs.Content.{unclaimed};
 ghost use Rattle.interleave.specs.Ranges.{WordsFit};
+ghost use Rattle.interleave.specs.Shown.{shown};
 
+use crate::notice::kept_at;
 use arena::{Layout, Place};
-use persist::{KeptWords, Memory};
+use persist::Memory;
 use std::alloc::Global;
 use words::{NodeId, Refusal};
-
-/// A kept word of a node. Looking at it is no access.
-fn kept_at<L: Layout>(layout: &L, memory: &Memory, place: Place) -> u64
-    requires place { IsPlace (L.shape layout.now) place }
-    requires fit { WordsFit (L.shape layout.now) (L.word_of layout.now) (L.size_of layout.now) memory.now }
-    ensures { result ≡ slice_index memory.now.kept (L.word_of layout.now place) }
-{
-    let word = layout.word(place);
-    memory.kept(word)
-}
 
 /// Adds the value of a node, if it is not claimed.
 fn add_unclaimed<L: Layout>(
@@ -30,7 +22,7 @@ fn add_unclaimed<L: Layout>(
 ) -> Result<(), Refusal>
     requires node { IsNode (L.shape layout.now) node.0 }
     requires fit { WordsFit (L.shape layout.now) (L.word_of layout.now) (L.size_of layout.now) memory.now }
-    ensures added { OnOk result (values.new.items ≡ values.old.items ++ unclaimed (λ p. slice_index memory.now.kept (L.word_of layout.now p)) node.0) }
+    ensures added { OnOk result (values.new.items ≡ values.old.items ++ unclaimed (shown (L.shape layout.now) (L.word_of layout.now) memory.now.kept) node.0) }
     ensures errors { IfErr result (λ e. e ≡ Refusal.NoMemory) }
 {
     if kept_at(layout, memory, Place::Mark(node)) != 0 {
@@ -50,7 +42,7 @@ pub(crate) fn content<L: Layout>(
     memory: &Memory,
 ) -> Result<Vec<u32>, Refusal>
     requires { WordsFit (L.shape layout.now) (L.word_of layout.now) (L.size_of layout.now) memory.now }
-    ensures content { IfOk result (λ values. values.items ≡ kept_content (L.shape layout.now) (λ p. slice_index memory.now.kept (L.word_of layout.now p))) }
+    ensures content { IfOk result (λ values. values.items ≡ kept_content (L.shape layout.now) (shown (L.shape layout.now) (L.word_of layout.now) memory.now.kept)) }
     ensures errors { IfErr result (λ e. e ≡ Refusal.NoMemory) }
 {
     let mut values = Vec::new(alloc);

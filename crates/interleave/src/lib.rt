@@ -4,12 +4,17 @@
 mod acts;
 mod calls;
 mod content;
+mod effects;
+mod evicting;
 mod laws;
+mod notice;
 mod queue;
+mod starting;
+mod steps;
+mod trace;
 mod world;
 
 pub use acts::{Act, Ran};
-pub use calls::UnderWay;
-pub use laws::one_access_an_act;
+pub use laws::{one_access_an_act, one_event_an_act};
 pub use queue::Queue;
 pub use world::World;

@@ -1,11 +1,11 @@
 //! What a queue keeps for its clients beside its memory, by its kind.
 
 ghost use Rattle.std.specs.Prelude.{◌≡◌, ◌<◌, ◌≤◌, Ok, Err};
-ghost use Rattle.interleave.specs.Queue.{new_queue, number_check, after_return};
+ghost use Rattle.interleave.specs.Queue.{new_queue, told_in, number_check, after_return};
 
 use durable::DurableQueue;
 use logqueue::LogQueue;
-use words::{Client, Kind, Refusal};
+use words::{Client, Kind, Refusal, Told};
 
 /// What a queue keeps for its clients, by its kind.
 #[derive(Clone, Copy, Debug)]
@@ -23,6 +23,16 @@ impl Queue {
         match kind {
             Kind::Durable => Queue::Durable(DurableQueue::new(clients)),
             Kind::Log => Queue::Log(LogQueue::new()),
+        }
+    }
+
+    /// What each client was last told.
+    pub(crate) fn told(&self) -> [Told; 16]
+        ensures { result ≡ told_in self.now }
+    {
+        match self {
+            Queue::Durable(queue) => *queue.told(),
+            Queue::Log(queue) => *queue.told(),
         }
     }
 

@@ -1,130 +1,56 @@
 //! The world of one queue.
 
-ghost use Rattle.std.specs.Prelude.{◌≡◌, ◌≤◌, ◌+◌, length, slice_get, Some, None, IfOk, IfErr};
-ghost use Rattle.persist.specs.Memory.{counted};
-ghost use Rattle.interleave.specs.Ranges.{IsSafe, IsOfKind};
-ghost use Rattle.interleave.specs.State.{new_world, after_start, start_result, after_step, step_result, after_act, after_acts, is_accepted, taken_of, kept_content, used_in, calls_with, room_result};
+ghost use Rattle.std.specs.Prelude.{◌≡◌, ◌≤◌, ◌<◌, ◌+◌, ◌==◌, ◌⊎◌, length, slice_get, true, Ok, Err, None, IfOk, IfErr, OnOk, OnErr};
+ghost use Rattle.history.specs.Parts.{IsPartOf};
+ghost use Rattle.interleave.specs.Calls.{is_no_memory, waiting_result};
+ghost use Rattle.interleave.specs.Holds.{IsExplained};
+ghost use Rattle.words.specs.declared.refusal.Refusal.{Refusal as AnyRefusal};
+ghost use Rattle.interleave.specs.Queue.{told_in, told_to};
+ghost use Rattle.interleave.specs.State.{new_world, after_start, start_result, after_step, step_result, after_evict, evict_result, after_act, after_acts, after_alone, IsAnsweredAlone, is_accepted, taken_of, order_in, kept_content};
 
 use crate::acts::{Act, Ran};
-use crate::calls::{UnderWay, advance, check_idle, nobody, record_number, waiting};
+use crate::calls::{nobody, waiting};
 use crate::content::content;
+use crate::evicting::evict_word;
 use crate::queue::Queue;
-use arena::{Layout, Place};
-use helping::Op;
-use persist::Memory;
+use crate::starting::start_call;
+use crate::steps::step_call;
+use crate::trace::Trace;
+use arena::Layout;
+use history::{History, Order, Sequence};
+use persist::{Change, Memory};
+use protocol::UnderWay;
 use std::alloc::Global;
 use std::marker::Model;
-use stepper::{Begun, load_at};
-use words::{Call, Client, Refusal, Reply};
+use words::{Call, Client, Refusal, Reply, Told};
 
-/// One queue over its memory, and the calls that its clients have under way. A call is started, and then goes
-/// on by single steps, each of them one access to the memory, in any interleaving with the others.
+/// One queue over its memory, the calls that its clients have under way, and what happened. A call is started, and
+/// then goes on by single steps, each of them one access to the memory, in any interleaving with the others; at any
+/// moment the environment may keep a word.
 #[derive(Drop)]
 pub struct World<L: Layout + Drop> {
     layout: L,
     memory: Memory,
     queue: Queue,
     calls: Vec<Option<UnderWay>>,
+    trace: Trace,
 }
 
 impl<L: Layout + Drop> Model for World<L> {
-    ghost use Rattle.interleave.specs.State.{State};
-    ghost use Rattle.interleave.specs.Ranges.{IsSafe, IsOfKind};
+    ghost use Rattle.interleave.specs.Holds.{Holds};
+    ghost use Rattle.interleave.specs.Trace.{Roomy, state_with};
 
-    ghost Value = { State L };
+    ghost Value = { Roomy L };
 
-    ghost view = { λ w. record { layout = w.layout; words = w.memory; queue = w.queue; calls = w.calls.items } };
+    ghost view = { λ w. record { now = state_with w.layout w.memory w.queue w.calls.items w.trace; room = w.trace.room } };
 
-    ghost invariant = { λ w. IsSafe (L.shape w.layout) (L.word_of w.layout) (L.size_of w.layout) w.memory w.calls.items × IsOfKind (L.shape w.layout).kind w.queue };
-}
-
-/// Begins a call of a client that has none, with its next record.
-fn begin<L: Layout>(
-    layout: &L,
-    memory: &mut Memory,
-    calls: &mut [Option<UnderWay>],
-    client: Client,
-    number: u64,
-    call: Call,
-) -> Result<(), Refusal>
-    requires safe { IsSafe (L.shape layout.now) (L.word_of layout.now) (L.size_of layout.now) memory.old calls.old }
-    requires idle { slice_get calls.old client.0 ≡ Some None }
-    requires number { number ≤ 1099511627776 }
-    ensures safe { IsSafe (L.shape layout.now) (L.word_of layout.now) (L.size_of layout.now) memory.new calls.new }
-    ensures one_access { memory.new ≡ counted memory.old }
-    ensures calls { calls.new ≡ calls_with (L.shape layout.now) (used_in (L.word_of layout.now) memory.old client) client number call calls.old }
-    ensures room { result ≡ room_result (L.shape layout.now) (used_in (L.word_of layout.now) memory.old client) }
-{
-    let records = layout.records();
-    let clients = layout.clients();
-    let used = load_at(layout, memory, Place::Bump(client));
-    if used == records as u64 {
-        return Err(Refusal::NoRoom);
-    }
-    let used = used as u32;
-    let begun = Begun {
-        client,
-        used,
-        token: record_number(clients, records, client, used),
-        number,
-        call,
-    };
-    calls[client.0 as usize] = Some(UnderWay {
-        begun,
-        op: Op::begin(layout.kind(), begun),
-    });
-    Ok(())
-}
-
-/// Starts a call, unless it is refused.
-fn start_call<L: Layout>(
-    layout: &L,
-    memory: &mut Memory,
-    queue: &Queue,
-    calls: &mut [Option<UnderWay>],
-    client: Client,
-    number: u64,
-    call: Call,
-) -> Result<(), Refusal>
-    requires safe { IsSafe (L.shape layout.now) (L.word_of layout.now) (L.size_of layout.now) memory.old calls.old }
-    ensures safe { IsSafe (L.shape layout.now) (L.word_of layout.now) (L.size_of layout.now) memory.new calls.new }
-    ensures world { record { layout = layout.now; words = memory.new; queue = queue.now; calls = calls.new }
-        ≡ after_start (record { shape = L.shape; word_of = L.word_of; size_of = L.size_of }) (record { layout = layout.now; words = memory.old; queue = queue.now; calls = calls.old }) client number call }
-    ensures result { result ≡ start_result (record { shape = L.shape; word_of = L.word_of; size_of = L.size_of }) (record { layout = layout.now; words = memory.old; queue = queue.now; calls = calls.old }) client number }
-{
-    check_idle(calls, client)?;
-    let number = queue.number(client, number)?;
-    begin(layout, memory, calls, client, number, call)
-}
-
-/// One step of a client's call, unless it is refused.
-fn step_call<L: Layout>(
-    layout: &L,
-    memory: &mut Memory,
-    queue: &mut Queue,
-    calls: &mut [Option<UnderWay>],
-    client: Client,
-) -> Result<Option<Reply>, Refusal>
-    requires safe { IsSafe (L.shape layout.now) (L.word_of layout.now) (L.size_of layout.now) memory.old calls.old }
-    requires kind { IsOfKind (L.shape layout.now).kind queue.old }
-    ensures safe { IsSafe (L.shape layout.now) (L.word_of layout.now) (L.size_of layout.now) memory.new calls.new }
-    ensures kind { IsOfKind (L.shape layout.now).kind queue.new }
-    ensures world { record { layout = layout.now; words = memory.new; queue = queue.new; calls = calls.new }
-        ≡ after_step (record { shape = L.shape; word_of = L.word_of; size_of = L.size_of }) (record { layout = layout.now; words = memory.old; queue = queue.old; calls = calls.old }) client }
-    ensures result { result ≡ step_result (record { shape = L.shape; word_of = L.word_of; size_of = L.size_of }) (record { layout = layout.now; words = memory.old; queue = queue.old; calls = calls.old }) client }
-{
-    let under_way = waiting(calls, client)?;
-    let answer = advance(layout, memory, calls, client, under_way);
-    if answer.is_some() {
-        queue.returned(under_way.begun.client, under_way.begun.number);
-    }
-    Ok(answer)
+    ghost invariant = { λ w. Holds (record { shape = L.shape; word_of = L.word_of; place_at = L.place_at; size_of = L.size_of }) (state_with w.layout w.memory w.queue w.calls.items w.trace) };
 }
 
 impl<L: Layout + Drop> World<L> {
     /// A world on zero memory, in which no client has called: an empty queue.
     pub fn make(alloc: Global, layout: L) -> Result<Self, Refusal>
-        ensures made { IfOk result (λ w. w ≡ new_world (record { shape = L.shape; word_of = L.word_of; size_of = L.size_of }) layout) }
+        ensures made { IfOk result (λ w. w.now ≡ new_world (record { shape = L.shape; word_of = L.word_of; place_at = L.place_at; size_of = L.size_of }) layout) }
         ensures errors { IfErr result (λ e. e ≡ Refusal.NoMemory) }
     {
         let memory = Memory::new(alloc, layout.size())?;
@@ -132,26 +58,34 @@ impl<L: Layout + Drop> World<L> {
             return Err(Refusal::NoMemory);
         };
         let queue = Queue::new(layout.kind(), layout.clients());
+        let trace = Trace::new(alloc, queue.told());
         Ok(World {
             layout,
             memory,
             queue,
             calls,
+            trace,
         })
     }
 
     /// Starts a call. It is refused, in this order, where there is no such client (NoClient), where the client
-    /// has a call under way (Busy), where a log queue finds its number stale (StaleNumber), and where the client's
-    /// records are used up (NoRoom), which alone makes an access. A durable queue ignores the number.
+    /// has a call under way (Busy), where a log queue finds its number stale (StaleNumber), where the client's
+    /// records are used up (NoRoom), and for want of memory (NoMemory); the last two alone make an access. A durable
+    /// queue ignores the number.
     pub fn start(&mut self, client: Client, number: u64, call: Call) -> Result<(), Refusal>
-        ensures world { self.new ≡ after_start (record { shape = L.shape; word_of = L.word_of; size_of = L.size_of }) self.old client number call }
-        ensures result { result ≡ start_result (record { shape = L.shape; word_of = L.word_of; size_of = L.size_of }) self.old client number }
+        ensures world { self.new.now ≡ after_start (record { shape = L.shape; word_of = L.word_of; place_at = L.place_at; size_of = L.size_of }) (is_no_memory result) self.old.now client number call }
+        ensures result { result ≡ start_result (record { shape = L.shape; word_of = L.word_of; place_at = L.place_at; size_of = L.size_of }) (is_no_memory result) self.old.now client number }
+        ensures full { is_no_memory result ≡ true → self.old.room ≡ 0 }
+        ensures room { self.old.room ≤ self.new.room + 1 }
+        ensures explained { IsExplained (record { shape = L.shape; word_of = L.word_of; place_at = L.place_at; size_of = L.size_of }) self.new.now }
+        ensures order { order_in self.new.now ≡ order_in self.old.now }
     {
         start_call(
             &self.layout,
             &mut self.memory,
             &self.queue,
             &mut self.calls,
+            &mut self.trace,
             client,
             number,
             call,
@@ -159,44 +93,75 @@ impl<L: Layout + Drop> World<L> {
     }
 
     /// One step of a client's call: exactly one access. It answers the reply where that was the last. It is
-    /// refused, in this order, where there is no such client (NoClient), and where it has no call (Idle).
+    /// refused, in this order, where there is no such client (NoClient), where it has no call (Idle), and for want of
+    /// memory (NoMemory).
     pub fn step(&mut self, client: Client) -> Result<Option<Reply>, Refusal>
-        ensures world { self.new ≡ after_step (record { shape = L.shape; word_of = L.word_of; size_of = L.size_of }) self.old client }
-        ensures result { result ≡ step_result (record { shape = L.shape; word_of = L.word_of; size_of = L.size_of }) self.old client }
+        ensures world { self.new.now ≡ after_step (record { shape = L.shape; word_of = L.word_of; place_at = L.place_at; size_of = L.size_of }) (is_no_memory result) self.old.now client }
+        ensures result { result ≡ step_result (record { shape = L.shape; word_of = L.word_of; place_at = L.place_at; size_of = L.size_of }) (is_no_memory result) self.old.now client }
+        ensures full { is_no_memory result ≡ true → self.old.room ≡ 0 }
+        ensures room { self.old.room ≤ self.new.room + 1 }
+        ensures stays { result ≡ Ok None → self.old.room ≤ self.new.room }
+        ensures explained { IsExplained (record { shape = L.shape; word_of = L.word_of; place_at = L.place_at; size_of = L.size_of }) self.new.now }
+        ensures order { IsPartOf (order_in self.old.now) (order_in self.new.now) }
     {
         step_call(
             &self.layout,
             &mut self.memory,
             &mut self.queue,
             &mut self.calls,
+            &mut self.trace,
             client,
+        )
+    }
+
+    /// The environment keeps a word. It is no access, takes no memory, and may make a call take effect. It is refused
+    /// where there is no such word (NoWord).
+    pub fn evict(&mut self, word: usize) -> Result<Option<Change>, Refusal>
+        ensures world { self.new.now ≡ after_evict (record { shape = L.shape; word_of = L.word_of; place_at = L.place_at; size_of = L.size_of }) self.old.now word }
+        ensures result { result ≡ evict_result (record { shape = L.shape; word_of = L.word_of; place_at = L.place_at; size_of = L.size_of }) self.old.now word }
+        ensures room { self.new.room ≡ self.old.room }
+        ensures explained { IsExplained (record { shape = L.shape; word_of = L.word_of; place_at = L.place_at; size_of = L.size_of }) self.new.now }
+        ensures order { IsPartOf (order_in self.old.now) (order_in self.new.now) }
+    {
+        evict_word(
+            &self.layout,
+            &mut self.memory,
+            &self.queue,
+            &self.calls,
+            &mut self.trace,
+            word,
         )
     }
 
     /// The acts in order. One that its own call refuses is passed over, and counted.
     pub fn run(&mut self, acts: &[Act]) -> Ran
-        ensures world { self.new ≡ after_acts (record { shape = L.shape; word_of = L.word_of; size_of = L.size_of }) self.old acts.now }
-        ensures taken { result.taken ≡ taken_of (record { shape = L.shape; word_of = L.word_of; size_of = L.size_of }) self.old acts.now }
+        ensures world { length acts.now ≤ self.old.room → self.new.now ≡ after_acts (record { shape = L.shape; word_of = L.word_of; place_at = L.place_at; size_of = L.size_of }) self.old.now acts.now }
+        ensures taken { length acts.now ≤ self.old.room → result.taken ≡ taken_of (record { shape = L.shape; word_of = L.word_of; place_at = L.place_at; size_of = L.size_of }) self.old.now acts.now }
         ensures all { result.taken + result.refused ≡ length acts.now }
+        ensures explained { IsExplained (record { shape = L.shape; word_of = L.word_of; place_at = L.place_at; size_of = L.size_of }) self.new.now }
+        ensures order { IsPartOf (order_in self.old.now) (order_in self.new.now) }
     {
         let mut ran = Ran {
             taken: 0,
             refused: 0,
         };
+        // What holds of the world at its beginning is known from here on.
+        let _ = &self.layout;
         for act in acts {
-            if self.act(*act) {
-                ran.taken += 1;
-            } else {
-                ran.refused += 1;
-            }
+            let taken = u64::from(self.act(*act));
+            ran.taken += taken;
+            ran.refused += 1 - taken;
         }
         ran
     }
 
     /// One act. It answers whether it was accepted.
     fn act(&mut self, act: Act) -> bool
-        ensures world { self.new ≡ after_act (record { shape = L.shape; word_of = L.word_of; size_of = L.size_of }) self.old act }
-        ensures accepted { result ≡ is_accepted (record { shape = L.shape; word_of = L.word_of; size_of = L.size_of }) self.old act }
+        ensures world { 0 < self.old.room → self.new.now ≡ after_act (record { shape = L.shape; word_of = L.word_of; place_at = L.place_at; size_of = L.size_of }) self.old.now act }
+        ensures accepted { 0 < self.old.room → result ≡ is_accepted (record { shape = L.shape; word_of = L.word_of; place_at = L.place_at; size_of = L.size_of }) self.old.now act }
+        ensures room { self.old.room ≤ self.new.room + 1 }
+        ensures explained { IsExplained (record { shape = L.shape; word_of = L.word_of; place_at = L.place_at; size_of = L.size_of }) self.new.now }
+        ensures order { IsPartOf (order_in self.old.now) (order_in self.new.now) }
     {
         match act {
             Act::Start {
@@ -205,23 +170,90 @@ impl<L: Layout + Drop> World<L> {
                 call,
             } => self.start(client, number, call).is_ok(),
             Act::Step { client } => self.step(client).is_ok(),
+            Act::Evict { word } => self.evict(word).is_ok(),
+        }
+    }
+
+    /// A client's call goes on alone until it answers: its reply, and how many steps that took, at most 64 from
+    /// wherever it waits. It is refused, in this order, where there is no such client (NoClient), where it has no
+    /// call (Idle), and, before its first step, for want of memory (NoMemory).
+    pub fn run_alone(&mut self, client: Client) -> Result<(Reply, u32), Refusal>
+        ensures refused { (refusal : AnyRefusal) → waiting_result (slice_get self.old.now.calls client.0) ≡ Err refusal → result ≡ Err refusal }
+        ensures errors { IfErr result (λ e. (e ≡ Refusal.NoMemory) ⊎ (waiting_result (slice_get self.old.now.calls client.0) ≡ Err e)) }
+        ensures full { is_no_memory result ≡ true → self.old.room ≡ 0 }
+        ensures same { IfErr result (λ e. self.new.now ≡ self.old.now) }
+        ensures steps { IfOk result (λ answer. answer.1 ≤ 64) }
+        ensures answer { IfOk result (λ answer. IsAnsweredAlone (record { shape = L.shape; word_of = L.word_of; place_at = L.place_at; size_of = L.size_of }) self.old.now client answer.1 answer.0) }
+        ensures world { IfOk result (λ answer. self.new.now ≡ after_alone (record { shape = L.shape; word_of = L.word_of; place_at = L.place_at; size_of = L.size_of }) answer.1 self.old.now client) }
+        ensures room { self.old.room ≤ self.new.room + 1 }
+        ensures explained { IsExplained (record { shape = L.shape; word_of = L.word_of; place_at = L.place_at; size_of = L.size_of }) self.new.now }
+        ensures order { IsPartOf (order_in self.old.now) (order_in self.new.now) }
+    {
+        waiting(&self.calls, client)?;
+        self.reserve(1)?;
+        let mut steps = 0u32;
+        loop {
+            let answer = self.step(client)?;
+            steps += 1;
+            if let Some(reply) = answer {
+                return Ok((reply, steps));
+            }
         }
     }
 
     /// Makes room, so that the next acts, so many of them, are not refused for want of memory.
-    pub fn reserve(&mut self, _acts: usize) -> Result<(), Refusal>
-        ensures same { self.new ≡ self.old }
+    pub fn reserve(&mut self, acts: usize) -> Result<(), Refusal>
+        ensures same { self.new.now ≡ self.old.now }
+        ensures room { OnOk result (acts ≤ self.new.room) }
+        ensures kept { self.old.room ≤ self.new.room }
+        ensures full { OnErr result (self.old.room < acts) }
         ensures errors { IfErr result (λ e. e ≡ Refusal.NoMemory) }
     {
-        Ok(())
+        match self.trace.reserve(acts) {
+            Ok(()) => Ok(()),
+            Err(_) => Err(Refusal::NoMemory),
+        }
     }
 
     /// What the queue holds by its kept words: the values of the nodes that kept links reach from the sentinel,
     /// the claimed ones left out.
     pub fn content(&self) -> Result<Vec<u32>, Refusal>
-        ensures content { IfOk result (λ values. values.items ≡ kept_content (record { shape = L.shape; word_of = L.word_of; size_of = L.size_of }) self.now) }
+        ensures content { IfOk result (λ values. values.items ≡ kept_content (record { shape = L.shape; word_of = L.word_of; place_at = L.place_at; size_of = L.size_of }) self.now.now) }
         ensures errors { IfErr result (λ e. e ≡ Refusal.NoMemory) }
     {
         content(*self.calls.allocator(), &self.layout, &self.memory)
+    }
+
+    /// The calls in the order in which they took effect.
+    pub fn order(&self) -> Result<Order, Refusal>
+        ensures order { IfOk result (λ order. order.entries.items ≡ order_in self.now.now) }
+        ensures explained { IsExplained (record { shape = L.shape; word_of = L.word_of; place_at = L.place_at; size_of = L.size_of }) self.now.now }
+        ensures errors { IfErr result (λ e. e ≡ Refusal.NoMemory) }
+    {
+        let entries = history::order(*self.calls.allocator(), self.trace.effects())?;
+        Ok(Order {
+            entries: Sequence::from_vec(entries),
+        })
+    }
+
+    /// What happened since the history begins. It takes no memory.
+    pub fn history(&self) -> &History
+        ensures base { result.now.base.items ≡ self.now.now.base }
+        ensures told { result.now.told ≡ self.now.now.told }
+        ensures events { result.now.events.items ≡ self.now.now.log.events }
+        ensures explained { IsExplained (record { shape = L.shape; word_of = L.word_of; place_at = L.place_at; size_of = L.size_of }) self.now.now }
+    {
+        self.trace.history()
+    }
+
+    /// What the client was last told: what the base tells. A client that there is not is told nothing.
+    pub fn told(&self, client: Client) -> Told
+        ensures { result ≡ told_to (told_in self.now.now.queue) client }
+    {
+        let told = self.queue.told();
+        match told.get(client.0 as usize) {
+            Some(told) => *told,
+            None => Told::None,
+        }
     }
 }

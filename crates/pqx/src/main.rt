@@ -2,9 +2,10 @@
 #![tactic(auto)]
 
 use clap::{ArgMatches, Command};
-use std::alloc::Global;
+use std::alloc::{AllocError, Global};
+use std::env;
+use std::io::{self, ErrorKind};
 use std::process::ExitCode;
-use std::{env, io};
 use thiserror::Error;
 use words::Refusal;
 
@@ -26,6 +27,22 @@ impl From<Refusal> for Fault {
     }
 }
 
+/// A fault of the system before anything runs: want of memory, or else a failed read.
+impl From<io::Error> for Fault {
+    fn from(error: io::Error) -> Fault {
+        match error.kind() {
+            ErrorKind::OutOfMemory => Fault::Refused(Refusal::NoMemory),
+            _ => Fault::Refused(Refusal::ReadFailed),
+        }
+    }
+}
+
+impl From<AllocError> for Fault {
+    fn from(_: AllocError) -> Fault {
+        Fault::Refused(Refusal::NoMemory)
+    }
+}
+
 /// The command line: `pqx run`.
 fn matches<'a>(alloc: Global, words: &'a [String]) -> Result<ArgMatches<'a>, clap::Error> {
     let run = Command::new(alloc, "run").about(
@@ -38,21 +55,27 @@ fn matches<'a>(alloc: Global, words: &'a [String]) -> Result<ArgMatches<'a>, cla
     pqx.try_get_matches_from(words)
 }
 
-/// Follows the script of standard input.
-fn run(rt: &HostRuntime) -> Result<(), Fault> {
+/// Does what the command line asks for, and answers with which status to end.
+fn follow(rt: &HostRuntime) -> Result<ExitCode, Fault> {
+    let words: Vec<String> = env::args(rt)?.collect(rt.alloc())?;
+    if let Err(error) = matches(rt.alloc(), &words) {
+        if let clap::error::ErrorKind::OutOfMemory = error.kind() {
+            return Err(Fault::Refused(Refusal::NoMemory));
+        }
+        if error.print(rt).is_err() {
+            return Err(Fault::Refused(Refusal::WriteFailed));
+        }
+        return Ok(ExitCode::from(error.exit_code() as u8));
+    }
     let mut reader = rt.reader();
     let mut writer = io::writer(rt);
-    Ok(explore::run(rt.alloc(), &mut reader, &mut writer)?)
+    explore::run(rt.alloc(), &mut reader, &mut writer)?;
+    Ok(ExitCode::SUCCESS)
 }
 
 fn main(rt: HostRuntime) -> io::Result<ExitCode> {
-    let words: Vec<String> = env::args(&rt)?.collect(rt.alloc())?;
-    if let Err(error) = matches(rt.alloc(), &words) {
-        error.print(&rt)?;
-        return Ok(ExitCode::from(error.exit_code() as u8));
-    }
-    match run(&rt) {
-        Ok(()) => Ok(ExitCode::SUCCESS),
+    match follow(&rt) {
+        Ok(status) => Ok(status),
         Err(fault) => {
             eprintln!(rt; "pqx: {fault}")?;
             Ok(ExitCode::FAILURE)

@@ -2,4 +2,8 @@
 #![tactic(auto)]
 
 #[cfg(test)]
+mod checker;
+#[cfg(test)]
+mod drawn;
+#[cfg(test)]
 mod scripts;

@@ -18,43 +18,178 @@ static PRINTED: [(&str, &str); 10] = [
     ("# no queue\n\n", ""),
     // A call goes on by single steps, to its answer.
     (
-        "queue durable 1 2\nenq 0 5\nstep 0 9\nstep 0 1\ncontent\n",
-        "size 15\ncall enq 0 5\nreturn 0 done steps 10\ncontent 5\n",
+        "\
+queue durable 1 2
+enq 0 5
+step 0 9
+step 0 1
+content
+",
+        "\
+size 15
+call enq 0 5
+return 0 done steps 10
+content 5
+",
     ),
     // A dequeue takes the value, and another one finds nothing.
     (
-        "# a script\n\nqueue durable 1 3\nenq 0 5\nstep 0 10\ndeq 0\nstep 0 1000\ncontent\ndeq 0\nstep 0 1000",
-        "size 19\ncall enq 0 5\nreturn 0 done steps 10\ncall deq 0\nreturn 0 got 5 steps 14\ncontent -\ncall deq 0\nreturn 0 empty steps 10\n",
+        "\
+# a script
+
+queue durable 1 3
+enq 0 5
+step 0 10
+deq 0
+step 0 1000
+content
+deq 0
+step 0 1000",
+        "\
+size 19
+call enq 0 5
+return 0 done steps 10
+call deq 0
+return 0 got 5 steps 14
+content -
+call deq 0
+return 0 empty steps 10
+",
     ),
     // A lost compare-and-swap: client 1 links its node after client 0 looked, so client 0 begins its round anew.
     (
-        "queue durable 2 1\nenq 0 10\nenq 1 20\nstep 0 7\nstep 1 10\nstep 0 1000\ncontent\n",
-        "size 17\ncall enq 0 10\ncall enq 1 20\nreturn 1 done steps 10\nreturn 0 done steps 14\ncontent 20 10\n",
+        "\
+queue durable 2 1
+enq 0 10
+enq 1 20
+step 0 7
+step 1 10
+step 0 1000
+content
+",
+        "\
+size 17
+call enq 0 10
+call enq 1 20
+return 1 done steps 10
+return 0 done steps 14
+content 20 10
+",
     ),
     // A lagging tail: client 0 has linked its node, and client 1 flushes the link and moves the tail.
     (
-        "queue durable 2 1\nenq 0 10\nstep 0 8\nenq 1 20\nstep 1 1000\ncontent\nstep 0 2\n",
-        "size 17\ncall enq 0 10\ncall enq 1 20\nreturn 1 done steps 15\ncontent 10 20\nreturn 0 done steps 10\n",
+        "\
+queue durable 2 1
+enq 0 10
+step 0 8
+enq 1 20
+step 1 1000
+content
+step 0 2
+",
+        "\
+size 17
+call enq 0 10
+call enq 1 20
+return 1 done steps 15
+content 10 20
+return 0 done steps 10
+",
     ),
     // A lost compare-and-swap and then a lagging tail, the winner's.
     (
-        "queue durable 2 1\nenq 0 10\nenq 1 20\nstep 0 7\nstep 1 8\nstep 0 1000\nstep 1 1000\ncontent\n",
-        "size 17\ncall enq 0 10\ncall enq 1 20\nreturn 0 done steps 19\nreturn 1 done steps 10\ncontent 20 10\n",
+        "\
+queue durable 2 1
+enq 0 10
+enq 1 20
+step 0 7
+step 1 8
+step 0 1000
+step 1 1000
+content
+",
+        "\
+size 17
+call enq 0 10
+call enq 1 20
+return 0 done steps 19
+return 1 done steps 10
+content 20 10
+",
     ),
     // A claim finished by another client, which then takes the next value.
     (
-        "queue durable 2 3\nenq 0 5\nstep 0 10\nenq 0 6\nstep 0 10\ndeq 0\nstep 0 10\ndeq 1\nstep 1 1000\ncontent\nstep 0 1000\n",
-        "size 33\ncall enq 0 5\nreturn 0 done steps 10\ncall enq 0 6\nreturn 0 done steps 10\ncall deq 0\ncall deq 1\nreturn 1 got 6 steps 24\ncontent -\nreturn 0 got 5 steps 14\n",
+        "\
+queue durable 2 3
+enq 0 5
+step 0 10
+enq 0 6
+step 0 10
+deq 0
+step 0 10
+deq 1
+step 1 1000
+content
+step 0 1000
+",
+        "\
+size 33
+call enq 0 5
+return 0 done steps 10
+call enq 0 6
+return 0 done steps 10
+call deq 0
+call deq 1
+return 1 got 6 steps 24
+content -
+return 0 got 5 steps 14
+",
     ),
     // Two empty dequeues that overlap.
     (
-        "queue durable 2 1\ndeq 0\ndeq 1\nstep 0 7\nstep 1 9\nstep 0 3\nstep 1 1\ncontent\n",
-        "size 17\ncall deq 0\ncall deq 1\nreturn 0 empty steps 10\nreturn 1 empty steps 10\ncontent -\n",
+        "\
+queue durable 2 1
+deq 0
+deq 1
+step 0 7
+step 1 9
+step 0 3
+step 1 1
+content
+",
+        "\
+size 17
+call deq 0
+call deq 1
+return 0 empty steps 10
+return 1 empty steps 10
+content -
+",
     ),
     // Refusals are printed, and the script goes on.
     (
-        "queue durable 1 1\nstep 0 1\nenq 0 5\nenq 0 6\ndeq 1\nstep 255 3\nstep 0 1000\nenq 0 6\ncontent\n",
-        "size 11\nrefused 14 Idle\ncall enq 0 5\nrefused 10 Busy\nrefused 13 NoClient\nrefused 13 NoClient\nreturn 0 done steps 10\nrefused 11 NoRoom\ncontent 5\n",
+        "\
+queue durable 1 1
+step 0 1
+enq 0 5
+enq 0 6
+deq 1
+step 255 3
+step 0 1000
+enq 0 6
+content
+",
+        "\
+size 11
+refused 14 Idle
+call enq 0 5
+refused 10 Busy
+refused 13 NoClient
+refused 13 NoClient
+return 0 done steps 10
+refused 11 NoRoom
+content 5
+",
     ),
 ];
 

@@ -1,13 +1,18 @@
-use Rattle.std.proofs.Common.{◌≡◌, ◌+◌, drop}
-use Rattle.interleave.specs.State.{Laid, after_acts, taken_of}
+use Rattle.std.proofs.Common.{◌≡◌, ◌+◌, ◌≤◌, drop, length}
+use Rattle.history.specs.Parts.{IsPartOf}
+use Rattle.interleave.specs.Holds.{IsExplained}
+use Rattle.interleave.specs.State.{Laid, after_acts, taken_of, order_in}
 use Rattle.interleave.proofs.world.World.run.Given as goal
 
--- what is left leads where all of them do
+-- what is left leads where all of them do, where there is room for them
 abbrev pub invariant-loop-act : goal.invariant-loop-act
 invariant-loop-act g l =
-    let laid : Laid _ = record { shape = g.L.Layout.shape; word_of = g.L.Layout.word_of; size_of = g.L.Layout.size_of } in
+    let laid : Laid _ = record { shape = g.L.Layout.shape; word_of = g.L.Layout.word_of; place_at = g.L.Layout.place_at; size_of = g.L.Layout.size_of } in
     record {
-      world : after_acts laid l.self (drop l.act-index l.acts) ≡ after_acts laid l.fn.self l.acts;
-      taken : l.ran.taken + taken_of laid l.self (drop l.act-index l.acts) ≡ taken_of laid l.fn.self l.acts;
+      world : length l.acts ≤ l.fn.self.room → after_acts laid l.self.now (drop l.act-index l.acts) ≡ after_acts laid l.fn.self.now l.acts;
+      taken : length l.acts ≤ l.fn.self.room → l.ran.taken + taken_of laid l.self.now (drop l.act-index l.acts) ≡ taken_of laid l.fn.self.now l.acts;
+      room : l.fn.self.room ≤ l.self.room + l.act-index;
       all : l.ran.taken + l.ran.refused ≡ l.act-index;
+      explained : IsExplained laid l.self.now;
+      order : IsPartOf (order_in l.fn.self.now) (order_in l.self.now);
     }

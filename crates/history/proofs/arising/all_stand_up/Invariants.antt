@@ -1,0 +1,11 @@
+use Rattle.std.proofs.Common.{◌<◌, ◌≡◌, ◌↔◌, ℕ, IsTrue, slice_get, Some}
+use Rattle.history.specs.declared.event.Event.{Event}
+use Rattle.history.specs.History.{IsDown}
+use Rattle.history.specs.Sweeps.{StandsUp}
+use Rattle.history.proofs.arising.all_stand_up.Given as goal
+
+abbrev pub invariant-loop-p : goal.invariant-loop-p
+invariant-loop-p l = record {
+  down_now : IsTrue l.down ↔ IsDown l.events l.p;
+  each : (k : ℕ) (event : Event) → k < l.p → slice_get l.events k ≡ Some event → StandsUp l.events k event;
+}

@@ -1,0 +1,6 @@
+use Rattle.std.proofs.Common.{◌<◌, ℕ}
+use Rattle.history.specs.Explains.{IsAnswered}
+use Rattle.history.proofs.explaining.has_answers.Given as goal
+
+abbrev pub invariant-loop-p : goal.invariant-loop-p
+invariant-loop-p l = (k : ℕ) → k < l.p → IsAnswered l.events l.entries k

@@ -1,0 +1,6 @@
+use Rattle.std.proofs.Common.{◌<◌, ◌≤◌, ℕ}
+use Rattle.history.specs.Hearing.{IsToldNotTaken}
+use Rattle.history.proofs.hearing.is_told_not_taken_in.Given as goal
+
+abbrev pub invariant-loop-p : goal.invariant-loop-p
+invariant-loop-p l = (k : ℕ) → k < l.p → l.from ≤ k → IsToldNotTaken l.kind l.events l.client l.told k → ⊥

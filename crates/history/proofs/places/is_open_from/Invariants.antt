@@ -1,0 +1,6 @@
+use Rattle.std.proofs.Common.{◌<◌, ℕ}
+use Rattle.history.specs.History.{EndsAt}
+use Rattle.history.proofs.places.is_open_from.Given as goal
+
+abbrev pub invariant-loop-k : goal.invariant-loop-k
+invariant-loop-k l = (j : ℕ) → l.q < j → j < l.k → EndsAt l.events l.client j → ⊥

@@ -1,0 +1,6 @@
+use Rattle.std.proofs.Common.{◌<◌, ℕ}
+use Rattle.history.specs.History.{IsOpenFrom}
+use Rattle.history.proofs.places.is_under_way.Given as goal
+
+abbrev pub invariant-loop-q : goal.invariant-loop-q
+invariant-loop-q l = (j : ℕ) → j < l.q → IsOpenFrom l.events l.client l.p j → ⊥

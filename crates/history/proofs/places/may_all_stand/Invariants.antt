@@ -1,0 +1,7 @@
+use Rattle.std.proofs.Common.{◌<◌, ◌≡◌, ℕ, slice_get, Some}
+use Rattle.history.specs.declared.event.Event.{Event}
+use Rattle.history.specs.History.{MayStand}
+use Rattle.history.proofs.places.may_all_stand.Given as goal
+
+abbrev pub invariant-loop-p : goal.invariant-loop-p
+invariant-loop-p l = (k : ℕ) (event : Event) → k < l.p → slice_get l.events k ≡ Some event → MayStand l.events k event

@@ -1,0 +1,14 @@
+pub mod Sequence
+pub mod Effects
+pub mod History
+pub mod Orders
+pub mod Replay
+pub mod Telling
+pub mod Explains
+pub mod Parts
+pub mod Log
+pub mod Plainly
+pub mod Counting
+pub mod Sweeps
+pub mod Fronts
+pub mod Hearing

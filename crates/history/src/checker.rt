@@ -1,0 +1,70 @@
+//! The checker.
+
+ghost use Rattle.std.specs.Prelude.{◌<◌, ◌↔◌, length, IsTrue, All, EachIndex};
+ghost use Rattle.history.specs.Explains.{Explains, IsExplained, KeepsPrecedence};
+ghost use Rattle.history.specs.History.{IsHistory};
+ghost use Rattle.history.specs.Orders.{IsNew};
+ghost use Rattle.history.specs.Sweeps.{Tells};
+
+use crate::answering::all_answered;
+use crate::arising::arises;
+use crate::event::{Entry, Event, History, Order};
+use crate::fronts::replay_is_right;
+use crate::hearing::all_told;
+use crate::naming::names_once;
+use crate::ordering::names_calls;
+use crate::places::is_durable;
+use crate::preceding::precedence_is_kept;
+use words::{Kind, Told};
+
+/// Whether what clients are told agrees with the order. That of interrupted calls follows from the rest: such a call is
+/// its client's last one begun before the next Ready.
+fn tells(told: &[Told; 16], events: &[Event], entries: &[Entry]) -> bool
+    requires calls { All (λ entry. entry.place < length events.now) entries.now }
+    requires history { IsHistory events.now }
+    requires once { EachIndex entries.now (λ i. IsNew entries.now i) }
+    requires precedence { KeepsPrecedence events.now entries.now }
+    ensures { IsTrue result ↔ Tells told.now events.now entries.now }
+{
+    if is_durable(events) {
+        return all_told(Kind::Durable, told, events, entries);
+    }
+    all_told(Kind::Log, told, events, entries)
+}
+
+/// Whether the order explains the history, which may arise.
+fn explains(base: &[u32], told: &[Told; 16], events: &[Event], entries: &[Entry]) -> bool
+    requires { IsHistory events.now }
+    ensures { IsTrue result ↔ Explains base.now told.now events.now entries.now }
+{
+    if !names_calls(events, entries) {
+        return false;
+    }
+    if !precedence_is_kept(events, entries) {
+        return false;
+    }
+    if !names_once(events, entries) {
+        return false;
+    }
+    if !all_answered(events, entries) {
+        return false;
+    }
+    if !replay_is_right(events, base, entries) {
+        return false;
+    }
+    tells(told, events, entries)
+}
+
+/// Whether the history may arise and the order explains it. Its time grows with the events and entries, for a given
+/// number of clients.
+pub fn check(history: &History, order: &Order) -> bool
+    ensures { IsTrue result ↔ IsExplained history.now order.now }
+{
+    arises(history.events.as_slice())
+        && explains(
+            history.base.as_slice(),
+            &history.told,
+            history.events.as_slice(),
+            order.entries.as_slice(),
+        )
+}

@@ -1,0 +1,81 @@
+//! Whether an order has the replies that calls returned, and keeps precedence.
+
+ghost use Rattle.std.specs.Prelude.{◌<◌, ◌≤◌, ◌↔◌, ℕ, length, IsTrue, EachIndex, All};
+ghost use Rattle.history.specs.Explains.{IsAnswered, KeepsPrecedence};
+ghost use Rattle.history.specs.Plainly.{IsNotAfter};
+
+use crate::event::{Entry, Event};
+use crate::ordering::taken_as;
+use crate::places::precedes;
+
+/// Whether the call at `p`, if it is complete, is in the order with the reply that it returned.
+fn is_answered(events: &[Event], entries: &[Entry], p: usize) -> bool
+    requires { p < length events.now }
+    ensures { IsTrue result ↔ IsAnswered events.now entries.now p }
+{
+    let Event::Call { client, .. } = events[p] else {
+        return true;
+    };
+    for k in p + 1..events.len() {
+        match events[k] {
+            Event::Return {
+                client: other,
+                reply,
+            } if other == client => {
+                return taken_as(entries, p, reply);
+            }
+            Event::Crash => return true,
+            _ => {}
+        }
+    }
+    true
+}
+
+/// Whether each complete call is in the order with the reply that it returned.
+pub(crate) fn has_answers(events: &[Event], entries: &[Entry]) -> bool
+    ensures { IsTrue result ↔ EachIndex events.now (λ p. IsAnswered events.now entries.now p) }
+{
+    for p in 0..events.len() {
+        if !is_answered(events, entries, p) {
+            return false;
+        }
+    }
+    true
+}
+
+/// Whether the call of the entry at `i` precedes none of the entry at `j`.
+fn is_not_after(events: &[Event], entries: &[Entry], i: usize, j: usize) -> bool
+    requires first { i < length entries.now }
+    requires second { j < length entries.now }
+    requires calls { All (λ entry. entry.place < length events.now) entries.now }
+    ensures { IsTrue result ↔ IsNotAfter events.now entries.now i j }
+{
+    !precedes(events, entries[i].place, entries[j].place)
+}
+
+/// Whether the call of the entry at `i` precedes none of the entries up to it.
+fn keeps_precedence_at(events: &[Event], entries: &[Entry], i: usize) -> bool
+    requires first { i < length entries.now }
+    requires calls { All (λ entry. entry.place < length events.now) entries.now }
+    ensures { IsTrue result ↔ ((j : ℕ) → j ≤ i → IsNotAfter events.now entries.now i j) }
+{
+    for j in 0..i + 1 {
+        if !is_not_after(events, entries, i, j) {
+            return false;
+        }
+    }
+    true
+}
+
+/// Whether calls stand in the order before those that they precede.
+pub(crate) fn keeps_precedence(events: &[Event], entries: &[Entry]) -> bool
+    requires { All (λ entry. entry.place < length events.now) entries.now }
+    ensures { IsTrue result ↔ KeepsPrecedence events.now entries.now }
+{
+    for i in 0..entries.len() {
+        if !keeps_precedence_at(events, entries, i) {
+            return false;
+        }
+    }
+    true
+}

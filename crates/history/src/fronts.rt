@@ -1,0 +1,107 @@
+//! The replay of an order without memory: where the front of the queue stands.
+
+ghost use Rattle.std.specs.Prelude.{◌≡◌, ◌<◌, ◌≤◌, ◌+◌, ◌↔◌, ◌++◌, [], length, IsTrue, IfNone, take, option_to_list};
+ghost use Rattle.history.specs.Counting.{put_all};
+ghost use Rattle.history.specs.Fronts.{put_between, held, reply_by, IsFront};
+ghost use Rattle.history.specs.Replay.{queue_after, IsRightAt, Replays};
+
+use crate::event::{Entry, Event};
+use crate::replaying::named_call;
+use words::{Call, Reply};
+
+/// Where the front of the queue stands: after so many values of the base, and of the entries from one on.
+#[derive(Clone, Copy)]
+struct Fronts {
+    base: usize,
+    entry: usize,
+}
+
+/// Takes the first value that the entries from `front` on, before `to`, put into the queue.
+fn take_put(events: &[Event], entries: &[Entry], front: &mut usize, to: usize) -> Option<u32>
+    requires below { front.old ≤ to }
+    requires within { to ≤ length entries.now }
+    ensures below { front.new ≤ to }
+    ensures front { put_between events.now entries.now front.old to ≡
+        option_to_list result ++ put_between events.now entries.now front.new to }
+    ensures none { IfNone result (put_between events.now entries.now front.old to ≡ []) }
+{
+    let from = *front;
+    for k in from..to {
+        if let Some(Call::Enq(value)) = named_call(events, entries[k].place) {
+            *front = k + 1;
+            return Some(value);
+        }
+    }
+    *front = to;
+    None
+}
+
+/// Takes the first value of the queue.
+fn take_front(
+    events: &[Event],
+    base: &[u32],
+    entries: &[Entry],
+    fronts: &mut Fronts,
+    to: usize,
+) -> Option<u32>
+    requires base { fronts.old.base ≤ length base.now }
+    requires entry { fronts.old.entry ≤ to }
+    requires within { to ≤ length entries.now }
+    ensures base { fronts.new.base ≤ length base.now }
+    ensures entry { fronts.new.entry ≤ to }
+    ensures front { held events.now base.now entries.now fronts.old.base fronts.old.entry to ≡
+        option_to_list result ++ held events.now base.now entries.now fronts.new.base fronts.new.entry to }
+    ensures none { IfNone result (held events.now base.now entries.now fronts.old.base fronts.old.entry to ≡ []) }
+{
+    if fronts.base < base.len() {
+        let value = base[fronts.base];
+        fronts.base += 1;
+        return Some(value);
+    }
+    take_put(events, entries, &mut fronts.entry, to)
+}
+
+/// What a dequeue answers whose queue has this front.
+fn reply_with(front: Option<u32>) -> Reply
+    ensures { result ≡ reply_by front }
+{
+    match front {
+        None => Reply::Empty,
+        Some(value) => Reply::Got(value),
+    }
+}
+
+/// Whether the entry at `i` names a call and has the plain queue's reply to it; the front moves on past the call.
+fn is_right_next(
+    events: &[Event],
+    base: &[u32],
+    entries: &[Entry],
+    fronts: &mut Fronts,
+    i: usize,
+) -> bool
+    requires within { i < length entries.now }
+    requires front { IsFront events.now base.now entries.now fronts.old.base fronts.old.entry i }
+    ensures right { IsTrue result ↔ IsRightAt events.now base.now entries.now i }
+    ensures front { IsTrue result → IsFront events.now base.now entries.now fronts.new.base fronts.new.entry (i + 1) }
+{
+    match named_call(events, entries[i].place) {
+        None => false,
+        Some(Call::Enq(_)) => entries[i].reply == Reply::Done,
+        Some(Call::Deq) => {
+            entries[i].reply == reply_with(take_front(events, base, entries, fronts, i))
+        }
+    }
+}
+
+/// Whether the replay gives every reply.
+pub(crate) fn replay_is_right(events: &[Event], base: &[u32], entries: &[Entry]) -> bool
+    ensures { IsTrue result ↔ Replays events.now base.now entries.now }
+{
+    let mut fronts = Fronts { base: 0, entry: 0 };
+    for i in 0..entries.len() {
+        if !is_right_next(events, base, entries, &mut fronts, i) {
+            return false;
+        }
+    }
+    true
+}

@@ -1,0 +1,69 @@
+//! Whether an order names no call twice, by a pass for each client.
+
+ghost use Rattle.std.specs.Prelude.{◌<◌, ◌+◌, ◌↔◌, length, IsTrue, IfSome, IfNone, All, EachIndex, IsSome};
+ghost use Rattle.history.specs.Replay.{call_at};
+ghost use Rattle.words.specs.declared.call.Client.{Client};
+ghost use Rattle.history.specs.Explains.{KeepsPrecedence};
+ghost use Rattle.history.specs.History.{IsHistory};
+ghost use Rattle.history.specs.Orders.{IsNew};
+ghost use Rattle.history.specs.Sweeps.{Ascends, AscendsTo};
+
+use crate::event::{Entry, Event};
+use crate::places::begins_at;
+use words::Client;
+
+/// Where the client's next call in the order may begin, after the entry at `i`; nothing where that stands too low.
+fn next_after(
+    events: &[Event],
+    entries: &[Entry],
+    client: Client,
+    i: usize,
+    next: usize,
+) -> Option<usize>
+    requires within { i < length entries.now }
+    requires calls { All (λ entry. entry.place < length events.now) entries.now }
+    requires so_far { AscendsTo events.now entries.now client i next }
+    ensures some { IfSome result (λ after. AscendsTo events.now entries.now client (i + 1) after) }
+    ensures none { IfNone result (Ascends events.now entries.now client → ⊥) }
+{
+    let place = entries[i].place;
+    if !begins_at(events, client, place) {
+        return Some(next);
+    }
+    if place < next {
+        return None;
+    }
+    Some(place + 1)
+}
+
+/// Whether the client's calls stand in the order in ascending places.
+fn ascends(events: &[Event], entries: &[Entry], client: Client) -> bool
+    requires { All (λ entry. entry.place < length events.now) entries.now }
+    ensures { IsTrue result ↔ Ascends events.now entries.now client }
+{
+    let mut next = 0;
+    for i in 0..entries.len() {
+        let Some(after) = next_after(events, entries, client, i, next) else {
+            return false;
+        };
+        next = after;
+    }
+    true
+}
+
+/// Whether no call is named twice, in the order of a history that may arise which keeps precedence: then each client's
+/// calls stand in ascending places.
+pub(crate) fn names_once(events: &[Event], entries: &[Entry]) -> bool
+    requires calls { All (λ entry. entry.place < length events.now) entries.now }
+    requires names { All (λ entry. IsSome (call_at events.now entry.place)) entries.now }
+    requires history { IsHistory events.now }
+    requires precedence { KeepsPrecedence events.now entries.now }
+    ensures { IsTrue result ↔ EachIndex entries.now (λ i. IsNew entries.now i) }
+{
+    for t in 0..16u8 {
+        if !ascends(events, entries, Client(t)) {
+            return false;
+        }
+    }
+    true
+}

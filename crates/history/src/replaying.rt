@@ -1,0 +1,174 @@
+//! The replay of an order on a plain queue.
+
+ghost use Rattle.std.specs.Prelude.{◌≡◌, ◌<◌, ◌≤◌, ◌↔◌, ◌++◌, length, IsTrue, IfOk, IfErr, MatchResult, slice_get, drop};
+ghost use Rattle.words.specs.PlainQueue.{reply_of, served};
+ghost use Rattle.history.specs.Counting.{put_all, taken_by};
+ghost use Rattle.history.specs.Replay.{call_at, left_by, queue_after, IsServed, Replays, IsFirstWrong};
+
+use crate::event::{Entry, Event, History, Order};
+use std::alloc::{AllocError, Global};
+use words::{Call, Refusal, Reply};
+
+/// The call that begins at `p`, if one does.
+pub(crate) fn named_call(events: &[Event], p: usize) -> Option<Call>
+    ensures { result ≡ call_at events.now p }
+{
+    match events.get(p) {
+        Some(Event::Call { call, .. }) => Some(*call),
+        _ => None,
+    }
+}
+
+/// What the queue answers to the call.
+fn answer(queue: &mut Vec<u32>, call: Call) -> Result<Reply, AllocError>
+    ensures left { IfOk result (λ reply. queue.new.items ≡ served queue.old.items call) }
+    ensures reply { IfOk result (λ reply. reply ≡ reply_of queue.old.items call) }
+{
+    match call {
+        Call::Enq(value) => {
+            queue.push(value)?;
+            Ok(Reply::Done)
+        }
+        Call::Deq => {
+            if queue.is_empty() {
+                Ok(Reply::Empty)
+            } else {
+                Ok(Reply::Got(queue.remove(0)))
+            }
+        }
+    }
+}
+
+/// Serves the call of the entry, and says whether the entry names one and has the queue's reply.
+fn is_served(queue: &mut Vec<u32>, events: &[Event], entry: &Entry) -> Result<bool, AllocError>
+    ensures served { IfOk result (λ yes. IsTrue yes ↔ IsServed events.now queue.old.items entry.now) }
+    ensures left { IfOk result (λ yes. IsTrue yes → queue.new.items ≡
+        left_by queue.old.items (call_at events.now entry.now.place)) }
+{
+    let Some(call) = named_call(events, entry.place) else {
+        return Ok(false);
+    };
+    let reply = answer(queue, call)?;
+    Ok(reply == entry.reply)
+}
+
+/// What the plain queue leaves from the base, or the place of the first wrong entry.
+fn replay_from(
+    alloc: Global,
+    events: &[Event],
+    base: &[u32],
+    entries: &[Entry],
+) -> Result<Result<Vec<u32>, usize>, AllocError>
+    ensures { IfOk result (λ answer. MatchResult answer
+        (λ left. Replays events.now base.now entries.now × (left.items ≡ queue_after events.now base.now entries.now))
+        (λ i. IsFirstWrong events.now base.now entries.now i)) }
+{
+    let mut queue = Vec::from_slice(alloc, base)?;
+    for (i, entry) in entries.iter().enumerate() {
+        if !is_served(&mut queue, events, entry)? {
+            return Ok(Err(i));
+        }
+    }
+    Ok(Ok(queue))
+}
+
+/// What the plain queue leaves from the base, or the index of the first entry that names no call or has another reply
+/// than the plain queue's. NoMemory where it was refused for what is left.
+pub fn replay(
+    alloc: Global,
+    history: &History,
+    order: &Order,
+) -> Result<Result<Vec<u32>, usize>, Refusal>
+    ensures replay { IfOk result (λ answer. MatchResult answer
+        (λ left. Replays history.now.events.items history.now.base.items order.now.entries.items
+        × (left.items ≡ queue_after history.now.events.items history.now.base.items order.now.entries.items))
+        (λ i. IsFirstWrong history.now.events.items history.now.base.items order.now.entries.items i)) }
+    ensures errors { IfErr result (λ e. e ≡ Refusal.NoMemory) }
+{
+    let events = history.events.as_slice();
+    match replay_from(
+        alloc,
+        events,
+        history.base.as_slice(),
+        order.entries.as_slice(),
+    ) {
+        Ok(answer) => Ok(answer),
+        Err(_) => Err(Refusal::NoMemory),
+    }
+}
+
+/// How many values the reply takes out of the queue.
+pub(crate) fn taken_by_reply(reply: Reply) -> usize
+    ensures value { result ≡ taken_by reply }
+    ensures few { result ≤ 1 }
+{
+    match reply {
+        Reply::Got(_) => 1,
+        _ => 0,
+    }
+}
+
+/// The n-th of the values that were ever in the queue.
+fn value_at(events: &[Event], base: &[u32], before: &[Entry], n: usize) -> Option<u32>
+    ensures { result ≡ slice_get (base.now ++ put_all events.now before.now) n }
+{
+    if n < base.len() {
+        return Some(base[n]);
+    }
+    let mut skip = n - base.len();
+    for entry in before {
+        if let Some(Call::Enq(value)) = named_call(events, entry.place) {
+            if skip == 0 {
+                return Some(value);
+            }
+            skip -= 1;
+        }
+    }
+    None
+}
+
+/// The queue's reply to a call, where `taken` values were taken out before.
+fn reply_after(events: &[Event], base: &[u32], before: &[Entry], taken: usize, call: Call) -> Reply
+    requires { queue_after events.now base.now before.now ≡ drop taken (base.now ++ put_all events.now before.now) }
+    ensures { result ≡ reply_of (queue_after events.now base.now before.now) call }
+{
+    match call {
+        Call::Enq(_) => Reply::Done,
+        Call::Deq => match value_at(events, base, before, taken) {
+            None => Reply::Empty,
+            Some(value) => Reply::Got(value),
+        },
+    }
+}
+
+/// Whether the entry has the queue's reply, where `taken` values were taken out before.
+fn is_served_after(
+    events: &[Event],
+    base: &[u32],
+    before: &[Entry],
+    taken: usize,
+    entry: &Entry,
+) -> bool
+    requires { queue_after events.now base.now before.now ≡ drop taken (base.now ++ put_all events.now before.now) }
+    ensures { IsTrue result ↔ IsServed events.now (queue_after events.now base.now before.now) entry.now }
+{
+    match named_call(events, entry.place) {
+        None => false,
+        Some(call) => entry.reply == reply_after(events, base, before, taken, call),
+    }
+}
+
+/// Whether the replay gives every reply. It takes no memory: what the queue holds is what was ever put into it,
+/// without as many values as were taken out.
+pub(crate) fn replays(events: &[Event], base: &[u32], entries: &[Entry]) -> bool
+    ensures { IsTrue result ↔ Replays events.now base.now entries.now }
+{
+    let mut taken = 0;
+    for i in 0..entries.len() {
+        if !is_served_after(events, base, &entries[..i], taken, &entries[i]) {
+            return false;
+        }
+        taken += taken_by_reply(entries[i].reply);
+    }
+    true
+}

@@ -1,0 +1,279 @@
+//! What clients are told at a Ready.
+
+ghost use Rattle.std.specs.Prelude.{◌≡◌, ◌<◌, ◌≤◌, ◌↔◌, ◌⊎◌, Some, All, EachIndex, length, IsTrue, slice_get};
+ghost use Rattle.history.specs.Telling.{IsToldOf, BeginsTaken, HasNoneTaken, IsOutcome, IsRow, Says, IsToldCall};
+ghost use Rattle.history.specs.Telling.{IsToldSome, IsToldBase, TellsRightly, TellsAt, IsToldTaken};
+ghost use Rattle.history.specs.Telling.{IsToldIfInterrupted};
+
+use crate::event::{Entry, Event};
+use crate::ordering::{in_order, taken_as};
+use words::{Call, Client, Kind, Outcome, Reply, Row, Told, Verdict};
+
+/// Whether a client is told of such a call.
+pub(crate) fn is_told_of(kind: Kind, call: Call) -> bool
+    ensures { IsTrue result ↔ IsToldOf kind call }
+{
+    match call {
+        Call::Enq(_) => kind == Kind::Log,
+        Call::Deq => true,
+    }
+}
+
+/// Whether a call of the client that it may be told of begins at `p`, and is in the order.
+fn begins_taken(kind: Kind, events: &[Event], entries: &[Entry], client: Client, p: usize) -> bool
+    requires { p < length events.now }
+    ensures { IsTrue result ↔ BeginsTaken kind events.now entries.now client p }
+{
+    match events[p] {
+        Event::Call {
+            client: other,
+            call,
+            ..
+        } => other == client && is_told_of(kind, call) && in_order(entries, p),
+        _ => false,
+    }
+}
+
+/// Whether none of these calls from one place up to another is in the order.
+fn has_none_taken(
+    kind: Kind,
+    events: &[Event],
+    entries: &[Entry],
+    client: Client,
+    from: usize,
+    to: usize,
+) -> bool
+    requires { to ≤ length events.now }
+    ensures { IsTrue result ↔ HasNoneTaken kind events.now entries.now client from to }
+{
+    for p in from..to {
+        if begins_taken(kind, events, entries, client, p) {
+            return false;
+        }
+    }
+    true
+}
+
+/// Whether this is what became of the call at `p`.
+fn is_outcome(entries: &[Entry], p: usize, outcome: Outcome) -> bool
+    ensures { IsTrue result ↔ IsOutcome entries.now p outcome }
+{
+    match outcome {
+        Outcome::Taken(reply) => taken_as(entries, p, reply),
+        Outcome::NotTaken => !in_order(entries, p),
+    }
+}
+
+/// Whether this is what became of the dequeue at `p`.
+fn is_row(entries: &[Entry], p: usize, row: Row) -> bool
+    ensures { IsTrue result ↔ IsRow entries.now p row }
+{
+    match row {
+        Row::Got(value) => taken_as(entries, p, Reply::Got(value)),
+        Row::Empty => taken_as(entries, p, Reply::Empty),
+        Row::Open => !in_order(entries, p),
+        Row::NoCall => false,
+    }
+}
+
+/// Whether what is told says what became of the call at `p` with this number.
+fn says(kind: Kind, entries: &[Entry], p: usize, number: u64, told: Told) -> bool
+    ensures { IsTrue result ↔ Says kind entries.now p number told }
+{
+    match told {
+        Told::Verdict(verdict) => {
+            kind == Kind::Log && verdict.number == number && is_outcome(entries, p, verdict.outcome)
+        }
+        Told::Row(row) => kind == Kind::Durable && is_row(entries, p, row),
+        Told::None => false,
+    }
+}
+
+/// Whether the client is told of its call at `p`, and no later one before the Ready is in the order.
+fn is_told_call(
+    kind: Kind,
+    events: &[Event],
+    entries: &[Entry],
+    client: Client,
+    ready: usize,
+    told: Told,
+    p: usize,
+) -> bool
+    requires first { p < ready }
+    requires second { ready ≤ length events.now }
+    ensures { IsTrue result ↔ IsToldCall kind events.now entries.now client ready told p }
+{
+    match events[p] {
+        Event::Call {
+            client: other,
+            number,
+            call,
+        } => {
+            other == client
+                && is_told_of(kind, call)
+                && says(kind, entries, p, number, told)
+                && has_none_taken(kind, events, entries, client, p + 1, ready)
+        }
+        _ => false,
+    }
+}
+
+/// Whether the client is told of one of its calls begun before the Ready.
+fn is_told_some(
+    kind: Kind,
+    events: &[Event],
+    entries: &[Entry],
+    client: Client,
+    ready: usize,
+    told: Told,
+) -> bool
+    requires { ready ≤ length events.now }
+    ensures { IsTrue result ↔ IsToldSome kind events.now entries.now client ready told }
+{
+    for p in 0..ready {
+        if is_told_call(kind, events, entries, client, ready, told, p) {
+            return true;
+        }
+    }
+    false
+}
+
+/// Whether the client is told this.
+pub(crate) fn is_told(tells: &[Told; 16], client: Client, told: Told) -> bool
+    ensures { IsTrue result ↔ (slice_get tells.now client.0 ≡ Some told) }
+{
+    match tells.get(client.0 as usize) {
+        Some(other) => *other == told,
+        None => false,
+    }
+}
+
+/// Whether none of the client's calls before the Ready is in the order, and it is told what the base tells.
+fn is_told_base(
+    kind: Kind,
+    base: &[Told; 16],
+    events: &[Event],
+    entries: &[Entry],
+    client: Client,
+    ready: usize,
+    told: Told,
+) -> bool
+    requires { ready ≤ length events.now }
+    ensures { IsTrue result ↔ IsToldBase kind base.now events.now entries.now client ready told }
+{
+    is_told(base, client, told) && has_none_taken(kind, events, entries, client, 0, ready)
+}
+
+/// Whether the client is told the one or the other.
+fn is_told_rightly(
+    kind: Kind,
+    base: &[Told; 16],
+    events: &[Event],
+    entries: &[Entry],
+    client: Client,
+    ready: usize,
+    told: Told,
+) -> bool
+    requires { ready ≤ length events.now }
+    ensures { IsTrue result ↔
+        IsToldSome kind events.now entries.now client ready told
+        ⊎ IsToldBase kind base.now events.now entries.now client ready told }
+{
+    is_told_some(kind, events, entries, client, ready, told)
+        || is_told_base(kind, base, events, entries, client, ready, told)
+}
+
+/// Whether each client is told the one or the other.
+fn tells_rightly(
+    kind: Kind,
+    base: &[Told; 16],
+    events: &[Event],
+    entries: &[Entry],
+    ready: usize,
+    tells: &[Told; 16],
+) -> bool
+    requires { ready ≤ length events.now }
+    ensures { IsTrue result ↔ TellsRightly kind base.now events.now entries.now ready tells.now }
+{
+    for t in 0..16u8 {
+        let told = tells[t as usize];
+        if !is_told_rightly(kind, base, events, entries, Client(t), ready, told) {
+            return false;
+        }
+    }
+    true
+}
+
+/// Whether a Ready that stands at `q` tells each client the one or the other.
+fn tells_at(kind: Kind, base: &[Told; 16], events: &[Event], entries: &[Entry], q: usize) -> bool
+    requires { q < length events.now }
+    ensures { IsTrue result ↔ TellsAt kind base.now events.now entries.now q }
+{
+    match events[q] {
+        Event::Ready { told } => tells_rightly(kind, base, events, entries, q, &told),
+        _ => true,
+    }
+}
+
+/// Whether each Ready tells each client the one or the other.
+pub(crate) fn tells_at_each_ready(
+    kind: Kind,
+    base: &[Told; 16],
+    events: &[Event],
+    entries: &[Entry],
+) -> bool
+    ensures { IsTrue result ↔ EachIndex events.now (λ q. TellsAt kind base.now events.now entries.now q) }
+{
+    for q in 0..events.len() {
+        if !tells_at(kind, base, events, entries, q) {
+            return false;
+        }
+    }
+    true
+}
+
+/// Whether the next Ready after `e`, where there is one, tells the client that the call took effect.
+fn is_told_taken(events: &[Event], client: Client, number: u64, reply: Reply, e: usize) -> bool
+    requires { e < length events.now }
+    ensures { IsTrue result ↔ IsToldTaken events.now client number reply e }
+{
+    for q in e + 1..events.len() {
+        if let Event::Ready { told } = events[q] {
+            return is_told(
+                &told,
+                client,
+                Told::Verdict(Verdict {
+                    number,
+                    outcome: Outcome::Taken(reply),
+                }),
+            );
+        }
+    }
+    true
+}
+
+/// Whether so it is, where a Crash ended the call of the entry.
+fn is_told_if_interrupted(events: &[Event], entry: &Entry) -> bool
+    ensures { IsTrue result ↔ IsToldIfInterrupted events.now entry.now }
+{
+    let Some(Event::Call { client, number, .. }) = events.get(entry.place).copied() else {
+        return true;
+    };
+    for k in entry.place + 1..events.len() {
+        match events[k] {
+            Event::Return { client: other, .. } if other == client => return true,
+            Event::Crash => return is_told_taken(events, client, number, entry.reply, k),
+            _ => {}
+        }
+    }
+    true
+}
+
+/// Whether so it is of every entry.
+pub(crate) fn tells_interrupted(events: &[Event], entries: &[Entry]) -> bool
+    ensures { IsTrue result ↔ All (λ entry. IsToldIfInterrupted events.now entry) entries.now }
+{
+    entries
+        .iter()
+        .all(|entry| is_told_if_interrupted(events, entry))
+}

@@ -1,0 +1,316 @@
+-- Each act keeps what holds of a world, and is the machine's.
+use Rattle.std.proofs.Common.{◌≡◌, ◌≢◌, ℕ, zero, suc, replicate, ◌<◌, ◌≤◌, inl, inr, Bool, true, false, if◌then◌else◌, ◌==◌, List, length, Option, Some, None, Result, Ok, Err, slice_get, slice_index, slice_index_or, slice_set, refl, sym, ap, ◌∙◌, subst, arith, get_or-set_other}
+use mathlib.Core.Path.{fun_ext}
+use Rattle.std.proofs.lemmas.Bool.Decides.{eqb_tells}
+use Rattle.std.proofs.lemmas.Grind.{get_or-set_at}
+use Rattle.std.proofs.lemmas.Option.{slice_get_within, get_or_from_slice_get}
+use Rattle.std.proofs.lemmas.Bool.Decides.{nat_tests}
+use Rattle.std.proofs.lemmas.Bool.{eqb-false}
+use Rattle.words.specs.declared.call.Call.{Call}
+use Rattle.words.specs.declared.call.Call.TheVariants.{Enq, Deq}
+use Rattle.words.specs.declared.call.Client.{Client}
+use Rattle.words.specs.declared.refusal.Refusal.{Refusal}
+use Rattle.words.specs.declared.refusal.Refusal.TheVariants.{StaleNumber}
+use Rattle.logqueue.specs.Numbers.{is_stale}
+use Rattle.words.specs.declared.call.Kind.{Kind}
+use Rattle.words.specs.declared.call.Kind.TheVariants.{Durable as durable_kind, Log as log_kind}
+use Rattle.persist.specs.Memory.{evicted as evicted_word}
+use Rattle.arena.specs.Laws.{IsLaidOut}
+use Rattle.arena.specs.declared.place.Place.{Place}
+use Rattle.arena.specs.Ranges.{Fits}
+use Rattle.arena.specs.Shape.{Shape}
+use Rattle.std.proofs.lemmas.List.{length-replicate}
+use Rattle.arena.specs.declared.place.Place.TheVariants.{Head, Tail, Announcement, Bump, Value, Next, Mark, Cell, Insert, Number, EntryKind, Status, EntryNode}
+use Rattle.stepper.specs.declared.After.{After}
+use Rattle.stepper.specs.declared.After.TheVariants.{More, Done}
+use Rattle.helping.specs.Table.{access_of}
+use Rattle.helping.specs.declared.op.Op.{Op}
+use Rattle.protocol.specs.Machine.{World, Memory, MayStart, MayStep, FitsKind, FitsCall, with_call, with_next, next_of, begun_of, call_begun, started, stepped, evicted, flushed, new_world as new_machine}
+use Rattle.protocol.specs.declared.UnderWay.{UnderWay}
+use Rattle.interleave.specs.Calls.{waiting_result, idle_result}
+use Rattle.interleave.specs.Holds.{Holds, IsExplained, Keeps, of_keeps, to_keeps}
+use Rattle.interleave.specs.Queue.{number_check, new_queue}
+use Rattle.interleave.specs.Ranges.{IsOfKind, IsSafe, IfCall}
+use Rattle.interleave.specs.Shown.{shown, shown_memory}
+use Rattle.interleave.specs.State.{State, Laid, new_world, as_machine, queue_left, gone_on, looked_at_bump, begun, used_by, number_of_idle, number_to_start, start_with, step_with, evict_with, after_start, after_step, after_evict, order_in}
+use Rattle.interleave.specs.declared.queue.Queue.{Queue}
+use Rattle.interleave.specs.declared.queue.Queue.TheVariants.{Durable, Log}
+use Rattle.interleave.proofs.InRange.{access_fits, at_place}
+use Rattle.history.specs.Parts.{IsPartOf}
+use Rattle.history.proofs.Members.{part_same}
+use Rattle.protocol.proofs.Facts.{inv_new, inv_started, inv_stepped, inv_evicted, explained, part_stepped, part_evicted}
+use Rattle.interleave.proofs.MachineFacts.{agreement}
+use Rattle.interleave.proofs.NoteLaws.{place_of_word}
+use Rattle.interleave.proofs.Safety.{call_fits as call_in_range, IsSafe-gone_on, IsSafe-begun, IsSafe-evicted}
+use Rattle.interleave.proofs.ShownLaws.{shown_accessed, shown_evicted, shown_at, shown_zero, zero_at}
+
+-- a client's place in the list of calls is its call
+pub calls_with : (calls : List (Option UnderWay)) (t : ℕ) (x : Option UnderWay) → t < length calls → (λ j. slice_index_or (slice_set calls t x) j None) ≡ with_call (λ j. slice_index_or calls j None) t x
+calls_with calls t x within = fun_ext (λ j. elim (eqb_tells j t) [
+  | inl e ↦ rw e.0 (get_or-set_at calls t j x None e.1 within)
+  | inr e ↦ rw e.0 (get_or-set_other calls t j x None e.1)
+])
+
+pub kind_left : (kind : Kind) (queue : Queue) (u : UnderWay) (a : After Op) → IsOfKind kind queue → IsOfKind kind (queue_left queue u a)
+kind_left kind queue u (More op) h = h
+kind_left durable_kind (Durable told) u (Done reply) h = h
+kind_left durable_kind (Log clients) u (Done reply) h = h
+kind_left log_kind (Durable told) u (Done reply) h = h
+kind_left log_kind (Log clients) u (Done reply) h = h
+
+-- a client that has a call waiting
+pub waiting_is : (o : Option (Option UnderWay)) (u : UnderWay) → waiting_result o ≡ Ok u → o ≡ Some (Some u)
+waiting_is None u e = cc
+waiting_is (Some None) u e = cc
+waiting_is (Some (Some v)) u e = let same : v ≡ u = cc in ap (λ x. Some (Some x)) same
+
+-- the number of a call that may start is of the queue's kind
+number_few : (kind : Kind) (number : ℕ) → FitsKind kind number → number ≤ 1099511627776
+number_few durable_kind number h = omega (arith, h)
+number_few log_kind number h = h.1
+
+value_few : (call : Call) → FitsCall call → (v : ℕ) → call ≡ Enq v → v ≤ 4294967295
+value_few (Enq value) h v e = let same : value ≡ v = cc in subst (λ n. n ≤ 4294967295) same h
+value_few Deq h v e = cc
+
+-- a call as its type has it
+pub call_fits : (call : Call) → ((v : ℕ) → call ≡ Enq v → v ≤ 4294967295) → FitsCall call
+call_fits (Enq value) h = h value refl
+call_fits Deq h = tt
+
+not_stale : (floor number : ℕ) → is_stale floor number ≡ false → (1 ≤ number) × (number ≤ 1099511627776)
+not_stale floor number h = grind (arith, nat_tests, h)
+
+number_of_queue : (kind : Kind) (queue : Queue) (client : Client) (number n : ℕ) → IsOfKind kind queue → number_check queue client number ≡ Ok n → FitsKind kind n
+number_of_queue durable_kind (Durable told) client number n h e = cc
+number_of_queue log_kind (Log clients) client number n h e = go (is_stale (slice_index clients.floors client.0) number) refl e
+  where
+    go : (b : Bool) → is_stale (slice_index clients.floors client.0) number ≡ b → (let r : Result ℕ Refusal = if b then Err StaleNumber else Ok number in r) ≡ Ok n → FitsKind log_kind n
+    go true s e2 = cc
+    go false s e2 = let same : number ≡ n = cc in subst (FitsKind log_kind) same (not_stale (slice_index clients.floors client.0) number s)
+number_of_queue durable_kind (Log clients) client number n h e = absurd h
+number_of_queue log_kind (Durable told) client number n h e = absurd h
+
+number_fits_kind : (kind : Kind) (queue : Queue) (client : Client) (number n : ℕ) (o : Option (Option UnderWay)) → IsOfKind kind queue → number_of_idle queue client number (idle_result o) ≡ Ok n → (o ≡ Some None) × FitsKind kind n
+number_fits_kind kind queue client number n None h e = cc
+number_fits_kind kind queue client number n (Some None) h e = (refl, number_of_queue kind queue client number n h e)
+number_fits_kind kind queue client number n (Some (Some u)) h e = cc
+
+module _ {L : Type 0} (laid : Laid L) (laws : (l : L) → IsLaidOut (laid.shape l) (laid.word_of l) (laid.place_at l) (laid.size_of l)) where
+  -- the call that waits may step
+  pub may_step : (w : State L) (client : Client) (u : UnderWay) → slice_get w.calls client.0 ≡ Some (Some u) → MayStep (as_machine laid w) client u
+  may_step w client u here = record { ready = refl; waits = get_or_from_slice_get w.calls client.0 (Some u) None here }
+
+  -- a step of a world is the machine's
+  pub gone_on_is : (w : State L) (client : Client) (u : UnderWay) → Holds laid w → slice_get w.calls client.0 ≡ Some (Some u) → as_machine laid (gone_on laid w client u) ≡ stepped (as_machine laid w) client u
+  gone_on_is w client u holds here =
+      let s = laid.shape w.layout in
+      let a = access_of s.kind u.op in
+      let fits = call_in_range s (laid.word_of w.layout) (laid.size_of w.layout) w.words w.calls client.0 u holds.safe here in
+      let memory = shown_accessed s (laid.word_of w.layout) (laid.place_at w.layout) (laid.size_of w.layout) (laws w.layout) w.words a (at_place s a (access_fits s s.kind u.op refl fits.point)) holds.safe.words.room (omega (arith, holds.safe.words.room, holds.safe.words.same)) in
+      let calls = calls_with w.calls client.0 (with_next u (next_of (as_machine laid w) u)) (slice_get_within w.calls client.0 (Some u) here) in
+      ap (λ (m : Memory). let x : World = record (as_machine laid (gone_on laid w client u)) { memory = m } in x) memory
+      ∙ ap (λ (f : ℕ → Option UnderWay). let x : World = record (stepped (as_machine laid w) client u) { calls = f } in x) calls
+
+  pub holds_gone_on : (w : State L) (client : Client) (u : UnderWay) → Holds laid w → slice_get w.calls client.0 ≡ Some (Some u) → Holds laid (gone_on laid w client u)
+  holds_gone_on w client u holds here = record {
+    safe = IsSafe-gone_on (laid.shape w.layout) (laid.word_of w.layout) (laid.place_at w.layout) (laid.size_of w.layout) (laws w.layout) w.words w.calls w.base w.told w.log client.0 u holds.safe here;
+    kind = kind_left (laid.shape w.layout).kind w.queue u (next_of (as_machine laid w) u) holds.kind;
+    inv = subst Keeps (sym (gone_on_is w client u holds here)) (to_keeps _ (inv_stepped (as_machine laid w) (of_keeps _ holds.inv) client u (may_step w client u here)));
+  }
+
+  -- a word that is counted is as it was
+  holds_counted : (w : State L) → Holds laid w → Holds laid (looked_at_bump w)
+  holds_counted w holds = record {
+    safe = record {
+      words = record { room = holds.safe.words.room; same = holds.safe.words.same; cached = holds.safe.words.cached; kept = holds.safe.words.kept };
+      clients = holds.safe.clients;
+      few = holds.safe.few;
+      calls_fit = holds.safe.calls_fit;
+    };
+    kind = holds.kind;
+    inv = holds.inv;
+  }
+
+  -- a start of a world is the machine's
+  begun_state_is : (w : State L) (client : Client) (number : ℕ) (call : Call) → slice_get w.calls client.0 ≡ Some None → as_machine laid (begun laid w client number call) ≡ started (as_machine laid w) client number call
+  begun_state_is w client number call idle =
+      let m = as_machine laid w in
+      ap (λ (f : ℕ → Option UnderWay). let x : World = record (started m client number call) { calls = f } in x)
+      (calls_with w.calls client.0 (Some (call_begun m (begun_of m client number call))) (slice_get_within w.calls client.0 None idle))
+
+  may_start : (w : State L) (client : Client) (number : ℕ) (call : Call) → Holds laid w → slice_get w.calls client.0 ≡ Some None → used_by laid w client ≢ (laid.shape w.layout).records → FitsKind (laid.shape w.layout).kind number → FitsCall call → MayStart (as_machine laid w) client number call
+  may_start w client number call holds idle left number_fits call_fits =
+      let s = laid.shape w.layout in
+      let client_in : client.0 < s.clients = omega (arith, slice_get_within w.calls client.0 None idle, holds.safe.clients) in
+      let used = shown_at s (laid.word_of w.layout) w.words.cached (Bump client) client_in in
+      let few : slice_index w.words.cached (laid.word_of w.layout (Bump client)) ≤ s.records = holds.safe.words.cached (Bump client) client_in in
+      record {
+        ready = refl;
+        is_client = client_in;
+        idle = get_or_from_slice_get w.calls client.0 None None idle;
+        record_left = omega (arith, used, few, left);
+        number_fits = number_fits;
+        call_fits = call_fits;
+      }
+
+  holds_begun : (w : State L) (client : Client) (number : ℕ) (call : Call) → Holds laid w → slice_get w.calls client.0 ≡ Some None → used_by laid w client ≢ (laid.shape w.layout).records → FitsKind (laid.shape w.layout).kind number → FitsCall call → Holds laid (begun laid w client number call)
+  holds_begun w client number call holds idle left number_fits call_fits =
+      let s = laid.shape w.layout in
+      let within = slice_get_within w.calls client.0 None idle in
+      let may = may_start w client number call holds idle left number_fits call_fits in
+      let safe = IsSafe-begun s (laid.word_of w.layout) (laid.place_at w.layout) (laid.size_of w.layout) (laws w.layout) w.words w.calls client (used_by laid w client) number (length w.log.events) call holds.safe within may.record_left (number_few s.kind number number_fits) (value_few call call_fits) in
+      record {
+        safe = record {
+          words = record { room = safe.words.room; same = safe.words.same; cached = safe.words.cached; kept = safe.words.kept };
+          clients = safe.clients;
+          few = safe.few;
+          calls_fit = safe.calls_fit;
+        };
+        kind = holds.kind;
+        inv = subst Keeps (sym (begun_state_is w client number call idle)) (to_keeps _ (inv_started (as_machine laid w) (of_keeps _ holds.inv) client number call may));
+      }
+
+  -- whatever a start answers
+  pub holds_after_start : (full : Bool) (w : State L) (client : Client) (number : ℕ) (call : Call) → Holds laid w → FitsCall call → Holds laid (after_start laid full w client number call)
+  holds_after_start full w client number call holds fits = from_check (number_to_start w client number) refl
+    where
+      started_if : (n : ℕ) → slice_get w.calls client.0 ≡ Some None → FitsKind (laid.shape w.layout).kind n → (no_room : Bool) → (used_by laid w client == (laid.shape w.layout).records) ≡ no_room → Holds laid (if no_room then looked_at_bump w else (if full then looked_at_bump w else begun laid w client n call))
+      started_if n idle number_fits true e = holds_counted w holds
+      started_if n idle number_fits false e = by_memory full
+        where
+          by_memory : (f : Bool) → Holds laid (if f then looked_at_bump w else begun laid w client n call)
+          by_memory true = holds_counted w holds
+          by_memory false = holds_begun w client n call holds idle (eqb-false _ _ e) number_fits fits
+
+      from_check : (r : Result ℕ Refusal) → number_to_start w client number ≡ r → Holds laid (start_with laid full w client call r)
+      from_check (Err refusal) e = holds
+      from_check (Ok n) e =
+          let found = number_fits_kind (laid.shape w.layout).kind w.queue client number n (slice_get w.calls client.0) holds.kind e in
+          started_if n found.0 found.1 (used_by laid w client == (laid.shape w.layout).records) refl
+
+  -- whatever a step answers
+  pub holds_after_step : (full : Bool) (w : State L) (client : Client) → Holds laid w → Holds laid (after_step laid full w client)
+  holds_after_step full w client holds = from_waiting (waiting_result (slice_get w.calls client.0)) refl
+    where
+      from_waiting : (r : Result UnderWay Refusal) → waiting_result (slice_get w.calls client.0) ≡ r → Holds laid (step_with laid full w client r)
+      from_waiting (Err refusal) e = holds
+      from_waiting (Ok u) e = by_memory full
+        where
+          by_memory : (f : Bool) → Holds laid (if f then w else gone_on laid w client u)
+          by_memory true = holds
+          by_memory false = holds_gone_on w client u holds (waiting_is _ u e)
+
+  -- an eviction of a world is the machine's
+  evicted_is : (w : State L) (word : ℕ) (p : Place) → Holds laid w → laid.place_at w.layout word ≡ Some p → as_machine laid (evict_with laid w word (Some p)) ≡ evicted (as_machine laid w) p
+  evicted_is w word p holds named =
+      let s = laid.shape w.layout in
+      let at = place_of_word s (laid.word_of w.layout) (laid.place_at w.layout) (laid.size_of w.layout) (laws w.layout) word p named in
+      let memory : shown_memory s (laid.word_of w.layout) (evicted_word word w.words) ≡ flushed (shown_memory s (laid.word_of w.layout) w.words) p =
+      ap (λ (v : ℕ). shown_memory s (laid.word_of w.layout) (evicted_word v w.words)) (sym at.1)
+      ∙ shown_evicted s (laid.word_of w.layout) (laid.place_at w.layout) (laid.size_of w.layout) (laws w.layout) w.words p at.0 (omega (arith, holds.safe.words.room, holds.safe.words.same)) in
+      ap (λ (m : Memory). let x : World = record (evicted (as_machine laid w) p) { memory = m } in x) memory
+
+  pub holds_after_evict : (w : State L) (word : ℕ) → Holds laid w → Holds laid (after_evict laid w word)
+  holds_after_evict w word holds = from_place (laid.place_at w.layout word) refl
+    where
+      from_place : (o : Option Place) → laid.place_at w.layout word ≡ o → Holds laid (evict_with laid w word o)
+      from_place None e = holds
+      from_place (Some p) e =
+          let s = laid.shape w.layout in
+          let at = place_of_word s (laid.word_of w.layout) (laid.place_at w.layout) (laid.size_of w.layout) (laws w.layout) word p e in
+          let safe = IsSafe-evicted s (laid.word_of w.layout) (laid.place_at w.layout) (laid.size_of w.layout) (laws w.layout) w.words w.calls p at.0 holds.safe in
+          record {
+            safe = subst (λ v. IsSafe s (laid.word_of w.layout) (laid.size_of w.layout) (evicted_word v w.words) w.calls) at.1 safe;
+            kind = holds.kind;
+            inv = subst Keeps (sym (evicted_is w word p holds e)) (to_keeps _ (inv_evicted (as_machine laid w) (of_keeps _ holds.inv) p));
+          }
+
+  -- at every moment the order explains the history, and the kept words hold what its replay leaves
+  pub explained_world : (w : State L) → Holds laid w → IsExplained laid w
+  explained_world w holds =
+      let e = explained (as_machine laid w) (of_keeps _ holds.inv) in
+      record { history = e.0; explains = e.1; agrees = agreement (as_machine laid w) (of_keeps _ holds.inv) }
+
+  -- nothing that stands in the order is taken back
+  pub part_after_start : (full : Bool) (w : State L) (client : Client) (number : ℕ) (call : Call) → order_in (after_start laid full w client number call) ≡ order_in w
+  part_after_start full w client number call = from_check (number_to_start w client number)
+    where
+      from_check : (r : Result ℕ Refusal) → order_in (start_with laid full w client call r) ≡ order_in w
+      from_check (Err refusal) = refl
+      from_check (Ok n) = both (used_by laid w client == (laid.shape w.layout).records) full
+        where
+          both : (a b : Bool) → order_in (if a then looked_at_bump w else (if b then looked_at_bump w else begun laid w client n call)) ≡ order_in w
+          both true b = refl
+          both false true = refl
+          both false false = refl
+
+  pub part_after_step : (full : Bool) (w : State L) (client : Client) → Holds laid w → IsPartOf (order_in w) (order_in (after_step laid full w client))
+  part_after_step full w client holds = from_waiting (waiting_result (slice_get w.calls client.0)) refl
+    where
+      from_waiting : (r : Result UnderWay Refusal) → waiting_result (slice_get w.calls client.0) ≡ r → IsPartOf (order_in w) (order_in (step_with laid full w client r))
+      from_waiting (Err refusal) e = part_same (order_in w)
+      from_waiting (Ok u) e = by_memory full
+        where
+          by_memory : (f : Bool) → IsPartOf (order_in w) (order_in (if f then w else gone_on laid w client u))
+          by_memory true = part_same (order_in w)
+          by_memory false = part_stepped (as_machine laid w) (of_keeps _ holds.inv) client u (may_step w client u (waiting_is _ u e))
+
+  pub part_after_evict : (w : State L) (word : ℕ) → Holds laid w → IsPartOf (order_in w) (order_in (after_evict laid w word))
+  part_after_evict w word holds = from_place (laid.place_at w.layout word)
+    where
+      from_place : (o : Option Place) → IsPartOf (order_in w) (order_in (evict_with laid w word o))
+      from_place None = part_same (order_in w)
+      from_place (Some p) = part_evicted (as_machine laid w) (of_keeps _ holds.inv) p
+
+  -- a new world
+  fits_zero : (s : Shape) (p : Place) → Fits s p 0
+  fits_zero s Head = omega arith
+  fits_zero s Tail = omega arith
+  fits_zero s (Announcement t) = omega arith
+  fits_zero s (Bump t) = omega arith
+  fits_zero s (Value n) = omega arith
+  fits_zero s (Next n) = omega arith
+  fits_zero s (Mark n) = omega arith
+  fits_zero s (Cell c) = omega arith
+  fits_zero s (Insert n) = omega arith
+  fits_zero s (Number e) = omega arith
+  fits_zero s (EntryKind e) = omega arith
+  fits_zero s (Status e) = omega arith
+  fits_zero s (EntryNode e) = omega arith
+
+  no_call : (n t : ℕ) → slice_index_or (replicate n (let x : Option UnderWay = None in x)) t None ≡ None
+  no_call zero t = refl
+  no_call (suc n) zero = refl
+  no_call (suc n) (suc t) = no_call n t
+
+  new_is : (layout : L) → as_machine laid (new_world laid layout) ≡ new_machine (laid.shape layout) (new_world laid layout).told
+  new_is layout =
+      let s = laid.shape layout in
+      let words : shown s (laid.word_of layout) (replicate (laid.size_of layout) 0) ≡ (λ p. 0) = shown_zero s (laid.word_of layout) (laid.size_of layout) in
+      let calls : (λ (j : ℕ). slice_index_or (replicate s.clients (let x : Option UnderWay = None in x)) j None) ≡ (λ j. None) = fun_ext (no_call s.clients) in
+      let w : World = new_machine s (new_world laid layout).told in
+      ap (λ (f : Place → ℕ). let x : World = record (as_machine laid (new_world laid layout)) { memory = record { cached = f; kept = f } } in x) words
+      ∙ ap (λ (f : ℕ → Option UnderWay). let x : World = record w { calls = f } in x) calls
+
+  pub holds_new : (layout : L) → (laid.shape layout).clients ≤ 16 → IsOfKind (laid.shape layout).kind (new_queue (laid.shape layout).kind (laid.shape layout).clients) → Holds laid (new_world laid layout)
+  holds_new layout few kind =
+      let s = laid.shape layout in
+      let size = laid.size_of layout in
+      let zeros : List ℕ = replicate size 0 in
+      let long : length zeros ≡ size = length-replicate size 0 in
+      let fit : (p : Place) → Fits s p (slice_index zeros (laid.word_of layout p)) = λ p. subst (Fits s p) (sym (zero_at size (laid.word_of layout p))) (fits_zero s p) in
+      record {
+        safe = record {
+          words = record { room = omega (arith, long); same = refl; cached = λ p at. fit p; kept = λ p at. fit p };
+          clients = length-replicate s.clients None;
+          few = few;
+          calls_fit = λ t. subst (IfCall s) (sym (no_call s.clients t)) tt;
+        };
+        kind = kind;
+        inv = subst Keeps (sym (new_is layout)) (to_keeps _ (inv_new s (new_world laid layout).told few));
+      }
+
+pub new_kind : (kind : Kind) (clients : ℕ) → IsOfKind kind (new_queue kind clients)
+new_kind durable_kind clients = tt
+new_kind log_kind clients = tt

@@ -1,0 +1,39 @@
+//! An eviction.
+
+ghost use Rattle.std.specs.Prelude.{◌≡◌, ◌≤◌, ◌<◌, length};
+ghost use Rattle.interleave.specs.Holds.{Holds};
+ghost use Rattle.interleave.specs.State.{after_evict, evict_result};
+ghost use Rattle.interleave.specs.Trace.{state_with};
+
+use crate::notice::notice;
+use crate::queue::Queue;
+use crate::trace::Trace;
+use arena::Layout;
+use persist::{Change, Memory};
+use protocol::UnderWay;
+use words::Refusal;
+
+/// The environment keeps a word. It takes no memory.
+pub(crate) fn evict_word<L: Layout>(
+    layout: &L,
+    memory: &mut Memory,
+    queue: &Queue,
+    calls: &[Option<UnderWay>],
+    trace: &mut Trace,
+    word: usize,
+) -> Result<Option<Change>, Refusal>
+    requires holds { Holds (record { shape = L.shape; word_of = L.word_of; place_at = L.place_at; size_of = L.size_of }) (state_with layout.now memory.old queue.now calls.now trace.old) }
+    ensures world { state_with layout.now memory.new queue.now calls.now trace.new
+        ≡ after_evict (record { shape = L.shape; word_of = L.word_of; place_at = L.place_at; size_of = L.size_of }) (state_with layout.now memory.old queue.now calls.now trace.old) word }
+    ensures result { result ≡ evict_result (record { shape = L.shape; word_of = L.word_of; place_at = L.place_at; size_of = L.size_of }) (state_with layout.now memory.old queue.now calls.now trace.old) word }
+    ensures room { trace.new.room ≡ trace.old.room }
+{
+    let Some(place) = layout.what_is(word) else {
+        return Err(Refusal::NoWord);
+    };
+    let change = memory.evict(word)?;
+    if let Some(change) = change {
+        notice(layout, memory, calls, trace, place, change.new);
+    }
+    Ok(change)
+}

@@ -1,0 +1,172 @@
+//! What a world keeps of what happened: the history, the records that calls took, and when calls took effect.
+
+ghost use Rattle.std.specs.Prelude.{◌≡◌, ◌<◌, ◌≤◌, ◌+◌, ◌++◌, [], ◌∷◌, length, IfOk, OnOk, OnErr, IfErr};
+ghost use Rattle.history.specs.Effects.{took_effect, forgotten, settled_at, order_of};
+ghost use Rattle.interleave.specs.Effects.{looked_at, AreInSequence};
+ghost use Rattle.history.specs.declared.event.Event.TheVariants.{Call as call_event, Return as return_event};
+
+use crate::effects::{forget, settle};
+use history::{Effect, Event, History, Sequence};
+use protocol::Issued;
+use std::alloc::{AllocError, Global};
+use std::marker::Model;
+use stepper::Begun;
+use words::{Client, Reply, Told};
+
+/// What happened in a world. Contracts see the history's events, the records that calls took, when calls took
+/// effect, and for how many acts more there is room.
+#[derive(Drop)]
+pub(crate) struct Trace {
+    history: History,
+    issued: Vec<Issued>,
+    effects: Vec<Effect>,
+}
+
+impl Model for Trace {
+    ghost use Rattle.std.specs.Prelude.{◌≤◌, ◌-◌, min, length, vec_len, vec_capacity};
+    ghost use Rattle.interleave.specs.Trace.{Traced};
+
+    ghost Value = { Traced };
+
+    ghost view = { λ t. record {
+      base = t.history.base.items;
+      told = t.history.told;
+      log = record { events = t.history.events.items; issued = t.issued.items; effects = t.effects.items };
+      room = min t.history.events.room (min (vec_capacity t.issued - vec_len t.issued) (vec_capacity t.effects - length t.history.events.items));
+    } };
+
+    ghost invariant = { λ t. length t.history.events.items ≤ vec_capacity t.effects };
+}
+
+impl Trace {
+    /// Nothing happened yet, to an empty queue of which clients are told this.
+    pub(crate) fn new(alloc: Global, told: [Told; 16]) -> Self
+        ensures base { result.base ≡ [] }
+        ensures told { result.told ≡ told }
+        ensures log { result.log ≡ record { events = []; issued = []; effects = [] } }
+    {
+        Trace {
+            history: History {
+                base: Sequence::new(alloc),
+                told,
+                events: Sequence::new(alloc),
+            },
+            issued: Vec::new(alloc),
+            effects: Vec::new(alloc),
+        }
+    }
+
+    /// The history. It takes no memory.
+    pub(crate) fn history(&self) -> &History
+        ensures base { result.now.base.items ≡ self.now.base }
+        ensures told { result.now.told ≡ self.now.told }
+        ensures events { result.now.events.items ≡ self.now.log.events }
+    {
+        &self.history
+    }
+
+    /// When calls took effect.
+    pub(crate) fn effects(&self) -> &[Effect]
+        ensures { result.now ≡ self.now.log.effects }
+    {
+        self.effects.as_slice()
+    }
+
+    /// How many events there are.
+    pub(crate) fn moment(&self) -> usize
+        ensures { result ≡ length self.now.log.events }
+    {
+        self.history.events.len()
+    }
+
+    /// Makes room for so many more events, each of which may begin a call.
+    pub(crate) fn reserve(&mut self, acts: usize) -> Result<(), AllocError>
+        requires { length self.old.log.effects ≤ length self.old.log.events }
+        ensures base { self.new.base ≡ self.old.base }
+        ensures told { self.new.told ≡ self.old.told }
+        ensures log { self.new.log ≡ self.old.log }
+        ensures kept { self.old.room ≤ self.new.room }
+        ensures room { OnOk result (acts ≤ self.new.room) }
+        ensures full { OnErr result (self.old.room < acts) }
+    {
+        let pending = self.history.events.len() - self.effects.len();
+        let Some(places) = pending.checked_add(acts) else {
+            return Err(AllocError);
+        };
+        self.history.events.reserve(acts)?;
+        self.issued.reserve(acts)?;
+        self.effects.reserve(places)
+    }
+
+    /// A client began a call.
+    pub(crate) fn begin(&mut self, begun: Begun)
+        requires { 0 < self.old.room }
+        ensures base { self.new.base ≡ self.old.base }
+        ensures told { self.new.told ≡ self.old.told }
+        ensures events { self.new.log.events ≡ self.old.log.events ++ call_event begun.client begun.number begun.call ∷ [] }
+        ensures issued { self.new.log.issued ≡ self.old.log.issued ++ record { place = length self.old.log.events; begun = begun } ∷ [] }
+        ensures effects { self.new.log.effects ≡ self.old.log.effects }
+        ensures room { self.old.room ≤ self.new.room + 1 }
+    {
+        let place = self.history.events.len();
+        self.history.events.push(Event::Call {
+            client: begun.client,
+            number: begun.number,
+            call: begun.call,
+        });
+        self.issued.push_reserved(Issued { place, begun });
+    }
+
+    /// A client's call was answered.
+    pub(crate) fn answer(&mut self, client: Client, reply: Reply)
+        requires { 0 < self.old.room }
+        ensures base { self.new.base ≡ self.old.base }
+        ensures told { self.new.told ≡ self.old.told }
+        ensures events { self.new.log.events ≡ self.old.log.events ++ return_event client reply ∷ [] }
+        ensures issued { self.new.log.issued ≡ self.old.log.issued }
+        ensures effects { self.new.log.effects ≡ self.old.log.effects }
+        ensures room { self.old.room ≤ self.new.room + 1 }
+    {
+        self.history.events.push(Event::Return { client, reply });
+    }
+
+    /// The call at the place takes effect, with this reply.
+    pub(crate) fn take(&mut self, place: usize, reply: Reply)
+        requires { length self.old.log.effects < length self.old.log.events }
+        ensures same { self.new ≡ record self.old { log = record self.old.log { effects = took_effect place reply (length self.old.log.events) self.old.log.effects } } }
+    {
+        let moment = self.history.events.len();
+        self.effects.push_reserved(Effect {
+            place,
+            reply,
+            moment,
+            settled: true,
+        });
+    }
+
+    /// The call at the place looks, and finds the queue empty or not. What it found before counts no more.
+    pub(crate) fn look(&mut self, place: usize, empty: bool)
+        requires sequence { AreInSequence self.old.log.effects }
+        requires room { length (looked_at place empty (length self.old.log.events) self.old.log.effects) ≤ length self.old.log.events }
+        ensures same { self.new ≡ record self.old { log = record self.old.log { effects = looked_at place empty (length self.old.log.events) self.old.log.effects } } }
+    {
+        let moment = self.history.events.len();
+        forget(&mut self.effects, place);
+        if empty {
+            self.effects.push_reserved(Effect {
+                place,
+                reply: Reply::Empty,
+                moment,
+                settled: false,
+            });
+        }
+    }
+
+    /// What the call at the place found counts.
+    pub(crate) fn settle(&mut self, place: usize)
+        requires { AreInSequence self.old.log.effects }
+        ensures same { self.new ≡ record self.old { log = record self.old.log { effects = settled_at place self.old.log.effects } } }
+    {
+        settle(&mut self.effects, place);
+    }
+}

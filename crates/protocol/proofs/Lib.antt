@@ -1,0 +1,16 @@
+pub mod Chains
+pub mod Links
+pub mod State
+pub mod Stable
+pub mod Puts
+pub mod Keeps
+pub mod Flushes
+pub mod Stores
+pub mod Preparations
+pub mod Rows
+pub mod Stages
+pub mod Moments
+pub mod Rebegun
+pub mod Acts
+pub mod Facts
+pub mod Bound

@@ -1,0 +1,338 @@
+-- What holds of a ready world at every moment, and how its log grows with a kept word.
+use Rattle.std.proofs.Common.{◌≡◌, ◌≢◌, ℕ, ◌≤◌, inl, inr, List, [], ◌∷◌, ◌++◌, length, map, drop, Bool, true, false, Option, Some, None, if◌then◌else◌, ◌==◌, refl, sym, ◌∙◌, ap, subst, arith}
+use Rattle.std.specs.Prelude.{slice_get, All}
+use Rattle.std.proofs.lemmas.Bool.{cases_eq, eqb-true, eqb-false}
+use Rattle.std.proofs.lemmas.List.Elements.{All-weaker}
+use mathlib.Core.Path.{fun_ext}
+use Rattle.words.specs.PlainQueue.{reply_of, served}
+use Rattle.words.specs.declared.call.Call.TheVariants.{Enq, Deq}
+use Rattle.words.specs.declared.call.Client.{Client}
+use Rattle.words.specs.declared.call.Kind.{Kind}
+use Rattle.words.specs.declared.call.Kind.TheVariants.{Durable, Log}
+use Rattle.words.specs.declared.call.Reply.{Reply}
+use Rattle.words.specs.declared.call.Reply.TheVariants.{Done, Got, Empty}
+use Rattle.words.specs.declared.call.Token.{Token}
+use Rattle.arena.specs.Chain.{IsFirst, IsAmong}
+use Rattle.arena.specs.Shape.{Shape, owner}
+use Rattle.arena.specs.Words.{links, marks, values}
+use Rattle.arena.specs.declared.place.Place.{Place}
+use Rattle.arena.specs.declared.place.Place.TheVariants.{Head, Tail, Announcement, Bump, Value, Next, Mark, Cell, Insert, Number, EntryKind, Status, EntryNode}
+use Rattle.stepper.specs.declared.prepare.Begun.{Begun}
+use Rattle.history.specs.Effects.{order_of, took_effect, found_empty, forgotten, settled_at}
+use Rattle.history.specs.History.{CallAt, IsOpenFrom, IsUnderWay, IsDown}
+use Rattle.history.specs.Log.{IsLog, IsPending, queue_of}
+use Rattle.history.specs.Parts.{IsPartOf}
+use Rattle.history.specs.Replay.{IsServed, call_at, call_of, left_by}
+use Rattle.history.specs.declared.event.Effect.{Effect}
+use Rattle.history.specs.declared.event.Event.{Event}
+use Rattle.history.specs.declared.event.Event.TheVariants.{Call as call_event}
+use Rattle.history.proofs.LogEffects.{took, found, forgot, settled}
+use Rattle.history.proofs.LogQueue.{queue_took, queue_found, queue_forgotten, queue_settled_at, part_took, part_found, part_forgotten}
+use Rattle.history.proofs.EffectLists.{part_settled_at}
+use Rattle.history.proofs.Members.{part_same, part_of_part}
+use Rattle.protocol.specs.Machine.{Memory, World, noticed, after_keeping, looked}
+use Rattle.protocol.specs.Machine.{took as took_by, counts}
+use Rattle.protocol.specs.declared.UnderWay.{UnderWay}
+use Rattle.protocol.proofs.Chains.{upd, upd_at, upd_other}
+use Rattle.protocol.proofs.Links.{kept_apart, kept_none, none_waiting}
+use Rattle.protocol.proofs.State.{Stage, Ledger, held, SaysEmpty, IsLinking, IsClaiming, IsAnswering, IsPassed, Before, Base, Knows}
+use Rattle.protocol.proofs.State.Stage.{Unmoved, Seen, Took}
+use Rattle.protocol.proofs.Keeps.{restaged, counted, noticed_ledger, kept_ledger}
+use Rattle.protocol.proofs.Flushes.{cell_says, status_says}
+use Rattle.protocol.proofs.Rows.{looked_stage}
+use Rattle.protocol.proofs.Stages.{stage_at, none_of_unmoved, stage_push_other, stage_push, unseen, stage_forgotten, stage_forgotten_other, stage_settled_other, stage_settled}
+
+-- the record of a call under way, or of none
+abbrev pub nobody : Begun
+nobody = record { client = record { 0 = 0 }; used = 0; token = record { 0 = 0 }; number = 0; call = Deq }
+
+abbrev pub record_of_call : Option UnderWay → Begun
+record_of_call (Some u) = u.begun
+record_of_call None = nobody
+
+abbrev pub stage_of : Option UnderWay → List Effect → Stage
+stage_of (Some u) effects = stage_at u.place effects
+stage_of None effects = Unmoved
+
+-- what a log says of each client's call
+abbrev pub ledger_from : (ℕ → Option UnderWay) → List Event → List ℕ → List Effect → Ledger
+ledger_from calls events base effects = record {
+  begun = λ i. record_of_call (calls i);
+  stage = λ i. stage_of (calls i) effects;
+  queue = queue_of events base effects;
+}
+
+abbrev pub ledger_of : World → Ledger
+ledger_of w = ledger_from w.calls w.log.events w.base w.log.effects
+
+-- the call stands in the history, and has no end yet
+pub record IsCalling (events : List Event) (i : ℕ) (u : UnderWay) : Type 0 where
+  pub who : u.begun.client.0 ≡ i
+  pub stands : CallAt events u.place u.begun.client u.begun.number u.begun.call
+  pub open_from : IsOpenFrom events u.begun.client (length events) u.place
+
+abbrev pub KnowsCall : Shape → Memory → Ledger → List Event → ℕ → Option UnderWay → Type 0
+KnowsCall s m l events i (Some u) = Knows s m l i u.op × IsCalling events i u
+KnowsCall s m l events i None = Unit {0}
+
+-- what holds of a ready world at every moment
+pub record Working (w : World) : Type 0 where
+  pub ready : w.recovery ≡ None
+  pub sixteen : w.shape.clients ≤ 16
+  pub claimed : List ℕ
+  pub waiting : List ℕ
+  pub base : Base w.shape w.memory (ledger_of w) claimed waiting
+  pub calls : (i : ℕ) → KnowsCall w.shape w.memory (ledger_of w) w.log.events i (w.calls i)
+  pub idle : (client : Client) → w.calls client.0 ≡ None → IsUnderWay w.log.events client (length w.log.events) → ⊥
+  pub up : IsDown w.log.events (length w.log.events) → ⊥
+  pub log : IsLog w.shape.kind w.base w.told w.log.events w.log.effects
+
+-- the log with other effects
+pub record Noted (w : World) (effects : List Effect) (k : Ledger) : Type 0 where
+  pub log : IsLog w.shape.kind w.base w.told w.log.events effects
+  pub same : ledger_from w.calls w.log.events w.base effects ≡ k
+  pub part : IsPartOf (order_of w.log.effects) (order_of effects)
+
+served_deq : (queue : List ℕ) → served queue Deq ≡ drop 1 queue
+served_deq [] = refl
+served_deq (x ∷ xs) = refl
+
+reply_deq : (queue : List ℕ) (values : ℕ → ℕ) (waiting : List ℕ) (n : ℕ) → map values waiting ≡ queue → IsFirst n waiting → Got (values n) ≡ reply_of queue Deq
+reply_deq queue values [] n e h = absurd h
+reply_deq queue values (x ∷ xs) n e h = subst (λ q. Got (values n) ≡ reply_of q Deq) e (ap (λ y. Got (values y)) h)
+
+module _ (w : World) (v : Working w) where
+  -- what a call under way knows, and where it stands
+  pub calling : (i : ℕ) (u : UnderWay) → w.calls i ≡ Some u → Knows w.shape w.memory (ledger_of w) i u.op × IsCalling w.log.events i u
+  calling i u e = subst (KnowsCall w.shape w.memory (ledger_of w) w.log.events i) e (v.calls i)
+
+  -- calls of two clients stand at two places
+  pub places_apart : (i j : ℕ) (u x : UnderWay) → w.calls i ≡ Some u → w.calls j ≡ Some x → i ≢ j → u.place ≢ x.place
+  places_apart i j u x e f ne at =
+      let c : IsCalling w.log.events i u = (calling i u e).1 in
+      let d : IsCalling w.log.events j x = (calling j x f).1 in
+      let same : Some (call_event u.begun.client u.begun.number u.begun.call) ≡ Some (call_event x.begun.client x.begun.number x.begun.call) =
+      sym c.stands ∙ ap (slice_get w.log.events) at ∙ d.stands in
+      let who : u.begun.client ≡ x.begun.client = cc in
+      ne (sym c.who ∙ ap (λ y. y.0) who ∙ d.who)
+
+  call_stands : (i : ℕ) (u : UnderWay) → w.calls i ≡ Some u → call_at w.log.events u.place ≡ Some u.begun.call
+  call_stands i u e = ap call_of (calling i u e).1.stands
+
+  -- effects that differ in one client's call alone
+  restaged_by : (o : ℕ) (u : UnderWay) (effects : List Effect) (st : Stage) (queue : List ℕ) → w.calls o ≡ Some u → stage_at u.place effects ≡ st
+      → ((q : ℕ) → q ≢ u.place → stage_at q effects ≡ stage_at q w.log.effects) → queue_of w.log.events w.base effects ≡ queue
+      → ledger_from w.calls w.log.events w.base effects ≡ restaged (ledger_of w) o st queue
+  restaged_by o u effects st queue at now others same =
+      let stages : (λ j. stage_of (w.calls j) effects) ≡ upd (λ j. stage_of (w.calls j) w.log.effects) o st = fun_ext (λ j. elim (cases_eq j o) [
+        | inl e ↦ ap (λ c. stage_of c effects) (ap w.calls e ∙ at) ∙ now ∙ sym (upd_at (λ i. stage_of (w.calls i) w.log.effects) o st j e)
+        | inr ne ↦ go j ne (w.calls j) refl ∙ sym (upd_other (λ i. stage_of (w.calls i) w.log.effects) o st j ne)
+      ]) in
+      ap (λ (f : ℕ → Stage). let k : Ledger = record { begun = λ i. record_of_call (w.calls i); stage = f; queue = queue_of w.log.events w.base effects } in k) stages
+      ∙ ap (λ (q : List ℕ). let k : Ledger = record { begun = λ i. record_of_call (w.calls i); stage = upd (λ j. stage_of (w.calls j) w.log.effects) o st; queue = q } in k) same
+    where
+      go : (j : ℕ) → j ≢ o → (c : Option UnderWay) → w.calls j ≡ c → stage_of c effects ≡ stage_of c w.log.effects
+      go j ne None e = refl
+      go j ne (Some x) e = others x.place (places_apart j o x u e at ne)
+
+  -- whose token the ledger has, that call is under way
+  pub holder : (i c : ℕ) → c ≢ 0 → held (ledger_of w) i ≡ c → (u : UnderWay) × (w.calls i ≡ Some u)
+  holder i c some h = go (w.calls i) refl h
+    where
+      go : (x : Option UnderWay) → w.calls i ≡ x → (record_of_call x).token.0 ≡ c → (u : UnderWay) × (w.calls i ≡ Some u)
+      go None e q = absurd (some (sym q))
+      go (Some u) e q = (u, e)
+
+  -- the stage of a call that is not that of an idle client
+  stager : (i : ℕ) → (ledger_of w).stage i ≡ Seen → (u : UnderWay) × (w.calls i ≡ Some u)
+  stager i h = go (w.calls i) refl h
+    where
+      go : (x : Option UnderWay) → w.calls i ≡ x → stage_of x w.log.effects ≡ Seen → (u : UnderWay) × (w.calls i ≡ Some u)
+      go None e q = absurd (cc)
+      go (Some u) e q = (u, e)
+
+  pub nothing_noted : Noted w w.log.effects (ledger_of w)
+  nothing_noted = record { log = v.log; same = refl; part = part_same (order_of w.log.effects) }
+
+  -- a call takes effect
+  took_noted : (o : ℕ) (u : UnderWay) (reply : Reply) (queue : List ℕ) → w.calls o ≡ Some u → (ledger_of w).stage o ≡ Unmoved → reply ≡ reply_of (ledger_of w).queue u.begun.call
+      → served (ledger_of w).queue u.begun.call ≡ queue
+      → Noted w (took_by reply (length w.log.events) (w.calls o) w.log.effects) (restaged (ledger_of w) o (Took reply) queue)
+  took_noted o u reply queue at unmoved right left =
+      let es : List Effect = took_effect u.place reply (length w.log.events) w.log.effects in
+      let c : IsCalling w.log.events o u = (calling o u at).1 in
+      let none : stage_at u.place w.log.effects ≡ Unmoved = sym (ap (λ x. stage_of x w.log.effects) at) ∙ unmoved in
+      let x : Effect = record { place = u.place; reply = reply; moment = length w.log.events; settled = true } in
+      let log : IsLog w.shape.kind w.base w.told w.log.events (took_effect u.place reply (length w.log.events) w.log.effects) =
+      took w.shape.kind w.base w.told w.log.events w.log.effects u.begun.client u.place reply v.log c.open_from (none_of_unmoved u.place w.log.effects none)
+      (record { call = u.begun.call; names = call_stands o u at; reply = right }) in
+      let queue_is : queue_of w.log.events w.base (took_effect u.place reply (length w.log.events) w.log.effects) ≡ queue =
+      queue_took w.log.events w.base w.log.effects u.place reply (length w.log.events) ∙ ap (left_by (ledger_of w).queue) (call_stands o u at) ∙ left in
+      let same : ledger_from w.calls w.log.events w.base (took_effect u.place reply (length w.log.events) w.log.effects) ≡ restaged (ledger_of w) o (Took reply) queue =
+      restaged_by o u (took_effect u.place reply (length w.log.events) w.log.effects) (Took reply) queue at
+      (stage_push u.place w.log.effects (record { place = u.place; reply = reply; moment = length w.log.events; settled = true }) refl none)
+      (λ q ne. stage_push_other q w.log.effects (record { place = u.place; reply = reply; moment = length w.log.events; settled = true }) (λ e. ne (sym e))) queue_is in
+      subst (λ y. Noted w (took_by reply (length w.log.events) y w.log.effects) (restaged (ledger_of w) o (Took reply) queue)) (sym at)
+      (record { log = log; same = same; part = part_took w.log.effects u.place reply (length w.log.events) })
+
+  -- what a dequeue found counts
+  counts_noted : (o : ℕ) (u : UnderWay) → w.calls o ≡ Some u → (ledger_of w).stage o ≡ Seen
+      → Noted w (counts (w.calls o) w.log.effects) (restaged (ledger_of w) o (counted ((ledger_of w).stage o)) (ledger_of w).queue)
+  counts_noted o u at seen =
+      let c : IsCalling w.log.events o u = (calling o u at).1 in
+      let here : stage_at u.place w.log.effects ≡ Seen = sym (ap (λ x. stage_of x w.log.effects) at) ∙ seen in
+      let empties : All (λ x. x.settled ≡ false → x.reply ≡ Empty) w.log.effects =
+      All-weaker (λ (x : Effect). x.settled ≡ false → IsPending w.log.events x) (λ (x : Effect). x.settled ≡ false → x.reply ≡ Empty) (λ x h q. (h q).empty) w.log.effects v.log.pending in
+      let now : stage_at u.place (settled_at u.place w.log.effects) ≡ counted ((ledger_of w).stage o) = stage_settled u.place w.log.effects empties here ∙ ap counted (sym seen) in
+      subst (λ y. Noted w (counts y w.log.effects) (restaged (ledger_of w) o (counted ((ledger_of w).stage o)) (ledger_of w).queue)) (sym at)
+      (record {
+        log = settled w.shape.kind w.base w.told w.log.events w.log.effects u.begun.client u.place v.log c.open_from;
+        same = restaged_by o u (settled_at u.place w.log.effects) (counted ((ledger_of w).stage o)) (ledger_of w).queue at now
+            (λ q ne. stage_settled_other u.place q w.log.effects ne) (queue_settled_at w.log.events w.base w.log.effects u.place);
+        part = part_settled_at u.place w.log.effects;
+      })
+
+  link_noted : (n : ℕ) → links w.memory.kept n ≢ links w.memory.cached n
+      → Noted w (noticed w (Next (record { 0 = n })) (links w.memory.cached n)) (noticed_ledger w.shape w.memory (ledger_of w) (Next (record { 0 = n })) (links w.memory.cached n))
+  link_noted n apart =
+      let b : Base w.shape w.memory (ledger_of w) v.claimed v.waiting = v.base in
+      let none : links w.memory.kept n ≡ 0 = kept_apart (links w.memory.cached) (links w.memory.kept) n (b.chained.kept n) apart in
+      let some : links w.memory.cached n ≢ 0 = λ z. apart (none ∙ sym z) in
+      let f : IsLinking w.shape (ledger_of w) (values w.memory.cached) (links w.memory.cached n) = b.flying_link n some none in
+      let o : ℕ = owner w.shape (links w.memory.cached n) in
+      let u : (u : UnderWay) × (w.calls (owner w.shape (links w.memory.cached n)) ≡ Some u) = holder (owner w.shape (links w.memory.cached n)) (links w.memory.cached n) some f.holds in
+      let call : u.0.begun.call ≡ Enq (values w.memory.kept (links w.memory.cached n)) = sym (ap (λ x. (record_of_call x).call) u.1) ∙ f.asks ∙ ap Enq (b.linked_value n some) in
+      took_noted (owner w.shape (links w.memory.cached n)) u.0 Done ((ledger_of w).queue ++ values w.memory.kept (links w.memory.cached n) ∷ []) u.1 f.unmoved
+      (sym (ap (reply_of (ledger_of w).queue) call)) (ap (served (ledger_of w).queue) call)
+
+  mark_noted : (n : ℕ) → marks w.memory.kept n ≢ marks w.memory.cached n
+      → Noted w (noticed w (Mark (record { 0 = n })) (marks w.memory.cached n)) (noticed_ledger w.shape w.memory (ledger_of w) (Mark (record { 0 = n })) (marks w.memory.cached n))
+  mark_noted n apart =
+      let b : Base w.shape w.memory (ledger_of w) v.claimed v.waiting = v.base in
+      let none : marks w.memory.kept n ≡ 0 = kept_apart (marks w.memory.cached) (marks w.memory.kept) n (b.marked.kept n) apart in
+      let some : marks w.memory.cached n ≢ 0 = λ z. apart (none ∙ sym z) in
+      let f : IsClaiming w.shape (ledger_of w) (marks w.memory.cached n) = b.flying_mark n some none in
+      let u : (u : UnderWay) × (w.calls (owner w.shape (marks w.memory.cached n)) ≡ Some u) = holder (owner w.shape (marks w.memory.cached n)) (marks w.memory.cached n) some f.holds in
+      let call : u.0.begun.call ≡ Deq = sym (ap (λ x. (record_of_call x).call) u.1) ∙ f.asks in
+      took_noted (owner w.shape (marks w.memory.cached n)) u.0 (Got (values w.memory.kept n)) (drop 1 (ledger_of w).queue) u.1 f.unmoved
+      (reply_deq (ledger_of w).queue (values w.memory.kept) v.waiting n b.content (b.marked.ahead n some none) ∙ sym (ap (reply_of (ledger_of w).queue) call))
+      (ap (served (ledger_of w).queue) call ∙ served_deq (ledger_of w).queue)
+
+  says_noted : (c : ℕ) → SaysEmpty w.shape w.memory.cached c → (SaysEmpty w.shape w.memory.kept c → ⊥)
+      → Noted w (counts (w.calls (owner w.shape c)) w.log.effects) (restaged (ledger_of w) (owner w.shape c) (counted ((ledger_of w).stage (owner w.shape c))) (ledger_of w).queue)
+  says_noted c says fresh =
+      let b : Base w.shape w.memory (ledger_of w) v.claimed v.waiting = v.base in
+      let f : IsAnswering w.shape (ledger_of w) (marks w.memory.cached) c = b.empty.flying c says fresh in
+      let u : (u : UnderWay) × (w.calls (owner w.shape c) ≡ Some u) = stager (owner w.shape c) f.seen in
+      counts_noted (owner w.shape c) u.0 u.1 f.seen
+
+  cell_noted : (c : Token) → w.memory.kept (Cell c) ≢ w.memory.cached (Cell c) → Noted w (noticed w (Cell c) (w.memory.cached (Cell c))) (noticed_ledger w.shape w.memory (ledger_of w) (Cell c) (w.memory.cached (Cell c)))
+  cell_noted c apart = go w.shape.kind refl (w.memory.cached (Cell c) == 1) refl
+    where
+      go : (kind : Kind) → w.shape.kind ≡ kind → (t : Bool) → (w.memory.cached (Cell c) == 1) ≡ t
+          → Noted w (if t then counts (w.calls (owner w.shape c.0)) w.log.effects else w.log.effects) (if t then restaged (ledger_of w) (owner w.shape c.0) (counted ((ledger_of w).stage (owner w.shape c.0))) (ledger_of w).queue else ledger_of w)
+      go Durable e true t =
+          let says : w.memory.cached (Cell c) ≡ 1 = eqb-true (w.memory.cached (Cell c)) 1 t in
+          says_noted c.0 ((cell_says w.shape w.memory.cached c e).1 says) (λ h. apart ((cell_says w.shape w.memory.kept c e).0 h ∙ sym says))
+      go Durable e false t = nothing_noted
+      go Log e t q =
+          let b : Base w.shape w.memory (ledger_of w) v.claimed v.waiting = v.base in
+          let wrong : w.shape.kind ≡ Durable → ⊥ = λ r. cc in
+          absurd (apart (b.absent_kept (Cell c) wrong ∙ sym (b.absent (Cell c) wrong)))
+
+  status_noted : (c : Token) → w.memory.kept (Status c) ≢ w.memory.cached (Status c) → Noted w (noticed w (Status c) (w.memory.cached (Status c))) (noticed_ledger w.shape w.memory (ledger_of w) (Status c) (w.memory.cached (Status c)))
+  status_noted c apart = go w.shape.kind refl (w.memory.cached (Status c) == 2) refl
+    where
+      go : (kind : Kind) → w.shape.kind ≡ kind → (t : Bool) → (w.memory.cached (Status c) == 2) ≡ t
+          → Noted w (if t then counts (w.calls (owner w.shape c.0)) w.log.effects else w.log.effects) (if t then restaged (ledger_of w) (owner w.shape c.0) (counted ((ledger_of w).stage (owner w.shape c.0))) (ledger_of w).queue else ledger_of w)
+      go Log e true t =
+          let says : w.memory.cached (Status c) ≡ 2 = eqb-true (w.memory.cached (Status c)) 2 t in
+          says_noted c.0 ((status_says w.shape w.memory.cached c e).1 says) (λ h. apart ((status_says w.shape w.memory.kept c e).0 h ∙ sym says))
+      go Log e false t = nothing_noted
+      go Durable e t q =
+          let b : Base w.shape w.memory (ledger_of w) v.claimed v.waiting = v.base in
+          let wrong : w.shape.kind ≡ Log → ⊥ = λ r. cc in
+          absurd (apart (b.absent_kept (Status c) wrong ∙ sym (b.absent (Status c) wrong)))
+
+  new_noted : (p : Place) → w.memory.kept p ≢ w.memory.cached p → Noted w (noticed w p (w.memory.cached p)) (noticed_ledger w.shape w.memory (ledger_of w) p (w.memory.cached p))
+  new_noted (Next n) apart = link_noted n.0 apart
+  new_noted (Mark n) apart = mark_noted n.0 apart
+  new_noted (Cell c) apart = cell_noted c apart
+  new_noted (Status c) apart = status_noted c apart
+  new_noted Head apart = nothing_noted
+  new_noted Tail apart = nothing_noted
+  new_noted (Announcement t) apart = nothing_noted
+  new_noted (Bump t) apart = nothing_noted
+  new_noted (Value n) apart = nothing_noted
+  new_noted (Insert n) apart = nothing_noted
+  new_noted (Number e) apart = nothing_noted
+  new_noted (EntryKind e) apart = nothing_noted
+  new_noted (EntryNode e) apart = nothing_noted
+
+  -- any word is kept
+  pub keep_noted : (p : Place) → Noted w (after_keeping w p) (kept_ledger w.shape w.memory (ledger_of w) p)
+  keep_noted p = go (w.memory.kept p == w.memory.cached p) refl
+    where
+      go : (t : Bool) → (w.memory.kept p == w.memory.cached p) ≡ t
+          → Noted w (if t then w.log.effects else noticed w p (w.memory.cached p)) (if t then ledger_of w else noticed_ledger w.shape w.memory (ledger_of w) p (w.memory.cached p))
+      go true e = nothing_noted
+      go false e = new_noted p (eqb-false (w.memory.kept p) (w.memory.cached p) e)
+
+  unseen_untaken : (st : Stage) → ((r : Reply) → st ≢ Took r) → unseen st ≡ Unmoved
+  unseen_untaken Unmoved h = refl
+  unseen_untaken Seen h = refl
+  unseen_untaken (Took r) h = absurd (h r refl)
+
+  -- a dequeue looks behind its first node: if nothing is there the queue is empty
+  pub looked_noted : (i : ℕ) (u : UnderWay) (first c : ℕ) → w.calls i ≡ Some u → u.begun.call ≡ Deq → Before w.shape w.memory (ledger_of w) i c → IsPassed w.memory first
+      → Noted w (looked u.place (length w.log.events) (links w.memory.cached first) w.log.effects) (restaged (ledger_of w) i (looked_stage (links w.memory.cached first)) (ledger_of w).queue)
+  looked_noted i u first c at asks h passed = go (links w.memory.cached first == 0) refl
+    where
+      b : Base w.shape w.memory (ledger_of w) v.claimed v.waiting
+      b = v.base
+
+      calls_at : IsCalling w.log.events i u
+      calls_at = (calling i u at).1
+
+      gone : stage_at u.place (forgotten u.place w.log.effects) ≡ Unmoved
+      gone = stage_forgotten u.place w.log.effects ∙ unseen_untaken (stage_at u.place w.log.effects) (λ r e. h.untaken r (ap (λ x. stage_of x w.log.effects) at ∙ e))
+
+      log : IsLog w.shape.kind w.base w.told w.log.events (forgotten u.place w.log.effects)
+      log = forgot w.shape.kind w.base w.told w.log.events w.log.effects u.place v.log
+
+      same_queue : queue_of w.log.events w.base (forgotten u.place w.log.effects) ≡ (ledger_of w).queue
+      same_queue = queue_forgotten w.shape.kind w.base w.told w.log.events w.log.effects u.place v.log
+
+      empty : links w.memory.cached first ≡ 0 → (ledger_of w).queue ≡ []
+      empty z =
+          let none : links w.memory.kept first ≡ 0 = kept_none (links w.memory.cached) (links w.memory.kept) first (b.chained.kept first) z in
+          let among : IsAmong first (0 ∷ v.claimed) = elim passed [ inl q ↦ inl q | inr q ↦ inr (b.marked.back first q) ] in
+          sym b.content ∙ ap (map (values w.memory.kept)) (none_waiting (links w.memory.kept) v.claimed v.waiting first b.chained.chain among none)
+
+      go : (t : Bool) → (links w.memory.cached first == 0) ≡ t
+          → Noted w (if t then found_empty u.place (length w.log.events) (forgotten u.place w.log.effects) else forgotten u.place w.log.effects)
+          (restaged (ledger_of w) i (if t then Seen else Unmoved) (ledger_of w).queue)
+      go false e = record {
+        log = log;
+        same = restaged_by i u (forgotten u.place w.log.effects) Unmoved (ledger_of w).queue at gone (λ q ne. stage_forgotten_other u.place q w.log.effects ne) same_queue;
+        part = part_forgotten w.log.effects u.place;
+      }
+      go true e =
+          let es : List Effect = forgotten u.place w.log.effects in
+          let x : Effect = record { place = u.place; reply = Empty; moment = length w.log.events; settled = false } in
+          let void : queue_of w.log.events w.base (forgotten u.place w.log.effects) ≡ [] = same_queue ∙ empty (eqb-true (links w.memory.cached first) 0 e) in
+          let served_now : IsServed w.log.events (queue_of w.log.events w.base (forgotten u.place w.log.effects)) (record { place = u.place; reply = Empty }) = record {
+            call = Deq;
+            names = call_stands i u at ∙ ap Some asks;
+            reply = sym (ap (λ q. reply_of q Deq) void);
+          } in
+          record {
+            log = found w.shape.kind w.base w.told w.log.events (forgotten u.place w.log.effects) u.begun.client u.place log calls_at.open_from
+                (none_of_unmoved u.place (forgotten u.place w.log.effects) gone) served_now;
+            same = restaged_by i u (found_empty u.place (length w.log.events) (forgotten u.place w.log.effects)) Seen (ledger_of w).queue at
+                (stage_push u.place (forgotten u.place w.log.effects) (record { place = u.place; reply = Empty; moment = length w.log.events; settled = false }) refl gone)
+                (λ q ne. stage_push_other q (forgotten u.place w.log.effects) (record { place = u.place; reply = Empty; moment = length w.log.events; settled = false }) (λ f. ne (sym f))
+                ∙ stage_forgotten_other u.place q w.log.effects ne)
+                (queue_found w.log.events w.base (forgotten u.place w.log.effects) u.place (length w.log.events) served_now ∙ same_queue);
+            part = part_of_part (part_found (forgotten u.place w.log.effects) u.place (length w.log.events)) (part_forgotten w.log.effects u.place);
+          }
