@@ -7,7 +7,8 @@ use Rattle.words.specs.declared.refusal.Refusal.{Refusal}
 use Rattle.words.specs.declared.refusal.Refusal.TheVariants.{NoMemory}
 use Rattle.interleave.specs.Calls.{is_no_memory, waiting_result}
 use Rattle.interleave.specs.State.{State, Laid, step_result, step_result_with, step_with, after_step}
-use Rattle.explore.specs.Transcript.{Play, stepped, counted, play_then, text_then, after_steps, steps_text, return_line, refused_line}
+use Rattle.explore.specs.Transcript.{Play, stepped, counted, play_then, text_then, after_steps, steps_text}
+use Rattle.explore.specs.Prints.{return_line, refused_line}
 
 -- a refusal that is not for want of memory
 pub is_another : (X : Type 0) (refusal : Refusal) → refusal ≢ NoMemory → is_no_memory {X = X} (Err refusal) ≡ false

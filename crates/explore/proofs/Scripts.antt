@@ -1,12 +1,14 @@
 -- How what a script says grows by a line.
 use Rattle.std.proofs.Common.{◌≡◌, ℕ, ◌<◌, ◌≤◌, ◌+◌, ◌-◌, Bool, true, false, cond, List, [], ◌∷◌, ◌++◌, length, take, get_or, filter, map, sym, ap, subst, ◌∙◌, arith, refl, length-append}
 use Rattle.std.proofs.lemmas.List.{map-append, append-nil, take_more, length-take}
-use Rattle.std.proofs.lemmas.List.Elements.{filter-append, All-head, All-tail, All-push}
-use Rattle.std.specs.Prelude.{Option, Some, None, All, is_some, not}
+use Rattle.std.proofs.lemmas.List.Elements.{filter-append, All-nil, All-head, All-tail, All-push}
+use Rattle.std.specs.Prelude.{Option, Some, None, All, not}
 use Rattle.explore.specs.Lines.{words_of, is_told}
-use Rattle.explore.specs.Grammar.{queue_words, command_words, IsServed, SaysQueue, SaysCommand}
+use Rattle.words.specs.declared.call.Kind.{Kind}
+use Rattle.words.specs.declared.call.Kind.TheVariants.{Durable, Log}
+use Rattle.explore.specs.Grammar.{queue_words, kind_word, command_words, is_on, IsServed, SaysQueue, SaysCommand}
 use Rattle.explore.specs.Script.{Says, Continues, EndsBadly, IsFirstBad}
-use Rattle.std.proofs.lemmas.Bool.{false≢true, not-false}
+use Rattle.std.proofs.lemmas.Bool.{not-false}
 use Rattle.explore.specs.declared.command.Command.{Command}
 use Rattle.explore.specs.declared.command.QueueLine.{QueueLine}
 
@@ -29,6 +31,7 @@ says_skip lines line queue commands says few told = record {
   queue_first = says.queue_first;
   queue_served = says.queue_served;
   commands_served = says.commands_served;
+  of_kind = says.of_kind;
 }
 
 pub says_queue : (lines : List (List ℕ)) (line : List ℕ) (queue : QueueLine) (commands : List Command) → Says lines None commands → length lines < 1000 → is_told line ≡ true → SaysQueue line queue → Says (lines ++ line ∷ []) (Some queue) commands
@@ -44,10 +47,11 @@ says_queue lines line queue commands says few told line_says =
       queue_first = λ e. absurd (cc);
       queue_served = line_says.served;
       commands_served = says.commands_served;
+      of_kind = subst (All (λ command. is_on queue.kind command ≡ true)) (sym none) (All-nil (λ command. is_on queue.kind command ≡ true));
     }
 
-pub says_command : (lines : List (List ℕ)) (line : List ℕ) (queue : QueueLine) (commands : List Command) (command : Command) → Says lines (Some queue) commands → length lines < 1000 → is_told line ≡ true → SaysCommand line command → Says (lines ++ line ∷ []) (Some queue) (commands ++ command ∷ [])
-says_command lines line queue commands command says few told line_says = record {
+pub says_command : (lines : List (List ℕ)) (line : List ℕ) (queue : QueueLine) (commands : List Command) (command : Command) → Says lines (Some queue) commands → length lines < 1000 → is_told line ≡ true → SaysCommand line command → is_on queue.kind command ≡ true → Says (lines ++ line ∷ []) (Some queue) (commands ++ command ∷ [])
+says_command lines line queue commands command says few told line_says on = record {
   few = one_more lines line few;
   words =
       told_more lines line told
@@ -57,14 +61,22 @@ says_command lines line queue commands command says few told line_says = record 
   queue_first = λ e. absurd (cc);
   queue_served = says.queue_served;
   commands_served = All-push IsServed commands command says.commands_served line_says.served;
+  of_kind = All-push (λ c. is_on queue.kind c ≡ true) commands command says.of_kind on;
 }
 
 -- where the last of some words is a command's
-last_command : (xs : List (List (List ℕ))) (word : List (List ℕ)) (commands : List Command) → xs ++ word ∷ [] ≡ map command_words commands → All IsServed commands → (command : Command) × (word ≡ command_words command) × IsServed command
-last_command [] word [] same served = absurd (cc)
-last_command [] word (command ∷ commands) same served = (command, (cc), All-head IsServed command commands served)
-last_command (x ∷ xs) word [] same served = absurd (cc)
-last_command (x ∷ xs) word (command ∷ commands) same served = last_command xs word commands (cc) (All-tail IsServed command commands served)
+last_command : (P : Command → Type 0) (xs : List (List (List ℕ))) (word : List (List ℕ)) (commands : List Command) → xs ++ word ∷ [] ≡ map command_words commands → All IsServed commands → All P commands → (command : Command) × (word ≡ command_words command) × IsServed command × P command
+last_command P [] word [] same served held = absurd (cc)
+last_command P [] word (command ∷ commands) same served held = (command, (cc), All-head IsServed command commands served, All-head P command commands held)
+last_command P (x ∷ xs) word [] same served held = absurd (cc)
+last_command P (x ∷ xs) word (command ∷ commands) same served held = last_command P xs word commands (cc) (All-tail IsServed command commands served) (All-tail P command commands held)
+
+-- the word of a kind is no other kind's
+pub same_kind : (a b : Kind) → kind_word a ≡ kind_word b → a ≡ b
+same_kind Durable Durable e = refl
+same_kind Durable Log e = let long : 7 ≡ 3 = ap length e in absurd (omega (arith, long))
+same_kind Log Durable e = let long : 3 ≡ 7 = ap length e in absurd (omega (arith, long))
+same_kind Log Log e = refl
 
 -- a line that is no queue's can't be the first
 pub bad_first : (lines : List (List ℕ)) (line : List ℕ) (commands : List Command) → Says lines None commands → is_told line ≡ true → ((queue : QueueLine) → SaysQueue line queue → ⊥) → (queue : Option QueueLine) (more : List Command) → Says (lines ++ line ∷ []) queue more → ⊥
@@ -79,7 +91,7 @@ bad_first lines line commands says told never (Some queue) more bad =
     never queue (record { words = cc; served = bad.queue_served })
 
 -- a line that is no command's can't come later
-pub bad_later : (lines : List (List ℕ)) (line : List ℕ) (first : QueueLine) (commands : List Command) → Says lines (Some first) commands → is_told line ≡ true → ((command : Command) → SaysCommand line command → ⊥) → (queue : Option QueueLine) (more : List Command) → Says (lines ++ line ∷ []) queue more → ⊥
+pub bad_later : (lines : List (List ℕ)) (line : List ℕ) (first : QueueLine) (commands : List Command) → Says lines (Some first) commands → is_told line ≡ true → ((command : Command) → SaysCommand line command → is_on first.kind command ≡ true → ⊥) → (queue : Option QueueLine) (more : List Command) → Says (lines ++ line ∷ []) queue more → ⊥
 bad_later lines line first commands says told never None more bad =
     let some : map words_of (filter is_told lines) ++ words_of line ∷ [] ≡ map command_words more = sym (told_more lines line told) ∙ bad.words in
     let none : map command_words more ≡ [] = ap (map command_words) (bad.queue_first refl) in
@@ -87,17 +99,17 @@ bad_later lines line first commands says told never None more bad =
     omega (arith, long, length-append (map words_of (filter is_told lines)) (words_of line ∷ []))
 bad_later lines line first commands says told never (Some queue) more bad =
     let same : queue_words first ∷ (map command_words commands ++ words_of line ∷ []) ≡ queue_words queue ∷ map command_words more = ap (λ ws. ws ++ words_of line ∷ []) (sym says.words) ∙ sym (told_more lines line told) ∙ bad.words in
-    let last = last_command (map command_words commands) (words_of line) more (cc) bad.commands_served in
-    never last.0 (record { words = last.1; served = last.2 })
+    let last = last_command (λ c. is_on queue.kind c ≡ true) (map command_words commands) (words_of line) more (cc) bad.commands_served bad.of_kind in
+    let words : kind_word queue.kind ≡ kind_word first.kind = cc in
+    never last.0 (record { words = last.1; served = last.2 }) (ap (λ k. is_on k last.0) (same_kind first.kind queue.kind (sym words)) ∙ last.3)
 
 -- there is no line past the 1,000th
 pub too_many : (lines : List (List ℕ)) (line : List ℕ) (queue : Option QueueLine) (commands : List Command) → 1000 ≤ length lines → Says (lines ++ line ∷ []) queue commands → ⊥
 too_many lines line queue commands many says = let few = says.few in omega (arith, few, length-append lines (line ∷ []))
 
--- once there is a queue, a line that is no command's ends badly
-pub ends_badly : (queue : Option QueueLine) (commands : List Command) (line : List ℕ) → is_some queue ≡ true → not (is_told line) ≡ false → ((command : Command) → SaysCommand line command → ⊥) → EndsBadly queue commands line
-ends_badly None commands line named told never = absurd (false≢true named)
-ends_badly (Some first) commands line named told never = λ lines says. bad_later lines line first commands says (not-false (is_told line) told) never
+-- once there is a queue, a line that is no command's of its kind ends badly
+pub ends_badly : (queue : QueueLine) (commands : List Command) (line : List ℕ) → not (is_told line) ≡ false → ((command : Command) → SaysCommand line command → is_on queue.kind command ≡ true → ⊥) → EndsBadly (Some queue) commands line
+ends_badly queue commands line told never = λ lines says. bad_later lines line queue commands says (not-false (is_told line) told) never
 
 -- the lines up to the one at k
 next_lines : (lines : List (List ℕ)) (k : ℕ) (line : List ℕ) → (k < length lines) × (line ≡ get_or lines k line) → take (k + 1) lines ≡ take k lines ++ line ∷ []

@@ -10,9 +10,10 @@ use Rattle.words.specs.declared.call.Kind.{Kind}
 use Rattle.explore.specs.Grammar.{kind_word, queue_words, command_words, IsServedQueue, IsServed}
 use Rattle.explore.specs.Script.{Says}
 use Rattle.explore.specs.declared.command.Command.{Command}
-use Rattle.explore.specs.declared.command.Command.TheVariants.{Enq, Deq, Step, Content}
+use Rattle.explore.specs.declared.command.Command.TheVariants.{Enq, NumberedEnq, Deq, NumberedDeq, Step, End, Evict, Content, Order}
 use Rattle.explore.specs.declared.command.QueueLine.{QueueLine}
 use Rattle.explore.proofs.Numbers.{own}
+use Rattle.explore.proofs.Scripts.{same_kind}
 
 -- a number read back
 read : (n : ℕ) → n < 2 ^ 64 → digits_value 10 (decimal n) ≡ n
@@ -33,9 +34,14 @@ client_of ns = record { 0 = slice_index ns 0 }
 command_of : ℕ → List ℕ → Command
 command_of row ns =
     (if row == 26589638 then Enq (client_of ns) (slice_index ns 1) else
+    (if row == 26589639 then NumberedEnq (client_of ns) (slice_index ns 1) (slice_index ns 2) else
     (if row == 26318277 then Deq (client_of ns) else
+    (if row == 26318278 then NumberedDeq (client_of ns) (slice_index ns 1) else
     (if row == 30265750 then Step (client_of ns) (slice_index ns 1) else
-    Content)))
+    (if row == 26589585 then End (client_of ns) else
+    (if row == 26597797 then Evict (slice_index ns 0) else
+    (if row == 26066360 then Content else
+    Order))))))))
 
 read_back : (command : Command) → IsServed command → command_of (tag (command_words command)) (numbers (command_words command)) ≡ command
 unfolding command_of tag numbers client_of
@@ -43,14 +49,30 @@ read_back (Enq client value) served =
     let e0 : digits_value 10 (decimal client.0) ≡ client.0 = read client.0 (omega (arith, served)) in
     let e1 : digits_value 10 (decimal value) ≡ value = read value (omega (arith, served)) in
     ap (λ n. Enq (record { 0 = n }) (digits_value 10 (decimal value))) e0 ∙ ap (λ n. Enq (record { 0 = client.0 }) (n)) e1
+read_back (NumberedEnq client number value) served =
+    let e0 : digits_value 10 (decimal client.0) ≡ client.0 = read client.0 (omega (arith, served)) in
+    let e1 : digits_value 10 (decimal number) ≡ number = read number (omega (arith, served)) in
+    let e2 : digits_value 10 (decimal value) ≡ value = read value (omega (arith, served)) in
+    ap (λ n. NumberedEnq (record { 0 = n }) (digits_value 10 (decimal number)) (digits_value 10 (decimal value))) e0 ∙ ap (λ n. NumberedEnq (record { 0 = client.0 }) (n) (digits_value 10 (decimal value))) e1 ∙ ap (λ n. NumberedEnq (record { 0 = client.0 }) (number) (n)) e2
 read_back (Deq client) served =
     let e0 : digits_value 10 (decimal client.0) ≡ client.0 = read client.0 (omega (arith, served)) in
     ap (λ n. Deq (record { 0 = n })) e0
+read_back (NumberedDeq client number) served =
+    let e0 : digits_value 10 (decimal client.0) ≡ client.0 = read client.0 (omega (arith, served)) in
+    let e1 : digits_value 10 (decimal number) ≡ number = read number (omega (arith, served)) in
+    ap (λ n. NumberedDeq (record { 0 = n }) (digits_value 10 (decimal number))) e0 ∙ ap (λ n. NumberedDeq (record { 0 = client.0 }) (n)) e1
 read_back (Step client most) served =
     let e0 : digits_value 10 (decimal client.0) ≡ client.0 = read client.0 (omega (arith, served)) in
     let e1 : digits_value 10 (decimal most) ≡ most = read most (omega (arith, served)) in
     ap (λ n. Step (record { 0 = n }) (digits_value 10 (decimal most))) e0 ∙ ap (λ n. Step (record { 0 = client.0 }) (n)) e1
+read_back (End client) served =
+    let e0 : digits_value 10 (decimal client.0) ≡ client.0 = read client.0 (omega (arith, served)) in
+    ap (λ n. End (record { 0 = n })) e0
+read_back (Evict word) served =
+    let e0 : digits_value 10 (decimal word) ≡ word = read word (omega (arith, served)) in
+    ap (λ n. Evict (n)) e0
 read_back Content served = refl
+read_back Order served = refl
 
 same_command : (c d : Command) → IsServed c → IsServed d → command_words c ≡ command_words d → c ≡ d
 same_command c d sc sd e = sym (read_back c sc) ∙ ap (λ (ws : List (List ℕ)). command_of (tag ws) (numbers ws)) e ∙ read_back d sd
@@ -80,8 +102,8 @@ queue_back queue counts =
 same_queue : (q r : QueueLine) → IsServedQueue q → IsServedQueue r → queue_words q ≡ queue_words r → q ≡ r
 same_queue q r sq sr e =
     let words : kind_word q.kind ≡ kind_word r.kind = cc in
-    let kind : q.kind ≡ r.kind = sq.kind ∙ sym sr.kind in
-    sym (queue_back q sq.counts) ∙ (ap (λ k. queue_of k (queue_words q)) kind ∙ ap (queue_of r.kind) e) ∙ queue_back r sr.counts
+    let kind : q.kind ≡ r.kind = same_kind q.kind r.kind words in
+    sym (queue_back q sq) ∙ (ap (λ k. queue_of k (queue_words q)) kind ∙ ap (queue_of r.kind) e) ∙ queue_back r sr
 
 pub same_script : (lines : List (List ℕ)) (q r : Option QueueLine) (cs ds : List Command) → Says lines q cs → Says lines r ds → (q ≡ r) × (cs ≡ ds)
 same_script lines None None cs ds a b = (refl, a.queue_first refl ∙ sym (b.queue_first refl))

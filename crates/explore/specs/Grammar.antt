@@ -1,11 +1,11 @@
 -- The lines that are served, each as its words, and the limits of the numbers in them.
-use Rattle.std.specs.Prelude.{◌≡◌, ◌≤◌, ℕ, List, [], ◌∷◌, codes, decimal}
+use Rattle.std.specs.Prelude.{◌≡◌, ◌≤◌, ◌<◌, ◌^◌, ℕ, Bool, true, false, List, [], ◌∷◌, codes, decimal}
 use Rattle.explore.specs.Lines.{words_of}
 use Rattle.arena.specs.Limits.{AreCounts}
 use Rattle.words.specs.declared.call.Kind.{Kind}
 use Rattle.words.specs.declared.call.Kind.TheVariants.{Durable, Log}
 use Rattle.explore.specs.declared.command.Command.{Command}
-use Rattle.explore.specs.declared.command.Command.TheVariants.{Enq, Deq, Step, Content}
+use Rattle.explore.specs.declared.command.Command.TheVariants.{Enq, NumberedEnq, Deq, NumberedDeq, Step, End, Evict, Content, Order}
 use Rattle.explore.specs.declared.command.QueueLine.{QueueLine}
 
 abbrev pub kind_word : Kind → List ℕ
@@ -16,24 +16,49 @@ kind_word Log = codes "log"
 abbrev pub queue_words : QueueLine → List (List ℕ)
 queue_words queue = codes "queue" ∷ kind_word queue.kind ∷ decimal queue.clients ∷ decimal queue.records ∷ []
 
--- `enq C V`, `deq C`, `step C M`, `content`
+-- `enq C V`, `enq C N V`, `deq C`, `deq C N`, `step C M`, `end C`, `evict W`, `content`, `order`
 abbrev pub command_words : Command → List (List ℕ)
 command_words (Enq client value) = codes "enq" ∷ decimal client.0 ∷ decimal value ∷ []
+command_words (NumberedEnq client number value) = codes "enq" ∷ decimal client.0 ∷ decimal number ∷ decimal value ∷ []
 command_words (Deq client) = codes "deq" ∷ decimal client.0 ∷ []
+command_words (NumberedDeq client number) = codes "deq" ∷ decimal client.0 ∷ decimal number ∷ []
 command_words (Step client most) = codes "step" ∷ decimal client.0 ∷ decimal most ∷ []
+command_words (End client) = codes "end" ∷ decimal client.0 ∷ []
+command_words (Evict word) = codes "evict" ∷ decimal word ∷ []
 command_words Content = codes "content" ∷ []
+command_words Order = codes "order" ∷ []
 
--- a durable queue of 1 to 16 clients with 1 to 4,096 records each
-pub record IsServedQueue (queue : QueueLine) : Type 0 where
-  pub kind : queue.kind ≡ Durable
-  pub counts : AreCounts queue.clients queue.records
+-- a queue of 1 to 16 clients with 1 to 4,096 records each
+abbrev pub IsServedQueue : QueueLine → Type 0
+IsServedQueue queue = AreCounts queue.clients queue.records
 
--- a client's number is one byte, a value has 32 bits, and a line asks for 1 to 1,000 steps
+-- a client's number is one byte, a value has 32 bits, a call's number and a word's have 64, and a line asks for 1 to 1,000 steps
 abbrev pub IsServed : Command → Type 0
 IsServed (Enq client value) = (client.0 ≤ 255) × (value ≤ 4294967295)
+IsServed (NumberedEnq client number value) = (client.0 ≤ 255) × (number < 2 ^ 64) × (value ≤ 4294967295)
 IsServed (Deq client) = client.0 ≤ 255
+IsServed (NumberedDeq client number) = (client.0 ≤ 255) × (number < 2 ^ 64)
 IsServed (Step client most) = (client.0 ≤ 255) × (1 ≤ most) × (most ≤ 1000)
+IsServed (End client) = client.0 ≤ 255
+IsServed (Evict word) = word < 2 ^ 64
 IsServed Content = Unit {0}
+IsServed Order = Unit {0}
+
+-- whether a queue of this kind has such a command: calls on a log queue have numbers, those on a durable one have none
+abbrev pub is_on : Kind → Command → Bool
+is_on Durable (Enq client value) = true
+is_on Durable (Deq client) = true
+is_on Durable (NumberedEnq client number value) = false
+is_on Durable (NumberedDeq client number) = false
+is_on Log (Enq client value) = false
+is_on Log (Deq client) = false
+is_on Log (NumberedEnq client number value) = true
+is_on Log (NumberedDeq client number) = true
+is_on kind (Step client most) = true
+is_on kind (End client) = true
+is_on kind (Evict word) = true
+is_on kind Content = true
+is_on kind Order = true
 
 -- a line says this queue, or this command: it has its words, within the limits
 pub record SaysQueue (line : List ℕ) (queue : QueueLine) : Type 0 where

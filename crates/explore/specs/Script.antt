@@ -1,7 +1,7 @@
 -- What a text says as a script, and which of its lines is the first bad one.
-use Rattle.std.specs.Prelude.{◌≡◌, ◌≤◌, ◌<◌, ℕ, ◌-◌, List, [], ◌∷◌, ◌++◌, Option, Some, None, IfSome, length, map, take, filter, All}
+use Rattle.std.specs.Prelude.{◌≡◌, ◌≤◌, ◌<◌, ℕ, ◌-◌, List, [], ◌∷◌, ◌++◌, Option, Some, None, true, IfSome, length, map, take, filter, All}
 use Rattle.explore.specs.Lines.{words_of, is_told}
-use Rattle.explore.specs.Grammar.{queue_words, command_words, IsServedQueue, IsServed}
+use Rattle.explore.specs.Grammar.{queue_words, command_words, IsServedQueue, IsServed, is_on}
 use Rattle.explore.specs.declared.command.Command.{Command}
 use Rattle.explore.specs.declared.command.QueueLine.{QueueLine}
 
@@ -17,6 +17,7 @@ pub record Says (lines : List (List ℕ)) (queue : Option QueueLine) (commands :
   pub queue_first : queue ≡ None → commands ≡ []
   pub queue_served : IfSome queue IsServedQueue
   pub commands_served : All IsServed commands
+  pub of_kind : IfSome queue (λ q. All (λ command. is_on q.kind command ≡ true) commands)
 
 -- the lines before this one say a script, and with it they say none
 pub record IsFirstBad (lines : List (List ℕ)) (number : ℕ) : Type 0 where

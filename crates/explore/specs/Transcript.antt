@@ -1,53 +1,26 @@
 -- What a world prints that follows a script.
-use Rattle.std.specs.Prelude.{ℕ, false, zero, suc, ◌+◌, min, List, [], ◌∷◌, ◌++◌, Option, Some, None, Result, Ok, Err, codes, decimal, replicate, slice_index, slice_set}
-use Rattle.std.specs.List.{join_with_byte, flat_map}
-use Rattle.words.specs.Refusal.{refusal_text}
-use Rattle.words.specs.Text.{reply_text}
+use Rattle.std.specs.Prelude.{ℕ, false, zero, suc, ◌+◌, min, List, [], ◌∷◌, ◌++◌, Option, Some, None, is_some, Result, Ok, Err, replicate, slice_index, slice_set}
 use Rattle.words.specs.declared.call.Call.{Call}
 use Rattle.words.specs.declared.call.Call.TheVariants.{Enq as enq_call, Deq as deq_call}
 use Rattle.words.specs.declared.call.Client.{Client}
-use Rattle.words.specs.declared.call.Kind.TheVariants.{Durable}
+use Rattle.words.specs.declared.call.Kind.{Kind}
+use Rattle.words.specs.declared.call.Kind.TheVariants.{Durable, Log}
 use Rattle.words.specs.declared.call.Reply.{Reply}
 use Rattle.words.specs.declared.refusal.Refusal.{Refusal}
+use Rattle.persist.specs.declared.access.Change.{Change}
 use Rattle.arena.specs.Shape.{Counts, shape_of}
 use Rattle.arena.specs.Durable.{durable_word, durable_place, durable_size}
-use Rattle.interleave.specs.State.{State, Laid, new_world, after_start, start_result, after_step, step_result, kept_content}
-use Rattle.explore.specs.Grammar.{command_words}
+use Rattle.arena.specs.Log.{log_word, log_place, log_size}
+use Rattle.interleave.specs.State.{State, Laid, new_world, after_start, start_result, after_step, step_result, after_evict, evict_result, order_in, kept_content}
+use Rattle.explore.specs.Prints.{size_line, call_line, return_line, refused_line, content_line, evict_line, order_lines}
 use Rattle.explore.specs.declared.command.Command.{Command}
-use Rattle.explore.specs.declared.command.Command.TheVariants.{Enq, Deq, Step, Content}
+use Rattle.explore.specs.declared.command.Command.TheVariants.{Enq, NumberedEnq, Deq, NumberedDeq, Step, End, Evict, Content, Order}
 use Rattle.explore.specs.declared.command.QueueLine.{QueueLine}
 
 -- a world, and how many steps each client's call has made
 pub record Play (L : Type 0) : Type 0 where
   pub world : State L
   pub steps : List ℕ
-
--- a command as its line has it
-abbrev pub command_text : Command → List ℕ
-command_text command = join_with_byte 32 (command_words command)
-
--- the lines that are printed
-abbrev pub size_line : ℕ → List ℕ
-size_line size = codes "size " ++ decimal size ++ codes "\n"
-
-abbrev pub call_line : Command → List ℕ
-call_line command = codes "call " ++ command_text command ++ codes "\n"
-
-abbrev pub return_line : Client → Reply → ℕ → List ℕ
-return_line client reply steps = codes "return " ++ decimal client.0 ++ codes " " ++ reply_text reply ++ codes " steps " ++ decimal steps ++ codes "\n"
-
-abbrev pub refused_line : Refusal → List ℕ
-refused_line refusal = codes "refused " ++ refusal_text refusal ++ codes "\n"
-
-abbrev pub value_text : ℕ → List ℕ
-value_text value = codes " " ++ decimal value
-
-abbrev pub values_text : List ℕ → List ℕ
-values_text [] = codes " -"
-values_text (value ∷ values) = flat_map value_text (value ∷ values)
-
-abbrev pub content_line : List ℕ → List ℕ
-content_line values = codes "content" ++ values_text values ++ codes "\n"
 
 -- a start prints its line, or why it was refused, and a call that was started has made no step
 abbrev pub start_text : Command → Result Unit Refusal → List ℕ
@@ -58,10 +31,10 @@ abbrev pub steps_with : Client → List ℕ → Result Unit Refusal → List ℕ
 steps_with client steps (Ok u) = slice_set steps client.0 0
 steps_with client steps (Err refusal) = steps
 
-abbrev pub started : {L : Type 0} → Laid L → Play L → Client → Call → Play L
-started laid play client call = record {
-  world = after_start laid false play.world client 0 call;
-  steps = steps_with client play.steps (start_result laid false play.world client 0);
+abbrev pub started : {L : Type 0} → Laid L → Play L → Client → ℕ → Call → Play L
+started laid play client number call = record {
+  world = after_start laid false play.world client number call;
+  steps = steps_with client play.steps (start_result laid false play.world client number);
 }
 
 -- a step counts; the count stays at its greatest value
@@ -95,18 +68,37 @@ steps_text laid client zero play = []
 steps_text laid client (suc most) play =
     text_then client (counted (slice_index play.steps client.0)) (step_result laid false play.world client) (steps_text laid client most (stepped laid play client))
 
--- what a command does, and what it prints
-abbrev pub after_command : {L : Type 0} → Laid L → Play L → Command → Play L
-after_command laid play (Enq client value) = started laid play client (enq_call value)
-after_command laid play (Deq client) = started laid play client deq_call
-after_command laid play (Step client most) = after_steps laid client most play
-after_command laid play Content = play
+-- an eviction
+abbrev pub after_eviction : {L : Type 0} → Laid L → Play L → ℕ → Play L
+after_eviction laid play word = record { world = after_evict laid play.world word; steps = play.steps }
 
+abbrev pub evict_text : ℕ → Result (Option Change) Refusal → List ℕ
+evict_text word (Ok change) = evict_line word (is_some change)
+evict_text word (Err refusal) = refused_line refusal
+
+-- what a command does: a call on a durable queue has no number, and no call that goes on alone needs more than 64 steps
+abbrev pub after_command : {L : Type 0} → Laid L → Play L → Command → Play L
+after_command laid play (Enq client value) = started laid play client 0 (enq_call value)
+after_command laid play (NumberedEnq client number value) = started laid play client number (enq_call value)
+after_command laid play (Deq client) = started laid play client 0 deq_call
+after_command laid play (NumberedDeq client number) = started laid play client number deq_call
+after_command laid play (Step client most) = after_steps laid client most play
+after_command laid play (End client) = after_steps laid client 64 play
+after_command laid play (Evict word) = after_eviction laid play word
+after_command laid play Content = play
+after_command laid play Order = play
+
+-- and what it prints
 abbrev pub command_prints : {L : Type 0} → Laid L → Play L → Command → List ℕ
 command_prints laid play (Enq client value) = start_text (Enq client value) (start_result laid false play.world client 0)
+command_prints laid play (NumberedEnq client number value) = start_text (NumberedEnq client number value) (start_result laid false play.world client number)
 command_prints laid play (Deq client) = start_text (Deq client) (start_result laid false play.world client 0)
+command_prints laid play (NumberedDeq client number) = start_text (NumberedDeq client number) (start_result laid false play.world client number)
 command_prints laid play (Step client most) = steps_text laid client most play
+command_prints laid play (End client) = steps_text laid client 64 play
+command_prints laid play (Evict word) = evict_text word (evict_result laid play.world word)
 command_prints laid play Content = content_line (kept_content laid play.world)
+command_prints laid play Order = order_lines play.world.log.events (order_in play.world)
 
 abbrev pub commands_print : {L : Type 0} → Laid L → Play L → List Command → List ℕ
 commands_print laid play [] = []
@@ -125,10 +117,23 @@ durable_laid = record {
   size_of = λ counts. durable_size (shape_of Durable counts);
 }
 
+-- and that of a log queue
+abbrev pub log_laid : Laid Counts
+log_laid = record {
+  shape = shape_of Log;
+  word_of = λ counts. log_word (shape_of Log counts);
+  place_at = λ counts. log_place (shape_of Log counts);
+  size_of = λ counts. log_size (shape_of Log counts);
+}
+
 -- the whole of it: a script with no queue prints nothing
 abbrev pub queue_prints : {L : Type 0} → Laid L → L → List Command → List ℕ
 queue_prints laid layout commands = size_line (laid.size_of layout) ++ commands_print laid (new_play laid layout) commands
 
+abbrev pub kind_prints : Kind → Counts → List Command → List ℕ
+kind_prints Durable counts commands = queue_prints durable_laid counts commands
+kind_prints Log counts commands = queue_prints log_laid counts commands
+
 abbrev pub script_prints : Option QueueLine → List Command → List ℕ
 script_prints None commands = []
-script_prints (Some queue) commands = queue_prints durable_laid (record { clients = queue.clients; records = queue.records }) commands
+script_prints (Some queue) commands = kind_prints queue.kind (record { clients = queue.clients; records = queue.records }) commands

@@ -13,14 +13,43 @@ pub struct QueueLine {
 /// Any later line of a script.
 #[derive(Clone, Copy, Debug, PartialEq, Eq)]
 pub enum Command {
-    /// The client starts an enqueue.
-    Enq { client: Client, value: u32 },
-    /// The client starts a dequeue.
-    Deq { client: Client },
+    /// The client of a durable queue starts an enqueue.
+    Enq {
+        client: Client,
+        value: u32,
+    },
+    /// The client of a log queue starts an enqueue, with its number.
+    NumberedEnq {
+        client: Client,
+        number: u64,
+        value: u32,
+    },
+    /// The client of a durable queue starts a dequeue.
+    Deq {
+        client: Client,
+    },
+    /// The client of a log queue starts a dequeue, with its number.
+    NumberedDeq {
+        client: Client,
+        number: u64,
+    },
     /// The client's call goes on by at most so many steps.
-    Step { client: Client, most: u32 },
+    Step {
+        client: Client,
+        most: u32,
+    },
+    /// The client's call goes on alone to its answer.
+    End {
+        client: Client,
+    },
+    /// The cached value of a word is kept.
+    Evict {
+        word: u64,
+    },
     /// Show what the queue holds.
     Content,
+    /// Show in which order the calls took effect.
+    Order,
 }
 
 /// A script: no queue and nothing to do, or a queue and the commands on it, in order.

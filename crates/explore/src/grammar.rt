@@ -1,13 +1,16 @@
 //! The lines that are served, a row for each.
 
-ghost use Rattle.std.specs.Prelude.{◌≡◌, ◌≢◌, ℕ, MatchOption};
+ghost use Rattle.std.specs.Prelude.{◌≡◌, ℕ, List, [], ◌∷◌, MatchOption};
 ghost use Rattle.words.specs.declared.call.Client.{Client};
-ghost use Rattle.explore.specs.Grammar.{SaysQueue, SaysCommand};
+ghost use Rattle.words.specs.declared.call.Kind.{Kind};
+ghost use Rattle.explore.specs.Lines.{words_of};
+ghost use Rattle.explore.specs.Grammar.{SaysQueue, SaysCommand, kind_word, is_on};
+ghost use Rattle.explore.specs.Rows.{IsNoCall, IsNoMemoryLine};
 ghost use Rattle.explore.specs.declared.command.Command.{Command};
 ghost use Rattle.explore.specs.declared.command.QueueLine.{QueueLine};
 
 use crate::command::{Command, QueueLine};
-use crate::line::{Limits, after_name, is_name, one_number, two_numbers};
+use crate::line::{Limits, after_name, is_name, one_number, three_numbers, two_numbers};
 use arena::{MAX_CLIENTS, MAX_RECORDS};
 use words::{Client, Kind};
 
@@ -31,20 +34,35 @@ const VALUE: Limits = Limits {
     most: 4_294_967_295,
 };
 
+/// The number of a call, or of a word.
+const NUMBER: Limits = Limits {
+    least: 0,
+    most: u64::MAX,
+};
+
 const STEPS: Limits = Limits {
     least: 1,
     most: 1_000,
 };
 
-/// `queue durable T K`
+/// The kind of a queue, and what follows it.
+fn kind(text: &[u8]) -> Option<(Kind, &[u8])>
+    ensures { MatchOption result ((kind : Kind) (rest : List (List ℕ)) → words_of text.now ≡ kind_word kind ∷ rest → rest ≡ []) (λ r. words_of text.now ≡ kind_word r.0 ∷ words_of r.1.now) }
+{
+    if let Some(rest) = after_name(text, b"durable") {
+        return Some((Kind::Durable, rest));
+    }
+    Some((Kind::Log, after_name(text, b"log")?))
+}
+
+/// `queue durable T K`, `queue log T K`
 pub(crate) fn queue_line(line: &[u8]) -> Option<QueueLine>
     ensures { MatchOption result ((queue : QueueLine) → SaysQueue line.now queue → ⊥) (SaysQueue line.now) }
 {
-    let kind = after_name(line, b"queue")?;
-    let counts = after_name(kind, b"durable")?;
+    let (kind, counts) = kind(after_name(line, b"queue")?)?;
     let (clients, records) = two_numbers(counts, CLIENTS, RECORDS)?;
     Some(QueueLine {
-        kind: Kind::Durable,
+        kind,
         clients: clients as u32,
         records: records as u32,
     })
@@ -62,6 +80,19 @@ fn enq(line: &[u8]) -> Option<Command>
     })
 }
 
+/// `enq C N V`
+fn numbered_enq(line: &[u8]) -> Option<Command>
+    ensures { MatchOption result ((client : Client) (number : ℕ) (value : ℕ) → SaysCommand line.now (Command.NumberedEnq client number value) → ⊥) (SaysCommand line.now) }
+{
+    let numbers = after_name(line, b"enq")?;
+    let (client, number, value) = three_numbers(numbers, CLIENT, NUMBER, VALUE)?;
+    Some(Command::NumberedEnq {
+        client: Client(client as u8),
+        number,
+        value: value as u32,
+    })
+}
+
 /// `deq C`
 fn deq(line: &[u8]) -> Option<Command>
     ensures { MatchOption result ((client : Client) → SaysCommand line.now (Command.Deq client) → ⊥) (SaysCommand line.now) }
@@ -70,6 +101,18 @@ fn deq(line: &[u8]) -> Option<Command>
     let client = one_number(numbers, CLIENT)?;
     Some(Command::Deq {
         client: Client(client as u8),
+    })
+}
+
+/// `deq C N`
+fn numbered_deq(line: &[u8]) -> Option<Command>
+    ensures { MatchOption result ((client : Client) (number : ℕ) → SaysCommand line.now (Command.NumberedDeq client number) → ⊥) (SaysCommand line.now) }
+{
+    let numbers = after_name(line, b"deq")?;
+    let (client, number) = two_numbers(numbers, CLIENT, NUMBER)?;
+    Some(Command::NumberedDeq {
+        client: Client(client as u8),
+        number,
     })
 }
 
@@ -85,6 +128,26 @@ fn step(line: &[u8]) -> Option<Command>
     })
 }
 
+/// `end C`
+fn end(line: &[u8]) -> Option<Command>
+    ensures { MatchOption result ((client : Client) → SaysCommand line.now (Command.End client) → ⊥) (SaysCommand line.now) }
+{
+    let numbers = after_name(line, b"end")?;
+    let client = one_number(numbers, CLIENT)?;
+    Some(Command::End {
+        client: Client(client as u8),
+    })
+}
+
+/// `evict W`
+fn evict(line: &[u8]) -> Option<Command>
+    ensures { MatchOption result ((word : ℕ) → SaysCommand line.now (Command.Evict word) → ⊥) (SaysCommand line.now) }
+{
+    let numbers = after_name(line, b"evict")?;
+    let word = one_number(numbers, NUMBER)?;
+    Some(Command::Evict { word })
+}
+
 /// `content`
 fn content(line: &[u8]) -> Option<Command>
     ensures { MatchOption result (SaysCommand line.now Command.Content → ⊥) (SaysCommand line.now) }
@@ -96,19 +159,70 @@ fn content(line: &[u8]) -> Option<Command>
     }
 }
 
-/// Any line but the queue's.
-#[tactic(auto, using(crate::proofs::Rows::no_row))]
-pub(crate) fn command(line: &[u8]) -> Option<Command>
-    ensures { MatchOption result ((command : Command) → SaysCommand line.now command → ⊥) (SaysCommand line.now) }
+/// `order`
+fn order(line: &[u8]) -> Option<Command>
+    ensures { MatchOption result (SaysCommand line.now Command.Order → ⊥) (SaysCommand line.now) }
+{
+    if is_name(line, b"order") {
+        Some(Command::Order)
+    } else {
+        None
+    }
+}
+
+/// The lines that start or go on with a call.
+fn call_line(line: &[u8]) -> Option<Command>
+    ensures { MatchOption result (IsNoCall line.now) (SaysCommand line.now) }
 {
     if let Some(command) = enq(line) {
+        return Some(command);
+    }
+    if let Some(command) = numbered_enq(line) {
         return Some(command);
     }
     if let Some(command) = deq(line) {
         return Some(command);
     }
+    if let Some(command) = numbered_deq(line) {
+        return Some(command);
+    }
     if let Some(command) = step(line) {
         return Some(command);
     }
-    content(line)
+    end(line)
+}
+
+/// The lines about the memory, and those that show something.
+fn memory_line(line: &[u8]) -> Option<Command>
+    ensures { MatchOption result (IsNoMemoryLine line.now) (SaysCommand line.now) }
+{
+    if let Some(command) = evict(line) {
+        return Some(command);
+    }
+    if let Some(command) = content(line) {
+        return Some(command);
+    }
+    order(line)
+}
+
+/// Any line but the queue's.
+#[tactic(auto, using(crate::proofs::Rows::no_row))]
+pub(crate) fn command(line: &[u8]) -> Option<Command>
+    ensures { MatchOption result ((command : Command) → SaysCommand line.now command → ⊥) (SaysCommand line.now) }
+{
+    if let Some(command) = call_line(line) {
+        return Some(command);
+    }
+    memory_line(line)
+}
+
+/// Whether a queue of this kind has such a command.
+pub(crate) fn is_on(kind: Kind, command: Command) -> bool
+    ensures { result ≡ is_on kind command }
+{
+    match (kind, command) {
+        (Kind::Durable, Command::NumberedEnq { .. } | Command::NumberedDeq { .. }) => false,
+        (Kind::Log, Command::Enq { .. } | Command::Deq { .. }) => false,
+        _ => true,
+    }
 }

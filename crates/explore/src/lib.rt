@@ -5,6 +5,7 @@ mod command;
 mod grammar;
 mod laws;
 mod line;
+mod ordered;
 mod parse;
 mod play;
 mod running;

@@ -104,3 +104,18 @@ pub(crate) fn is_name(line: &[u8], name: &[u8]) -> bool
         (_, Some(_)) => false,
     }
 }
+
+/// The three numbers that are all of a text.
+pub(crate) fn three_numbers(
+    text: &[u8],
+    first: Limits,
+    second: Limits,
+    third: Limits,
+) -> Option<(u64, u64, u64)>
+    ensures { MatchOption result ((k m n : ℕ) → IsWithin first k → IsWithin second m → IsWithin third n → words_of text.now ≢ decimal k ∷ decimal m ∷ decimal n ∷ []) (λ r. (words_of text.now ≡ decimal r.0 ∷ decimal r.1 ∷ decimal r.2 ∷ []) × IsWithin first r.0 × IsWithin second r.1 × IsWithin third r.2) }
+{
+    let (word, rest) = first_word(text);
+    let k = number_within(word, first)?;
+    let (m, n) = two_numbers(rest?, second, third)?;
+    Some((k, m, n))
+}

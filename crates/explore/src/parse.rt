@@ -1,13 +1,15 @@
 //! A script read from its text.
 
-ghost use Rattle.std.specs.Prelude.{◌≡◌, ◌⊎◌, ◌<◌, ℕ, List, ◌∷◌, [], ◌++◌, Option, None, Some, Ok, IfOk, IfErr, IfNone, length, not, true, false};
+ghost use Rattle.std.specs.Prelude.{MatchOption, ◌≡◌, ◌⊎◌, ◌<◌, ℕ, List, ◌∷◌, [], ◌++◌, Option, None, Some, Ok, IfOk, IfErr, IfNone, length, not, true, false};
 ghost use Rattle.explore.specs.Lines.{lines_of, without_last_newline, is_told};
+ghost use Rattle.explore.specs.Grammar.{SaysCommand, is_on};
+ghost use Rattle.explore.specs.declared.command.Command.{Command};
 ghost use Rattle.explore.specs.Script.{Says, IsFirstBad, Continues, EndsBadly};
 
 use crate::command::{Command, QueueLine, Script};
-use crate::grammar::{command, queue_line};
+use crate::grammar::{command, is_on, queue_line};
 use std::alloc::Global;
-use words::Refusal;
+use words::{Kind, Refusal};
 
 /// The most lines of a script.
 pub const MAX_LINES: u32 = 1_000;
@@ -32,6 +34,18 @@ fn body(text: &[u8]) -> &[u8]
     }
 }
 
+/// The command of a line, where a queue of this kind has it.
+fn command_on(kind: Kind, line: &[u8]) -> Option<Command>
+    ensures { MatchOption result ((command : Command) → SaysCommand line.now command → is_on kind command ≡ true → ⊥) (λ command. SaysCommand line.now command × (is_on kind command ≡ true)) }
+{
+    let command = command(line)?;
+    if is_on(kind, command) {
+        Some(command)
+    } else {
+        None
+    }
+}
+
 /// Takes in the next line, and answers whether it is a good one.
 fn add_line(
     queue: &mut Option<QueueLine>,
@@ -46,16 +60,16 @@ fn add_line(
     if is_skipped(line) {
         return Ok(true);
     }
-    if queue.is_none() {
+    let Some(first) = *queue else {
         *queue = queue_line(line);
         return Ok(queue.is_some());
-    }
-    let Some(next) = command(line) else {
-        return Ok(false);
     };
-    match commands.push(next) {
-        Ok(()) => Ok(true),
-        Err(_) => Err(Refusal::NoMemory),
+    match command_on(first.kind, line) {
+        None => Ok(false),
+        Some(next) => match commands.push(next) {
+            Ok(()) => Ok(true),
+            Err(_) => Err(Refusal::NoMemory),
+        },
     }
 }
 

@@ -1,16 +1,22 @@
 //! A world that follows a script, and what it prints.
 
 ghost use Rattle.std.specs.Prelude.{◌≡◌, ◌++◌, IfOk, IfErr, IfSome, OnOk, false, slice_index, slice_set, string_bytes};
-ghost use Rattle.interleave.specs.State.{start_result};
+ghost use Rattle.interleave.specs.State.{start_result, after_evict, evict_result, order_in};
 ghost use Rattle.explore.specs.Grammar.{IsServedQueue};
-ghost use Rattle.explore.specs.Transcript.{started, start_text, after_steps, steps_text, after_command, command_prints, commands_print, queue_prints, script_prints};
+ghost use Rattle.explore.specs.Prints.{order_lines};
+ghost use Rattle.explore.specs.Transcript.{started, start_text, after_steps, steps_text, evict_text, after_command, command_prints, commands_print, queue_prints, script_prints};
 
 use crate::command::{Command, Script};
-use crate::text::{write_call, write_content, write_refused, write_return, write_size};
-use arena::{DurableLayout, Layout, MAX_CLIENTS};
+use crate::text::{
+    write_call, write_content, write_evict, write_order, write_refused, write_return, write_size,
+};
+use arena::{DurableLayout, Layout, LogLayout, MAX_CLIENTS};
 use interleave::World;
 use std::alloc::Global;
-use words::{Call, Client, Refusal};
+use words::{Call, Client, Kind, Refusal};
+
+/// The most steps of a call that goes on alone, wherever it waits.
+const MOST_ALONE: u32 = 64;
 
 /// How many steps a client's call has made.
 fn steps_of(steps: &[u64], client: Client) -> u64
@@ -36,14 +42,15 @@ fn play_start<L: Layout + Drop>(
     out: &mut String,
     command: Command,
     client: Client,
+    number: u64,
     call: Call,
 ) -> Result<(), Refusal>
     ensures play { OnOk result (record { world = world.new.now; steps = steps.new }
-        ≡ started (record { shape = L.shape; word_of = L.word_of; place_at = L.place_at; size_of = L.size_of }) (record { world = world.old.now; steps = steps.old }) client call) }
-    ensures text { OnOk result (string_bytes out.new ≡ string_bytes out.old ++ start_text command (start_result (record { shape = L.shape; word_of = L.word_of; place_at = L.place_at; size_of = L.size_of }) false world.old.now client 0)) }
+        ≡ started (record { shape = L.shape; word_of = L.word_of; place_at = L.place_at; size_of = L.size_of }) (record { world = world.old.now; steps = steps.old }) client number call) }
+    ensures text { OnOk result (string_bytes out.new ≡ string_bytes out.old ++ start_text command (start_result (record { shape = L.shape; word_of = L.word_of; place_at = L.place_at; size_of = L.size_of }) false world.old.now client number)) }
     ensures errors { IfErr result (λ e. e ≡ Refusal.NoMemory) }
 {
-    match world.start(client, 0, call) {
+    match world.start(client, number, call) {
         Ok(()) => {
             set_steps(steps, client, 0);
             write_call(out, command)
@@ -80,6 +87,32 @@ fn play_steps<L: Layout + Drop>(
     Ok(())
 }
 
+/// The environment keeps a word.
+fn play_evict<L: Layout + Drop>(
+    world: &mut World<L>,
+    out: &mut String,
+    word: u64,
+) -> Result<(), Refusal>
+    ensures world { OnOk result (world.new.now ≡ after_evict (record { shape = L.shape; word_of = L.word_of; place_at = L.place_at; size_of = L.size_of }) world.old.now word) }
+    ensures text { OnOk result (string_bytes out.new ≡ string_bytes out.old ++ evict_text word (evict_result (record { shape = L.shape; word_of = L.word_of; place_at = L.place_at; size_of = L.size_of }) world.old.now word)) }
+    ensures errors { IfErr result (λ e. e ≡ Refusal.NoMemory) }
+{
+    match world.evict(word as usize) {
+        Ok(change) => write_evict(out, word, change.is_some()),
+        Err(refusal) => write_refused(out, refusal),
+    }
+}
+
+/// Shows in which order the calls took effect.
+fn play_order<L: Layout + Drop>(world: &World<L>, out: &mut String) -> Result<(), Refusal>
+    ensures text { OnOk result (string_bytes out.new ≡ string_bytes out.old ++ order_lines world.now.now.log.events (order_in world.now.now)) }
+    ensures errors { IfErr result (λ e. e ≡ Refusal.NoMemory) }
+{
+    let order = world.order()?;
+    let history = world.history();
+    write_order(out, history.events.as_slice(), order.entries.as_slice())
+}
+
 /// Follows one command.
 fn play_command<L: Layout + Drop>(
     world: &mut World<L>,
@@ -94,14 +127,25 @@ fn play_command<L: Layout + Drop>(
 {
     match command {
         Command::Enq { client, value } => {
-            play_start(world, steps, out, command, client, Call::Enq(value))
+            play_start(world, steps, out, command, client, 0, Call::Enq(value))
         }
-        Command::Deq { client } => play_start(world, steps, out, command, client, Call::Deq),
+        Command::NumberedEnq {
+            client,
+            number,
+            value,
+        } => play_start(world, steps, out, command, client, number, Call::Enq(value)),
+        Command::Deq { client } => play_start(world, steps, out, command, client, 0, Call::Deq),
+        Command::NumberedDeq { client, number } => {
+            play_start(world, steps, out, command, client, number, Call::Deq)
+        }
         Command::Step { client, most } => play_steps(world, steps, out, client, most),
+        Command::End { client } => play_steps(world, steps, out, client, MOST_ALONE),
+        Command::Evict { word } => play_evict(world, out, word),
         Command::Content => {
             let values = world.content()?;
             write_content(out, &values)
         }
+        Command::Order => play_order(world, out),
     }
 }
 
@@ -131,9 +175,18 @@ pub fn transcript(alloc: Global, script: &Script) -> Result<Vec<u8>, Refusal>
     ensures errors { IfErr result (λ e. e ≡ Refusal.NoMemory) }
 {
     let mut out = String::new(alloc);
-    if let Some(queue) = script.queue {
-        let layout = DurableLayout::make(queue.clients, queue.records)?;
-        play(alloc, layout, &script.commands, &mut out)?;
+    let Some(queue) = script.queue else {
+        return Ok(out.into_bytes());
+    };
+    match queue.kind {
+        Kind::Durable => {
+            let layout = DurableLayout::make(queue.clients, queue.records)?;
+            play(alloc, layout, &script.commands, &mut out)?;
+        }
+        Kind::Log => {
+            let layout = LogLayout::make(queue.clients, queue.records)?;
+            play(alloc, layout, &script.commands, &mut out)?;
+        }
     }
     Ok(out.into_bytes())
 }

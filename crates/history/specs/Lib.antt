@@ -12,3 +12,4 @@ pub mod Counting
 pub mod Sweeps
 pub mod Fronts
 pub mod Hearing
+pub mod InTurn

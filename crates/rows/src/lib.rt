@@ -6,4 +6,10 @@ mod checker;
 #[cfg(test)]
 mod drawn;
 #[cfg(test)]
+mod durables;
+#[cfg(test)]
+mod logs;
+#[cfg(test)]
 mod scripts;
+#[cfg(test)]
+mod worlds;

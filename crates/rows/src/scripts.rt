@@ -7,7 +7,7 @@ use std::test::Fail;
 use words::Refusal;
 
 /// What a text prints that is a script.
-fn printed(alloc: Global, text: &str) -> Result<Vec<u8>, Refusal> {
+pub(crate) fn printed(alloc: Global, text: &str) -> Result<Vec<u8>, Refusal> {
     let script = parse_script(alloc, text.as_bytes())?;
     transcript(alloc, &script)
 }
@@ -205,7 +205,7 @@ fn prints_what_the_steps_do(rt: HostRuntime) -> Result<(), Fail> {
 }
 
 /// Texts with a bad line, and its number.
-static BAD: [(&str, u32); 34] = [
+static BAD: [(&str, u32); 53] = [
     ("enq 0 5", 1),
     ("content", 1),
     ("# one\n\nstep 0 1", 3),
@@ -240,6 +240,25 @@ static BAD: [(&str, u32); 34] = [
     ("queue durable 1 1\ncontent 1", 2),
     ("queue durable 1 1\ncontents", 2),
     ("queue durable 1 1\nenqueue 0 5", 2),
+    ("queue durable 1 1\nend", 2),
+    ("queue durable 1 1\nend 256", 2),
+    ("queue durable 1 1\nend 0 1", 2),
+    ("queue durable 1 1\norder 1", 2),
+    ("queue durable 1 1\nevict", 2),
+    ("queue durable 1 1\nevict -1", 2),
+    ("queue durable 1 1\nevict 18446744073709551616", 2),
+    ("queue durable 1 1\nenq 0 1 5", 2),
+    ("queue log 1 1\nenq 0 5", 2),
+    ("queue log 1 1\ndeq 0", 2),
+    ("queue log 1 1\nenq 0 18446744073709551616 5", 2),
+    ("queue log 1 1\nenq 0 1 4294967296", 2),
+    ("queue log 1 1\ndeq 0 1 1", 2),
+    ("queue log 0 1", 1),
+    ("queue log 1 4097", 1),
+    ("queue Log 1 1", 1),
+    ("queue durable 1 1\ncrash", 2),
+    ("queue durable 1 1\nrecover", 2),
+    ("queue log 1 1\nrecover 5", 2),
 ];
 
 #[test]

@@ -5,7 +5,8 @@ use Rattle.words.specs.declared.call.Reply.{Reply}
 use Rattle.words.specs.declared.refusal.Refusal.{Refusal}
 use Rattle.interleave.specs.Calls.{is_no_memory}
 use Rattle.interleave.specs.State.{Laid, step_result, after_step}
-use Rattle.explore.specs.Transcript.{Play, stepped, counted, return_line}
+use Rattle.explore.specs.Transcript.{Play, stepped, counted}
+use Rattle.explore.specs.Prints.{return_line}
 use Rattle.explore.proofs.Plays.{is_another, where_both, always_ok, refused_same, one_step, leads_on, prints_on, ends_answered, prints_answered, ends_refused, prints_refused}
 use Rattle.explore.proofs.play.play_steps.Goals as goal
 
@@ -14,19 +15,19 @@ returns-in-Err-clause-play g c =
     let laid : Laid _ = record { shape = g.L.Layout.shape; word_of = g.L.Layout.word_of; place_at = g.L.Layout.place_at; size_of = g.L.Layout.size_of } in
     let play : Play _ = record { world = c.loop.world.now; steps = c.loop.steps } in
     on_ok_weaker c.write_refused.result (λ other.
-        let memory : is_no_memory c.step.result ≡ false = ap (λ (r : Result (Option Reply) Refusal). is_no_memory r) c.in-Err.is ∙ is_another (Option Reply) c.in-Err.refusal other in
-        let refused : step_result laid false c.loop.world.now c.args.client ≡ Err c.in-Err.refusal = ap (λ full. step_result laid full c.loop.world.now c.args.client) (sym memory) ∙ sym c.step.ensures.result ∙ c.in-Err.is in
-        let same : c.step.new.self.now ≡ c.loop.world.now = c.step.ensures.world ∙ ap (λ full. after_step laid full c.loop.world.now c.args.client) memory ∙ refused_same laid c.loop.world.now c.args.client c.in-Err.refusal refused in
-        ap (λ w. record { world = w; steps = c.loop.steps }) same ∙ sym (ends_refused laid c.args.client c.args.most c.loop.counter play c.in-Err.refusal c.loop-test.true refused) ∙ c.loop.invariant.leads) c.write_refused.ensures.another
+    let memory : is_no_memory c.step.result ≡ false = ap (λ (r : Result (Option Reply) Refusal). is_no_memory r) c.in-Err.is ∙ is_another (Option Reply) c.in-Err.refusal other in
+    let refused : step_result laid false c.loop.world.now c.args.client ≡ Err c.in-Err.refusal = ap (λ full. step_result laid full c.loop.world.now c.args.client) (sym memory) ∙ sym c.step.ensures.result ∙ c.in-Err.is in
+    let same : c.step.new.self.now ≡ c.loop.world.now = c.step.ensures.world ∙ ap (λ full. after_step laid full c.loop.world.now c.args.client) memory ∙ refused_same laid c.loop.world.now c.args.client c.in-Err.refusal refused in
+    ap (λ w. record { world = w; steps = c.loop.steps }) same ∙ sym (ends_refused laid c.args.client c.args.most c.loop.counter play c.in-Err.refusal c.loop-test.true refused) ∙ c.loop.invariant.leads) c.write_refused.ensures.another
 
 pub returns-in-Err-clause-text : goal.returns-in-Err-clause-text
 returns-in-Err-clause-text g c =
     let laid : Laid _ = record { shape = g.L.Layout.shape; word_of = g.L.Layout.word_of; place_at = g.L.Layout.place_at; size_of = g.L.Layout.size_of } in
     let play : Play _ = record { world = c.loop.world.now; steps = c.loop.steps } in
     where_both c.write_refused.result c.write_refused.ensures.another c.write_refused.ensures.text (λ other text.
-        let memory : is_no_memory c.step.result ≡ false = ap (λ (r : Result (Option Reply) Refusal). is_no_memory r) c.in-Err.is ∙ is_another (Option Reply) c.in-Err.refusal other in
-        let refused : step_result laid false c.loop.world.now c.args.client ≡ Err c.in-Err.refusal = ap (λ full. step_result laid full c.loop.world.now c.args.client) (sym memory) ∙ sym c.step.ensures.result ∙ c.in-Err.is in
-        text ∙ ap (λ t. string_bytes c.loop.out ++ t) (sym (prints_refused laid c.args.client c.args.most c.loop.counter play c.in-Err.refusal c.loop-test.true refused)) ∙ c.loop.invariant.prints)
+    let memory : is_no_memory c.step.result ≡ false = ap (λ (r : Result (Option Reply) Refusal). is_no_memory r) c.in-Err.is ∙ is_another (Option Reply) c.in-Err.refusal other in
+    let refused : step_result laid false c.loop.world.now c.args.client ≡ Err c.in-Err.refusal = ap (λ full. step_result laid full c.loop.world.now c.args.client) (sym memory) ∙ sym c.step.ensures.result ∙ c.in-Err.is in
+    text ∙ ap (λ t. string_bytes c.loop.out ++ t) (sym (prints_refused laid c.args.client c.args.most c.loop.counter play c.in-Err.refusal c.loop-test.true refused)) ∙ c.loop.invariant.prints)
 
 pub returns-in-Some-clause-play : goal.returns-in-Some-clause-play
 returns-in-Some-clause-play g c =
@@ -48,8 +49,8 @@ returns-in-Some-clause-text g c =
     let answered : step_result laid false c.loop.world.now c.args.client ≡ Ok (Some c.in-Some.reply) = ap (λ full. step_result laid full c.loop.world.now c.args.client) (sym memory) ∙ sym c.step.ensures.result ∙ is in
     let count : c.saturating_add-count.result ≡ counted (slice_index c.loop.steps c.args.client.0) = cc in
     on_ok_weaker c.write_return.result (λ told.
-        told ∙ ap (λ n. string_bytes c.loop.out ++ return_line c.args.client c.in-Some.reply n) count
-        ∙ ap (λ t. string_bytes c.loop.out ++ t) (sym (prints_answered laid c.args.client c.args.most c.loop.counter play c.in-Some.reply c.loop-test.true answered)) ∙ c.loop.invariant.prints) c.write_return.ensures.text
+    told ∙ ap (λ n. string_bytes c.loop.out ++ return_line c.args.client c.in-Some.reply n) count
+    ∙ ap (λ t. string_bytes c.loop.out ++ t) (sym (prints_answered laid c.args.client c.args.most c.loop.counter play c.in-Some.reply c.loop-test.true answered)) ∙ c.loop.invariant.prints) c.write_return.ensures.text
 
 pub loop-preserved : goal.loop-preserved
 loop-preserved g c =

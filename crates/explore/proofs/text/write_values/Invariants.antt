@@ -1,5 +1,5 @@
 use Rattle.std.proofs.Common.{◌≡◌, ◌++◌, take, flat_map, string_bytes}
-use Rattle.explore.specs.Transcript.{value_text}
+use Rattle.explore.specs.Prints.{value_text}
 use Rattle.explore.proofs.text.write_values.Given as goal
 
 -- the values so far are written

@@ -1,0 +1,20 @@
+-- The lines in two groups.
+use Rattle.std.specs.Prelude.{ℕ, List}
+use Rattle.words.specs.declared.call.Client.{Client}
+use Rattle.explore.specs.Grammar.{SaysCommand}
+use Rattle.explore.specs.declared.command.Command.TheVariants.{Enq, NumberedEnq, Deq, NumberedDeq, Step, End, Evict, Content, Order}
+
+-- a line starts no call, and goes on with none
+pub record IsNoCall (line : List ℕ) : Type 0 where
+  pub enq : (client : Client) (value : ℕ) → SaysCommand line (Enq client value) → ⊥
+  pub numbered_enq : (client : Client) (number value : ℕ) → SaysCommand line (NumberedEnq client number value) → ⊥
+  pub deq : (client : Client) → SaysCommand line (Deq client) → ⊥
+  pub numbered_deq : (client : Client) (number : ℕ) → SaysCommand line (NumberedDeq client number) → ⊥
+  pub step : (client : Client) (most : ℕ) → SaysCommand line (Step client most) → ⊥
+  pub end : (client : Client) → SaysCommand line (End client) → ⊥
+
+-- a line says nothing about the memory, and shows nothing
+pub record IsNoMemoryLine (line : List ℕ) : Type 0 where
+  pub evict : (word : ℕ) → SaysCommand line (Evict word) → ⊥
+  pub content : SaysCommand line Content → ⊥
+  pub order : SaysCommand line Order → ⊥

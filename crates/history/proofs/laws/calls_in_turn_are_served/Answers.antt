@@ -1,0 +1,5 @@
+use Rattle.history.proofs.ServedInTurn.{served_in_turn}
+use Rattle.history.proofs.laws.calls_in_turn_are_served.Goals as goal
+
+pub returns : goal.returns
+returns c = served_in_turn
