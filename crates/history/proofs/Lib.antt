@@ -19,4 +19,4 @@ mod Turns
 mod Ascending
 mod AnswerSteps
 mod HearSteps
-pub mod ServedInTurn
+mod ServedInTurn

@@ -273,8 +273,8 @@ served_from_runs client (t ∷ turns) events base place begin runs =
     let is : runs.0.call ≡ t.call = same_Some _ _ (sym runs.0.names ∙ names) in (
       runs.0.reply ∙ ap (reply_of base) is,
       served_from_runs client turns events (served base t.call) (place + 2)
-      (later_begin client t turns events place begin)
-      (subst (λ (queue : List ℕ). Runs events queue (order_in_turn (place + 2) turns)) (ap (left_by base) names) runs.1),
+          (later_begin client t turns events place begin)
+          (subst (λ (queue : List ℕ). Runs events queue (order_in_turn (place + 2) turns)) (ap (left_by base) names) runs.1),
     )
 
 pub served_in_turn : (client : Client) (turns : List Turn) (base : List ℕ) (told : List Told) (order : List Entry)

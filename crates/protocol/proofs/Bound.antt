@@ -175,11 +175,10 @@ module _ (s : Shape) (m : Memory) (l : Ledger) (claimed waiting : List ℕ) (b :
       let head : put m.cached p v Head ≡ m.cached Head = put_other m.cached p v Head (λ e. subst IsOwn (sym e) own) in
       let behind : links (put m.cached p v) (put m.cached p v Head) ≡ links m.cached (m.cached Head) = same_links s m l p v own (put m.cached p v Head) ∙ ap (links m.cached) head in
       let mark : marks (put m.cached p v) (links (put m.cached p v) (put m.cached p v Head)) ≡ marks m.cached (links m.cached (m.cached Head)) =
-      same_marks s m l p v own (links (put m.cached p v) (put m.cached p v Head)) ∙ ap (marks m.cached) behind in
-      (
+      same_marks s m l p v own (links (put m.cached p v) (put m.cached p v Head)) ∙ ap (marks m.cached) behind in (
         ap one_if (same_links s m l p v own (put m.cached p v Tail) ∙ ap (links m.cached) tail),
         ap (λ x. if x == 0 then 0 else one_if (marks (put m.cached p v) (links (put m.cached p v) (put m.cached p v Head)))) behind
-        ∙ ap (λ y. if links m.cached (m.cached Head) == 0 then 0 else one_if y) mark,
+            ∙ ap (λ y. if links m.cached (m.cached Head) == 0 then 0 else one_if y) mark,
         head,
       )
 
@@ -350,8 +349,11 @@ module _ (s : Shape) (m : Memory) (l : Ledger) (claimed waiting : List ℕ) (b :
   falls (DequeueClaim p) h = falls_claim p.token p.first p.next p.value
   falls (DequeueFlushClaim p) h = omega (arith, same_move (accessed m (Flush (Mark p.next))) p.first.0 p.claim refl)
   falls (DequeueStoreResult p) h =
-      omega (arith, own_move_head_left (result_of s.kind (winner p.claim p.token) p.next p.value).place (result_of s.kind (winner p.claim p.token) p.next p.value).value p.first.0 p.claim
-      (result_own s.kind (winner p.claim p.token) p.next p.value))
+      omega (
+        arith,
+        own_move_head_left (result_of s.kind (winner p.claim p.token) p.next p.value).place (result_of s.kind (winner p.claim p.token) p.next p.value).value p.first.0 p.claim
+            (result_own s.kind (winner p.claim p.token) p.next p.value),
+      )
   falls (DequeueFlushResult p) h = omega (arith, same_move (accessed m (Flush (result_of s.kind (winner p.claim p.token) p.next p.value).place)) p.first.0 p.claim refl)
   falls (DequeueMoveHead p) h = falls_move_head p.token p.first p.next p.value p.claim h
 
@@ -405,7 +407,7 @@ module _ (s : Shape) (m : Memory) where
   check_head_most first last next =
       either (m.cached Head == first) (if first == last then (if next == 0 then 3 else 2 + help_dequeue_left m last) else 2 + claim_left m first next) (1 + dequeue_left m) 33
       (either (first == last) (if next == 0 then 3 else 2 + help_dequeue_left m last) (2 + claim_left m first next) 33
-          (either (next == 0) 3 (2 + help_dequeue_left m last) 33 (omega arith) (omega (arith, help_dequeue_most last))) (omega (arith, claim_most first next)))
+      (either (next == 0) 3 (2 + help_dequeue_left m last) 33 (omega arith) (omega (arith, help_dequeue_most last))) (omega (arith, claim_most first next)))
       (omega (arith, dequeue_most))
 
   -- and never more than 64

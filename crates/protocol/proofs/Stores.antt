@@ -267,8 +267,8 @@ module _ (s : Shape) (m : Memory) (l : Ledger) (claimed waiting : List ℕ) (b :
       ap (λ q. upd (links m.cached) last node (upd (links m.cached) last node q)) tail_is ∙ ap (upd (links m.cached) last node) (upd_same (links m.cached) last node)
       ∙ upd_other (links m.cached) last node node apart ∙ bare in
       let one : upd (links m.cached) last node (m.cached Head) ≢ 0 → marks m.cached (upd (links m.cached) last node (m.cached Head)) ≢ 0
-          → upd (links m.cached) last node (upd (links m.cached) last node (m.cached Head)) ≢ 0
-          → marks m.cached (upd (links m.cached) last node (upd (links m.cached) last node (m.cached Head))) ≡ 0 =
+      → upd (links m.cached) last node (upd (links m.cached) last node (m.cached Head)) ≢ 0
+      → marks m.cached (upd (links m.cached) last node (upd (links m.cached) last node (m.cached Head))) ≡ 0 =
       λ h g f. elim (upd_cases (links m.cached) last node (upd (links m.cached) last node (m.cached Head))) [
         | inl q ↦ ap (marks m.cached) q.1 ∙ unmarked
         | inr q ↦ elim (upd_cases (links m.cached) last node (m.cached Head)) [
@@ -327,8 +327,7 @@ module _ (s : Shape) (m : Memory) (l : Ledger) (claimed waiting : List ℕ) (b :
             let same : links m.cached next ≡ links m.kept next = b.chained.kept next kept in
             let later : IsAmong (links m.kept next) (drop 1 waiting) = in_chain (links m.kept) next (drop 1 waiting) next rest (inl refl) kept in
             let apart : links m.kept next ≢ next = λ e. not_again (links m.kept) next (drop 1 waiting) rest (subst (λ x. IsAmong x (drop 1 waiting)) e later) in
-            let waits : IsAmong (links m.kept next) waiting = subst (IsAmong (links m.kept next)) (sym (first_split next waiting h)) (inr later) in
-            (
+            let waits : IsAmong (links m.kept next) waiting = subst (IsAmong (links m.kept next)) (sym (first_split next waiting h)) (inr later) in (
               λ e. apart (sym same ∙ e),
               elim (cases_eq (marks m.cached (links m.cached next)) 0) [
                 | inl z ↦ z
@@ -405,7 +404,7 @@ module _ (s : Shape) (m : Memory) (l : Ledger) (claimed waiting : List ℕ) (b :
       let kept_some : links m.kept first ≢ 0 = λ z. c.some (sym c.link ∙ z) in
       let at_head : links m.cached (m.cached Head) ≡ next = ap (links m.cached) head_is ∙ b.chained.kept first kept_some ∙ c.link in
       let one : links m.cached (m.cached Head) ≢ 0 → upd (marks m.cached) next token (links m.cached (m.cached Head)) ≢ 0 → links m.cached (links m.cached (m.cached Head)) ≢ 0
-          → upd (marks m.cached) next token (links m.cached (links m.cached (m.cached Head))) ≡ 0 = λ q r f.
+      → upd (marks m.cached) next token (links m.cached (links m.cached (m.cached Head))) ≡ 0 = λ q r f.
       let two : links m.cached (links m.cached (m.cached Head)) ≡ links m.cached next = ap (links m.cached) at_head in
       let free : (links m.cached next ≢ next) × (marks m.cached (links m.cached next) ≡ 0) = behind_free next is_first (λ z. f (two ∙ z)) in
       ap (upd (marks m.cached) next token) two ∙ upd_other (marks m.cached) next token (links m.cached next) free.0 ∙ free.1 in
