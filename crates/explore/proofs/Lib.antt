@@ -4,3 +4,4 @@ pub mod Rows
 pub mod Scripts
 pub mod Unique
 pub mod Plays
+pub mod Alone

@@ -1,5 +1,5 @@
 -- Some steps are the first and then the rest.
-use Rattle.std.proofs.Common.{◌≡◌, ◌≢◌, refl, false, ℕ, suc, ◌<◌, ◌+◌, ◌-◌, sym, ap, ◌∙◌, arith, List, slice_index, slice_set}
+use Rattle.std.proofs.Common.{◌⊎◌, inl, inr, ◌≡◌, ◌≢◌, refl, false, ℕ, suc, ◌<◌, ◌+◌, ◌-◌, sym, ap, ◌∙◌, arith, List, slice_index, slice_set}
 use Rattle.std.specs.Prelude.{Option, None, Some, Result, Ok, Err, OnOk, slice_get}
 use Rattle.words.specs.declared.call.Client.{Client}
 use Rattle.words.specs.declared.call.Reply.{Reply}
@@ -20,6 +20,11 @@ pub where_both : {X E : Type 0} {P Q S : Type 0} (r : Result X E) → OnOk r P �
 where_both (Ok x) p q leads = leads p q
 where_both (Err e) p q leads = tt
 
+-- the other of two, where it is not the first
+pub not_first : {P Q : Type 0} → P ⊎ Q → (P → ⊥) → Q
+not_first (inl p) other = absurd (other p)
+not_first (inr q) other = q
+
 -- what holds anyway holds there
 pub always_ok : {X E : Type 0} {P : Type 0} (r : Result X E) → P → OnOk r P
 always_ok (Ok x) p = p
@@ -39,10 +44,10 @@ ends_answered laid client most done play reply more is =
     let left : most - done ≡ suc (most - (done + 1)) = omega arith in
     ap (λ n. after_steps laid client n play) left ∙ ap (λ (r : Result (Option Reply) Refusal). play_then r (after_steps laid client (most - (done + 1)) (stepped laid play client)) (stepped laid play client) play) is
 
-pub prints_answered : {L : Type 0} (laid : Laid L) (client : Client) (most done : ℕ) (play : Play L) (reply : Reply) → done < most → step_result laid false play.world client ≡ Ok (Some reply) → steps_text laid client (most - done) play ≡ return_line client reply (counted (slice_index play.steps client.0))
+pub prints_answered : {L : Type 0} (laid : Laid L) (client : Client) (most done : ℕ) (play : Play L) (reply : Reply) → done < most → step_result laid false play.world client ≡ Ok (Some reply) → steps_text laid client (most - done) play ≡ return_line client reply (counted 1 (slice_index play.steps client.0))
 prints_answered laid client most done play reply more is =
     let left : most - done ≡ suc (most - (done + 1)) = omega arith in
-    ap (λ n. steps_text laid client n play) left ∙ ap (λ (r : Result (Option Reply) Refusal). text_then client (counted (slice_index play.steps client.0)) r (steps_text laid client (most - (done + 1)) (stepped laid play client))) is
+    ap (λ n. steps_text laid client n play) left ∙ ap (λ (r : Result (Option Reply) Refusal). text_then client (counted 1 (slice_index play.steps client.0)) r (steps_text laid client (most - (done + 1)) (stepped laid play client))) is
 
 -- and so is one that is refused
 pub ends_refused : {L : Type 0} (laid : Laid L) (client : Client) (most done : ℕ) (play : Play L) (refusal : Refusal) → done < most → step_result laid false play.world client ≡ Err refusal → after_steps laid client (most - done) play ≡ play
@@ -53,10 +58,10 @@ ends_refused laid client most done play refusal more is =
 pub prints_refused : {L : Type 0} (laid : Laid L) (client : Client) (most done : ℕ) (play : Play L) (refusal : Refusal) → done < most → step_result laid false play.world client ≡ Err refusal → steps_text laid client (most - done) play ≡ refused_line refusal
 prints_refused laid client most done play refusal more is =
     let left : most - done ≡ suc (most - (done + 1)) = omega arith in
-    ap (λ n. steps_text laid client n play) left ∙ ap (λ (r : Result (Option Reply) Refusal). text_then client (counted (slice_index play.steps client.0)) r (steps_text laid client (most - (done + 1)) (stepped laid play client))) is
+    ap (λ n. steps_text laid client n play) left ∙ ap (λ (r : Result (Option Reply) Refusal). text_then client (counted 1 (slice_index play.steps client.0)) r (steps_text laid client (most - (done + 1)) (stepped laid play client))) is
 
 -- a step, by what it leaves and what it counts
-pub one_step : {L : Type 0} (laid : Laid L) (client : Client) (play : Play L) (world : State L) (steps : List ℕ) → world ≡ after_step laid false play.world client → steps ≡ slice_set play.steps client.0 (counted (slice_index play.steps client.0)) → record { world = world; steps = steps } ≡ stepped laid play client
+pub one_step : {L : Type 0} (laid : Laid L) (client : Client) (play : Play L) (world : State L) (steps : List ℕ) → world ≡ after_step laid false play.world client → steps ≡ slice_set play.steps client.0 (counted 1 (slice_index play.steps client.0)) → record { world = world; steps = steps } ≡ stepped laid play client
 one_step laid client play world steps left count = cc
 
 -- after a step that does not answer, the steps that are left lead where they did with it
@@ -71,4 +76,4 @@ pub prints_on : {L : Type 0} (laid : Laid L) (client : Client) (most done : ℕ)
 prints_on laid client most done play next more going same =
     let left : most - done ≡ suc (most - (done + 1)) = omega arith in
     ap (λ p. steps_text laid client (most - (done + 1)) p) same
-    ∙ sym (ap (λ n. steps_text laid client n play) left ∙ ap (λ (r : Result (Option Reply) Refusal). text_then client (counted (slice_index play.steps client.0)) r (steps_text laid client (most - (done + 1)) (stepped laid play client))) going)
+    ∙ sym (ap (λ n. steps_text laid client n play) left ∙ ap (λ (r : Result (Option Reply) Refusal). text_then client (counted 1 (slice_index play.steps client.0)) r (steps_text laid client (most - (done + 1)) (stepped laid play client))) going)

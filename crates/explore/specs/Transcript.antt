@@ -37,14 +37,14 @@ started laid play client number call = record {
   steps = steps_with client play.steps (start_result laid false play.world client number);
 }
 
--- a step counts; the count stays at its greatest value
-abbrev pub counted : ℕ → ℕ
-counted steps = min (steps + 1) 18446744073709551615
+-- steps are counted; the count stays at its greatest value
+abbrev pub counted : ℕ → ℕ → ℕ
+counted more steps = min (steps + more) 18446744073709551615
 
 abbrev pub stepped : {L : Type 0} → Laid L → Play L → Client → Play L
 stepped laid play client = record {
   world = after_step laid false play.world client;
-  steps = slice_set play.steps client.0 (counted (slice_index play.steps client.0));
+  steps = slice_set play.steps client.0 (counted 1 (slice_index play.steps client.0));
 }
 
 -- up to so many steps: they end early at the one that answers, which prints the answer, or that is refused
@@ -66,7 +66,7 @@ text_then client steps (Err refusal) going = refused_line refusal
 abbrev pub steps_text : {L : Type 0} → Laid L → Client → ℕ → Play L → List ℕ
 steps_text laid client zero play = []
 steps_text laid client (suc most) play =
-    text_then client (counted (slice_index play.steps client.0)) (step_result laid false play.world client) (steps_text laid client most (stepped laid play client))
+    text_then client (counted 1 (slice_index play.steps client.0)) (step_result laid false play.world client) (steps_text laid client most (stepped laid play client))
 
 -- an eviction
 abbrev pub after_eviction : {L : Type 0} → Laid L → Play L → ℕ → Play L
@@ -76,14 +76,18 @@ abbrev pub evict_text : ℕ → Result (Option Change) Refusal → List ℕ
 evict_text word (Ok change) = evict_line word (is_some change)
 evict_text word (Err refusal) = refused_line refusal
 
--- what a command does: a call on a durable queue has no number, and no call that goes on alone needs more than 64 steps
+-- no call that goes on alone needs more steps than these
+unfoldable pub most_alone : ℕ
+most_alone = 64
+
+-- what a command does: a call on a durable queue has no number
 abbrev pub after_command : {L : Type 0} → Laid L → Play L → Command → Play L
 after_command laid play (Enq client value) = started laid play client 0 (enq_call value)
 after_command laid play (NumberedEnq client number value) = started laid play client number (enq_call value)
 after_command laid play (Deq client) = started laid play client 0 deq_call
 after_command laid play (NumberedDeq client number) = started laid play client number deq_call
 after_command laid play (Step client most) = after_steps laid client most play
-after_command laid play (End client) = after_steps laid client 64 play
+after_command laid play (End client) = after_steps laid client most_alone play
 after_command laid play (Evict word) = after_eviction laid play word
 after_command laid play Content = play
 after_command laid play Order = play
@@ -95,7 +99,7 @@ command_prints laid play (NumberedEnq client number value) = start_text (Numbere
 command_prints laid play (Deq client) = start_text (Deq client) (start_result laid false play.world client 0)
 command_prints laid play (NumberedDeq client number) = start_text (NumberedDeq client number) (start_result laid false play.world client number)
 command_prints laid play (Step client most) = steps_text laid client most play
-command_prints laid play (End client) = steps_text laid client 64 play
+command_prints laid play (End client) = steps_text laid client most_alone play
 command_prints laid play (Evict word) = evict_text word (evict_result laid play.world word)
 command_prints laid play Content = content_line (kept_content laid play.world)
 command_prints laid play Order = order_lines play.world.log.events (order_in play.world)
@@ -104,9 +108,9 @@ abbrev pub commands_print : {L : Type 0} → Laid L → Play L → List Command 
 commands_print laid play [] = []
 commands_print laid play (command ∷ commands) = command_prints laid play command ++ commands_print laid (after_command laid play command) commands
 
--- a new world, in which no call has made a step
+-- a new world, in which no call has made a step; a client's number is one byte
 abbrev pub new_play : {L : Type 0} → Laid L → L → Play L
-new_play laid layout = record { world = new_world laid layout; steps = replicate 16 0 }
+new_play laid layout = record { world = new_world laid layout; steps = replicate 256 0 }
 
 -- the layout of a durable queue
 abbrev pub durable_laid : Laid Counts

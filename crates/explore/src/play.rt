@@ -4,41 +4,35 @@ ghost use Rattle.std.specs.Prelude.{◌≡◌, ◌++◌, IfOk, IfErr, IfSome, On
 ghost use Rattle.interleave.specs.State.{start_result, after_evict, evict_result, order_in};
 ghost use Rattle.explore.specs.Grammar.{IsServedQueue};
 ghost use Rattle.explore.specs.Prints.{order_lines};
-ghost use Rattle.explore.specs.Transcript.{started, start_text, after_steps, steps_text, evict_text, after_command, command_prints, commands_print, queue_prints, script_prints};
+ghost use Rattle.explore.specs.Transcript.{counted, most_alone, started, start_text, after_steps, steps_text, evict_text, after_command, command_prints, commands_print, queue_prints, script_prints};
 
 use crate::command::{Command, Script};
 use crate::text::{
     write_call, write_content, write_evict, write_order, write_refused, write_return, write_size,
 };
-use arena::{DurableLayout, Layout, LogLayout, MAX_CLIENTS};
+use arena::{DurableLayout, Layout, LogLayout};
 use interleave::World;
 use std::alloc::Global;
 use words::{Call, Client, Kind, Refusal};
 
-/// The most steps of a call that goes on alone, wherever it waits.
-const MOST_ALONE: u32 = 64;
+/// How many steps each client's call has made. A client's number is one byte.
+type Steps = [u64; 256];
 
-/// How many steps a client's call has made.
-fn steps_of(steps: &[u64], client: Client) -> u64
-    ensures { result ≡ slice_index steps.now client.0 }
-{
-    steps.get(client.0 as usize).copied().unwrap_or(0)
-}
-
-/// Notes how many steps a client's call has made.
-fn set_steps(steps: &mut [u64], client: Client, count: u64)
-    ensures { steps.new ≡ slice_set steps.old client.0 count }
+/// Counts steps of a client's call, and answers how many it has made.
+fn count_steps(steps: &mut Steps, client: Client, more: u64) -> u64
+    ensures count { result ≡ counted more (slice_index steps.old client.0) }
+    ensures steps { steps.new ≡ slice_set steps.old client.0 result }
 {
     let at = client.0 as usize;
-    if at < steps.len() {
-        steps[at] = count;
-    }
+    let count = steps[at].saturating_add(more);
+    steps[at] = count;
+    count
 }
 
 /// Starts a call.
 fn play_start<L: Layout + Drop>(
     world: &mut World<L>,
-    steps: &mut [u64],
+    steps: &mut Steps,
     out: &mut String,
     command: Command,
     client: Client,
@@ -52,7 +46,7 @@ fn play_start<L: Layout + Drop>(
 {
     match world.start(client, number, call) {
         Ok(()) => {
-            set_steps(steps, client, 0);
+            steps[client.0 as usize] = 0;
             write_call(out, command)
         }
         Err(refusal) => write_refused(out, refusal),
@@ -62,7 +56,7 @@ fn play_start<L: Layout + Drop>(
 /// Goes on with a call by at most so many steps.
 fn play_steps<L: Layout + Drop>(
     world: &mut World<L>,
-    steps: &mut [u64],
+    steps: &mut Steps,
     out: &mut String,
     client: Client,
     most: u32,
@@ -76,8 +70,7 @@ fn play_steps<L: Layout + Drop>(
         match world.step(client) {
             Err(refusal) => return write_refused(out, refusal),
             Ok(answer) => {
-                let count = steps_of(steps, client).saturating_add(1);
-                set_steps(steps, client, count);
+                let count = count_steps(steps, client, 1);
                 if let Some(reply) = answer {
                     return write_return(out, client, reply, count);
                 }
@@ -85,6 +78,27 @@ fn play_steps<L: Layout + Drop>(
         }
     }
     Ok(())
+}
+
+/// Goes on with a call alone, to its answer.
+fn play_end<L: Layout + Drop>(
+    world: &mut World<L>,
+    steps: &mut Steps,
+    out: &mut String,
+    client: Client,
+) -> Result<(), Refusal>
+    ensures play { OnOk result (record { world = world.new.now; steps = steps.new }
+        ≡ after_steps (record { shape = L.shape; word_of = L.word_of; place_at = L.place_at; size_of = L.size_of }) client most_alone (record { world = world.old.now; steps = steps.old })) }
+    ensures text { OnOk result (string_bytes out.new ≡ string_bytes out.old ++ steps_text (record { shape = L.shape; word_of = L.word_of; place_at = L.place_at; size_of = L.size_of }) client most_alone (record { world = world.old.now; steps = steps.old })) }
+    ensures errors { IfErr result (λ e. e ≡ Refusal.NoMemory) }
+{
+    match world.run_alone(client) {
+        Ok((reply, alone)) => {
+            let count = count_steps(steps, client, u64::from(alone));
+            write_return(out, client, reply, count)
+        }
+        Err(refusal) => write_refused(out, refusal),
+    }
 }
 
 /// The environment keeps a word.
@@ -116,7 +130,7 @@ fn play_order<L: Layout + Drop>(world: &World<L>, out: &mut String) -> Result<()
 /// Follows one command.
 fn play_command<L: Layout + Drop>(
     world: &mut World<L>,
-    steps: &mut [u64],
+    steps: &mut Steps,
     out: &mut String,
     command: Command,
 ) -> Result<(), Refusal>
@@ -139,7 +153,7 @@ fn play_command<L: Layout + Drop>(
             play_start(world, steps, out, command, client, number, Call::Deq)
         }
         Command::Step { client, most } => play_steps(world, steps, out, client, most),
-        Command::End { client } => play_steps(world, steps, out, client, MOST_ALONE),
+        Command::End { client } => play_end(world, steps, out, client),
         Command::Evict { word } => play_evict(world, out, word),
         Command::Content => {
             let values = world.content()?;
@@ -161,7 +175,7 @@ fn play<L: Layout + Drop>(
 {
     write_size(out, layout.size())?;
     let mut world = World::make(alloc, layout)?;
-    let mut steps = [0; MAX_CLIENTS as usize];
+    let mut steps = [0; 256];
     for command in commands {
         play_command(&mut world, &mut steps, out, *command)?;
     }

@@ -8,6 +8,7 @@ use Rattle.stepper.specs.declared.After.TheVariants.{More, Done}
 use Rattle.helping.specs.declared.op.Op.{Op}
 use Rattle.protocol.specs.Machine.{World, next_of, stepped, with_next}
 use Rattle.protocol.specs.declared.UnderWay.{UnderWay}
+use Rattle.protocol.proofs.Facts.{is_ready}
 use Rattle.protocol.proofs.Bound.{left, left_most, Falls, step_falls}
 use Rattle.interleave.specs.Calls.{answer_of, waiting_result}
 use Rattle.interleave.specs.Holds.{Holds, of_keeps}
@@ -54,7 +55,7 @@ module _ {L : Type 0} (laid : Laid L) (laws : (l : L) → IsLaidOut (laid.shape 
   goes_on holds none = go (next_of (as_machine laid w) u) refl none
     where
       falls : Falls (laid.shape w.layout) (stepped (as_machine laid w) client u).memory (next_of (as_machine laid w) u) (left (laid.shape w.layout) (as_machine laid w).memory u.op)
-      falls = step_falls (as_machine laid w) (of_keeps _ holds.inv) client u (may_step laid laws w client u here)
+      falls = step_falls (as_machine laid w) (is_ready (as_machine laid w) (of_keeps _ holds.inv) refl).working client u (may_step laid laws w client u here)
 
       go : (a : After Op) → next_of (as_machine laid w) u ≡ a → answer_of a ≡ None → GoesOn
       go (Done reply) e none2 = cc

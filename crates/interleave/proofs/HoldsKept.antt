@@ -1,11 +1,11 @@
 -- Each act keeps what holds of a world, and is the machine's.
-use Rattle.std.proofs.Common.{◌≡◌, ◌≢◌, ℕ, zero, suc, replicate, ◌<◌, ◌≤◌, inl, inr, Bool, true, false, if◌then◌else◌, ◌==◌, List, length, Option, Some, None, Result, Ok, Err, slice_get, slice_index, slice_index_or, slice_set, refl, sym, ap, ◌∙◌, subst, arith, get_or-set_other}
+use Rattle.std.proofs.Common.{◌≡◌, ◌≢◌, ◌+◌, ◌-◌, ◌++◌, nat_lt, ℕ, zero, suc, replicate, ◌<◌, ◌≤◌, inl, inr, Bool, true, false, if◌then◌else◌, ◌==◌, List, length, Option, Some, None, Result, Ok, Err, slice_get, slice_index, slice_index_or, slice_set, refl, sym, ap, ◌∙◌, subst, arith, get_or-set_other}
 use mathlib.Core.Path.{fun_ext}
 use Rattle.std.proofs.lemmas.Bool.Decides.{eqb_tells}
 use Rattle.std.proofs.lemmas.Grind.{get_or-set_at}
 use Rattle.std.proofs.lemmas.Option.{slice_get_within, get_or_from_slice_get}
 use Rattle.std.proofs.lemmas.Bool.Decides.{nat_tests}
-use Rattle.std.proofs.lemmas.Bool.{eqb-false}
+use Rattle.std.proofs.lemmas.Bool.{eqb-false, cases_lt, lt-ltb, le-ltb}
 use Rattle.words.specs.declared.call.Call.{Call}
 use Rattle.words.specs.declared.call.Call.TheVariants.{Enq, Deq}
 use Rattle.words.specs.declared.call.Client.{Client}
@@ -27,9 +27,12 @@ use Rattle.helping.specs.Table.{access_of}
 use Rattle.helping.specs.declared.op.Op.{Op}
 use Rattle.protocol.specs.Machine.{World, Memory, MayStart, MayStep, FitsKind, FitsCall, with_call, with_next, next_of, begun_of, call_begun, started, stepped, evicted, flushed, new_world as new_machine}
 use Rattle.protocol.specs.declared.UnderWay.{UnderWay}
+use Rattle.recover.specs.Table.{no_call as no_call_told}
+use Rattle.words.specs.declared.told.Told.{Told}
+use Rattle.words.specs.declared.told.Told.TheVariants.{None as told_none}
 use Rattle.interleave.specs.Calls.{waiting_result, idle_result}
 use Rattle.interleave.specs.Holds.{Holds, IsExplained, Keeps, of_keeps, to_keeps}
-use Rattle.interleave.specs.Queue.{number_check, new_queue}
+use Rattle.interleave.specs.Queue.{number_check, new_queue, told_in}
 use Rattle.interleave.specs.Ranges.{IsOfKind, IsSafe, IfCall}
 use Rattle.interleave.specs.Shown.{shown, shown_memory}
 use Rattle.interleave.specs.State.{State, Laid, new_world, as_machine, queue_left, gone_on, looked_at_bump, begun, used_by, number_of_idle, number_to_start, start_with, step_with, evict_with, after_start, after_step, after_evict, order_in}
@@ -38,7 +41,7 @@ use Rattle.interleave.specs.declared.queue.Queue.TheVariants.{Durable, Log}
 use Rattle.interleave.proofs.InRange.{access_fits, at_place}
 use Rattle.history.specs.Parts.{IsPartOf}
 use Rattle.history.proofs.Members.{part_same}
-use Rattle.protocol.proofs.Facts.{inv_new, inv_started, inv_stepped, inv_evicted, explained, part_stepped, part_evicted}
+use Rattle.protocol.proofs.Facts.{inv_new, inv_started, inv_stepped, inv_evicted, explained, part_stepped, part_evicted, TellsNothing}
 use Rattle.interleave.proofs.MachineFacts.{agreement}
 use Rattle.interleave.proofs.NoteLaws.{place_of_word}
 use Rattle.interleave.proofs.Safety.{call_fits as call_in_range, IsSafe-gone_on, IsSafe-begun, IsSafe-evicted}
@@ -95,6 +98,40 @@ number_fits_kind : (kind : Kind) (queue : Queue) (client : Client) (number n : �
 number_fits_kind kind queue client number n None h e = cc
 number_fits_kind kind queue client number n (Some None) h e = (refl, number_of_queue kind queue client number n h e)
 number_fits_kind kind queue client number n (Some (Some u)) h e = cc
+
+get_copies : {X : Type 0} (n t : ℕ) (x : X) → t < n → slice_get (replicate n x) t ≡ Some x
+get_copies zero t x h = absurd (omega (arith, h))
+get_copies (suc n) zero x h = refl
+get_copies (suc n) (suc t) x h = get_copies n t x (omega (arith, h))
+
+get_first : {X : Type 0} (n t : ℕ) (x : X) (ys : List X) → t < n → slice_get (replicate n x ++ ys) t ≡ Some x
+get_first zero t x ys h = absurd (omega (arith, h))
+get_first (suc n) zero x ys h = refl
+get_first (suc n) (suc t) x ys h = get_first n t x ys (omega (arith, h))
+
+get_second : {X : Type 0} (n m t : ℕ) (x y : X) → n ≤ t → t < n + m → slice_get (replicate n x ++ replicate m y) t ≡ Some y
+get_second zero m t x y le h = get_copies m t y (omega (arith, h))
+get_second (suc n) m zero x y le h = absurd (omega (arith, le))
+get_second (suc n) m (suc t) x y le h = get_second n m t x y (omega (arith, le)) (omega (arith, h))
+
+-- so many copies of one item, and then so many of another
+get_both : {X : Type 0} (n m t : ℕ) (x y : X) → t < n + m → slice_get (replicate n x ++ replicate m y) t ≡ Some (if nat_lt t n then x else y)
+get_both n m t x y h = elim (cases_lt t n) [
+  | inl lt ↦ rw (lt-ltb t n lt) (get_first n t x (replicate m y) lt)
+  | inr ge ↦ rw (le-ltb t n (omega (arith, ge))) (get_second n m t x y (omega (arith, ge)) h)
+]
+
+-- what a new queue tells
+tells_nothing : (s : Shape) → 1 ≤ s.clients → s.clients ≤ 16 → TellsNothing s (told_in (new_queue s.kind s.clients))
+tells_nothing s some few = go s.kind
+  where
+    go : (kind : Kind) (t : ℕ) → t < 16 → slice_get (told_in (new_queue kind s.clients)) t ≡ Some (if nat_lt t s.clients then no_call_told kind else told_none)
+    go durable_kind t h = get_both s.clients (16 - s.clients) t _ told_none (omega (arith, h, few))
+    go log_kind t h = get_copies 16 t told_none h ∙ same (nat_lt t s.clients)
+      where
+        same : (b : Bool) → (let o : Option Told = Some told_none in o) ≡ Some (if b then told_none else told_none)
+        same true = refl
+        same false = refl
 
 module _ {L : Type 0} (laid : Laid L) (laws : (l : L) → IsLaidOut (laid.shape l) (laid.word_of l) (laid.place_at l) (laid.size_of l)) where
   -- the call that waits may step
@@ -293,8 +330,8 @@ module _ {L : Type 0} (laid : Laid L) (laws : (l : L) → IsLaidOut (laid.shape 
       ap (λ (f : Place → ℕ). let x : World = record (as_machine laid (new_world laid layout)) { memory = record { cached = f; kept = f } } in x) words
       ∙ ap (λ (f : ℕ → Option UnderWay). let x : World = record w { calls = f } in x) calls
 
-  pub holds_new : (layout : L) → (laid.shape layout).clients ≤ 16 → IsOfKind (laid.shape layout).kind (new_queue (laid.shape layout).kind (laid.shape layout).clients) → Holds laid (new_world laid layout)
-  holds_new layout few kind =
+  pub holds_new : (layout : L) → 1 ≤ (laid.shape layout).clients → (laid.shape layout).clients ≤ 16 → IsOfKind (laid.shape layout).kind (new_queue (laid.shape layout).kind (laid.shape layout).clients) → Holds laid (new_world laid layout)
+  holds_new layout some few kind =
       let s = laid.shape layout in
       let size = laid.size_of layout in
       let zeros : List ℕ = replicate size 0 in
@@ -308,7 +345,7 @@ module _ {L : Type 0} (laid : Laid L) (laws : (l : L) → IsLaidOut (laid.shape 
           calls_fit = λ t. subst (IfCall s) (sym (no_call s.clients t)) tt;
         };
         kind = kind;
-        inv = subst Keeps (sym (new_is layout)) (to_keeps _ (inv_new s (new_world laid layout).told few));
+        inv = subst Keeps (sym (new_is layout)) (to_keeps _ (inv_new s (new_world laid layout).told some few (tells_nothing s some few)));
       }
 
 pub new_kind : (kind : Kind) (clients : ℕ) → IsOfKind kind (new_queue kind clients)

@@ -1,5 +1,5 @@
 -- What the machine's invariants say of a world.
-use Rattle.std.proofs.Common.{◌≡◌, ◌≢◌, ℕ, ◌<◌, ◌≤◌, List, Some, slice_get, subst, sym, ◌∙◌}
+use Rattle.std.proofs.Common.{◌≡◌, ◌≢◌, ℕ, ◌<◌, ◌≤◌, List, Some, slice_get, subst, sym, ◌∙◌, length}
 use Rattle.std.specs.Prelude.{All, AllPairs, slice_index_or}
 use Rattle.std.proofs.lemmas.Option.{slice_get_within, get_or_from_slice_get}
 use Rattle.arena.specs.Content.{kept_content}
@@ -9,8 +9,10 @@ use Rattle.history.specs.Replay.{queue_after}
 use Rattle.history.specs.declared.event.Effect.{Effect}
 use Rattle.history.proofs.LogQueue.{queue_of_order}
 use Rattle.protocol.specs.Machine.{World}
-use Rattle.protocol.proofs.Facts.{Inv, in_log, agrees}
+use Rattle.protocol.proofs.Facts.{Inv, in_log, agrees, effect_room}
 use Rattle.interleave.specs.Effects.{AreInSequence}
+use Rattle.interleave.specs.Holds.{Holds, of_keeps}
+use Rattle.interleave.specs.State.{State, Laid, as_machine}
 
 -- a fact of each item, at a place
 at_place : {X : Type 0} (P : X → Type 0) (xs : List X) → All P xs → (k : ℕ) (x : X) → slice_get xs k ≡ Some x → P x
@@ -33,3 +35,10 @@ in_sequence w inv =
 -- the kept words hold what the replay of the order leaves
 pub agreement : (w : World) → Inv w → kept_content w.shape w.memory.kept ≡ queue_after w.log.events w.base (order_of w.log.effects)
 agreement w inv = agrees w inv ∙ sym (queue_of_order w.shape.kind w.base w.told w.log.events w.log.effects (in_log w inv))
+
+-- the same of a world
+pub room_held : {L : Type 0} {laid : Laid L} {w : State L} → Holds laid w → length w.log.effects ≤ length w.log.events
+room_held {laid = laid} {w = w} holds = effect_room (as_machine laid w) (of_keeps (as_machine laid w) holds.inv)
+
+pub sequence_held : {L : Type 0} {laid : Laid L} {w : State L} → Holds laid w → AreInSequence w.log.effects
+sequence_held {laid = laid} {w = w} holds = in_sequence (as_machine laid w) (of_keeps (as_machine laid w) holds.inv)

@@ -13,9 +13,9 @@ use Rattle.words.specs.declared.call.Kind.{Kind}
 use Rattle.words.specs.declared.call.Kind.TheVariants.{Durable, Log}
 use Rattle.words.specs.declared.call.Reply.{Reply}
 use Rattle.arena.specs.Shape.{Shape, owner, record_of, greatest}
-use Rattle.arena.specs.Words.{bumps}
+use Rattle.arena.specs.Words.{bumps, announcements}
 use Rattle.arena.specs.declared.place.Place.{Place}
-use Rattle.arena.specs.declared.place.Place.TheVariants.{Next}
+use Rattle.arena.specs.declared.place.Place.TheVariants.{Next, Announcement}
 use Rattle.stepper.specs.Preparation.{IsBegun}
 use Rattle.stepper.specs.declared.After.{After}
 use Rattle.stepper.specs.declared.After.TheVariants.{More, Done}
@@ -38,13 +38,16 @@ use Rattle.history.proofs.Members.{part_same}
 use Rattle.history.proofs.Openings.{EndsBy, open_push}
 use Rattle.protocol.specs.Machine.{Memory, World, accessed, flushed, after_keeping, effects_after, events_after, with_call, with_next, next_of, stepped, begun_of, call_begun, started, evicted, FitsKind, FitsCall, MayStart, MayStep}
 use Rattle.protocol.specs.declared.UnderWay.{UnderWay}
+use Rattle.protocol.specs.Kept.{IsIssued}
 use Rattle.protocol.proofs.Chains.{upd, upd_same, upd_at, upd_other}
-use Rattle.protocol.proofs.State.{Stage, Ledger, Before, Base, Knows, Grows, IsIssued}
+use Rattle.protocol.proofs.State.{Acting, Stage, Ledger, Before, Base, Knows, Grows}
 use Rattle.protocol.proofs.State.Stage.{Unmoved, Took}
 use Rattle.protocol.proofs.Stable.{stable}
 use Rattle.protocol.proofs.Keeps.{kept_ledger, Kept}
 use Rattle.protocol.proofs.Flushes.{keep_any}
 use Rattle.protocol.proofs.Rows.{KnowsNext, ledger_after, Row, row, arrives}
+use Rattle.protocol.proofs.Records.{Both, IsAnnouncing, Records, keep_records}
+use Rattle.protocol.proofs.RecordStores.{acting_announced, row_records, rebegun_records}
 use Rattle.protocol.proofs.Stages.{stage_at, unmoved_of_none, taken_as_took}
 use Rattle.protocol.proofs.Moments.{nobody, record_of_call, stage_of, ledger_from, ledger_of, IsCalling, KnowsCall, Working, Noted, calling, nothing_noted, keep_noted, looked_noted}
 use Rattle.protocol.proofs.Rebegun.{rebegun, IsNew, IsThrough, rebegun_base, rebegun_grows, none_new, record_owner, next_unissued, unissued_silent, unissued_loose, unissued_new}
@@ -54,10 +57,10 @@ others_know : (w : World) → Working w → (i : ℕ) (n : Memory) (k : Ledger) 
 others_know w v i n k g j ne x e = stable i j w.shape w.memory (ledger_of w) n k ne g x.op (calling w v j x e).0
 
 module _ (w : World) (v : Working w) (p : Place) where
-  kept : Kept w.shape w.memory (ledger_of w) (flushed w.memory p) (kept_ledger w.shape w.memory (ledger_of w) p)
+  pub kept : Kept w.shape w.memory (ledger_of w) (flushed w.memory p) (kept_ledger w.shape w.memory (ledger_of w) p)
   kept = keep_any w.shape w.memory (ledger_of w) v.claimed v.waiting v.base p
 
-  noted : Noted w (after_keeping w p) (kept_ledger w.shape w.memory (ledger_of w) p)
+  pub noted : Noted w (after_keeping w p) (kept_ledger w.shape w.memory (ledger_of w) p)
   noted = keep_noted w v p
 
   kept_calls : (i : ℕ) (x : Option UnderWay) → KnowsCall w.shape w.memory (ledger_of w) w.log.events i x → KnowsCall w.shape (flushed w.memory p) (ledger_of (evicted w p)) w.log.events i x
@@ -73,9 +76,11 @@ module _ (w : World) (v : Working w) (p : Place) where
   evicted_works = record {
     ready = v.ready;
     sixteen = v.sixteen;
+    clients = v.clients;
     claimed = kept.claimed;
     waiting = kept.waiting;
     base = subst (λ k. Base w.shape (flushed w.memory p) k kept.claimed kept.waiting) (sym noted.same) kept.base;
+    records = subst (λ k. Records w.shape (flushed w.memory p) k) (sym noted.same) (keep_records w.shape w.memory (ledger_of w) v.claimed v.waiting v.base v.records p);
     calls = λ i. kept_calls i (w.calls i) (v.calls i);
     idle = v.idle;
     up = v.up;
@@ -95,7 +100,7 @@ step_noted w v i u at (DequeueFlushPassedLink p) h = keep_noted w v (Next p.last
 step_noted w v i u at (DequeueFlushClaim p) h = keep_noted w v _
 step_noted w v i u at (DequeueFlushResult p) h = keep_noted w v _
 step_noted w v i u at (DequeueLoadNext p) h =
-    looked_noted w v i u p.first.0 p.token.0 at (sym (ap (λ x. (record_of_call x).call) at) ∙ h.0.asks) h.0.before h.1
+    looked_noted w v i u p.first.0 p.token.0 at (sym (ap (λ x. (record_of_call x).call) at) ∙ h.0.asks) h.0.before h.0.acting h.1
 step_noted w v i u at _ h = nothing_noted w v
 
 -- the call of a client that has one is another
@@ -203,10 +208,10 @@ step_to w client u next = record w {
 
 -- a call's step
 module _ (w : World) (v : Working w) (client : Client) (u : UnderWay) (may : MayStep w client u) where
-  step_row : Row w.shape w.memory (ledger_of w) (accessed w.memory (access_of w.shape.kind u.op)) (ledger_after w.shape w.memory (ledger_of w) client.0 u.op) client.0 (next_of w u)
+  pub step_row : Row w.shape w.memory (ledger_of w) (accessed w.memory (access_of w.shape.kind u.op)) (ledger_after w.shape w.memory (ledger_of w) client.0 u.op) client.0 (next_of w u)
   step_row = row w.shape w.memory (ledger_of w) v.claimed v.waiting v.base client.0 u.op (calling w v client.0 u may.waits).0
 
-  step_noted_now : Noted w (effects_after w u u.op) (ledger_after w.shape w.memory (ledger_of w) client.0 u.op)
+  pub step_noted_now : Noted w (effects_after w u u.op) (ledger_after w.shape w.memory (ledger_of w) client.0 u.op)
   step_noted_now = step_noted w v client.0 u may.waits u.op (calling w v client.0 u may.waits).0
 
   called_here : IsCalling w.log.events client.0 u
@@ -214,6 +219,22 @@ module _ (w : World) (v : Working w) (client : Client) (u : UnderWay) (may : May
 
   client_here : u.begun.client ≡ client
   client_here = client_is u.begun.client client called_here.who
+
+  pub step_records : Records w.shape (accessed w.memory (access_of w.shape.kind u.op)) (ledger_after w.shape w.memory (ledger_of w) client.0 u.op)
+  step_records = row_records w.shape w.memory (ledger_of w) v.claimed v.waiting v.base v.records client.0 u.op (calling w v client.0 u may.waits).0
+
+  -- a call that answers has kept its announcement
+  same_announcement : (c : ℕ) → Acting w.shape (accessed w.memory (access_of w.shape.kind u.op)) (ledger_after w.shape w.memory (ledger_of w) client.0 u.op) client.0 c
+      → announcements (accessed w.memory (access_of w.shape.kind u.op)).cached client.0 ≡ announcements (accessed w.memory (access_of w.shape.kind u.op)).kept client.0
+  same_announcement c h =
+      elim (cases_eq (announcements (accessed w.memory (access_of w.shape.kind u.op)).cached client.0) (announcements (accessed w.memory (access_of w.shape.kind u.op)).kept client.0)) [
+        | inl e ↦ e
+        | inr ne ↦
+            let a : IsAnnouncing w.shape (accessed w.memory (access_of w.shape.kind u.op)) (ledger_after w.shape w.memory (ledger_of w) client.0 u.op) client.0 = step_records.announcing client.0 ne in
+            let both : Both (accessed w.memory (access_of w.shape.kind u.op)) (Announcement (record { 0 = client.0 })) c =
+            acting_announced w.shape (accessed w.memory (access_of w.shape.kind u.op)) (ledger_after w.shape w.memory (ledger_of w) client.0 u.op) client.0 c h a.told_of in
+            both.0 ∙ sym both.1
+      ]
 
   -- what other clients know, and that their calls stand
   others_stand : (k : Ledger) (event : List Event) → ((j : ℕ) (x : UnderWay) → j ≢ client.0 → w.calls j ≡ Some x → IsCalling (w.log.events ++ event) j x)
@@ -233,9 +254,11 @@ module _ (w : World) (v : Working w) (client : Client) (u : UnderWay) (may : May
       record {
         ready = may.ready;
         sixteen = v.sixteen;
+        clients = v.clients;
         claimed = step_row.claimed;
         waiting = step_row.waiting;
         base = subst (λ k. Base w.shape (accessed w.memory (access_of w.shape.kind u.op)) k step_row.claimed step_row.waiting) (sym same) step_row.base;
+        records = subst (λ k. Records w.shape (accessed w.memory (access_of w.shape.kind u.op)) k) (sym same) step_records;
         calls = λ j. elim (cases_eq j client.0) [
           | inl e ↦ subst (KnowsCall w.shape (accessed w.memory (access_of w.shape.kind u.op)) (ledger_of (step_to w client u (More op))) w.log.events j) (sym (call_same w.calls client.0 (Some (record u { op = op })) j e)) (
             subst (λ i. Knows w.shape (accessed w.memory (access_of w.shape.kind u.op)) (ledger_of (step_to w client u (More op))) i op) (sym e)
@@ -262,8 +285,9 @@ module _ (w : World) (v : Working w) (client : Client) (u : UnderWay) (may : May
         (calling w v j y e).1,
       )
 
-  ended_works : (reply : Reply) → (ledger_after w.shape w.memory (ledger_of w) client.0 u.op).stage client.0 ≡ Took reply → Working (step_to w client u (Done reply))
-  ended_works reply took =
+  ended_works : (reply : Reply) → (ledger_after w.shape w.memory (ledger_of w) client.0 u.op).stage client.0 ≡ Took reply
+      → announcements (accessed w.memory (access_of w.shape.kind u.op)).cached client.0 ≡ announcements (accessed w.memory (access_of w.shape.kind u.op)).kept client.0 → Working (step_to w client u (Done reply))
+  ended_works reply took announced =
       let n : Memory = accessed w.memory (access_of w.shape.kind u.op) in
       let k : Ledger = ledger_after w.shape w.memory (ledger_of w) client.0 u.op in
       let event : Event = return_event client reply in
@@ -285,9 +309,12 @@ module _ (w : World) (v : Working w) (client : Client) (u : UnderWay) (may : May
       record {
         ready = may.ready;
         sixteen = v.sixteen;
+        clients = v.clients;
         claimed = step_row.claimed;
         waiting = step_row.waiting;
         base = subst (λ q. Base w.shape (accessed w.memory (access_of w.shape.kind u.op)) q step_row.claimed step_row.waiting) (sym same) base;
+        records = subst (λ q. Records w.shape (accessed w.memory (access_of w.shape.kind u.op)) q) (sym same)
+            (rebegun_records w.shape (accessed w.memory (access_of w.shape.kind u.op)) (ledger_after w.shape w.memory (ledger_of w) client.0 u.op) client.0 nobody step_records announced);
         calls = λ j. elim (cases_eq j client.0) [
           | inl e ↦ subst (KnowsCall w.shape (accessed w.memory (access_of w.shape.kind u.op)) (ledger_of (step_to w client u (Done reply))) (w.log.events ++ return_event client reply ∷ []) j) (sym (call_same w.calls client.0 None j e)) tt
           | inr ne ↦ subst (KnowsCall w.shape (accessed w.memory (access_of w.shape.kind u.op)) (ledger_of (step_to w client u (Done reply))) (w.log.events ++ return_event client reply ∷ []) j) (sym (call_other w.calls client.0 None j ne))
@@ -313,7 +340,7 @@ module _ (w : World) (v : Working w) (client : Client) (u : UnderWay) (may : May
     where
       go : (next : After Op) → KnowsNext w.shape (accessed w.memory (access_of w.shape.kind u.op)) (ledger_after w.shape w.memory (ledger_of w) client.0 u.op) client.0 next → Working (step_to w client u next)
       go (More op) h = went_works op h
-      go (Done reply) h = ended_works reply h
+      go (Done reply) h = ended_works reply h.took (same_announcement h.at h.acting)
 
   pub stepped_part : IsPartOf (order_of w.log.effects) (order_of (stepped w client u).log.effects)
   stepped_part = step_noted_now.part
@@ -393,6 +420,14 @@ module _ (w : World) (v : Working w) (client : Client) (number : ℕ) (call : Ca
       } in
       arrives w.shape w.memory (rebegun (ledger_of w) client.0 (begun_of w client number call)) client.0 (begun_of w client number call) 0 before quiet here refl
       (record { begun = begun_fits; written = λ j x lt e. absurd (omega (arith, lt)) }) (omega arith)
+      (λ p own of named none. (
+        v.base.blank p of (λ z. token_some (sym named ∙ z)) (λ h. unissued (subst (IsIssued w.shape w.memory.kept) named h)),
+        v.base.blank_kept p of (λ z. token_some (sym named ∙ z)) (λ h. unissued (subst (IsIssued w.shape w.memory.kept) named h)),
+      ))
+      (λ none. (
+        λ e. unissued (subst (IsIssued w.shape w.memory.kept) e (v.base.announced client.0 (λ z. token_some (sym e ∙ z))).1),
+        λ e. unissued (subst (IsIssued w.shape w.memory.kept) e (v.base.announced_kept client.0 (λ z. token_some (sym e ∙ z))).1),
+      ))
 
   start_others : (j : ℕ) → j ≢ client.0 → (x : Option UnderWay) → w.calls j ≡ x
       → KnowsCall w.shape w.memory (ledger_of (started w client number call)) (w.log.events ++ call_event client number call ∷ []) j x
@@ -411,13 +446,24 @@ module _ (w : World) (v : Working w) (client : Client) (number : ℕ) (call : Ca
         open_from = record { begins = (number, (call, last)); no_end = λ k low high ends. absurd (omega (arith, low, high, length_push w.log.events (call_event client number call))) };
       }
 
+  -- an idle client's announcement is kept
+  start_announced : announcements w.memory.cached client.0 ≡ announcements w.memory.kept client.0
+  start_announced = elim (cases_eq (announcements w.memory.cached client.0) (announcements w.memory.kept client.0)) [
+    | inl e ↦ e
+    | inr ne ↦
+        let a : IsAnnouncing w.shape w.memory (ledger_of w) client.0 = v.records.announcing client.0 ne in
+        absurd (a.some (a.holds ∙ ap (λ c. (record_of_call c).token.0) may.idle))
+  ]
+
   pub started_works : Working (started w client number call)
   started_works = record {
     ready = may.ready;
     sixteen = v.sixteen;
+    clients = v.clients;
     claimed = v.claimed;
     waiting = v.waiting;
     base = subst (λ q. Base w.shape w.memory q v.claimed v.waiting) (sym start_same) start_base;
+    records = subst (λ q. Records w.shape w.memory q) (sym start_same) (rebegun_records w.shape w.memory (ledger_of w) client.0 (begun_of w client number call) v.records start_announced);
     calls = λ j. elim (cases_eq j client.0) [
       | inl e ↦ subst (KnowsCall w.shape w.memory (ledger_of (started w client number call)) (w.log.events ++ call_event client number call ∷ []) j)
           (sym (call_same w.calls client.0 (Some (call_begun w (begun_of w client number call))) j e)) (

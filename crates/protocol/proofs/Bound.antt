@@ -1,7 +1,7 @@
 -- A call that runs alone ends: how many steps it has left at most.
-use Rattle.std.proofs.Common.{◌≡◌, ◌≢◌, ℕ, zero, suc, ◌+◌, ◌-◌, ◌*◌, ◌≤◌, ◌<◌, ◌⊎◌, inl, inr, List, ◌∷◌, ◌++◌, length, Bool, true, false, Option, Some, None, if◌then◌else◌, ◌==◌, refl, sym, ◌∙◌, ap, subst, arith}
+use Rattle.std.proofs.Common.{◌≡◌, ◌≢◌, ℕ, ◌+◌, ◌-◌, ◌*◌, ◌≤◌, ◌<◌, List, length, Bool, true, false, Option, Some, None, if◌then◌else◌, ◌==◌, refl, sym, ◌∙◌, ap, subst, arith}
 use Rattle.std.specs.Prelude.{slice_get}
-use Rattle.std.proofs.lemmas.Bool.{cases_eq, cases_Bool, eqb-true, eqb-false, eq-eqb, ne_eqb}
+use Rattle.std.proofs.lemmas.Bool.{eqb-true, eqb-false, eq-eqb, ne_eqb}
 use Rattle.std.proofs.lemmas.Option.{slice_get_within}
 use Rattle.words.specs.declared.call.Call.{Call}
 use Rattle.words.specs.declared.call.Call.TheVariants.{Enq, Deq}
@@ -10,11 +10,10 @@ use Rattle.words.specs.declared.call.Kind.{Kind}
 use Rattle.words.specs.declared.call.Kind.TheVariants.{Durable, Log}
 use Rattle.words.specs.declared.call.NodeId.{NodeId}
 use Rattle.words.specs.declared.call.Token.{Token}
-use Rattle.persist.specs.Memory.{Access, Load, Store, Cas, Flush}
-use Rattle.arena.specs.Answers.{empty_answer_of, result_of}
-use Rattle.arena.specs.Chain.{LeadsTo}
+use Rattle.persist.specs.Memory.{Cas, Flush}
+use Rattle.arena.specs.Answers.{result_of}
 use Rattle.arena.specs.Shape.{Shape}
-use Rattle.arena.specs.Words.{links, marks, IsWritten}
+use Rattle.arena.specs.Words.{links, marks}
 use Rattle.arena.specs.declared.place.Write.{Write}
 use Rattle.arena.specs.declared.place.Place.{Place}
 use Rattle.arena.specs.declared.place.Place.TheVariants.{Head, Tail, Next, Mark}
@@ -24,7 +23,7 @@ use Rattle.stepper.specs.declared.After.{After}
 use Rattle.stepper.specs.declared.After.TheVariants.{More, Done}
 use Rattle.stepper.specs.declared.prepare.Begun.{Begun}
 use Rattle.helping.specs.Claims.{winner}
-use Rattle.helping.specs.Table.{node_of, token_of, access_of, successor, first_from, prepared_op, answer_or_again}
+use Rattle.helping.specs.Table.{token_of, access_of, successor, first_from, prepared_op, answer_or_again}
 use Rattle.helping.specs.declared.dequeue.Claim.{Claim}
 use Rattle.helping.specs.declared.dequeue.Claim.TheVariants.{Won, LostTo}
 use Rattle.helping.specs.declared.op.Op.{Op}

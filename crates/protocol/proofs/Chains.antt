@@ -237,3 +237,21 @@ pub rest_chain : (k : ℕ → ℕ) (from : ℕ) (xs ys : List ℕ) (y : ℕ) →
 rest_chain k from [] [] y c h = absurd h
 rest_chain k from [] (x ∷ ys) y c h = subst (λ z. IsChain k z ys) (sym h) c.2
 rest_chain k from (x ∷ xs) ys y c h = rest_chain k x xs ys y c.2 h
+
+-- what follows the end of a chain's first part is not in that part
+pub after_end : (k : ℕ → ℕ) (from : ℕ) (xs ys : List ℕ) → IsChain k from (xs ++ ys) → IsAmong (k (end_of from xs)) xs → ⊥
+after_end k from xs [] c i = go (in_left (k (end_of from xs)) xs [] i)
+  where
+    ended : (from : ℕ) (xs : List ℕ) → IsChain k from (xs ++ []) → k (end_of from xs) ≡ 0
+    ended from [] c = c
+    ended from (x ∷ xs) c = ended x xs c.2
+
+    go : IsAmong (k (end_of from xs)) (xs ++ []) → ⊥
+    go i = (linked_by k from (xs ++ []) c (k (end_of from xs)) i).2 (ended from xs c)
+after_end k from xs (y ∷ ys) c i =
+    let next : k (end_of from xs) ≡ y = follows from xs c in
+    parts_apart xs (y ∷ ys) (k (end_of from xs)) (distinct k from (xs ++ y ∷ ys) c) i (inl next)
+  where
+    follows : (from : ℕ) (xs : List ℕ) → IsChain k from (xs ++ y ∷ ys) → k (end_of from xs) ≡ y
+    follows from [] c = c.0
+    follows from (x ∷ xs) c = follows x xs c.2

@@ -1,5 +1,6 @@
 -- What callers of the machine may rely on.
-use Rattle.std.proofs.Common.{◌≡◌, ◌≢◌, ℕ, ◌≤◌, ◌<◌, inl, inr, List, [], ◌∷◌, ◌++◌, length, map, filter, Some, None, ◌==◌, refl, sym, ◌∙◌, ap, subst, arith}
+use Rattle.std.proofs.Common.{if◌then◌else◌, Option, ◌≡◌, ◌≢◌, ℕ, ◌≤◌, ◌<◌, inl, inr, List, [], ◌∷◌, ◌++◌, length, map, filter, Some, None, ◌==◌, refl, sym, ◌∙◌, ap, subst, arith}
+use Rattle.std.specs.Prelude.{slice_get, nat_lt}
 use Rattle.std.specs.List.{AllByRecursion, AllPairs}
 use Rattle.std.proofs.lemmas.Bool.Decides.{Decides-eqb}
 use Rattle.std.proofs.lemmas.List.{length-map}
@@ -10,7 +11,12 @@ use Rattle.std.proofs.lemmas.List.Elements.{filter-append, recursion_from_All, A
 use Rattle.words.specs.declared.call.Client.{Client}
 use Rattle.words.specs.declared.call.Call.{Call}
 use Rattle.words.specs.declared.told.Told.{Told}
-use Rattle.arena.specs.Chain.{IsAmong}
+use Rattle.words.specs.declared.told.Told.TheVariants.{None as told_none}
+use Rattle.recover.specs.Table.{no_call}
+use Rattle.recover.specs.declared.recovery.Recovered.{Recovered}
+use Rattle.recover.specs.declared.recovery.Recovered.TheVariants.{More, Ready}
+use Rattle.recover.specs.declared.recovery.Recovery.{Recovery}
+use Rattle.arena.specs.Chain.{IsChain, IsAmong}
 use Rattle.arena.specs.Chain.LeadsTo.{there}
 use Rattle.arena.specs.Content.{chain_of, waiting_of, kept_content}
 use Rattle.arena.specs.Ranges.{Fits}
@@ -27,48 +33,98 @@ use Rattle.history.specs.Parts.{IsPartOf}
 use Rattle.history.specs.declared.event.Effect.{Effect}
 use Rattle.history.proofs.LogExplains.{log_arises, log_explains}
 use Rattle.history.proofs.LogGrows.{begun}
+use Rattle.history.proofs.Members.{part_same}
 use Rattle.history.proofs.Lists.{pairs_map}
-use Rattle.protocol.specs.Machine.{Memory, World, call_with, started, stepped, evicted, after_keeping, effects_after, new_world, MayStart, MayStep}
+use Rattle.protocol.specs.Machine.{Memory, World, call_with, started, stepped, evicted, crashed, recovered, recovered_next, recovery_left, after_keeping, effects_after, new_world, MayStart, MayStep}
 use Rattle.protocol.specs.declared.UnderWay.{UnderWay}
+use Rattle.protocol.specs.Kept.{TellsOf}
 use Rattle.protocol.proofs.Chains.{any_in, Distinct, distinct, few, linked_by, walked, parts_apart}
 use Rattle.protocol.proofs.Links.{kept_apart}
-use Rattle.protocol.proofs.State.{Ledger, Base, SaysEmpty}
+use Rattle.protocol.proofs.State.{AllFit, SaysEmpty}
+use Rattle.protocol.proofs.RecordStores.{none_records}
 use Rattle.protocol.proofs.Rebegun.{empty_some}
 use Rattle.protocol.proofs.Moments.{ledger_of, Working, holder, keep_noted, calling}
-use Rattle.protocol.proofs.Acts.{evicted_works, evicted_part, stepped_works, stepped_part, step_noted, started_works, started_part}
+use Rattle.protocol.proofs.Acts.{evicted_part, stepped_part, step_noted}
+use Rattle.protocol.proofs.ReadyWorlds.{IsReady, evicted_ready, stepped_ready, started_ready, fresh_told}
+use Rattle.protocol.proofs.RecoveringWorlds.{Recovering, RecoveredTo, evicted_recovering, evicted_recovering_part, ready_crashed, recovering_crashed, crashed_part, recovered_works, recovered_part, nobody_kept, nobody_flushed, point_fits, told_woken}
+use Rattle.stepper.specs.Step.{kept_by}
+use Rattle.recover.specs.Table.{access_of, IsPoint}
 
--- what holds of the machine at every moment
+-- what holds of the machine at every moment: it is ready, or it recovers
+abbrev pub InvAt : World → Option Recovery → Type 0
+InvAt w None = IsReady w
+InvAt w (Some r) = Recovering w r
+
 abbrev pub Inv : World → Type 0
-Inv w = Working w
+Inv w = InvAt w w.recovery
+
+-- a ready world, and a recovering one
+pub is_ready : (w : World) → Inv w → w.recovery ≡ None → IsReady w
+is_ready w v e = subst (InvAt w) e v
+
+pub is_recovering : (w : World) → Inv w → (r : Recovery) → w.recovery ≡ Some r → Recovering w r
+is_recovering w v r e = subst (InvAt w) e v
 
 pub inv_evicted : (w : World) → Inv w → (p : Place) → Inv (evicted w p)
-inv_evicted w v p = evicted_works w v p
+inv_evicted w v p = go w.recovery refl v
+  where
+    go : (r : Option Recovery) → w.recovery ≡ r → InvAt w r → Inv (evicted w p)
+    go None e h = subst (InvAt (evicted w p)) (sym e) (evicted_ready w h p)
+    go (Some r) e h = subst (InvAt (evicted w p)) (sym e) (evicted_recovering w r h p)
 
 pub inv_stepped : (w : World) → Inv w → (client : Client) (u : UnderWay) → MayStep w client u → Inv (stepped w client u)
-inv_stepped w v client u may = stepped_works w v client u may
+inv_stepped w v client u may = subst (InvAt (stepped w client u)) (sym may.ready) (stepped_ready w (is_ready w v may.ready) client u may)
 
 pub inv_started : (w : World) → Inv w → (client : Client) (number : ℕ) (call : Call) → MayStart w client number call → Inv (started w client number call)
-inv_started w v client number call may = started_works w v client number call may
+inv_started w v client number call may = subst (InvAt (started w client number call)) (sym may.ready) (started_ready w (is_ready w v may.ready) client number call may)
+
+pub inv_crashed : (w : World) → Inv w → Inv (crashed w)
+inv_crashed w v = go w.recovery v
+  where
+    go : (r : Option Recovery) → InvAt w r → Inv (crashed w)
+    go None h = ready_crashed w h
+    go (Some r) h = recovering_crashed w r h
+
+pub inv_recovered : (w : World) → Inv w → (r : Recovery) → w.recovery ≡ Some r → Inv (recovered w r)
+inv_recovered w v r e = go (recovered_next w r) refl (recovered_works w r (is_recovering w v r e))
+  where
+    go : (next : Recovered) → recovered_next w r ≡ next → RecoveredTo (recovered w r) next → Inv (recovered w r)
+    go (More x) q h = subst (λ y. InvAt (recovered w r) (recovery_left y)) (sym q) h
+    go (Ready told) q h = subst (λ y. InvAt (recovered w r) (recovery_left y)) (sym q) h
 
 -- nothing that counts is taken back
 pub part_evicted : (w : World) → Inv w → (p : Place) → IsPartOf (order_of w.log.effects) (order_of (evicted w p).log.effects)
-part_evicted w v p = evicted_part w v p
+part_evicted w v p = go w.recovery v
+  where
+    go : (r : Option Recovery) → InvAt w r → IsPartOf (order_of w.log.effects) (order_of (evicted w p).log.effects)
+    go None h = evicted_part w h.working p
+    go (Some r) h = evicted_recovering_part w r h p
 
 pub part_stepped : (w : World) → Inv w → (client : Client) (u : UnderWay) → MayStep w client u → IsPartOf (order_of w.log.effects) (order_of (stepped w client u).log.effects)
-part_stepped w v client u may = stepped_part w v client u may
+part_stepped w v client u may = stepped_part w (is_ready w v may.ready).working client u may
 
 pub part_started : (w : World) → Inv w → (client : Client) (number : ℕ) (call : Call) → MayStart w client number call → IsPartOf (order_of w.log.effects) (order_of (started w client number call).log.effects)
-part_started w v client number call may = started_part w v client number call may
+part_started w v client number call may = part_same (order_of w.log.effects)
+
+pub part_crashed : (w : World) → Inv w → IsPartOf (order_of w.log.effects) (order_of (crashed w).log.effects)
+part_crashed w v = crashed_part w
+
+pub part_recovered : (w : World) → Inv w → (r : Recovery) → w.recovery ≡ Some r → IsPartOf (order_of w.log.effects) (order_of (recovered w r).log.effects)
+part_recovered w v r e = recovered_part w r (is_recovering w v r e)
 
 pub in_log : (w : World) → Inv w → IsLog w.shape.kind w.base w.told w.log.events w.log.effects
-in_log w v = v.log
+in_log w v = go w.recovery v
+  where
+    go : (r : Option Recovery) → InvAt w r → IsLog w.shape.kind w.base w.told w.log.events w.log.effects
+    go None h = h.working.log
+    go (Some r) h = h.log
 
 -- the order explains the history
 pub explained : (w : World) → Inv w → IsHistory w.log.events × Explains w.base w.told w.log.events (order_of w.log.effects)
-explained w v = (log_arises w.shape.kind w.base w.told w.log.events w.log.effects v.log, log_explains w.shape.kind w.base w.told w.log.events w.log.effects v.log)
-
-pub words_fit : (w : World) → Inv w → (p : Place) → Fits w.shape p (w.memory.cached p) × Fits w.shape p (w.memory.kept p)
-words_fit w v p = (v.base.fits p, v.base.fits_kept p)
+explained w v = (
+  log_arises w.shape.kind w.base w.told w.log.events w.log.effects (in_log w v),
+  log_explains w.shape.kind w.base w.told w.log.events w.log.effects (in_log w v),
+)
 
 none_left : (k : ℕ → ℕ) (xs : List ℕ) → ((x : ℕ) → IsAmong x xs → k x ≢ 0) → filter (λ n. k n == 0) xs ≡ []
 none_left k [] h = refl
@@ -79,42 +135,48 @@ all_left k [] h = refl
 all_left k (x ∷ xs) h = rw (eq-eqb (k x) 0 (h x (inl refl))) (ap (λ t. x ∷ t) (all_left k xs (λ y i. h y (inr i))))
 
 -- the nodes that kept links reach are the claimed ones and then the waiting ones
-pub chain_is : (s : Shape) (m : Memory) (l : Ledger) (claimed waiting : List ℕ) → Base s m l claimed waiting → chain_of s m.kept ≡ claimed ++ waiting
-chain_is s m l claimed waiting b =
-    walked (links m.kept) (greatest s) 0 (claimed ++ waiting) b.chained.chain
-    (few (claimed ++ waiting) (greatest s) (distinct (links m.kept) 0 (claimed ++ waiting) b.chained.chain)
-    (λ h. (linked_by (links m.kept) 0 (claimed ++ waiting) b.chained.chain 0 h).2 refl)
+pub chain_is : (s : Shape) (k : Place → ℕ) (claimed waiting : List ℕ) → IsChain (links k) 0 (claimed ++ waiting) → AllFit s k → chain_of s k ≡ claimed ++ waiting
+chain_is s k claimed waiting chain fits =
+    walked (links k) (greatest s) 0 (claimed ++ waiting) chain
+    (few (claimed ++ waiting) (greatest s) (distinct (links k) 0 (claimed ++ waiting) chain)
+    (λ h. (linked_by (links k) 0 (claimed ++ waiting) chain 0 h).2 refl)
     (λ q h.
-    let p : (p : ℕ) × (links m.kept p ≡ q) × (q ≢ 0) = linked_by (links m.kept) 0 (claimed ++ waiting) b.chained.chain q h in
-    subst (λ x. x ≤ greatest s) p.1 (b.fits_kept (Next (node_of p.0)))))
+    let p : (p : ℕ) × (links k p ≡ q) × (q ≢ 0) = linked_by (links k) 0 (claimed ++ waiting) chain q h in
+    subst (λ x. x ≤ greatest s) p.1 (fits (Next (node_of p.0)))))
 
-pub waiting_is : (s : Shape) (m : Memory) (l : Ledger) (claimed waiting : List ℕ) → Base s m l claimed waiting → waiting_of s m.kept ≡ waiting
-waiting_is s m l claimed waiting b =
-    let d : Distinct (claimed ++ waiting) = distinct (links m.kept) 0 (claimed ++ waiting) b.chained.chain in
-    ap (filter (λ n. marks m.kept n == 0)) (chain_is s m l claimed waiting b)
-    ∙ filter-append (λ n. marks m.kept n == 0) claimed waiting
-    ∙ ap (λ t. t ++ filter (λ n. marks m.kept n == 0) waiting) (none_left (marks m.kept) claimed b.marked.on)
-    ∙ all_left (marks m.kept) waiting (λ x h. elim (cases_eq (marks m.kept x) 0) [
+pub waiting_is : (s : Shape) (k : Place → ℕ) (claimed waiting : List ℕ) → IsChain (links k) 0 (claimed ++ waiting) → AllFit s k → ((n : ℕ) → IsAmong n claimed → marks k n ≢ 0) → ((n : ℕ) → marks k n ≢ 0 → IsAmong n claimed) → waiting_of s k ≡ waiting
+waiting_is s k claimed waiting chain fits on back =
+    let d : Distinct (claimed ++ waiting) = distinct (links k) 0 (claimed ++ waiting) chain in
+    ap (filter (λ n. marks k n == 0)) (chain_is s k claimed waiting chain fits)
+    ∙ filter-append (λ n. marks k n == 0) claimed waiting
+    ∙ ap (λ t. t ++ filter (λ n. marks k n == 0) waiting) (none_left (marks k) claimed on)
+    ∙ all_left (marks k) waiting (λ x h. elim (cases_eq (marks k x) 0) [
       | inl z ↦ z
-      | inr q ↦ absurd (parts_apart claimed waiting x d (b.marked.back x q) h)
+      | inr q ↦ absurd (parts_apart claimed waiting x d (back x q) h)
     ])
 
 -- agreement: the kept words hold what replay of the order leaves
 pub agrees : (w : World) → Inv w → kept_content w.shape w.memory.kept ≡ queue_of w.log.events w.base w.log.effects
-agrees w v = ap (map (values w.memory.kept)) (waiting_is w.shape w.memory (ledger_of w) v.claimed v.waiting v.base) ∙ v.base.content
+agrees w v = go w.recovery v
+  where
+    go : (r : Option Recovery) → InvAt w r → kept_content w.shape w.memory.kept ≡ queue_of w.log.events w.base w.log.effects
+    go None h =
+        let x : Working w = h.working in
+        ap (map (values w.memory.kept)) (waiting_is w.shape w.memory.kept x.claimed x.waiting x.base.chained.chain x.base.fits_kept x.base.marked.on x.base.marked.back) ∙ x.base.content
+    go (Some r) h = ap (map (values w.memory.kept)) (waiting_is w.shape w.memory.kept h.claimed h.waiting h.sound.chain h.sound.fits h.sound.on h.sound.back) ∙ h.sound.content
 
--- an effect that a link, or a claim, has when it becomes kept is of a call under way
-pub link_caller : (w : World) → Inv w → (n : ℕ) → links w.memory.kept n ≢ links w.memory.cached n → (u : UnderWay) × (call_with w (links w.memory.cached n) ≡ Some u)
+-- an effect that a link, or a claim, has when it becomes kept is of a call under way, in a ready world
+pub link_caller : (w : World) → IsReady w → (n : ℕ) → links w.memory.kept n ≢ links w.memory.cached n → (u : UnderWay) × (call_with w (links w.memory.cached n) ≡ Some u)
 link_caller w v n apart =
-    let none : links w.memory.kept n ≡ 0 = kept_apart (links w.memory.cached) (links w.memory.kept) n (v.base.chained.kept n) apart in
+    let none : links w.memory.kept n ≡ 0 = kept_apart (links w.memory.cached) (links w.memory.kept) n (v.working.base.chained.kept n) apart in
     let some : links w.memory.cached n ≢ 0 = λ z. apart (none ∙ sym z) in
-    holder w v (owner w.shape (links w.memory.cached n)) (links w.memory.cached n) some (v.base.flying_link n some none).holds
+    holder w v.working (owner w.shape (links w.memory.cached n)) (links w.memory.cached n) some (v.working.base.flying_link n some none).holds
 
-pub mark_caller : (w : World) → Inv w → (n : ℕ) → marks w.memory.kept n ≢ marks w.memory.cached n → (u : UnderWay) × (call_with w (marks w.memory.cached n) ≡ Some u)
+pub mark_caller : (w : World) → IsReady w → (n : ℕ) → marks w.memory.kept n ≢ marks w.memory.cached n → (u : UnderWay) × (call_with w (marks w.memory.cached n) ≡ Some u)
 mark_caller w v n apart =
-    let none : marks w.memory.kept n ≡ 0 = kept_apart (marks w.memory.cached) (marks w.memory.kept) n (v.base.marked.kept n) apart in
+    let none : marks w.memory.kept n ≡ 0 = kept_apart (marks w.memory.cached) (marks w.memory.kept) n (v.working.base.marked.kept n) apart in
     let some : marks w.memory.cached n ≢ 0 = λ z. apart (none ∙ sym z) in
-    holder w v (owner w.shape (marks w.memory.cached n)) (marks w.memory.cached n) some (v.base.flying_mark n some none).holds
+    holder w v.working (owner w.shape (marks w.memory.cached n)) (marks w.memory.cached n) some (v.working.base.flying_mark n some none).holds
 
 below_all : (q n : ℕ) (effects : List Effect) → AllByRecursion (λ (x : Effect). x.place < n) effects → IsAmong q (map (λ (x : Effect). x.place) effects) → q < n
 below_all q n [] h i = absurd i
@@ -134,13 +196,19 @@ log_room w effects log =
     (λ q h. below_all q (length w.log.events) effects below (any_in q (map (λ (x : Effect). x.place) effects) h)))
 
 pub effect_room : (w : World) → Inv w → length w.log.effects ≤ length w.log.events
-effect_room w v = log_room w w.log.effects v.log
+effect_room w v = log_room w w.log.effects (in_log w v)
 
 pub step_room : (w : World) → Inv w → (client : Client) (u : UnderWay) → MayStep w client u → length (effects_after w u u.op) ≤ length w.log.events
-step_room w v client u may = log_room w (effects_after w u u.op) (step_noted w v client.0 u may.waits u.op (calling w v client.0 u may.waits).0).log
+step_room w v client u may =
+    let x : Working w = (is_ready w v may.ready).working in
+    log_room w (effects_after w u u.op) (step_noted w x client.0 u may.waits u.op (calling w x client.0 u may.waits).0).log
 
 pub evict_room : (w : World) → Inv w → (p : Place) → length (after_keeping w p) ≤ length w.log.events
-evict_room w v p = log_room w (after_keeping w p) (keep_noted w v p).log
+evict_room w v p = go w.recovery v
+  where
+    go : (r : Option Recovery) → InvAt w r → length (after_keeping w p) ≤ length w.log.events
+    go None h = log_room w (after_keeping w p) (keep_noted w h.working p).log
+    go (Some r) h = subst (λ e. length e ≤ length w.log.events) (sym (nobody_kept w h.none p)) (log_room w w.log.effects h.log)
 
 zero_fits : (s : Shape) (p : Place) → Fits s p 0
 zero_fits s Head = omega arith
@@ -163,11 +231,16 @@ zeros = record { cached = λ p. 0; kept = λ p. 0 }
 zero_silent : (s : Shape) (c : ℕ) → SaysEmpty s (λ p. 0) c → ⊥
 zero_silent s c e = empty_some s.kind (token_of c) (sym e)
 
--- nothing was done yet
-pub inv_new : (s : Shape) (told : List Told) → s.clients ≤ 16 → Inv (new_world s told)
-inv_new s told few = record {
+-- what is told where nobody has called: nothing of any call, and nothing where there is no client
+abbrev pub TellsNothing : Shape → List Told → Type 0
+TellsNothing s told = (t : ℕ) → t < 16 → slice_get told t ≡ Some (if nat_lt t s.clients then no_call s.kind else told_none)
+
+-- the words of a new queue
+new_works : (s : Shape) (told : List Told) → 1 ≤ s.clients → s.clients ≤ 16 → Working (new_world s told)
+new_works s told some few = record {
   ready = refl;
   sixteen = few;
+  clients = some;
   claimed = [];
   waiting = [];
   base = record {
@@ -197,6 +270,8 @@ inv_new s told few = record {
     };
     kept_bump = λ t. omega arith;
     no_bump = λ t h. refl;
+    announced = λ t some. absurd (some refl);
+    announced_kept = λ t some. absurd (some refl);
     blank = λ p r some none. refl;
     blank_kept = λ p r some none. refl;
     absent = λ p none. refl;
@@ -204,6 +279,7 @@ inv_new s told few = record {
     fits = λ p. zero_fits s p;
     fits_kept = λ p. zero_fits s p;
   };
+  records = none_records s (ledger_of (new_world s told)) (λ i. refl);
   calls = λ i. tt;
   idle = λ client e way. absurd (cc_none way.open_from.begins.1.1);
   up = λ down. absurd (cc_none_crash down.crash);
@@ -215,3 +291,38 @@ inv_new s told few = record {
 
     cc_none_crash : {X : Type 0} {x : X} → None ≡ Some x → ⊥
     cc_none_crash e = cc
+
+-- nothing was done yet
+pub inv_new : (s : Shape) (told : List Told) → 1 ≤ s.clients → s.clients ≤ 16 → TellsNothing s told → Inv (new_world s told)
+inv_new s told some few fresh = record {
+  working = new_works s told some few;
+  tells = λ client x lt h. inr (record {
+    none = record { none = λ p low high taken. absurd (omega (arith, high)) };
+    same = fresh client.0 lt ∙ ap (λ y. Some y) (sym (fresh_told s client.0 x h));
+  });
+}
+
+-- what recovery learnt is in range
+pub recovery_point : (w : World) → Inv w → (r : Recovery) → w.recovery ≡ Some r → IsPoint w.shape r
+recovery_point w v r e =
+    let x : Recovering w r = is_recovering w v r e in
+    point_fits w.shape w.memory x.claimed x.waiting (queue_of w.log.events w.base w.log.effects) x.sound r x.at
+
+-- nobody calls during recovery, and nothing takes effect
+pub no_calls : (w : World) → Inv w → (r : Recovery) → w.recovery ≡ Some r → (j : ℕ) → w.calls j ≡ None
+no_calls w v r e j = (is_recovering w v r e).none j
+
+pub recovery_silent : (w : World) → Inv w → (r : Recovery) → w.recovery ≡ Some r → (recovered w r).log.effects ≡ w.log.effects
+recovery_silent w v r e = nobody_flushed w (is_recovering w v r e).none (kept_by (access_of w.shape.kind r))
+
+-- sixteen clients are told, by the kept words
+pub told_is : (w : World) → Inv w → (r : Recovery) → w.recovery ≡ Some r → (told : List Told) → recovered_next w r ≡ Ready told
+    → (length told ≡ 16) × ((t : ℕ) (x : Told) → slice_get told t ≡ Some x → TellsOf w.shape (recovered w r).memory.kept t x)
+told_is w v r e told q = told_woken w r (is_recovering w v r e) told q
+
+pub words_fit : (w : World) → Inv w → (p : Place) → Fits w.shape p (w.memory.kept p)
+words_fit w v p = go w.recovery v
+  where
+    go : (r : Option Recovery) → InvAt w r → Fits w.shape p (w.memory.kept p)
+    go None h = h.working.base.fits_kept p
+    go (Some r) h = h.sound.fits p

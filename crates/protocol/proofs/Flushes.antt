@@ -13,13 +13,14 @@ use Rattle.arena.specs.Chain.{IsAmong}
 use Rattle.arena.specs.Chain.LeadsTo.{there}
 use Rattle.arena.specs.Place.{number_of}
 use Rattle.arena.specs.Shape.{Shape, owner}
-use Rattle.arena.specs.Words.{links, marks, values, bumps}
+use Rattle.arena.specs.Words.{links, marks, values, bumps, announcements}
 use Rattle.arena.specs.declared.place.Place.{Place}
 use Rattle.arena.specs.declared.place.Place.TheVariants.{Head, Tail, Announcement, Bump, Value, Next, Mark, Cell, Insert, Number, EntryKind, Status, EntryNode}
 use Rattle.helping.specs.Table.{token_of}
 use Rattle.protocol.specs.Machine.{Memory, put, flushed}
+use Rattle.protocol.specs.Kept.{IsAnnounced, IsIssued}
 use Rattle.protocol.proofs.Chains.{upd, upd_at, upd_other, upd_cases, linked_by, in_left, in_right, leads_from, leads_in, map_agree}
-use Rattle.protocol.proofs.State.{Stage, Ledger, held, IsIssued, Says, empties, Blank, Absent, AllFit, IsLinking, IsClaiming, IsAnswering, Empties, Base}
+use Rattle.protocol.proofs.State.{Stage, Ledger, held, Says, empties, Blank, Absent, AllFit, IsLinking, IsClaiming, IsAnswering, Empties, Base}
 use Rattle.protocol.proofs.State.Stage.{Unmoved, Seen, Took}
 use Rattle.protocol.proofs.Puts.{IsEmptyWord, put_same, put_other, put_id, put_blank, more_blank, put_absent, put_fits, put_empties}
 use Rattle.protocol.proofs.Stable.{empty_number}
@@ -154,6 +155,8 @@ module _ (s : Shape) (m : Memory) (l : Ledger) (claimed waiting : List ℕ) (b :
         empty = empty;
         kept_bump = b.kept_bump;
         no_bump = b.no_bump;
+        announced = b.announced;
+        announced_kept = b.announced_kept;
         blank = b.blank;
         blank_kept = blank_kept;
         absent = b.absent;
@@ -208,6 +211,8 @@ module _ (s : Shape) (m : Memory) (l : Ledger) (claimed waiting : List ℕ) (b :
         empty = subst (λ k. Empties s l (marks m.cached) (empties s m.cached) k) (sym (put_empties s m.kept p v (λ x. x))) b.empty;
         kept_bump = kept_bump;
         no_bump = b.no_bump;
+        announced = λ x some. ((b.announced x some).0, bump_more t (announcements m.cached x) (b.announced x some).1);
+        announced_kept = λ x some. ((b.announced_kept x some).0, bump_more t (announcements m.kept x) (b.announced_kept x some).1);
         blank = more_blank s m.kept new m.cached (bump_more t) b.blank;
         blank_kept = put_blank s new m.kept p v (λ r. absurd r) (more_blank s m.kept new m.kept (bump_more t) b.blank_kept);
         absent = b.absent;
@@ -241,6 +246,8 @@ module _ (s : Shape) (m : Memory) (l : Ledger) (claimed waiting : List ℕ) (b :
         empty = subst (λ k. Empties s l (marks m.cached) (empties s m.cached) k) (sym (put_empties s m.kept Head (m.cached Head) (λ x. x))) b.empty;
         kept_bump = b.kept_bump;
         no_bump = b.no_bump;
+        announced = b.announced;
+        announced_kept = b.announced_kept;
         blank = b.blank;
         blank_kept = put_blank s m.kept m.kept Head (m.cached Head) (b.blank Head) b.blank_kept;
         absent = b.absent;
@@ -275,6 +282,8 @@ module _ (s : Shape) (m : Memory) (l : Ledger) (claimed waiting : List ℕ) (b :
         empty = subst (λ k. Empties s l (marks m.cached) (empties s m.cached) k) (sym (put_empties s m.kept Tail (m.cached Tail) (λ x. x))) b.empty;
         kept_bump = b.kept_bump;
         no_bump = b.no_bump;
+        announced = b.announced;
+        announced_kept = b.announced_kept;
         blank = b.blank;
         blank_kept = put_blank s m.kept m.kept Tail (m.cached Tail) (b.blank Tail) b.blank_kept;
         absent = b.absent;
@@ -301,7 +310,11 @@ module _ (s : Shape) (m : Memory) (l : Ledger) (claimed waiting : List ℕ) (b :
       let bl : Blank s m.kept (put m.kept (Announcement x) (m.cached (Announcement x))) = blank_stays (Announcement x) in
       let ab : Absent s (put m.kept (Announcement x) (m.cached (Announcement x))) = absent_stays (Announcement x) in
       let fi : AllFit s (put m.kept (Announcement x) (m.cached (Announcement x))) = fits_stay (Announcement x) in
-      assumption (b, e, bl, ab, fi)
+      let an : (t : ℕ) → IsAnnounced s m.kept t (upd (announcements m.kept) x.0 (announcements m.cached x.0) t) = λ t. elim (upd_cases (announcements m.kept) x.0 (announcements m.cached x.0) t) [
+        | inl q ↦ subst (IsAnnounced s m.kept t) (sym (q.1 ∙ ap (announcements m.cached) (sym q.0))) (b.announced t)
+        | inr q ↦ subst (IsAnnounced s m.kept t) (sym q.1) (b.announced_kept t)
+      ] in
+      assumption (b, e, bl, ab, fi, an)
 
   insert_base : (x : NodeId) → Base s (flushed m (Insert x)) l claimed waiting
   insert_base x =

@@ -1,5 +1,5 @@
 -- A word becomes kept, by a call's flush or by the environment.
-use Rattle.std.proofs.Common.{◌≡◌, ◌≢◌, ℕ, inl, inr, List, [], ◌∷◌, ◌++◌, map, drop, if◌then◌else◌, ◌==◌, refl, sym, ◌∙◌, ap, subst, arith, append_assoc}
+use Rattle.std.proofs.Common.{◌≡◌, ◌≢◌, ℕ, inl, inr, List, [], ◌∷◌, ◌++◌, map, drop, if◌then◌else◌, ◌==◌, refl, sym, ◌∙◌, ap, subst, append_assoc}
 use Rattle.std.proofs.lemmas.List.{map-append}
 use Rattle.words.specs.declared.call.Call.TheVariants.{Enq, Deq}
 use Rattle.words.specs.declared.call.Reply.TheVariants.{Done, Got, Empty}
@@ -153,6 +153,8 @@ module _ (s : Shape) (m : Memory) (l : Ledger) (claimed waiting : List ℕ) (b :
             (took_empties s l (marks m.cached) (empties s m.cached) (empties s m.kept) (owner s (links m.cached n)) (Took Done) (l.queue ++ values m.kept (links m.cached n) ∷ []) linking.unmoved b.empty);
         kept_bump = b.kept_bump;
         no_bump = b.no_bump;
+        announced = b.announced;
+        announced_kept = b.announced_kept;
         blank = b.blank;
         blank_kept = put_blank s m.kept m.kept p v (b.blank p) b.blank_kept;
         absent = b.absent;
@@ -229,6 +231,8 @@ module _ (s : Shape) (m : Memory) (l : Ledger) (claimed waiting : List ℕ) (b :
             (took_empties s l (marks m.cached) (empties s m.cached) (empties s m.kept) (owner s (marks m.cached n)) (Took (Got (values m.kept n))) (drop 1 l.queue) claiming.unmoved b.empty);
         kept_bump = b.kept_bump;
         no_bump = b.no_bump;
+        announced = b.announced;
+        announced_kept = b.announced_kept;
         blank = b.blank;
         blank_kept = put_blank s m.kept m.kept p v (b.blank p) b.blank_kept;
         absent = b.absent;

@@ -1,5 +1,5 @@
 -- What holds of a ready world at every moment, and how its log grows with a kept word.
-use Rattle.std.proofs.Common.{◌≡◌, ◌≢◌, ℕ, ◌≤◌, inl, inr, List, [], ◌∷◌, ◌++◌, length, map, drop, Bool, true, false, Option, Some, None, if◌then◌else◌, ◌==◌, refl, sym, ◌∙◌, ap, subst, arith}
+use Rattle.std.proofs.Common.{◌⊎◌, ◌≡◌, ◌≢◌, ℕ, ◌≤◌, inl, inr, List, [], ◌∷◌, ◌++◌, length, map, drop, Bool, true, false, Option, Some, None, if◌then◌else◌, ◌==◌, refl, sym, ◌∙◌, ap, subst}
 use Rattle.std.specs.Prelude.{slice_get, All}
 use Rattle.std.proofs.lemmas.Bool.{cases_eq, eqb-true, eqb-false}
 use Rattle.std.proofs.lemmas.List.Elements.{All-weaker}
@@ -35,11 +35,14 @@ use Rattle.protocol.specs.Machine.{took as took_by, counts}
 use Rattle.protocol.specs.declared.UnderWay.{UnderWay}
 use Rattle.protocol.proofs.Chains.{upd, upd_at, upd_other}
 use Rattle.protocol.proofs.Links.{kept_apart, kept_none, none_waiting}
-use Rattle.protocol.proofs.State.{Stage, Ledger, held, SaysEmpty, IsLinking, IsClaiming, IsAnswering, IsPassed, Before, Base, Knows}
+use Rattle.protocol.proofs.State.{Stage, Ledger, held, SaysEmpty, IsLinking, IsClaiming, IsAnswering, IsPassed, Loose, Before, Acting, Base, Knows}
 use Rattle.protocol.proofs.State.Stage.{Unmoved, Seen, Took}
 use Rattle.protocol.proofs.Keeps.{restaged, counted, noticed_ledger, kept_ledger}
 use Rattle.protocol.proofs.Flushes.{cell_says, status_says}
 use Rattle.protocol.proofs.Rows.{looked_stage}
+use Rattle.protocol.proofs.Records.{Both, Records}
+use Rattle.protocol.proofs.RecordStores.{acting_announced, acting_of}
+use Rattle.history.specs.Telling.{IsToldOf}
 use Rattle.protocol.proofs.Stages.{stage_at, none_of_unmoved, stage_push_other, stage_push, unseen, stage_forgotten, stage_forgotten_other, stage_settled_other, stage_settled}
 
 -- the record of a call under way, or of none
@@ -79,19 +82,32 @@ KnowsCall s m l events i None = Unit {0}
 pub record Working (w : World) : Type 0 where
   pub ready : w.recovery ≡ None
   pub sixteen : w.shape.clients ≤ 16
+  pub clients : 1 ≤ w.shape.clients
   pub claimed : List ℕ
   pub waiting : List ℕ
   pub base : Base w.shape w.memory (ledger_of w) claimed waiting
+  pub records : Records w.shape w.memory (ledger_of w)
   pub calls : (i : ℕ) → KnowsCall w.shape w.memory (ledger_of w) w.log.events i (w.calls i)
   pub idle : (client : Client) → w.calls client.0 ≡ None → IsUnderWay w.log.events client (length w.log.events) → ⊥
   pub up : IsDown w.log.events (length w.log.events) → ⊥
   pub log : IsLog w.shape.kind w.base w.told w.log.events w.log.effects
+
+-- one call's stage is another at most; if that call may be told of, its record is announced
+abbrev pub Moved : World → List Effect → Type 0
+Moved w effects = ((q : ℕ) → stage_at q effects ≡ stage_at q w.log.effects) ⊎ record {
+  o : ℕ;
+  u : UnderWay;
+  at : w.calls o ≡ Some u;
+  others : (q : ℕ) → q ≢ u.place → stage_at q effects ≡ stage_at q w.log.effects;
+  announced : IsToldOf w.shape.kind u.begun.call → Both w.memory (Announcement (record { 0 = o })) u.begun.token.0;
+}
 
 -- the log with other effects
 pub record Noted (w : World) (effects : List Effect) (k : Ledger) : Type 0 where
   pub log : IsLog w.shape.kind w.base w.told w.log.events effects
   pub same : ledger_from w.calls w.log.events w.base effects ≡ k
   pub part : IsPartOf (order_of w.log.effects) (order_of effects)
+  pub moved : Moved w effects
 
 served_deq : (queue : List ℕ) → served queue Deq ≡ drop 1 queue
 served_deq [] = refl
@@ -151,14 +167,26 @@ module _ (w : World) (v : Working w) where
       go None e q = absurd (cc)
       go (Some u) e q = (u, e)
 
+  -- a call that acts has announced its record, if it may be told of
+  caller_announced : (o : ℕ) (u : UnderWay) → w.calls o ≡ Some u → Acting w.shape w.memory (ledger_of w) o (held (ledger_of w) o) → IsToldOf w.shape.kind u.begun.call
+      → Both w.memory (Announcement (record { 0 = o })) u.begun.token.0
+  caller_announced o u at h told =
+      subst (λ b. Both w.memory (Announcement (record { 0 = o })) b.token.0) (ap record_of_call at)
+      (acting_announced w.shape w.memory (ledger_of w) o (held (ledger_of w) o) h (subst (λ b. IsToldOf w.shape.kind b.call) (sym (ap record_of_call at)) told))
+
+  moved_acting : (o : ℕ) (u : UnderWay) → w.calls o ≡ Some u → (Loose w.memory (held (ledger_of w) o) → (SaysEmpty w.shape w.memory.cached (held (ledger_of w) o) → ⊥) → ⊥)
+      → IsToldOf w.shape.kind u.begun.call → Both w.memory (Announcement (record { 0 = o })) u.begun.token.0
+  moved_acting o u at moved told = caller_announced o u at (acting_of w.shape w.memory (ledger_of w) o u.op (calling o u at).0 moved) told
+
   pub nothing_noted : Noted w w.log.effects (ledger_of w)
-  nothing_noted = record { log = v.log; same = refl; part = part_same (order_of w.log.effects) }
+  nothing_noted = record { log = v.log; same = refl; part = part_same (order_of w.log.effects); moved = inl (λ q. refl) }
 
   -- a call takes effect
   took_noted : (o : ℕ) (u : UnderWay) (reply : Reply) (queue : List ℕ) → w.calls o ≡ Some u → (ledger_of w).stage o ≡ Unmoved → reply ≡ reply_of (ledger_of w).queue u.begun.call
       → served (ledger_of w).queue u.begun.call ≡ queue
+      → (IsToldOf w.shape.kind u.begun.call → Both w.memory (Announcement (record { 0 = o })) u.begun.token.0)
       → Noted w (took_by reply (length w.log.events) (w.calls o) w.log.effects) (restaged (ledger_of w) o (Took reply) queue)
-  took_noted o u reply queue at unmoved right left =
+  took_noted o u reply queue at unmoved right left announced =
       let es : List Effect = took_effect u.place reply (length w.log.events) w.log.effects in
       let c : IsCalling w.log.events o u = (calling o u at).1 in
       let none : stage_at u.place w.log.effects ≡ Unmoved = sym (ap (λ x. stage_of x w.log.effects) at) ∙ unmoved in
@@ -173,12 +201,24 @@ module _ (w : World) (v : Working w) where
       (stage_push u.place w.log.effects (record { place = u.place; reply = reply; moment = length w.log.events; settled = true }) refl none)
       (λ q ne. stage_push_other q w.log.effects (record { place = u.place; reply = reply; moment = length w.log.events; settled = true }) (λ e. ne (sym e))) queue_is in
       subst (λ y. Noted w (took_by reply (length w.log.events) y w.log.effects) (restaged (ledger_of w) o (Took reply) queue)) (sym at)
-      (record { log = log; same = same; part = part_took w.log.effects u.place reply (length w.log.events) })
+      (record {
+        log = log;
+        same = same;
+        part = part_took w.log.effects u.place reply (length w.log.events);
+        moved = inr (record {
+          o = o;
+          u = u;
+          at = at;
+          others = λ q ne. stage_push_other q w.log.effects (record { place = u.place; reply = reply; moment = length w.log.events; settled = true }) (λ e. ne (sym e));
+          announced = announced;
+        });
+      })
 
   -- what a dequeue found counts
   counts_noted : (o : ℕ) (u : UnderWay) → w.calls o ≡ Some u → (ledger_of w).stage o ≡ Seen
+      → (IsToldOf w.shape.kind u.begun.call → Both w.memory (Announcement (record { 0 = o })) u.begun.token.0)
       → Noted w (counts (w.calls o) w.log.effects) (restaged (ledger_of w) o (counted ((ledger_of w).stage o)) (ledger_of w).queue)
-  counts_noted o u at seen =
+  counts_noted o u at seen announced =
       let c : IsCalling w.log.events o u = (calling o u at).1 in
       let here : stage_at u.place w.log.effects ≡ Seen = sym (ap (λ x. stage_of x w.log.effects) at) ∙ seen in
       let empties : All (λ x. x.settled ≡ false → x.reply ≡ Empty) w.log.effects =
@@ -190,6 +230,7 @@ module _ (w : World) (v : Working w) where
         same = restaged_by o u (settled_at u.place w.log.effects) (counted ((ledger_of w).stage o)) (ledger_of w).queue at now
             (λ q ne. stage_settled_other u.place q w.log.effects ne) (queue_settled_at w.log.events w.base w.log.effects u.place);
         part = part_settled_at u.place w.log.effects;
+        moved = inr (record { o = o; u = u; at = at; others = λ q ne. stage_settled_other u.place q w.log.effects ne; announced = announced });
       })
 
   link_noted : (n : ℕ) → links w.memory.kept n ≢ links w.memory.cached n
@@ -204,6 +245,7 @@ module _ (w : World) (v : Working w) where
       let call : u.0.begun.call ≡ Enq (values w.memory.kept (links w.memory.cached n)) = sym (ap (λ x. (record_of_call x).call) u.1) ∙ f.asks ∙ ap Enq (b.linked_value n some) in
       took_noted (owner w.shape (links w.memory.cached n)) u.0 Done ((ledger_of w).queue ++ values w.memory.kept (links w.memory.cached n) ∷ []) u.1 f.unmoved
       (sym (ap (reply_of (ledger_of w).queue) call)) (ap (served (ledger_of w).queue) call)
+      (moved_acting (owner w.shape (links w.memory.cached n)) u.0 u.1 (λ loose silent. loose.link n (sym f.holds)))
 
   mark_noted : (n : ℕ) → marks w.memory.kept n ≢ marks w.memory.cached n
       → Noted w (noticed w (Mark (record { 0 = n })) (marks w.memory.cached n)) (noticed_ledger w.shape w.memory (ledger_of w) (Mark (record { 0 = n })) (marks w.memory.cached n))
@@ -217,6 +259,7 @@ module _ (w : World) (v : Working w) where
       took_noted (owner w.shape (marks w.memory.cached n)) u.0 (Got (values w.memory.kept n)) (drop 1 (ledger_of w).queue) u.1 f.unmoved
       (reply_deq (ledger_of w).queue (values w.memory.kept) v.waiting n b.content (b.marked.ahead n some none) ∙ sym (ap (reply_of (ledger_of w).queue) call))
       (ap (served (ledger_of w).queue) call ∙ served_deq (ledger_of w).queue)
+      (moved_acting (owner w.shape (marks w.memory.cached n)) u.0 u.1 (λ loose silent. loose.mark n (sym f.holds)))
 
   says_noted : (c : ℕ) → SaysEmpty w.shape w.memory.cached c → (SaysEmpty w.shape w.memory.kept c → ⊥)
       → Noted w (counts (w.calls (owner w.shape c)) w.log.effects) (restaged (ledger_of w) (owner w.shape c) (counted ((ledger_of w).stage (owner w.shape c))) (ledger_of w).queue)
@@ -224,7 +267,7 @@ module _ (w : World) (v : Working w) where
       let b : Base w.shape w.memory (ledger_of w) v.claimed v.waiting = v.base in
       let f : IsAnswering w.shape (ledger_of w) (marks w.memory.cached) c = b.empty.flying c says fresh in
       let u : (u : UnderWay) × (w.calls (owner w.shape c) ≡ Some u) = stager (owner w.shape c) f.seen in
-      counts_noted (owner w.shape c) u.0 u.1 f.seen
+      counts_noted (owner w.shape c) u.0 u.1 f.seen (moved_acting (owner w.shape c) u.0 u.1 (λ loose silent. silent (subst (SaysEmpty w.shape w.memory.cached) (sym f.holds) says)))
 
   cell_noted : (c : Token) → w.memory.kept (Cell c) ≢ w.memory.cached (Cell c) → Noted w (noticed w (Cell c) (w.memory.cached (Cell c))) (noticed_ledger w.shape w.memory (ledger_of w) (Cell c) (w.memory.cached (Cell c)))
   cell_noted c apart = go w.shape.kind refl (w.memory.cached (Cell c) == 1) refl
@@ -284,15 +327,18 @@ module _ (w : World) (v : Working w) where
   unseen_untaken (Took r) h = absurd (h r refl)
 
   -- a dequeue looks behind its first node: if nothing is there the queue is empty
-  pub looked_noted : (i : ℕ) (u : UnderWay) (first c : ℕ) → w.calls i ≡ Some u → u.begun.call ≡ Deq → Before w.shape w.memory (ledger_of w) i c → IsPassed w.memory first
+  pub looked_noted : (i : ℕ) (u : UnderWay) (first c : ℕ) → w.calls i ≡ Some u → u.begun.call ≡ Deq → Before w.shape w.memory (ledger_of w) i c → Acting w.shape w.memory (ledger_of w) i c → IsPassed w.memory first
       → Noted w (looked u.place (length w.log.events) (links w.memory.cached first) w.log.effects) (restaged (ledger_of w) i (looked_stage (links w.memory.cached first)) (ledger_of w).queue)
-  looked_noted i u first c at asks h passed = go (links w.memory.cached first == 0) refl
+  looked_noted i u first c at asks h acting passed = go (links w.memory.cached first == 0) refl
     where
       b : Base w.shape w.memory (ledger_of w) v.claimed v.waiting
       b = v.base
 
       calls_at : IsCalling w.log.events i u
       calls_at = (calling i u at).1
+
+      announced : IsToldOf w.shape.kind u.begun.call → Both w.memory (Announcement (record { 0 = i })) u.begun.token.0
+      announced = caller_announced i u at (subst (Acting w.shape w.memory (ledger_of w) i) (sym acting.mine.holds) acting)
 
       gone : stage_at u.place (forgotten u.place w.log.effects) ≡ Unmoved
       gone = stage_forgotten u.place w.log.effects ∙ unseen_untaken (stage_at u.place w.log.effects) (λ r e. h.untaken r (ap (λ x. stage_of x w.log.effects) at ∙ e))
@@ -316,6 +362,7 @@ module _ (w : World) (v : Working w) where
         log = log;
         same = restaged_by i u (forgotten u.place w.log.effects) Unmoved (ledger_of w).queue at gone (λ q ne. stage_forgotten_other u.place q w.log.effects ne) same_queue;
         part = part_forgotten w.log.effects u.place;
+        moved = inr (record { o = i; u = u; at = at; others = λ q ne. stage_forgotten_other u.place q w.log.effects ne; announced = announced });
       }
       go true e =
           let es : List Effect = forgotten u.place w.log.effects in
@@ -335,4 +382,12 @@ module _ (w : World) (v : Working w) where
                 ∙ stage_forgotten_other u.place q w.log.effects ne)
                 (queue_found w.log.events w.base (forgotten u.place w.log.effects) u.place (length w.log.events) served_now ∙ same_queue);
             part = part_of_part (part_found (forgotten u.place w.log.effects) u.place (length w.log.events)) (part_forgotten w.log.effects u.place);
+            moved = inr (record {
+              o = i;
+              u = u;
+              at = at;
+              others = λ q ne. stage_push_other q (forgotten u.place w.log.effects) (record { place = u.place; reply = Empty; moment = length w.log.events; settled = false }) (λ f. ne (sym f))
+                  ∙ stage_forgotten_other u.place q w.log.effects ne;
+              announced = announced;
+            });
           }

@@ -6,6 +6,7 @@ use Rattle.words.specs.declared.call.Call.{Call}
 use Rattle.words.specs.declared.call.Call.TheVariants.{Enq, Deq}
 use Rattle.words.specs.declared.call.Kind.{Kind}
 use Rattle.words.specs.declared.call.Kind.TheVariants.{Durable, Log}
+use Rattle.words.specs.declared.call.Token.{Token}
 use Rattle.arena.specs.Place.{number_of}
 use Rattle.arena.specs.Ranges.{Fits}
 use Rattle.arena.specs.Shape.{Shape, owner}
@@ -16,7 +17,8 @@ use Rattle.arena.specs.declared.place.Place.TheVariants.{Announcement, Bump, Val
 use Rattle.stepper.specs.Preparation.{preparation_of, preparation_from, bump, announcement, write, IsBegun}
 use Rattle.stepper.specs.declared.prepare.Begun.{Begun}
 use Rattle.protocol.specs.Machine.{Memory}
-use Rattle.protocol.proofs.State.{IsIssued, IsOfRecord, IsOfKind, Written, Prepared}
+use Rattle.protocol.specs.Kept.{IsIssued}
+use Rattle.protocol.proofs.State.{IsOfRecord, IsOfKind, Written, Prepared}
 use Rattle.protocol.proofs.Puts.{IsEmptyWord}
 
 -- the value that a call gives
@@ -40,97 +42,107 @@ planned b (EntryNode e) = b.token.0
 planned b (Insert n) = b.token.0
 planned b _ = 0
 
+-- the client announces its record
+pub record IsLastWrite (kind : Kind) (call : Call) (b : Begun) (j : ℕ) (w : Write) (t : ℕ) : Type 0 where
+  pub who : t ≡ b.client.0
+  pub later : 0 < j
+  pub token : w.value ≡ b.token.0
+  pub last : (k : ℕ) (x : Write) → slice_get (preparation_from kind call b) k ≡ Some x → k ≤ j
+
 -- the bump word comes first, and then words of the record alone
-pub record IsPlanned (s : Shape) (kind : Kind) (b : Begun) (j : ℕ) (w : Write) : Type 0 where
+pub record IsPlanned (s : Shape) (kind : Kind) (call : Call) (b : Begun) (j : ℕ) (w : Write) : Type 0 where
   pub value : w.value ≡ planned b w.place
+  pub value_kind : (e : Token) → w.place ≡ EntryKind e → kind_number call ≡ w.value
   pub speaks : IsEmptyWord w.place → ⊥
   pub of_kind : IsOfKind kind w.place
   pub fits : Fits s w.place w.value
   pub numbered : IsOfRecord w.place → (number_of w.place ≡ b.token.0) × (0 < j)
   pub bump : (t : ℕ) → w.place ≡ Bump (record { 0 = t }) → t ≡ b.client.0
+  pub after_kind : (e : Token) → w.place ≡ EntryNode e → (2 < j) × (slice_get (preparation_from kind call b) 2 ≡ Some (write (EntryKind b.token) 1))
+  pub announces : (t : ℕ) → w.place ≡ Announcement (record { 0 = t }) → IsLastWrite kind call b j w t
 
-planned_from : (s : Shape) (b : Begun) (kind : Kind) (call : Call) (j : ℕ) (w : Write) → b.call ≡ call → IsBegun s b → slice_get (preparation_from kind call b) j ≡ Some w → IsPlanned s kind b j w
+planned_from : (s : Shape) (b : Begun) (kind : Kind) (call : Call) (j : ℕ) (w : Write) → b.call ≡ call → IsBegun s b → slice_get (preparation_from kind call b) j ≡ Some w → IsPlanned s kind call b j w
 planned_from s b Durable (Enq v) zero w c g e =
     let same : bump b ≡ w = cc in
-    let is : IsPlanned s Durable b zero (bump b) =
-    record { value = refl; speaks = λ r. r; of_kind = tt; fits = omega (arith, g.unused); numbered = λ r. absurd r; bump = λ t q. let same : b.client ≡ record { 0 = t } = cc in ap (λ x. x.0) (sym same) } in
-    subst (IsPlanned s Durable b zero) same is
+    let is : IsPlanned s Durable (Enq v) b zero (bump b) =
+    record { value = refl; value_kind = λ x q. absurd (cc); speaks = λ r. r; of_kind = tt; fits = omega (arith, g.unused); numbered = λ r. absurd r; bump = λ t q. let same : b.client ≡ record { 0 = t } = cc in ap (λ x. x.0) (sym same); after_kind = λ x q. absurd (cc); announces = λ t q. absurd (cc) } in
+    subst (IsPlanned s Durable (Enq v) b zero) same is
 planned_from s b Durable (Enq v) (suc zero) w c g e =
     let same : write (Value (record { 0 = b.token.0 })) v ≡ w = cc in
-    let is : IsPlanned s Durable b (suc zero) (write (Value (record { 0 = b.token.0 })) v) =
-    record { value = sym (ap given c); speaks = λ r. r; of_kind = tt; fits = g.value v c; numbered = λ r. (refl, omega arith); bump = λ t q. absurd (cc) } in
-    subst (IsPlanned s Durable b (suc zero)) same is
+    let is : IsPlanned s Durable (Enq v) b (suc zero) (write (Value (record { 0 = b.token.0 })) v) =
+    record { value = sym (ap given c); value_kind = λ x q. absurd (cc); speaks = λ r. r; of_kind = tt; fits = g.value v c; numbered = λ r. (refl, omega arith); bump = λ t q. absurd (cc); after_kind = λ x q. absurd (cc); announces = λ t q. absurd (cc) } in
+    subst (IsPlanned s Durable (Enq v) b (suc zero)) same is
 planned_from s b Durable (Enq v) (suc (suc j)) w c g e = absurd (cc)
 planned_from s b Durable Deq zero w c g e =
     let same : bump b ≡ w = cc in
-    let is : IsPlanned s Durable b zero (bump b) =
-    record { value = refl; speaks = λ r. r; of_kind = tt; fits = omega (arith, g.unused); numbered = λ r. absurd r; bump = λ t q. let same : b.client ≡ record { 0 = t } = cc in ap (λ x. x.0) (sym same) } in
-    subst (IsPlanned s Durable b zero) same is
+    let is : IsPlanned s Durable Deq b zero (bump b) =
+    record { value = refl; value_kind = λ x q. absurd (cc); speaks = λ r. r; of_kind = tt; fits = omega (arith, g.unused); numbered = λ r. absurd r; bump = λ t q. let same : b.client ≡ record { 0 = t } = cc in ap (λ x. x.0) (sym same); after_kind = λ x q. absurd (cc); announces = λ t q. absurd (cc) } in
+    subst (IsPlanned s Durable Deq b zero) same is
 planned_from s b Durable Deq (suc zero) w c g e =
     let same : announcement b ≡ w = cc in
-    let is : IsPlanned s Durable b (suc zero) (announcement b) =
-    record { value = refl; speaks = λ r. r; of_kind = tt; fits = g.is_record.1; numbered = λ r. absurd r; bump = λ t q. absurd (cc) } in
-    subst (IsPlanned s Durable b (suc zero)) same is
+    let is : IsPlanned s Durable Deq b (suc zero) (announcement b) =
+    record { value = refl; value_kind = λ x q. absurd (cc); speaks = λ r. r; of_kind = tt; fits = g.is_record.1; numbered = λ r. absurd r; bump = λ t q. absurd (cc); after_kind = λ x q. absurd (cc); announces = λ t q. let same : b.client ≡ record { 0 = t } = cc in record { who = ap (λ x. x.0) (sym same); later = omega arith; token = refl; last = λ k x e. omega (arith, slice_get_within (preparation_from Durable Deq b) k x e) } } in
+    subst (IsPlanned s Durable Deq b (suc zero)) same is
 planned_from s b Durable Deq (suc (suc j)) w c g e = absurd (cc)
 planned_from s b Log (Enq v) zero w c g e =
     let same : bump b ≡ w = cc in
-    let is : IsPlanned s Log b zero (bump b) =
-    record { value = refl; speaks = λ r. r; of_kind = tt; fits = omega (arith, g.unused); numbered = λ r. absurd r; bump = λ t q. let same : b.client ≡ record { 0 = t } = cc in ap (λ x. x.0) (sym same) } in
-    subst (IsPlanned s Log b zero) same is
+    let is : IsPlanned s Log (Enq v) b zero (bump b) =
+    record { value = refl; value_kind = λ x q. absurd (cc); speaks = λ r. r; of_kind = tt; fits = omega (arith, g.unused); numbered = λ r. absurd r; bump = λ t q. let same : b.client ≡ record { 0 = t } = cc in ap (λ x. x.0) (sym same); after_kind = λ x q. absurd (cc); announces = λ t q. absurd (cc) } in
+    subst (IsPlanned s Log (Enq v) b zero) same is
 planned_from s b Log (Enq v) (suc zero) w c g e =
     let same : write (Number b.token) b.number ≡ w = cc in
-    let is : IsPlanned s Log b (suc zero) (write (Number b.token) b.number) =
-    record { value = refl; speaks = λ r. r; of_kind = refl; fits = g.number; numbered = λ r. (refl, omega arith); bump = λ t q. absurd (cc) } in
-    subst (IsPlanned s Log b (suc zero)) same is
+    let is : IsPlanned s Log (Enq v) b (suc zero) (write (Number b.token) b.number) =
+    record { value = refl; value_kind = λ x q. absurd (cc); speaks = λ r. r; of_kind = refl; fits = g.number; numbered = λ r. (refl, omega arith); bump = λ t q. absurd (cc); after_kind = λ x q. absurd (cc); announces = λ t q. absurd (cc) } in
+    subst (IsPlanned s Log (Enq v) b (suc zero)) same is
 planned_from s b Log (Enq v) (suc (suc zero)) w c g e =
     let same : write (EntryKind b.token) 1 ≡ w = cc in
-    let is : IsPlanned s Log b (suc (suc zero)) (write (EntryKind b.token) 1) =
-    record { value = sym (ap kind_number c); speaks = λ r. r; of_kind = refl; fits = omega arith; numbered = λ r. (refl, omega arith); bump = λ t q. absurd (cc) } in
-    subst (IsPlanned s Log b (suc (suc zero))) same is
+    let is : IsPlanned s Log (Enq v) b (suc (suc zero)) (write (EntryKind b.token) 1) =
+    record { value = sym (ap kind_number c); value_kind = λ x q. refl; speaks = λ r. r; of_kind = refl; fits = omega arith; numbered = λ r. (refl, omega arith); bump = λ t q. absurd (cc); after_kind = λ x q. absurd (cc); announces = λ t q. absurd (cc) } in
+    subst (IsPlanned s Log (Enq v) b (suc (suc zero))) same is
 planned_from s b Log (Enq v) (suc (suc (suc zero))) w c g e =
     let same : write (EntryNode b.token) b.token.0 ≡ w = cc in
-    let is : IsPlanned s Log b (suc (suc (suc zero))) (write (EntryNode b.token) b.token.0) =
-    record { value = refl; speaks = λ r. r; of_kind = refl; fits = g.is_record.1; numbered = λ r. (refl, omega arith); bump = λ t q. absurd (cc) } in
-    subst (IsPlanned s Log b (suc (suc (suc zero)))) same is
+    let is : IsPlanned s Log (Enq v) b (suc (suc (suc zero))) (write (EntryNode b.token) b.token.0) =
+    record { value = refl; value_kind = λ x q. absurd (cc); speaks = λ r. r; of_kind = refl; fits = g.is_record.1; numbered = λ r. (refl, omega arith); bump = λ t q. absurd (cc); after_kind = λ x q. (omega arith, refl); announces = λ t q. absurd (cc) } in
+    subst (IsPlanned s Log (Enq v) b (suc (suc (suc zero)))) same is
 planned_from s b Log (Enq v) (suc (suc (suc (suc zero)))) w c g e =
     let same : write (Value (record { 0 = b.token.0 })) v ≡ w = cc in
-    let is : IsPlanned s Log b (suc (suc (suc (suc zero)))) (write (Value (record { 0 = b.token.0 })) v) =
-    record { value = sym (ap given c); speaks = λ r. r; of_kind = tt; fits = g.value v c; numbered = λ r. (refl, omega arith); bump = λ t q. absurd (cc) } in
-    subst (IsPlanned s Log b (suc (suc (suc (suc zero))))) same is
+    let is : IsPlanned s Log (Enq v) b (suc (suc (suc (suc zero)))) (write (Value (record { 0 = b.token.0 })) v) =
+    record { value = sym (ap given c); value_kind = λ x q. absurd (cc); speaks = λ r. r; of_kind = tt; fits = g.value v c; numbered = λ r. (refl, omega arith); bump = λ t q. absurd (cc); after_kind = λ x q. absurd (cc); announces = λ t q. absurd (cc) } in
+    subst (IsPlanned s Log (Enq v) b (suc (suc (suc (suc zero))))) same is
 planned_from s b Log (Enq v) (suc (suc (suc (suc (suc zero))))) w c g e =
     let same : write (Insert (record { 0 = b.token.0 })) b.token.0 ≡ w = cc in
-    let is : IsPlanned s Log b (suc (suc (suc (suc (suc zero))))) (write (Insert (record { 0 = b.token.0 })) b.token.0) =
-    record { value = refl; speaks = λ r. r; of_kind = refl; fits = g.is_record.1; numbered = λ r. (refl, omega arith); bump = λ t q. absurd (cc) } in
-    subst (IsPlanned s Log b (suc (suc (suc (suc (suc zero)))))) same is
+    let is : IsPlanned s Log (Enq v) b (suc (suc (suc (suc (suc zero))))) (write (Insert (record { 0 = b.token.0 })) b.token.0) =
+    record { value = refl; value_kind = λ x q. absurd (cc); speaks = λ r. r; of_kind = refl; fits = g.is_record.1; numbered = λ r. (refl, omega arith); bump = λ t q. absurd (cc); after_kind = λ x q. absurd (cc); announces = λ t q. absurd (cc) } in
+    subst (IsPlanned s Log (Enq v) b (suc (suc (suc (suc (suc zero)))))) same is
 planned_from s b Log (Enq v) (suc (suc (suc (suc (suc (suc zero)))))) w c g e =
     let same : announcement b ≡ w = cc in
-    let is : IsPlanned s Log b (suc (suc (suc (suc (suc (suc zero)))))) (announcement b) =
-    record { value = refl; speaks = λ r. r; of_kind = tt; fits = g.is_record.1; numbered = λ r. absurd r; bump = λ t q. absurd (cc) } in
-    subst (IsPlanned s Log b (suc (suc (suc (suc (suc (suc zero))))))) same is
+    let is : IsPlanned s Log (Enq v) b (suc (suc (suc (suc (suc (suc zero)))))) (announcement b) =
+    record { value = refl; value_kind = λ x q. absurd (cc); speaks = λ r. r; of_kind = tt; fits = g.is_record.1; numbered = λ r. absurd r; bump = λ t q. absurd (cc); after_kind = λ x q. absurd (cc); announces = λ t q. let same : b.client ≡ record { 0 = t } = cc in record { who = ap (λ x. x.0) (sym same); later = omega arith; token = refl; last = λ k x e. omega (arith, slice_get_within (preparation_from Log (Enq v) b) k x e) } } in
+    subst (IsPlanned s Log (Enq v) b (suc (suc (suc (suc (suc (suc zero))))))) same is
 planned_from s b Log (Enq v) (suc (suc (suc (suc (suc (suc (suc j))))))) w c g e = absurd (cc)
 planned_from s b Log Deq zero w c g e =
     let same : bump b ≡ w = cc in
-    let is : IsPlanned s Log b zero (bump b) =
-    record { value = refl; speaks = λ r. r; of_kind = tt; fits = omega (arith, g.unused); numbered = λ r. absurd r; bump = λ t q. let same : b.client ≡ record { 0 = t } = cc in ap (λ x. x.0) (sym same) } in
-    subst (IsPlanned s Log b zero) same is
+    let is : IsPlanned s Log Deq b zero (bump b) =
+    record { value = refl; value_kind = λ x q. absurd (cc); speaks = λ r. r; of_kind = tt; fits = omega (arith, g.unused); numbered = λ r. absurd r; bump = λ t q. let same : b.client ≡ record { 0 = t } = cc in ap (λ x. x.0) (sym same); after_kind = λ x q. absurd (cc); announces = λ t q. absurd (cc) } in
+    subst (IsPlanned s Log Deq b zero) same is
 planned_from s b Log Deq (suc zero) w c g e =
     let same : write (Number b.token) b.number ≡ w = cc in
-    let is : IsPlanned s Log b (suc zero) (write (Number b.token) b.number) =
-    record { value = refl; speaks = λ r. r; of_kind = refl; fits = g.number; numbered = λ r. (refl, omega arith); bump = λ t q. absurd (cc) } in
-    subst (IsPlanned s Log b (suc zero)) same is
+    let is : IsPlanned s Log Deq b (suc zero) (write (Number b.token) b.number) =
+    record { value = refl; value_kind = λ x q. absurd (cc); speaks = λ r. r; of_kind = refl; fits = g.number; numbered = λ r. (refl, omega arith); bump = λ t q. absurd (cc); after_kind = λ x q. absurd (cc); announces = λ t q. absurd (cc) } in
+    subst (IsPlanned s Log Deq b (suc zero)) same is
 planned_from s b Log Deq (suc (suc zero)) w c g e =
     let same : write (EntryKind b.token) 2 ≡ w = cc in
-    let is : IsPlanned s Log b (suc (suc zero)) (write (EntryKind b.token) 2) =
-    record { value = sym (ap kind_number c); speaks = λ r. r; of_kind = refl; fits = omega arith; numbered = λ r. (refl, omega arith); bump = λ t q. absurd (cc) } in
-    subst (IsPlanned s Log b (suc (suc zero))) same is
+    let is : IsPlanned s Log Deq b (suc (suc zero)) (write (EntryKind b.token) 2) =
+    record { value = sym (ap kind_number c); value_kind = λ x q. refl; speaks = λ r. r; of_kind = refl; fits = omega arith; numbered = λ r. (refl, omega arith); bump = λ t q. absurd (cc); after_kind = λ x q. absurd (cc); announces = λ t q. absurd (cc) } in
+    subst (IsPlanned s Log Deq b (suc (suc zero))) same is
 planned_from s b Log Deq (suc (suc (suc zero))) w c g e =
     let same : announcement b ≡ w = cc in
-    let is : IsPlanned s Log b (suc (suc (suc zero))) (announcement b) =
-    record { value = refl; speaks = λ r. r; of_kind = tt; fits = g.is_record.1; numbered = λ r. absurd r; bump = λ t q. absurd (cc) } in
-    subst (IsPlanned s Log b (suc (suc (suc zero)))) same is
+    let is : IsPlanned s Log Deq b (suc (suc (suc zero))) (announcement b) =
+    record { value = refl; value_kind = λ x q. absurd (cc); speaks = λ r. r; of_kind = tt; fits = g.is_record.1; numbered = λ r. absurd r; bump = λ t q. absurd (cc); after_kind = λ x q. absurd (cc); announces = λ t q. let same : b.client ≡ record { 0 = t } = cc in record { who = ap (λ x. x.0) (sym same); later = omega arith; token = refl; last = λ k x e. omega (arith, slice_get_within (preparation_from Log Deq b) k x e) } } in
+    subst (IsPlanned s Log Deq b (suc (suc (suc zero)))) same is
 planned_from s b Log Deq (suc (suc (suc (suc j)))) w c g e = absurd (cc)
 
-pub planned_write : (s : Shape) (b : Begun) (j : ℕ) (w : Write) → IsBegun s b → slice_get (preparation_of s.kind b) j ≡ Some w → IsPlanned s s.kind b j w
+pub planned_write : (s : Shape) (b : Begun) (j : ℕ) (w : Write) → IsBegun s b → slice_get (preparation_of s.kind b) j ≡ Some w → IsPlanned s s.kind b.call b j w
 planned_write s b j w g e = planned_from s b s.kind b.call j w refl g e
 
 -- two writes at one place write one value
@@ -185,3 +197,7 @@ prepared_value s m b v h c = go s.kind refl
     go : (kind : Kind) → s.kind ≡ kind → (values m.cached b.token.0 ≡ v) × (values m.kept b.token.0 ≡ v)
     go Durable e = h.written 1 (write (Value (record { 0 = b.token.0 })) v) (ap (λ k. slice_get (preparation_from k b.call b) 1) e ∙ ap (λ k. slice_get (preparation_from Durable k b) 1) c)
     go Log e = h.written 4 (write (Value (record { 0 = b.token.0 })) v) (ap (λ k. slice_get (preparation_from k b.call b) 4) e ∙ ap (λ k. slice_get (preparation_from Log k b) 4) c)
+
+pub is_dequeue : (call : Call) → kind_number call ≡ 2 → call ≡ Deq
+is_dequeue (Enq v) e = absurd (cc)
+is_dequeue Deq e = refl

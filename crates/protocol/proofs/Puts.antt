@@ -13,7 +13,8 @@ use Rattle.arena.specs.declared.place.Place.{Place}
 use Rattle.arena.specs.declared.place.Place.TheVariants.{Cell, Status}
 use Rattle.helping.specs.Table.{token_of}
 use Rattle.protocol.specs.Machine.{put}
-use Rattle.protocol.proofs.State.{IsIssued, IsOfRecord, IsOfKind, Blank, Absent, AllFit, empties}
+use Rattle.protocol.specs.Kept.{IsIssued}
+use Rattle.protocol.proofs.State.{IsOfRecord, IsOfKind, Blank, Absent, AllFit, empties}
 
 pub put_same : (f : Place → ℕ) (p : Place) (v : ℕ) → put f p v p ≡ v
 put_same f p v = rw (is_same-from p p refl) refl

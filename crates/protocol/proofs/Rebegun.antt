@@ -15,8 +15,9 @@ use Rattle.arena.specs.declared.place.Place.{Place}
 use Rattle.stepper.specs.declared.prepare.Begun.{Begun}
 use Rattle.helping.specs.Table.{token_of}
 use Rattle.protocol.specs.Machine.{Memory}
+use Rattle.protocol.specs.Kept.{IsIssued}
 use Rattle.protocol.proofs.Chains.{upd, upd_at, upd_other}
-use Rattle.protocol.proofs.State.{Stage, Ledger, held, IsOfRecord, IsIssued, SaysEmpty, empties, IsLinking, IsClaiming, IsAnswering, Empties, Loose, Base, Grows}
+use Rattle.protocol.proofs.State.{Stage, Ledger, held, IsOfRecord, SaysEmpty, empties, IsLinking, IsClaiming, IsAnswering, Empties, Loose, Base, Grows}
 use Rattle.protocol.proofs.State.Stage.{Unmoved, Seen, Took}
 use Rattle.protocol.proofs.Stable.{empty_number}
 use Rattle.protocol.proofs.Stores.{none_grows}

@@ -15,10 +15,10 @@ use Rattle.arena.specs.Chain.{IsAmong, LeadsTo}
 use Rattle.arena.specs.Chain.LeadsTo.{there}
 use Rattle.arena.specs.Place.{number_of}
 use Rattle.arena.specs.Shape.{Shape, owner, greatest}
-use Rattle.arena.specs.Words.{links, marks, values, bumps, IsWritten}
+use Rattle.arena.specs.Words.{links, marks, values, bumps, announcements, IsWritten}
 use Rattle.arena.specs.declared.place.Write.{Write}
 use Rattle.arena.specs.declared.place.Place.{Place}
-use Rattle.arena.specs.declared.place.Place.TheVariants.{Head, Tail, Bump, Value, Next, Mark}
+use Rattle.arena.specs.declared.place.Place.TheVariants.{Announcement, Head, Tail, Bump, Value, Next, Mark}
 use Rattle.stepper.specs.Preparation.{preparation_of, prepared_to, prepared_with, IsBegun}
 use Rattle.stepper.specs.Step.{place_of, kept_by}
 use Rattle.stepper.specs.declared.After.{After}
@@ -31,20 +31,21 @@ use Rattle.helping.specs.declared.dequeue.Claim.TheVariants.{Won, LostTo}
 use Rattle.helping.specs.declared.op.Op.{Op}
 use Rattle.helping.specs.declared.op.Op.TheVariants.{PrepareStore, PrepareFlush, EnqueueLoadTail, EnqueueLoadNext, EnqueueCheckTail, EnqueueLink, EnqueueFlushLink, EnqueueMoveTail, EnqueueFlushPassedLink, EnqueueHelpTail, DequeueLoadHead, DequeueLoadTail, DequeueLoadNext, DequeueCheckHead, DequeueStoreEmpty, DequeueFlushEmpty, DequeueFlushPassedLink, DequeueHelpTail, DequeueLoadValue, DequeueClaim, DequeueFlushClaim, DequeueStoreResult, DequeueFlushResult, DequeueMoveHead}
 use Rattle.protocol.specs.Machine.{Memory, put, stored, flushed, accessed}
+use Rattle.protocol.specs.Kept.{IsAnnounced, IsIssued}
 use Rattle.protocol.proofs.Chains.{upd, upd_same, upd_other, leads_at, leads_trans, leads_one, leads_from, leads_in, leads_next, in_left, in_chain}
-use Rattle.protocol.proofs.State.{Stage, Ledger, held, asked, IsOwn, IsOfRecord, Says, SaysEmpty, empties, IsIssued, IsLinking, IsClaiming, IsAnswering, Empties, Base, Mine, Loose, Before, Written, Preparing, Prepared, Acting, Enqueuing, Linked, Dequeuing, IsPassed, WasTail, Claims, Knows, Grows}
+use Rattle.protocol.proofs.State.{Stage, Ledger, held, asked, IsOwn, IsOfRecord, Says, SaysEmpty, empties, IsLinking, IsClaiming, IsAnswering, Empties, Base, Mine, Loose, Before, Written, Unwritten, Preparing, Prepared, Acting, Enqueuing, Linked, Dequeuing, IsPassed, Claims, Knows, Grows}
 use Rattle.protocol.proofs.State.Stage.{Unmoved, Seen, Took}
 use Rattle.protocol.proofs.Puts.{IsEmptyWord, empty_word, put_cases, put_same, put_other, put_empties}
 use Rattle.protocol.proofs.Stable.{empty_own, IsOwnWrite, own_write, stable}
 use Rattle.protocol.proofs.Keeps.{restaged, kept_ledger, Kept}
 use Rattle.protocol.proofs.Flushes.{chain_value, keep_any}
-use Rattle.protocol.proofs.Preparations.{IsPlanned, planned, planned_write, one_plan, prepared_issued, written_issued, all_written, prepared_value}
+use Rattle.protocol.proofs.Preparations.{IsLastWrite, IsPlanned, planned, planned_write, one_plan, prepared_issued, written_issued, all_written, prepared_value}
 use Rattle.protocol.proofs.Stores.{none_grows, same_links, same_marks, own_store_grows, no_result, MayStore, own_base, head_base, tail_base, link_base, claim_base, empty_base, result_base, head_grows, tail_grows, link_grows, claim_grows, empty_grows, result_grows}
 
 -- what a call knows after a step, or that it took effect with its answer
 abbrev pub KnowsNext : Shape → Memory → Ledger → ℕ → After Op → Type 0
 KnowsNext s m l i (More op) = Knows s m l i op
-KnowsNext s m l i (Done reply) = l.stage i ≡ Took reply
+KnowsNext s m l i (Done reply) = record { took : l.stage i ≡ Took reply; at : ℕ; acting : Acting s m l i at }
 
 -- what a dequeue notes when it has looked behind its first node
 abbrev pub looked_stage : ℕ → Stage
@@ -69,8 +70,10 @@ pub record Row (s : Shape) (m : Memory) (l : Ledger) (n : Memory) (k : Ledger) (
 
 -- where a call is that has written this much of its record
 pub arrives : (s : Shape) (m : Memory) (l : Ledger) (i : ℕ) (b : Begun) (index : ℕ) → Before s m l i b.token.0 → l.stage i ≡ Unmoved → l.begun i ≡ b → b.client.0 ≡ i → Written s m b index → bumps m.cached i ≤ b.used + 1
+    → ((p : Place) → IsOwn p → IsOfRecord p → number_of p ≡ b.token.0 → Unwritten s b index p → (m.cached p ≡ 0) × (m.kept p ≡ 0))
+    → (Unwritten s b index (Announcement (record { 0 = i })) → (announcements m.cached i ≢ b.token.0) × (announcements m.kept i ≢ b.token.0))
     → Knows s m l i (prepared_op (prepared_to s.kind b index))
-arrives s m l i b index before unmoved begun own written bump = go (slice_get (preparation_of s.kind b) index) refl
+arrives s m l i b index before unmoved begun own written bump rest unannounced = go (slice_get (preparation_of s.kind b) index) refl
   where
     acting : Prepared s m b → Acting s m l i b.token.0
     acting p = record { mine = before.mine; prepared = subst (Prepared s m) (sym begun) p; client = ap (λ x. x.client.0) begun ∙ own }
@@ -92,7 +95,7 @@ arrives s m l i b index before unmoved begun own written bump = go (slice_get (p
 
     go : (o : Option Write) → slice_get (preparation_of s.kind b) index ≡ o → Knows s m l i (prepared_op (prepared_with b index o))
     go (Some w) e =
-        let r : Preparing s m l i b index w = record { before = before; unmoved = unmoved; begun = begun; own = own; in_hand = e; so_far = written; bump = bump } in
+        let r : Preparing s m l i b index w = record { before = before; unmoved = unmoved; begun = begun; own = own; in_hand = e; so_far = written; bump = bump; rest = rest; unannounced = unannounced } in
         r
     go None e = first (all_written s m b index written e) b.call refl
 
@@ -171,7 +174,7 @@ module _ (s : Shape) (m : Memory) (l : Ledger) (claimed waiting : List ℕ) (b :
       let g : IsBegun s bg = h.so_far.begun in
       let c : ℕ = bg.token.0 in
       let o : IsOwnWrite s bg w = own_write s bg index w (h.before.mine.own ∙ sym h.own) h.in_hand in
-      let pl : IsPlanned s s.kind bg index w = planned_write s bg index w g h.in_hand in
+      let pl : IsPlanned s s.kind bg.call bg index w = planned_write s bg index w g h.in_hand in
       let may : MayStore s m w.place w.value = record {
         issued = λ r some. subst (IsIssued s m.kept) (sym (pl.numbered r).0) (written_issued s m bg index h.so_far (pl.numbered r).1 (h.before.mine.own ∙ sym h.own));
         of_kind = pl.of_kind;
@@ -186,7 +189,10 @@ module _ (s : Shape) (m : Memory) (l : Ledger) (claimed waiting : List ℕ) (b :
         subst (λ x. bumps m.kept x ≤ w.value) (sym at) (omega (arith, b.kept_bump i, h.bump, up)),
         subst (λ x. x < s.clients) (sym who) g.client,
       ) in
-      let n : Memory = stored m w.place w.value in
+      let announces : (t : Client) → w.place ≡ Announcement t → IsAnnounced s m.kept t.0 w.value = λ t e some.
+      let last : IsLastWrite s.kind bg.call bg index w t.0 = pl.announces t.0 e in
+      let issued : IsIssued s m.kept bg.token.0 = written_issued s m bg index h.so_far last.later (h.before.mine.own ∙ sym h.own) in
+      subst (λ x. (owner s x ≡ t.0) × IsIssued s m.kept x) (sym last.token) (h.before.mine.own ∙ sym (last.who ∙ h.own), issued) in
       let quiet_put : empties s (put m.cached w.place w.value) ≡ empties s m.cached = put_empties s m.cached w.place w.value pl.speaks in
       let before : Before s (stored m w.place w.value) l i bg.token.0 = record {
         mine = h.before.mine;
@@ -217,11 +223,25 @@ module _ (s : Shape) (m : Memory) (l : Ledger) (claimed waiting : List ℕ) (b :
       record {
         claimed = claimed;
         waiting = waiting;
-        base = own_base s m l claimed waiting b w.place w.value may o.own pl.speaks loose bump;
+        base = own_base s m l claimed waiting b w.place w.value may o.own pl.speaks loose bump announces;
         grows = own_store_grows s m l w.place w.value o.own i (inl (o.whose ∙ h.own))
             (no_result s m l claimed waiting w.place w.value b (λ r x e. h.before.loose.mark x (e ∙ (o.answer r).1)));
         knows = (
-          record { before = before; unmoved = h.unmoved; begun = h.begun; own = h.own; in_hand = h.in_hand; so_far = so_far; bump = low },
+          record {
+            before = before;
+            unmoved = h.unmoved;
+            begun = h.begun;
+            own = h.own;
+            in_hand = h.in_hand;
+            so_far = so_far;
+            bump = low;
+            rest = λ p own of named none.
+                (put_other m.cached w.place w.value p (λ e. none index w (omega arith) h.in_hand (sym e)) ∙ (h.rest p own of named none).0, (h.rest p own of named none).1);
+            unannounced = λ none. (
+              λ e. (h.unannounced none).0 (sym (put_other m.cached w.place w.value (Announcement (record { 0 = i })) (λ q. none index w (omega arith) h.in_hand (sym q))) ∙ e),
+              (h.unannounced none).1,
+            );
+          },
           put_same m.cached w.place w.value,
         );
       }
@@ -240,7 +260,9 @@ module _ (s : Shape) (m : Memory) (l : Ledger) (claimed waiting : List ℕ) (b :
               subst (λ x. IsWritten m.cached x × IsWritten (put m.kept w.place (m.cached w.place)) x) is (g.1, put_same m.kept w.place (m.cached w.place) ∙ g.1)
           | inr t ↦ g.0.so_far.written j v (omega (arith, q, t)) e
         ];
-      }) g.0.bump)
+      }) g.0.bump
+      (λ p own of named none. g.0.rest p own of named (λ k v le e. none k v (omega (arith, le)) e))
+      (λ none. g.0.unannounced (λ k v le e. none k v (omega (arith, le)) e)))
 
   tail_on_chain : LeadsTo (links m.kept) (m.cached Tail) 0
   tail_on_chain =
@@ -306,7 +328,7 @@ module _ (s : Shape) (m : Memory) (l : Ledger) (claimed waiting : List ℕ) (b :
       let took : l.stage (owner s node.0) ≡ Took Answered =
       subst (λ x. held l (owner s x) ≡ x → l.stage (owner s x) ≡ Took Answered) h.1 (b.took_link last.0 (λ z. h.0.acting.mine.some (sym h.1 ∙ z))) holds in
       anyone (EnqueueMoveTail (record { node = node; last = last })) (Done Answered) (accessed m (Cas Tail last.0 node.0)) l
-      (tail_moves last.0 node.0 h.1 h.0.acting.mine.some) h (λ c g. ap l.stage (sym h.0.acting.mine.own) ∙ took)
+      (tail_moves last.0 node.0 h.1 h.0.acting.mine.some) h (λ c g. record { took = ap l.stage (sym h.0.acting.mine.own) ∙ took; at = node.0; acting = g.0.acting })
 
   -- what a dequeue finds behind its first node changes its own stage alone
   looked_base : (c : ℕ) (st : Stage) → Before s m l i c → Base s m (restaged l i st l.queue) claimed waiting
@@ -460,8 +482,12 @@ module _ (s : Shape) (m : Memory) (l : Ledger) (claimed waiting : List ℕ) (b :
       (λ c g.
       let k : Ledger = kept_ledger s m l (empty_answer_of s.kind token).place in
       let own : owner s token.0 ≡ i = g.0.mine.own in
-      ap k.stage (sym own)
-      ∙ c.base.empty.took token.0 (put_same m.kept (empty_answer_of s.kind token).place (m.cached (empty_answer_of s.kind token).place) ∙ g.3) g.0.mine.some (ap (held k) own ∙ g.0.mine.holds))
+      record {
+        took = ap k.stage (sym own)
+            ∙ c.base.empty.took token.0 (put_same m.kept (empty_answer_of s.kind token).place (m.cached (empty_answer_of s.kind token).place) ∙ g.3) g.0.mine.some (ap (held k) own ∙ g.0.mine.holds);
+        at = token.0;
+        acting = g.0;
+      })
 
   -- the value of a node that may be claimed
   claims_value : (first next : ℕ) → Claims m first next → values m.kept next ≡ values m.cached next
@@ -554,7 +580,7 @@ module _ (s : Shape) (m : Memory) (l : Ledger) (claimed waiting : List ℕ) (b :
           let holds : held l (owner s token.0) ≡ token.0 = ap (held l) own ∙ f.0.0.mine.holds in
           let took : l.stage (owner s token.0) ≡ Took (Got (values m.kept next.0)) =
           subst (λ x. held l (owner s x) ≡ x → l.stage (owner s x) ≡ Took (Got (values m.kept next.0))) f.1.marked (b.took_mark next.0 (λ z. f.1.some (sym f.1.marked ∙ z))) holds in
-          ap l.stage (sym own) ∙ took ∙ ap (λ x. Took (Got x)) f.1.value
+          record { took = ap l.stage (sym own) ∙ took ∙ ap (λ x. Took (Got x)) f.1.value; at = token.0; acting = g.0.0 }
       go (LostTo other) f g = g.0.0
 
   -- each waiting point

@@ -11,10 +11,10 @@ use Rattle.arena.specs.Answers.{empty_answer_of, result_of}
 use Rattle.arena.specs.Chain.{LeadsTo}
 use Rattle.arena.specs.Place.{number_of}
 use Rattle.arena.specs.Shape.{Shape, owner}
-use Rattle.arena.specs.Words.{links, marks, values, IsWritten}
+use Rattle.arena.specs.Words.{links, marks, values, announcements, IsWritten}
 use Rattle.arena.specs.declared.place.Write.{Write}
 use Rattle.arena.specs.declared.place.Place.{Place}
-use Rattle.arena.specs.declared.place.Place.TheVariants.{Head, Tail, Bump, Value, Insert, Number, EntryKind, EntryNode}
+use Rattle.arena.specs.declared.place.Place.TheVariants.{Head, Tail, Announcement, Bump, Value, Next, Mark, Cell, Insert, Number, EntryKind, Status, EntryNode}
 use Rattle.stepper.specs.Preparation.{preparation_of, preparation_from, bump, announcement, write}
 use Rattle.stepper.specs.declared.prepare.Begun.{Begun}
 use Rattle.helping.specs.Claims.{winner}
@@ -25,7 +25,7 @@ use Rattle.helping.specs.declared.op.Op.{Op}
 use Rattle.helping.specs.declared.op.Op.TheVariants.{PrepareStore, PrepareFlush, EnqueueLoadTail, EnqueueLoadNext, EnqueueCheckTail, EnqueueLink, EnqueueFlushLink, EnqueueMoveTail, EnqueueFlushPassedLink, EnqueueHelpTail, DequeueLoadHead, DequeueLoadTail, DequeueLoadNext, DequeueCheckHead, DequeueStoreEmpty, DequeueFlushEmpty, DequeueFlushPassedLink, DequeueHelpTail, DequeueLoadValue, DequeueClaim, DequeueFlushClaim, DequeueStoreResult, DequeueFlushResult, DequeueMoveHead}
 use Rattle.protocol.specs.Machine.{Memory}
 use Rattle.protocol.proofs.Chains.{leads_grows, leads_trans}
-use Rattle.protocol.proofs.State.{Ledger, asked, IsOwn, IsAnswer, home, SaysEmpty, Mine, Loose, Before, Preparing, Prepared, Acting, Enqueuing, Linked, Dequeuing, IsPassed, WasTail, Claims, Claimer, Claimed, Knows, Grows}
+use Rattle.protocol.proofs.State.{IsOfRecord, Ledger, asked, IsOwn, IsAnswer, home, SaysEmpty, Mine, Loose, Before, Preparing, Prepared, Acting, Enqueuing, Linked, Dequeuing, IsPassed, WasTail, Claims, Claimer, Claimed, Knows, Grows}
 
 -- where an empty answer is written
 pub empty_own : (kind : Kind) (t : Token) → IsOwn (empty_answer_of kind t).place
@@ -43,6 +43,22 @@ empty_number Log t = refl
 pub result_own : (kind : Kind) (t : Token) (n : NodeId) (v : ℕ) → IsOwn (result_of kind t n v).place
 result_own Durable t n v = tt
 result_own Log t n v = tt
+
+-- a word of a record belongs to the record's client
+home_of_record : (s : Shape) (p : Place) → IsOfRecord p → home s p ≡ owner s (number_of p)
+home_of_record s Head r = absurd r
+home_of_record s Tail r = absurd r
+home_of_record s (Announcement t) r = absurd r
+home_of_record s (Bump t) r = absurd r
+home_of_record s (Value n) r = refl
+home_of_record s (Next n) r = refl
+home_of_record s (Mark n) r = refl
+home_of_record s (Cell c) r = refl
+home_of_record s (Insert n) r = refl
+home_of_record s (Number e) r = refl
+home_of_record s (EntryKind e) r = refl
+home_of_record s (Status e) r = refl
+home_of_record s (EntryNode e) r = refl
 
 -- a word that a preparation writes is the client's own
 pub record IsOwnWrite (s : Shape) (b : Begun) (w : Write) : Type 0 where
@@ -144,6 +160,14 @@ module _ (a i : ℕ) (s : Shape) (m : Memory) (l : Ledger) (n : Memory) (k : Led
       written = λ j v q e. write_stands b j v h.own h.before.mine.own (inr h.before.loose.mark) e (h.so_far.written j v q e);
     };
     bump = subst (λ x. x ≤ b.used + 1) (sym (g.at_own (Bump (record { 0 = i })) tt ne (λ r. absurd r))) h.bump;
+    rest = λ p own of named none.
+        own_stands p 0 own (home_of_record s p of ∙ ap (owner s) named ∙ h.before.mine.own) (λ r x e. h.before.loose.mark x (e ∙ named)) (h.rest p own of named none);
+    unannounced = λ none.
+        let old : (announcements m.cached i ≢ b.token.0) × (announcements m.kept i ≢ b.token.0) = h.unannounced none in
+        let cached : announcements n.cached i ≡ announcements m.cached i = g.at_own (Announcement (record { 0 = i })) tt ne (λ r. absurd r) in (
+          λ e. old.0 (sym cached ∙ e),
+          λ e. elim (g.at_kept_own (Announcement (record { 0 = i })) tt) [ inl t ↦ old.1 (sym t ∙ e) | inr t ↦ old.0 (sym t ∙ e) ],
+        );
   }
 
   in_hand_stable : (b : Begun) (index : ℕ) (w : Write) → Preparing s m l i b index w → IsWritten m.cached w → IsWritten n.cached w

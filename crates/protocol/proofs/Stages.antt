@@ -9,9 +9,9 @@ use Rattle.words.specs.declared.call.Reply.TheVariants.{Empty}
 use Rattle.history.specs.Effects.{entry_of, order_of, forgotten, settled_at}
 use Rattle.history.specs.declared.event.Effect.{Effect}
 use Rattle.history.specs.declared.event.Entry.{Entry}
-use Rattle.history.specs.Orders.{TakenAs}
+use Rattle.history.specs.Orders.{TakenAs, InOrder}
 use Rattle.history.proofs.EffectLists.{counted, order_first, entry_in_order}
-use Rattle.history.proofs.Members.{IsIn, contains_from_in}
+use Rattle.history.proofs.Members.{IsIn, contains_from_in, in_from_contains, taken_from_in_order, in_order_from_taken}
 use Rattle.protocol.proofs.State.{Stage}
 use Rattle.protocol.proofs.State.Stage.{Unmoved, Seen, Took}
 
@@ -153,3 +153,33 @@ in_order p reply (e ∷ xs) h = first (λ q. in_order p reply xs q) (e.place == 
 -- a call that took effect is in the order with its reply
 pub taken_as_took : (p : ℕ) (reply : Reply) (es : List Effect) → stage_at p es ≡ Took reply → TakenAs (order_of es) p reply
 taken_as_took p reply es h = contains_from_in (order_of es) (record { place = p; reply = reply }) (in_order p reply es h)
+
+took_in : (entry : Entry) (es : List Effect) → IsIn entry (order_of es) → (reply : Reply) × (stage_at entry.place es ≡ Took reply)
+took_in entry [] h = absurd h
+took_in entry (e ∷ es) h = go (λ q. took_in entry es q) (e.place == entry.place) refl e.settled refl (subst (IsIn entry) (order_first e es) h)
+  where
+    kept : (st : Stage) (reply : Reply) → st ≡ Took reply → seen_or st ≡ Took reply
+    kept Unmoved reply q = absurd (cc)
+    kept Seen reply q = absurd (cc)
+    kept (Took r) reply q = q
+
+    go : (IsIn entry (order_of es) → (reply : Reply) × (stage_at entry.place es ≡ Took reply)) → (t : Bool) → (e.place == entry.place) ≡ t → (s : Bool) → e.settled ≡ s → IsIn entry (counted e.settled e (order_of es))
+        → (reply : Reply) × ((if t then (if s then Took e.reply else seen_or (stage_at entry.place es)) else stage_at entry.place es) ≡ Took reply)
+    go rest true f true g q = (e.reply, refl)
+    go rest true f false g q =
+        let r : (reply : Reply) × (stage_at entry.place es ≡ Took reply) = rest (subst (λ x. IsIn entry (counted x e (order_of es))) g q) in
+        (r.0, kept (stage_at entry.place es) r.0 r.1)
+    go rest false f true g q = elim (subst (λ x. IsIn entry (counted x e (order_of es))) g q) [
+      | inl first ↦ absurd (eqb-false e.place entry.place f (ap (λ x. x.place) first))
+      | inr later ↦ rest later
+    ]
+    go rest false f false g q = rest (subst (λ x. IsIn entry (counted x e (order_of es))) g q)
+
+-- a call that is in the order took effect
+pub stage_in_order : (p : ℕ) (es : List Effect) → InOrder (order_of es) p → (reply : Reply) × (stage_at p es ≡ Took reply)
+stage_in_order p es h =
+    let t : (reply : Reply) × TakenAs (order_of es) p reply = taken_from_in_order (order_of es) p h in
+    took_in (record { place = p; reply = t.0 }) es (in_from_contains (order_of es) (record { place = p; reply = t.0 }) t.1)
+
+pub in_order_stage : (p : ℕ) (reply : Reply) (es : List Effect) → stage_at p es ≡ Took reply → InOrder (order_of es) p
+in_order_stage p reply es h = in_order_from_taken (order_of es) p reply (taken_as_took p reply es h)

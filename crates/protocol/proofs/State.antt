@@ -1,5 +1,5 @@
 -- What holds at every moment of a ready queue, and what each call knows where it waits.
-use Rattle.std.proofs.Common.{◌≡◌, ◌≢◌, ℕ, ◌+◌, ◌*◌, ◌≤◌, ◌<◌, ◌⊎◌, List, ◌∷◌, ◌++◌, map, Some}
+use Rattle.std.proofs.Common.{◌≡◌, ◌≢◌, ℕ, ◌+◌, ◌≤◌, ◌<◌, ◌⊎◌, List, ◌∷◌, ◌++◌, map, Some}
 use Rattle.std.specs.Prelude.{slice_get}
 use Rattle.words.specs.declared.call.Call.{Call}
 use Rattle.words.specs.declared.call.Call.TheVariants.{Enq, Deq}
@@ -13,7 +13,7 @@ use Rattle.arena.specs.Chain.{IsAmong, LeadsTo}
 use Rattle.arena.specs.Place.{number_of}
 use Rattle.arena.specs.Ranges.{Fits}
 use Rattle.arena.specs.Shape.{Shape, owner}
-use Rattle.arena.specs.Words.{links, marks, values, bumps, IsWritten}
+use Rattle.arena.specs.Words.{links, marks, values, bumps, announcements, IsWritten}
 use Rattle.arena.specs.declared.place.Write.{Write}
 use Rattle.arena.specs.declared.place.Place.{Place}
 use Rattle.arena.specs.declared.place.Place.TheVariants.{Head, Tail, Announcement, Bump, Next, Mark, Cell, Insert, Number, EntryKind, Status, EntryNode}
@@ -26,6 +26,7 @@ use Rattle.helping.specs.declared.dequeue.Claim.TheVariants.{Won, LostTo}
 use Rattle.helping.specs.declared.op.Op.{Op}
 use Rattle.helping.specs.declared.op.Op.TheVariants.{PrepareStore, PrepareFlush, EnqueueLoadTail, EnqueueLoadNext, EnqueueCheckTail, EnqueueLink, EnqueueFlushLink, EnqueueMoveTail, EnqueueFlushPassedLink, EnqueueHelpTail, DequeueLoadHead, DequeueLoadTail, DequeueLoadNext, DequeueCheckHead, DequeueStoreEmpty, DequeueFlushEmpty, DequeueFlushPassedLink, DequeueHelpTail, DequeueLoadValue, DequeueClaim, DequeueFlushClaim, DequeueStoreResult, DequeueFlushResult, DequeueMoveHead}
 use Rattle.protocol.specs.Machine.{Memory}
+use Rattle.protocol.specs.Kept.{IsAnnounced, IsIssued}
 use Rattle.protocol.proofs.Links.{Links, Marks}
 
 -- how far a call has come: it took no effect, or found the queue empty, or took effect with this reply
@@ -45,10 +46,6 @@ held l i = (l.begun i).token.0
 
 abbrev pub asked : Ledger → ℕ → Call
 asked l i = (l.begun i).call
-
--- the record with this number is used, by the bump word of its client
-abbrev pub IsIssued : Shape → (Place → ℕ) → ℕ → Type 0
-IsIssued s f c = (c ≢ 0) × (c ≤ owner s c * s.records + bumps f (owner s c))
 
 -- a word of a record, or of its node
 abbrev pub IsOfRecord : Place → Type 0
@@ -163,6 +160,8 @@ pub record Base (s : Shape) (m : Memory) (l : Ledger) (claimed waiting : List �
   pub empty : Empties s l (marks m.cached) (empties s m.cached) (empties s m.kept)
   pub kept_bump : (t : ℕ) → bumps m.kept t ≤ bumps m.cached t
   pub no_bump : (t : ℕ) → s.clients ≤ t → bumps m.cached t ≡ 0
+  pub announced : (t : ℕ) → IsAnnounced s m.kept t (announcements m.cached t)
+  pub announced_kept : (t : ℕ) → IsAnnounced s m.kept t (announcements m.kept t)
   pub blank : Blank s m.kept m.cached
   pub blank_kept : Blank s m.kept m.kept
   pub absent : Absent s m.cached
@@ -193,6 +192,10 @@ pub record Written (s : Shape) (m : Memory) (b : Begun) (index : ℕ) : Type 0 w
   pub begun : IsBegun s b
   pub written : (j : ℕ) (w : Write) → j < index → slice_get (preparation_of s.kind b) j ≡ Some w → IsWritten m.cached w × IsWritten m.kept w
 
+-- none of its writes up to this one is of the place
+abbrev pub Unwritten : Shape → Begun → ℕ → Place → Type 0
+Unwritten s b index p = (j : ℕ) (w : Write) → j ≤ index → slice_get (preparation_of s.kind b) j ≡ Some w → w.place ≢ p
+
 -- while it prepares its record
 pub record Preparing (s : Shape) (m : Memory) (l : Ledger) (i : ℕ) (b : Begun) (index : ℕ) (w : Write) : Type 0 where
   pub before : Before s m l i b.token.0
@@ -202,6 +205,9 @@ pub record Preparing (s : Shape) (m : Memory) (l : Ledger) (i : ℕ) (b : Begun)
   pub in_hand : slice_get (preparation_of s.kind b) index ≡ Some w
   pub so_far : Written s m b index
   pub bump : bumps m.cached i ≤ b.used + 1
+  -- what was not written yet is 0, and no announcement names the record
+  pub rest : (p : Place) → IsOwn p → IsOfRecord p → number_of p ≡ b.token.0 → Unwritten s b index p → (m.cached p ≡ 0) × (m.kept p ≡ 0)
+  pub unannounced : Unwritten s b index (Announcement (record { 0 = i })) → (announcements m.cached i ≢ b.token.0) × (announcements m.kept i ≢ b.token.0)
 
 -- its record is prepared: each word of it is kept
 pub record Prepared (s : Shape) (m : Memory) (b : Begun) : Type 0 where

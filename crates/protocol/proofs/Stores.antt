@@ -12,16 +12,17 @@ use Rattle.arena.specs.Chain.LeadsTo.{there}
 use Rattle.arena.specs.Place.{number_of}
 use Rattle.arena.specs.Ranges.{Fits}
 use Rattle.arena.specs.Shape.{Shape, owner, greatest}
-use Rattle.arena.specs.Words.{links, marks, values, bumps}
+use Rattle.arena.specs.Words.{links, marks, values, bumps, announcements}
 use Rattle.arena.specs.declared.place.Place.{Place}
 use Rattle.arena.specs.declared.place.Place.TheVariants.{Head, Tail, Announcement, Bump, Value, Next, Mark, Cell, Insert, Number, EntryKind, Status, EntryNode}
 use Rattle.helping.specs.Table.{token_of, node_of}
 use Rattle.protocol.specs.Machine.{Memory, put, stored}
-use Rattle.protocol.proofs.Chains.{upd, upd_same, upd_at, upd_other, upd_cases, Distinct, distinct, not_again, parts_apart, leads_at, leads_trans, leads_in, leads_next, leads_last, rest_chain, first_among, in_left, in_right, in_chain, linked_by}
+use Rattle.protocol.specs.Kept.{IsAnnounced, IsIssued}
+use Rattle.protocol.proofs.Chains.{upd, upd_same, upd_other, upd_cases, Distinct, distinct, not_again, parts_apart, leads_at, leads_trans, leads_in, leads_next, leads_last, rest_chain, first_among, in_left, in_right, in_chain, linked_by}
 use Rattle.protocol.proofs.Links.{kept_none, Links, Marks, off_chain, no_link_of, new_link, new_mark, first_waiting, first_split, first_one}
 use Rattle.std.proofs.lemmas.Bool.{cases_eq}
 use Rattle.words.specs.declared.call.Reply.TheVariants.{Done}
-use Rattle.protocol.proofs.State.{WasTail, Ledger, held, asked, IsIssued, IsOfRecord, IsOwn, IsAnswer, IsOfKind, home, Blank, Absent, AllFit, Says, empties, IsLinking, IsClaiming, IsAnswering, Empties, Enqueuing, Dequeuing, Claims, Base, Grows}
+use Rattle.protocol.proofs.State.{WasTail, Ledger, held, asked, IsOfRecord, IsOwn, IsAnswer, IsOfKind, home, Blank, Absent, AllFit, Says, empties, IsLinking, IsClaiming, IsAnswering, Empties, Enqueuing, Dequeuing, Claims, Base, Grows}
 use Rattle.protocol.proofs.State.Stage.{Unmoved, Seen, Took}
 use Rattle.protocol.proofs.Puts.{IsEmptyWord, put_cases, put_other, put_blank, put_absent, put_fits, put_empties}
 use Rattle.protocol.proofs.Stable.{empty_own, empty_home, empty_number, result_own}
@@ -120,20 +121,24 @@ module _ (s : Shape) (m : Memory) (l : Ledger) (claimed waiting : List ℕ) (b :
 module _ (s : Shape) (m : Memory) (l : Ledger) (claimed waiting : List ℕ) (b : Base s m l claimed waiting) where
   -- a word of a client's own that says nothing of an empty queue
   pub own_base : (p : Place) (v : ℕ) → MayStore s m p v → IsOwn p → (IsEmptyWord p → ⊥) → ((n : NodeId) → p ≡ Value n → (j : ℕ) → links m.cached j ≢ n.0)
-      → ((t : Client) → p ≡ Bump t → (bumps m.kept t.0 ≤ v) × (t.0 < s.clients)) → Base s (stored m p v) l claimed waiting
-  own_base Head v may own quiet loose bump = absurd own
-  own_base Tail v may own quiet loose bump = absurd own
-  own_base (Next n) v may own quiet loose bump = absurd own
-  own_base (Mark n) v may own quiet loose bump = absurd own
-  own_base (Cell c) v may own quiet loose bump = absurd (quiet tt)
-  own_base (Status c) v may own quiet loose bump = absurd (quiet tt)
-  own_base (Announcement t) v may own quiet loose bump =
+      → ((t : Client) → p ≡ Bump t → (bumps m.kept t.0 ≤ v) × (t.0 < s.clients)) → ((t : Client) → p ≡ Announcement t → IsAnnounced s m.kept t.0 v) → Base s (stored m p v) l claimed waiting
+  own_base Head v may own quiet loose bump announces = absurd own
+  own_base Tail v may own quiet loose bump announces = absurd own
+  own_base (Next n) v may own quiet loose bump announces = absurd own
+  own_base (Mark n) v may own quiet loose bump announces = absurd own
+  own_base (Cell c) v may own quiet loose bump announces = absurd (quiet tt)
+  own_base (Status c) v may own quiet loose bump announces = absurd (quiet tt)
+  own_base (Announcement t) v may own quiet loose bump announces =
       let e : Empties s l (marks m.cached) (empties s (put m.cached (Announcement t) v)) (empties s m.kept) = store_empty s m l claimed waiting b (Announcement t) v may quiet in
       let bl : Blank s m.kept (put m.cached (Announcement t) v) = store_blank s m l claimed waiting b (Announcement t) v may in
       let ab : Absent s (put m.cached (Announcement t) v) = store_absent s m l claimed waiting b (Announcement t) v may in
       let fi : AllFit s (put m.cached (Announcement t) v) = store_fits s m l claimed waiting b (Announcement t) v may in
-      assumption (b, e, bl, ab, fi)
-  own_base (Bump t) v may own quiet loose bump =
+      let an : (x : ℕ) → IsAnnounced s m.kept x (upd (announcements m.cached) t.0 v x) = λ x. elim (upd_cases (announcements m.cached) t.0 v x) [
+        | inl q ↦ subst (IsAnnounced s m.kept x) (sym q.1) (subst (λ y. IsAnnounced s m.kept y v) (sym q.0) (announces t refl))
+        | inr q ↦ subst (IsAnnounced s m.kept x) (sym q.1) (b.announced x)
+      ] in
+      assumption (b, e, bl, ab, fi, an)
+  own_base (Bump t) v may own quiet loose bump announces =
       let e : Empties s l (marks m.cached) (empties s (put m.cached (Bump t) v)) (empties s m.kept) = store_empty s m l claimed waiting b (Bump t) v may quiet in
       let bl : Blank s m.kept (put m.cached (Bump t) v) = store_blank s m l claimed waiting b (Bump t) v may in
       let ab : Absent s (put m.cached (Bump t) v) = store_absent s m l claimed waiting b (Bump t) v may in
@@ -147,7 +152,7 @@ module _ (s : Shape) (m : Memory) (l : Ledger) (claimed waiting : List ℕ) (b :
         | inr q ↦ q.1 ∙ b.no_bump x h
       ] in
       assumption (b, e, bl, ab, fi, kb, nb)
-  own_base (Value n) v may own quiet loose bump =
+  own_base (Value n) v may own quiet loose bump announces =
       let e : Empties s l (marks m.cached) (empties s (put m.cached (Value n) v)) (empties s m.kept) = store_empty s m l claimed waiting b (Value n) v may quiet in
       let bl : Blank s m.kept (put m.cached (Value n) v) = store_blank s m l claimed waiting b (Value n) v may in
       let ab : Absent s (put m.cached (Value n) v) = store_absent s m l claimed waiting b (Value n) v may in
@@ -158,25 +163,25 @@ module _ (s : Shape) (m : Memory) (l : Ledger) (claimed waiting : List ℕ) (b :
       let g : IsLinking s l (values m.cached) (links m.cached j) = b.flying_link j h z in
       record { holds = g.holds; asks = g.asks ∙ ap Enq (sym (upd_other (values m.cached) n.0 v (links m.cached j) (loose n refl j))); unmoved = g.unmoved } in
       assumption (b, e, bl, ab, fi, lv, fl)
-  own_base (Insert t) v may own quiet loose bump =
+  own_base (Insert t) v may own quiet loose bump announces =
       let e : Empties s l (marks m.cached) (empties s (put m.cached (Insert t) v)) (empties s m.kept) = store_empty s m l claimed waiting b (Insert t) v may quiet in
       let bl : Blank s m.kept (put m.cached (Insert t) v) = store_blank s m l claimed waiting b (Insert t) v may in
       let ab : Absent s (put m.cached (Insert t) v) = store_absent s m l claimed waiting b (Insert t) v may in
       let fi : AllFit s (put m.cached (Insert t) v) = store_fits s m l claimed waiting b (Insert t) v may in
       assumption (b, e, bl, ab, fi)
-  own_base (Number t) v may own quiet loose bump =
+  own_base (Number t) v may own quiet loose bump announces =
       let e : Empties s l (marks m.cached) (empties s (put m.cached (Number t) v)) (empties s m.kept) = store_empty s m l claimed waiting b (Number t) v may quiet in
       let bl : Blank s m.kept (put m.cached (Number t) v) = store_blank s m l claimed waiting b (Number t) v may in
       let ab : Absent s (put m.cached (Number t) v) = store_absent s m l claimed waiting b (Number t) v may in
       let fi : AllFit s (put m.cached (Number t) v) = store_fits s m l claimed waiting b (Number t) v may in
       assumption (b, e, bl, ab, fi)
-  own_base (EntryKind t) v may own quiet loose bump =
+  own_base (EntryKind t) v may own quiet loose bump announces =
       let e : Empties s l (marks m.cached) (empties s (put m.cached (EntryKind t) v)) (empties s m.kept) = store_empty s m l claimed waiting b (EntryKind t) v may quiet in
       let bl : Blank s m.kept (put m.cached (EntryKind t) v) = store_blank s m l claimed waiting b (EntryKind t) v may in
       let ab : Absent s (put m.cached (EntryKind t) v) = store_absent s m l claimed waiting b (EntryKind t) v may in
       let fi : AllFit s (put m.cached (EntryKind t) v) = store_fits s m l claimed waiting b (EntryKind t) v may in
       assumption (b, e, bl, ab, fi)
-  own_base (EntryNode t) v may own quiet loose bump =
+  own_base (EntryNode t) v may own quiet loose bump announces =
       let e : Empties s l (marks m.cached) (empties s (put m.cached (EntryNode t) v)) (empties s m.kept) = store_empty s m l claimed waiting b (EntryNode t) v may quiet in
       let bl : Blank s m.kept (put m.cached (EntryNode t) v) = store_blank s m l claimed waiting b (EntryNode t) v may in
       let ab : Absent s (put m.cached (EntryNode t) v) = store_absent s m l claimed waiting b (EntryNode t) v may in
@@ -492,7 +497,7 @@ module _ (s : Shape) (m : Memory) (l : Ledger) (claimed waiting : List ℕ) (b :
       go Log e = subst (λ k. Base s (stored m (result_of k c n v).place (result_of k c n v).value) l claimed waiting) (sym e)
           (own_base s m l claimed waiting b (EntryNode c) n.0
           (record { issued = λ r q. subst (IsIssued s m.kept) named (b.issued_mark n.0 some); of_kind = e; fits = node })
-          tt (λ q. q) (λ x q. absurd (cc)) (λ t q. absurd (cc)))
+          tt (λ q. q) (λ x q. absurd (cc)) (λ t q. absurd (cc)) (λ t q. absurd (cc)))
 
 module _ (s : Shape) (m : Memory) (l : Ledger) (claimed waiting : List ℕ) (b : Base s m l claimed waiting) (a : ℕ) where
   -- a store to no word of anybody's own, that names no node and claims none

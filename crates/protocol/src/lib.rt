@@ -1,7 +1,13 @@
 //! The queue as a machine over places: what holds at every moment, in every interleaving.
 #![tactic(auto)]
 
+mod laws;
+
 use helping::Op;
+pub use laws::{
+    a_call_alone_ends, every_history_is_explained, kept_words_are_sound, kept_words_are_told,
+    nothing_is_taken_back, recovery_ends,
+};
 use stepper::Begun;
 
 /// A call under way.

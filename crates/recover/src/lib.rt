@@ -1,8 +1,15 @@
 //! Recovery after a crash, as a step machine over any layout.
 #![tactic(auto)]
 
+mod chain;
+mod claims;
 mod ends;
+mod entries;
+mod kept;
+mod records;
 mod recovery;
+mod rows;
+mod soundness;
 mod telling;
 
 pub use ends::{
@@ -11,6 +18,7 @@ pub use ends::{
     RecoveryStoreHead, RecoveryStoreResult, RecoveryStoreStatus, RecoveryStoreTail,
 };
 pub use recovery::{Recover, Recovered, Recovery, boot};
+pub use soundness::sound;
 pub use telling::{
     RecoveryLoadAnnouncement, RecoveryLoadCell, RecoveryLoadEntryNode, RecoveryLoadKind,
     RecoveryLoadNumber, RecoveryLoadRemove, RecoveryLoadRemovedValue, RecoveryLoadStatus,

@@ -12,4 +12,6 @@ mod logs;
 #[cfg(test)]
 mod scripts;
 #[cfg(test)]
+mod sound;
+#[cfg(test)]
 mod worlds;

@@ -8,7 +8,7 @@ use Rattle.interleave.specs.Ranges.{WordsFit}
 use Rattle.interleave.specs.State.{Laid, machine_of}
 use Rattle.interleave.specs.Trace.{Traced}
 use Rattle.interleave.proofs.EvictLaws.{is_place, word_is, below, notes_change, notes_nothing, room_is, left_is}
-use Rattle.interleave.proofs.MachineFacts.{in_sequence}
+use Rattle.interleave.proofs.MachineFacts.{room_held, sequence_held}
 use Rattle.interleave.proofs.Safety.{IsSafe-evicted}
 use Rattle.interleave.proofs.evicting.evict_word.Goals as goal
 
@@ -42,7 +42,7 @@ notice-requires-clause-fit g c =
     subst (λ (m : Words). WordsFit s (g.L.Layout.word_of c.args.layout.now) (g.L.Layout.size_of c.args.layout.now) m) (sym (c.evict.ensures.done lt ∙ ap (λ v. evicted_word v c.args.memory.now) (sym word))) kept
 
 pub notice-requires-clause-sequence : goal.notice-requires-clause-sequence
-notice-requires-clause-sequence g c = in_sequence _ (of_keeps _ c.requires.holds.inv)
+notice-requires-clause-sequence g c = sequence_held c.requires.holds
 
 pub notice-requires-clause-room : goal.notice-requires-clause-room
 notice-requires-clause-room g c =

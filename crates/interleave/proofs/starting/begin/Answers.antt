@@ -8,14 +8,14 @@ use Rattle.protocol.specs.declared.Issued.{Issued}
 use Rattle.protocol.specs.declared.UnderWay.{UnderWay}
 use Rattle.helping.specs.Table.{begun_at}
 use Rattle.protocol.specs.Machine.{Log}
-use Rattle.protocol.proofs.Facts.{effect_room}
+use Rattle.interleave.proofs.MachineFacts.{room_held}
 use Rattle.interleave.specs.State.{Laid, used_by, begun, looked_at_bump}
 use Rattle.interleave.specs.Trace.{Traced, state_with}
 use Rattle.interleave.proofs.StartLaws.{client_in, used_is, used_few, begun_is}
 use Rattle.interleave.proofs.starting.begin.Goals as goal
 
 pub reserve-requires : goal.reserve-requires
-reserve-requires g c = effect_room _ (of_keeps _ c.requires.holds.inv)
+reserve-requires g c = room_held c.requires.holds
 
 pub returns-then-is_err-clause-result : goal.returns-then-is_err-clause-result
 returns-then-is_err-clause-result g c =

@@ -7,17 +7,17 @@ use Rattle.interleave.specs.Effects.{AreInSequence}
 use Rattle.interleave.specs.State.{as_machine, machine_of, Laid}
 use Rattle.interleave.specs.Trace.{state_with}
 use Rattle.interleave.proofs.HoldsKept.{may_step, waiting_is}
-use Rattle.protocol.proofs.Facts.{effect_room, step_room}
-use Rattle.interleave.proofs.MachineFacts.{in_sequence}
+use Rattle.protocol.proofs.Facts.{step_room}
+use Rattle.interleave.proofs.MachineFacts.{room_held, sequence_held}
 use Rattle.interleave.proofs.Safety.{call_fits}
 use Rattle.interleave.proofs.steps.step_call.Goals as goal
 
 pub reserve-requires : goal.reserve-requires
-reserve-requires g c = effect_room _ (of_keeps _ c.requires.holds.inv)
+reserve-requires g c = room_held c.requires.holds
 
 pub advance-answer-requires-clause-sequence : goal.advance-answer-requires-clause-sequence
 advance-answer-requires-clause-sequence g c =
-    subst (λ (l : Log). AreInSequence l.effects) (sym c.reserve.ensures.log) (in_sequence _ (of_keeps _ c.requires.holds.inv))
+    subst (λ (l : Log). AreInSequence l.effects) (sym c.reserve.ensures.log) (sequence_held c.requires.holds)
 
 pub advance-answer-requires-clause-effects : goal.advance-answer-requires-clause-effects
 advance-answer-requires-clause-effects g c =

@@ -14,7 +14,7 @@ pub invariant_of-result : goal.invariant_of-result
 invariant_of-result g c =
     let laid : Laid g.row.L.Denot = record { shape = g.L.Layout.shape; word_of = g.L.Layout.word_of; place_at = g.L.Layout.place_at; size_of = g.L.Layout.size_of } in
     let s = g.L.Layout.shape c.args.layout in
-    let new = holds_new laid g.met.L.Layout.laid_out c.args.layout c.clients.ensures.counts.few_clients (new_kind s.kind s.clients) in
+    let new = holds_new laid g.met.L.Layout.laid_out c.args.layout c.clients.ensures.counts.some_client c.clients.ensures.counts.few_clients (new_kind s.kind s.clients) in
     let memory : c.in_ok-memory.memory ≡ zero_words (g.L.Layout.size_of c.args.layout) = search rules in
     let calls : c.in-Ok.calls.items ≡ replicate s.clients None = search rules in
     let queue : c.new-queue.result ≡ new_queue s.kind s.clients = search rules in

@@ -1,0 +1,138 @@
+-- A call that goes on alone to its answer goes on as by single steps.
+use Rattle.std.proofs.Common.{◌≡◌, ℕ, zero, suc, ◌+◌, ◌-◌, ◌≤◌, ◌<◌, false, List, [], ◌∷◌, length, slice_get, slice_index, slice_set, refl, sym, ap, ◌∙◌, arith}
+use Rattle.std.proofs.lemmas.Option.{slice_get_within}
+use Rattle.std.specs.Prelude.{Option, Some, None, Result, Ok, Err}
+use Rattle.words.specs.declared.call.Client.{Client}
+use Rattle.words.specs.declared.call.Reply.{Reply}
+use Rattle.words.specs.declared.refusal.Refusal.{Refusal}
+use Rattle.words.specs.declared.refusal.Refusal.TheVariants.{Idle}
+use Rattle.stepper.specs.declared.After.{After}
+use Rattle.stepper.specs.declared.After.TheVariants.{More, Done}
+use Rattle.protocol.specs.Machine.{next_of, with_next}
+use Rattle.protocol.specs.declared.UnderWay.{UnderWay}
+use Rattle.interleave.specs.Calls.{answer_of, waiting_result}
+use Rattle.interleave.specs.State.{State, Laid, as_machine, gone_on, step_with, step_result, step_result_with, after_step, after_alone, IsAnsweredAlone}
+use Rattle.explore.specs.Prints.{return_line, refused_line}
+use Rattle.explore.specs.Transcript.{Play, stepped, counted, most_alone, after_steps, steps_text}
+use Rattle.explore.proofs.Plays.{refused_same, leads_on, prints_on, ends_answered, prints_answered, ends_refused, prints_refused}
+
+get_set : {X : Type 0} (xs : List X) (i : ℕ) (x : X) → i < length xs → slice_get (slice_set xs i x) i ≡ Some x
+get_set [] i x h = absurd (omega (arith, h))
+get_set (y ∷ xs) zero x h = refl
+get_set (y ∷ xs) (suc i) x h = get_set xs i x (omega (arith, h))
+
+index_set : (xs : List ℕ) (i x : ℕ) → i < length xs → slice_index (slice_set xs i x) i ≡ x
+index_set [] i x h = absurd (omega (arith, h))
+index_set (y ∷ xs) zero x h = refl
+index_set (y ∷ xs) (suc i) x h = index_set xs i x (omega (arith, h))
+
+set_set : (xs : List ℕ) (i x z : ℕ) → slice_set (slice_set xs i x) i z ≡ slice_set xs i z
+set_set [] i x z = refl
+set_set (y ∷ xs) zero x z = refl
+set_set (y ∷ xs) (suc i) x z = ap (λ l. y ∷ l) (set_set xs i x z)
+
+length_set : (xs : List ℕ) (i x : ℕ) → length (slice_set xs i x) ≡ length xs
+length_set [] i x = refl
+length_set (y ∷ xs) zero x = refl
+length_set (y ∷ xs) (suc i) x = ap suc (length_set xs i x)
+
+-- counts add up
+counts : (n v : ℕ) → counted n (counted 1 v) ≡ counted (suc n) v
+counts n v = omega arith
+
+-- a world that refuses a step goes on refusing
+stays : {L : Type 0} (laid : Laid L) (k : ℕ) (w : State L) (client : Client) (refusal : Refusal) → step_result laid false w client ≡ Err refusal → after_alone laid k w client ≡ w
+stays laid zero w client refusal is = refl
+stays laid (suc k) w client refusal is = ap (λ v. after_step laid false v client) (stays laid k w client refusal is) ∙ refused_same laid w client refusal is
+
+-- the first of some steps, and then the rest
+first : {L : Type 0} (laid : Laid L) (k : ℕ) (w : State L) (client : Client) → after_alone laid (suc k) w client ≡ after_alone laid k (after_step laid false w client) client
+first laid zero w client = refl
+first laid (suc k) w client = ap (λ v. after_step laid false v client) (first laid k w client)
+
+-- once it is answered, the client has no call
+answered_idle : {L : Type 0} (laid : Laid L) (w : State L) (client : Client) (reply : Reply) → step_result laid false w client ≡ Ok (Some reply) → step_result laid false (after_step laid false w client) client ≡ Err Idle
+answered_idle laid w client reply is = go (slice_get w.calls client.0) refl
+  where
+    done : (u : UnderWay) (a : After _) → slice_get w.calls client.0 ≡ Some (Some u) → next_of (as_machine laid w) u ≡ a → answer_of a ≡ Some reply → step_result laid false (gone_on laid w client u) client ≡ Err Idle
+    done u (More op) here next told = absurd (cc)
+    done u (Done r) here next told =
+        let none : slice_get (gone_on laid w client u).calls client.0 ≡ Some None = get_set w.calls client.0 (with_next u (next_of (as_machine laid w) u)) (slice_get_within w.calls client.0 (Some u) here) ∙ ap (λ (a : After _). Some (with_next u a)) next in
+        ap (λ (o : Option (Option UnderWay)). step_result_with laid false (gone_on laid w client u) (waiting_result o)) none
+
+    go : (o : Option (Option UnderWay)) → slice_get w.calls client.0 ≡ o → step_result laid false (after_step laid false w client) client ≡ Err Idle
+    go None here = let told = sym is ∙ ap (λ (o : Option (Option UnderWay)). step_result_with laid false w (waiting_result o)) here in absurd (cc)
+    go (Some None) here = let told = sym is ∙ ap (λ (o : Option (Option UnderWay)). step_result_with laid false w (waiting_result o)) here in absurd (cc)
+    go (Some (Some u)) here =
+        let step : after_step laid false w client ≡ gone_on laid w client u = ap (λ (o : Option (Option UnderWay)). step_with laid false w client (waiting_result o)) here in
+        let both = sym (ap (λ (o : Option (Option UnderWay)). step_result_with laid false w (waiting_result o)) here) ∙ is in
+        let told : answer_of (next_of (as_machine laid w) u) ≡ Some reply = cc in
+        ap (λ v. step_result laid false v client) step ∙ done u (next_of (as_machine laid w) u) here refl told
+
+-- before the step that answers, none does
+goes_first : {L : Type 0} (laid : Laid L) (k : ℕ) (w : State L) (client : Client) (reply : Reply) → step_result laid false (after_alone laid (suc k) w client) client ≡ Ok (Some reply) → step_result laid false w client ≡ Ok None
+goes_first laid k w client reply last = go (step_result laid false w client) refl
+  where
+    go : (r : Result (Option Reply) Refusal) → step_result laid false w client ≡ r → step_result laid false w client ≡ Ok None
+    go (Ok None) is = is
+    go (Ok (Some other)) is =
+        let idle = answered_idle laid w client other is in
+        let same : after_alone laid (suc k) w client ≡ after_step laid false w client = first laid k w client ∙ stays laid k (after_step laid false w client) client Idle idle in
+        let bad : Err Idle ≡ Ok (Some reply) = sym idle ∙ ap (λ v. step_result laid false v client) (sym same) ∙ last in
+        absurd (cc)
+    go (Err refusal) is =
+        let same : after_alone laid (suc k) w client ≡ w = stays laid (suc k) w client refusal is in
+        let bad : Err refusal ≡ Ok (Some reply) = sym is ∙ ap (λ v. step_result laid false v client) (sym same) ∙ last in
+        absurd (cc)
+
+-- where so many steps alone lead, and what they count
+abbrev pub alone : {L : Type 0} → Laid L → Play L → Client → ℕ → Play L
+alone laid play client n = record { world = after_alone laid n play.world client; steps = slice_set play.steps client.0 (counted n (slice_index play.steps client.0)) }
+
+pub record Alone {L : Type 0} (laid : Laid L) (play : Play L) (client : Client) (n m : ℕ) (reply : Reply) : Type 0 where
+  pub leads : after_steps laid client m play ≡ alone laid play client n
+  pub prints : steps_text laid client m play ≡ return_line client reply (counted n (slice_index play.steps client.0))
+
+next_alone : {L : Type 0} (laid : Laid L) (play : Play L) (client : Client) (k : ℕ) → client.0 < length play.steps → alone laid (stepped laid play client) client (suc k) ≡ alone laid play client (suc (suc k))
+next_alone laid play client k there =
+    let v = slice_index play.steps client.0 in
+    let again : counted (suc k) (slice_index (slice_set play.steps client.0 (counted 1 v)) client.0) ≡ counted (suc (suc k)) v = ap (counted (suc k)) (index_set play.steps client.0 (counted 1 v) there) ∙ counts (suc k) v in
+    ap (λ w. record { world = w; steps = slice_set (slice_set play.steps client.0 (counted 1 v)) client.0 (counted (suc k) (slice_index (slice_set play.steps client.0 (counted 1 v)) client.0)) }) (sym (first laid (suc k) play.world client))
+    ∙ ap (λ l. record { world = after_alone laid (suc (suc k)) play.world client; steps = l }) (set_set play.steps client.0 (counted 1 v) _ ∙ ap (slice_set play.steps client.0) again)
+
+-- a call that is answered after so many steps alone is so within as many single steps or more
+pub goes_alone : {L : Type 0} (laid : Laid L) (client : Client) (n m : ℕ) (play : Play L) (reply : Reply) → n ≤ m → client.0 < length play.steps → IsAnsweredAlone laid play.world client n reply → Alone laid play client n m reply
+goes_alone laid client zero m play reply few there is = absurd is
+goes_alone laid client (suc zero) m play reply few there is =
+    let all : m ≡ m - 0 = omega arith in
+    record {
+      leads = ap (λ j. after_steps laid client j play) all ∙ ends_answered laid client m 0 play reply (omega (arith, few)) is;
+      prints = ap (λ j. steps_text laid client j play) all ∙ prints_answered laid client m 0 play reply (omega (arith, few)) is;
+    }
+goes_alone laid client (suc (suc k)) m play reply few there is =
+    let all : m ≡ m - 0 = omega arith in
+    let none : step_result laid false play.world client ≡ Ok None = goes_first laid k play.world client reply is in
+    let next = stepped laid play client in
+    let v = slice_index play.steps client.0 in
+    let rest = goes_alone laid client (suc k) (m - (0 + 1)) next reply (omega (arith, few)) (omega (arith, there, length_set play.steps client.0 (counted 1 v))) (ap (λ w. step_result laid false w client) (sym (first laid k play.world client)) ∙ is) in
+    record {
+      leads = ap (λ j. after_steps laid client j play) all ∙ sym (leads_on laid client m 0 play next (omega (arith, few)) none refl) ∙ rest.leads ∙ next_alone laid play client k there;
+      prints = ap (λ j. steps_text laid client j play) all ∙ sym (prints_on laid client m 0 play next (omega (arith, few)) none refl) ∙ rest.prints ∙ ap (return_line client reply) (ap (counted (suc k)) (index_set play.steps client.0 (counted 1 v) there) ∙ counts (suc k) v);
+    }
+
+pub few_alone : (n : ℕ) → n ≤ 64 → n ≤ most_alone
+unfolding most_alone
+few_alone n few = few
+
+-- and one that is refused leads nowhere
+pub refused_leads : {L : Type 0} (laid : Laid L) (client : Client) (play : Play L) (refusal : Refusal) → step_result laid false play.world client ≡ Err refusal → after_steps laid client most_alone play ≡ play
+refused_leads laid client play refusal is =
+    let all : most_alone ≡ most_alone - 0 = omega arith in
+    let some : 1 ≤ most_alone = few_alone 1 (omega arith) in
+    ap (λ j. after_steps laid client j play) all ∙ ends_refused laid client most_alone 0 play refusal (omega (arith, some)) is
+
+pub refused_prints : {L : Type 0} (laid : Laid L) (client : Client) (play : Play L) (refusal : Refusal) → step_result laid false play.world client ≡ Err refusal → steps_text laid client most_alone play ≡ refused_line refusal
+refused_prints laid client play refusal is =
+    let all : most_alone ≡ most_alone - 0 = omega arith in
+    let some : 1 ≤ most_alone = few_alone 1 (omega arith) in
+    ap (λ j. steps_text laid client j play) all ∙ prints_refused laid client most_alone 0 play refusal (omega (arith, some)) is

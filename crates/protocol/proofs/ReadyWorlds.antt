@@ -1,0 +1,117 @@
+-- A ready world, in which clients are told rightly whenever the system stops.
+use Rattle.std.proofs.Common.{◌≡◌, ◌≢◌, ℕ, ◌<◌, inl, inr, List, length, Bool, true, false, if◌then◌else◌, ◌==◌, refl, sym, ◌∙◌, arith}
+use Rattle.std.specs.Prelude.{nat_lt}
+use Rattle.std.proofs.lemmas.Bool.{cases_lt, lt-ltb, le-ltb}
+use Rattle.std.proofs.lemmas.List.Elements.{All-weaker}
+use Rattle.words.specs.declared.call.Call.{Call}
+use Rattle.words.specs.declared.call.Client.{Client}
+use Rattle.words.specs.declared.call.Kind.{Kind}
+use Rattle.words.specs.declared.call.Kind.TheVariants.{Durable, Log}
+use Rattle.words.specs.declared.call.Reply.{Reply}
+use Rattle.words.specs.declared.told.Row.{Row}
+use Rattle.words.specs.declared.told.Row.TheVariants.{NoCall, Open, Empty as row_empty, Got as row_got}
+use Rattle.words.specs.declared.told.Told.{Told}
+use Rattle.words.specs.declared.told.Told.TheVariants.{None as told_none, Verdict as told_verdict, Row as told_row}
+use Rattle.persist.specs.Memory.{Access, Load, Store, Cas, Flush}
+use Rattle.arena.specs.Shape.{Shape}
+use Rattle.arena.specs.declared.place.Place.{Place}
+use Rattle.stepper.specs.declared.After.{After}
+use Rattle.stepper.specs.declared.After.TheVariants.{More, Done}
+use Rattle.helping.specs.Table.{access_of}
+use Rattle.helping.specs.declared.op.Op.{Op}
+use Rattle.recover.specs.Table.{no_call}
+use Rattle.history.specs.Effects.{order_of}
+use Rattle.history.specs.Log.{IsLog, IsEffect}
+use Rattle.history.specs.Orders.{InOrder}
+use Rattle.history.specs.declared.event.Effect.{Effect}
+use Rattle.history.specs.declared.event.Event.{Event}
+use Rattle.history.specs.declared.event.Event.TheVariants.{Call as call_event, Return as return_event}
+use Rattle.protocol.specs.Machine.{Memory, World, stored, flushed, accessed, after_keeping, effects_after, events_after, next_of, stepped, started, evicted, MayStart, MayStep}
+use Rattle.protocol.specs.declared.UnderWay.{UnderWay}
+use Rattle.protocol.specs.Kept.{TellsBy, TellsOf}
+use Rattle.protocol.proofs.State.Stage.{Unmoved, Took}
+use Rattle.protocol.proofs.Keeps.{kept_ledger}
+use Rattle.protocol.proofs.Records.{keep_records}
+use Rattle.protocol.proofs.Rows.{ledger_after}
+use Rattle.protocol.proofs.Stages.{stage_at, unmoved_of_none, stage_in_order}
+use Rattle.protocol.proofs.Moments.{ledger_of, Working}
+use Rattle.protocol.proofs.Acts.{kept, noted, step_row, step_noted_now, step_records, evicted_works, stepped_works, started_works}
+use Rattle.protocol.proofs.Tells.{IsTold, told_push}
+use Rattle.protocol.proofs.Rightly.{RightlyTold, KeptBy, kept_told}
+
+pub record IsReady (w : World) : Type 0 where
+  pub working : Working w
+  pub tells : RightlyTold w
+
+-- an access keeps one word at most
+pub access_kept : (m : Memory) (a : Access Place) → KeptBy m (accessed m a)
+access_kept m (Load p) = inl refl
+access_kept m (Store p v) = inl refl
+access_kept m (Cas p old new) = go (m.cached p == old)
+  where
+    go : (t : Bool) → KeptBy m (if t then stored m p new else m)
+    go true = inl refl
+    go false = inl refl
+access_kept m (Flush p) = inr (record { p = p; same = refl })
+
+-- no call stands where the history ends
+pub none_at_end : (kind : Kind) (base : List ℕ) (told : List Told) (events : List Event) (effects : List Effect) → IsLog kind base told events effects → InOrder (order_of effects) (length events) → ⊥
+none_at_end kind base told events effects log h =
+    let t : (reply : Reply) × (stage_at (length events) effects ≡ Took reply) = stage_in_order (length events) effects h in
+    let none : stage_at (length events) effects ≡ Unmoved =
+    unmoved_of_none (length events) effects
+    (All-weaker (λ (x : Effect). IsEffect events x) (λ (x : Effect). x.place ≢ length events) (λ x e q. absurd (omega (arith, e.after, e.before, q))) effects log.within) in
+    let wrong : Unmoved ≡ Took t.0 = sym none ∙ t.1 in
+    cc
+
+pub evicted_ready : (w : World) → IsReady w → (p : Place) → IsReady (evicted w p)
+evicted_ready w v p = record {
+  working = evicted_works w v.working p;
+  tells = λ client told few h.
+      kept_told w v.working v.tells (flushed w.memory p) (after_keeping w p) (kept_ledger w.shape w.memory (ledger_of w) p) (kept w v.working p).claimed (kept w v.working p).waiting (kept w v.working p).base
+      (keep_records w.shape w.memory (ledger_of w) v.working.claimed v.working.waiting v.working.base v.working.records p) (noted w v.working p) (inr (record { p = p; same = refl })) client told few h;
+}
+
+pub stepped_ready : (w : World) → IsReady w → (client : Client) (u : UnderWay) → MayStep w client u → IsReady (stepped w client u)
+stepped_ready w v client u may = record { working = stepped_works w v.working client u may; tells = go (next_of w u) }
+  where
+    before : RightlyTold (record w { memory = accessed w.memory (access_of w.shape.kind u.op); log = record { events = w.log.events; issued = w.log.issued; effects = effects_after w u u.op } })
+    before c told few h =
+        kept_told w v.working v.tells (accessed w.memory (access_of w.shape.kind u.op)) (effects_after w u u.op) (ledger_after w.shape w.memory (ledger_of w) client.0 u.op)
+        (step_row w v.working client u may).claimed (step_row w v.working client u may).waiting (step_row w v.working client u may).base (step_records w v.working client u may) (step_noted_now w v.working client u may)
+        (access_kept w.memory (access_of w.shape.kind u.op)) c told few h
+
+    go : (next : After Op) → (c : Client) (told : Told) → c.0 < 16 → TellsOf w.shape (accessed w.memory (access_of w.shape.kind u.op)).kept c.0 told
+        → IsTold w.shape.kind w.told (events_after w.log.events client next) (order_of (effects_after w u u.op)) c told
+    go (More op) c told few h = before c told few h
+    go (Done reply) c told few h =
+        told_push w.shape.kind w.told w.log.events (return_event client reply) (order_of (effects_after w u u.op)) c told
+        (none_at_end w.shape.kind w.base w.told w.log.events (effects_after w u u.op) (step_noted_now w v.working client u may).log) (before c told few h)
+
+pub started_ready : (w : World) → IsReady w → (client : Client) (number : ℕ) (call : Call) → MayStart w client number call → IsReady (started w client number call)
+started_ready w v client number call may = record {
+  working = started_works w v.working client number call may;
+  tells = λ c told few h.
+      told_push w.shape.kind w.told w.log.events (call_event client number call) (order_of w.log.effects) c told (none_at_end w.shape.kind w.base w.told w.log.events w.log.effects v.working.log) (v.tells c told few h);
+}
+
+-- what a queue without calls tells
+pub fresh_told : (s : Shape) (t : ℕ) (told : Told) → TellsOf s (λ p. 0) t told → told ≡ (if nat_lt t s.clients then no_call s.kind else told_none)
+fresh_told s t told h = elim (cases_lt t s.clients) [
+  | inl lt ↦ rw (lt-ltb t s.clients lt) (go s.kind told (h.0 lt))
+  | inr ge ↦ rw (le-ltb t s.clients ge) (h.1 ge)
+]
+  where
+    row : (r : Row) → TellsBy Durable (λ p. 0) t (told_row r) → told_row r ≡ told_row NoCall
+    row NoCall q = refl
+    row Open q = absurd (q.0 refl)
+    row row_empty q = absurd (q.0 refl)
+    row (row_got v) q = absurd (q.0 refl)
+
+    go : (kind : Kind) (told : Told) → TellsBy kind (λ p. 0) t told → told ≡ no_call kind
+    go Log told_none q = refl
+    go Log (told_verdict v) q = absurd (q.0 refl)
+    go Log (told_row r) q = absurd q
+    go Durable (told_row r) q = row r q
+    go Durable told_none q = absurd q
+    go Durable (told_verdict v) q = absurd q

@@ -1,0 +1,421 @@
+-- A world that recovers: crashes, evictions and recovery's steps.
+use Rattle.std.proofs.Common.{◌≡◌, ◌≢◌, ℕ, ◌+◌, ◌≤◌, ◌<◌, ◌⊎◌, inl, inr, List, [], ◌∷◌, ◌++◌, length, Bool, true, false, if◌then◌else◌, ◌==◌, Option, Some, None, refl, sym, ◌∙◌, ap, subst, arith}
+use Rattle.std.specs.Prelude.{slice_get, IfSome}
+use Rattle.std.proofs.lemmas.List.{length_push}
+use Rattle.std.proofs.lemmas.Option.{slice_get_within}
+use mathlib.Core.Path.{fun_ext}
+use Rattle.words.specs.declared.call.Call.{Call}
+use Rattle.words.specs.declared.call.Client.{Client}
+use Rattle.words.specs.declared.told.Told.{Told}
+use Rattle.arena.specs.Place.{IsNode, IsRecord}
+use Rattle.arena.specs.Chain.{IsAmong}
+use Rattle.arena.specs.Shape.{Shape, owner, greatest}
+use Rattle.arena.specs.Words.{links, values, numbers, inserts}
+use Rattle.arena.specs.declared.place.Place.{Place}
+use Rattle.arena.specs.declared.place.Place.TheVariants.{Head, Tail, Announcement, Bump, Value, Next, Mark, Cell, Insert, Number, EntryKind, Status, EntryNode}
+use Rattle.stepper.specs.Step.{place_of, kept_by}
+use Rattle.stepper.specs.declared.prepare.Begun.{Begun}
+use Rattle.helping.specs.Table.{token_of, node_of}
+use Rattle.arena.specs.Answers.{result_of}
+use Rattle.words.specs.declared.call.NodeId.{NodeId}
+use Rattle.recover.specs.Table.{access_of, successor, boot_point, taken_as, IsPoint}
+use Rattle.words.specs.declared.call.Reply.TheVariants.{Done, Got}
+use Rattle.words.specs.declared.told.Outcome.TheVariants.{Taken}
+use Rattle.recover.specs.declared.recovery.Recovered.{Recovered}
+use Rattle.recover.specs.declared.recovery.Recovered.TheVariants.{More, Ready}
+use Rattle.recover.specs.declared.recovery.Recovery.{Recovery}
+use Rattle.recover.specs.declared.recovery.Recovery.TheVariants.{RecoveryLoadHead, RecoveryLoadNext, RecoveryLoadInsert, RecoveryStoreStatus, RecoveryFlushStatus, RecoveryLoadMark, RecoveryLoadValue, RecoveryStoreResult, RecoveryFlushResult, RecoveryStoreHead, RecoveryFlushHead, RecoveryStoreTail, RecoveryFlushTail, RecoveryLoadAnnouncement, RecoveryLoadCell, RecoveryLoadNumber, RecoveryLoadKind, RecoveryLoadStatus, RecoveryLoadRemove, RecoveryLoadEntryNode, RecoveryLoadRemovedValue}
+use Rattle.history.specs.Effects.{order_of, settled_ones}
+use Rattle.history.specs.History.{BeginsAt, IsOpenFrom, IsDown}
+use Rattle.history.specs.Log.{IsLog, queue_of}
+use Rattle.history.specs.Parts.{IsPartOf}
+use Rattle.history.specs.declared.event.Event.{Event}
+use Rattle.history.specs.declared.event.Event.TheVariants.{Call as call_event, Crash as crash_event, Ready as ready_event}
+use Rattle.history.proofs.EffectLists.{order_settled_ones}
+use Rattle.history.proofs.Growing.{begins_within, open_before, open_less}
+use Rattle.history.proofs.Lists.{get_last, get_push_cases}
+use Rattle.history.proofs.LogEffects.{settled_alone}
+use Rattle.history.proofs.LogGrows.{crashed as log_crashed, ready as log_ready}
+use Rattle.history.proofs.LogQueue.{queue_with_events, queue_settled_ones, part_settled_ones, all_settled}
+use Rattle.history.proofs.Members.{part_same}
+use Rattle.protocol.specs.Machine.{Memory, World, flushed, accessed, took, counts, noticed, after_keeping, after_flush, evicted, crashed, recovered, recovered_next, recovery_left, events_recovered}
+use Rattle.protocol.specs.Kept.{TellsOf}
+use Rattle.protocol.proofs.Chains.{end_of, in_end_of, in_left}
+use Rattle.protocol.proofs.State.{Stage, Ledger, Base}
+use Rattle.protocol.proofs.State.Stage.{Unmoved}
+use Rattle.protocol.proofs.Puts.{put_same}
+use Rattle.protocol.proofs.Records.{AnsweredTo, Records, path_linked}
+use Rattle.protocol.proofs.Moments.{nobody, record_of_call, stage_of, ledger_of, KnowsCall, Working}
+use Rattle.protocol.proofs.Tells.{IsTold, told_push}
+use Rattle.protocol.proofs.Rightly.{RightlyTold, KeptBy}
+use Rattle.protocol.proofs.ReadyWorlds.{IsReady, access_kept, none_at_end}
+use Rattle.protocol.proofs.Sound.{still, idle_ledger, Sound, crash_sound, wake_base}
+use Rattle.protocol.proofs.Recovering.{TakenTo, Position, Claim, Unclaimed, Announced, At, node_fits}
+use Rattle.protocol.proofs.RecoveryEnds.{answered_among, Recovers, Woken, RecoversNext, but_stored, keep_at, tells_kept, row_LoadNext, row_LoadMark, row_FlushStatus, row_FlushResult, row_FlushHead, row_FlushTail}
+use Rattle.protocol.proofs.RecoveryTelling.{tell, verdict_right, row_LoadAnnouncement, row_LoadCell, row_LoadStatus, row_LoadRemove, row_LoadEntryNode}
+
+-- each step of recovery leads to what it knows next
+pub recovery_row : (s : Shape) (m : Memory) (claimed waiting queue : List ℕ) → Sound s m.kept claimed waiting queue → 0 < s.clients → (r : Recovery) → At s m claimed waiting r
+    → RecoversNext s (accessed m (access_of s.kind r)) claimed waiting queue (successor s r (m.cached (place_of (access_of s.kind r))))
+recovery_row s m claimed waiting queue b some (RecoveryLoadHead p) a =
+    record { sound = b; at = (a, subst (AnsweredTo s (still m.kept)) (sym (a Head)) (b.records queue).to_head) }
+recovery_row s m claimed waiting queue b some (RecoveryLoadNext p) a = row_LoadNext s m claimed waiting queue b p.cur p.moved a.0 a.1
+recovery_row s m claimed waiting queue b some (RecoveryLoadInsert p) a =
+    let linked : links m.kept p.cur.0 ≢ 0 = λ z. a.1.some (sym a.1.link ∙ z) in
+    let insert : inserts m.kept p.node.0 ≡ p.node.0 = subst (λ x. inserts m.kept x ≡ x) a.1.link ((b.records queue).enqueued a.2 p.cur.0 linked).insert.0 in
+    record { sound = b; at = (a.0, a.1, a.2, a.0 (Insert p.node) ∙ insert) }
+recovery_row s m claimed waiting queue b some (RecoveryStoreStatus p) a =
+    record { sound = b; at = (but_stored m (Status p.entry) 1 a.0, put_same m.cached (Status p.entry) 1, a.1, a.2, a.3) }
+recovery_row s m claimed waiting queue b some (RecoveryFlushStatus p) a = row_FlushStatus s m claimed waiting queue b p.cur p.node p.entry p.moved a
+recovery_row s m claimed waiting queue b some (RecoveryLoadMark p) a = row_LoadMark s m claimed waiting queue b p.cur p.node a.0 a.1 a.2
+recovery_row s m claimed waiting queue b some (RecoveryLoadValue p) a = record { sound = b; at = (a.0, a.1, λ d. a.0 (Value p.node), subst (λ x. x ≤ 4294967295) (sym (a.0 (Value p.node))) (b.fits (Value p.node))) }
+recovery_row s m claimed waiting queue b some (RecoveryStoreResult p) a =
+    let place : Place = (result_of s.kind p.mark p.node p.value).place in
+    record {
+      sound = b;
+      at = (
+        but_stored m (result_of s.kind p.mark p.node p.value).place (result_of s.kind p.mark p.node p.value).value a.0,
+        put_same m.cached (result_of s.kind p.mark p.node p.value).place (result_of s.kind p.mark p.node p.value).value,
+        a.1,
+        a.2,
+        a.3,
+      );
+    }
+recovery_row s m claimed waiting queue b some (RecoveryFlushResult p) a = row_FlushResult s m claimed waiting queue b p.node p.mark p.value a
+recovery_row s m claimed waiting queue b some (RecoveryStoreHead p) a = record { sound = b; at = (but_stored m Head p.cur.0 a.0, refl, a.1) }
+recovery_row s m claimed waiting queue b some (RecoveryFlushHead p) a = row_FlushHead s m claimed waiting queue b p.cur p.unclaimed a
+recovery_row s m claimed waiting queue b some (RecoveryStoreTail p) a =
+    record { sound = b; at = (but_stored m Tail p.cur.0 a.0, record { cur = p.cur.0; last = a.1; cached = refl }) }
+recovery_row s m claimed waiting queue b some (RecoveryFlushTail p) a = row_FlushTail s m claimed waiting queue b some a
+recovery_row s m claimed waiting queue b some (RecoveryLoadAnnouncement p) a = row_LoadAnnouncement s m claimed waiting queue b p.client p.told a.0 a.1
+recovery_row s m claimed waiting queue b some (RecoveryLoadCell p) a = row_LoadCell s m claimed waiting queue b p.client p.token p.told a.0 a.1 a.2 a.3
+recovery_row s m claimed waiting queue b some (RecoveryLoadNumber p) a = record { sound = b; at = (a.0, a.1, a.2, a.3, a.0 (Number p.token)) }
+recovery_row s m claimed waiting queue b some (RecoveryLoadKind p) a = record { sound = b; at = (a.0, a.1, a.2, a.3, a.4, ap (λ x. x == 1) (a.0 (EntryKind p.token))) }
+recovery_row s m claimed waiting queue b some (RecoveryLoadStatus p) a = row_LoadStatus s m claimed waiting queue b p.client p.token p.told p.number p.is_enqueue a.0 a.1 a.2 a.3 a.4 a.5
+recovery_row s m claimed waiting queue b some (RecoveryLoadRemove p) a = row_LoadRemove s m claimed waiting queue b p.client p.token p.told p.number a
+recovery_row s m claimed waiting queue b some (RecoveryLoadEntryNode p) a = row_LoadEntryNode s m claimed waiting queue b p.client p.token p.told p.number a
+recovery_row s m claimed waiting queue b some (RecoveryLoadRemovedValue p) a =
+    tell s m claimed waiting queue b p.client p.told (taken_as p.number (Got (m.cached (Value p.node)))) a.0 a.1
+    (verdict_right s m claimed waiting queue b p.client a.3.token p.number (Taken (Got (m.cached (Value p.node)))) a.3.announced a.2 a.3.number
+    (a.3.kind, record { at = p.node.0; marked = a.3.marked; value = sym (a.0 (Value p.node)) }))
+
+-- what holds of a world that recovers at every moment
+pub record Recovering (w : World) (r : Recovery) : Type 0 where
+  pub recovers : w.recovery ≡ Some r
+  pub sixteen : w.shape.clients ≤ 16
+  pub clients : 1 ≤ w.shape.clients
+  pub claimed : List ℕ
+  pub waiting : List ℕ
+  pub sound : Sound w.shape w.memory.kept claimed waiting (queue_of w.log.events w.base w.log.effects)
+  pub at : At w.shape w.memory claimed waiting r
+  pub none : (i : ℕ) → w.calls i ≡ None
+  pub idle : (client : Client) (p : ℕ) → IsOpenFrom w.log.events client (length w.log.events) p → ⊥
+  pub log : IsLog w.shape.kind w.base w.told w.log.events w.log.effects
+  pub tells : RightlyTold w
+
+-- where nobody calls, no word that is kept is anybody's effect
+nobody_took : (w : World) → ((i : ℕ) → w.calls i ≡ None) → (p : Place) (new : ℕ) → noticed w p new ≡ w.log.effects
+nobody_took w none p new = go p
+  where
+    counted_none : (o : ℕ) (t : Bool) → (if t then counts (w.calls o) w.log.effects else w.log.effects) ≡ w.log.effects
+    counted_none o true = ap (λ c. counts c w.log.effects) (none o)
+    counted_none o false = refl
+
+    go : (p : Place) → noticed w p new ≡ w.log.effects
+    go Head = refl
+    go Tail = refl
+    go (Announcement t) = refl
+    go (Bump t) = refl
+    go (Value n) = refl
+    go (Next n) = ap (λ c. took Done (length w.log.events) c w.log.effects) (none (owner w.shape new))
+    go (Mark n) = ap (λ c. took (Got (values w.memory.kept n.0)) (length w.log.events) c w.log.effects) (none (owner w.shape new))
+    go (Cell c) = counted_none (owner w.shape c.0) (new == 1)
+    go (Insert n) = refl
+    go (Number e) = refl
+    go (EntryKind e) = refl
+    go (Status e) = counted_none (owner w.shape e.0) (new == 2)
+    go (EntryNode e) = refl
+
+pub nobody_kept : (w : World) → ((i : ℕ) → w.calls i ≡ None) → (p : Place) → after_keeping w p ≡ w.log.effects
+nobody_kept w none p = go (w.memory.kept p == w.memory.cached p)
+  where
+    go : (t : Bool) → (if t then w.log.effects else noticed w p (w.memory.cached p)) ≡ w.log.effects
+    go true = refl
+    go false = nobody_took w none p (w.memory.cached p)
+
+pub nobody_flushed : (w : World) → ((i : ℕ) → w.calls i ≡ None) → (o : Option Place) → after_flush w o ≡ w.log.effects
+nobody_flushed w none (Some p) = nobody_kept w none p
+nobody_flushed w none None = refl
+
+-- the environment keeps a word during recovery
+pub evicted_recovering : (w : World) (r : Recovery) → Recovering w r → (p : Place) → Recovering (evicted w p) r
+evicted_recovering w r v p =
+    let same : w.log.effects ≡ after_keeping w p = sym (nobody_kept w v.none p) in
+    let kept : Recovers w.shape (flushed w.memory p) v.claimed v.waiting (queue_of w.log.events w.base w.log.effects) r = keep_at w.shape w.memory v.claimed v.waiting (queue_of w.log.events w.base w.log.effects) v.sound p r v.at in
+    record {
+      recovers = v.recovers;
+      sixteen = v.sixteen;
+      clients = v.clients;
+      claimed = v.claimed;
+      waiting = v.waiting;
+      sound = subst (λ e. Sound w.shape (flushed w.memory p).kept v.claimed v.waiting (queue_of w.log.events w.base e)) same kept.sound;
+      at = kept.at;
+      none = v.none;
+      idle = v.idle;
+      log = subst (λ e. IsLog w.shape.kind w.base w.told w.log.events e) same v.log;
+      tells = λ client told few h. subst (λ e. IsTold w.shape.kind w.told w.log.events (order_of e) client told) same
+          (v.tells client told few (tells_kept w.shape w.memory v.claimed v.waiting (queue_of w.log.events w.base w.log.effects) v.sound p r v.at client.0 told h));
+    }
+
+pub evicted_recovering_part : (w : World) (r : Recovery) → Recovering w r → (p : Place) → IsPartOf (order_of w.log.effects) (order_of (evicted w p).log.effects)
+evicted_recovering_part w r v p = subst (λ e. IsPartOf (order_of w.log.effects) (order_of e)) (sym (nobody_kept w v.none p)) (part_same (order_of w.log.effects))
+
+-- no call is open after a crash, or after another event where none was
+none_open : (events : List Event) (event : Event) → ((client : Client) (number : ℕ) (call : Call) → event ≢ call_event client number call)
+    → (event ≡ crash_event) ⊎ ((client : Client) (p : ℕ) → IsOpenFrom events client (length events) p → ⊥) → (client : Client) (p : ℕ) → IsOpenFrom (events ++ event ∷ []) client (length (events ++ event ∷ [])) p → ⊥
+none_open events event not_call why client p h =
+    let longer : length (events ++ event ∷ []) ≡ length events + 1 = length_push events event in
+    let begins : BeginsAt (events ++ event ∷ []) client p = h.begins in
+    elim (get_push_cases events event p (call_event client begins.0 begins.1.0) begins.1.1) [
+      | inl old ↦
+          let low : p < length events = begins_within events client p (begins.0, (begins.1.0, old)) in
+          elim why [
+            | inl crash ↦ h.no_end (length events) low (omega (arith, longer)) (inr (get_last events event ∙ ap (λ (x : Event). Some x) crash))
+            | inr idle ↦ idle client p (open_before events (event ∷ []) client (length events) p low (open_less (events ++ event ∷ []) client (length (events ++ event ∷ [])) (length events) p (omega (arith, longer)) h))
+          ]
+      | inr last ↦ not_call client begins.0 begins.1.0 last.1
+    ]
+
+-- the system stops
+crashed_recovering : (w : World) (claimed waiting : List ℕ) → w.shape.clients ≤ 16 → 1 ≤ w.shape.clients → Sound w.shape w.memory.kept claimed waiting (queue_of w.log.events w.base w.log.effects)
+    → IsLog w.shape.kind w.base w.told w.log.events w.log.effects → RightlyTold w → Recovering (crashed w) boot_point
+crashed_recovering w claimed waiting sixteen clients sound log tells =
+    let settled : IsLog w.shape.kind w.base w.told w.log.events (settled_ones w.log.effects) = settled_alone w.shape.kind w.base w.told w.log.events w.log.effects log in
+    let queue : queue_of (w.log.events ++ crash_event ∷ []) w.base (settled_ones w.log.effects) ≡ queue_of w.log.events w.base w.log.effects =
+    queue_with_events w.shape.kind w.base w.told w.log.events (settled_ones w.log.effects) (crash_event ∷ []) settled ∙ queue_settled_ones w.shape.kind w.base w.told w.log.events w.log.effects log in
+    record {
+      recovers = refl;
+      sixteen = sixteen;
+      clients = clients;
+      claimed = claimed;
+      waiting = waiting;
+      sound = subst (Sound w.shape w.memory.kept claimed waiting) (sym queue) sound;
+      at = λ q. refl;
+      none = λ i. refl;
+      idle = none_open w.log.events crash_event (λ client number call e. cc) (inl refl);
+      log = log_crashed w.shape.kind w.base w.told w.log.events (settled_ones w.log.effects) settled (all_settled w.log.effects);
+      tells = λ client told few h.
+          subst (λ order. IsTold w.shape.kind w.told (w.log.events ++ crash_event ∷ []) order client told) (sym (order_settled_ones w.log.effects))
+          (told_push w.shape.kind w.told w.log.events crash_event (order_of w.log.effects) client told (none_at_end w.shape.kind w.base w.told w.log.events w.log.effects log) (tells client told few h));
+    }
+
+pub ready_crashed : (w : World) → IsReady w → Recovering (crashed w) boot_point
+ready_crashed w v =
+    let x : Working w = v.working in
+    crashed_recovering w x.claimed x.waiting x.sixteen x.clients (crash_sound w.shape w.memory (ledger_of w) x.claimed x.waiting x.base x.records) x.log v.tells
+
+pub recovering_crashed : (w : World) (r : Recovery) → Recovering w r → Recovering (crashed w) boot_point
+recovering_crashed w r v = crashed_recovering w v.claimed v.waiting v.sixteen v.clients v.sound v.log v.tells
+
+pub crashed_part : (w : World) → IsPartOf (order_of w.log.effects) (order_of (crashed w).log.effects)
+crashed_part w = part_settled_ones w.log.effects
+
+-- the words after an access, of which one is kept at most
+access_tells : (w : World) (r : Recovery) → Recovering w r → (n : Memory) → KeptBy w.memory n → (t : ℕ) (x : Told) → TellsOf w.shape n.kept t x → TellsOf w.shape w.memory.kept t x
+access_tells w r v n (inl e) t x h = subst (λ (f : Place → ℕ). TellsOf w.shape f t x) e h
+access_tells w r v n (inr k) t x h =
+    tells_kept w.shape w.memory v.claimed v.waiting (queue_of w.log.events w.base w.log.effects) v.sound k.p r v.at t x (subst (λ (f : Place → ℕ). TellsOf w.shape f t x) k.same h)
+
+-- what an act of recovery leads to
+abbrev pub RecoveredTo : World → Recovered → Type 0
+RecoveredTo w (More r) = Recovering w r
+RecoveredTo w (Ready told) = IsReady w
+
+-- the world once a step of recovery leads on so
+abbrev pub recovered_to : World → Recovery → Recovered → World
+recovered_to w r next = record w {
+  memory = accessed w.memory (access_of w.shape.kind r);
+  recovery = recovery_left next;
+  log = record { events = events_recovered w.log.events next; issued = w.log.issued; effects = after_flush w (kept_by (access_of w.shape.kind r)) };
+}
+
+module _ (w : World) (r : Recovery) (v : Recovering w r) where
+  queue : List ℕ
+  queue = queue_of w.log.events w.base w.log.effects
+
+  same_effects : w.log.effects ≡ after_flush w (kept_by (access_of w.shape.kind r))
+  same_effects = sym (nobody_flushed w v.none (kept_by (access_of w.shape.kind r)))
+
+  after_tells : (client : Client) (told : Told) → client.0 < 16 → TellsOf w.shape (accessed w.memory (access_of w.shape.kind r)).kept client.0 told → IsTold w.shape.kind w.told w.log.events (order_of w.log.effects) client told
+  after_tells client told few h = v.tells client told few (access_tells w r v (accessed w.memory (access_of w.shape.kind r)) (access_kept w.memory (access_of w.shape.kind r)) client.0 told h)
+
+  goes_on : (next : Recovery) → Recovers w.shape (accessed w.memory (access_of w.shape.kind r)) v.claimed v.waiting (queue_of w.log.events w.base w.log.effects) next → Recovering (recovered_to w r (More next)) next
+  goes_on next h = record {
+    recovers = refl;
+    sixteen = v.sixteen;
+    clients = v.clients;
+    claimed = v.claimed;
+    waiting = v.waiting;
+    sound = subst (λ e. Sound w.shape (accessed w.memory (access_of w.shape.kind r)).kept v.claimed v.waiting (queue_of w.log.events w.base e)) same_effects h.sound;
+    at = h.at;
+    none = v.none;
+    idle = v.idle;
+    log = subst (λ e. IsLog w.shape.kind w.base w.told w.log.events e) same_effects v.log;
+    tells = λ client told few x. subst (λ e. IsTold w.shape.kind w.told w.log.events (order_of e) client told) same_effects (after_tells client told few x);
+  }
+
+  -- the queue is ready, and each client is told what the kept words tell
+  wakes : (told : List Told) → Woken w.shape (accessed w.memory (access_of w.shape.kind r)) v.claimed v.waiting (queue_of w.log.events w.base w.log.effects) told → IsReady (recovered_to w r (Ready told))
+  wakes told h =
+      let n : Memory = accessed w.memory (access_of w.shape.kind r) in
+      let is_still : still (accessed w.memory (access_of w.shape.kind r)).kept ≡ accessed w.memory (access_of w.shape.kind r) =
+      ap (λ (f : Place → ℕ). let k : Memory = record { cached = f; kept = (accessed w.memory (access_of w.shape.kind r)).kept } in k) (sym (fun_ext h.same)) in
+      let log_before : IsLog w.shape.kind w.base w.told w.log.events (after_flush w (kept_by (access_of w.shape.kind r))) = subst (λ e. IsLog w.shape.kind w.base w.told w.log.events e) same_effects v.log in
+      let rightly : (client : Client) (x : Told) → slice_get told client.0 ≡ Some x → IsTold w.shape.kind w.told w.log.events (order_of (after_flush w (kept_by (access_of w.shape.kind r)))) client x = λ client x e.
+      subst (λ es. IsTold w.shape.kind w.told w.log.events (order_of es) client x) same_effects
+      (after_tells client x (subst (λ q. client.0 < q) h.sixteen (slice_get_within told client.0 x e)) (h.tells client.0 x e)) in
+      let log_now : IsLog w.shape.kind w.base w.told (w.log.events ++ ready_event told ∷ []) (after_flush w (kept_by (access_of w.shape.kind r))) =
+      log_ready w.shape.kind w.base w.told w.log.events (after_flush w (kept_by (access_of w.shape.kind r))) told log_before
+      (record { sixteen = h.sixteen; rightly = record { each = rightly }; idle = v.idle }) in
+      let same_queue : queue_of (w.log.events ++ ready_event told ∷ []) w.base (after_flush w (kept_by (access_of w.shape.kind r))) ≡ queue_of w.log.events w.base w.log.effects =
+      queue_with_events w.shape.kind w.base w.told w.log.events (after_flush w (kept_by (access_of w.shape.kind r))) (ready_event told ∷ []) log_before
+      ∙ ap (queue_of w.log.events w.base) (sym same_effects) in
+      let ledger_is : idle_ledger (queue_of w.log.events w.base w.log.effects) ≡ ledger_of (recovered_to w r (Ready told)) = sym (idle_is same_queue) in
+      let base : Base w.shape (accessed w.memory (access_of w.shape.kind r)) (ledger_of (recovered_to w r (Ready told))) v.claimed v.waiting =
+      subst (λ l. Base w.shape (accessed w.memory (access_of w.shape.kind r)) l v.claimed v.waiting) ledger_is
+      (subst (λ m. Base w.shape m (idle_ledger (queue_of w.log.events w.base w.log.effects)) v.claimed v.waiting) is_still
+      (wake_base w.shape (accessed w.memory (access_of w.shape.kind r)).kept v.claimed v.waiting (queue_of w.log.events w.base w.log.effects) h.sound h.head h.tail)) in
+      let records : Records w.shape (accessed w.memory (access_of w.shape.kind r)) (ledger_of (recovered_to w r (Ready told))) =
+      subst (λ l. Records w.shape (accessed w.memory (access_of w.shape.kind r)) l) ledger_is
+      (subst (λ m. Records w.shape m (idle_ledger (queue_of w.log.events w.base w.log.effects))) is_still (h.sound.records (queue_of w.log.events w.base w.log.effects))) in
+      record {
+        working = record {
+          ready = refl;
+          sixteen = v.sixteen;
+          clients = v.clients;
+          claimed = v.claimed;
+          waiting = v.waiting;
+          base = base;
+          records = records;
+          calls = λ i. subst (KnowsCall w.shape (accessed w.memory (access_of w.shape.kind r)) (ledger_of (recovered_to w r (Ready told))) (w.log.events ++ ready_event told ∷ []) i) (sym (v.none i)) tt;
+          idle = λ client e way. none_open w.log.events (ready_event told) (λ c number call f. cc) (inr v.idle) client way.place way.open_from;
+          up = λ down. not_down down;
+          log = log_now;
+        };
+        tells = λ client x few q.
+            told_push w.shape.kind w.told w.log.events (ready_event told) (order_of (after_flush w (kept_by (access_of w.shape.kind r)))) client x
+            (none_at_end w.shape.kind w.base w.told w.log.events (after_flush w (kept_by (access_of w.shape.kind r))) log_before)
+            (subst (λ es. IsTold w.shape.kind w.told w.log.events (order_of es) client x) same_effects (after_tells client x few q));
+      }
+    where
+      not_down : IsDown (w.log.events ++ ready_event told ∷ []) (length (w.log.events ++ ready_event told ∷ [])) → ⊥
+      not_down down =
+          let longer : length (w.log.events ++ ready_event told ∷ []) ≡ length w.log.events + 1 = length_push w.log.events (ready_event told) in
+          elim (get_push_cases w.log.events (ready_event told) down.place crash_event down.crash) [
+            | inl old ↦ down.no_ready (length w.log.events) told (slice_get_within w.log.events down.place crash_event old) (omega (arith, longer)) (get_last w.log.events (ready_event told))
+            | inr last ↦ let wrong : ready_event told ≡ crash_event = last.1 in cc
+          ]
+
+      nobody_is : (i : ℕ) → record_of_call (w.calls i) ≡ nobody
+      nobody_is i = ap record_of_call (v.none i)
+
+      unmoved_is : (i : ℕ) → stage_of (w.calls i) (after_flush w (kept_by (access_of w.shape.kind r))) ≡ Unmoved
+      unmoved_is i = ap (λ c. stage_of c (after_flush w (kept_by (access_of w.shape.kind r)))) (v.none i)
+
+      idle_is : queue_of (w.log.events ++ ready_event told ∷ []) w.base (after_flush w (kept_by (access_of w.shape.kind r))) ≡ queue_of w.log.events w.base w.log.effects
+          → ledger_of (recovered_to w r (Ready told)) ≡ idle_ledger (queue_of w.log.events w.base w.log.effects)
+      idle_is e =
+          ap (λ (f : ℕ → Begun). let k : Ledger = record {
+            begun = f;
+            stage = λ i. stage_of (w.calls i) (after_flush w (kept_by (access_of w.shape.kind r)));
+            queue = queue_of (w.log.events ++ ready_event told ∷ []) w.base (after_flush w (kept_by (access_of w.shape.kind r)));
+          } in k) (fun_ext nobody_is)
+          ∙ ap (λ (f : ℕ → Stage). let k : Ledger = record {
+            begun = λ i. nobody;
+            stage = f;
+            queue = queue_of (w.log.events ++ ready_event told ∷ []) w.base (after_flush w (kept_by (access_of w.shape.kind r)));
+          } in k) (fun_ext unmoved_is)
+          ∙ ap (λ (q : List ℕ). let k : Ledger = record { begun = λ i. nobody; stage = λ i. Unmoved; queue = q } in k) e
+
+  -- a step of recovery
+  pub recovered_works : RecoveredTo (recovered w r) (recovered_next w r)
+  recovered_works = go (recovered_next w r) (recovery_row w.shape w.memory v.claimed v.waiting (queue_of w.log.events w.base w.log.effects) v.sound (omega (arith, v.clients)) r v.at)
+    where
+      go : (next : Recovered) → RecoversNext w.shape (accessed w.memory (access_of w.shape.kind r)) v.claimed v.waiting (queue_of w.log.events w.base w.log.effects) next → RecoveredTo (recovered_to w r next) next
+      go (More next) h = goes_on next h
+      go (Ready told) h = wakes told h
+
+  pub recovered_part : IsPartOf (order_of w.log.effects) (order_of (recovered w r).log.effects)
+  recovered_part = subst (λ e. IsPartOf (order_of w.log.effects) (order_of e)) same_effects (part_same (order_of w.log.effects))
+
+-- where recovery waits, what it learnt is in range
+module _ (s : Shape) (m : Memory) (claimed waiting queue : List ℕ) (b : Sound s m.kept claimed waiting queue) where
+  link_fits : (cur node : ℕ) → links m.kept cur ≡ node → node ≤ greatest s
+  link_fits cur node e = subst (λ x. x ≤ greatest s) e (b.fits (Next (node_of cur)))
+
+  answered_fits : (cur : ℕ) → AnsweredTo s (still m.kept) cur → cur ≤ greatest s
+  answered_fits cur a = node_fits s m.kept claimed waiting queue b cur (in_left cur (0 ∷ claimed) waiting (answered_among s m.kept claimed waiting queue b cur a))
+
+  taken_fits : (cur : ℕ) → TakenTo s m.kept claimed cur → cur ≤ greatest s
+  taken_fits cur t = elim (in_end_of (end_of 0 claimed) t.passed) [
+    | inl e ↦ subst (λ x. x ≤ greatest s) (sym (t.at ∙ e)) (node_fits s m.kept claimed waiting queue b (end_of 0 claimed) (in_left (end_of 0 claimed) (0 ∷ claimed) waiting (in_end_of 0 claimed)))
+    | inr i ↦
+        let p : (p : ℕ) × (links m.kept p ≡ end_of (end_of 0 claimed) t.passed) × (end_of (end_of 0 claimed) t.passed ≢ 0) = path_linked (links m.kept) (end_of 0 claimed) t.passed t.path (end_of (end_of 0 claimed) t.passed) i in
+        subst (λ x. x ≤ greatest s) (sym t.at) (link_fits p.0 (end_of (end_of 0 claimed) t.passed) p.1)
+  ]
+
+  position_fits : (moved : Bool) (cur : ℕ) → Position s m.kept claimed moved cur → cur ≤ greatest s
+  position_fits false cur p = answered_fits cur p
+  position_fits true cur p = taken_fits cur p
+
+  mark_fits : (node mark : ℕ) → Claim s m.kept claimed node mark → IsRecord s mark
+  mark_fits node mark c = (omega (arith, c.some), subst (λ x. x ≤ greatest s) c.marked (b.fits (Mark (node_of node))))
+
+  token_fits : (client : Client) (token : ℕ) → Announced m.kept client.0 token → IsRecord s token
+  token_fits client token a = (omega (arith, a.some), subst (λ x. x ≤ greatest s) a.names (b.fits (Announcement client)))
+
+  number_fits : (token number : ℕ) → number ≡ numbers m.kept token → number ≤ 1099511627776
+  number_fits token number e = subst (λ x. x ≤ 1099511627776) (sym e) (b.fits (Number (token_of token)))
+
+  unclaimed_fits : (cur : ℕ) (n : Option NodeId) → Unclaimed s m.kept cur n → IfSome n (λ x. IsNode s x.0)
+  unclaimed_fits cur None u = tt
+  unclaimed_fits cur (Some n) u = link_fits cur n.0 u.0
+
+  pub point_fits : (r : Recovery) → At s m claimed waiting r → IsPoint s r
+  point_fits (RecoveryLoadHead p) a = tt
+  point_fits (RecoveryLoadNext p) a = position_fits p.moved p.cur.0 a.1
+  point_fits (RecoveryLoadInsert p) a = (a.2, position_fits p.moved p.cur.0 a.1.position, link_fits p.cur.0 p.node.0 a.1.link)
+  point_fits (RecoveryStoreStatus p) a =
+      (a.2, position_fits p.moved p.cur.0 a.1.position, link_fits p.cur.0 p.node.0 a.1.link, subst (IsRecord s) (sym a.3) (omega (arith, a.1.some), link_fits p.cur.0 p.node.0 a.1.link))
+  point_fits (RecoveryFlushStatus p) a =
+      (a.3, position_fits p.moved p.cur.0 a.2.position, link_fits p.cur.0 p.node.0 a.2.link, subst (IsRecord s) (sym a.4) (omega (arith, a.2.some), link_fits p.cur.0 p.node.0 a.2.link))
+  point_fits (RecoveryLoadMark p) a = (answered_fits p.cur.0 a.1.position, link_fits p.cur.0 p.node.0 a.1.link)
+  point_fits (RecoveryLoadValue p) a = (link_fits a.1.cur p.node.0 a.1.ahead.link, mark_fits p.node.0 p.mark.0 a.1)
+  point_fits (RecoveryStoreResult p) a = (link_fits a.1.cur p.node.0 a.1.ahead.link, mark_fits p.node.0 p.mark.0 a.1, a.3)
+  point_fits (RecoveryFlushResult p) a = (link_fits a.2.cur p.node.0 a.2.ahead.link, mark_fits p.node.0 p.mark.0 a.2, a.4)
+  point_fits (RecoveryStoreHead p) a = (answered_fits p.cur.0 a.1.answered, unclaimed_fits p.cur.0 p.unclaimed a.1.next)
+  point_fits (RecoveryFlushHead p) a = (answered_fits p.cur.0 a.2.answered, unclaimed_fits p.cur.0 p.unclaimed a.2.next)
+  point_fits (RecoveryStoreTail p) a = taken_fits p.cur.0 a.1.taken
+  point_fits (RecoveryFlushTail p) a = tt
+  point_fits (RecoveryLoadAnnouncement p) a = a.1.below
+  point_fits (RecoveryLoadCell p) a = (a.3, a.1.below, token_fits p.client p.token.0 a.2)
+  point_fits (RecoveryLoadNumber p) a = (a.3, a.1.below, token_fits p.client p.token.0 a.2)
+  point_fits (RecoveryLoadKind p) a = (a.3, a.1.below, token_fits p.client p.token.0 a.2, number_fits p.token.0 p.number a.4)
+  point_fits (RecoveryLoadStatus p) a = (a.3, a.1.below, token_fits p.client p.token.0 a.2, number_fits p.token.0 p.number a.4)
+  point_fits (RecoveryLoadRemove p) a = (a.3, a.1.below, token_fits p.client p.token.0 a.2, number_fits p.token.0 p.number a.4)
+  point_fits (RecoveryLoadEntryNode p) a = (a.3, a.1.below, token_fits p.client p.token.0 a.2, number_fits p.token.0 p.number a.4)
+  point_fits (RecoveryLoadRemovedValue p) a =
+      let claimed_now : IsAmong p.node.0 claimed = b.back p.node.0 (λ z. a.3.announced.some (sym a.3.marked ∙ z)) in
+      (a.1.below, node_fits s m.kept claimed waiting queue b p.node.0 (inr (in_left p.node.0 claimed waiting claimed_now)), number_fits a.3.token p.number a.3.number)
+
+-- what recovery answers when it is done: sixteen clients are told what the kept words tell
+pub told_woken : (w : World) (r : Recovery) → Recovering w r → (told : List Told) → recovered_next w r ≡ Ready told → (length told ≡ 16) × ((t : ℕ) (x : Told) → slice_get told t ≡ Some x → TellsOf w.shape (recovered w r).memory.kept t x)
+told_woken w r v told e =
+    go (recovered_next w r) (recovery_row w.shape w.memory v.claimed v.waiting (queue_of w.log.events w.base w.log.effects) v.sound (omega (arith, v.clients)) r v.at) e
+  where
+    go : (next : Recovered) → RecoversNext w.shape (accessed w.memory (access_of w.shape.kind r)) v.claimed v.waiting (queue_of w.log.events w.base w.log.effects) next → next ≡ Ready told
+        → (length told ≡ 16) × ((t : ℕ) (x : Told) → slice_get told t ≡ Some x → TellsOf w.shape (accessed w.memory (access_of w.shape.kind r)).kept t x)
+    go (More x) h q = absurd (cc)
+    go (Ready x) h q =
+        let same : x ≡ told = cc in
+        subst (λ y. (length y ≡ 16) × ((t : ℕ) (z : Told) → slice_get y t ≡ Some z → TellsOf w.shape (accessed w.memory (access_of w.shape.kind r)).kept t z)) same (h.sixteen, h.tells)

@@ -1,0 +1,230 @@
+-- How many steps recovery takes at most.
+use Rattle.std.proofs.Common.{◌≡◌, ◌≢◌, ℕ, zero, suc, ◌+◌, ◌-◌, ◌*◌, ◌≤◌, ◌<◌, inl, inr, List, [], ◌∷◌, ◌++◌, length, Bool, true, false, not, ◌&&◌, if◌then◌else◌, ◌==◌, Option, Some, None, nat_lt, refl, sym, ◌∙◌, ap, subst, arith}
+use Rattle.std.specs.Prelude.{slice_set}
+use Rattle.std.proofs.lemmas.Bool.{eqb-false}
+use Rattle.words.specs.declared.call.Kind.{Kind}
+use Rattle.words.specs.declared.call.Kind.TheVariants.{Durable, Log}
+use Rattle.words.specs.declared.call.Client.{Client}
+use Rattle.words.specs.declared.call.NodeId.{NodeId}
+use Rattle.words.specs.declared.call.Token.{Token}
+use Rattle.words.specs.declared.call.Reply.TheVariants.{Done, Got, Empty}
+use Rattle.words.specs.declared.told.Told.{Told}
+use Rattle.words.specs.declared.told.Told.TheVariants.{Row as told_row}
+use Rattle.arena.specs.Chain.{IsChain, IsAmong, walk}
+use Rattle.arena.specs.Shape.{Shape, greatest}
+use Rattle.arena.specs.Words.{links}
+use Rattle.arena.specs.declared.place.Place.{Place}
+use Rattle.arena.specs.declared.place.Place.TheVariants.{Head, Announcement, Value, Next, Mark, Cell, Status, EntryNode}
+use Rattle.helping.specs.Table.{node_of}
+use Rattle.stepper.specs.Step.{place_of}
+use Rattle.recover.specs.Table.{access_of, successor, boot_point, to_answer, to_outcome, row_of, taken_as, not_taken_as, no_call, telling, node_at, token_at, at_the_end_of, past_status_of, to_node, to_mark, past_head}
+use Rattle.recover.specs.declared.recovery.Recovered.{Recovered}
+use Rattle.recover.specs.declared.recovery.Recovered.TheVariants.{More, Ready}
+use Rattle.recover.specs.declared.recovery.Recovery.{Recovery}
+use Rattle.recover.specs.declared.recovery.Recovery.TheVariants.{RecoveryLoadHead, RecoveryLoadNext, RecoveryLoadInsert, RecoveryStoreStatus, RecoveryFlushStatus, RecoveryLoadMark, RecoveryLoadValue, RecoveryStoreResult, RecoveryFlushResult, RecoveryStoreHead, RecoveryFlushHead, RecoveryStoreTail, RecoveryFlushTail, RecoveryLoadAnnouncement, RecoveryLoadCell, RecoveryLoadNumber, RecoveryLoadKind, RecoveryLoadStatus, RecoveryLoadRemove, RecoveryLoadEntryNode, RecoveryLoadRemovedValue}
+use Rattle.protocol.specs.Machine.{Memory, accessed}
+use Rattle.protocol.proofs.Chains.{chain_like, few, rest_of, distinct, linked_by, walked}
+use Rattle.protocol.proofs.Sound.{Sound}
+use Rattle.protocol.proofs.Recovering.{Same, At}
+
+-- how many nodes follow this one
+abbrev pub rest : Shape → (ℕ → ℕ) → ℕ → ℕ
+rest s link n = length (walk (greatest s) link n)
+
+-- the steps at a node, and at the next one, before the head is moved and after it
+abbrev beyond : Bool → ℕ
+beyond true = 3
+beyond false = 5
+
+abbrev arriving : Bool → ℕ
+arriving true = 3
+arriving false = 9
+
+-- the steps past the head
+abbrev onward : Shape → (ℕ → ℕ) → Option NodeId → ℕ
+onward s link None = 0
+onward s link (Some n) = 8 * rest s link n.0 + 1
+
+-- the steps while clients are told
+abbrev to_tell : Shape → ℕ → ℕ
+to_tell s client = 8 * (s.clients - client)
+
+-- a number that falls at each step
+abbrev pub weight : Shape → (Place → ℕ) → Recovery → ℕ
+weight s c (RecoveryLoadHead p) = 8 * rest s (links c) (c Head) + 6 + 8 * s.clients
+weight s c (RecoveryLoadNext p) = 8 * rest s (links c) p.cur.0 + beyond p.moved + 8 * s.clients
+weight s c (RecoveryLoadInsert p) = 8 * rest s (links c) p.node.0 + arriving p.moved + 3 + 8 * s.clients
+weight s c (RecoveryStoreStatus p) = 8 * rest s (links c) p.node.0 + arriving p.moved + 2 + 8 * s.clients
+weight s c (RecoveryFlushStatus p) = 8 * rest s (links c) p.node.0 + arriving p.moved + 1 + 8 * s.clients
+weight s c (RecoveryLoadMark p) = 8 * rest s (links c) p.node.0 + 9 + 8 * s.clients
+weight s c (RecoveryLoadValue p) = 8 * rest s (links c) p.node.0 + 8 + 8 * s.clients
+weight s c (RecoveryStoreResult p) = 8 * rest s (links c) p.node.0 + 7 + 8 * s.clients
+weight s c (RecoveryFlushResult p) = 8 * rest s (links c) p.node.0 + 6 + 8 * s.clients
+weight s c (RecoveryStoreHead p) = onward s (links c) p.unclaimed + 4 + 8 * s.clients
+weight s c (RecoveryFlushHead p) = onward s (links c) p.unclaimed + 3 + 8 * s.clients
+weight s c (RecoveryStoreTail p) = 2 + 8 * s.clients
+weight s c (RecoveryFlushTail p) = 1 + 8 * s.clients
+weight s c (RecoveryLoadAnnouncement p) = to_tell s p.client.0
+weight s c (RecoveryLoadCell p) = to_tell s p.client.0 - 1
+weight s c (RecoveryLoadNumber p) = to_tell s p.client.0 - 1
+weight s c (RecoveryLoadKind p) = to_tell s p.client.0 - 2
+weight s c (RecoveryLoadStatus p) = to_tell s p.client.0 - 3
+weight s c (RecoveryLoadRemove p) = to_tell s p.client.0 - 4
+weight s c (RecoveryLoadEntryNode p) = to_tell s p.client.0 - 4
+weight s c (RecoveryLoadRemovedValue p) = to_tell s p.client.0 - 5
+
+-- recovery has ended, or the number is less
+abbrev pub IsLess : Shape → (Place → ℕ) → Recovered → ℕ → Type 0
+IsLess s c (More r) n = weight s c r < n
+IsLess s c (Ready told) n = Unit {0}
+
+walk_most : (fuel : ℕ) (link : ℕ → ℕ) (n : ℕ) → length (walk fuel link n) ≤ fuel
+walk_most zero link n = omega arith
+walk_most (suc fuel) link n = go (link n == 0) (walk_most fuel link (link n))
+  where
+    go : (c : Bool) → length (walk fuel link (link n)) ≤ fuel → length (if c then [] else link n ∷ walk fuel link (link n)) ≤ suc fuel
+    go true h = omega arith
+    go false h = omega (arith, h)
+
+-- the part of a chain behind a node, or behind its beginning
+tail_chain : (link : ℕ → ℕ) (from : ℕ) (ns : List ℕ) → IsChain link from ns → (n : ℕ) → IsAmong n (from ∷ ns) → record { ms : List ℕ; chain : IsChain link n ms; short : length ms ≤ length ns }
+tail_chain link from ns c n (inl e) = record { ms = ns; chain = subst (λ x. IsChain link x ns) (sym e) c; short = omega arith }
+tail_chain link from ns c n (inr h) =
+    let r : (ms : List ℕ) × (IsChain link n ms) × (length ms < length ns) = rest_of link from ns c n h in
+    record { ms = r.0; chain = r.1; short = omega (arith, r.2) }
+
+module _ (s : Shape) (m : Memory) (claimed waiting queue : List ℕ) (b : Sound s m.kept claimed waiting queue) where
+  chain_short : length (claimed ++ waiting) ≤ greatest s
+  chain_short =
+      few (claimed ++ waiting) (greatest s) (distinct (links m.kept) 0 (claimed ++ waiting) b.chain)
+      (λ h. (linked_by (links m.kept) 0 (claimed ++ waiting) b.chain 0 h).2 refl)
+      (λ q h.
+      let p : (p : ℕ) × (links m.kept p ≡ q) × (q ≢ 0) = linked_by (links m.kept) 0 (claimed ++ waiting) b.chain q h in
+      subst (λ x. x ≤ greatest s) p.1 (b.fits (Next (node_of p.0))))
+
+  -- a node that has a next has one more behind it
+  rest_next : Same m → (n : ℕ) → links m.cached n ≢ 0 → rest s (links m.cached) n ≡ suc (rest s (links m.cached) (links m.cached n))
+  rest_next same n some = go t.ms t.chain t.short
+    where
+      t : record { ms : List ℕ; chain : IsChain (links m.kept) n ms; short : length ms ≤ length (claimed ++ waiting) }
+      t = tail_chain (links m.kept) 0 (claimed ++ waiting) b.chain n (b.on_chain n (λ z. some (same (Next (node_of n)) ∙ z)))
+
+      go : (ms : List ℕ) → IsChain (links m.kept) n ms → length ms ≤ length (claimed ++ waiting) → rest s (links m.cached) n ≡ suc (rest s (links m.cached) (links m.cached n))
+      go [] c l = absurd (some (same (Next (node_of n)) ∙ c))
+      go (x ∷ xs) c l =
+          let d : IsChain (links m.cached) n (x ∷ xs) = chain_like (links m.kept) (links m.cached) n (x ∷ xs) (λ y. same (Next (node_of y))) c in
+          let all : walk (greatest s) (links m.cached) n ≡ x ∷ xs = walked (links m.cached) (greatest s) n (x ∷ xs) d (omega (arith, l, chain_short)) in
+          let later : walk (greatest s) (links m.cached) x ≡ xs = walked (links m.cached) (greatest s) x xs d.2 (omega (arith, l, chain_short)) in
+          ap length all ∙ ap suc (ap length (sym later) ∙ ap (rest s (links m.cached)) (sym d.0))
+
+  -- the next client is told
+  told_less : (client : Client) (told : List Told) (x : Told) (n : ℕ) → client.0 < s.clients → to_tell s client.0 ≤ n + 5 → IsLess s m.cached (telling s client told x) n
+  told_less client told x n lt le = go (nat_lt (client.0 + 1) s.clients)
+    where
+      go : (c : Bool) → IsLess s m.cached (if c then More (RecoveryLoadAnnouncement (record { client = record { 0 = client.0 + 1 }; told = slice_set told client.0 x })) else Ready (slice_set told client.0 x)) n
+      go true = omega (arith, lt, le)
+      go false = tt
+
+  -- the table's steps
+  next_less : Same m → (cur : NodeId) (moved : Bool) → IsLess s m.cached (successor s (RecoveryLoadNext (record { cur = cur; moved = moved })) (m.cached (Next cur))) (8 * rest s (links m.cached) cur.0 + beyond moved + 8 * s.clients)
+  next_less same cur moved = go (m.cached (Next cur) == 0) refl
+    where
+      ended : (moved : Bool) → weight s m.cached (at_the_end_of cur moved) < 8 * rest s (links m.cached) cur.0 + beyond moved + 8 * s.clients
+      ended true = omega arith
+      ended false = omega arith
+
+      on : (n : NodeId) → rest s (links m.cached) cur.0 ≡ suc (rest s (links m.cached) n.0) → (kind : Kind) (moved : Bool) → weight s m.cached (to_node kind cur n moved) < 8 * rest s (links m.cached) cur.0 + beyond moved + 8 * s.clients
+      on n e Durable true = omega (arith, e)
+      on n e Durable false = omega (arith, e)
+      on n e Log true = omega (arith, e)
+      on n e Log false = omega (arith, e)
+
+      go : (c : Bool) → (m.cached (Next cur) == 0) ≡ c → weight s m.cached (if c then at_the_end_of cur moved else to_node s.kind cur (node_at (m.cached (Next cur))) moved) < 8 * rest s (links m.cached) cur.0 + beyond moved + 8 * s.clients
+      go true e = ended moved
+      go false e = on (node_at (m.cached (Next cur))) (rest_next same cur.0 (eqb-false (m.cached (Next cur)) 0 e)) s.kind moved
+
+  past_less : (cur node : NodeId) (moved : Bool) → weight s m.cached (past_status_of cur node moved) < 8 * rest s (links m.cached) node.0 + arriving moved + 1 + 8 * s.clients
+  past_less cur node true = omega arith
+  past_less cur node false = omega arith
+
+  mark_less : (cur node : NodeId) (found : ℕ) → IsLess s m.cached (successor s (RecoveryLoadMark (record { cur = cur; node = node })) found) (8 * rest s (links m.cached) node.0 + 9 + 8 * s.clients)
+  mark_less cur node found = go (found == 0)
+    where
+      to : (kind : Kind) → weight s m.cached (to_mark kind node (token_at found)) < 8 * rest s (links m.cached) node.0 + 9 + 8 * s.clients
+      to Durable = omega arith
+      to Log = omega arith
+
+      go : (c : Bool) → weight s m.cached (if c then RecoveryStoreHead (record { cur = cur; unclaimed = Some node }) else to_mark s.kind node (token_at found)) < 8 * rest s (links m.cached) node.0 + 9 + 8 * s.clients
+      go true = omega arith
+      go false = to s.kind
+
+  head_less : (cur : NodeId) (unclaimed : Option NodeId) → weight s m.cached (past_head cur unclaimed) < onward s (links m.cached) unclaimed + 3 + 8 * s.clients
+  head_less cur None = omega arith
+  head_less cur (Some n) = omega arith
+
+  announcement_less : (client : Client) (told : List Told) (found : ℕ) → client.0 < s.clients → IsLess s m.cached (successor s (RecoveryLoadAnnouncement (record { client = client; told = told })) found) (to_tell s client.0)
+  announcement_less client told found lt = go (found == 0)
+    where
+      to : (kind : Kind) → weight s m.cached (to_answer kind client (token_at found) told) < to_tell s client.0
+      to Durable = omega (arith, lt)
+      to Log = omega (arith, lt)
+
+      go : (c : Bool) → IsLess s m.cached (if c then telling s client told (no_call s.kind) else More (to_answer s.kind client (token_at found) told)) (to_tell s client.0)
+      go true = told_less client told (no_call s.kind) (to_tell s client.0) lt (omega arith)
+      go false = to s.kind
+
+  outcome_less : (client : Client) (token : Token) (told : List Told) (number : ℕ) (is_enqueue : Bool) → client.0 < s.clients → weight s m.cached (to_outcome is_enqueue client token told number) < to_tell s client.0 - 3
+  outcome_less client token told number true lt = omega (arith, lt)
+  outcome_less client token told number false lt = omega (arith, lt)
+
+  status_less : (client : Client) (token : Token) (told : List Told) (number : ℕ) (is_enqueue : Bool) (found : ℕ) → client.0 < s.clients
+      → IsLess s m.cached (successor s (RecoveryLoadStatus (record { client = client; token = token; told = told; number = number; is_enqueue = is_enqueue })) found) (to_tell s client.0 - 3)
+  status_less client token told number is_enqueue found lt = go (is_enqueue && (found == 1)) ((not is_enqueue) && (found == 2))
+    where
+      go : (c d : Bool)
+          → IsLess s m.cached (if c then telling s client told (taken_as number Done) else (if d then telling s client told (taken_as number Empty) else More (to_outcome is_enqueue client token told number))) (to_tell s client.0 - 3)
+      go true d = told_less client told (taken_as number Done) (to_tell s client.0 - 3) lt (omega (arith, lt))
+      go false true = told_less client told (taken_as number Empty) (to_tell s client.0 - 3) lt (omega (arith, lt))
+      go false false = outcome_less client token told number is_enqueue lt
+
+  node_less : (client : Client) (token : Token) (told : List Told) (number found : ℕ) → client.0 < s.clients
+      → IsLess s m.cached (successor s (RecoveryLoadEntryNode (record { client = client; token = token; told = told; number = number })) found) (to_tell s client.0 - 4)
+  node_less client token told number found lt = go (found == 0)
+    where
+      go : (c : Bool)
+          → IsLess s m.cached (if c then telling s client told (not_taken_as number) else More (RecoveryLoadRemovedValue (record { client = client; told = told; number = number; node = node_at found }))) (to_tell s client.0 - 4)
+      go true = told_less client told (not_taken_as number) (to_tell s client.0 - 4) lt (omega (arith, lt))
+      go false = omega (arith, lt)
+
+  store_less : (node : NodeId) (mark : Token) (value : ℕ) (kind : Kind) → s.kind ≡ kind
+      → weight s (accessed m (access_of kind (RecoveryStoreResult (record { node = node; mark = mark; value = value })))).cached (RecoveryFlushResult (record { node = node; mark = mark; value = value })) < 8 * rest s (links m.cached) node.0 + 7 + 8 * s.clients
+  store_less node mark value Durable e = omega arith
+  store_less node mark value Log e = omega arith
+
+  -- each step of recovery
+  pub falls : (r : Recovery) → At s m claimed waiting r → IsLess s (accessed m (access_of s.kind r)).cached (successor s r (m.cached (place_of (access_of s.kind r)))) (weight s m.cached r)
+  falls (RecoveryLoadHead p) at = omega arith
+  falls (RecoveryLoadNext p) at = next_less at.0 p.cur p.moved
+  falls (RecoveryLoadInsert p) at = omega arith
+  falls (RecoveryStoreStatus p) at = omega arith
+  falls (RecoveryFlushStatus p) at = past_less p.cur p.node p.moved
+  falls (RecoveryLoadMark p) at = mark_less p.cur p.node (m.cached (Mark p.node))
+  falls (RecoveryLoadValue p) at = omega arith
+  falls (RecoveryStoreResult p) at = store_less p.node p.mark p.value s.kind refl
+  falls (RecoveryFlushResult p) at = omega arith
+  falls (RecoveryStoreHead p) at = omega arith
+  falls (RecoveryFlushHead p) at = head_less p.cur p.unclaimed
+  falls (RecoveryStoreTail p) at = omega arith
+  falls (RecoveryFlushTail p) at = omega arith
+  falls (RecoveryLoadAnnouncement p) at = announcement_less p.client p.told (m.cached (Announcement p.client)) at.1.below
+  falls (RecoveryLoadCell p) at = told_less p.client p.told (told_row (row_of (m.cached (Cell p.token)))) (to_tell s p.client.0 - 1) at.1.below (omega (arith, at.1.below))
+  falls (RecoveryLoadNumber p) at = let lt : p.client.0 < s.clients = at.1.below in omega (arith, lt)
+  falls (RecoveryLoadKind p) at = let lt : p.client.0 < s.clients = at.1.below in omega (arith, lt)
+  falls (RecoveryLoadStatus p) at = status_less p.client p.token p.told p.number p.is_enqueue (m.cached (Status p.token)) at.1.below
+  falls (RecoveryLoadRemove p) at = told_less p.client p.told (if m.cached (Mark (node_at p.token.0)) == 0 then not_taken_as p.number else taken_as p.number Done) (to_tell s p.client.0 - 4) at.1.below (omega (arith, at.1.below))
+  falls (RecoveryLoadEntryNode p) at = node_less p.client p.token p.told p.number (m.cached (EntryNode p.token)) at.1.below
+  falls (RecoveryLoadRemovedValue p) at = told_less p.client p.told (taken_as p.number (Got (m.cached (Value p.node)))) (to_tell s p.client.0 - 5) at.1.below (omega (arith, at.1.below))
+
+-- recovery takes so many steps from its beginning
+pub weight_most : (s : Shape) (c : Place → ℕ) → weight s c boot_point + 2 ≤ 8 * greatest s + 8 * s.clients + 8
+weight_most s c = omega (arith, walk_most (greatest s) (links c) (c Head))

@@ -1,0 +1,5 @@
+use Rattle.protocol.proofs.Runs.{kept_sound}
+use Rattle.protocol.proofs.laws.kept_words_are_sound.Goals as goal
+
+pub returns : goal.returns
+returns c = kept_sound

@@ -1,0 +1,5 @@
+use Rattle.protocol.proofs.Runs.{kept_told}
+use Rattle.protocol.proofs.laws.kept_words_are_told.Goals as goal
+
+pub returns : goal.returns
+returns c = kept_told

@@ -1,0 +1,5 @@
+use Rattle.protocol.proofs.RunsEnd.{ends}
+use Rattle.protocol.proofs.laws.recovery_ends.Goals as goal
+
+pub returns : goal.returns
+returns c = ends

@@ -1,0 +1,254 @@
+-- Which kept words are sound: what the words of a queue keep to at every moment, so that recovery can begin with them.
+use Rattle.std.specs.Prelude.{◌≡◌, ◌≢◌, ℕ, ◌+◌, ◌*◌, ◌≤◌, ◌<◌, ◌⊎◌, List, length, slice_index}
+use Rattle.words.specs.Refusal.{number_of}
+use Rattle.words.specs.declared.call.Kind.{Kind}
+use Rattle.words.specs.declared.call.Kind.TheVariants.{Durable, Log}
+use Rattle.words.specs.declared.refusal.Refusal.{Refusal}
+use Rattle.words.specs.declared.refusal.Refusal.TheVariants.{Damaged}
+use Rattle.words.specs.declared.refusal.Rule.{Rule}
+use Rattle.words.specs.declared.refusal.Rule.TheVariants.{Size, Records, Chain, Claims, Ends, Rows, Entries, Image, Directory}
+use Rattle.arena.specs.Shape.{Shape, greatest, record_of, owner}
+use Rattle.arena.specs.Place.{IsClient, IsNode, IsRecord}
+use Rattle.arena.specs.Words.{links, marks, values, inserts, cells, numbers, entry_kinds, statuses, entry_nodes, bumps, announcements}
+use Rattle.arena.specs.Chain.{IsChain, IsAmong, LeadsTo}
+use Rattle.arena.specs.Content.{chain_of}
+use Rattle.arena.specs.declared.place.Place.{Place}
+use Rattle.arena.specs.declared.place.Place.TheVariants.{Head, Tail, Insert, Number, EntryNode}
+
+-- the values of the places, where the words are these
+abbrev pub kept_in : (Place → ℕ) → List ℕ → Place → ℕ
+kept_in word_of ws p = slice_index ws (word_of p)
+
+-- a block of a broker, in which a queue of either kind has room: past the queue's words it is all zero
+abbrev pub block_size : Shape → ℕ
+block_size s = 6 + 2 * s.clients + 8 * greatest s
+
+pub record IsBlock (s : Shape) (size : ℕ) (ws : List ℕ) : Type 0 where
+  pub count : length ws ≡ block_size s
+  pub room : size ≤ length ws
+  pub rest : (w : ℕ) → size ≤ w → w < length ws → slice_index ws w ≡ 0
+
+-- there are as many words as the layout has, or they are a block
+abbrev pub SizeIsSound : Shape → ℕ → List ℕ → Type 0
+SizeIsSound s size ws = (length ws ≡ size) ⊎ IsBlock s size ws
+
+-- its client used the record: it comes before the client's next one
+pub record IsIssued (s : Shape) (kept : Place → ℕ) (number : ℕ) : Type 0 where
+  pub is_record : IsRecord s number
+  pub used : number < record_of s (owner s number) (bumps kept (owner s number))
+
+-- every word of the node, and of the cell or entry, is 0
+pub record IsBlankEntry (kept : Place → ℕ) (n : ℕ) : Type 0 where
+  pub insert : inserts kept n ≡ 0
+  pub number : numbers kept n ≡ 0
+  pub kind : entry_kinds kept n ≡ 0
+  pub status : statuses kept n ≡ 0
+  pub node : entry_nodes kept n ≡ 0
+
+abbrev pub IsBlankAnswer : Kind → (Place → ℕ) → ℕ → Type 0
+IsBlankAnswer Durable kept n = cells kept n ≡ 0
+IsBlankAnswer Log kept n = IsBlankEntry kept n
+
+pub record IsBlank (s : Shape) (kept : Place → ℕ) (n : ℕ) : Type 0 where
+  pub value : values kept n ≡ 0
+  pub link : links kept n ≡ 0
+  pub mark : marks kept n ≡ 0
+  pub answer : IsBlankAnswer s.kind kept n
+
+pub record IsBlankIfUnused (s : Shape) (kept : Place → ℕ) (n : ℕ) : Type 0 where
+  pub blank : (IsIssued s kept n → ⊥) → IsBlank s kept n
+
+-- no client used more records than it has, and those that are not used are blank
+pub record RecordsAreSound (s : Shape) (kept : Place → ℕ) : Type 0 where
+  pub within : (t : ℕ) → IsClient s t → bumps kept t ≤ s.records
+  pub unused : (n : ℕ) → IsRecord s n → IsBlankIfUnused s kept n
+
+-- on the chain; claimed there
+abbrev pub IsOnChain : Shape → (Place → ℕ) → ℕ → Type 0
+IsOnChain s kept n = IsAmong n (chain_of s kept)
+
+pub record IsClaimed (s : Shape) (kept : Place → ℕ) (n : ℕ) : Type 0 where
+  pub on_chain : IsOnChain s kept n
+  pub marked : marks kept n ≢ 0
+
+-- it has no link and no mark
+pub record IsLoose (kept : Place → ℕ) (n : ℕ) : Type 0 where
+  pub link : links kept n ≡ 0
+  pub mark : marks kept n ≡ 0
+
+pub record IsLooseIfOff (s : Shape) (kept : Place → ℕ) (n : ℕ) : Type 0 where
+  pub loose : (IsOnChain s kept n → ⊥) → IsLoose kept n
+
+-- the words of node 0, but for its link, are 0
+pub record IsSentinel (s : Shape) (kept : Place → ℕ) : Type 0 where
+  pub value : values kept 0 ≡ 0
+  pub mark : marks kept 0 ≡ 0
+  pub insert : s.kind ≡ Log → inserts kept 0 ≡ 0
+
+-- the chain ends, so no node stands twice on it, and has nodes of used records; other nodes are loose
+pub record ChainIsSound (s : Shape) (kept : Place → ℕ) : Type 0 where
+  pub ends : IsChain (links kept) 0 (chain_of s kept)
+  pub issued : (n : ℕ) → IsOnChain s kept n → IsIssued s kept n
+  pub loose : (n : ℕ) → IsRecord s n → IsLooseIfOff s kept n
+  pub sentinel : IsSentinel s kept
+
+-- values are in range; no claimed node follows an unclaimed one; claims are by used records, each by its own
+pub record ClaimsAreSound (s : Shape) (kept : Place → ℕ) : Type 0 where
+  pub in_range : (n : ℕ) → IsNode s n → values kept n ≤ 4294967295
+  pub in_turn : (n : ℕ) → IsOnChain s kept n → IsClaimed s kept (links kept n) → marks kept n ≢ 0
+  pub issued : (n : ℕ) → IsClaimed s kept n → IsIssued s kept (marks kept n)
+  pub once : (n m : ℕ) → IsClaimed s kept n → IsClaimed s kept m → marks kept n ≡ marks kept m → n ≡ m
+
+-- the head is at the sentinel or at a claimed node, the tail at the sentinel or on the chain
+abbrev pub HeadIsSound : Shape → (Place → ℕ) → Type 0
+HeadIsSound s kept = (kept Head ≡ 0) ⊎ IsClaimed s kept (kept Head)
+
+abbrev pub TailIsSound : Shape → (Place → ℕ) → Type 0
+TailIsSound s kept = (kept Tail ≡ 0) ⊎ IsOnChain s kept (kept Tail)
+
+pub record EndsAreSound (s : Shape) (kept : Place → ℕ) : Type 0 where
+  pub head : HeadIsSound s kept
+  pub tail : TailIsSound s kept
+
+-- the head is at this claimed node, or after it
+pub record IsPassed (s : Shape) (kept : Place → ℕ) (n : ℕ) : Type 0 where
+  pub claimed : IsClaimed s kept n
+  pub leads : LeadsTo (links kept) (kept Head) n
+
+-- the client used the record
+pub record IsOwn (s : Shape) (kept : Place → ℕ) (t number : ℕ) : Type 0 where
+  pub issued : IsIssued s kept number
+  pub owned : owner s number ≡ t
+
+-- the token claims this node of the chain
+pub record IsClaimOf (s : Shape) (kept : Place → ℕ) (token n : ℕ) : Type 0 where
+  pub on_chain : IsOnChain s kept n
+  pub mark : marks kept n ≡ token
+
+-- the cell tells the value of a node that it claims
+pub record IsResult (s : Shape) (kept : Place → ℕ) (cell : ℕ) : Type 0 where
+  pub node : ℕ
+  pub claim : IsClaimOf s kept cell node
+  pub value : values kept node + 2 ≡ cells kept cell
+
+abbrev pub RowIsSound : Shape → (Place → ℕ) → ℕ → Type 0
+RowIsSound s kept t = (announcements kept t ≡ 0) ⊎ IsOwn s kept t (announcements kept t)
+
+-- each row names a cell of its client; a cell tells only what it claims; one that claims a node is not empty, and
+-- once the head has passed the node it is not open
+pub record RowsAreSound (s : Shape) (kept : Place → ℕ) : Type 0 where
+  pub rows : (t : ℕ) → IsClient s t → RowIsSound s kept t
+  pub results : (c : ℕ) → IsRecord s c → 2 ≤ cells kept c → IsResult s kept c
+  pub not_empty : (n : ℕ) → IsClaimed s kept n → cells kept (marks kept n) ≢ 1
+  pub not_open : (n : ℕ) → IsPassed s kept n → cells kept (marks kept n) ≢ 0
+
+-- an entry of an enqueue names its node
+pub record IsEnqueue (kept : Place → ℕ) (e : ℕ) : Type 0 where
+  pub kind : entry_kinds kept e ≡ 1
+  pub node : entry_nodes kept e ≡ e
+
+abbrev pub IsOfSomeCall : (Place → ℕ) → ℕ → Type 0
+IsOfSomeCall kept e = IsEnqueue kept e ⊎ (entry_kinds kept e ≡ 2)
+
+-- an announced entry: of its client, for an enqueue or a dequeue, and numbered
+pub record IsAnnounced (s : Shape) (kept : Place → ℕ) (t e : ℕ) : Type 0 where
+  pub own : IsOwn s kept t e
+  pub call : IsOfSomeCall kept e
+  pub numbered : 1 ≤ numbers kept e
+  pub in_range : numbers kept e ≤ 1099511627776
+
+abbrev pub LogIsSound : Shape → (Place → ℕ) → ℕ → Type 0
+LogIsSound s kept t = (announcements kept t ≡ 0) ⊎ IsAnnounced s kept t (announcements kept t)
+
+-- a chain node is inserted by the entry of its number, which is an enqueue's
+pub record IsInserted (kept : Place → ℕ) (n : ℕ) : Type 0 where
+  pub insert : inserts kept n ≡ n
+  pub kind : entry_kinds kept n ≡ 1
+
+-- status 1 is that of an enqueue whose node is on the chain, 2 that of a dequeue that claims nothing
+pub record IsTaken (s : Shape) (kept : Place → ℕ) (e : ℕ) : Type 0 where
+  pub status : statuses kept e ≡ 1
+  pub kind : entry_kinds kept e ≡ 1
+  pub on_chain : IsOnChain s kept e
+
+pub record IsEmpty (s : Shape) (kept : Place → ℕ) (e : ℕ) : Type 0 where
+  pub status : statuses kept e ≡ 2
+  pub kind : entry_kinds kept e ≡ 2
+  pub no_claim : (n : ℕ) → IsClaimOf s kept e n → ⊥
+
+abbrev pub StatusIsSound : Shape → (Place → ℕ) → ℕ → Type 0
+StatusIsSound s kept e = (statuses kept e ≡ 0) ⊎ (IsTaken s kept e ⊎ IsEmpty s kept e)
+
+-- the node word of a dequeue's entry is that of a node that it claims
+abbrev pub RemovedIsSound : Shape → (Place → ℕ) → ℕ → Type 0
+RemovedIsSound s kept e = (entry_nodes kept e ≡ 0) ⊎ IsClaimOf s kept e (entry_nodes kept e)
+
+-- each log names an entry of its client; entries tell of enqueues whose nodes are on the chain, of dequeues that found the
+-- queue empty, and of nodes that they claim; once the head has passed a node its claim tells of it
+pub record EntriesAreSound (s : Shape) (kept : Place → ℕ) : Type 0 where
+  pub inserts : (n : ℕ) → IsOnChain s kept n → IsInserted kept n
+  pub logs : (t : ℕ) → IsClient s t → LogIsSound s kept t
+  pub kinds : (e : ℕ) → IsRecord s e → entry_kinds kept e ≤ 2
+  pub statuses : (e : ℕ) → IsRecord s e → StatusIsSound s kept e
+  pub claims : (n : ℕ) → IsClaimed s kept n → entry_kinds kept (marks kept n) ≡ 2
+  pub results : (e : ℕ) → IsRecord s e → entry_kinds kept e ≡ 2 → RemovedIsSound s kept e
+  pub told : (n : ℕ) → IsPassed s kept n → entry_nodes kept (marks kept n) ≢ 0
+
+-- the answers of calls, by the kind of the queue
+abbrev pub AnswersAreSound : Kind → Shape → (Place → ℕ) → Type 0
+AnswersAreSound Durable s kept = RowsAreSound s kept
+AnswersAreSound Log s kept = EntriesAreSound s kept
+
+-- all of it
+pub record IsSound (s : Shape) (kept : Place → ℕ) : Type 0 where
+  pub records : RecordsAreSound s kept
+  pub chain : ChainIsSound s kept
+  pub claims : ClaimsAreSound s kept
+  pub ends : EndsAreSound s kept
+  pub answers : AnswersAreSound s.kind s kept
+
+-- the words are as many as they should be, and sound
+pub record AreSoundWords (s : Shape) (size : ℕ) (word_of : Place → ℕ) (ws : List ℕ) : Type 0 where
+  pub count : SizeIsSound s size ws
+  pub sound : IsSound s (kept_in word_of ws)
+
+-- what a rule says of the words of a queue; a rule of the other kind of queue, or of a broker, says nothing
+abbrev pub IfKind : Kind → Kind → Type 0 → Type 0
+IfKind Durable Durable P = P
+IfKind Log Log P = P
+IfKind Durable Log P = Unit {0}
+IfKind Log Durable P = Unit {0}
+
+abbrev pub Keeps : Shape → ℕ → (Place → ℕ) → List ℕ → Rule → Type 0
+Keeps s size word_of ws Size = SizeIsSound s size ws
+Keeps s size word_of ws Records = RecordsAreSound s (kept_in word_of ws)
+Keeps s size word_of ws Chain = ChainIsSound s (kept_in word_of ws)
+Keeps s size word_of ws Claims = ClaimsAreSound s (kept_in word_of ws)
+Keeps s size word_of ws Ends = EndsAreSound s (kept_in word_of ws)
+Keeps s size word_of ws Rows = IfKind Durable s.kind (RowsAreSound s (kept_in word_of ws))
+Keeps s size word_of ws Entries = IfKind Log s.kind (EntriesAreSound s (kept_in word_of ws))
+Keeps s size word_of ws Image = Unit {0}
+Keeps s size word_of ws Directory = Unit {0}
+
+-- the words break this rule, and none before it
+pub record IsFirstBroken (s : Shape) (size : ℕ) (word_of : Place → ℕ) (ws : List ℕ) (rule : Rule) : Type 0 where
+  pub broken : Keeps s size word_of ws rule → ⊥
+  pub before : (other : Rule) → number_of other < number_of rule → Keeps s size word_of ws other
+
+-- a refusal by the first rule that is broken
+abbrev pub IsDamaged : Shape → ℕ → (Place → ℕ) → List ℕ → Refusal → Type 0
+IsDamaged s size word_of ws (Damaged rule) = IsFirstBroken s size word_of ws rule
+IsDamaged s size word_of ws _ = ⊥
+
+-- a client announced the entry
+pub record IsAnnouncedOne (s : Shape) (kept : Place → ℕ) (e : ℕ) : Type 0 where
+  pub client : ℕ
+  pub is_client : IsClient s client
+  pub names : announcements kept client ≡ e
+
+-- the words of sound ones that recovery and calls read: unlinked nodes and entries that nobody announced may tell anything
+abbrev pub IsRead : Shape → (Place → ℕ) → Place → Type 0
+IsRead s kept (Insert n) = (n.0 ≡ 0) ⊎ IsOnChain s kept n.0
+IsRead s kept (Number e) = IsAnnouncedOne s kept e.0
+IsRead s kept (EntryNode e) = (entry_kinds kept e.0 ≡ 2) ⊎ IsAnnouncedOne s kept e.0
+IsRead s kept _ = Unit {0}

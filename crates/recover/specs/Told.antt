@@ -1,0 +1,56 @@
+-- What clients are told by kept words: what recovery tells, as a function of the words that the crash left.
+use Rattle.std.specs.Prelude.{ℕ, Bool, List, [], ◌∷◌, map, nat_eq, nat_lt, Option, Some, None, if◌then◌else◌, ◌==◌}
+use Rattle.std.specs.List.{list_any, range_with_len}
+use Rattle.words.specs.declared.call.Kind.{Kind}
+use Rattle.words.specs.declared.call.Kind.TheVariants.{Durable, Log}
+use Rattle.words.specs.declared.call.Reply.TheVariants.{Done, Got, Empty}
+use Rattle.words.specs.declared.told.Outcome.{Outcome}
+use Rattle.words.specs.declared.told.Outcome.TheVariants.{NotTaken, Taken}
+use Rattle.words.specs.declared.told.Row.{Row}
+use Rattle.words.specs.declared.told.Row.TheVariants.{Open, Empty as row_empty, Got as row_got}
+use Rattle.words.specs.declared.told.Told.{Told}
+use Rattle.words.specs.declared.told.Told.TheVariants.{None as told_none, Verdict as told_verdict, Row as told_row}
+use Rattle.arena.specs.Shape.{Shape}
+use Rattle.arena.specs.Words.{marks, values, cells, numbers, entry_kinds, statuses, announcements}
+use Rattle.arena.specs.Content.{chain_of}
+use Rattle.arena.specs.declared.place.Place.{Place}
+use Rattle.recover.specs.Table.{no_call}
+
+-- the first of these nodes that the token claims
+abbrev pub claimed_by : (Place → ℕ) → ℕ → List ℕ → Option ℕ
+claimed_by kept token [] = None
+claimed_by kept token (n ∷ ns) = if marks kept n == token then Some n else claimed_by kept token ns
+
+-- of a dequeue's cell: what it got, by the chain node that it claims, or what it found
+abbrev pub row_with : (Place → ℕ) → ℕ → Option ℕ → Row
+row_with kept cell (Some node) = row_got (values kept node)
+row_with kept cell None = if cells kept cell == 1 then row_empty else Open
+
+-- of an entry: an enqueue took effect where its node is on the chain, a dequeue where it found the queue empty or claims a chain node
+abbrev pub enqueued : Bool → Outcome
+enqueued on_chain = if on_chain then Taken Done else NotTaken
+
+abbrev pub dequeued : (Place → ℕ) → Option ℕ → Outcome
+dequeued kept (Some node) = Taken (Got (values kept node))
+dequeued kept None = NotTaken
+
+abbrev pub outcome_by : Shape → (Place → ℕ) → ℕ → Outcome
+outcome_by s kept entry =
+    if entry_kinds kept entry == 1 then enqueued (list_any (nat_eq entry) (chain_of s kept))
+    else (if statuses kept entry == 2 then Taken Empty else dequeued kept (claimed_by kept entry (chain_of s kept)))
+
+-- what became of the call that the client announced last
+abbrev pub announced_as : Kind → Shape → (Place → ℕ) → ℕ → Told
+announced_as Durable s kept cell = told_row (row_with kept cell (claimed_by kept cell (chain_of s kept)))
+announced_as Log s kept entry = told_verdict (record { number = numbers kept entry; outcome = outcome_by s kept entry })
+
+-- what a client is told; from the last client on there is nobody to be told
+abbrev pub told_by : Shape → (Place → ℕ) → ℕ → Told
+told_by s kept t =
+    if nat_lt t s.clients
+    then (if announcements kept t == 0 then no_call s.kind else announced_as s.kind s kept (announcements kept t))
+    else told_none
+
+-- what all sixteen are told
+abbrev pub tells_by : Shape → (Place → ℕ) → List Told
+tells_by s kept = map (told_by s kept) (range_with_len 0 16)
