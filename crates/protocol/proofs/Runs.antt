@@ -1,5 +1,5 @@
 -- What holds after any acts.
-use Rattle.std.proofs.Common.{if◌then◌else◌, Option, Bool, true, false, ◌&&◌, ◌≡◌, ℕ, List, [], ◌∷◌, ◌++◌, Some, None, ◌==◌, nat_lt, nat_le, refl, sym, ◌∙◌, subst}
+use Rattle.std.proofs.Common.{if◌then◌else◌, Option, zero, suc, slice_get, inl, inr, Bool, true, false, ◌&&◌, ◌≡◌, ℕ, List, [], ◌∷◌, ◌++◌, Some, None, ◌==◌, nat_lt, nat_le, refl, sym, ◌∙◌, ap, subst}
 use Rattle.std.proofs.lemmas.Bool.{eqb-true, ltb-true, leb-true}
 use Rattle.words.specs.declared.call.Call.{Call}
 use Rattle.words.specs.declared.call.Call.TheVariants.{Enq, Deq}
@@ -8,7 +8,9 @@ use Rattle.words.specs.declared.call.Kind.{Kind}
 use Rattle.words.specs.declared.call.Kind.TheVariants.{Durable, Log}
 use Rattle.words.specs.declared.told.Told.{Told}
 use Rattle.arena.specs.Shape.{Shape}
-use Rattle.arena.specs.Words.{bumps}
+use Rattle.arena.specs.Chain.{IsAmong}
+use Rattle.arena.specs.Content.{chain_of}
+use Rattle.arena.specs.Words.{bumps, links}
 use Rattle.arena.specs.declared.place.Place.{Place}
 use Rattle.history.specs.Effects.{order_of}
 use Rattle.history.specs.Parts.{IsPartOf}
@@ -20,7 +22,8 @@ use Rattle.protocol.specs.Kept.{IsSound}
 use Rattle.protocol.specs.Acts.Act.{Start, Step, Evict, Crash, Recover}
 use Rattle.protocol.specs.Machine.{World, started, new_world, MayStart, MayStep, FitsKind, FitsCall}
 use Rattle.protocol.specs.declared.UnderWay.{UnderWay}
-use Rattle.protocol.proofs.Facts.{Inv, InvAt, inv_new, inv_started, inv_stepped, inv_evicted, inv_crashed, inv_recovered, part_started, part_stepped, part_evicted, part_crashed, part_recovered, in_log, explained, agrees, told_is}
+use Rattle.protocol.proofs.Facts.{Inv, InvAt, inv_new, inv_started, inv_stepped, inv_evicted, inv_crashed, inv_recovered, part_started, part_stepped, part_evicted, part_crashed, part_recovered, in_log, explained, agrees, told_is, chain_is}
+use Rattle.protocol.proofs.Chains.{Distinct, distinct}
 use Rattle.protocol.proofs.Moments.{ledger_of, Working}
 use Rattle.protocol.proofs.Sound.{Sound, crash_sound}
 
@@ -164,3 +167,29 @@ tells_by_kept w v = record {
 
 pub kept_told : (s : Shape) (told : List Told) (acts : List Act) → IsNew s told → TellsByKept (run (new_world s told) acts)
 kept_told s told acts new = tells_by_kept (run (new_world s told) acts) (run_kept acts (new_world s told) (new_kept s told new)).inv
+
+-- what a list has somewhere is among its items
+got_among : (xs : List ℕ) (i x : ℕ) → slice_get xs i ≡ Some x → IsAmong x xs
+got_among [] i x e = absurd (cc)
+got_among (y ∷ ys) zero x e = let same : y ≡ x = cc in inl (sym same)
+got_among (y ∷ ys) (suc i) x e = inr (got_among ys i x e)
+
+once : (xs : List ℕ) → Distinct xs → (i j x : ℕ) → slice_get xs i ≡ Some x → slice_get xs j ≡ Some x → i ≡ j
+once [] d i j x e f = absurd (cc)
+once (y ∷ ys) d zero zero x e f = refl
+once (y ∷ ys) d zero (suc j) x e f =
+    let same : y ≡ x = cc in
+    absurd (d.0 (subst (λ z. IsAmong z ys) (sym same) (got_among ys j x f)))
+once (y ∷ ys) d (suc i) zero x e f =
+    let same : y ≡ x = cc in
+    absurd (d.0 (subst (λ z. IsAmong z ys) (sym same) (got_among ys i x e)))
+once (y ∷ ys) d (suc i) (suc j) x e f = ap suc (once ys d.1 i j x e f)
+
+pub no_node_again : (s : Shape) (told : List Told) (acts : List Act) → IsNew s told → (i j n : ℕ)
+    → slice_get (chain_of (run (new_world s told) acts).shape (run (new_world s told) acts).memory.kept) i ≡ Some n
+    → slice_get (chain_of (run (new_world s told) acts).shape (run (new_world s told) acts).memory.kept) j ≡ Some n → i ≡ j
+no_node_again s told acts new =
+    let w : World = run (new_world s told) acts in
+    let h : IsSound w.shape w.memory.kept = kept_sound s told acts new in
+    let d : Distinct (h.claimed ++ h.waiting) = distinct (links w.memory.kept) 0 (h.claimed ++ h.waiting) h.chain in
+    once (chain_of w.shape w.memory.kept) (subst Distinct (sym (chain_is w.shape w.memory.kept h.claimed h.waiting h.chain h.fits)) d)

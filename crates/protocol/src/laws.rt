@@ -1,6 +1,7 @@
 //! What holds after any acts, crashes and evictions among them.
 
-ghost use Rattle.std.specs.Prelude.{◌≡◌, ◌+◌, ◌*◌, ◌≤◌, ◌++◌, List, None, replicate};
+ghost use Rattle.std.specs.Prelude.{◌≡◌, ◌+◌, ◌*◌, ◌≤◌, ◌++◌, List, Some, None, ℕ, slice_get, replicate};
+ghost use Rattle.arena.specs.Content.{chain_of};
 ghost use Rattle.arena.specs.Shape.{Shape, greatest};
 ghost use Rattle.words.specs.declared.call.Client.{Client};
 ghost use Rattle.words.specs.declared.told.Told.{Told};
@@ -24,6 +25,11 @@ pub fn nothing_is_taken_back()
 /// The kept words are sound at every moment, and so after every crash.
 pub fn kept_words_are_sound()
     ensures { (s : Shape) (told : List Told) (acts : List Act) → IsNew s told → IsSound (run (new_world s told) acts).shape (run (new_world s told) acts).memory.kept }
+{}
+
+/// No node stands twice on the chain of the kept links.
+pub fn no_node_stands_twice()
+    ensures { (s : Shape) (told : List Told) (acts : List Act) → IsNew s told → (i j n : ℕ) → slice_get (chain_of (run (new_world s told) acts).shape (run (new_world s told) acts).memory.kept) i ≡ Some n → slice_get (chain_of (run (new_world s told) acts).shape (run (new_world s told) acts).memory.kept) j ≡ Some n → i ≡ j }
 {}
 
 /// Each client is told of its last call by the kept words alone.

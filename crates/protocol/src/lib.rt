@@ -6,7 +6,7 @@ mod laws;
 use helping::Op;
 pub use laws::{
     a_call_alone_ends, every_history_is_explained, kept_words_are_sound, kept_words_are_told,
-    nothing_is_taken_back, recovery_ends,
+    no_node_stands_twice, nothing_is_taken_back, recovery_ends,
 };
 use stepper::Begun;
 
