@@ -18,3 +18,10 @@ Fits s (Number e) v = v ≤ 1099511627776
 Fits s (EntryKind e) v = v ≤ 2
 Fits s (Status e) v = v ≤ 2
 Fits s (EntryNode e) v = v ≤ greatest s
+
+-- the words that calls read; of the others recovery reads some, and knows that those are right
+abbrev pub IsReadByCalls : Place → Type 0
+IsReadByCalls (Insert n) = ⊥
+IsReadByCalls (Number e) = ⊥
+IsReadByCalls (EntryNode e) = ⊥
+IsReadByCalls _ = Unit {0}

@@ -33,20 +33,21 @@ pub enum Prepare {
     Prepared(Begun),
 }
 
-/// About to store a word of the record.
+/// About to store a word of the record. Its fields stand in the order in which a step moves them at the least cost:
+/// see `bench/acts.sh`.
 #[derive(Clone, Copy, Debug, PartialEq, Eq, Hash)]
 pub struct PrepareStore {
-    pub(crate) begun: Begun,
-    pub(crate) index: u8,
     pub(crate) write: Write,
+    pub(crate) index: u8,
+    pub(crate) begun: Begun,
 }
 
-/// About to keep it.
+/// About to keep it. Its fields stand as those of `PrepareStore`.
 #[derive(Clone, Copy, Debug, PartialEq, Eq, Hash)]
 pub struct PrepareFlush {
-    pub(crate) begun: Begun,
-    pub(crate) index: u8,
     pub(crate) write: Write,
+    pub(crate) index: u8,
+    pub(crate) begun: Begun,
 }
 
 /// The words that a durable enqueue prepares, from 0 up, and none beyond the last.
