@@ -10,7 +10,8 @@ use Rattle.arena.specs.Content.{chain_of}
 use Rattle.arena.specs.declared.place.Place.{Place}
 use Rattle.recover.specs.Sound.{IsIssued, IsOnChain}
 use Rattle.recover.specs.Order.{IsRun, IsOrder}
-use Rattle.recover.proofs.Chains.{in_left, in_right, in_end, in_end_cases, not_twice, leads_trans, leads_at, leads_one, walk_end, walk_next}
+use Rattle.arena.proofs.Chains.{in_left, in_right, in_end, in_end_cases, leads_trans, leads_at, leads_one}
+use Rattle.recover.proofs.Chains.{not_twice, walk_end, walk_next}
 
 -- after i links the walk is at this node, and the nodes that it passed have their places
 pub record IsFollowed (s : Shape) (kept : Place → ℕ) (place : ℕ → ℕ) (i node : ℕ) : Type 0 where

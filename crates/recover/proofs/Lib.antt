@@ -1,8 +1,12 @@
+pub mod Alike
+pub mod AlikeTold
 pub mod Chains
 pub mod EntrySteps
 pub mod Followed
+pub mod Looked
 pub mod Noted
 pub mod Range
 pub mod Surveys
 pub mod Tables
+pub mod Tellings
 pub mod ToldBy

@@ -11,6 +11,7 @@ mod recovery;
 mod rows;
 mod soundness;
 mod telling;
+mod told;
 
 pub use ends::{
     RecoveryFlushHead, RecoveryFlushResult, RecoveryFlushStatus, RecoveryFlushTail,
@@ -23,3 +24,4 @@ pub use telling::{
     RecoveryLoadAnnouncement, RecoveryLoadCell, RecoveryLoadEntryNode, RecoveryLoadKind,
     RecoveryLoadNumber, RecoveryLoadRemove, RecoveryLoadRemovedValue, RecoveryLoadStatus,
 };
+pub use told::tells;

@@ -57,9 +57,8 @@ pub trait Recover {
     ghost use Rattle.words.specs.declared.call.Kind.{Kind};
     ghost use Rattle.persist.specs.Memory.{Access};
     ghost use Rattle.arena.specs.Shape.{Shape};
-    ghost use Rattle.arena.specs.Ranges.{Fits};
     ghost use Rattle.arena.specs.declared.place.Place.{Place};
-    ghost use Rattle.stepper.specs.Step.{after_one, found, place_of};
+    ghost use Rattle.stepper.specs.Step.{after_one, found, IsReadInRange};
     ghost use Rattle.recover.specs.declared.recovery.Recovered.{Recovered};
 
     /// The one access of its step.
@@ -75,7 +74,7 @@ pub trait Recover {
     fn step<L: Layout, M: WordMemory>(self, layout: &L, memory: &mut M) -> Recovered
         requires room { L.size_of layout.now ≤ length (M.words memory.old).cached }
         requires point { in_range (L.shape layout.now) self }
-        requires read { Fits (L.shape layout.now) (place_of (access (L.shape layout.now).kind self))
+        requires read { IsReadInRange (L.shape layout.now) (access (L.shape layout.now).kind self)
             (found (L.word_of layout.now) (access (L.shape layout.now).kind self) (M.words memory.old)) }
         ensures one_access { M.words memory.new ≡ after_one (L.word_of layout.now) (access (L.shape layout.now).kind self) (M.words memory.old) }
         ensures next { result ≡ next (L.shape layout.now) self
