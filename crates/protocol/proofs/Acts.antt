@@ -104,10 +104,10 @@ step_noted w v i u at (DequeueLoadNext p) h =
 step_noted w v i u at _ h = nothing_noted w v
 
 -- the call of a client that has one is another
-call_same : (calls : ℕ → Option UnderWay) (i : ℕ) (x : Option UnderWay) (j : ℕ) → j ≡ i → with_call calls i x j ≡ x
+pub call_same : (calls : ℕ → Option UnderWay) (i : ℕ) (x : Option UnderWay) (j : ℕ) → j ≡ i → with_call calls i x j ≡ x
 call_same calls i x j e = rw (eq-eqb j i e) refl
 
-call_other : (calls : ℕ → Option UnderWay) (i : ℕ) (x : Option UnderWay) (j : ℕ) → j ≢ i → with_call calls i x j ≡ calls j
+pub call_other : (calls : ℕ → Option UnderWay) (i : ℕ) (x : Option UnderWay) (j : ℕ) → j ≢ i → with_call calls i x j ≡ calls j
 call_other calls i x j ne = rw (ne_eqb j i ne) refl
 
 same_record : (calls : ℕ → Option UnderWay) (i : ℕ) (u x : UnderWay) → calls i ≡ Some u → x.begun ≡ u.begun → (j : ℕ) → record_of_call (with_call calls i (Some x) j) ≡ record_of_call (calls j)
@@ -349,6 +349,10 @@ number_fits : (kind : Kind) (number : ℕ) → FitsKind kind number → (number 
 number_fits Durable number h = (omega (arith, h), h)
 number_fits Log number h = (h.1, (h.0, h.1))
 
+log_number : (kind : Kind) (number : ℕ) → kind ≡ Log → FitsKind kind number → 1 ≤ number
+log_number Durable number k h = absurd (cc)
+log_number Log number k h = h.0
+
 call_fits : (call : Call) (v : ℕ) → FitsCall call → call ≡ Enq v → v ≤ 4294967295
 call_fits (Enq x) v h e = let same : x ≡ v = cc in subst (λ y. y ≤ 4294967295) same h
 call_fits Deq v h e = absurd (cc)
@@ -419,7 +423,7 @@ module _ (w : World) (v : Working w) (client : Client) (number : ℕ) (call : Ca
         untaken = λ r e. let wrong : Unmoved ≡ Took r = sym quiet ∙ e in cc;
       } in
       arrives w.shape w.memory (rebegun (ledger_of w) client.0 (begun_of w client number call)) client.0 (begun_of w client number call) 0 before quiet here refl
-      (record { begun = begun_fits; written = λ j x lt e. absurd (omega (arith, lt)) }) (omega arith)
+      (record { begun = begun_fits; numbered = λ k. log_number w.shape.kind number k may.number_fits; written = λ j x lt e. absurd (omega (arith, lt)) }) (omega arith)
       (λ p own of named none. (
         v.base.blank p of (λ z. token_some (sym named ∙ z)) (λ h. unissued (subst (IsIssued w.shape w.memory.kept) named h)),
         v.base.blank_kept p of (λ z. token_some (sym named ∙ z)) (λ h. unissued (subst (IsIssued w.shape w.memory.kept) named h)),

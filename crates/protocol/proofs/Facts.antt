@@ -1,9 +1,10 @@
 -- What callers of the machine may rely on.
-use Rattle.std.proofs.Common.{if◌then◌else◌, Option, ◌≡◌, ◌≢◌, ℕ, ◌≤◌, ◌<◌, inl, inr, List, [], ◌∷◌, ◌++◌, length, map, filter, Some, None, ◌==◌, refl, sym, ◌∙◌, ap, subst, arith}
+use Rattle.std.proofs.Common.{if◌then◌else◌, Option, ◌≡◌, ◌≢◌, ℕ, ◌+◌, ◌*◌, ◌≤◌, ◌<◌, inl, inr, List, [], ◌∷◌, ◌++◌, length, map, filter, not, Some, None, ◌==◌, refl, sym, ◌∙◌, ap, subst, arith}
 use Rattle.std.specs.Prelude.{slice_get, nat_lt}
 use Rattle.std.specs.List.{AllByRecursion, AllPairs}
+use Rattle.std.proofs.lemmas.Option.{slice_get_within}
 use Rattle.std.proofs.lemmas.Bool.Decides.{Decides-eqb}
-use Rattle.std.proofs.lemmas.List.{length-map}
+use Rattle.std.proofs.lemmas.List.{append-nil, length-map}
 use Rattle.std.proofs.lemmas.Map.Made.{IsDistinct-from_AllPairs}
 use Rattle.std.proofs.lemmas.Map.Steps.{length-le_from_distinct_below}
 use Rattle.std.proofs.lemmas.Bool.{cases_eq, eq-eqb, ne_eqb}
@@ -18,8 +19,9 @@ use Rattle.recover.specs.declared.recovery.Recovered.TheVariants.{More, Ready}
 use Rattle.recover.specs.declared.recovery.Recovery.{Recovery}
 use Rattle.arena.specs.Chain.{IsChain, IsAmong}
 use Rattle.arena.specs.Chain.LeadsTo.{there}
-use Rattle.arena.specs.Content.{chain_of, waiting_of, kept_content}
-use Rattle.arena.specs.Ranges.{Fits}
+use Rattle.arena.specs.Content.{chain_of, claimed_of, waiting_of, kept_content}
+use Rattle.arena.specs.Place.{IsPlace}
+use Rattle.arena.specs.Ranges.{Fits, IsReadByCalls}
 use Rattle.arena.specs.Shape.{Shape, owner, greatest}
 use Rattle.arena.specs.Words.{links, marks, values}
 use Rattle.arena.specs.declared.place.Place.{Place}
@@ -37,8 +39,14 @@ use Rattle.history.proofs.Members.{part_same}
 use Rattle.history.proofs.Lists.{pairs_map}
 use Rattle.protocol.specs.Machine.{Memory, World, call_with, started, stepped, evicted, crashed, recovered, recovered_next, recovery_left, after_keeping, effects_after, new_world, MayStart, MayStep}
 use Rattle.protocol.specs.declared.UnderWay.{UnderWay}
+use Rattle.protocol.specs.Announced.{IsToldOfAnnounced}
+use Rattle.protocol.proofs.Issuing.{told_of_announced}
 use Rattle.protocol.specs.Kept.{TellsOf}
-use Rattle.protocol.proofs.Chains.{any_in, Distinct, distinct, few, linked_by, walked, parts_apart}
+use Rattle.protocol.specs.Measure.{weight, left_at, steps_left}
+use Rattle.protocol.specs.Recovered.{end_of, IsRecovered}
+use Rattle.protocol.proofs.RecoveryBound.{IsLess, falls, few_at}
+use Rattle.arena.proofs.Chains.{distinct, parts_apart}
+use Rattle.protocol.proofs.Chains.{any_in, few, linked_by, walked}
 use Rattle.protocol.proofs.Links.{kept_apart}
 use Rattle.protocol.proofs.State.{AllFit, SaysEmpty}
 use Rattle.protocol.proofs.RecordStores.{none_records}
@@ -46,9 +54,17 @@ use Rattle.protocol.proofs.Rebegun.{empty_some}
 use Rattle.protocol.proofs.Moments.{ledger_of, Working, holder, keep_noted, calling}
 use Rattle.protocol.proofs.Acts.{evicted_part, stepped_part, step_noted}
 use Rattle.protocol.proofs.ReadyWorlds.{IsReady, evicted_ready, stepped_ready, started_ready, fresh_told}
-use Rattle.protocol.proofs.RecoveringWorlds.{Recovering, RecoveredTo, evicted_recovering, evicted_recovering_part, ready_crashed, recovering_crashed, crashed_part, recovered_works, recovered_part, nobody_kept, nobody_flushed, point_fits, told_woken}
-use Rattle.stepper.specs.Step.{kept_by}
+use Rattle.protocol.proofs.RecoveryEnds.{Woken}
+use Rattle.protocol.proofs.RecoveryTelling.{all_answered}
+use Rattle.protocol.proofs.RecoveringWorlds.{Recovering, RecoveredTo, evicted_recovering, evicted_recovering_part, ready_crashed, recovering_crashed, crashed_part, recovered_works, recovered_part, nobody_kept, nobody_flushed, point_fits, reads_fit, all_fit, woken, told_woken}
+use Rattle.stepper.specs.Step.{place_of, kept_by}
 use Rattle.recover.specs.Table.{access_of, IsPoint}
+use Rattle.recover.specs.Told.{tells_by}
+use Rattle.recover.specs.Sound.{IsSound as IsSoundForRecovery}
+use Rattle.protocol.proofs.Sound.{crash_sound}
+use Rattle.protocol.proofs.SoundForRecovery.{sound_for_recovery}
+use Rattle.protocol.proofs.Nowhere.{nowhere}
+use Rattle.protocol.proofs.StillTold.{TellsAlike, put_alike, recovered_alike, told_now}
 
 -- what holds of the machine at every moment: it is ready, or it recovers
 abbrev pub InvAt : World → Option Recovery → Type 0
@@ -134,6 +150,14 @@ all_left : (k : ℕ → ℕ) (xs : List ℕ) → ((x : ℕ) → IsAmong x xs →
 all_left k [] h = refl
 all_left k (x ∷ xs) h = rw (eq-eqb (k x) 0 (h x (inl refl))) (ap (λ t. x ∷ t) (all_left k xs (λ y i. h y (inr i))))
 
+all_marked : (k : ℕ → ℕ) (xs : List ℕ) → ((x : ℕ) → IsAmong x xs → k x ≢ 0) → filter (λ n. not (k n == 0)) xs ≡ xs
+all_marked k [] h = refl
+all_marked k (x ∷ xs) h = rw (ne_eqb (k x) 0 (h x (inl refl))) (ap (λ t. x ∷ t) (all_marked k xs (λ y i. h y (inr i))))
+
+none_marked : (k : ℕ → ℕ) (xs : List ℕ) → ((x : ℕ) → IsAmong x xs → k x ≡ 0) → filter (λ n. not (k n == 0)) xs ≡ []
+none_marked k [] h = refl
+none_marked k (x ∷ xs) h = rw (eq-eqb (k x) 0 (h x (inl refl))) (none_marked k xs (λ y i. h y (inr i)))
+
 -- the nodes that kept links reach are the claimed ones and then the waiting ones
 pub chain_is : (s : Shape) (k : Place → ℕ) (claimed waiting : List ℕ) → IsChain (links k) 0 (claimed ++ waiting) → AllFit s k → chain_of s k ≡ claimed ++ waiting
 chain_is s k claimed waiting chain fits =
@@ -142,18 +166,31 @@ chain_is s k claimed waiting chain fits =
     (λ h. (linked_by (links k) 0 (claimed ++ waiting) chain 0 h).2 refl)
     (λ q h.
     let p : (p : ℕ) × (links k p ≡ q) × (q ≢ 0) = linked_by (links k) 0 (claimed ++ waiting) chain q h in
-    subst (λ x. x ≤ greatest s) p.1 (fits (Next (node_of p.0)))))
+    subst (λ x. x ≤ greatest s) p.1 (fits (Next (node_of p.0)) tt)))
 
-pub waiting_is : (s : Shape) (k : Place → ℕ) (claimed waiting : List ℕ) → IsChain (links k) 0 (claimed ++ waiting) → AllFit s k → ((n : ℕ) → IsAmong n claimed → marks k n ≢ 0) → ((n : ℕ) → marks k n ≢ 0 → IsAmong n claimed) → waiting_of s k ≡ waiting
-waiting_is s k claimed waiting chain fits on back =
-    let d : Distinct (claimed ++ waiting) = distinct (links k) 0 (claimed ++ waiting) chain in
-    ap (filter (λ n. marks k n == 0)) (chain_is s k claimed waiting chain fits)
-    ∙ filter-append (λ n. marks k n == 0) claimed waiting
-    ∙ ap (λ t. t ++ filter (λ n. marks k n == 0) waiting) (none_left (marks k) claimed on)
-    ∙ all_left (marks k) waiting (λ x h. elim (cases_eq (marks k x) 0) [
-      | inl z ↦ z
-      | inr q ↦ absurd (parts_apart claimed waiting x d (back x q) h)
-    ])
+-- the claimed ones have a kept claim, and the waiting ones have none
+module _ (s : Shape) (k : Place → ℕ) (claimed waiting : List ℕ) (chain : IsChain (links k) 0 (claimed ++ waiting)) (fits : AllFit s k)
+    (on : (n : ℕ) → IsAmong n claimed → marks k n ≢ 0) (back : (n : ℕ) → marks k n ≢ 0 → IsAmong n claimed) where
+  without_claim : (x : ℕ) → IsAmong x waiting → marks k x ≡ 0
+  without_claim x h = elim (cases_eq (marks k x) 0) [
+    | inl z ↦ z
+    | inr q ↦ absurd (parts_apart claimed waiting x (distinct (links k) 0 (claimed ++ waiting) chain) (back x q) h)
+  ]
+
+  pub waiting_is : waiting_of s k ≡ waiting
+  waiting_is =
+      ap (filter (λ n. marks k n == 0)) (chain_is s k claimed waiting chain fits)
+      ∙ filter-append (λ n. marks k n == 0) claimed waiting
+      ∙ ap (λ t. t ++ filter (λ n. marks k n == 0) waiting) (none_left (marks k) claimed on)
+      ∙ all_left (marks k) waiting without_claim
+
+  pub claimed_is : claimed_of s k ≡ claimed
+  claimed_is =
+      ap (filter (λ n. not (marks k n == 0))) (chain_is s k claimed waiting chain fits)
+      ∙ filter-append (λ n. not (marks k n == 0)) claimed waiting
+      ∙ ap (λ t. t ++ filter (λ n. not (marks k n == 0)) waiting) (all_marked (marks k) claimed on)
+      ∙ ap (λ t. claimed ++ t) (none_marked (marks k) waiting without_claim)
+      ∙ append-nil claimed
 
 -- agreement: the kept words hold what replay of the order leaves
 pub agrees : (w : World) → Inv w → kept_content w.shape w.memory.kept ≡ queue_of w.log.events w.base w.log.effects
@@ -210,7 +247,7 @@ evict_room w v p = go w.recovery v
     go None h = log_room w (after_keeping w p) (keep_noted w h.working p).log
     go (Some r) h = subst (λ e. length e ≤ length w.log.events) (sym (nobody_kept w h.none p)) (log_room w w.log.effects h.log)
 
-zero_fits : (s : Shape) (p : Place) → Fits s p 0
+pub zero_fits : (s : Shape) (p : Place) → Fits s p 0
 zero_fits s Head = omega arith
 zero_fits s Tail = omega arith
 zero_fits s (Announcement t) = omega arith
@@ -276,8 +313,8 @@ new_works s told some few = record {
     blank_kept = λ p r some none. refl;
     absent = λ p none. refl;
     absent_kept = λ p none. refl;
-    fits = λ p. zero_fits s p;
-    fits_kept = λ p. zero_fits s p;
+    fits = λ p read. zero_fits s p;
+    fits_kept = λ p read. zero_fits s p;
   };
   records = none_records s (ledger_of (new_world s told)) (λ i. refl);
   calls = λ i. tt;
@@ -296,11 +333,18 @@ new_works s told some few = record {
 pub inv_new : (s : Shape) (told : List Told) → 1 ≤ s.clients → s.clients ≤ 16 → TellsNothing s told → Inv (new_world s told)
 inv_new s told some few fresh = record {
   working = new_works s told some few;
-  tells = λ client x lt h. inr (record {
-    none = record { none = λ p low high taken. absurd (omega (arith, high)) };
-    same = fresh client.0 lt ∙ ap (λ y. Some y) (sym (fresh_told s client.0 x h));
-  });
+  tells = λ client x lt h. inr (
+    record {
+      none = record { none = λ p low high taken. absurd (omega (arith, high)) };
+      same = fresh client.0 lt ∙ ap (λ y. Some y) (sym (fresh_told s client.0 x h));
+    },
+    inl refl,
+  );
+  issued = λ j x at. absurd (none_some at);
 }
+  where
+    none_some : {X : Type 0} {x : X} → None ≡ Some x → ⊥
+    none_some e = cc
 
 -- what recovery learnt is in range
 pub recovery_point : (w : World) → Inv w → (r : Recovery) → w.recovery ≡ Some r → IsPoint w.shape r
@@ -320,9 +364,143 @@ pub told_is : (w : World) → Inv w → (r : Recovery) → w.recovery ≡ Some r
     → (length told ≡ 16) × ((t : ℕ) (x : Told) → slice_get told t ≡ Some x → TellsOf w.shape (recovered w r).memory.kept t x)
 told_is w v r e told q = told_woken w r (is_recovering w v r e) told q
 
-pub words_fit : (w : World) → Inv w → (p : Place) → Fits w.shape p (w.memory.kept p)
-words_fit w v p = go w.recovery v
+-- what recovery leaves: the ends of the chain are right, and what was under way is answered
+pub leaves_right : (w : World) → Inv w → (r : Recovery) → w.recovery ≡ Some r → (told : List Told) → recovered_next w r ≡ Ready told
+    → IsRecovered w.shape (recovered w r).memory.kept
+leaves_right w v r e told q =
+    let x : Recovering w r = is_recovering w v r e in
+    let h : Woken w.shape (recovered w r).memory x.claimed x.waiting (queue_of w.log.events w.base w.log.effects) told = woken w r x told q in
+    let chain : chain_of w.shape (recovered w r).memory.kept ≡ x.claimed ++ x.waiting = chain_is w.shape (recovered w r).memory.kept x.claimed x.waiting h.sound.chain h.sound.fits in
+    let claimed : claimed_of w.shape (recovered w r).memory.kept ≡ x.claimed =
+    claimed_is w.shape (recovered w r).memory.kept x.claimed x.waiting h.sound.chain h.sound.fits h.sound.on h.sound.back in
+    let waiting : waiting_of w.shape (recovered w r).memory.kept ≡ x.waiting =
+    waiting_is w.shape (recovered w r).memory.kept x.claimed x.waiting h.sound.chain h.sound.fits h.sound.on h.sound.back in
+    record {
+      head = h.head ∙ ap (end_of 0) (sym claimed);
+      tail = h.tail ∙ ap (end_of 0) (sym chain);
+      answered = λ n i. (all_answered w.shape (recovered w r).memory x.claimed x.waiting (queue_of w.log.events w.base w.log.effects) h.sound h.all n (subst (IsAmong n) claimed i)).0;
+      taken = λ log n i. h.taken log n (subst (IsAmong n) waiting i);
+    }
+
+-- and every word is kept as it is cached
+pub nothing_pending : (w : World) → Inv w → (r : Recovery) → w.recovery ≡ Some r → (told : List Told) → recovered_next w r ≡ Ready told
+    → (p : Place) → (recovered w r).memory.cached p ≡ (recovered w r).memory.kept p
+nothing_pending w v r e told q = (woken w r (is_recovering w v r e) told q).same
+
+-- while recovery is under way the kept words tell the same and hold the same, and what they tell is what recovery tells
+pub still_alike : (w : World) → Inv w → (r : Recovery) → w.recovery ≡ Some r → TellsAlike w.shape w.memory.kept (recovered w r).memory.kept
+still_alike w v r e = recovered_alike w r (is_recovering w v r e)
+
+pub still_alike_evicted : (w : World) → Inv w → (r : Recovery) → w.recovery ≡ Some r → (p : Place) → TellsAlike w.shape w.memory.kept (evicted w p).memory.kept
+still_alike_evicted w v r e p = put_alike w r (is_recovering w v r e) p
+
+pub still_told : (w : World) → Inv w → (r : Recovery) → w.recovery ≡ Some r → tells_by w.shape (recovered w r).memory.kept ≡ tells_by w.shape w.memory.kept
+still_told w v r e = (still_alike w v r e).tells
+
+pub still_told_evicted : (w : World) → Inv w → (r : Recovery) → w.recovery ≡ Some r → (p : Place)
+    → tells_by w.shape (evicted w p).memory.kept ≡ tells_by w.shape w.memory.kept
+still_told_evicted w v r e p = (still_alike_evicted w v r e p).tells
+
+pub still_told_crashed : (w : World) → tells_by w.shape (crashed w).memory.kept ≡ tells_by w.shape w.memory.kept
+still_told_crashed w = refl
+
+pub told_are_now : (w : World) → Inv w → (r : Recovery) → w.recovery ≡ Some r → (told : List Told) → recovered_next w r ≡ Ready told
+    → told ≡ tells_by w.shape w.memory.kept
+told_are_now w v r e told q =
+    let x : Recovering w r = is_recovering w v r e in
+    told_now w r x (chain_is w.shape w.memory.kept x.claimed x.waiting x.sound.chain x.sound.fits) told q
+
+pub told_are : (w : World) → Inv w → (r : Recovery) → w.recovery ≡ Some r → (told : List Told) → recovered_next w r ≡ Ready told
+    → told ≡ tells_by w.shape (recovered w r).memory.kept
+told_are w v r e told q = told_are_now w v r e told q ∙ sym (still_told w v r e)
+
+-- the kept words keep all of recovery's rules
+pub words_sound : (w : World) → Inv w → IsSoundForRecovery w.shape w.memory.kept
+words_sound w v = go w.recovery v
+  where
+    go : (r : Option Recovery) → InvAt w r → IsSoundForRecovery w.shape w.memory.kept
+    go None h =
+        let x : Working w = h.working in
+        sound_for_recovery w.shape w.memory.kept x.claimed x.waiting (ledger_of w).queue
+        (crash_sound w.shape w.memory (ledger_of w) x.claimed x.waiting x.base x.records)
+        (chain_is w.shape w.memory.kept x.claimed x.waiting x.base.chained.chain x.base.fits_kept)
+    go (Some r) h =
+        sound_for_recovery w.shape w.memory.kept h.claimed h.waiting (queue_of w.log.events w.base w.log.effects) h.sound
+        (chain_is w.shape w.memory.kept h.claimed h.waiting h.sound.chain h.sound.fits)
+
+-- where the layout has no place, they are 0
+pub words_nowhere : (w : World) → Inv w → (p : Place) → (IsPlace w.shape p → ⊥) → w.memory.kept p ≡ 0
+words_nowhere w v = go w.recovery v
+  where
+    go : (r : Option Recovery) → InvAt w r → (p : Place) → (IsPlace w.shape p → ⊥) → w.memory.kept p ≡ 0
+    go None h =
+        let x : Working w = h.working in
+        nowhere w.shape w.memory.kept x.claimed x.waiting (ledger_of w).queue (crash_sound w.shape w.memory (ledger_of w) x.claimed x.waiting x.base x.records)
+    go (Some r) h = nowhere w.shape w.memory.kept h.claimed h.waiting (queue_of w.log.events w.base w.log.effects) h.sound
+
+-- there are 1 to 16 clients
+pub some_clients : (w : World) → Inv w → (1 ≤ w.shape.clients) × (w.shape.clients ≤ 16)
+some_clients w v = go w.recovery v
+  where
+    go : (r : Option Recovery) → InvAt w r → (1 ≤ w.shape.clients) × (w.shape.clients ≤ 16)
+    go None h = (h.working.clients, h.working.sixteen)
+    go (Some r) h = (h.clients, h.sixteen)
+
+-- the words that calls read are in range, kept and cached
+pub kept_fits : (w : World) → Inv w → (p : Place) → IsReadByCalls p → Fits w.shape p (w.memory.kept p)
+kept_fits w v p read = go w.recovery v
   where
     go : (r : Option Recovery) → InvAt w r → Fits w.shape p (w.memory.kept p)
-    go None h = h.working.base.fits_kept p
-    go (Some r) h = h.sound.fits p
+    go None h = h.working.base.fits_kept p read
+    go (Some r) h = h.sound.fits p read
+
+pub cached_fits : (w : World) → Inv w → (p : Place) → IsReadByCalls p → Fits w.shape p (w.memory.cached p)
+cached_fits w v p read = go w.recovery v
+  where
+    go : (r : Option Recovery) → InvAt w r → Fits w.shape p (w.memory.cached p)
+    go None h = h.working.base.fits p read
+    go (Some r) h = all_fit w.shape w.memory h.claimed h.waiting (queue_of w.log.events w.base w.log.effects) h.sound r h.at p read
+
+-- what recovery's next access reads is in range
+pub recovery_reads : (w : World) → Inv w → (r : Recovery) → w.recovery ≡ Some r
+    → Fits w.shape (place_of (access_of w.shape.kind r)) (w.memory.cached (place_of (access_of w.shape.kind r)))
+recovery_reads w v r e =
+    let x : Recovering w r = is_recovering w v r e in
+    reads_fit w.shape w.memory x.claimed x.waiting (queue_of w.log.events w.base w.log.effects) x.sound r x.at
+
+-- recovery never has more steps left than these, each of its steps takes one at least, and evictions take none
+pub few_left : (w : World) → Inv w → steps_left w ≤ 8 * greatest w.shape + 8 * w.shape.clients + 8
+few_left w v = go w.recovery v
+  where
+    go : (r : Option Recovery) → InvAt w r → left_at w.shape w.memory.cached r ≤ 8 * greatest w.shape + 8 * w.shape.clients + 8
+    go None h = omega arith
+    go (Some r) h = few_at w.shape w.memory h.claimed h.waiting (queue_of w.log.events w.base w.log.effects) h.sound r h.at
+
+pub left_falls : (w : World) → Inv w → (r : Recovery) → w.recovery ≡ Some r → steps_left (recovered w r) < steps_left w
+left_falls w v r e =
+    let x : Recovering w r = is_recovering w v r e in
+    let now : steps_left w ≡ weight w.shape w.memory.cached r + 1 = ap (left_at w.shape w.memory.cached) e in
+    omega (arith, now, go (recovered_next w r) (falls w.shape w.memory x.claimed x.waiting (queue_of w.log.events w.base w.log.effects) x.sound r x.at))
+  where
+    go : (next : Recovered) → IsLess w.shape (recovered w r).memory.cached next (weight w.shape w.memory.cached r)
+        → left_at w.shape (recovered w r).memory.cached (recovery_left next) ≤ weight w.shape w.memory.cached r
+    go (More q) h = omega (arith, h)
+    go (Ready told) h = omega arith
+
+pub left_evicted : (w : World) (p : Place) → steps_left (evicted w p) ≡ steps_left w
+left_evicted w p = refl
+
+-- what the kept words tell a client is told of its announced call
+pub told_by_rule : (w : World) → Inv w → (client : Client) (told : Told) → client.0 < 16 → TellsOf w.shape w.memory.kept client.0 told → IsToldOfAnnounced w.shape w.memory.kept w.told w.log client told
+told_by_rule w v client told few h = go w.recovery v
+  where
+    go : (r : Option Recovery) → InvAt w r → IsToldOfAnnounced w.shape w.memory.kept w.told w.log client told
+    go None x = told_of_announced w.shape w.memory.kept w.told w.log client told (x.tells client told few h)
+    go (Some r) x = told_of_announced w.shape w.memory.kept w.told w.log client told (x.tells client told few h)
+
+-- and so is each client when recovery ends
+pub told_announced : (w : World) → Inv w → (r : Recovery) → w.recovery ≡ Some r → (told : List Told) → recovered_next w r ≡ Ready told
+    → (client : Client) (x : Told) → slice_get told client.0 ≡ Some x → IsToldOfAnnounced w.shape (recovered w r).memory.kept w.told (recovered w r).log client x
+told_announced w v r e told q client x at =
+    let all : (length told ≡ 16) × ((t : ℕ) (x : Told) → slice_get told t ≡ Some x → TellsOf w.shape (recovered w r).memory.kept t x) = told_is w v r e told q in
+    told_by_rule (recovered w r) (inv_recovered w v r e) client x (subst (λ n. client.0 < n) all.0 (slice_get_within told client.0 x at)) (all.1 client.0 x at)

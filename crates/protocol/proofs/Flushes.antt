@@ -19,7 +19,8 @@ use Rattle.arena.specs.declared.place.Place.TheVariants.{Head, Tail, Announcemen
 use Rattle.helping.specs.Table.{token_of}
 use Rattle.protocol.specs.Machine.{Memory, put, flushed}
 use Rattle.protocol.specs.Kept.{IsAnnounced, IsIssued}
-use Rattle.protocol.proofs.Chains.{upd, upd_at, upd_other, upd_cases, linked_by, in_left, in_right, leads_from, leads_in, map_agree}
+use Rattle.arena.proofs.Chains.{in_left, in_right}
+use Rattle.protocol.proofs.Chains.{upd, upd_at, upd_other, upd_cases, linked_by, leads_from, leads_in, map_agree}
 use Rattle.protocol.proofs.State.{Stage, Ledger, held, Says, empties, Blank, Absent, AllFit, IsLinking, IsClaiming, IsAnswering, Empties, Base}
 use Rattle.protocol.proofs.State.Stage.{Unmoved, Seen, Took}
 use Rattle.protocol.proofs.Puts.{IsEmptyWord, put_same, put_other, put_id, put_blank, more_blank, put_absent, put_fits, put_empties}
@@ -403,7 +404,7 @@ module _ (s : Shape) (m : Memory) (l : Ledger) (claimed waiting : List ℕ) (b :
       go Durable e false t = plain_kept (Cell c) (cell_quiet_base c e (eqb-false (m.cached (Cell c)) 1 t))
       go Log e t q =
           let wrong : s.kind ≡ Durable → ⊥ = λ r. cc in
-          absurd (apart (b.absent_kept (Cell c) wrong ∙ sym (b.absent (Cell c) wrong)))
+          absurd (apart (b.absent_kept (Cell c) (λ h. wrong h.0) ∙ sym (b.absent (Cell c) (λ h. wrong h.0))))
 
   status_quiet_base : (c : Token) → s.kind ≡ Log → m.cached (Status c) ≢ 2 → Base s (flushed m (Status c)) l claimed waiting
   status_quiet_base c kind quiet =
@@ -456,7 +457,7 @@ module _ (s : Shape) (m : Memory) (l : Ledger) (claimed waiting : List ℕ) (b :
       go Log e false t = plain_kept (Status c) (status_quiet_base c e (eqb-false (m.cached (Status c)) 2 t))
       go Durable e t q =
           let wrong : s.kind ≡ Log → ⊥ = λ r. cc in
-          absurd (apart (b.absent_kept (Status c) wrong ∙ sym (b.absent (Status c) wrong)))
+          absurd (apart (b.absent_kept (Status c) (λ h. wrong h.0) ∙ sym (b.absent (Status c) (λ h. wrong h.0))))
 
   -- a kept word with a new value
   new_kept : (p : Place) → m.kept p ≢ m.cached p → Kept s m l (flushed m p) (noticed_ledger s m l p (m.cached p))

@@ -10,7 +10,8 @@ use Rattle.arena.specs.Words.{links, marks, values}
 use Rattle.arena.specs.declared.place.Place.{Place}
 use Rattle.arena.specs.declared.place.Place.TheVariants.{Head, Tail, Value, Next, Mark, Cell, Status}
 use Rattle.protocol.specs.Machine.{Memory, flushed}
-use Rattle.protocol.proofs.Chains.{upd, upd_at, upd_other, upd_cases, leads_grows, in_left}
+use Rattle.arena.proofs.Chains.{in_left}
+use Rattle.protocol.proofs.Chains.{upd, upd_at, upd_other, upd_cases, leads_grows}
 use Rattle.protocol.proofs.Links.{kept_apart, Links, Marks, keep_new_link, no_link_ahead, keep_new_mark, more_waiting, claimed_split}
 use Rattle.protocol.proofs.State.{Stage, Ledger, held, asked, SaysEmpty, empties, IsLinking, IsClaiming, IsAnswering, Empties, Loose, Base, Grows}
 use Rattle.protocol.proofs.State.Stage.{Unmoved, Seen, Took}

@@ -13,9 +13,13 @@ pub mod Moments
 pub mod Rebegun
 pub mod Acts
 pub mod Facts
+pub mod BootedWords
+pub mod ToldOnce
+pub mod Booted
 pub mod Runs
 pub mod RunsEnd
 pub mod RunsAlone
+pub mod RunsBooted
 pub mod Bound
 pub mod Records
 pub mod RecordStores
@@ -28,3 +32,10 @@ pub mod RecoveryEnds
 pub mod RecoveryBound
 pub mod RecoveryTelling
 pub mod RecoveringWorlds
+pub mod ToldByWords
+pub mod StillTold
+pub mod RunsTold
+pub mod RunsLeft
+pub mod SoundForRecovery
+pub mod Nowhere
+pub mod Issuing

@@ -2,7 +2,8 @@
 use Rattle.std.proofs.Common.{◌≡◌, ◌≢◌, ℕ, inl, inr, List, [], ◌∷◌, ◌++◌, drop, refl, sym, ◌∙◌, ap, subst, arith, append_assoc}
 use Rattle.std.proofs.lemmas.Bool.{cases_eq}
 use Rattle.arena.specs.Chain.{IsChain, IsAmong, IsFirst}
-use Rattle.protocol.proofs.Chains.{upd, upd_same, upd_other, upd_cases, one_end, linked_by, grown, chain_like, in_left, in_parts, in_end, in_end_cases, in_chain, next_in, has_next}
+use Rattle.arena.proofs.Chains.{in_left, in_end, in_end_cases}
+use Rattle.protocol.proofs.Chains.{upd, upd_same, upd_other, upd_cases, one_end, linked_by, grown, chain_like, in_parts, in_chain, next_in, has_next}
 
 -- The kept links are the chain of the order. A cached link is the kept one, or the only one that is ahead of it.
 pub record Links (c k : ℕ → ℕ) (order : List ℕ) : Type 0 where

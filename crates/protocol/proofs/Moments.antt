@@ -281,7 +281,7 @@ module _ (w : World) (v : Working w) where
       go Log e t q =
           let b : Base w.shape w.memory (ledger_of w) v.claimed v.waiting = v.base in
           let wrong : w.shape.kind ≡ Durable → ⊥ = λ r. cc in
-          absurd (apart (b.absent_kept (Cell c) wrong ∙ sym (b.absent (Cell c) wrong)))
+          absurd (apart (b.absent_kept (Cell c) (λ h. wrong h.0) ∙ sym (b.absent (Cell c) (λ h. wrong h.0))))
 
   status_noted : (c : Token) → w.memory.kept (Status c) ≢ w.memory.cached (Status c) → Noted w (noticed w (Status c) (w.memory.cached (Status c))) (noticed_ledger w.shape w.memory (ledger_of w) (Status c) (w.memory.cached (Status c)))
   status_noted c apart = go w.shape.kind refl (w.memory.cached (Status c) == 2) refl
@@ -295,7 +295,7 @@ module _ (w : World) (v : Working w) where
       go Durable e t q =
           let b : Base w.shape w.memory (ledger_of w) v.claimed v.waiting = v.base in
           let wrong : w.shape.kind ≡ Log → ⊥ = λ r. cc in
-          absurd (apart (b.absent_kept (Status c) wrong ∙ sym (b.absent (Status c) wrong)))
+          absurd (apart (b.absent_kept (Status c) (λ h. wrong h.0) ∙ sym (b.absent (Status c) (λ h. wrong h.0))))
 
   new_noted : (p : Place) → w.memory.kept p ≢ w.memory.cached p → Noted w (noticed w p (w.memory.cached p)) (noticed_ledger w.shape w.memory (ledger_of w) p (w.memory.cached p))
   new_noted (Next n) apart = link_noted n.0 apart

@@ -70,7 +70,7 @@ planned_from s b Durable (Enq v) zero w c g e =
 planned_from s b Durable (Enq v) (suc zero) w c g e =
     let same : write (Value (record { 0 = b.token.0 })) v ≡ w = cc in
     let is : IsPlanned s Durable (Enq v) b (suc zero) (write (Value (record { 0 = b.token.0 })) v) =
-    record { value = sym (ap given c); value_kind = λ x q. absurd (cc); speaks = λ r. r; of_kind = tt; fits = g.value v c; numbered = λ r. (refl, omega arith); bump = λ t q. absurd (cc); after_kind = λ x q. absurd (cc); announces = λ t q. absurd (cc) } in
+    record { value = sym (ap given c); value_kind = λ x q. absurd (cc); speaks = λ r. r; of_kind = λ z. absurd (omega (arith, g.is_record.0, z)); fits = g.value v c; numbered = λ r. (refl, omega arith); bump = λ t q. absurd (cc); after_kind = λ x q. absurd (cc); announces = λ t q. absurd (cc) } in
     subst (IsPlanned s Durable (Enq v) b (suc zero)) same is
 planned_from s b Durable (Enq v) (suc (suc j)) w c g e = absurd (cc)
 planned_from s b Durable Deq zero w c g e =
@@ -92,27 +92,27 @@ planned_from s b Log (Enq v) zero w c g e =
 planned_from s b Log (Enq v) (suc zero) w c g e =
     let same : write (Number b.token) b.number ≡ w = cc in
     let is : IsPlanned s Log (Enq v) b (suc zero) (write (Number b.token) b.number) =
-    record { value = refl; value_kind = λ x q. absurd (cc); speaks = λ r. r; of_kind = refl; fits = g.number; numbered = λ r. (refl, omega arith); bump = λ t q. absurd (cc); after_kind = λ x q. absurd (cc); announces = λ t q. absurd (cc) } in
+    record { value = refl; value_kind = λ x q. absurd (cc); speaks = λ r. r; of_kind = (refl, λ z. absurd (omega (arith, g.is_record.0, z))); fits = g.number; numbered = λ r. (refl, omega arith); bump = λ t q. absurd (cc); after_kind = λ x q. absurd (cc); announces = λ t q. absurd (cc) } in
     subst (IsPlanned s Log (Enq v) b (suc zero)) same is
 planned_from s b Log (Enq v) (suc (suc zero)) w c g e =
     let same : write (EntryKind b.token) 1 ≡ w = cc in
     let is : IsPlanned s Log (Enq v) b (suc (suc zero)) (write (EntryKind b.token) 1) =
-    record { value = sym (ap kind_number c); value_kind = λ x q. refl; speaks = λ r. r; of_kind = refl; fits = omega arith; numbered = λ r. (refl, omega arith); bump = λ t q. absurd (cc); after_kind = λ x q. absurd (cc); announces = λ t q. absurd (cc) } in
+    record { value = sym (ap kind_number c); value_kind = λ x q. refl; speaks = λ r. r; of_kind = (refl, λ z. absurd (omega (arith, g.is_record.0, z))); fits = omega arith; numbered = λ r. (refl, omega arith); bump = λ t q. absurd (cc); after_kind = λ x q. absurd (cc); announces = λ t q. absurd (cc) } in
     subst (IsPlanned s Log (Enq v) b (suc (suc zero))) same is
 planned_from s b Log (Enq v) (suc (suc (suc zero))) w c g e =
     let same : write (EntryNode b.token) b.token.0 ≡ w = cc in
     let is : IsPlanned s Log (Enq v) b (suc (suc (suc zero))) (write (EntryNode b.token) b.token.0) =
-    record { value = refl; value_kind = λ x q. absurd (cc); speaks = λ r. r; of_kind = refl; fits = g.is_record.1; numbered = λ r. (refl, omega arith); bump = λ t q. absurd (cc); after_kind = λ x q. (omega arith, refl); announces = λ t q. absurd (cc) } in
+    record { value = refl; value_kind = λ x q. absurd (cc); speaks = λ r. r; of_kind = (refl, λ z. absurd (omega (arith, g.is_record.0, z))); fits = g.is_record.1; numbered = λ r. (refl, omega arith); bump = λ t q. absurd (cc); after_kind = λ x q. (omega arith, refl); announces = λ t q. absurd (cc) } in
     subst (IsPlanned s Log (Enq v) b (suc (suc (suc zero)))) same is
 planned_from s b Log (Enq v) (suc (suc (suc (suc zero)))) w c g e =
     let same : write (Value (record { 0 = b.token.0 })) v ≡ w = cc in
     let is : IsPlanned s Log (Enq v) b (suc (suc (suc (suc zero)))) (write (Value (record { 0 = b.token.0 })) v) =
-    record { value = sym (ap given c); value_kind = λ x q. absurd (cc); speaks = λ r. r; of_kind = tt; fits = g.value v c; numbered = λ r. (refl, omega arith); bump = λ t q. absurd (cc); after_kind = λ x q. absurd (cc); announces = λ t q. absurd (cc) } in
+    record { value = sym (ap given c); value_kind = λ x q. absurd (cc); speaks = λ r. r; of_kind = λ z. absurd (omega (arith, g.is_record.0, z)); fits = g.value v c; numbered = λ r. (refl, omega arith); bump = λ t q. absurd (cc); after_kind = λ x q. absurd (cc); announces = λ t q. absurd (cc) } in
     subst (IsPlanned s Log (Enq v) b (suc (suc (suc (suc zero))))) same is
 planned_from s b Log (Enq v) (suc (suc (suc (suc (suc zero))))) w c g e =
     let same : write (Insert (record { 0 = b.token.0 })) b.token.0 ≡ w = cc in
     let is : IsPlanned s Log (Enq v) b (suc (suc (suc (suc (suc zero))))) (write (Insert (record { 0 = b.token.0 })) b.token.0) =
-    record { value = refl; value_kind = λ x q. absurd (cc); speaks = λ r. r; of_kind = refl; fits = g.is_record.1; numbered = λ r. (refl, omega arith); bump = λ t q. absurd (cc); after_kind = λ x q. absurd (cc); announces = λ t q. absurd (cc) } in
+    record { value = refl; value_kind = λ x q. absurd (cc); speaks = λ r. r; of_kind = (refl, λ z. absurd (omega (arith, g.is_record.0, z))); fits = g.is_record.1; numbered = λ r. (refl, omega arith); bump = λ t q. absurd (cc); after_kind = λ x q. absurd (cc); announces = λ t q. absurd (cc) } in
     subst (IsPlanned s Log (Enq v) b (suc (suc (suc (suc (suc zero)))))) same is
 planned_from s b Log (Enq v) (suc (suc (suc (suc (suc (suc zero)))))) w c g e =
     let same : announcement b ≡ w = cc in
@@ -128,12 +128,12 @@ planned_from s b Log Deq zero w c g e =
 planned_from s b Log Deq (suc zero) w c g e =
     let same : write (Number b.token) b.number ≡ w = cc in
     let is : IsPlanned s Log Deq b (suc zero) (write (Number b.token) b.number) =
-    record { value = refl; value_kind = λ x q. absurd (cc); speaks = λ r. r; of_kind = refl; fits = g.number; numbered = λ r. (refl, omega arith); bump = λ t q. absurd (cc); after_kind = λ x q. absurd (cc); announces = λ t q. absurd (cc) } in
+    record { value = refl; value_kind = λ x q. absurd (cc); speaks = λ r. r; of_kind = (refl, λ z. absurd (omega (arith, g.is_record.0, z))); fits = g.number; numbered = λ r. (refl, omega arith); bump = λ t q. absurd (cc); after_kind = λ x q. absurd (cc); announces = λ t q. absurd (cc) } in
     subst (IsPlanned s Log Deq b (suc zero)) same is
 planned_from s b Log Deq (suc (suc zero)) w c g e =
     let same : write (EntryKind b.token) 2 ≡ w = cc in
     let is : IsPlanned s Log Deq b (suc (suc zero)) (write (EntryKind b.token) 2) =
-    record { value = sym (ap kind_number c); value_kind = λ x q. refl; speaks = λ r. r; of_kind = refl; fits = omega arith; numbered = λ r. (refl, omega arith); bump = λ t q. absurd (cc); after_kind = λ x q. absurd (cc); announces = λ t q. absurd (cc) } in
+    record { value = sym (ap kind_number c); value_kind = λ x q. refl; speaks = λ r. r; of_kind = (refl, λ z. absurd (omega (arith, g.is_record.0, z))); fits = omega arith; numbered = λ r. (refl, omega arith); bump = λ t q. absurd (cc); after_kind = λ x q. absurd (cc); announces = λ t q. absurd (cc) } in
     subst (IsPlanned s Log Deq b (suc (suc zero))) same is
 planned_from s b Log Deq (suc (suc (suc zero))) w c g e =
     let same : announcement b ≡ w = cc in

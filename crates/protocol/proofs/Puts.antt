@@ -7,7 +7,7 @@ use Rattle.words.specs.declared.call.Kind.TheVariants.{Durable, Log}
 use Rattle.words.specs.declared.call.Token.{Token}
 use Rattle.arena.specs.Answers.{empty_answer_of}
 use Rattle.arena.specs.Place.{is_same, is_same-true, is_same-from, number_of}
-use Rattle.arena.specs.Ranges.{Fits}
+use Rattle.arena.specs.Ranges.{Fits, IsReadByCalls}
 use Rattle.arena.specs.Shape.{Shape}
 use Rattle.arena.specs.declared.place.Place.{Place}
 use Rattle.arena.specs.declared.place.Place.TheVariants.{Cell, Status}
@@ -52,8 +52,8 @@ more_blank s g h f more b p of some none = b p of some (λ i. none (more (number
 pub put_absent : (s : Shape) (f : Place → ℕ) (p : Place) (v : ℕ) → ((IsOfKind s.kind p → ⊥) → v ≡ 0) → Absent s f → Absent s (put f p v)
 put_absent s f p v now b = put_all (λ q x. (IsOfKind s.kind q → ⊥) → x ≡ 0) f p v b now
 
-pub put_fits : (s : Shape) (f : Place → ℕ) (p : Place) (v : ℕ) → Fits s p v → AllFit s f → AllFit s (put f p v)
-put_fits s f p v now b = put_all (Fits s) f p v b now
+pub put_fits : (s : Shape) (f : Place → ℕ) (p : Place) (v : ℕ) → (IsReadByCalls p → Fits s p v) → AllFit s f → AllFit s (put f p v)
+put_fits s f p v now b = put_all (λ q x. IsReadByCalls q → Fits s q x) f p v b now
 
 -- a word that may say that a dequeue found nothing
 abbrev pub IsEmptyWord : Place → Type 0

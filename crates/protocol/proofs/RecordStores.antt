@@ -17,7 +17,7 @@ use Rattle.arena.specs.Words.{links, marks, values, entry_kinds, entry_nodes, st
 use Rattle.arena.specs.declared.place.Write.{Write}
 use Rattle.arena.specs.declared.place.Place.{Place}
 use Rattle.arena.specs.declared.place.Place.TheVariants.{Head, Tail, Announcement, Next, Mark, Cell, Insert, Number, EntryKind, Status, EntryNode}
-use Rattle.stepper.specs.Preparation.{preparation_of, preparation_from, announcement, write}
+use Rattle.stepper.specs.Preparation.{preparation_of, preparation_from, announcement, write, IsBegun}
 use Rattle.stepper.specs.declared.prepare.Begun.{Begun}
 use Rattle.helping.specs.Claims.{winner}
 use Rattle.helping.specs.Table.{token_of, node_of, access_of}
@@ -58,6 +58,8 @@ pub record Harmless (s : Shape) (m : Memory) (p : Place) (v : ℕ) : Type 0 wher
 pub entry_stored : (m : Memory) (p : Place) (v e : ℕ) → (Number (token_of e) ≢ p) → (EntryKind (token_of e) ≢ p) → (EntryNode (token_of e) ≡ p → Both m (EntryKind (token_of e)) 1 → e ≡ v) → IsEntry m e → IsEntry (stored m p v) e
 entry_stored m p v e number kind node h = record {
   number = h.number;
+  some = h.some;
+  in_range = h.in_range;
   numbered = both_stored m p v (Number (token_of e)) h.number (λ q. absurd (number q)) h.numbered;
   kind = elim h.kind [
     | inl q ↦ inl (both_stored m p v (EntryKind (token_of e)) 1 (λ x. absurd (kind x)) q.0, both_stored m p v (EntryNode (token_of e)) e (λ x. node x q.0) q.1)
@@ -195,8 +197,8 @@ acting_announced s m l i c h told =
     go Log Deq k c told = h.prepared.written 3 (announcement (l.begun i)) (at Log Deq k c 3)
 
 -- the words of a prepared log record
-pub prepared_entry : (s : Shape) (m : Memory) (b : Begun) → s.kind ≡ Log → ((j : ℕ) (w : Write) → j < 4 → slice_get (preparation_of s.kind b) j ≡ Some w → (b.call ≡ Deq → j < 3) → Both m w.place w.value) → IsEntry m b.token.0
-prepared_entry s m b k h = go b.call refl
+pub prepared_entry : (s : Shape) (m : Memory) (b : Begun) → IsBegun s b → 1 ≤ b.number → s.kind ≡ Log → ((j : ℕ) (w : Write) → j < 4 → slice_get (preparation_of s.kind b) j ≡ Some w → (b.call ≡ Deq → j < 3) → Both m w.place w.value) → IsEntry m b.token.0
+prepared_entry s m b begun some k h = go b.call refl
   where
     at : (call : Call) → b.call ≡ call → (j : ℕ) → slice_get (preparation_of s.kind b) j ≡ slice_get (preparation_from Log call b) j
     at call c j = ap (λ x. slice_get (preparation_from x b.call b) j) k ∙ ap (λ x. slice_get (preparation_from Log x b) j) c
@@ -204,6 +206,8 @@ prepared_entry s m b k h = go b.call refl
     go : (call : Call) → b.call ≡ call → IsEntry m b.token.0
     go (Enq v) c = record {
       number = b.number;
+      some = some;
+      in_range = begun.number;
       numbered = h 1 (write (Number b.token) b.number) (omega arith) (at (Enq v) c 1) (λ q. omega arith);
       kind = inl (
         h 2 (write (EntryKind b.token) 1) (omega arith) (at (Enq v) c 2) (λ q. omega arith),
@@ -212,6 +216,8 @@ prepared_entry s m b k h = go b.call refl
     }
     go Deq c = record {
       number = b.number;
+      some = some;
+      in_range = begun.number;
       numbered = h 1 (write (Number b.token) b.number) (omega arith) (at Deq c 1) (λ q. omega arith);
       kind = inr (h 2 (write (EntryKind b.token) 2) (omega arith) (at Deq c 2) (λ q. omega arith));
     }
@@ -257,7 +263,7 @@ module _ (s : Shape) (m : Memory) (l : Ledger) (claimed waiting : List ℕ) (b :
       dequeues = λ k x some e. absurd (h.before.loose.mark x (named (EntryKind (token_of (marks m.cached x))) e tt));
       empties = λ c two e.
           let is : c ≡ bg.token.0 = named (EntryKind (token_of c)) e tt in
-          let log : s.kind ≡ Log = subst (IsOfKind s.kind) (sym e) plan.of_kind in
+          let log : s.kind ≡ Log = (subst (IsOfKind s.kind) (sym e) plan.of_kind).0 in
           let says : SaysEmpty s m.cached c = elim two [
             | inl q ↦ (status_says s m.cached (token_of c) log).1 q
             | inr q ↦ b.empty.said c ((status_says s m.kept (token_of c) log).1 q)
@@ -288,7 +294,7 @@ module _ (s : Shape) (m : Memory) (l : Ledger) (claimed waiting : List ℕ) (b :
       status = λ c e. absurd (plan.speaks (subst IsEmptyWord e tt));
       announces = λ k t e some.
           let last : IsLastWrite s.kind bg.call bg index w t = plan.announces t (sym e) in
-          let entry : IsEntry (stored m w.place w.value) bg.token.0 = prepared_entry s (stored m w.place w.value) bg k (λ j x lt at deq.
+          let entry : IsEntry (stored m w.place w.value) bg.token.0 = prepared_entry s (stored m w.place w.value) bg h.so_far.begun (h.so_far.numbered k) k (λ j x lt at deq.
           let le : j ≤ index = last.last j x at in
           both_stored m w.place w.value x.place x.value (λ q. one_plan s bg index j w x h.so_far.begun h.in_hand at q)
           (h.so_far.written j x (before_last j x lt at deq t last k) at)) in

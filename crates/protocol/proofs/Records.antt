@@ -1,5 +1,5 @@
 -- The words of records: answers, entries and announcements.
-use Rattle.std.proofs.Common.{◌≡◌, ◌≢◌, ℕ, suc, ◌+◌, ◌⊎◌, inl, inr, List, [], ◌∷◌, ◌++◌, drop, Bool, true, false, if◌then◌else◌, ◌==◌, refl, sym, ◌∙◌, ap, subst, arith}
+use Rattle.std.proofs.Common.{◌≡◌, ◌≢◌, ℕ, suc, ◌+◌, ◌≤◌, ◌⊎◌, inl, inr, List, [], ◌∷◌, ◌++◌, drop, Bool, true, false, if◌then◌else◌, ◌==◌, refl, sym, ◌∙◌, ap, subst, arith}
 use Rattle.std.proofs.lemmas.Bool.{eqb-true, eqb-false}
 use Rattle.words.specs.declared.call.Call.TheVariants.{Enq, Deq}
 use Rattle.words.specs.declared.call.Kind.{Kind}
@@ -17,7 +17,9 @@ use Rattle.stepper.specs.declared.prepare.Begun.{Begun}
 use Rattle.helping.specs.Table.{token_of, node_of}
 use Rattle.history.specs.Telling.{IsToldOf}
 use Rattle.protocol.specs.Machine.{Memory, put, stored, flushed}
-use Rattle.protocol.proofs.Chains.{upd_same, upd_cases, linked_by, in_left, end_of, in_end_cases}
+use Rattle.protocol.specs.Recovered.{end_of}
+use Rattle.arena.proofs.Chains.{in_left, in_end_cases}
+use Rattle.protocol.proofs.Chains.{upd_same, upd_cases, linked_by}
 use Rattle.protocol.proofs.Links.{kept_apart}
 use Rattle.protocol.proofs.State.{Stage, Ledger, held, asked, SaysEmpty, IsLinking, IsClaiming, IsAnswering, Base, Grows}
 use Rattle.protocol.proofs.State.Stage.{Unmoved, Seen, Took}
@@ -68,9 +70,11 @@ pub record StatusRight (m : Memory) (c v : ℕ) : Type 0 where
   pub taken : v ≡ 1 → record { at : ℕ; linked : links m.kept at ≡ c; some : c ≢ 0 }
   pub empty : v ≡ 2 → Both m (EntryKind (token_of c)) 2
 
--- an announced entry has its number, and its kind and, of an enqueue, its node
+-- an announced entry has its number, which is in range, and its kind and, of an enqueue, its node
 pub record IsEntry (m : Memory) (e : ℕ) : Type 0 where
   pub number : ℕ
+  pub some : 1 ≤ number
+  pub in_range : number ≤ 1099511627776
   pub numbered : Both m (Number (token_of e)) number
   pub kind : (Both m (EntryKind (token_of e)) 1 × Both m (EntryNode (token_of e)) e) ⊎ Both m (EntryKind (token_of e)) 2
 
@@ -156,6 +160,8 @@ answered_next s m first next r link some marked answered = record {
 pub entry_flushed : (m : Memory) (p : Place) (e : ℕ) → IsEntry m e → IsEntry (flushed m p) e
 entry_flushed m p e h = record {
   number = h.number;
+  some = h.some;
+  in_range = h.in_range;
   numbered = both_flushed m p (Number (token_of e)) h.number h.numbered;
   kind = elim h.kind [
     | inl q ↦ inl (both_flushed m p (EntryKind (token_of e)) 1 q.0, both_flushed m p (EntryNode (token_of e)) e q.1)
@@ -274,7 +280,7 @@ module _ (s : Shape) (m : Memory) (l : Ledger) (claimed waiting : List ℕ) (b :
       go Durable e false t = took_same s m l claimed waiting b r (Cell c)
       go Log e t q =
           let wrong : s.kind ≡ Durable → ⊥ = λ x. cc in
-          absurd (apart (b.absent_kept (Cell c) wrong ∙ sym (b.absent (Cell c) wrong)))
+          absurd (apart (b.absent_kept (Cell c) (λ h. wrong h.0) ∙ sym (b.absent (Cell c) (λ h. wrong h.0))))
   took_noticed (Status c) apart = go s.kind refl (m.cached (Status c) == 2) refl
     where
       go : (kind : Kind) → s.kind ≡ kind → (t : Bool) → (m.cached (Status c) == 2) ≡ t → (i : ℕ) (reply : Reply) → (if t then restaged l (owner s c.0) (counted (l.stage (owner s c.0))) l.queue else l).stage i ≡ Took reply
@@ -285,7 +291,7 @@ module _ (s : Shape) (m : Memory) (l : Ledger) (claimed waiting : List ℕ) (b :
       go Log e false t = took_same s m l claimed waiting b r (Status c)
       go Durable e t q =
           let wrong : s.kind ≡ Log → ⊥ = λ x. cc in
-          absurd (apart (b.absent_kept (Status c) wrong ∙ sym (b.absent (Status c) wrong)))
+          absurd (apart (b.absent_kept (Status c) (λ h. wrong h.0) ∙ sym (b.absent (Status c) (λ h. wrong h.0))))
 
   took_kept : (p : Place) → (i : ℕ) (reply : Reply) → (kept_ledger s m l p).stage i ≡ Took reply → TookBy s (flushed m p).kept ((kept_ledger s m l p).begun i) reply
   took_kept p = go (m.kept p == m.cached p) refl

@@ -24,7 +24,8 @@ use Rattle.recover.specs.declared.recovery.Recovery.{Recovery}
 use Rattle.recover.specs.declared.recovery.Recovery.TheVariants.{RecoveryLoadHead, RecoveryLoadNext, RecoveryLoadInsert, RecoveryStoreStatus, RecoveryFlushStatus, RecoveryLoadMark, RecoveryLoadValue, RecoveryStoreResult, RecoveryFlushResult, RecoveryStoreHead, RecoveryFlushHead, RecoveryStoreTail, RecoveryFlushTail, RecoveryLoadAnnouncement, RecoveryLoadCell, RecoveryLoadNumber, RecoveryLoadKind, RecoveryLoadStatus, RecoveryLoadRemove, RecoveryLoadEntryNode, RecoveryLoadRemovedValue}
 use Rattle.protocol.specs.Machine.{Memory, put, stored}
 use Rattle.protocol.specs.Kept.{IsIssued, OutcomeBy, RowBy, TellsBy, TellsOf}
-use Rattle.protocol.proofs.Chains.{end_of, chain_like, leads_grows, map_agree, linked_by}
+use Rattle.protocol.specs.Recovered.{end_of}
+use Rattle.protocol.proofs.Chains.{chain_like, leads_grows, map_agree, linked_by}
 use Rattle.protocol.proofs.State.{IsAnswer, IsOfRecord, IsOfKind, SaysEmpty}
 use Rattle.protocol.proofs.State.Stage.{Unmoved, Took}
 use Rattle.protocol.proofs.Flushes.{cell_says, status_says}
@@ -77,6 +78,8 @@ module _ (s : Shape) (k : Place → ℕ) (p : Place) (v : ℕ) (h : MayKeep s k 
   put_entry : (e : ℕ) → IsEntry (stored (still k) p v) e → IsEntry (still k) e → IsEntry (still (put k p v)) e
   put_entry e n o = record {
     number = n.number;
+    some = n.some;
+    in_range = n.in_range;
     numbered = (n.numbered.0, n.numbered.0);
     kind = elim n.kind [ inl q ↦ inl ((q.0.0, q.0.0), (q.1.0, q.1.0)) | inr q ↦ inr (q.0, q.0) ];
   }
@@ -166,7 +169,7 @@ module _ (s : Shape) (k : Place → ℕ) (p : Place) (v : ℕ) (h : MayKeep s k 
             subst (λ e. (owner s e ≡ t) × IsIssued s (put k p v) e) (sym (h.announcement t)) (q.0, more (announcements k t) q.1);
         blank = put_blank s (put k p v) k p v (λ of some none. absurd (none (more (number_of p) (h.issued of some)))) (λ q of some none. b.blank q of some (λ i. none (more (number_of q) i)));
         absent = put_absent s k p v (λ none. absurd (none h.of_kind)) b.absent;
-        fits = put_fits s k p v h.fits b.fits;
+        fits = put_fits s k p v (λ read. h.fits) b.fits;
         records = λ q. put_records q (b.records q);
       }
 
@@ -377,7 +380,7 @@ module _ (s : Shape) (k : Place → ℕ) (claimed waiting queue : List ℕ) (b :
     kind = λ x. refl;
     number = λ x. refl;
     issued = λ of ne. subst (IsIssued s k) link (b.issued_link cur (λ z. some (sym link ∙ z)));
-    of_kind = log;
+    of_kind = (log, some);
     fits = omega arith;
     harmless = record {
       answers = λ x m e. absurd (subst IsAnswer e (result_answer s.kind (token_of (marks k x)) (node_of x) (values k x)));
@@ -445,4 +448,4 @@ module _ (s : Shape) (k : Place → ℕ) (claimed waiting queue : List ℕ) (b :
   node_fits x (inl z) = omega (arith, z)
   node_fits x (inr i) =
       let q : (q : ℕ) × (links k q ≡ x) × (x ≢ 0) = linked_by (links k) 0 (claimed ++ waiting) b.chain x i in
-      subst (λ y. y ≤ greatest s) q.1 (b.fits (Next (node_of q.0)))
+      subst (λ y. y ≤ greatest s) q.1 (b.fits (Next (node_of q.0)) tt)

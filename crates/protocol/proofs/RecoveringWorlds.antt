@@ -1,6 +1,7 @@
 -- A world that recovers: crashes, evictions and recovery's steps.
 use Rattle.std.proofs.Common.{◌≡◌, ◌≢◌, ℕ, ◌+◌, ◌≤◌, ◌<◌, ◌⊎◌, inl, inr, List, [], ◌∷◌, ◌++◌, length, Bool, true, false, if◌then◌else◌, ◌==◌, Option, Some, None, refl, sym, ◌∙◌, ap, subst, arith}
 use Rattle.std.specs.Prelude.{slice_get, IfSome}
+use Rattle.std.proofs.lemmas.Bool.{cases_eq}
 use Rattle.std.proofs.lemmas.List.{length_push}
 use Rattle.std.proofs.lemmas.Option.{slice_get_within}
 use mathlib.Core.Path.{fun_ext}
@@ -9,15 +10,19 @@ use Rattle.words.specs.declared.call.Client.{Client}
 use Rattle.words.specs.declared.told.Told.{Told}
 use Rattle.arena.specs.Place.{IsNode, IsRecord}
 use Rattle.arena.specs.Chain.{IsAmong}
+use Rattle.arena.specs.Ranges.{Fits, IsReadByCalls}
 use Rattle.arena.specs.Shape.{Shape, owner, greatest}
-use Rattle.arena.specs.Words.{links, values, numbers, inserts}
+use Rattle.arena.specs.Words.{links, marks, values, numbers, inserts, announcements, entry_kinds, entry_nodes}
 use Rattle.arena.specs.declared.place.Place.{Place}
 use Rattle.arena.specs.declared.place.Place.TheVariants.{Head, Tail, Announcement, Bump, Value, Next, Mark, Cell, Insert, Number, EntryKind, Status, EntryNode}
 use Rattle.stepper.specs.Step.{place_of, kept_by}
 use Rattle.stepper.specs.declared.prepare.Begun.{Begun}
-use Rattle.helping.specs.Table.{token_of, node_of}
+use Rattle.helping.specs.Table.{node_of}
 use Rattle.arena.specs.Answers.{result_of}
 use Rattle.words.specs.declared.call.NodeId.{NodeId}
+use Rattle.words.specs.declared.call.Kind.{Kind}
+use Rattle.words.specs.declared.call.Kind.TheVariants.{Durable, Log}
+use Rattle.words.specs.declared.call.Token.{Token}
 use Rattle.recover.specs.Table.{access_of, successor, boot_point, taken_as, IsPoint}
 use Rattle.words.specs.declared.call.Reply.TheVariants.{Done, Got}
 use Rattle.words.specs.declared.told.Outcome.TheVariants.{Taken}
@@ -40,19 +45,22 @@ use Rattle.history.proofs.LogQueue.{queue_with_events, queue_settled_ones, part_
 use Rattle.history.proofs.Members.{part_same}
 use Rattle.protocol.specs.Machine.{Memory, World, flushed, accessed, took, counts, noticed, after_keeping, after_flush, evicted, crashed, recovered, recovered_next, recovery_left, events_recovered}
 use Rattle.protocol.specs.Kept.{TellsOf}
-use Rattle.protocol.proofs.Chains.{end_of, in_end_of, in_left}
-use Rattle.protocol.proofs.State.{Stage, Ledger, Base}
+use Rattle.protocol.specs.Recovered.{end_of}
+use Rattle.arena.proofs.Chains.{in_left}
+use Rattle.protocol.proofs.Chains.{in_end_of}
+use Rattle.protocol.proofs.State.{Stage, Ledger, AllFit, Base}
 use Rattle.protocol.proofs.State.Stage.{Unmoved}
-use Rattle.protocol.proofs.Puts.{put_same}
-use Rattle.protocol.proofs.Records.{AnsweredTo, Records, path_linked}
+use Rattle.protocol.proofs.Puts.{put_same, put_cases}
+use Rattle.protocol.proofs.Records.{AnsweredTo, IsEntry, Records, path_linked}
 use Rattle.protocol.proofs.Moments.{nobody, record_of_call, stage_of, ledger_of, KnowsCall, Working}
-use Rattle.protocol.proofs.Tells.{IsTold, told_push}
+use Rattle.history.specs.Telling.{IsToldSome, IsToldBase}
+use Rattle.protocol.proofs.Tells.{IsTold, told_push, told_rightly}
 use Rattle.protocol.proofs.Rightly.{RightlyTold, KeptBy}
 use Rattle.protocol.proofs.ReadyWorlds.{IsReady, access_kept, none_at_end}
 use Rattle.protocol.proofs.Sound.{still, idle_ledger, Sound, crash_sound, wake_base}
-use Rattle.protocol.proofs.Recovering.{TakenTo, Position, Claim, Unclaimed, Announced, At, node_fits}
-use Rattle.protocol.proofs.RecoveryEnds.{answered_among, Recovers, Woken, RecoversNext, but_stored, keep_at, tells_kept, row_LoadNext, row_LoadMark, row_FlushStatus, row_FlushResult, row_FlushHead, row_FlushTail}
-use Rattle.protocol.proofs.RecoveryTelling.{tell, verdict_right, row_LoadAnnouncement, row_LoadCell, row_LoadStatus, row_LoadRemove, row_LoadEntryNode}
+use Rattle.protocol.proofs.Recovering.{Same, SameBut, TakenTo, Position, Claim, Unclaimed, Announced, At, node_fits}
+use Rattle.protocol.proofs.RecoveryEnds.{answered_among, result_fits, Recovers, Woken, RecoversNext, but_stored, keep_at, hand_may, tells_kept, row_LoadNext, row_LoadMark, row_FlushStatus, row_FlushResult, row_FlushHead, row_FlushTail}
+use Rattle.protocol.proofs.RecoveryTelling.{tell, verdict_right, dequeue_entry, row_LoadAnnouncement, row_LoadCell, row_LoadStatus, row_LoadRemove, row_LoadEntryNode}
 
 -- each step of recovery leads to what it knows next
 pub recovery_row : (s : Shape) (m : Memory) (claimed waiting queue : List ℕ) → Sound s m.kept claimed waiting queue → 0 < s.clients → (r : Recovery) → At s m claimed waiting r
@@ -68,7 +76,7 @@ recovery_row s m claimed waiting queue b some (RecoveryStoreStatus p) a =
     record { sound = b; at = (but_stored m (Status p.entry) 1 a.0, put_same m.cached (Status p.entry) 1, a.1, a.2, a.3) }
 recovery_row s m claimed waiting queue b some (RecoveryFlushStatus p) a = row_FlushStatus s m claimed waiting queue b p.cur p.node p.entry p.moved a
 recovery_row s m claimed waiting queue b some (RecoveryLoadMark p) a = row_LoadMark s m claimed waiting queue b p.cur p.node a.0 a.1 a.2
-recovery_row s m claimed waiting queue b some (RecoveryLoadValue p) a = record { sound = b; at = (a.0, a.1, λ d. a.0 (Value p.node), subst (λ x. x ≤ 4294967295) (sym (a.0 (Value p.node))) (b.fits (Value p.node))) }
+recovery_row s m claimed waiting queue b some (RecoveryLoadValue p) a = record { sound = b; at = (a.0, a.1, λ d. a.0 (Value p.node), subst (λ x. x ≤ 4294967295) (sym (a.0 (Value p.node))) (b.fits (Value p.node) tt)) }
 recovery_row s m claimed waiting queue b some (RecoveryStoreResult p) a =
     let place : Place = (result_of s.kind p.mark p.node p.value).place in
     record {
@@ -147,6 +155,16 @@ pub nobody_flushed : (w : World) → ((i : ℕ) → w.calls i ≡ None) → (o :
 nobody_flushed w none (Some p) = nobody_kept w none p
 nobody_flushed w none None = refl
 
+-- recovery changes no announcement
+announcement_stays : (w : World) (r : Recovery) → Recovering w r → (p : Place) (t : ℕ) → announcements (flushed w.memory p).kept t ≡ announcements w.memory.kept t
+announcement_stays w r v p t = elim (cases_eq (w.memory.kept p) (w.memory.cached p)) [
+  | inl e ↦ elim (put_cases w.memory.kept p (w.memory.cached p) (Announcement (record { 0 = t }))) [
+    | inl q ↦ q.1 ∙ sym e ∙ ap w.memory.kept (sym q.0)
+    | inr q ↦ q.1
+  ]
+  | inr ne ↦ (hand_may w.shape w.memory v.claimed v.waiting (queue_of w.log.events w.base w.log.effects) v.sound p ne r v.at).announcement t
+]
+
 -- the environment keeps a word during recovery
 pub evicted_recovering : (w : World) (r : Recovery) → Recovering w r → (p : Place) → Recovering (evicted w p) r
 evicted_recovering w r v p =
@@ -163,8 +181,9 @@ evicted_recovering w r v p =
       none = v.none;
       idle = v.idle;
       log = subst (λ e. IsLog w.shape.kind w.base w.told w.log.events e) same v.log;
-      tells = λ client told few h. subst (λ e. IsTold w.shape.kind w.told w.log.events (order_of e) client told) same
-          (v.tells client told few (tells_kept w.shape w.memory v.claimed v.waiting (queue_of w.log.events w.base w.log.effects) v.sound p r v.at client.0 told h));
+      tells = λ client told few h. subst (λ e. IsTold w.shape.kind w.told w.log.issued (announcements (flushed w.memory p).kept client.0) w.log.events (order_of e) client told) same
+          (subst (λ a. IsTold w.shape.kind w.told w.log.issued a w.log.events (order_of w.log.effects) client told) (sym (announcement_stays w r v p client.0))
+          (v.tells client told few (tells_kept w.shape w.memory v.claimed v.waiting (queue_of w.log.events w.base w.log.effects) v.sound p r v.at client.0 told h)));
     }
 
 pub evicted_recovering_part : (w : World) (r : Recovery) → Recovering w r → (p : Place) → IsPartOf (order_of w.log.effects) (order_of (evicted w p).log.effects)
@@ -205,8 +224,8 @@ crashed_recovering w claimed waiting sixteen clients sound log tells =
       idle = none_open w.log.events crash_event (λ client number call e. cc) (inl refl);
       log = log_crashed w.shape.kind w.base w.told w.log.events (settled_ones w.log.effects) settled (all_settled w.log.effects);
       tells = λ client told few h.
-          subst (λ order. IsTold w.shape.kind w.told (w.log.events ++ crash_event ∷ []) order client told) (sym (order_settled_ones w.log.effects))
-          (told_push w.shape.kind w.told w.log.events crash_event (order_of w.log.effects) client told (none_at_end w.shape.kind w.base w.told w.log.events w.log.effects log) (tells client told few h));
+          subst (λ order. IsTold w.shape.kind w.told w.log.issued (announcements w.memory.kept client.0) (w.log.events ++ crash_event ∷ []) order client told) (sym (order_settled_ones w.log.effects))
+          (told_push w.shape.kind w.told w.log.issued (announcements w.memory.kept client.0) w.log.events crash_event (order_of w.log.effects) client told (none_at_end w.shape.kind w.base w.told w.log.events w.log.effects log) (tells client told few h));
     }
 
 pub ready_crashed : (w : World) → IsReady w → Recovering (crashed w) boot_point
@@ -221,7 +240,12 @@ pub crashed_part : (w : World) → IsPartOf (order_of w.log.effects) (order_of (
 crashed_part w = part_settled_ones w.log.effects
 
 -- the words after an access, of which one is kept at most
-access_tells : (w : World) (r : Recovery) → Recovering w r → (n : Memory) → KeptBy w.memory n → (t : ℕ) (x : Told) → TellsOf w.shape n.kept t x → TellsOf w.shape w.memory.kept t x
+-- and no client's announcement is another one
+access_announces : (w : World) (r : Recovery) → Recovering w r → (n : Memory) → KeptBy w.memory n → (t : ℕ) → announcements n.kept t ≡ announcements w.memory.kept t
+access_announces w r v n (inl e) t = ap (λ (f : Place → ℕ). announcements f t) e
+access_announces w r v n (inr k) t = ap (λ (f : Place → ℕ). announcements f t) k.same ∙ announcement_stays w r v k.p t
+
+pub access_tells : (w : World) (r : Recovery) → Recovering w r → (n : Memory) → KeptBy w.memory n → (t : ℕ) (x : Told) → TellsOf w.shape n.kept t x → TellsOf w.shape w.memory.kept t x
 access_tells w r v n (inl e) t x h = subst (λ (f : Place → ℕ). TellsOf w.shape f t x) e h
 access_tells w r v n (inr k) t x h =
     tells_kept w.shape w.memory v.claimed v.waiting (queue_of w.log.events w.base w.log.effects) v.sound k.p r v.at t x (subst (λ (f : Place → ℕ). TellsOf w.shape f t x) k.same h)
@@ -246,8 +270,11 @@ module _ (w : World) (r : Recovery) (v : Recovering w r) where
   same_effects : w.log.effects ≡ after_flush w (kept_by (access_of w.shape.kind r))
   same_effects = sym (nobody_flushed w v.none (kept_by (access_of w.shape.kind r)))
 
-  after_tells : (client : Client) (told : Told) → client.0 < 16 → TellsOf w.shape (accessed w.memory (access_of w.shape.kind r)).kept client.0 told → IsTold w.shape.kind w.told w.log.events (order_of w.log.effects) client told
-  after_tells client told few h = v.tells client told few (access_tells w r v (accessed w.memory (access_of w.shape.kind r)) (access_kept w.memory (access_of w.shape.kind r)) client.0 told h)
+  after_tells : (client : Client) (told : Told) → client.0 < 16 → TellsOf w.shape (accessed w.memory (access_of w.shape.kind r)).kept client.0 told
+      → IsTold w.shape.kind w.told w.log.issued (announcements (accessed w.memory (access_of w.shape.kind r)).kept client.0) w.log.events (order_of w.log.effects) client told
+  after_tells client told few h =
+      subst (λ a. IsTold w.shape.kind w.told w.log.issued a w.log.events (order_of w.log.effects) client told) (sym (access_announces w r v (accessed w.memory (access_of w.shape.kind r)) (access_kept w.memory (access_of w.shape.kind r)) client.0))
+      (v.tells client told few (access_tells w r v (accessed w.memory (access_of w.shape.kind r)) (access_kept w.memory (access_of w.shape.kind r)) client.0 told h))
 
   goes_on : (next : Recovery) → Recovers w.shape (accessed w.memory (access_of w.shape.kind r)) v.claimed v.waiting (queue_of w.log.events w.base w.log.effects) next → Recovering (recovered_to w r (More next)) next
   goes_on next h = record {
@@ -261,7 +288,7 @@ module _ (w : World) (r : Recovery) (v : Recovering w r) where
     none = v.none;
     idle = v.idle;
     log = subst (λ e. IsLog w.shape.kind w.base w.told w.log.events e) same_effects v.log;
-    tells = λ client told few x. subst (λ e. IsTold w.shape.kind w.told w.log.events (order_of e) client told) same_effects (after_tells client told few x);
+    tells = λ client told few x. subst (λ e. IsTold w.shape.kind w.told w.log.issued (announcements (accessed w.memory (access_of w.shape.kind r)).kept client.0) w.log.events (order_of e) client told) same_effects (after_tells client told few x);
   }
 
   -- the queue is ready, and each client is told what the kept words tell
@@ -271,9 +298,11 @@ module _ (w : World) (r : Recovery) (v : Recovering w r) where
       let is_still : still (accessed w.memory (access_of w.shape.kind r)).kept ≡ accessed w.memory (access_of w.shape.kind r) =
       ap (λ (f : Place → ℕ). let k : Memory = record { cached = f; kept = (accessed w.memory (access_of w.shape.kind r)).kept } in k) (sym (fun_ext h.same)) in
       let log_before : IsLog w.shape.kind w.base w.told w.log.events (after_flush w (kept_by (access_of w.shape.kind r))) = subst (λ e. IsLog w.shape.kind w.base w.told w.log.events e) same_effects v.log in
-      let rightly : (client : Client) (x : Told) → slice_get told client.0 ≡ Some x → IsTold w.shape.kind w.told w.log.events (order_of (after_flush w (kept_by (access_of w.shape.kind r)))) client x = λ client x e.
-      subst (λ es. IsTold w.shape.kind w.told w.log.events (order_of es) client x) same_effects
-      (after_tells client x (subst (λ q. client.0 < q) h.sixteen (slice_get_within told client.0 x e)) (h.tells client.0 x e)) in
+      let rightly : (client : Client) (x : Told) → slice_get told client.0 ≡ Some x
+      → IsToldSome w.shape.kind w.log.events (order_of (after_flush w (kept_by (access_of w.shape.kind r)))) client (length w.log.events) x ⊎ IsToldBase w.shape.kind w.told w.log.events (order_of (after_flush w (kept_by (access_of w.shape.kind r)))) client (length w.log.events) x = λ client x e.
+      told_rightly w.shape.kind w.told w.log.issued (announcements n.kept client.0) w.log.events (order_of (after_flush w (kept_by (access_of w.shape.kind r)))) client x
+      (subst (λ es. IsTold w.shape.kind w.told w.log.issued (announcements n.kept client.0) w.log.events (order_of es) client x) same_effects
+      (after_tells client x (subst (λ q. client.0 < q) h.sixteen (slice_get_within told client.0 x e)) (h.tells client.0 x e))) in
       let log_now : IsLog w.shape.kind w.base w.told (w.log.events ++ ready_event told ∷ []) (after_flush w (kept_by (access_of w.shape.kind r))) =
       log_ready w.shape.kind w.base w.told w.log.events (after_flush w (kept_by (access_of w.shape.kind r))) told log_before
       (record { sixteen = h.sixteen; rightly = record { each = rightly }; idle = v.idle }) in
@@ -303,9 +332,10 @@ module _ (w : World) (r : Recovery) (v : Recovering w r) where
           log = log_now;
         };
         tells = λ client x few q.
-            told_push w.shape.kind w.told w.log.events (ready_event told) (order_of (after_flush w (kept_by (access_of w.shape.kind r)))) client x
+            told_push w.shape.kind w.told w.log.issued (announcements n.kept client.0) w.log.events (ready_event told) (order_of (after_flush w (kept_by (access_of w.shape.kind r)))) client x
             (none_at_end w.shape.kind w.base w.told w.log.events (after_flush w (kept_by (access_of w.shape.kind r))) log_before)
-            (subst (λ es. IsTold w.shape.kind w.told w.log.events (order_of es) client x) same_effects (after_tells client x few q));
+            (subst (λ es. IsTold w.shape.kind w.told w.log.issued (announcements n.kept client.0) w.log.events (order_of es) client x) same_effects (after_tells client x few q));
+        issued = λ j x at. let wrong : None ≡ Some x = sym (v.none j) ∙ at in absurd (cc);
       }
     where
       not_down : IsDown (w.log.events ++ ready_event told ∷ []) (length (w.log.events ++ ready_event told ∷ [])) → ⊥
@@ -351,7 +381,7 @@ module _ (w : World) (r : Recovery) (v : Recovering w r) where
 -- where recovery waits, what it learnt is in range
 module _ (s : Shape) (m : Memory) (claimed waiting queue : List ℕ) (b : Sound s m.kept claimed waiting queue) where
   link_fits : (cur node : ℕ) → links m.kept cur ≡ node → node ≤ greatest s
-  link_fits cur node e = subst (λ x. x ≤ greatest s) e (b.fits (Next (node_of cur)))
+  link_fits cur node e = subst (λ x. x ≤ greatest s) e (b.fits (Next (node_of cur)) tt)
 
   answered_fits : (cur : ℕ) → AnsweredTo s (still m.kept) cur → cur ≤ greatest s
   answered_fits cur a = node_fits s m.kept claimed waiting queue b cur (in_left cur (0 ∷ claimed) waiting (answered_among s m.kept claimed waiting queue b cur a))
@@ -369,13 +399,16 @@ module _ (s : Shape) (m : Memory) (claimed waiting queue : List ℕ) (b : Sound 
   position_fits true cur p = taken_fits cur p
 
   mark_fits : (node mark : ℕ) → Claim s m.kept claimed node mark → IsRecord s mark
-  mark_fits node mark c = (omega (arith, c.some), subst (λ x. x ≤ greatest s) c.marked (b.fits (Mark (node_of node))))
+  mark_fits node mark c = (omega (arith, c.some), subst (λ x. x ≤ greatest s) c.marked (b.fits (Mark (node_of node)) tt))
 
   token_fits : (client : Client) (token : ℕ) → Announced m.kept client.0 token → IsRecord s token
-  token_fits client token a = (omega (arith, a.some), subst (λ x. x ≤ greatest s) a.names (b.fits (Announcement client)))
+  token_fits client token a = (omega (arith, a.some), subst (λ x. x ≤ greatest s) a.names (b.fits (Announcement client) tt))
 
-  number_fits : (token number : ℕ) → number ≡ numbers m.kept token → number ≤ 1099511627776
-  number_fits token number e = subst (λ x. x ≤ 1099511627776) (sym e) (b.fits (Number (token_of token)))
+  number_fits : s.kind ≡ Log → (client token number : ℕ) → Announced m.kept client token → number ≡ numbers m.kept token → number ≤ 1099511627776
+  number_fits log client token number a e =
+      let entry : IsEntry (still m.kept) (announcements m.kept client) = (b.records queue).entry log client (λ z. a.some (sym a.names ∙ z)) in
+      let same : numbers m.kept token ≡ entry.number = subst (λ x. numbers m.kept x ≡ entry.number) a.names entry.numbered.0 in
+      subst (λ x. x ≤ 1099511627776) (sym (e ∙ same)) entry.in_range
 
   unclaimed_fits : (cur : ℕ) (n : Option NodeId) → Unclaimed s m.kept cur n → IfSome n (λ x. IsNode s x.0)
   unclaimed_fits cur None u = tt
@@ -400,22 +433,106 @@ module _ (s : Shape) (m : Memory) (claimed waiting queue : List ℕ) (b : Sound 
   point_fits (RecoveryLoadAnnouncement p) a = a.1.below
   point_fits (RecoveryLoadCell p) a = (a.3, a.1.below, token_fits p.client p.token.0 a.2)
   point_fits (RecoveryLoadNumber p) a = (a.3, a.1.below, token_fits p.client p.token.0 a.2)
-  point_fits (RecoveryLoadKind p) a = (a.3, a.1.below, token_fits p.client p.token.0 a.2, number_fits p.token.0 p.number a.4)
-  point_fits (RecoveryLoadStatus p) a = (a.3, a.1.below, token_fits p.client p.token.0 a.2, number_fits p.token.0 p.number a.4)
-  point_fits (RecoveryLoadRemove p) a = (a.3, a.1.below, token_fits p.client p.token.0 a.2, number_fits p.token.0 p.number a.4)
-  point_fits (RecoveryLoadEntryNode p) a = (a.3, a.1.below, token_fits p.client p.token.0 a.2, number_fits p.token.0 p.number a.4)
+  point_fits (RecoveryLoadKind p) a = (a.3, a.1.below, token_fits p.client p.token.0 a.2, number_fits a.3 p.client.0 p.token.0 p.number a.2 a.4)
+  point_fits (RecoveryLoadStatus p) a = (a.3, a.1.below, token_fits p.client p.token.0 a.2, number_fits a.3 p.client.0 p.token.0 p.number a.2 a.4)
+  point_fits (RecoveryLoadRemove p) a = (a.3, a.1.below, token_fits p.client p.token.0 a.2, number_fits a.3 p.client.0 p.token.0 p.number a.2 a.4)
+  point_fits (RecoveryLoadEntryNode p) a = (a.3, a.1.below, token_fits p.client p.token.0 a.2, number_fits a.3 p.client.0 p.token.0 p.number a.2 a.4)
   point_fits (RecoveryLoadRemovedValue p) a =
       let claimed_now : IsAmong p.node.0 claimed = b.back p.node.0 (λ z. a.3.announced.some (sym a.3.marked ∙ z)) in
-      (a.1.below, node_fits s m.kept claimed waiting queue b p.node.0 (inr (in_left p.node.0 claimed waiting claimed_now)), number_fits a.3.token p.number a.3.number)
+      (a.1.below, node_fits s m.kept claimed waiting queue b p.node.0 (inr (in_left p.node.0 claimed waiting claimed_now)), number_fits a.2 p.client.0 a.3.token p.number a.3.announced a.3.number)
 
--- what recovery answers when it is done: sixteen clients are told what the kept words tell
+  -- the node word of a dequeue's entry
+  removed_fits : (token : ℕ) → entry_kinds m.kept token ≡ 2 → entry_nodes m.kept token ≤ greatest s
+  removed_fits token kind = elim (cases_eq (entry_nodes m.kept token) 0) [
+    | inl z ↦ omega (arith, z)
+    | inr some ↦
+        let n : (marks m.kept (entry_nodes m.kept token) ≡ token) × (token ≢ 0) = (b.records queue).node token (inl kind) some in
+        let claimed_now : IsAmong (entry_nodes m.kept token) claimed = b.back (entry_nodes m.kept token) (λ z. n.1 (sym n.0 ∙ z)) in
+        node_fits s m.kept claimed waiting queue b (entry_nodes m.kept token) (inr (in_left (entry_nodes m.kept token) claimed waiting claimed_now))
+  ]
+
+  -- where the result of a claimed node belongs
+  result_word_fits : (node : NodeId) (mark : Token) (v : ℕ) → Claim s m.kept claimed node.0 mark.0 → (kind : Kind) → s.kind ≡ kind
+      → Fits s (result_of kind mark node v).place (m.kept (result_of kind mark node v).place)
+  result_word_fits node mark v c Durable e = b.fits (Cell mark) tt
+  result_word_fits node mark v c Log e =
+      let two : entry_kinds m.kept mark.0 ≡ 2 = subst (λ x. entry_kinds m.kept x ≡ 2) c.marked ((b.records queue).dequeued e node.0 (λ z. c.some (sym c.marked ∙ z))).0 in
+      removed_fits mark.0 two
+
+  -- a word that is cached as it is kept
+  same_fits : Same m → (p : Place) → IsReadByCalls p → Fits s p (m.cached p)
+  same_fits same p read = subst (Fits s p) (sym (same p)) (b.fits p read)
+
+  -- each word that recovery reads is in range
+  pub reads_fit : (r : Recovery) → At s m claimed waiting r → Fits s (place_of (access_of s.kind r)) (m.cached (place_of (access_of s.kind r)))
+  reads_fit (RecoveryLoadHead p) a = same_fits a Head tt
+  reads_fit (RecoveryLoadNext p) a = same_fits a.0 (Next p.cur) tt
+  reads_fit (RecoveryLoadInsert p) a =
+      let linked : links m.kept p.cur.0 ≢ 0 = λ z. a.1.some (sym a.1.link ∙ z) in
+      let insert : inserts m.kept p.node.0 ≡ p.node.0 = subst (λ x. inserts m.kept x ≡ x) a.1.link ((b.records queue).enqueued a.2 p.cur.0 linked).insert.0 in
+      subst (λ x. x ≤ greatest s) (sym (a.0 (Insert p.node) ∙ insert)) (link_fits p.cur.0 p.node.0 a.1.link)
+  reads_fit (RecoveryStoreStatus p) a = same_fits a.0 (Status p.entry) tt
+  reads_fit (RecoveryFlushStatus p) a = subst (λ x. x ≤ 2) (sym a.1) (omega arith)
+  reads_fit (RecoveryLoadMark p) a = same_fits a.0 (Mark p.node) tt
+  reads_fit (RecoveryLoadValue p) a = same_fits a.0 (Value p.node) tt
+  reads_fit (RecoveryStoreResult p) a =
+      subst (Fits s (result_of s.kind p.mark p.node p.value).place) (sym (a.0 (result_of s.kind p.mark p.node p.value).place)) (result_word_fits p.node p.mark p.value a.1 s.kind refl)
+  reads_fit (RecoveryFlushResult p) a =
+      subst (Fits s (result_of s.kind p.mark p.node p.value).place) (sym a.1) (result_fits s s.kind p.mark p.node p.value (λ d. a.4) (link_fits a.2.cur p.node.0 a.2.ahead.link))
+  reads_fit (RecoveryStoreHead p) a = same_fits a.0 Head tt
+  reads_fit (RecoveryFlushHead p) a = subst (λ x. x ≤ greatest s) (sym a.1) (answered_fits p.cur.0 a.2.answered)
+  reads_fit (RecoveryStoreTail p) a = same_fits a.0 Tail tt
+  reads_fit (RecoveryFlushTail p) a = subst (λ x. x ≤ greatest s) (sym a.1.cached) (taken_fits a.1.cur a.1.last.taken)
+  reads_fit (RecoveryLoadAnnouncement p) a = same_fits a.0 (Announcement p.client) tt
+  reads_fit (RecoveryLoadCell p) a = same_fits a.0 (Cell p.token) tt
+  reads_fit (RecoveryLoadNumber p) a = number_fits a.3 p.client.0 p.token.0 (m.cached (Number p.token)) a.2 (a.0 (Number p.token))
+  reads_fit (RecoveryLoadKind p) a = same_fits a.0 (EntryKind p.token) tt
+  reads_fit (RecoveryLoadStatus p) a = same_fits a.0 (Status p.token) tt
+  reads_fit (RecoveryLoadRemove p) a = same_fits a.0 (Mark (node_of p.token.0)) tt
+  reads_fit (RecoveryLoadEntryNode p) a =
+      subst (λ x. x ≤ greatest s) (sym (a.0 (EntryNode p.token))) (removed_fits p.token.0 (dequeue_entry s m claimed waiting queue b p.client p.token a.2 a.3 a.5))
+  reads_fit (RecoveryLoadRemovedValue p) a = same_fits a.0 (Value p.node) tt
+
+  -- every word but the one that recovery stored is cached as it is kept
+  but_fits : (q : Place) → SameBut m q → Fits s q (m.cached q) → (p : Place) → IsReadByCalls p → Fits s p (m.cached p)
+  but_fits q same fit p read = elim (put_cases m.kept q 0 p) [
+    | inl t ↦ subst (λ x. Fits s x (m.cached x)) (sym t.0) fit
+    | inr t ↦ subst (Fits s p) (sym (same p t.0)) (b.fits p read)
+  ]
+
+  -- each word that calls will read is in range
+  pub all_fit : (r : Recovery) → At s m claimed waiting r → AllFit s m.cached
+  all_fit (RecoveryLoadHead p) a = same_fits a
+  all_fit (RecoveryLoadNext p) a = same_fits a.0
+  all_fit (RecoveryLoadInsert p) a = same_fits a.0
+  all_fit (RecoveryStoreStatus p) a = same_fits a.0
+  all_fit (RecoveryFlushStatus p) a = but_fits (Status p.entry) a.0 (reads_fit (RecoveryFlushStatus p) a)
+  all_fit (RecoveryLoadMark p) a = same_fits a.0
+  all_fit (RecoveryLoadValue p) a = same_fits a.0
+  all_fit (RecoveryStoreResult p) a = same_fits a.0
+  all_fit (RecoveryFlushResult p) a = but_fits (result_of s.kind p.mark p.node p.value).place a.0 (reads_fit (RecoveryFlushResult p) a)
+  all_fit (RecoveryStoreHead p) a = same_fits a.0
+  all_fit (RecoveryFlushHead p) a = but_fits Head a.0 (reads_fit (RecoveryFlushHead p) a)
+  all_fit (RecoveryStoreTail p) a = same_fits a.0
+  all_fit (RecoveryFlushTail p) a = but_fits Tail a.0 (reads_fit (RecoveryFlushTail p) a)
+  all_fit (RecoveryLoadAnnouncement p) a = same_fits a.0
+  all_fit (RecoveryLoadCell p) a = same_fits a.0
+  all_fit (RecoveryLoadNumber p) a = same_fits a.0
+  all_fit (RecoveryLoadKind p) a = same_fits a.0
+  all_fit (RecoveryLoadStatus p) a = same_fits a.0
+  all_fit (RecoveryLoadRemove p) a = same_fits a.0
+  all_fit (RecoveryLoadEntryNode p) a = same_fits a.0
+  all_fit (RecoveryLoadRemovedValue p) a = same_fits a.0
+
+-- what holds when recovery is done
+pub woken : (w : World) (r : Recovery) (v : Recovering w r) (told : List Told) → recovered_next w r ≡ Ready told
+    → Woken w.shape (recovered w r).memory v.claimed v.waiting (queue_of w.log.events w.base w.log.effects) told
+woken w r v told e =
+    subst (RecoversNext w.shape (accessed w.memory (access_of w.shape.kind r)) v.claimed v.waiting (queue_of w.log.events w.base w.log.effects)) e
+    (recovery_row w.shape w.memory v.claimed v.waiting (queue_of w.log.events w.base w.log.effects) v.sound (omega (arith, v.clients)) r v.at)
+
+-- what recovery answers then: sixteen clients are told what the kept words tell
 pub told_woken : (w : World) (r : Recovery) → Recovering w r → (told : List Told) → recovered_next w r ≡ Ready told → (length told ≡ 16) × ((t : ℕ) (x : Told) → slice_get told t ≡ Some x → TellsOf w.shape (recovered w r).memory.kept t x)
 told_woken w r v told e =
-    go (recovered_next w r) (recovery_row w.shape w.memory v.claimed v.waiting (queue_of w.log.events w.base w.log.effects) v.sound (omega (arith, v.clients)) r v.at) e
-  where
-    go : (next : Recovered) → RecoversNext w.shape (accessed w.memory (access_of w.shape.kind r)) v.claimed v.waiting (queue_of w.log.events w.base w.log.effects) next → next ≡ Ready told
-        → (length told ≡ 16) × ((t : ℕ) (x : Told) → slice_get told t ≡ Some x → TellsOf w.shape (accessed w.memory (access_of w.shape.kind r)).kept t x)
-    go (More x) h q = absurd (cc)
-    go (Ready x) h q =
-        let same : x ≡ told = cc in
-        subst (λ y. (length y ≡ 16) × ((t : ℕ) (z : Told) → slice_get y t ≡ Some z → TellsOf w.shape (accessed w.memory (access_of w.shape.kind r)).kept t z)) same (h.sixteen, h.tells)
+    let h : Woken w.shape (recovered w r).memory v.claimed v.waiting (queue_of w.log.events w.base w.log.effects) told = woken w r v told e in
+    (h.sixteen, h.tells)

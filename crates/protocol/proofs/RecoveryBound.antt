@@ -23,55 +23,11 @@ use Rattle.recover.specs.declared.recovery.Recovered.TheVariants.{More, Ready}
 use Rattle.recover.specs.declared.recovery.Recovery.{Recovery}
 use Rattle.recover.specs.declared.recovery.Recovery.TheVariants.{RecoveryLoadHead, RecoveryLoadNext, RecoveryLoadInsert, RecoveryStoreStatus, RecoveryFlushStatus, RecoveryLoadMark, RecoveryLoadValue, RecoveryStoreResult, RecoveryFlushResult, RecoveryStoreHead, RecoveryFlushHead, RecoveryStoreTail, RecoveryFlushTail, RecoveryLoadAnnouncement, RecoveryLoadCell, RecoveryLoadNumber, RecoveryLoadKind, RecoveryLoadStatus, RecoveryLoadRemove, RecoveryLoadEntryNode, RecoveryLoadRemovedValue}
 use Rattle.protocol.specs.Machine.{Memory, accessed}
-use Rattle.protocol.proofs.Chains.{chain_like, few, rest_of, distinct, linked_by, walked}
+use Rattle.protocol.specs.Measure.{rest, beyond, arriving, onward, to_tell, weight}
+use Rattle.arena.proofs.Chains.{rest_of, distinct}
+use Rattle.protocol.proofs.Chains.{chain_like, few, linked_by, walked}
 use Rattle.protocol.proofs.Sound.{Sound}
-use Rattle.protocol.proofs.Recovering.{Same, At}
-
--- how many nodes follow this one
-abbrev pub rest : Shape → (ℕ → ℕ) → ℕ → ℕ
-rest s link n = length (walk (greatest s) link n)
-
--- the steps at a node, and at the next one, before the head is moved and after it
-abbrev beyond : Bool → ℕ
-beyond true = 3
-beyond false = 5
-
-abbrev arriving : Bool → ℕ
-arriving true = 3
-arriving false = 9
-
--- the steps past the head
-abbrev onward : Shape → (ℕ → ℕ) → Option NodeId → ℕ
-onward s link None = 0
-onward s link (Some n) = 8 * rest s link n.0 + 1
-
--- the steps while clients are told
-abbrev to_tell : Shape → ℕ → ℕ
-to_tell s client = 8 * (s.clients - client)
-
--- a number that falls at each step
-abbrev pub weight : Shape → (Place → ℕ) → Recovery → ℕ
-weight s c (RecoveryLoadHead p) = 8 * rest s (links c) (c Head) + 6 + 8 * s.clients
-weight s c (RecoveryLoadNext p) = 8 * rest s (links c) p.cur.0 + beyond p.moved + 8 * s.clients
-weight s c (RecoveryLoadInsert p) = 8 * rest s (links c) p.node.0 + arriving p.moved + 3 + 8 * s.clients
-weight s c (RecoveryStoreStatus p) = 8 * rest s (links c) p.node.0 + arriving p.moved + 2 + 8 * s.clients
-weight s c (RecoveryFlushStatus p) = 8 * rest s (links c) p.node.0 + arriving p.moved + 1 + 8 * s.clients
-weight s c (RecoveryLoadMark p) = 8 * rest s (links c) p.node.0 + 9 + 8 * s.clients
-weight s c (RecoveryLoadValue p) = 8 * rest s (links c) p.node.0 + 8 + 8 * s.clients
-weight s c (RecoveryStoreResult p) = 8 * rest s (links c) p.node.0 + 7 + 8 * s.clients
-weight s c (RecoveryFlushResult p) = 8 * rest s (links c) p.node.0 + 6 + 8 * s.clients
-weight s c (RecoveryStoreHead p) = onward s (links c) p.unclaimed + 4 + 8 * s.clients
-weight s c (RecoveryFlushHead p) = onward s (links c) p.unclaimed + 3 + 8 * s.clients
-weight s c (RecoveryStoreTail p) = 2 + 8 * s.clients
-weight s c (RecoveryFlushTail p) = 1 + 8 * s.clients
-weight s c (RecoveryLoadAnnouncement p) = to_tell s p.client.0
-weight s c (RecoveryLoadCell p) = to_tell s p.client.0 - 1
-weight s c (RecoveryLoadNumber p) = to_tell s p.client.0 - 1
-weight s c (RecoveryLoadKind p) = to_tell s p.client.0 - 2
-weight s c (RecoveryLoadStatus p) = to_tell s p.client.0 - 3
-weight s c (RecoveryLoadRemove p) = to_tell s p.client.0 - 4
-weight s c (RecoveryLoadEntryNode p) = to_tell s p.client.0 - 4
-weight s c (RecoveryLoadRemovedValue p) = to_tell s p.client.0 - 5
+use Rattle.protocol.proofs.Recovering.{Same, SameBut, Ahead, At}
 
 -- recovery has ended, or the number is less
 abbrev pub IsLess : Shape → (Place → ℕ) → Recovered → ℕ → Type 0
@@ -100,19 +56,19 @@ module _ (s : Shape) (m : Memory) (claimed waiting queue : List ℕ) (b : Sound 
       (λ h. (linked_by (links m.kept) 0 (claimed ++ waiting) b.chain 0 h).2 refl)
       (λ q h.
       let p : (p : ℕ) × (links m.kept p ≡ q) × (q ≢ 0) = linked_by (links m.kept) 0 (claimed ++ waiting) b.chain q h in
-      subst (λ x. x ≤ greatest s) p.1 (b.fits (Next (node_of p.0))))
+      subst (λ x. x ≤ greatest s) p.1 (b.fits (Next (node_of p.0)) tt))
 
   -- a node that has a next has one more behind it
-  rest_next : Same m → (n : ℕ) → links m.cached n ≢ 0 → rest s (links m.cached) n ≡ suc (rest s (links m.cached) (links m.cached n))
+  rest_next : ((x : ℕ) → links m.cached x ≡ links m.kept x) → (n : ℕ) → links m.cached n ≢ 0 → rest s (links m.cached) n ≡ suc (rest s (links m.cached) (links m.cached n))
   rest_next same n some = go t.ms t.chain t.short
     where
       t : record { ms : List ℕ; chain : IsChain (links m.kept) n ms; short : length ms ≤ length (claimed ++ waiting) }
-      t = tail_chain (links m.kept) 0 (claimed ++ waiting) b.chain n (b.on_chain n (λ z. some (same (Next (node_of n)) ∙ z)))
+      t = tail_chain (links m.kept) 0 (claimed ++ waiting) b.chain n (b.on_chain n (λ z. some (same n ∙ z)))
 
       go : (ms : List ℕ) → IsChain (links m.kept) n ms → length ms ≤ length (claimed ++ waiting) → rest s (links m.cached) n ≡ suc (rest s (links m.cached) (links m.cached n))
-      go [] c l = absurd (some (same (Next (node_of n)) ∙ c))
+      go [] c l = absurd (some (same n ∙ c))
       go (x ∷ xs) c l =
-          let d : IsChain (links m.cached) n (x ∷ xs) = chain_like (links m.kept) (links m.cached) n (x ∷ xs) (λ y. same (Next (node_of y))) c in
+          let d : IsChain (links m.cached) n (x ∷ xs) = chain_like (links m.kept) (links m.cached) n (x ∷ xs) same c in
           let all : walk (greatest s) (links m.cached) n ≡ x ∷ xs = walked (links m.cached) (greatest s) n (x ∷ xs) d (omega (arith, l, chain_short)) in
           let later : walk (greatest s) (links m.cached) x ≡ xs = walked (links m.cached) (greatest s) x xs d.2 (omega (arith, l, chain_short)) in
           ap length all ∙ ap suc (ap length (sym later) ∙ ap (rest s (links m.cached)) (sym d.0))
@@ -141,7 +97,7 @@ module _ (s : Shape) (m : Memory) (claimed waiting queue : List ℕ) (b : Sound 
 
       go : (c : Bool) → (m.cached (Next cur) == 0) ≡ c → weight s m.cached (if c then at_the_end_of cur moved else to_node s.kind cur (node_at (m.cached (Next cur))) moved) < 8 * rest s (links m.cached) cur.0 + beyond moved + 8 * s.clients
       go true e = ended moved
-      go false e = on (node_at (m.cached (Next cur))) (rest_next same cur.0 (eqb-false (m.cached (Next cur)) 0 e)) s.kind moved
+      go false e = on (node_at (m.cached (Next cur))) (rest_next (λ x. same (Next (node_of x))) cur.0 (eqb-false (m.cached (Next cur)) 0 e)) s.kind moved
 
   past_less : (cur node : NodeId) (moved : Bool) → weight s m.cached (past_status_of cur node moved) < 8 * rest s (links m.cached) node.0 + arriving moved + 1 + 8 * s.clients
   past_less cur node true = omega arith
@@ -224,6 +180,67 @@ module _ (s : Shape) (m : Memory) (claimed waiting queue : List ℕ) (b : Sound 
   falls (RecoveryLoadRemove p) at = told_less p.client p.told (if m.cached (Mark (node_at p.token.0)) == 0 then not_taken_as p.number else taken_as p.number Done) (to_tell s p.client.0 - 4) at.1.below (omega (arith, at.1.below))
   falls (RecoveryLoadEntryNode p) at = node_less p.client p.token p.told p.number (m.cached (EntryNode p.token)) at.1.below
   falls (RecoveryLoadRemovedValue p) at = told_less p.client p.told (taken_as p.number (Got (m.cached (Value p.node)))) (to_tell s p.client.0 - 5) at.1.below (omega (arith, at.1.below))
+
+-- where a node follows another, fewer are behind it than the greatest number
+module _ (s : Shape) (m : Memory) (claimed waiting queue : List ℕ) (b : Sound s m.kept claimed waiting queue) where
+  ahead_less : ((x : ℕ) → links m.cached x ≡ links m.kept x) → (moved : Bool) (cur node : ℕ) → Ahead s m.kept claimed moved cur node
+      → suc (rest s (links m.cached) node) ≤ greatest s
+  ahead_less same moved cur node a =
+      let link : links m.cached cur ≡ node = same cur ∙ a.link in
+      let next : rest s (links m.cached) cur ≡ suc (rest s (links m.cached) (links m.cached cur)) =
+      rest_next s m claimed waiting queue b same cur (λ z. a.some (sym link ∙ z)) in
+      let one : rest s (links m.cached) cur ≡ suc (rest s (links m.cached) node) = next ∙ ap (λ x. suc (rest s (links m.cached) x)) link in
+      omega (arith, one, walk_most (greatest s) (links m.cached) cur)
+
+  -- the status of a node is not a link
+  but_links : (t : Token) → SameBut m (Status t) → (x : ℕ) → links m.cached x ≡ links m.kept x
+  but_links t same x = same (Next (node_of x)) (λ e. cc)
+
+  arriving_most : (moved : Bool) → arriving moved ≤ 9
+  arriving_most true = omega arith
+  arriving_most false = omega arith
+
+  beyond_most : (moved : Bool) → beyond moved ≤ 5
+  beyond_most true = omega arith
+  beyond_most false = omega arith
+
+  onward_most : (n : Option NodeId) → onward s (links m.cached) n ≤ 8 * greatest s + 1
+  onward_most None = omega arith
+  onward_most (Some n) = omega (arith, walk_most (greatest s) (links m.cached) n.0)
+
+  -- wherever recovery is, it has no more steps left than at its beginning
+  pub few_at : (r : Recovery) → At s m claimed waiting r → weight s m.cached r + 1 ≤ 8 * greatest s + 8 * s.clients + 8
+  few_at (RecoveryLoadHead p) a = omega (arith, walk_most (greatest s) (links m.cached) (m.cached Head))
+  few_at (RecoveryLoadNext p) a = omega (arith, walk_most (greatest s) (links m.cached) p.cur.0, beyond_most p.moved)
+  few_at (RecoveryLoadInsert p) a =
+      let less : suc (rest s (links m.cached) p.node.0) ≤ greatest s = ahead_less (λ x. a.0 (Next (node_of x))) p.moved p.cur.0 p.node.0 a.1 in
+      omega (arith, less, arriving_most p.moved)
+  few_at (RecoveryStoreStatus p) a =
+      let less : suc (rest s (links m.cached) p.node.0) ≤ greatest s = ahead_less (λ x. a.0 (Next (node_of x))) p.moved p.cur.0 p.node.0 a.1 in
+      omega (arith, less, arriving_most p.moved)
+  few_at (RecoveryFlushStatus p) a =
+      let less : suc (rest s (links m.cached) p.node.0) ≤ greatest s = ahead_less (but_links p.entry a.0) p.moved p.cur.0 p.node.0 a.2 in
+      omega (arith, less, arriving_most p.moved)
+  few_at (RecoveryLoadMark p) a =
+      let less : suc (rest s (links m.cached) p.node.0) ≤ greatest s = ahead_less (λ x. a.0 (Next (node_of x))) false p.cur.0 p.node.0 a.1 in
+      omega (arith, less)
+  few_at (RecoveryLoadValue p) a =
+      let less : suc (rest s (links m.cached) p.node.0) ≤ greatest s = ahead_less (λ x. a.0 (Next (node_of x))) false a.1.cur p.node.0 a.1.ahead in
+      omega (arith, less)
+  few_at (RecoveryStoreResult p) a = omega (arith, walk_most (greatest s) (links m.cached) p.node.0)
+  few_at (RecoveryFlushResult p) a = omega (arith, walk_most (greatest s) (links m.cached) p.node.0)
+  few_at (RecoveryStoreHead p) a = omega (arith, onward_most p.unclaimed)
+  few_at (RecoveryFlushHead p) a = omega (arith, onward_most p.unclaimed)
+  few_at (RecoveryStoreTail p) a = omega arith
+  few_at (RecoveryFlushTail p) a = omega arith
+  few_at (RecoveryLoadAnnouncement p) a = omega arith
+  few_at (RecoveryLoadCell p) a = omega arith
+  few_at (RecoveryLoadNumber p) a = omega arith
+  few_at (RecoveryLoadKind p) a = omega arith
+  few_at (RecoveryLoadStatus p) a = omega arith
+  few_at (RecoveryLoadRemove p) a = omega arith
+  few_at (RecoveryLoadEntryNode p) a = omega arith
+  few_at (RecoveryLoadRemovedValue p) a = omega arith
 
 -- recovery takes so many steps from its beginning
 pub weight_most : (s : Shape) (c : Place → ℕ) → weight s c boot_point + 2 ≤ 8 * greatest s + 8 * s.clients + 8

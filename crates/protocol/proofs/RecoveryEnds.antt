@@ -24,7 +24,9 @@ use Rattle.recover.specs.declared.recovery.Recovery.{Recovery}
 use Rattle.recover.specs.declared.recovery.Recovery.TheVariants.{RecoveryLoadHead, RecoveryLoadNext, RecoveryLoadInsert, RecoveryStoreStatus, RecoveryFlushStatus, RecoveryLoadMark, RecoveryLoadValue, RecoveryStoreResult, RecoveryFlushResult, RecoveryStoreHead, RecoveryFlushHead, RecoveryStoreTail, RecoveryFlushTail, RecoveryLoadAnnouncement, RecoveryLoadCell, RecoveryLoadNumber, RecoveryLoadKind, RecoveryLoadStatus, RecoveryLoadRemove, RecoveryLoadEntryNode, RecoveryLoadRemovedValue}
 use Rattle.protocol.specs.Machine.{Memory, put, stored, flushed}
 use Rattle.protocol.specs.Kept.{IsIssued, TellsOf}
-use Rattle.protocol.proofs.Chains.{end_of, in_end_of, in_left, linked_by, leads_from, same_chain, in_end_cases}
+use Rattle.protocol.specs.Recovered.{end_of}
+use Rattle.arena.proofs.Chains.{in_left, same_chain, in_end_cases}
+use Rattle.protocol.proofs.Chains.{in_end_of, linked_by, leads_from}
 use Rattle.protocol.proofs.State.{IsOwn, IsAnswer, IsOfKind, SaysEmpty}
 use Rattle.protocol.proofs.Puts.{put_cases, put_same, put_other, put_id}
 use Rattle.protocol.proofs.Flushes.{cell_says, status_says}
@@ -44,11 +46,11 @@ result_value : (kind : Kind) (t : Token) (n : NodeId) (v x : ℕ) → (kind ≡ 
 result_value Durable t n v x h = ap (λ y. y + 2) (h refl)
 result_value Log t n v x h = refl
 
-result_kind : (kind : Kind) (t : Token) (n : NodeId) (v : ℕ) → IsOfKind kind (result_of kind t n v).place
-result_kind Durable t n v = refl
-result_kind Log t n v = refl
+result_kind : (kind : Kind) (t : Token) (n : NodeId) (v : ℕ) → t.0 ≢ 0 → IsOfKind kind (result_of kind t n v).place
+result_kind Durable t n v some = (refl, some)
+result_kind Log t n v some = (refl, some)
 
-result_fits : (s : Shape) (kind : Kind) (t : Token) (n : NodeId) (v : ℕ) → (kind ≡ Durable → v ≤ 4294967295) → n.0 ≤ greatest s → Fits s (result_of kind t n v).place (result_of kind t n v).value
+pub result_fits : (s : Shape) (kind : Kind) (t : Token) (n : NodeId) (v : ℕ) → (kind ≡ Durable → v ≤ 4294967295) → n.0 ≤ greatest s → Fits s (result_of kind t n v).place (result_of kind t n v).value
 result_fits s Durable t n v h node = let small : v ≤ 4294967295 = h refl in omega (arith, small)
 result_fits s Log t n v h node = node
 
@@ -66,7 +68,7 @@ last_of_part k from (x ∷ xs) ys m c (inl e) none = absurd (none (inl (ap k e �
 last_of_part k from (x ∷ xs) ys m c (inr h) none = last_of_part k x xs ys m c.2 h (λ i. none (inr i))
 
 -- the second part of a chain follows the last of the first
-part_chain : (k : ℕ → ℕ) (from : ℕ) (xs ys : List ℕ) → IsChain k from (xs ++ ys) → IsChain k (end_of from xs) ys
+pub part_chain : (k : ℕ → ℕ) (from : ℕ) (xs ys : List ℕ) → IsChain k from (xs ++ ys) → IsChain k (end_of from xs) ys
 part_chain k from [] ys c = c
 part_chain k from (x ∷ xs) ys c = part_chain k x xs ys c.2
 
@@ -89,8 +91,8 @@ module _ (s : Shape) (k : Place → ℕ) (claimed waiting queue : List ℕ) (b :
       let other : (q : Place) → (IsAnswer q → ⊥) → put k (result_of s.kind mark node v).place (result_of s.kind mark node v).value q ≡ k q = λ q none.
       put_other k (result_of s.kind mark node v).place (result_of s.kind mark node v).value q (λ e. none (subst IsAnswer (sym e) word)) in
       let linked : links k c.cur ≢ 0 = λ z. c.ahead.some (sym c.ahead.link ∙ z) in
-      let fit : node.0 ≤ greatest s = subst (λ x. x ≤ greatest s) c.ahead.link (b.fits (Next (node_of c.cur))) in
-      let small : s.kind ≡ Durable → v ≤ 4294967295 = λ d. subst (λ x. x ≤ 4294967295) (sym (value d)) (b.fits (Value node)) in
+      let fit : node.0 ≤ greatest s = subst (λ x. x ≤ greatest s) c.ahead.link (b.fits (Next (node_of c.cur)) tt) in
+      let small : s.kind ≡ Durable → v ≤ 4294967295 = λ d. subst (λ x. x ≤ 4294967295) (sym (value d)) (b.fits (Value node) tt) in
       let claimed_mark : marks k node.0 ≢ 0 = λ z. c.some (sym c.marked ∙ z) in
       record {
         link = λ x. other (Next (node_of x)) (λ q. q);
@@ -110,7 +112,7 @@ module _ (s : Shape) (k : Place → ℕ) (claimed waiting queue : List ℕ) (b :
         kind = λ x. other (EntryKind (token_of x)) (λ q. q);
         number = λ x. other (Number (token_of x)) (λ q. q);
         issued = λ of ne. subst (IsIssued s k) (c.marked ∙ sym (result_number s.kind mark node v)) (b.issued_mark node.0 claimed_mark);
-        of_kind = result_kind s.kind mark node v;
+        of_kind = result_kind s.kind mark node v c.some;
         fits = result_fits s s.kind mark node v small fit;
         harmless = record {
           answers = λ x h at.
@@ -200,6 +202,8 @@ pub record Woken (s : Shape) (m : Memory) (claimed waiting queue : List ℕ) (to
   pub same : Same m
   pub head : m.kept Head ≡ end_of 0 claimed
   pub tail : m.kept Tail ≡ end_of 0 (claimed ++ waiting)
+  pub all : AnsweredTo s (still m.kept) (end_of 0 claimed)
+  pub taken : s.kind ≡ Log → (n : ℕ) → IsAmong n waiting → statuses m.kept n ≡ 1
   pub sixteen : length told ≡ 16
   pub tells : (t : ℕ) (x : Told) → slice_get told t ≡ Some x → TellsOf s m.kept t x
 
@@ -315,7 +319,7 @@ module _ (s : Shape) (m : Memory) (claimed waiting queue : List ℕ) (b : Sound 
   keep_new p ne (RecoveryLoadRemovedValue q) a = absurd (ne (sym (a.0 p)))
 
   -- the word in hand may be kept
-  hand_may : (p : Place) → m.kept p ≢ m.cached p → (r : Recovery) → At s m claimed waiting r → MayKeep s m.kept p (m.cached p)
+  pub hand_may : (p : Place) → m.kept p ≢ m.cached p → (r : Recovery) → At s m claimed waiting r → MayKeep s m.kept p (m.cached p)
   hand_may p ne (RecoveryLoadHead q) a = absurd (ne (sym (a p)))
   hand_may p ne (RecoveryLoadNext q) a = absurd (ne (sym (a.0 p)))
   hand_may p ne (RecoveryLoadInsert q) a = absurd (ne (sym (a.0 p)))

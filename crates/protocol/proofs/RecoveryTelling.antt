@@ -25,7 +25,9 @@ use Rattle.recover.specs.declared.recovery.Recovery.{Recovery}
 use Rattle.recover.specs.declared.recovery.Recovery.TheVariants.{RecoveryLoadAnnouncement, RecoveryLoadStatus, RecoveryLoadRemove, RecoveryLoadEntryNode, RecoveryLoadRemovedValue}
 use Rattle.protocol.specs.Machine.{Memory}
 use Rattle.protocol.specs.Kept.{OutcomeBy, RowBy, TellsBy, TellsOf}
-use Rattle.protocol.proofs.Chains.{end_of, in_chain, in_left, in_parts, linked_by, in_end_of, not_again}
+use Rattle.protocol.specs.Recovered.{end_of}
+use Rattle.arena.proofs.Chains.{in_left, not_again}
+use Rattle.protocol.proofs.Chains.{in_chain, in_parts, linked_by, in_end_of}
 use Rattle.protocol.proofs.Records.{IsPath, IsAnswered, AnsweredTo, IsEntry}
 use Rattle.protocol.proofs.Sound.{still, Sound}
 use Rattle.protocol.proofs.Recovering.{Same, Telling, Announced, At}
@@ -65,7 +67,7 @@ path_covers k from (m ∷ ns) (x ∷ xs) ys p c e n i =
 
 module _ (s : Shape) (m : Memory) (claimed waiting queue : List ℕ) (b : Sound s m.kept claimed waiting queue) where
   -- every claimed node is answered
-  all_answered : AnsweredTo s (still m.kept) (end_of 0 claimed) → (n : ℕ) → IsAmong n claimed → IsAnswered s (still m.kept) n
+  pub all_answered : AnsweredTo s (still m.kept) (end_of 0 claimed) → (n : ℕ) → IsAmong n claimed → IsAnswered s (still m.kept) n
   all_answered a n i = a.answered n (path_covers (links m.kept) 0 a.passed claimed waiting a.path b.chain (sym a.at) n i)
 
   -- the client is told, and the next one comes
@@ -109,6 +111,8 @@ module _ (s : Shape) (m : Memory) (claimed waiting queue : List ℕ) (b : Sound 
         same = same;
         head = t.head;
         tail = t.tail;
+        all = t.all;
+        taken = t.taken;
         sixteen = length_set told client.0 x ∙ t.sixteen;
         tells = λ i y f. elim (cases_lt i (client.0 + 1)) [
           | inl lt ↦ before i y lt f
@@ -229,6 +233,15 @@ module _ (s : Shape) (m : Memory) (claimed waiting queue : List ℕ) (b : Sound 
           let p : (p : ℕ) × (links m.kept p ≡ token.0) × (token.0 ≢ 0) = linked_by (links m.kept) 0 (claimed ++ waiting) b.chain token.0 (in_left token.0 claimed waiting (b.back token.0 marked)) in
           tell client told (taken_as number Done) h.0 h.1 (verdict_right client token.0 number (Taken Done) h.2 h.3 h.4 (h.5, record { at = p.0; linked = p.1 }))
 
+  -- an announced entry that is not an enqueue's is a dequeue's
+  pub dequeue_entry : (client : Client) (token : Token) → Announced m.kept client.0 token.0 → s.kind ≡ Log → entry_kinds m.kept token.0 ≢ 1 → entry_kinds m.kept token.0 ≡ 2
+  dequeue_entry client token a log other =
+      let entry : IsEntry (still m.kept) (announcements m.kept client.0) = (b.records queue).entry log client.0 (λ z. a.some (sym a.names ∙ z)) in
+      elim entry.kind [
+        | inl q ↦ absurd (other (ap (entry_kinds m.kept) (sym a.names) ∙ q.0.0))
+        | inr q ↦ ap (entry_kinds m.kept) (sym a.names) ∙ q.0
+      ]
+
   pub row_LoadEntryNode : (client : Client) (token : Token) (told : List Told) (number : ℕ) → At s m claimed waiting (RecoveryLoadEntryNode (record { client = client; token = token; told = told; number = number }))
       → RecoversNext s m claimed waiting queue (successor s (RecoveryLoadEntryNode (record { client = client; token = token; told = told; number = number })) (m.cached (EntryNode token)))
   row_LoadEntryNode client token told number h = go (m.cached (EntryNode token) == 0) refl
@@ -237,12 +250,7 @@ module _ (s : Shape) (m : Memory) (claimed waiting queue : List ℕ) (b : Sound 
       is = sym (h.0 (EntryNode token))
 
       kind : entry_kinds m.kept token.0 ≡ 2
-      kind =
-          let entry : IsEntry (still m.kept) (announcements m.kept client.0) = (b.records queue).entry h.3 client.0 (λ z. h.2.some (sym h.2.names ∙ z)) in
-          elim entry.kind [
-            | inl q ↦ absurd (h.5 (ap (entry_kinds m.kept) (sym h.2.names) ∙ q.0.0))
-            | inr q ↦ ap (entry_kinds m.kept) (sym h.2.names) ∙ q.0
-          ]
+      kind = dequeue_entry client token h.2 h.3 h.5
 
       result : (at : ℕ) → marks m.kept at ≡ token.0 → entry_nodes m.kept token.0 ≡ at
       result at q =

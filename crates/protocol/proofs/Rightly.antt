@@ -26,6 +26,7 @@ use Rattle.history.specs.declared.event.Effect.{Effect}
 use Rattle.history.specs.declared.event.Event.TheVariants.{Call as call_event}
 use Rattle.protocol.specs.Machine.{Memory, World, put, flushed}
 use Rattle.protocol.specs.declared.UnderWay.{UnderWay}
+use Rattle.protocol.specs.Announced.{IsCallOf}
 use Rattle.protocol.specs.Kept.{OutcomeBy, RowBy, TellsBy, TellsOf}
 use Rattle.protocol.proofs.State.{Ledger, held, asked, SaysEmpty, empties, IsLinking, IsClaiming, IsAnswering, Base, Grows, Knows}
 use Rattle.protocol.proofs.Puts.{put_cases}
@@ -36,7 +37,7 @@ use Rattle.protocol.proofs.RecordStores.{acting_or, announced_number}
 use Rattle.stepper.specs.Preparation.{IsBegun}
 use Rattle.helping.specs.declared.op.Op.{Op}
 use Rattle.protocol.proofs.Moments.{record_of_call, stage_of, ledger_of, ledger_from, IsCalling, Working, Noted, calling, holder}
-use Rattle.protocol.proofs.Tells.{IsTold, told_more, more_by_stage, told_of_cases, announced_told}
+use Rattle.protocol.proofs.Tells.{IsTold, told_more, more_by_stage, told_of_cases, announced_told, Names}
 
 told_dequeue : (kind : Kind) → IsToldOf kind Deq
 told_dequeue Durable = tt
@@ -178,7 +179,11 @@ module _ (s : Shape) (m : Memory) (l : Ledger) (claimed waiting : List ℕ) (b :
 
 -- what the kept words tell is right now
 abbrev pub RightlyTold : World → Type 0
-RightlyTold w = (client : Client) (told : Told) → client.0 < 16 → TellsOf w.shape w.memory.kept client.0 told → IsTold w.shape.kind w.told w.log.events (order_of w.log.effects) client told
+RightlyTold w = (client : Client) (told : Told) → client.0 < 16 → TellsOf w.shape w.memory.kept client.0 told → IsTold w.shape.kind w.told w.log.issued (announcements w.memory.kept client.0) w.log.events (order_of w.log.effects) client told
+
+-- each call under way is that of its record
+abbrev pub AreIssued : World → Type 0
+AreIssued w = (j : ℕ) (u : UnderWay) → w.calls j ≡ Some u → IsCallOf w.log.issued u.begun.token.0 (record { place = u.place; begun = u.begun })
 
 -- the kept words stay, or one of them is kept
 abbrev pub KeptBy : Memory → Memory → Type 0
@@ -189,18 +194,37 @@ both_kept m n q x (inl e) h = ap (λ (f : Place → ℕ). f q) e ∙ h.1
 both_kept m n q x (inr k) h = ap (λ (f : Place → ℕ). f q) k.same ∙ (both_flushed m k.p q x h).1
 
 -- the record of a call under way
-call_begun_fits : (s : Shape) (m : Memory) (l : Ledger) (i : ℕ) (op : Op) → Knows s m l i op → IsBegun s (l.begun i)
+pub call_begun_fits : (s : Shape) (m : Memory) (l : Ledger) (i : ℕ) (op : Op) → Knows s m l i op → IsBegun s (l.begun i)
 call_begun_fits s m l i op h = elim (acting_or s m l i op h) [
   | inl a ↦ a.prepared.begun
   | inr p ↦ subst (IsBegun s) (sym p.preparing.begun) p.preparing.so_far.begun
 ]
 
-module _ (w : World) (v : Working w) (tells : RightlyTold w) (n : Memory) (effects : List Effect) (k : Ledger) (claimed waiting : List ℕ) (b : Base w.shape n k claimed waiting) (r : Records w.shape n k) (noted : Noted w effects k) (kept : KeptBy w.memory n) where
+module _ (w : World) (v : Working w) (tells : RightlyTold w) (issued : AreIssued w) (n : Memory) (effects : List Effect) (k : Ledger) (claimed waiting : List ℕ) (b : Base w.shape n k claimed waiting) (r : Records w.shape n k) (noted : Noted w effects k) (kept : KeptBy w.memory n) where
   base_now : Base w.shape n (ledger_from w.calls w.log.events w.base effects) claimed waiting
   base_now = subst (λ x. Base w.shape n x claimed waiting) (sym noted.same) b
 
   records_now : Records w.shape n (ledger_from w.calls w.log.events w.base effects)
   records_now = subst (Records w.shape n) (sym noted.same) r
+
+  -- the client's announcement stays, where the call that it has under way is not announced
+  announced_stays : (j : ℕ) → ((u : UnderWay) → w.calls j ≡ Some u → IsToldOf w.shape.kind u.begun.call → announcements n.kept j ≡ u.begun.token.0 → ⊥) → announcements n.kept j ≡ announcements w.memory.kept j
+  announced_stays j free = go kept
+    where
+      go : KeptBy w.memory n → announcements n.kept j ≡ announcements w.memory.kept j
+      go (inl e) = ap (λ (f : Place → ℕ). announcements f j) e
+      go (inr q) = elim (put_cases w.memory.kept q.p (w.memory.cached q.p) (Announcement (record { 0 = j }))) [
+        | inl t ↦
+            let cached : announcements n.kept j ≡ announcements w.memory.cached j = ap (λ (f : Place → ℕ). announcements f j) q.same ∙ t.1 ∙ ap w.memory.cached (sym t.0) in
+            elim (cases_eq (announcements w.memory.cached j) (announcements w.memory.kept j)) [
+              | inl e ↦ cached ∙ e
+              | inr ne ↦
+                  let a : IsAnnouncing w.shape w.memory (ledger_of w) j = v.records.announcing j ne in
+                  let u : (u : UnderWay) × (w.calls j ≡ Some u) = holder w v j (announcements w.memory.cached j) a.some (sym a.holds) in
+                  absurd (free u.0 u.1 (subst (λ x. IsToldOf w.shape.kind (record_of_call x).call) u.1 a.told_of) (cached ∙ a.holds ∙ ap (λ x. (record_of_call x).token.0) u.1))
+            ]
+        | inr t ↦ ap (λ (f : Place → ℕ). announcements f j) q.same ∙ t.1
+      ]
 
   -- what the words told before
   before_told : (j : ℕ) (told : Told) → ((u : UnderWay) → w.calls j ≡ Some u → IsToldOf w.shape.kind u.begun.call → announcements n.kept j ≡ u.begun.token.0 → ⊥) → TellsOf w.shape n.kept j told → TellsOf w.shape w.memory.kept j told
@@ -210,36 +234,22 @@ module _ (w : World) (v : Working w) (tells : RightlyTold w) (n : Memory) (effec
       go (inl e) t = subst (λ (f : Place → ℕ). TellsBy w.shape.kind f j told) e t
       go (inr q) t = tells_before w.shape w.memory (ledger_of w) v.claimed v.waiting v.base v.records q.p j same unheld w.shape.kind refl told (subst (λ (f : Place → ℕ). TellsBy w.shape.kind f j told) q.same t)
         where
-          now : announcements (flushed w.memory q.p).kept j ≡ announcements n.kept j
-          now = ap (λ (f : Place → ℕ). announcements f j) (sym q.same)
-
           same : announcements (flushed w.memory q.p).kept j ≡ announcements w.memory.kept j
-          same = elim (put_cases w.memory.kept q.p (w.memory.cached q.p) (Announcement (record { 0 = j }))) [
-            | inl t ↦
-                let cached : announcements (flushed w.memory q.p).kept j ≡ announcements w.memory.cached j = t.1 ∙ ap w.memory.cached (sym t.0) in
-                elim (cases_eq (announcements w.memory.cached j) (announcements w.memory.kept j)) [
-                  | inl e ↦ cached ∙ e
-                  | inr ne ↦
-                      let a : IsAnnouncing w.shape w.memory (ledger_of w) j = v.records.announcing j ne in
-                      let u : (u : UnderWay) × (w.calls j ≡ Some u) = holder w v j (announcements w.memory.cached j) a.some (sym a.holds) in
-                      absurd (free u.0 u.1 (subst (λ x. IsToldOf w.shape.kind (record_of_call x).call) u.1 a.told_of) (sym now ∙ cached ∙ a.holds ∙ ap (λ x. (record_of_call x).token.0) u.1))
-                ]
-            | inr t ↦ t.1
-          ]
+          same = ap (λ (f : Place → ℕ). announcements f j) (sym q.same) ∙ announced_stays j free
 
           unheld : announcements w.memory.kept j ≢ 0 → held (ledger_of w) j ≡ announcements w.memory.kept j → IsToldOf w.shape.kind (asked (ledger_of w) j) → ⊥
           unheld some h of =
               let u : (u : UnderWay) × (w.calls j ≡ Some u) = holder w v j (announcements w.memory.kept j) some h in
-              free u.0 u.1 (subst (λ x. IsToldOf w.shape.kind (record_of_call x).call) u.1 of) (sym now ∙ same ∙ sym h ∙ ap (λ x. (record_of_call x).token.0) u.1)
+              free u.0 u.1 (subst (λ x. IsToldOf w.shape.kind (record_of_call x).call) u.1 of) (announced_stays j free ∙ sym h ∙ ap (λ x. (record_of_call x).token.0) u.1)
 
   -- the order has more of other calls alone
-  more_told : (client : Client) (told : Told) → ((u : UnderWay) → w.calls client.0 ≡ Some u → IsToldOf w.shape.kind u.begun.call → announcements n.kept client.0 ≡ u.begun.token.0 → ⊥)
-      → IsTold w.shape.kind w.told w.log.events (order_of w.log.effects) client told → IsTold w.shape.kind w.told w.log.events (order_of effects) client told
-  more_told client told free h = elim noted.moved [
-    | inl same ↦ told_more w.shape.kind w.told w.log.events (length w.log.events) (order_of w.log.effects) (order_of effects) client told
+  more_told : (e : ℕ) (client : Client) (told : Told) → ((u : UnderWay) → w.calls client.0 ≡ Some u → IsToldOf w.shape.kind u.begun.call → announcements n.kept client.0 ≡ u.begun.token.0 → ⊥)
+      → IsTold w.shape.kind w.told w.log.issued e w.log.events (order_of w.log.effects) client told → IsTold w.shape.kind w.told w.log.issued e w.log.events (order_of effects) client told
+  more_told e client told free h = elim noted.moved [
+    | inl same ↦ told_more w.shape.kind w.told w.log.issued e w.log.events (length w.log.events) (order_of w.log.effects) (order_of effects) client told
         (more_by_stage (length w.log.events) w.log.effects effects noted.part (λ q ne. same q))
         (λ number begins. absurd (omega (arith, slice_get_within w.log.events (length w.log.events) (call_event client number begins.call) begins.begins))) h
-    | inr x ↦ told_more w.shape.kind w.told w.log.events x.u.place (order_of w.log.effects) (order_of effects) client told
+    | inr x ↦ told_more w.shape.kind w.told w.log.issued e w.log.events x.u.place (order_of w.log.effects) (order_of effects) client told
         (more_by_stage x.u.place w.log.effects effects noted.part x.others)
         (λ number begins.
         let c : IsCalling w.log.events x.o x.u = (calling w v x.o x.u x.at).1 in
@@ -254,7 +264,7 @@ module _ (w : World) (v : Working w) (tells : RightlyTold w) (n : Memory) (effec
 
   -- of an announced call the words tell now
   now_told : (client : Client) (told : Told) (u : UnderWay) → w.calls client.0 ≡ Some u → IsToldOf w.shape.kind u.begun.call → announcements n.kept client.0 ≡ u.begun.token.0 → TellsOf w.shape n.kept client.0 told
-      → IsTold w.shape.kind w.told w.log.events (order_of effects) client told
+      → IsTold w.shape.kind w.told w.log.issued (announcements n.kept client.0) w.log.events (order_of effects) client told
   now_told client told u at of ann h =
       let q : Knows w.shape w.memory (ledger_of w) client.0 u.op × IsCalling w.log.events client.0 u = calling w v client.0 u at in
       let fits : IsBegun w.shape ((ledger_of w).begun client.0) = call_begun_fits w.shape w.memory (ledger_of w) client.0 u.op q.0 in
@@ -273,20 +283,29 @@ module _ (w : World) (v : Working w) (tells : RightlyTold w) (n : Memory) (effec
       let numbered : w.shape.kind ≡ Log → numbers n.kept u.begun.token.0 ≡ u.begun.number = λ e.
       both_kept w.memory n (Number (token_of u.begun.token.0)) u.begun.number kept
       (subst (λ x. Both w.memory (Number x.token) x.number) begun (announced_number w.shape w.memory (ledger_of w) client.0 u.op q.0 which e)) in
+      let names : Names w.log.issued (announcements n.kept client.0) client.0 u.begun.number u.place = record {
+        some = λ z. some (sym ann ∙ z);
+        call = record { place = u.place; begun = u.begun };
+        of = subst (λ t. IsCallOf w.log.issued t (record { place = u.place; begun = u.begun })) (sym ann) (issued client.0 u at);
+        own = q.1.who;
+        number = refl;
+        place = refl;
+      } in
       announced_told w.shape n (ledger_from w.calls w.log.events w.base effects) claimed waiting base_now records_now w.base w.told w.log.events effects noted.log client.0 u q.1 begun (ap (λ c. stage_of c effects) at)
-      of ann numbered client refl some told (h.0 below)
+      of ann numbered w.log.issued client refl some names told (h.0 below)
 
   -- whatever is told by the words after the act, before any event
-  pub kept_told : (client : Client) (told : Told) → client.0 < 16 → TellsOf w.shape n.kept client.0 told → IsTold w.shape.kind w.told w.log.events (order_of effects) client told
+  pub kept_told : (client : Client) (told : Told) → client.0 < 16 → TellsOf w.shape n.kept client.0 told → IsTold w.shape.kind w.told w.log.issued (announcements n.kept client.0) w.log.events (order_of effects) client told
   kept_told client told few h = go (w.calls client.0) refl
     where
-      old_way : ((u : UnderWay) → w.calls client.0 ≡ Some u → IsToldOf w.shape.kind u.begun.call → announcements n.kept client.0 ≡ u.begun.token.0 → ⊥) → IsTold w.shape.kind w.told w.log.events (order_of effects) client told
-      old_way free = more_told client told free (tells client told few (before_told client.0 told free h))
+      old_way : ((u : UnderWay) → w.calls client.0 ≡ Some u → IsToldOf w.shape.kind u.begun.call → announcements n.kept client.0 ≡ u.begun.token.0 → ⊥) → IsTold w.shape.kind w.told w.log.issued (announcements n.kept client.0) w.log.events (order_of effects) client told
+      old_way free = more_told (announcements n.kept client.0) client told free
+          (subst (λ e. IsTold w.shape.kind w.told w.log.issued e w.log.events (order_of w.log.effects) client told) (sym (announced_stays client.0 free)) (tells client told few (before_told client.0 told free h)))
 
       same_call : (u x : UnderWay) → w.calls client.0 ≡ Some u → w.calls client.0 ≡ Some x → x ≡ u
       same_call u x e f = let same : Some x ≡ Some u = sym f ∙ e in cc
 
-      go : (c : Option UnderWay) → w.calls client.0 ≡ c → IsTold w.shape.kind w.told w.log.events (order_of effects) client told
+      go : (c : Option UnderWay) → w.calls client.0 ≡ c → IsTold w.shape.kind w.told w.log.issued (announcements n.kept client.0) w.log.events (order_of effects) client told
       go None e = old_way (λ u f. let wrong : None ≡ Some u = sym e ∙ f in absurd (cc))
       go (Some u) e = elim (told_of_cases w.shape.kind u.begun.call) [
         | inl of ↦ elim (cases_eq (announcements n.kept client.0) u.begun.token.0) [

@@ -32,7 +32,8 @@ use Rattle.helping.specs.declared.op.Op.{Op}
 use Rattle.helping.specs.declared.op.Op.TheVariants.{PrepareStore, PrepareFlush, EnqueueLoadTail, EnqueueLoadNext, EnqueueCheckTail, EnqueueLink, EnqueueFlushLink, EnqueueMoveTail, EnqueueFlushPassedLink, EnqueueHelpTail, DequeueLoadHead, DequeueLoadTail, DequeueLoadNext, DequeueCheckHead, DequeueStoreEmpty, DequeueFlushEmpty, DequeueFlushPassedLink, DequeueHelpTail, DequeueLoadValue, DequeueClaim, DequeueFlushClaim, DequeueStoreResult, DequeueFlushResult, DequeueMoveHead}
 use Rattle.protocol.specs.Machine.{Memory, put, stored, flushed, accessed}
 use Rattle.protocol.specs.Kept.{IsAnnounced, IsIssued}
-use Rattle.protocol.proofs.Chains.{upd, upd_same, upd_other, leads_at, leads_trans, leads_one, leads_from, leads_in, leads_next, in_left, in_chain}
+use Rattle.arena.proofs.Chains.{leads_at, leads_trans, leads_one, in_left}
+use Rattle.protocol.proofs.Chains.{upd, upd_same, upd_other, leads_from, leads_in, leads_next, in_chain}
 use Rattle.protocol.proofs.State.{Stage, Ledger, held, asked, IsOwn, IsOfRecord, Says, SaysEmpty, empties, IsLinking, IsClaiming, IsAnswering, Empties, Base, Mine, Loose, Before, Written, Unwritten, Preparing, Prepared, Acting, Enqueuing, Linked, Dequeuing, IsPassed, Claims, Knows, Grows}
 use Rattle.protocol.proofs.State.Stage.{Unmoved, Seen, Took}
 use Rattle.protocol.proofs.Puts.{IsEmptyWord, empty_word, put_cases, put_same, put_other, put_empties}
@@ -135,7 +136,7 @@ module _ (s : Shape) (m : Memory) (l : Ledger) (claimed waiting : List ℕ) (b :
       go : (t : Bool) → (m.cached Tail == from) ≡ t → Kept s m l (if t then stored m Tail to else m) l
       go true t =
           let r : LeadsTo (links m.kept) to (m.cached Tail) = subst (λ x. LeadsTo (links m.kept) to x) (sym (eqb-true (m.cached Tail) from t)) (leads_one (links m.kept) from to e some) in
-          let fit : to ≤ greatest s = subst (λ x. x ≤ greatest s) e (b.fits_kept (Next (node_of from))) in
+          let fit : to ≤ greatest s = subst (λ x. x ≤ greatest s) e (b.fits_kept (Next (node_of from)) tt) in
           let linked : links m.cached (m.cached Tail) ≡ to = ap (links m.cached) (eqb-true (m.cached Tail) from t) ∙ b.chained.kept from (λ z. some (sym e ∙ z)) ∙ e in
           let no_lag : links m.cached to ≢ 0 → links m.cached (links m.cached to) ≡ 0 = λ h.
           absurd (h (ap (links m.cached) (sym linked) ∙ b.lag (λ z. some (sym linked ∙ z)))) in
@@ -155,7 +156,7 @@ module _ (s : Shape) (m : Memory) (l : Ledger) (claimed waiting : List ℕ) (b :
       go : (t : Bool) → (m.cached Head == first) ≡ t → Kept s m l (if t then stored m Head next else m) l
       go true t =
           let r : LeadsTo (links m.kept) next (m.cached Head) = subst (λ x. LeadsTo (links m.kept) next x) (sym (eqb-true (m.cached Head) first t)) (leads_one (links m.kept) first next c.link c.some) in
-          let fit : next ≤ greatest s = subst (λ x. x ≤ greatest s) c.link (b.fits_kept (Next (node_of first))) in
+          let fit : next ≤ greatest s = subst (λ x. x ≤ greatest s) c.link (b.fits_kept (Next (node_of first)) tt) in
           let linked : links m.cached (m.cached Head) ≡ next = ap (links m.cached) (eqb-true (m.cached Head) first t) ∙ b.chained.kept first (λ z. c.some (sym c.link ∙ z)) ∙ c.link in
           let marked : marks m.cached next ≢ 0 = λ z. claimed_now (sym (b.marked.kept next claimed_now) ∙ z) in
           let no_more : links m.cached next ≢ 0 → marks m.cached (links m.cached next) ≢ 0 → links m.cached (links m.cached next) ≢ 0 → marks m.cached (links m.cached (links m.cached next)) ≡ 0 =
@@ -205,6 +206,7 @@ module _ (s : Shape) (m : Memory) (l : Ledger) (claimed waiting : List ℕ) (b :
       } in
       let so_far : Written s (stored m w.place w.value) bg index = record {
         begun = g;
+        numbered = h.so_far.numbered;
         written = λ j v q e. (
           elim (put_cases m.cached w.place w.value v.place) [
             | inl t ↦ t.1 ∙ sym (one_plan s bg index j w v g h.in_hand e t.0)
@@ -253,6 +255,7 @@ module _ (s : Shape) (m : Memory) (l : Ledger) (claimed waiting : List ℕ) (b :
       arrives s (flushed m w.place) (kept_ledger s m l w.place) i bg (index + 1) g.0.before g.0.unmoved g.0.begun g.0.own
       (record {
         begun = g.0.so_far.begun;
+        numbered = g.0.so_far.numbered;
         written = λ j v q e. elim (cases_eq j index) [
           | inl t ↦
               let same : Some w ≡ Some v = sym g.0.in_hand ∙ ap (slice_get (preparation_of s.kind bg)) (sym t) ∙ e in
@@ -540,8 +543,8 @@ module _ (s : Shape) (m : Memory) (l : Ledger) (claimed waiting : List ℕ) (b :
   row_DequeueStoreResult token first next v claim h =
       let w : Token = winner claim token in
       let cached : marks m.cached next.0 ≡ (winner claim token).0 = b.marked.kept next.0 (λ z. h.1.some (sym h.1.marked ∙ z)) ∙ h.1.marked in
-      let node : next.0 ≤ greatest s = subst (λ x. x ≤ greatest s) h.1.claims.link (b.fits_kept (Next first)) in
-      let small : v ≤ 4294967295 = subst (λ x. x ≤ 4294967295) h.1.value (b.fits_kept (Value next)) in
+      let node : next.0 ≤ greatest s = subst (λ x. x ≤ greatest s) h.1.claims.link (b.fits_kept (Next first) tt) in
+      let small : v ≤ 4294967295 = subst (λ x. x ≤ 4294967295) h.1.value (b.fits_kept (Value next) tt) in
       anyone (DequeueStoreResult (record { token = token; first = first; next = next; value = v; claim = claim }))
       (More (DequeueFlushResult (record { token = token; first = first; next = next; value = v; claim = claim })))
       (stored m (result_of s.kind (winner claim token) next v).place (result_of s.kind (winner claim token) next v).value) l

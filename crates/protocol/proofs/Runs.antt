@@ -23,7 +23,7 @@ use Rattle.protocol.specs.Acts.Act.{Start, Step, Evict, Crash, Recover}
 use Rattle.protocol.specs.Machine.{World, started, new_world, MayStart, MayStep, FitsKind, FitsCall}
 use Rattle.protocol.specs.declared.UnderWay.{UnderWay}
 use Rattle.protocol.proofs.Facts.{Inv, InvAt, inv_new, inv_started, inv_stepped, inv_evicted, inv_crashed, inv_recovered, part_started, part_stepped, part_evicted, part_crashed, part_recovered, in_log, explained, agrees, told_is, chain_is}
-use Rattle.protocol.proofs.Chains.{Distinct, distinct}
+use Rattle.arena.proofs.Chains.{Distinct, distinct}
 use Rattle.protocol.proofs.Moments.{ledger_of, Working}
 use Rattle.protocol.proofs.Sound.{Sound, crash_sound}
 

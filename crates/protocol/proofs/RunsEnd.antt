@@ -1,72 +1,51 @@
 -- Recovery ends, whatever else happens meanwhile but another crash.
-use Rattle.std.proofs.Common.{if◌then◌else◌, Option, Bool, true, false, ◌≡◌, ℕ, suc, ◌+◌, ◌-◌, ◌*◌, ◌≤◌, List, [], ◌∷◌, Some, None, refl, sym, ◌∙◌, ap, subst, arith}
+use Rattle.std.proofs.Common.{if◌then◌else◌, Option, Bool, true, false, ◌≡◌, ℕ, ◌+◌, ◌-◌, ◌*◌, ◌≤◌, List, [], ◌∷◌, Some, None, refl, sym, ◌∙◌, ap, subst, arith}
 use Rattle.words.specs.declared.call.Call.{Call}
 use Rattle.words.specs.declared.call.Client.{Client}
 use Rattle.words.specs.declared.told.Told.{Told}
 use Rattle.arena.specs.Shape.{Shape, greatest}
-use Rattle.arena.specs.declared.place.Place.{Place}
 use Rattle.recover.specs.Table.{boot_point}
-use Rattle.recover.specs.declared.recovery.Recovered.{Recovered}
-use Rattle.recover.specs.declared.recovery.Recovered.TheVariants.{More, Ready}
 use Rattle.recover.specs.declared.recovery.Recovery.{Recovery}
-use Rattle.history.specs.Log.{queue_of}
 use Rattle.protocol.specs.Acts.{Act, may_start, starting, stepping, recovering, happens, run, recoveries, HasNoCrash, IsNew}
 use Rattle.protocol.specs.Acts.Act.{Start, Step, Evict, Crash, Recover}
-use Rattle.protocol.specs.Machine.{World, started, stepped, crashed, recovered, recovered_next, recovery_left, new_world}
+use Rattle.protocol.specs.Machine.{World, started, stepped, crashed, new_world}
 use Rattle.protocol.specs.declared.UnderWay.{UnderWay}
-use Rattle.protocol.proofs.Facts.{Inv, is_recovering, inv_crashed}
-use Rattle.protocol.proofs.RecoveringWorlds.{Recovering}
-use Rattle.protocol.proofs.RecoveryBound.{weight, IsLess, falls, weight_most}
+use Rattle.protocol.proofs.Facts.{Inv, inv_crashed, left_falls}
+use Rattle.protocol.specs.Measure.{weight, left_at, steps_left}
+use Rattle.protocol.proofs.RecoveryBound.{weight_most}
 use Rattle.protocol.proofs.Runs.{act_kept, run_kept, new_kept}
 
--- how many steps of recovery are left at most
-abbrev pub steps_left : Shape → (Place → ℕ) → Option Recovery → ℕ
-steps_left s c None = 0
-steps_left s c (Some r) = suc (weight s c r)
-
-abbrev pub ends_in : World → ℕ
-ends_in w = steps_left w.shape w.memory.cached w.recovery
-
 -- other acts take none of them
-start_left : (w : World) (client : Client) (number : ℕ) (call : Call) (r : Option Recovery) (u : Option UnderWay) → ends_in (starting w client number call r u) ≡ ends_in w
+start_left : (w : World) (client : Client) (number : ℕ) (call : Call) (r : Option Recovery) (u : Option UnderWay) → steps_left (starting w client number call r u) ≡ steps_left w
 start_left w client number call (Some r) u = refl
 start_left w client number call None (Some u) = refl
 start_left w client number call None None = go (may_start w client number call)
   where
-    go : (c : Bool) → ends_in (if c then started w client number call else w) ≡ ends_in w
+    go : (c : Bool) → steps_left (if c then started w client number call else w) ≡ steps_left w
     go true = refl
     go false = refl
 
-step_left : (w : World) (client : Client) (r : Option Recovery) (u : Option UnderWay) → w.recovery ≡ r → ends_in (stepping w client r u) ≡ ends_in w
+step_left : (w : World) (client : Client) (r : Option Recovery) (u : Option UnderWay) → w.recovery ≡ r → steps_left (stepping w client r u) ≡ steps_left w
 step_left w client (Some r) u e = refl
 step_left w client None None e = refl
-step_left w client None (Some u) e = ap (steps_left w.shape (stepped w client u).memory.cached) e ∙ sym (ap (steps_left w.shape w.memory.cached) e)
+step_left w client None (Some u) e = ap (left_at w.shape (stepped w client u).memory.cached) e ∙ sym (ap (left_at w.shape w.memory.cached) e)
 
 -- a step of recovery takes one
-recover_left : (w : World) → Inv w → (r : Option Recovery) → w.recovery ≡ r → ends_in (recovering w r) ≤ ends_in w - 1
+recover_left : (w : World) → Inv w → (r : Option Recovery) → w.recovery ≡ r → steps_left (recovering w r) ≤ steps_left w - 1
 recover_left w v None e =
-    let zero : ends_in w ≡ 0 = ap (steps_left w.shape w.memory.cached) e in
+    let zero : steps_left w ≡ 0 = ap (left_at w.shape w.memory.cached) e in
     omega (arith, zero)
-recover_left w v (Some r) e =
-    let x : Recovering w r = is_recovering w v r e in
-    let now : ends_in w ≡ suc (weight w.shape w.memory.cached r) = ap (steps_left w.shape w.memory.cached) e in
-    let next : IsLess w.shape (recovered w r).memory.cached (recovered_next w r) (weight w.shape w.memory.cached r) =
-    falls w.shape w.memory x.claimed x.waiting (queue_of w.log.events w.base w.log.effects) x.sound r x.at in
-    omega (arith, now, go (recovered_next w r) next)
-  where
-    go : (a : Recovered) → IsLess w.shape (recovered w r).memory.cached a (weight w.shape w.memory.cached r) → steps_left w.shape (recovered w r).memory.cached (recovery_left a) ≤ weight w.shape w.memory.cached r
-    go (More q) h = omega (arith, h)
-    go (Ready told) h = omega arith
+recover_left w v (Some r) e = omega (arith, left_falls w v r e)
 
-pub left_none : (w : World) → ends_in w ≡ 0 → w.recovery ≡ None
+pub left_none : (w : World) → steps_left w ≡ 0 → w.recovery ≡ None
 left_none w z = go w.recovery z
   where
-    go : (r : Option Recovery) → steps_left w.shape w.memory.cached r ≡ 0 → r ≡ None
+    go : (r : Option Recovery) → left_at w.shape w.memory.cached r ≡ 0 → r ≡ None
     go None h = refl
     go (Some r) h = absurd (omega (arith, h))
 
 -- so it ends
-pub all_left : (acts : List Act) (w : World) → Inv w → HasNoCrash acts → ends_in w ≤ recoveries acts → (run w acts).recovery ≡ None
+pub all_left : (acts : List Act) (w : World) → Inv w → HasNoCrash acts → steps_left w ≤ recoveries acts → (run w acts).recovery ≡ None
 all_left [] w v none le = left_none w (omega (arith, le))
 all_left (Start client number call ∷ acts) w v none le =
     all_left acts (happens w (Start client number call)) (act_kept w v (Start client number call)).inv none

@@ -11,7 +11,8 @@ use Rattle.arena.specs.declared.place.Place.TheVariants.{Head, Tail, Insert, Num
 use Rattle.helping.specs.Table.{token_of, node_of}
 use Rattle.protocol.specs.Machine.{Memory}
 use Rattle.protocol.specs.Kept.{IsAnnounced, IsIssued}
-use Rattle.protocol.proofs.Chains.{end_of, in_end_of, after_end, leads_end, end_is_last}
+use Rattle.protocol.specs.Recovered.{end_of}
+use Rattle.protocol.proofs.Chains.{in_end_of, after_end, leads_end, end_is_last}
 use Rattle.protocol.proofs.Links.{Marks}
 use Rattle.protocol.proofs.State.{Ledger, Blank, Absent, AllFit, SaysEmpty, Base}
 use Rattle.protocol.proofs.State.Stage.{Unmoved, Took}
@@ -54,6 +55,8 @@ both_still m p v h = (h.1, h.1)
 entry_still : (m : Memory) (e : ℕ) → IsEntry m e → IsEntry (still m.kept) e
 entry_still m e h = record {
   number = h.number;
+  some = h.some;
+  in_range = h.in_range;
   numbered = both_still m (Number (token_of e)) h.number h.numbered;
   kind = elim h.kind [
     | inl q ↦ inl (both_still m (EntryKind (token_of e)) 1 q.0, both_still m (EntryNode (token_of e)) e q.1)

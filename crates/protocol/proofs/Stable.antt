@@ -24,7 +24,8 @@ use Rattle.helping.specs.declared.dequeue.Claim.TheVariants.{Won, LostTo}
 use Rattle.helping.specs.declared.op.Op.{Op}
 use Rattle.helping.specs.declared.op.Op.TheVariants.{PrepareStore, PrepareFlush, EnqueueLoadTail, EnqueueLoadNext, EnqueueCheckTail, EnqueueLink, EnqueueFlushLink, EnqueueMoveTail, EnqueueFlushPassedLink, EnqueueHelpTail, DequeueLoadHead, DequeueLoadTail, DequeueLoadNext, DequeueCheckHead, DequeueStoreEmpty, DequeueFlushEmpty, DequeueFlushPassedLink, DequeueHelpTail, DequeueLoadValue, DequeueClaim, DequeueFlushClaim, DequeueStoreResult, DequeueFlushResult, DequeueMoveHead}
 use Rattle.protocol.specs.Machine.{Memory}
-use Rattle.protocol.proofs.Chains.{leads_grows, leads_trans}
+use Rattle.arena.proofs.Chains.{leads_trans}
+use Rattle.protocol.proofs.Chains.{leads_grows}
 use Rattle.protocol.proofs.State.{IsOfRecord, Ledger, asked, IsOwn, IsAnswer, home, SaysEmpty, Mine, Loose, Before, Preparing, Prepared, Acting, Enqueuing, Linked, Dequeuing, IsPassed, WasTail, Claims, Claimer, Claimed, Knows, Grows}
 
 -- where an empty answer is written
@@ -157,6 +158,7 @@ module _ (a i : ℕ) (s : Shape) (m : Memory) (l : Ledger) (n : Memory) (k : Led
     in_hand = h.in_hand;
     so_far = record {
       begun = h.so_far.begun;
+      numbered = h.so_far.numbered;
       written = λ j v q e. write_stands b j v h.own h.before.mine.own (inr h.before.loose.mark) e (h.so_far.written j v q e);
     };
     bump = subst (λ x. x ≤ b.used + 1) (sym (g.at_own (Bump (record { 0 = i })) tt ne (λ r. absurd r))) h.bump;

@@ -11,12 +11,12 @@ use Rattle.words.specs.declared.call.Token.{Token}
 use Rattle.arena.specs.Answers.{empty_answer_of, result_of}
 use Rattle.arena.specs.Chain.{IsAmong, LeadsTo}
 use Rattle.arena.specs.Place.{number_of}
-use Rattle.arena.specs.Ranges.{Fits}
+use Rattle.arena.specs.Ranges.{Fits, IsReadByCalls}
 use Rattle.arena.specs.Shape.{Shape, owner}
 use Rattle.arena.specs.Words.{links, marks, values, bumps, announcements, IsWritten}
 use Rattle.arena.specs.declared.place.Write.{Write}
 use Rattle.arena.specs.declared.place.Place.{Place}
-use Rattle.arena.specs.declared.place.Place.TheVariants.{Head, Tail, Announcement, Bump, Next, Mark, Cell, Insert, Number, EntryKind, Status, EntryNode}
+use Rattle.arena.specs.declared.place.Place.TheVariants.{Head, Tail, Announcement, Bump, Value, Next, Mark, Cell, Insert, Number, EntryKind, Status, EntryNode}
 use Rattle.stepper.specs.Preparation.{preparation_of, IsBegun}
 use Rattle.stepper.specs.declared.prepare.Begun.{Begun}
 use Rattle.helping.specs.Claims.{winner}
@@ -69,14 +69,15 @@ IsAnswer (Cell c) = Unit {0}
 IsAnswer (EntryNode e) = Unit {0}
 IsAnswer _ = ⊥
 
--- a word of this kind of queue
+-- a word of this kind of queue; node 0 has no value, and there is no record 0
 abbrev pub IsOfKind : Kind → Place → Type 0
-IsOfKind kind (Cell c) = kind ≡ Durable
-IsOfKind kind (Insert n) = kind ≡ Log
-IsOfKind kind (Number e) = kind ≡ Log
-IsOfKind kind (EntryKind e) = kind ≡ Log
-IsOfKind kind (Status e) = kind ≡ Log
-IsOfKind kind (EntryNode e) = kind ≡ Log
+IsOfKind kind (Value n) = n.0 ≢ 0
+IsOfKind kind (Cell c) = (kind ≡ Durable) × (c.0 ≢ 0)
+IsOfKind kind (Insert n) = (kind ≡ Log) × (n.0 ≢ 0)
+IsOfKind kind (Number e) = (kind ≡ Log) × (e.0 ≢ 0)
+IsOfKind kind (EntryKind e) = (kind ≡ Log) × (e.0 ≢ 0)
+IsOfKind kind (Status e) = (kind ≡ Log) × (e.0 ≢ 0)
+IsOfKind kind (EntryNode e) = (kind ≡ Log) × (e.0 ≢ 0)
 IsOfKind kind _ = Unit {0}
 
 -- whose it is
@@ -102,12 +103,13 @@ SaysEmpty s f c = Says s (empties s f) c
 abbrev pub Blank : Shape → (Place → ℕ) → (Place → ℕ) → Type 0
 Blank s issued f = (p : Place) → IsOfRecord p → number_of p ≢ 0 → (IsIssued s issued (number_of p) → ⊥) → f p ≡ 0
 
--- words of the other kind of queue are 0
+-- words of the other kind of queue are 0, and the value of node 0 and the words of a record 0
 abbrev pub Absent : Shape → (Place → ℕ) → Type 0
 Absent s f = (p : Place) → (IsOfKind s.kind p → ⊥) → f p ≡ 0
 
+-- what calls read is in range
 abbrev pub AllFit : Shape → (Place → ℕ) → Type 0
-AllFit s f = (p : Place) → Fits s p (f p)
+AllFit s f = (p : Place) → IsReadByCalls p → Fits s p (f p)
 
 -- an enqueue that linked its node c, which is not kept
 pub record IsLinking (s : Shape) (l : Ledger) (value : ℕ → ℕ) (c : ℕ) : Type 0 where
@@ -187,9 +189,10 @@ pub record Before (s : Shape) (m : Memory) (l : Ledger) (i c : ℕ) : Type 0 whe
   pub silent : SaysEmpty s m.cached c → ⊥
   pub untaken : (reply : Reply) → l.stage i ≢ Took reply
 
--- the first of its record's words are kept
+-- the first of its record's words are kept, and in a log queue it has a number
 pub record Written (s : Shape) (m : Memory) (b : Begun) (index : ℕ) : Type 0 where
   pub begun : IsBegun s b
+  pub numbered : s.kind ≡ Log → 1 ≤ b.number
   pub written : (j : ℕ) (w : Write) → j < index → slice_get (preparation_of s.kind b) j ≡ Some w → IsWritten m.cached w × IsWritten m.kept w
 
 -- none of its writes up to this one is of the place

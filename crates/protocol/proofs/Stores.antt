@@ -18,7 +18,8 @@ use Rattle.arena.specs.declared.place.Place.TheVariants.{Head, Tail, Announcemen
 use Rattle.helping.specs.Table.{token_of, node_of}
 use Rattle.protocol.specs.Machine.{Memory, put, stored}
 use Rattle.protocol.specs.Kept.{IsAnnounced, IsIssued}
-use Rattle.protocol.proofs.Chains.{upd, upd_same, upd_other, upd_cases, Distinct, distinct, not_again, parts_apart, leads_at, leads_trans, leads_in, leads_next, leads_last, rest_chain, first_among, in_left, in_right, in_chain, linked_by}
+use Rattle.arena.proofs.Chains.{Distinct, distinct, not_again, parts_apart, leads_at, leads_trans, in_left, in_right}
+use Rattle.protocol.proofs.Chains.{upd, upd_same, upd_other, upd_cases, leads_in, leads_next, leads_last, rest_chain, first_among, in_chain, linked_by}
 use Rattle.protocol.proofs.Links.{kept_none, Links, Marks, off_chain, no_link_of, new_link, new_mark, first_waiting, first_split, first_one}
 use Rattle.std.proofs.lemmas.Bool.{cases_eq}
 use Rattle.words.specs.declared.call.Reply.TheVariants.{Done}
@@ -113,7 +114,7 @@ module _ (s : Shape) (m : Memory) (l : Ledger) (claimed waiting : List ℕ) (b :
   store_absent = put_absent s m.cached p v (λ none. absurd (none may.of_kind)) b.absent
 
   store_fits : AllFit s (put m.cached p v)
-  store_fits = put_fits s m.cached p v may.fits b.fits
+  store_fits = put_fits s m.cached p v (λ read. may.fits) b.fits
 
   store_empty : (IsEmptyWord p → ⊥) → Empties s l (marks m.cached) (empties s (put m.cached p v)) (empties s m.kept)
   store_empty none = subst (λ e. Empties s l (marks m.cached) e (empties s m.kept)) (sym (put_empties s m.cached p v none)) b.empty
@@ -477,10 +478,10 @@ module _ (s : Shape) (m : Memory) (l : Ledger) (claimed waiting : List ℕ) (b :
     where
       go : (kind : Kind) → s.kind ≡ kind → Base s (stored m (empty_answer_of s.kind c).place (empty_answer_of s.kind c).value) l claimed waiting
       go Durable e = subst (λ k. Base s (stored m (empty_answer_of k c).place (empty_answer_of k c).value) l claimed waiting) (sym e)
-          (cell_base c 1 e (record { issued = λ r q. issued; of_kind = e; fits = omega arith })
+          (cell_base c 1 e (record { issued = λ r q. issued; of_kind = (e, some); fits = omega arith })
           (yes_empties s l (marks m.cached) (empties s m.cached) (empties s m.kept) c.0 1 b.empty now (ap (λ k. (empty_answer_of k c).value) e)))
       go Log e = subst (λ k. Base s (stored m (empty_answer_of k c).place (empty_answer_of k c).value) l claimed waiting) (sym e)
-          (status_base c 2 e (record { issued = λ r q. issued; of_kind = e; fits = omega arith })
+          (status_base c 2 e (record { issued = λ r q. issued; of_kind = (e, some); fits = omega arith })
           (yes_empties s l (marks m.cached) (empties s m.cached) (empties s m.kept) c.0 2 b.empty now (ap (λ k. (empty_answer_of k c).value) e)))
 
   -- the result of a kept claim is stored
@@ -490,13 +491,13 @@ module _ (s : Shape) (m : Memory) (l : Ledger) (claimed waiting : List ℕ) (b :
     where
       go : (kind : Kind) → s.kind ≡ kind → Base s (stored m (result_of s.kind c n v).place (result_of s.kind c n v).value) l claimed waiting
       go Durable e = subst (λ k. Base s (stored m (result_of k c n v).place (result_of k c n v).value) l claimed waiting) (sym e)
-          (cell_base c (v + 2) e (record { issued = λ r q. subst (IsIssued s m.kept) named (b.issued_mark n.0 some); of_kind = e; fits = omega (arith, small) })
+          (cell_base c (v + 2) e (record { issued = λ r q. subst (IsIssued s m.kept) named (b.issued_mark n.0 some); of_kind = (e, λ z. some (named ∙ z)); fits = omega (arith, small) })
           (no_empties s l (marks m.cached) (empties s m.cached) (empties s m.kept) c.0 (v + 2) b.empty
           (λ q. let two : 1 ≡ v + 2 = sym (ap (λ k. (empty_answer_of k c).value) e) ∙ q in absurd (omega (arith, two)))
           (record { at = n.0; some = some; named = named })))
       go Log e = subst (λ k. Base s (stored m (result_of k c n v).place (result_of k c n v).value) l claimed waiting) (sym e)
           (own_base s m l claimed waiting b (EntryNode c) n.0
-          (record { issued = λ r q. subst (IsIssued s m.kept) named (b.issued_mark n.0 some); of_kind = e; fits = node })
+          (record { issued = λ r q. subst (IsIssued s m.kept) named (b.issued_mark n.0 some); of_kind = (e, λ z. some (named ∙ z)); fits = node })
           tt (λ q. q) (λ x q. absurd (cc)) (λ t q. absurd (cc)) (λ t q. absurd (cc)))
 
 module _ (s : Shape) (m : Memory) (l : Ledger) (claimed waiting : List ℕ) (b : Base s m l claimed waiting) (a : ℕ) where

@@ -34,6 +34,8 @@ use Rattle.history.proofs.Lists.{get_longer, get_before}
 use Rattle.history.proofs.Members.{in_part, in_from_contains, contains_from_in}
 use Rattle.protocol.specs.Machine.{Memory}
 use Rattle.protocol.specs.declared.UnderWay.{UnderWay}
+use Rattle.protocol.specs.declared.Issued.{Issued}
+use Rattle.protocol.specs.Announced.{IsCallOf, IsNobodys}
 use Rattle.protocol.specs.Kept.{OutcomeBy, RowBy, TellsBy}
 use Rattle.protocol.proofs.State.{Ledger, held, SaysEmpty, Base}
 use Rattle.protocol.proofs.State.Stage.{Took}
@@ -42,9 +44,34 @@ use Rattle.protocol.proofs.Records.{TookBy, Records}
 use Rattle.protocol.proofs.Stages.{stage_at, taken_as_took, stage_in_order, in_order_stage}
 use Rattle.protocol.proofs.Moments.{IsCalling}
 
--- a client is told rightly, if a Ready comes now
-abbrev pub IsTold : Kind → List Told → List Event → List Entry → Client → Told → Type 0
-IsTold kind base events order client told = IsToldSome kind events order client (length events) told ⊎ IsToldBase kind base events order client (length events) told
+-- the call of client t with the number n at the place p is that of the record e, or the record has no call
+pub record Names (issued : List Issued) (e t n p : ℕ) : Type 0 where
+  pub some : e ≢ 0
+  pub call : Issued
+  pub of : IsCallOf issued e call
+  pub own : call.begun.client.0 ≡ t
+  pub number : call.begun.number ≡ n
+  pub place : call.place ≡ p
+
+abbrev pub NamesNobody : List Issued → ℕ → Type 0
+NamesNobody issued e = (e ≡ 0) ⊎ IsNobodys issued e
+
+-- a client is told rightly of the call of record e, if a Ready comes now
+abbrev pub IsTold : Kind → List Told → List Issued → ℕ → List Event → List Entry → Client → Told → Type 0
+IsTold kind base issued e events order client told =
+    ((x : IsToldSome kind events order client (length events) told) × Names issued e client.0 x.tells.number x.place) ⊎ (IsToldBase kind base events order client (length events) told × NamesNobody issued e)
+
+-- by what is told, and not of which call
+pub told_rightly : (kind : Kind) (base : List Told) (issued : List Issued) (e : ℕ) (events : List Event) (order : List Entry) (client : Client) (told : Told)
+    → IsTold kind base issued e events order client told → IsToldSome kind events order client (length events) told ⊎ IsToldBase kind base events order client (length events) told
+told_rightly kind base issued e events order client told (inl h) = inl h.0
+told_rightly kind base issued e events order client told (inr h) = inr h.0
+
+-- the record has the same call
+pub told_renamed : (kind : Kind) (base : List Told) (issued other : List Issued) (e o : ℕ) (events : List Event) (order : List Entry) (client : Client) (told : Told)
+    → ((number p : ℕ) → Names issued e client.0 number p → Names other o client.0 number p) → (NamesNobody issued e → NamesNobody other o) → IsTold kind base issued e events order client told → IsTold kind base other o events order client told
+told_renamed kind base issued other e o events order client told names nobody (inl h) = inl (h.0, names h.0.tells.number h.0.place h.1)
+told_renamed kind base issued other e o events order client told names nobody (inr h) = inr (h.0, nobody h.1)
 
 -- another event, of which the order knows nothing
 none_taken_push : (kind : Kind) (events : List Event) (event : Event) (order : List Entry) (client : Client) (from : ℕ) → (InOrder order (length events) → ⊥) → HasNoneTaken kind events order client from (length events)
@@ -62,53 +89,62 @@ none_taken_push kind events event order client from new h = record {
   ];
 }
 
-pub told_push : (kind : Kind) (base : List Told) (events : List Event) (event : Event) (order : List Entry) (client : Client) (told : Told) → (InOrder order (length events) → ⊥)
-    → IsTold kind base events order client told → IsTold kind base (events ++ event ∷ []) order client told
-told_push kind base events event order client told new (inl h) = inl (record {
-  place = h.place;
-  before = omega (arith, h.before, length_push events event);
-  tells = record {
-    number = h.tells.number;
-    begins = record {
-      call = h.tells.begins.call;
-      begins = get_longer events (event ∷ []) h.place (call_event client h.tells.number h.tells.begins.call) h.tells.begins.begins;
-      told_of = h.tells.begins.told_of;
+pub told_push : (kind : Kind) (base : List Told) (issued : List Issued) (e : ℕ) (events : List Event) (event : Event) (order : List Entry) (client : Client) (told : Told) → (InOrder order (length events) → ⊥)
+    → IsTold kind base issued e events order client told → IsTold kind base issued e (events ++ event ∷ []) order client told
+told_push kind base issued e events event order client told new (inl h) = inl (
+  record {
+    place = h.0.place;
+    before = omega (arith, h.0.before, length_push events event);
+    tells = record {
+      number = h.0.tells.number;
+      begins = record {
+        call = h.0.tells.begins.call;
+        begins = get_longer events (event ∷ []) h.0.place (call_event client h.0.tells.number h.0.tells.begins.call) h.0.tells.begins.begins;
+        told_of = h.0.tells.begins.told_of;
+      };
+      last = none_taken_push kind events event order client (h.0.place + 1) new h.0.tells.last;
+      says = h.0.tells.says;
     };
-    last = none_taken_push kind events event order client (h.place + 1) new h.tells.last;
-    says = h.tells.says;
-  };
-})
-told_push kind base events event order client told new (inr h) = inr (record { none = none_taken_push kind events event order client 0 new h.none; same = h.same })
+  },
+  h.1,
+)
+told_push kind base issued e events event order client told new (inr h) = inr (record { none = none_taken_push kind events event order client 0 new h.0.none; same = h.0.same }, h.1)
 
 -- an effect of a call that this client is not told of
-pub told_more : (kind : Kind) (base : List Told) (events : List Event) (p : ℕ) (order more : List Entry) (client : Client) (told : Told) → IsMoreBy p order more → ((number : ℕ) → BeginsTold kind events client p number → ⊥)
-    → IsTold kind base events order client told → IsTold kind base events more client told
-told_more kind base events p order more client told by other (inl h) = inl (record {
-  place = h.place;
-  before = h.before;
-  tells = record {
-    number = h.tells.number;
-    begins = h.tells.begins;
-    last = record {
-      none = λ q low high taken. h.tells.last.none q low high (record {
+pub told_more : (kind : Kind) (base : List Told) (issued : List Issued) (e : ℕ) (events : List Event) (p : ℕ) (order more : List Entry) (client : Client) (told : Told) → IsMoreBy p order more → ((number : ℕ) → BeginsTold kind events client p number → ⊥)
+    → IsTold kind base issued e events order client told → IsTold kind base issued e events more client told
+told_more kind base issued e events p order more client told by other (inl h) = inl (
+  record {
+    place = h.0.place;
+    before = h.0.before;
+    tells = record {
+      number = h.0.tells.number;
+      begins = h.0.tells.begins;
+      last = record {
+        none = λ q low high taken. h.0.tells.last.none q low high (record {
+          number = taken.number;
+          begins = taken.begins;
+          taken = by.only q (λ e. other taken.number (subst (λ x. BeginsTold kind events client x taken.number) e taken.begins)) taken.taken;
+        });
+      };
+      says = says_longer kind p order more h.0.place h.0.tells.number told (λ e. other h.0.tells.number (subst (λ x. BeginsTold kind events client x h.0.tells.number) e h.0.tells.begins)) by h.0.tells.says;
+    };
+  },
+  h.1,
+)
+told_more kind base issued e events p order more client told by other (inr h) = inr (
+  record {
+    none = record {
+      none = λ q low high taken. h.0.none.none q low high (record {
         number = taken.number;
         begins = taken.begins;
         taken = by.only q (λ e. other taken.number (subst (λ x. BeginsTold kind events client x taken.number) e taken.begins)) taken.taken;
       });
     };
-    says = says_longer kind p order more h.place h.tells.number told (λ e. other h.tells.number (subst (λ x. BeginsTold kind events client x h.tells.number) e h.tells.begins)) by h.tells.says;
-  };
-})
-told_more kind base events p order more client told by other (inr h) = inr (record {
-  none = record {
-    none = λ q low high taken. h.none.none q low high (record {
-      number = taken.number;
-      begins = taken.begins;
-      taken = by.only q (λ e. other taken.number (subst (λ x. BeginsTold kind events client x taken.number) e taken.begins)) taken.taken;
-    });
-  };
-  same = h.same;
-})
+    same = h.0.same;
+  },
+  h.1,
+)
 
 -- effects that differ in one call's stage
 pub more_by_stage : (p : ℕ) (old new : List Effect) → IsPartOf (order_of old) (order_of new) → ((q : ℕ) → q ≢ p → stage_at q new ≡ stage_at q old) → IsMoreBy p (order_of old) (order_of new)
@@ -216,21 +252,25 @@ module _ (s : Shape) (m : Memory) (l : Ledger) (claimed waiting : List ℕ) (b :
   says_right Durable k ne (told_verdict v) o = o
 
   -- no later call of the client stands in the history
-  pub announced_told : (client : Client) → client.0 ≡ i → u.begun.token.0 ≢ 0 → (t : Told) → TellsBy s.kind m.kept i t → IsTold s.kind told events (order_of effects) client t
-  announced_told client who ne t h =
+  pub announced_told : (issued : List Issued) (client : Client) → client.0 ≡ i → u.begun.token.0 ≢ 0 → Names issued (announcements m.kept i) client.0 u.begun.number u.place → (t : Told) → TellsBy s.kind m.kept i t
+      → IsTold s.kind told issued (announcements m.kept i) events (order_of effects) client t
+  announced_told issued client who ne names t h =
       let client_is : u.begun.client ≡ client = ap (λ (x : ℕ). let k : Client = record { 0 = x } in k) (c.who ∙ sym who) in
       let open_from : IsOpenFrom events client (length events) u.place = subst (λ x. IsOpenFrom events x (length events) u.place) client_is c.open_from in
-      inl (record {
-        place = u.place;
-        before = begins_within events client u.place open_from.begins;
-        tells = record {
-          number = u.begun.number;
-          begins = record { call = u.begun.call; begins = subst (λ x. CallAt events u.place x u.begun.number u.begun.call) client_is c.stands; told_of = of };
-          last = record {
-            none = λ q low high taken.
-                let way : IsOpenFrom events client q u.place = open_less events client (length events) q u.place (omega (arith, high)) open_from in
-                (log.places q (call_event client taken.number taken.begins.call) taken.begins.begins).1.0 (record { place = u.place; before = omega (arith, low); open_from = way });
+      inl (
+        record {
+          place = u.place;
+          before = begins_within events client u.place open_from.begins;
+          tells = record {
+            number = u.begun.number;
+            begins = record { call = u.begun.call; begins = subst (λ x. CallAt events u.place x u.begun.number u.begun.call) client_is c.stands; told_of = of };
+            last = record {
+              none = λ q low high taken.
+                  let way : IsOpenFrom events client q u.place = open_less events client (length events) q u.place (omega (arith, high)) open_from in
+                  (log.places q (call_event client taken.number taken.begins.call) taken.begins.begins).1.0 (record { place = u.place; before = omega (arith, low); open_from = way });
+            };
+            says = says_right s.kind refl ne t h;
           };
-          says = says_right s.kind refl ne t h;
-        };
-      })
+        },
+        names,
+      )

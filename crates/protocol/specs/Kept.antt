@@ -10,7 +10,7 @@ use Rattle.words.specs.declared.told.Row.TheVariants.{NoCall, Open, Empty as row
 use Rattle.words.specs.declared.told.Told.{Told}
 use Rattle.words.specs.declared.told.Told.TheVariants.{None as told_none, Verdict as told_verdict, Row as told_row}
 use Rattle.arena.specs.Chain.{IsChain, IsAmong, LeadsTo}
-use Rattle.arena.specs.Ranges.{Fits}
+use Rattle.arena.specs.Ranges.{Fits, IsReadByCalls}
 use Rattle.arena.specs.Shape.{Shape, owner}
 use Rattle.arena.specs.Words.{links, marks, values, bumps, cells, numbers, entry_kinds, statuses, announcements}
 use Rattle.arena.specs.declared.place.Place.{Place}
@@ -25,7 +25,7 @@ abbrev pub IsAnnounced : Shape → (Place → ℕ) → ℕ → ℕ → Type 0
 IsAnnounced s kept t e = e ≢ 0 → (owner s e ≡ t) × IsIssued s kept e
 
 -- the links are a chain from node 0, of which the claimed nodes come first; links, marks and announcements name issued
--- records, no mark stands twice, and the tail is on the chain
+-- records, no mark stands twice, the tail is on the chain, and every word that calls read is in range
 pub record IsSound (s : Shape) (k : Place → ℕ) : Type 0 where
   pub claimed : List ℕ
   pub waiting : List ℕ
@@ -38,7 +38,7 @@ pub record IsSound (s : Shape) (k : Place → ℕ) : Type 0 where
   pub one_mark : (n j : ℕ) → marks k n ≢ 0 → marks k n ≡ marks k j → n ≡ j
   pub announced : (t : ℕ) → IsAnnounced s k t (announcements k t)
   pub tail : LeadsTo (links k) (k Tail) 0
-  pub fits : (p : Place) → Fits s p (k p)
+  pub fits : (p : Place) → IsReadByCalls p → Fits s p (k p)
 
 -- what the kept words say became of the entry e
 abbrev pub OutcomeBy : (Place → ℕ) → ℕ → Outcome → Type 0

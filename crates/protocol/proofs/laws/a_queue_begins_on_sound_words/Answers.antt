@@ -1,0 +1,5 @@
+use Rattle.protocol.proofs.RunsBooted.{booted_explained}
+use Rattle.protocol.proofs.laws.a_queue_begins_on_sound_words.Goals as goal
+
+pub returns : goal.returns
+returns c = booted_explained
