@@ -10,10 +10,12 @@ use Rattle.protocol.specs.Machine.{World, next_of, stepped, with_next}
 use Rattle.protocol.specs.declared.UnderWay.{UnderWay}
 use Rattle.protocol.proofs.Facts.{is_ready}
 use Rattle.protocol.proofs.Bound.{left, left_most, Falls, step_falls}
+use Rattle.std.specs.Prelude.{is_some}
+use Rattle.recover.specs.declared.recovery.Recovery.{Recovery}
 use Rattle.interleave.specs.Calls.{answer_of, waiting_result}
 use Rattle.interleave.specs.Holds.{Holds, of_keeps}
-use Rattle.interleave.specs.State.{State, Laid, as_machine, gone_on, after_step, step_with, step_result, step_result_with}
-use Rattle.interleave.proofs.HoldsKept.{may_step, gone_on_is}
+use Rattle.interleave.specs.State.{State, Laid, as_machine, is_down, gone_on, after_step, step_with, step_result, step_result_with}
+use Rattle.interleave.proofs.HoldsKept.{ready_if_called, may_step, gone_on_is}
 
 -- how many steps the call has left at most, and 0 where there is none
 abbrev pub left_of : {L : Type 0} → Laid L → State L → Option (Option UnderWay) → ℕ
@@ -39,11 +41,15 @@ get_set (y ∷ xs) (suc i) x h = get_set xs i x (omega (arith, h))
 
 module _ {L : Type 0} (laid : Laid L) (laws : (l : L) → IsLaidOut (laid.shape l) (laid.word_of l) (laid.place_at l) (laid.size_of l)) (w : State L) (client : Client) (u : UnderWay) (here : slice_get w.calls client.0 ≡ Some (Some u)) where
   -- what its step leaves, memory being there
-  pub step_is : after_step laid false w client ≡ gone_on laid w client u
-  step_is = ap (λ (o : Option (Option UnderWay)). step_with laid false w client (waiting_result o)) here
+  pub step_is : Holds laid w → after_step laid false w client ≡ gone_on laid w client u
+  step_is holds =
+      ap (λ (o : Option (Option UnderWay)). step_with laid false w client (waiting_result (is_down w) o)) here
+      ∙ ap (λ (r : Option Recovery). step_with laid false w client (waiting_result (is_some r) (Some (Some u)))) (ready_if_called laid laws w client u holds here)
 
-  pub answer_is : step_result laid false w client ≡ Ok (answer_of (next_of (as_machine laid w) u))
-  answer_is = ap (λ (o : Option (Option UnderWay)). step_result_with laid false w (waiting_result o)) here
+  pub answer_is : Holds laid w → step_result laid false w client ≡ Ok (answer_of (next_of (as_machine laid w) u))
+  answer_is holds =
+      ap (λ (o : Option (Option UnderWay)). step_result_with laid false w (waiting_result (is_down w) o)) here
+      ∙ ap (λ (r : Option Recovery). step_result_with laid false w (waiting_result (is_some r) (Some (Some u)))) (ready_if_called laid laws w client u holds here)
 
   -- it goes on, with fewer steps left
   pub record GoesOn : Type 0 where
@@ -55,7 +61,7 @@ module _ {L : Type 0} (laid : Laid L) (laws : (l : L) → IsLaidOut (laid.shape 
   goes_on holds none = go (next_of (as_machine laid w) u) refl none
     where
       falls : Falls (laid.shape w.layout) (stepped (as_machine laid w) client u).memory (next_of (as_machine laid w) u) (left (laid.shape w.layout) (as_machine laid w).memory u.op)
-      falls = step_falls (as_machine laid w) (is_ready (as_machine laid w) (of_keeps _ holds.inv) refl).working client u (may_step laid laws w client u here)
+      falls = step_falls (as_machine laid w) (is_ready (as_machine laid w) (of_keeps _ holds.inv) (ready_if_called laid laws w client u holds here)).working client u (may_step laid laws w client u holds here)
 
       go : (a : After Op) → next_of (as_machine laid w) u ≡ a → answer_of a ≡ None → GoesOn
       go (Done reply) e none2 = cc

@@ -6,6 +6,7 @@ use Rattle.persist.specs.declared.access.Change.{Change}
 use Rattle.arena.specs.Laws.{IsLaidOut}
 use Rattle.arena.specs.Place.{IsPlace}
 use Rattle.arena.specs.declared.place.Place.{Place}
+use Rattle.recover.specs.declared.recovery.Recovery.{Recovery}
 use Rattle.protocol.specs.Machine.{Log, noticed, after_keeping}
 use Rattle.protocol.specs.declared.UnderWay.{UnderWay}
 use Rattle.protocol.proofs.Facts.{evict_room}
@@ -50,11 +51,12 @@ module _ {L : Type 0} (laid : Laid L) (laws : (l : L) → IsLaidOut (laid.shape 
   room_is = evict_room (as_machine laid (state_with layout ws queue calls t)) (of_keeps _ holds.inv) p
 
   -- the world that it leaves
-  pub left_is : (now : Words) (after : Traced) → now ≡ evicted_word word ws → after.base ≡ t.base → after.told ≡ t.told → after.log ≡ (let l : Log = record t.log { effects = after_keeping (as_machine laid (state_with layout ws queue calls t)) p } in l)
+  pub left_is : (now : Words) (after : Traced) → now ≡ evicted_word word ws → after.base ≡ t.base → after.told ≡ t.told → after.log ≡ (let l : Log = record t.log { effects = after_keeping (as_machine laid (state_with layout ws queue calls t)) p } in l) → after.recovery ≡ t.recovery
       → state_with layout now queue calls after ≡ after_evict laid (state_with layout ws queue calls t) word
-  left_is now after words base told log =
+  left_is now after words base told log recovery =
       ap (λ (m : Words). state_with layout m queue calls after) words
       ∙ ap (λ (b : List ℕ). let w : State L = record (state_with layout (evicted_word word ws) queue calls after) { base = b } in w) base
       ∙ ap (λ o. let w : State L = record (state_with layout (evicted_word word ws) queue calls after) { base = t.base; told = o } in w) told
-      ∙ ap (λ (l : Log). let w : State L = record (state_with layout (evicted_word word ws) queue calls t) { log = l } in w) log
+      ∙ ap (λ (l : Log). let w : State L = record (state_with layout (evicted_word word ws) queue calls t) { log = l; recovery = after.recovery } in w) log
+      ∙ ap (λ (r : Option Recovery). let w : State L = record (evict_with laid (state_with layout ws queue calls t) word (Some p)) { recovery = r } in w) recovery
       ∙ ap (evict_with laid (state_with layout ws queue calls t) word) (sym named)

@@ -1,5 +1,6 @@
 -- Each act keeps what holds of a world, and is the machine's.
-use Rattle.std.proofs.Common.{◌≡◌, ◌≢◌, ◌+◌, ◌-◌, ◌++◌, nat_lt, ℕ, zero, suc, replicate, ◌<◌, ◌≤◌, inl, inr, Bool, true, false, if◌then◌else◌, ◌==◌, List, length, Option, Some, None, Result, Ok, Err, slice_get, slice_index, slice_index_or, slice_set, refl, sym, ap, ◌∙◌, subst, arith, get_or-set_other}
+use Rattle.std.proofs.Common.{◌≡◌, ◌≢◌, ◌+◌, ◌-◌, ◌++◌, nat_lt, ℕ, zero, suc, replicate, ◌<◌, ◌≤◌, inl, inr, Bool, true, false, if◌then◌else◌, ◌==◌, List, [], ◌∷◌, map, length, Option, Some, None, Result, Ok, Err, slice_get, slice_index, slice_index_or, slice_set, refl, sym, ap, ◌∙◌, subst, arith, get_or-set_other}
+use Rattle.std.specs.Prelude.{is_some, filter}
 use mathlib.Core.Path.{fun_ext}
 use Rattle.std.proofs.lemmas.Bool.Decides.{eqb_tells}
 use Rattle.std.proofs.lemmas.Grind.{get_or-set_at}
@@ -20,14 +21,20 @@ use Rattle.arena.specs.declared.place.Place.{Place}
 use Rattle.arena.specs.Ranges.{Fits}
 use Rattle.arena.specs.Shape.{Shape}
 use Rattle.std.proofs.lemmas.List.{length-replicate}
-use Rattle.arena.specs.declared.place.Place.TheVariants.{Head, Tail, Announcement, Bump, Value, Next, Mark, Cell, Insert, Number, EntryKind, Status, EntryNode}
+use Rattle.arena.specs.declared.place.Place.TheVariants.{Bump}
+use Rattle.stepper.specs.Step.{found, place_of, IsReadInRange}
 use Rattle.stepper.specs.declared.After.{After}
 use Rattle.stepper.specs.declared.After.TheVariants.{More, Done}
 use Rattle.helping.specs.Table.{access_of}
 use Rattle.helping.specs.declared.op.Op.{Op}
-use Rattle.protocol.specs.Machine.{World, Memory, MayStart, MayStep, FitsKind, FitsCall, with_call, with_next, next_of, begun_of, call_begun, started, stepped, evicted, flushed, new_world as new_machine}
+use Rattle.protocol.specs.Machine.{World, Memory, MayStart, MayStep, FitsKind, FitsCall, with_call, with_next, next_of, begun_of, call_begun, started, stepped, evicted, flushed, crashed as machine_crashed, recovered, recovered_next, events_recovered, new_world as new_machine}
 use Rattle.protocol.specs.declared.UnderWay.{UnderWay}
-use Rattle.recover.specs.Table.{no_call as no_call_told}
+use Rattle.recover.specs.Table.{no_call as no_call_told, access_of as recovery_access, successor as recovery_successor}
+use Rattle.recover.specs.declared.recovery.Recovered.{Recovered}
+use Rattle.recover.specs.declared.recovery.Recovered.TheVariants.{More as go_on, Ready}
+use Rattle.recover.specs.declared.recovery.Recovery.{Recovery}
+use Rattle.history.specs.Effects.{entry_of, order_of, settled_ones}
+use Rattle.history.specs.declared.event.Effect.{Effect}
 use Rattle.words.specs.declared.told.Told.{Told}
 use Rattle.words.specs.declared.told.Told.TheVariants.{None as told_none}
 use Rattle.interleave.specs.Calls.{waiting_result, idle_result}
@@ -35,16 +42,16 @@ use Rattle.interleave.specs.Holds.{Holds, IsExplained, Keeps, of_keeps, to_keeps
 use Rattle.interleave.specs.Queue.{number_check, new_queue, told_in}
 use Rattle.interleave.specs.Ranges.{IsOfKind, IsSafe, IfCall}
 use Rattle.interleave.specs.Shown.{shown, shown_memory}
-use Rattle.interleave.specs.State.{State, Laid, new_world, as_machine, queue_left, gone_on, looked_at_bump, begun, used_by, number_of_idle, number_to_start, start_with, step_with, evict_with, after_start, after_step, after_evict, order_in}
+use Rattle.interleave.specs.State.{State, Laid, new_world, as_machine, is_down, queue_left, gone_on, looked_at_bump, begun, used_by, number_of_idle, number_to_start, start_with, step_with, evict_with, after_start, after_step, after_evict, crashed, after_crash, queue_recovered, recovered_on, recover_with, after_recover, order_in}
 use Rattle.interleave.specs.declared.queue.Queue.{Queue}
 use Rattle.interleave.specs.declared.queue.Queue.TheVariants.{Durable, Log}
-use Rattle.interleave.proofs.InRange.{access_fits, at_place}
+use Rattle.interleave.proofs.InRange.{AccessFits, access_fits, recovery_access_fits, at_place, in_range}
 use Rattle.history.specs.Parts.{IsPartOf}
 use Rattle.history.proofs.Members.{part_same}
-use Rattle.protocol.proofs.Facts.{inv_new, inv_started, inv_stepped, inv_evicted, explained, part_stepped, part_evicted, TellsNothing}
+use Rattle.protocol.proofs.Facts.{inv_new, inv_started, inv_stepped, inv_evicted, inv_crashed, inv_recovered, recovery_point, recovery_reads as reads_fit, recovery_silent, no_calls, zero_fits, explained, part_stepped, part_evicted, TellsNothing}
 use Rattle.interleave.proofs.MachineFacts.{agreement}
 use Rattle.interleave.proofs.NoteLaws.{place_of_word}
-use Rattle.interleave.proofs.Safety.{call_fits as call_in_range, IsSafe-gone_on, IsSafe-begun, IsSafe-evicted}
+use Rattle.interleave.proofs.Safety.{call_fits as call_in_range, IsSafe-accessed, IsSafe-gone_on, IsSafe-begun, IsSafe-evicted}
 use Rattle.interleave.proofs.ShownLaws.{shown_accessed, shown_evicted, shown_at, shown_zero, zero_at}
 
 -- a client's place in the list of calls is its call
@@ -62,10 +69,16 @@ kind_left log_kind (Durable told) u (Done reply) h = h
 kind_left log_kind (Log clients) u (Done reply) h = h
 
 -- a client that has a call waiting
-pub waiting_is : (o : Option (Option UnderWay)) (u : UnderWay) → waiting_result o ≡ Ok u → o ≡ Some (Some u)
-waiting_is None u e = cc
-waiting_is (Some None) u e = cc
-waiting_is (Some (Some v)) u e = let same : v ≡ u = cc in ap (λ x. Some (Some x)) same
+pub waiting_is : (down : Bool) (o : Option (Option UnderWay)) (u : UnderWay) → waiting_result down o ≡ Ok u → o ≡ Some (Some u)
+waiting_is down None u e = cc
+waiting_is true (Some call) u e = cc
+waiting_is false (Some None) u e = cc
+waiting_is false (Some (Some v)) u e = let same : v ≡ u = cc in ap (λ x. Some (Some x)) same
+
+-- recovery is not under way
+pub is_none : {X : Type 0} (o : Option X) → is_some o ≡ false → o ≡ None
+is_none None e = refl
+is_none (Some x) e = cc
 
 -- the number of a call that may start is of the queue's kind
 number_few : (kind : Kind) (number : ℕ) → FitsKind kind number → number ≤ 1099511627776
@@ -94,10 +107,12 @@ number_of_queue log_kind (Log clients) client number n h e = go (is_stale (slice
 number_of_queue durable_kind (Log clients) client number n h e = absurd h
 number_of_queue log_kind (Durable told) client number n h e = absurd h
 
-number_fits_kind : (kind : Kind) (queue : Queue) (client : Client) (number n : ℕ) (o : Option (Option UnderWay)) → IsOfKind kind queue → number_of_idle queue client number (idle_result o) ≡ Ok n → (o ≡ Some None) × FitsKind kind n
-number_fits_kind kind queue client number n None h e = cc
-number_fits_kind kind queue client number n (Some None) h e = (refl, number_of_queue kind queue client number n h e)
-number_fits_kind kind queue client number n (Some (Some u)) h e = cc
+number_fits_kind : (kind : Kind) (queue : Queue) (client : Client) (number n : ℕ) (down : Bool) (o : Option (Option UnderWay)) → IsOfKind kind queue → number_of_idle queue client number (idle_result down o) ≡ Ok n
+    → (down ≡ false) × (o ≡ Some None) × FitsKind kind n
+number_fits_kind kind queue client number n down None h e = cc
+number_fits_kind kind queue client number n true (Some call) h e = cc
+number_fits_kind kind queue client number n false (Some None) h e = (refl, refl, number_of_queue kind queue client number n h e)
+number_fits_kind kind queue client number n false (Some (Some u)) h e = cc
 
 get_copies : {X : Type 0} (n t : ℕ) (x : X) → t < n → slice_get (replicate n x) t ≡ Some x
 get_copies zero t x h = absurd (omega (arith, h))
@@ -133,10 +148,43 @@ tells_nothing s some few = go s.kind
         same true = refl
         same false = refl
 
+-- of clients none of whom calls
+pub no_call : (n t : ℕ) → slice_index_or (replicate n (let x : Option UnderWay = None in x)) t None ≡ None
+no_call zero t = refl
+no_call (suc n) zero = refl
+no_call (suc n) (suc t) = no_call n t
+
+-- what waited to count is in no order
+settled_twice : (es : List Effect) → filter (λ (e : Effect). e.settled) (filter (λ (e : Effect). e.settled) es) ≡ filter (λ (e : Effect). e.settled) es
+settled_twice [] = refl
+settled_twice (e ∷ es) = go e.settled refl (settled_twice es)
+  where
+    tail : List Effect
+    tail = filter (λ (x : Effect). x.settled) es
+
+    go : (b : Bool) → e.settled ≡ b → filter (λ (x : Effect). x.settled) tail ≡ tail → filter (λ (x : Effect). x.settled) (if b then e ∷ tail else tail) ≡ (if b then e ∷ tail else tail)
+    go true is twice =
+        ap (λ (c : Bool). if c then e ∷ filter (λ (x : Effect). x.settled) tail else filter (λ (x : Effect). x.settled) tail) is ∙ ap (λ t. e ∷ t) twice
+    go false is twice = twice
+
+settled_order : (es : List Effect) → order_of (settled_ones es) ≡ order_of es
+settled_order es = ap (map entry_of) (settled_twice es)
+
 module _ {L : Type 0} (laid : Laid L) (laws : (l : L) → IsLaidOut (laid.shape l) (laid.word_of l) (laid.place_at l) (laid.size_of l)) where
+  -- where a call is under way, recovery is not
+  pub ready_if_called : (w : State L) (client : Client) (u : UnderWay) → Holds laid w → slice_get w.calls client.0 ≡ Some (Some u) → w.recovery ≡ None
+  ready_if_called w client u holds here = go w.recovery refl
+    where
+      go : (o : Option Recovery) → w.recovery ≡ o → w.recovery ≡ None
+      go None e = e
+      go (Some r) e =
+          let none : slice_index_or w.calls client.0 None ≡ None = no_calls (as_machine laid w) (of_keeps _ holds.inv) r e client.0 in
+          let some : slice_index_or w.calls client.0 None ≡ Some u = get_or_from_slice_get w.calls client.0 (Some u) None here in
+          cc
+
   -- the call that waits may step
-  pub may_step : (w : State L) (client : Client) (u : UnderWay) → slice_get w.calls client.0 ≡ Some (Some u) → MayStep (as_machine laid w) client u
-  may_step w client u here = record { ready = refl; waits = get_or_from_slice_get w.calls client.0 (Some u) None here }
+  pub may_step : (w : State L) (client : Client) (u : UnderWay) → Holds laid w → slice_get w.calls client.0 ≡ Some (Some u) → MayStep (as_machine laid w) client u
+  may_step w client u holds here = record { ready = ready_if_called w client u holds here; waits = get_or_from_slice_get w.calls client.0 (Some u) None here }
 
   -- a step of a world is the machine's
   pub gone_on_is : (w : State L) (client : Client) (u : UnderWay) → Holds laid w → slice_get w.calls client.0 ≡ Some (Some u) → as_machine laid (gone_on laid w client u) ≡ stepped (as_machine laid w) client u
@@ -153,14 +201,14 @@ module _ {L : Type 0} (laid : Laid L) (laws : (l : L) → IsLaidOut (laid.shape 
   holds_gone_on w client u holds here = record {
     safe = IsSafe-gone_on (laid.shape w.layout) (laid.word_of w.layout) (laid.place_at w.layout) (laid.size_of w.layout) (laws w.layout) w.words w.calls w.base w.told w.log client.0 u holds.safe here;
     kind = kind_left (laid.shape w.layout).kind w.queue u (next_of (as_machine laid w) u) holds.kind;
-    inv = subst Keeps (sym (gone_on_is w client u holds here)) (to_keeps _ (inv_stepped (as_machine laid w) (of_keeps _ holds.inv) client u (may_step w client u here)));
+    inv = subst Keeps (sym (gone_on_is w client u holds here)) (to_keeps _ (inv_stepped (as_machine laid w) (of_keeps _ holds.inv) client u (may_step w client u holds here)));
   }
 
   -- a word that is counted is as it was
   holds_counted : (w : State L) → Holds laid w → Holds laid (looked_at_bump w)
   holds_counted w holds = record {
     safe = record {
-      words = record { room = holds.safe.words.room; same = holds.safe.words.same; cached = holds.safe.words.cached; kept = holds.safe.words.kept };
+      words = record { room = holds.safe.words.room; same = holds.safe.words.same; count = holds.safe.words.count; cached = holds.safe.words.cached; kept = holds.safe.words.kept };
       clients = holds.safe.clients;
       few = holds.safe.few;
       calls_fit = holds.safe.calls_fit;
@@ -176,14 +224,14 @@ module _ {L : Type 0} (laid : Laid L) (laws : (l : L) → IsLaidOut (laid.shape 
       ap (λ (f : ℕ → Option UnderWay). let x : World = record (started m client number call) { calls = f } in x)
       (calls_with w.calls client.0 (Some (call_begun m (begun_of m client number call))) (slice_get_within w.calls client.0 None idle))
 
-  may_start : (w : State L) (client : Client) (number : ℕ) (call : Call) → Holds laid w → slice_get w.calls client.0 ≡ Some None → used_by laid w client ≢ (laid.shape w.layout).records → FitsKind (laid.shape w.layout).kind number → FitsCall call → MayStart (as_machine laid w) client number call
-  may_start w client number call holds idle left number_fits call_fits =
+  may_start : (w : State L) (client : Client) (number : ℕ) (call : Call) → Holds laid w → w.recovery ≡ None → slice_get w.calls client.0 ≡ Some None → used_by laid w client ≢ (laid.shape w.layout).records → FitsKind (laid.shape w.layout).kind number → FitsCall call → MayStart (as_machine laid w) client number call
+  may_start w client number call holds ready idle left number_fits call_fits =
       let s = laid.shape w.layout in
       let client_in : client.0 < s.clients = omega (arith, slice_get_within w.calls client.0 None idle, holds.safe.clients) in
       let used = shown_at s (laid.word_of w.layout) w.words.cached (Bump client) client_in in
-      let few : slice_index w.words.cached (laid.word_of w.layout (Bump client)) ≤ s.records = holds.safe.words.cached (Bump client) client_in in
+      let few : slice_index w.words.cached (laid.word_of w.layout (Bump client)) ≤ s.records = holds.safe.words.cached (Bump client) client_in tt in
       record {
-        ready = refl;
+        ready = ready;
         is_client = client_in;
         idle = get_or_from_slice_get w.calls client.0 None None idle;
         record_left = omega (arith, used, few, left);
@@ -191,15 +239,15 @@ module _ {L : Type 0} (laid : Laid L) (laws : (l : L) → IsLaidOut (laid.shape 
         call_fits = call_fits;
       }
 
-  holds_begun : (w : State L) (client : Client) (number : ℕ) (call : Call) → Holds laid w → slice_get w.calls client.0 ≡ Some None → used_by laid w client ≢ (laid.shape w.layout).records → FitsKind (laid.shape w.layout).kind number → FitsCall call → Holds laid (begun laid w client number call)
-  holds_begun w client number call holds idle left number_fits call_fits =
+  holds_begun : (w : State L) (client : Client) (number : ℕ) (call : Call) → Holds laid w → w.recovery ≡ None → slice_get w.calls client.0 ≡ Some None → used_by laid w client ≢ (laid.shape w.layout).records → FitsKind (laid.shape w.layout).kind number → FitsCall call → Holds laid (begun laid w client number call)
+  holds_begun w client number call holds ready idle left number_fits call_fits =
       let s = laid.shape w.layout in
       let within = slice_get_within w.calls client.0 None idle in
-      let may = may_start w client number call holds idle left number_fits call_fits in
+      let may = may_start w client number call holds ready idle left number_fits call_fits in
       let safe = IsSafe-begun s (laid.word_of w.layout) (laid.place_at w.layout) (laid.size_of w.layout) (laws w.layout) w.words w.calls client (used_by laid w client) number (length w.log.events) call holds.safe within may.record_left (number_few s.kind number number_fits) (value_few call call_fits) in
       record {
         safe = record {
-          words = record { room = safe.words.room; same = safe.words.same; cached = safe.words.cached; kept = safe.words.kept };
+          words = record { room = safe.words.room; same = safe.words.same; count = safe.words.count; cached = safe.words.cached; kept = safe.words.kept };
           clients = safe.clients;
           few = safe.few;
           calls_fit = safe.calls_fit;
@@ -212,34 +260,34 @@ module _ {L : Type 0} (laid : Laid L) (laws : (l : L) → IsLaidOut (laid.shape 
   pub holds_after_start : (full : Bool) (w : State L) (client : Client) (number : ℕ) (call : Call) → Holds laid w → FitsCall call → Holds laid (after_start laid full w client number call)
   holds_after_start full w client number call holds fits = from_check (number_to_start w client number) refl
     where
-      started_if : (n : ℕ) → slice_get w.calls client.0 ≡ Some None → FitsKind (laid.shape w.layout).kind n → (no_room : Bool) → (used_by laid w client == (laid.shape w.layout).records) ≡ no_room → Holds laid (if no_room then looked_at_bump w else (if full then looked_at_bump w else begun laid w client n call))
-      started_if n idle number_fits true e = holds_counted w holds
-      started_if n idle number_fits false e = by_memory full
+      started_if : (n : ℕ) → w.recovery ≡ None → slice_get w.calls client.0 ≡ Some None → FitsKind (laid.shape w.layout).kind n → (no_room : Bool) → (used_by laid w client == (laid.shape w.layout).records) ≡ no_room → Holds laid (if no_room then looked_at_bump w else (if full then looked_at_bump w else begun laid w client n call))
+      started_if n ready idle number_fits true e = holds_counted w holds
+      started_if n ready idle number_fits false e = by_memory full
         where
           by_memory : (f : Bool) → Holds laid (if f then looked_at_bump w else begun laid w client n call)
           by_memory true = holds_counted w holds
-          by_memory false = holds_begun w client n call holds idle (eqb-false _ _ e) number_fits fits
+          by_memory false = holds_begun w client n call holds ready idle (eqb-false _ _ e) number_fits fits
 
       from_check : (r : Result ℕ Refusal) → number_to_start w client number ≡ r → Holds laid (start_with laid full w client call r)
       from_check (Err refusal) e = holds
       from_check (Ok n) e =
-          let found = number_fits_kind (laid.shape w.layout).kind w.queue client number n (slice_get w.calls client.0) holds.kind e in
-          started_if n found.0 found.1 (used_by laid w client == (laid.shape w.layout).records) refl
+          let found = number_fits_kind (laid.shape w.layout).kind w.queue client number n (is_down w) (slice_get w.calls client.0) holds.kind e in
+          started_if n (is_none w.recovery found.0) found.1 found.2 (used_by laid w client == (laid.shape w.layout).records) refl
 
   -- whatever a step answers
   pub holds_after_step : (full : Bool) (w : State L) (client : Client) → Holds laid w → Holds laid (after_step laid full w client)
-  holds_after_step full w client holds = from_waiting (waiting_result (slice_get w.calls client.0)) refl
+  holds_after_step full w client holds = from_waiting (waiting_result (is_down w) (slice_get w.calls client.0)) refl
     where
-      from_waiting : (r : Result UnderWay Refusal) → waiting_result (slice_get w.calls client.0) ≡ r → Holds laid (step_with laid full w client r)
+      from_waiting : (r : Result UnderWay Refusal) → waiting_result (is_down w) (slice_get w.calls client.0) ≡ r → Holds laid (step_with laid full w client r)
       from_waiting (Err refusal) e = holds
       from_waiting (Ok u) e = by_memory full
         where
           by_memory : (f : Bool) → Holds laid (if f then w else gone_on laid w client u)
           by_memory true = holds
-          by_memory false = holds_gone_on w client u holds (waiting_is _ u e)
+          by_memory false = holds_gone_on w client u holds (waiting_is _ _ u e)
 
   -- an eviction of a world is the machine's
-  evicted_is : (w : State L) (word : ℕ) (p : Place) → Holds laid w → laid.place_at w.layout word ≡ Some p → as_machine laid (evict_with laid w word (Some p)) ≡ evicted (as_machine laid w) p
+  pub evicted_is : (w : State L) (word : ℕ) (p : Place) → Holds laid w → laid.place_at w.layout word ≡ Some p → as_machine laid (evict_with laid w word (Some p)) ≡ evicted (as_machine laid w) p
   evicted_is w word p holds named =
       let s = laid.shape w.layout in
       let at = place_of_word s (laid.word_of w.layout) (laid.place_at w.layout) (laid.size_of w.layout) (laws w.layout) word p named in
@@ -283,15 +331,15 @@ module _ {L : Type 0} (laid : Laid L) (laws : (l : L) → IsLaidOut (laid.shape 
           both false false = refl
 
   pub part_after_step : (full : Bool) (w : State L) (client : Client) → Holds laid w → IsPartOf (order_in w) (order_in (after_step laid full w client))
-  part_after_step full w client holds = from_waiting (waiting_result (slice_get w.calls client.0)) refl
+  part_after_step full w client holds = from_waiting (waiting_result (is_down w) (slice_get w.calls client.0)) refl
     where
-      from_waiting : (r : Result UnderWay Refusal) → waiting_result (slice_get w.calls client.0) ≡ r → IsPartOf (order_in w) (order_in (step_with laid full w client r))
+      from_waiting : (r : Result UnderWay Refusal) → waiting_result (is_down w) (slice_get w.calls client.0) ≡ r → IsPartOf (order_in w) (order_in (step_with laid full w client r))
       from_waiting (Err refusal) e = part_same (order_in w)
       from_waiting (Ok u) e = by_memory full
         where
           by_memory : (f : Bool) → IsPartOf (order_in w) (order_in (if f then w else gone_on laid w client u))
           by_memory true = part_same (order_in w)
-          by_memory false = part_stepped (as_machine laid w) (of_keeps _ holds.inv) client u (may_step w client u (waiting_is _ u e))
+          by_memory false = part_stepped (as_machine laid w) (of_keeps _ holds.inv) client u (may_step w client u holds (waiting_is _ _ u e))
 
   pub part_after_evict : (w : State L) (word : ℕ) → Holds laid w → IsPartOf (order_in w) (order_in (after_evict laid w word))
   part_after_evict w word holds = from_place (laid.place_at w.layout word)
@@ -300,27 +348,97 @@ module _ {L : Type 0} (laid : Laid L) (laws : (l : L) → IsLaidOut (laid.shape 
       from_place None = part_same (order_in w)
       from_place (Some p) = part_evicted (as_machine laid w) (of_keeps _ holds.inv) p
 
+  -- a crash of a world is the machine's
+  pub crashed_is : (w : State L) → as_machine laid (crashed laid w) ≡ machine_crashed (as_machine laid w)
+  crashed_is w =
+      let calls : (λ (j : ℕ). slice_index_or (replicate (length w.calls) (let x : Option UnderWay = None in x)) j None) ≡ (λ j. None) = fun_ext (no_call (length w.calls)) in
+      ap (λ (f : ℕ → Option UnderWay). let x : World = record (machine_crashed (as_machine laid w)) { calls = f } in x) calls
+
+  holds_crashed : (w : State L) → Holds laid w → Holds laid (crashed laid w)
+  holds_crashed w holds = record {
+    safe = record {
+      words = record { room = omega (arith, holds.safe.words.room, holds.safe.words.same); same = refl; count = holds.safe.words.count; cached = holds.safe.words.kept; kept = holds.safe.words.kept };
+      clients = length-replicate (length w.calls) None ∙ holds.safe.clients;
+      few = holds.safe.few;
+      calls_fit = λ t. subst (IfCall (laid.shape w.layout)) (sym (no_call (length w.calls) t)) tt;
+    };
+    kind = holds.kind;
+    inv = subst Keeps (sym (crashed_is w)) (to_keeps _ (inv_crashed (as_machine laid w) (of_keeps _ holds.inv)));
+  }
+
+  pub holds_after_crash : (full : Bool) (w : State L) → Holds laid w → Holds laid (after_crash laid full w)
+  holds_after_crash true w holds = holds
+  holds_after_crash false w holds = holds_crashed w holds
+
+  pub part_after_crash : (full : Bool) (w : State L) → order_in (after_crash laid full w) ≡ order_in w
+  part_after_crash true w = refl
+  part_after_crash false w = settled_order w.log.effects
+
+  -- recovery's access is at a place, and what it may write fits there
+  pub access_of_recovery : (w : State L) (r : Recovery) → Holds laid w → w.recovery ≡ Some r → AccessFits (laid.shape w.layout) (recovery_access (laid.shape w.layout).kind r)
+  access_of_recovery w r holds e = recovery_access_fits (laid.shape w.layout) (laid.shape w.layout).kind r refl (recovery_point (as_machine laid w) (of_keeps _ holds.inv) r e)
+
+  -- what recovery finds there is in range
+  pub recovery_reads : (w : State L) (r : Recovery) → Holds laid w → w.recovery ≡ Some r
+      → IsReadInRange (laid.shape w.layout) (recovery_access (laid.shape w.layout).kind r) (found (laid.word_of w.layout) (recovery_access (laid.shape w.layout).kind r) w.words)
+  recovery_reads w r holds e =
+      let s = laid.shape w.layout in
+      let a = recovery_access s.kind r in
+      let same = shown_at s (laid.word_of w.layout) w.words.cached (place_of a) (at_place s a (access_of_recovery w r holds e)) in
+      in_range s a (found (laid.word_of w.layout) a w.words) (subst (Fits s (place_of a)) same (reads_fit (as_machine laid w) (of_keeps _ holds.inv) r e))
+
+  -- and it goes on as the machine's does
+  pub recovery_next : (w : State L) (r : Recovery) → Holds laid w → w.recovery ≡ Some r
+      → recovery_successor (laid.shape w.layout) r (found (laid.word_of w.layout) (recovery_access (laid.shape w.layout).kind r) w.words) ≡ recovered_next (as_machine laid w) r
+  recovery_next w r holds e =
+      let s = laid.shape w.layout in
+      let a = recovery_access s.kind r in
+      ap (recovery_successor s r) (sym (shown_at s (laid.word_of w.layout) w.words.cached (place_of a) (at_place s a (access_of_recovery w r holds e))))
+
+  -- a step of recovery of a world is the machine's
+  pub recovered_is : (w : State L) (r : Recovery) → Holds laid w → w.recovery ≡ Some r → as_machine laid (recovered_on laid w r) ≡ recovered (as_machine laid w) r
+  recovered_is w r holds e =
+      let s = laid.shape w.layout in
+      let a = recovery_access s.kind r in
+      let memory = shown_accessed s (laid.word_of w.layout) (laid.place_at w.layout) (laid.size_of w.layout) (laws w.layout) w.words a (at_place s a (access_of_recovery w r holds e)) holds.safe.words.room (omega (arith, holds.safe.words.room, holds.safe.words.same)) in
+      let effects : w.log.effects ≡ (recovered (as_machine laid w) r).log.effects = sym (recovery_silent (as_machine laid w) (of_keeps _ holds.inv) r e) in
+      ap (λ (m : Memory). let x : World = record (as_machine laid (recovered_on laid w r)) { memory = m } in x) memory
+      ∙ ap (λ (es : List Effect). let x : World = record (recovered (as_machine laid w) r) { log = record { events = events_recovered w.log.events (recovered_next (as_machine laid w) r); issued = w.log.issued; effects = es } } in x) effects
+
+  kind_recovered : (kind : Kind) (queue : Queue) (next : Recovered) → IsOfKind kind queue → IsOfKind kind (queue_recovered queue next)
+  kind_recovered kind queue (go_on r) h = h
+  kind_recovered durable_kind (Durable told) (Ready t) h = h
+  kind_recovered durable_kind (Log clients) (Ready t) h = h
+  kind_recovered log_kind (Durable told) (Ready t) h = h
+  kind_recovered log_kind (Log clients) (Ready t) h = h
+
+  holds_recovered : (w : State L) (r : Recovery) → Holds laid w → w.recovery ≡ Some r → Holds laid (recovered_on laid w r)
+  holds_recovered w r holds e =
+      let s = laid.shape w.layout in
+      let safe = IsSafe-accessed s (laid.word_of w.layout) (laid.place_at w.layout) (laid.size_of w.layout) (laws w.layout) w.words w.calls (recovery_access s.kind r) (access_of_recovery w r holds e) holds.safe in
+      record {
+        safe = record { words = safe.words; clients = safe.clients; few = safe.few; calls_fit = safe.calls_fit };
+        kind = kind_recovered s.kind w.queue (recovered_next (as_machine laid w) r) holds.kind;
+        inv = subst Keeps (sym (recovered_is w r holds e)) (to_keeps _ (inv_recovered (as_machine laid w) (of_keeps _ holds.inv) r e));
+      }
+
+  pub holds_after_recover : (full : Bool) (w : State L) → Holds laid w → Holds laid (after_recover laid full w)
+  holds_after_recover full w holds = go w.recovery refl full
+    where
+      go : (o : Option Recovery) → w.recovery ≡ o → (f : Bool) → Holds laid (recover_with laid f w o)
+      go None e f = holds
+      go (Some r) e true = holds
+      go (Some r) e false = holds_recovered w r holds e
+
+  pub part_after_recover : (full : Bool) (w : State L) → order_in (after_recover laid full w) ≡ order_in w
+  part_after_recover full w = go w.recovery full
+    where
+      go : (o : Option Recovery) (f : Bool) → order_in (recover_with laid f w o) ≡ order_in w
+      go None f = refl
+      go (Some r) true = refl
+      go (Some r) false = refl
+
   -- a new world
-  fits_zero : (s : Shape) (p : Place) → Fits s p 0
-  fits_zero s Head = omega arith
-  fits_zero s Tail = omega arith
-  fits_zero s (Announcement t) = omega arith
-  fits_zero s (Bump t) = omega arith
-  fits_zero s (Value n) = omega arith
-  fits_zero s (Next n) = omega arith
-  fits_zero s (Mark n) = omega arith
-  fits_zero s (Cell c) = omega arith
-  fits_zero s (Insert n) = omega arith
-  fits_zero s (Number e) = omega arith
-  fits_zero s (EntryKind e) = omega arith
-  fits_zero s (Status e) = omega arith
-  fits_zero s (EntryNode e) = omega arith
-
-  no_call : (n t : ℕ) → slice_index_or (replicate n (let x : Option UnderWay = None in x)) t None ≡ None
-  no_call zero t = refl
-  no_call (suc n) zero = refl
-  no_call (suc n) (suc t) = no_call n t
-
   new_is : (layout : L) → as_machine laid (new_world laid layout) ≡ new_machine (laid.shape layout) (new_world laid layout).told
   new_is layout =
       let s = laid.shape layout in
@@ -336,10 +454,10 @@ module _ {L : Type 0} (laid : Laid L) (laws : (l : L) → IsLaidOut (laid.shape 
       let size = laid.size_of layout in
       let zeros : List ℕ = replicate size 0 in
       let long : length zeros ≡ size = length-replicate size 0 in
-      let fit : (p : Place) → Fits s p (slice_index zeros (laid.word_of layout p)) = λ p. subst (Fits s p) (sym (zero_at size (laid.word_of layout p))) (fits_zero s p) in
+      let fit : (p : Place) → Fits s p (slice_index zeros (laid.word_of layout p)) = λ p. subst (Fits s p) (sym (zero_at size (laid.word_of layout p))) (zero_fits s p) in
       record {
         safe = record {
-          words = record { room = omega (arith, long); same = refl; cached = λ p at. fit p; kept = λ p at. fit p };
+          words = record { room = omega (arith, long); same = refl; count = inl long; cached = λ p at read. fit p; kept = λ p at read. fit p };
           clients = length-replicate s.clients None;
           few = few;
           calls_fit = λ t. subst (IfCall s) (sym (no_call s.clients t)) tt;

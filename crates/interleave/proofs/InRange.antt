@@ -9,10 +9,13 @@ use Rattle.words.specs.declared.call.Call.TheVariants.{Enq, Deq}
 use Rattle.persist.specs.Memory.{Access, Load, Store, Cas, Flush}
 use Rattle.arena.specs.Shape.{Shape}
 use Rattle.arena.specs.Place.{IsPlace}
-use Rattle.arena.specs.Ranges.{Fits}
+use Rattle.arena.specs.Ranges.{Fits, IsReadByCalls}
 use Rattle.arena.specs.declared.place.Place.{Place}
 use Rattle.arena.specs.declared.place.Write.{Write}
-use Rattle.stepper.specs.Step.{place_of}
+use Rattle.recover.specs.Table.{access_of as recovery_access, IsPoint as IsRecoveryPoint}
+use Rattle.recover.specs.declared.recovery.Recovery.{Recovery}
+use Rattle.recover.specs.declared.recovery.Recovery.TheVariants.{RecoveryLoadHead, RecoveryLoadNext, RecoveryLoadInsert, RecoveryStoreStatus, RecoveryFlushStatus, RecoveryLoadMark, RecoveryLoadValue, RecoveryStoreResult, RecoveryFlushResult, RecoveryStoreHead, RecoveryFlushHead, RecoveryStoreTail, RecoveryFlushTail, RecoveryLoadAnnouncement, RecoveryLoadCell, RecoveryLoadNumber, RecoveryLoadKind, RecoveryLoadStatus, RecoveryLoadRemove, RecoveryLoadEntryNode, RecoveryLoadRemovedValue}
+use Rattle.stepper.specs.Step.{place_of, IsReadInRange}
 use Rattle.stepper.specs.Preparation.{preparation_from, preparation_of, prepared_with, IsBegun, IsPreparing}
 use Rattle.stepper.specs.declared.After.{After}
 use Rattle.stepper.specs.declared.After.TheVariants.{More, Done}
@@ -79,6 +82,51 @@ again_fits : (s : Shape) (claim : Claim) (p : Token) (v : ℕ) → IsPoint s (De
 again_fits s Won p v h = tt
 again_fits s (LostTo other) p v h = h
 
+-- what calls read are words that calls read
+abbrev pub ReadsByCalls : Access Place → Type 0
+ReadsByCalls (Load p) = IsReadByCalls p
+ReadsByCalls (Store p v) = Unit {0}
+ReadsByCalls (Cas p old new) = IsReadByCalls p
+ReadsByCalls (Flush p) = Unit {0}
+
+pub reads_by_calls : (kind : Kind) (op : Op) → ReadsByCalls (access_of kind op)
+reads_by_calls kind (PrepareStore p) = tt
+reads_by_calls kind (PrepareFlush p) = tt
+reads_by_calls kind (EnqueueLoadTail p) = tt
+reads_by_calls kind (EnqueueLoadNext p) = tt
+reads_by_calls kind (EnqueueCheckTail p) = tt
+reads_by_calls kind (EnqueueLink p) = tt
+reads_by_calls kind (EnqueueFlushLink p) = tt
+reads_by_calls kind (EnqueueMoveTail p) = tt
+reads_by_calls kind (EnqueueFlushPassedLink p) = tt
+reads_by_calls kind (EnqueueHelpTail p) = tt
+reads_by_calls kind (DequeueLoadHead p) = tt
+reads_by_calls kind (DequeueLoadTail p) = tt
+reads_by_calls kind (DequeueLoadNext p) = tt
+reads_by_calls kind (DequeueCheckHead p) = tt
+reads_by_calls kind (DequeueStoreEmpty p) = tt
+reads_by_calls kind (DequeueFlushEmpty p) = tt
+reads_by_calls kind (DequeueFlushPassedLink p) = tt
+reads_by_calls kind (DequeueHelpTail p) = tt
+reads_by_calls kind (DequeueLoadValue p) = tt
+reads_by_calls kind (DequeueClaim p) = tt
+reads_by_calls kind (DequeueFlushClaim p) = tt
+reads_by_calls kind (DequeueStoreResult p) = tt
+reads_by_calls kind (DequeueFlushResult p) = tt
+reads_by_calls kind (DequeueMoveHead p) = tt
+
+pub in_range : (s : Shape) (access : Access Place) (v : ℕ) → Fits s (place_of access) v → IsReadInRange s access v
+in_range s (Load p) v fits = fits
+in_range s (Store p w) v fits = tt
+in_range s (Cas p old new) v fits = fits
+in_range s (Flush p) v fits = tt
+
+pub read_in_range : (s : Shape) (access : Access Place) (v : ℕ) → ReadsByCalls access → (IsReadByCalls (place_of access) → Fits s (place_of access) v) → IsReadInRange s access v
+read_in_range s (Load p) v read fits = fits read
+read_in_range s (Store p w) v read fits = tt
+read_in_range s (Cas p old new) v read fits = fits read
+read_in_range s (Flush p) v read fits = tt
+
 pub access_fits : (s : Shape) (kind : Kind) (op : Op) → s.kind ≡ kind → IsPoint s op → AccessFits s (access_of kind op)
 access_fits s kind (PrepareStore p) k h = let w = in_hand_fits s p.begun p.index p.write h in (w.is_place, w.fits)
 access_fits s kind (PrepareFlush p) k h = (in_hand_fits s p.begun p.index p.write h).is_place
@@ -109,7 +157,33 @@ access_fits s Durable (DequeueFlushResult p) k h = grind arith
 access_fits s Log (DequeueFlushResult p) k h = grind arith
 access_fits s kind (DequeueMoveHead p) k h = grind arith
 
-pub successor_fits : (s : Shape) (op : Op) (v : ℕ) → IsPoint s op → Fits s (place_of (access_of s.kind op)) v → AfterFits s (successor s.kind op v)
+-- the same of recovery
+pub recovery_access_fits : (s : Shape) (kind : Kind) (r : Recovery) → s.kind ≡ kind → IsRecoveryPoint s r → AccessFits s (recovery_access kind r)
+recovery_access_fits s kind (RecoveryLoadHead p) k h = tt
+recovery_access_fits s kind (RecoveryLoadNext p) k h = grind arith
+recovery_access_fits s kind (RecoveryLoadInsert p) k h = grind arith
+recovery_access_fits s kind (RecoveryStoreStatus p) k h = ((h.0, h.3), omega arith)
+recovery_access_fits s kind (RecoveryFlushStatus p) k h = (h.0, h.3)
+recovery_access_fits s kind (RecoveryLoadMark p) k h = grind arith
+recovery_access_fits s kind (RecoveryLoadValue p) k h = grind arith
+recovery_access_fits s Durable (RecoveryStoreResult p) k h = grind arith
+recovery_access_fits s Log (RecoveryStoreResult p) k h = grind arith
+recovery_access_fits s Durable (RecoveryFlushResult p) k h = grind arith
+recovery_access_fits s Log (RecoveryFlushResult p) k h = grind arith
+recovery_access_fits s kind (RecoveryStoreHead p) k h = grind arith
+recovery_access_fits s kind (RecoveryFlushHead p) k h = tt
+recovery_access_fits s kind (RecoveryStoreTail p) k h = grind arith
+recovery_access_fits s kind (RecoveryFlushTail p) k h = tt
+recovery_access_fits s kind (RecoveryLoadAnnouncement p) k h = h
+recovery_access_fits s kind (RecoveryLoadCell p) k h = grind arith
+recovery_access_fits s kind (RecoveryLoadNumber p) k h = grind arith
+recovery_access_fits s kind (RecoveryLoadKind p) k h = grind arith
+recovery_access_fits s kind (RecoveryLoadStatus p) k h = grind arith
+recovery_access_fits s kind (RecoveryLoadRemove p) k h = grind arith
+recovery_access_fits s kind (RecoveryLoadEntryNode p) k h = grind arith
+recovery_access_fits s kind (RecoveryLoadRemovedValue p) k h = grind arith
+
+pub successor_fits : (s : Shape) (op : Op) (v : ℕ) → IsPoint s op → IsReadInRange s (access_of s.kind op) v → AfterFits s (successor s.kind op v)
 successor_fits s (PrepareStore p) v h f = h
 successor_fits s (PrepareFlush p) v h f = prepared_fits s p.begun (p.index + 1) (slice_get (preparation_of s.kind p.begun) (p.index + 1)) refl h.begun
 successor_fits s (EnqueueLoadTail p) v h f = grind (arith, nat_tests)

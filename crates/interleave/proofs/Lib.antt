@@ -7,7 +7,11 @@ pub mod NoteLaws
 pub mod Safety
 pub mod MachineFacts
 pub mod EvictLaws
+pub mod CrashLaws
 pub mod StartLaws
 pub mod AloneLaws
 pub mod EveryAct
 pub mod HoldsKept
+pub mod KeptTells
+pub mod BootLaws
+pub mod DownLaws

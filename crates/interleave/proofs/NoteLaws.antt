@@ -1,6 +1,6 @@
 -- What a step's flush keeps, and what takes effect by it.
 use Rattle.std.proofs.Common.{◌≡◌, ◌≢◌, inl, inr, ℕ, ◌≤◌, Bool, true, false, List, length, Option, Some, None, slice_index, refl, sym, ap, ◌∙◌, subst}
-use Rattle.std.specs.Prelude.{IfSome, MatchOption}
+use Rattle.std.specs.Prelude.{IfSome, MatchOption, if◌then◌else◌, ◌==◌}
 use Rattle.std.proofs.lemmas.Bool.{eq-eqb, ne_eqb, cases_eq}
 use Rattle.words.specs.declared.told.Told.{Told}
 use Rattle.persist.specs.Changes.{change_of}
@@ -10,7 +10,7 @@ use Rattle.arena.specs.Shape.{Shape}
 use Rattle.arena.specs.Place.{IsPlace, is_same-from}
 use Rattle.arena.specs.Laws.{IsLaidOut}
 use Rattle.arena.specs.declared.place.Place.{Place}
-use Rattle.arena.specs.declared.place.Place.TheVariants.{Mark}
+use Rattle.arena.specs.declared.place.Place.TheVariants.{Next, Mark, Cell, Status}
 use Rattle.stepper.specs.Step.{after_one, kept_by}
 use Rattle.helping.specs.Looks.{is_look}
 use Rattle.helping.specs.Table.{access_of, IsPoint}
@@ -18,7 +18,8 @@ use Rattle.helping.specs.declared.op.Op.{Op}
 use Rattle.helping.specs.declared.op.Op.TheVariants.{DequeueLoadNext}
 use Rattle.protocol.specs.Machine.{World, Memory, Log, put, noticed, after_keeping, after_flush, effects_after, next_of}
 use Rattle.protocol.specs.declared.UnderWay.{UnderWay}
-use Rattle.interleave.specs.Keeping.{keeping_of, noticed_if_new, noted}
+use Rattle.history.specs.declared.event.Effect.{Effect}
+use Rattle.interleave.specs.Keeping.{keeping_of, is_noticed, noticed_if_new, noted}
 use Rattle.interleave.specs.Calls.{went_on_to_nothing}
 use Rattle.interleave.specs.Effects.{looked_at}
 use Rattle.interleave.specs.Shown.{shown, shown_memory}
@@ -42,18 +43,38 @@ pub flush_place : (s : Shape) (a : Access Place) (p : Place) → AccessFits s a 
 flush_place s (Flush q) p fits e = let same : q ≡ p = cc in subst (IsPlace s) same fits
 flush_place s _ p fits e = cc
 
+if_some : (b : Bool) (x k : Keeping) → (if b then Some x else None) ≡ Some k → x ≡ k
+if_some true x k e = cc
+if_some false x k e = cc
+
+if_none : (b : Bool) (x : Keeping) → (if b then Some x else None) ≡ None → b ≡ false
+if_none true x e = cc
+if_none false x e = refl
+
 -- what is about to be kept: the place, and its kept value
 pub keeping_place : (kept : Place → ℕ) (o : Option Place) (k : Keeping) → keeping_of kept o ≡ Some k → o ≡ Some k.place
 keeping_place kept None k e = cc
-keeping_place kept (Some p) k e = ap Some (let same : p ≡ k.place = cc in same)
+keeping_place kept (Some p) k e = ap (λ (x : Keeping). Some x.place) (if_some (is_noticed p) (record { place = p; old = kept p }) k e)
 
 pub keeping_old : (kept : Place → ℕ) (o : Option Place) (k : Keeping) → keeping_of kept o ≡ Some k → kept k.place ≡ k.old
 keeping_old kept None k e = cc
-keeping_old kept (Some p) k e = let place : p ≡ k.place = cc in ap kept (sym place) ∙ cc
+keeping_old kept (Some p) k e = subst (λ (x : Keeping). kept x.place ≡ x.old) (if_some (is_noticed p) (record { place = p; old = kept p }) k e) refl
 
-pub keeping_none : (kept : Place → ℕ) (o : Option Place) → keeping_of kept o ≡ None → o ≡ None
-keeping_none kept None e = refl
-keeping_none kept (Some p) e = cc
+-- nothing takes effect by what is not about to be kept
+either : (b : Bool) (es : List Effect) → (if b then es else es) ≡ es
+either true es = refl
+either false es = refl
+
+nothing_noticed : (w : World) (p : Place) → is_noticed p ≡ false → after_keeping w p ≡ w.log.effects
+nothing_noticed w (Next n) h = cc
+nothing_noticed w (Mark n) h = cc
+nothing_noticed w (Cell c) h = cc
+nothing_noticed w (Status e) h = cc
+nothing_noticed w p h = either (w.memory.kept p == w.memory.cached p) w.log.effects
+
+keeping_none : (w : World) (kept : Place → ℕ) (o : Option Place) → keeping_of kept o ≡ None → w.log.effects ≡ after_flush w o
+keeping_none w kept None e = refl
+keeping_none w kept (Some p) e = sym (nothing_noticed w p (if_none (is_noticed p) (record { place = p; old = kept p }) e))
 
 -- the value that a claim takes is no other word's
 noticed_same : (w : World) (m : Memory) (p : Place) (v new : ℕ) → m.kept ≡ put w.memory.kept p v → noticed (record w { memory = m }) p new ≡ noticed w p new
@@ -120,7 +141,7 @@ noted_is s word_of place_at size laid ws calls base told log u point long_c long
     fits = access_fits s s.kind u.op refl point
 
     keep : (k : Option Keeping) → keeping_of (shown s word_of ws.kept) (kept_by (access_of s.kind u.op)) ≡ k → noticed_if_new now k ≡ after_flush w (kept_by (access_of s.kind u.op))
-    keep None e = ap (after_flush w) (sym (keeping_none (shown s word_of ws.kept) (kept_by (access_of s.kind u.op)) e))
+    keep None e = keeping_none w (shown s word_of ws.kept) (kept_by (access_of s.kind u.op)) e
     keep (Some k) e = elim (cases_eq (now.memory.kept k.place) k.old) [
       | inl same ↦ rw (eq-eqb (now.memory.kept k.place) k.old same) (unnoticed_by_flush s word_of place_at size laid ws calls base told log (access_of s.kind u.op) k fits long_c long_k e same)
       | inr new ↦ rw (ne_eqb (now.memory.kept k.place) k.old new) (noticed_by_flush s word_of place_at size laid ws calls base told log (access_of s.kind u.op) k fits long_c long_k e new)
@@ -130,12 +151,16 @@ noted_is s word_of place_at size laid ws calls base told log u point long_c long
     look false h = rw h (keep (keeping_of (shown s word_of ws.kept) (kept_by (access_of s.kind u.op))) refl ∙ sym (not_a_look w u u.op h))
     look true h = rw h (look_is w u u.op refl h)
 
+if_place : (s : Shape) (b : Bool) (p : Place) (v : ℕ) → IsPlace s p → IfSome (if b then Some (let k : Keeping = record { place = p; old = v } in k) else None) (λ k. IsPlace s k.place)
+if_place s true p v at = at
+if_place s false p v at = tt
+
 -- what is about to be kept is at a place of the layout
 pub keeping_at : (s : Shape) (kept : Place → ℕ) (a : Access Place) → AccessFits s a → IfSome (keeping_of kept (kept_by a)) (λ k. IsPlace s k.place)
 keeping_at s kept (Load p) fits = tt
 keeping_at s kept (Store p v) fits = tt
 keeping_at s kept (Cas p old new) fits = tt
-keeping_at s kept (Flush p) fits = fits
+keeping_at s kept (Flush p) fits = if_place s (is_noticed p) p (kept p) fits
 
 -- an eviction keeps a word: what takes effect by it
 kept_evicted : (s : Shape) (word_of : Place → ℕ) (place_at : ℕ → Option Place) (size : ℕ) → IsLaidOut s word_of place_at size → (ws : Words) (p : Place) → IsPlace s p → size ≤ length ws.kept → shown s word_of (evicted_word (word_of p) ws).kept ≡ put (shown s word_of ws.kept) p (shown s word_of ws.cached p)

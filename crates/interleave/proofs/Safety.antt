@@ -1,5 +1,5 @@
 -- Each act keeps the ranges.
-use Rattle.std.proofs.Common.{◌≡◌, ap, sym, ℕ, ◌<◌, ◌≤◌, ◌⊎◌, inl, inr, List, length, Option, Some, None, Bool, true, false, slice_index, slice_set, slice_get, ◌==◌, arith, refl, subst, get_or-set_other}
+use Rattle.std.proofs.Common.{◌≡◌, ap, sym, ◌∙◌, ℕ, zero, suc, ◌<◌, ◌≤◌, ◌⊎◌, inl, inr, List, [], ◌∷◌, length, Option, Some, None, Bool, true, false, slice_index, slice_set, slice_get, ◌==◌, arith, refl, subst, get_or-set_other}
 use Rattle.std.proofs.lemmas.Bool.Decides.{eqb_tells}
 use Rattle.std.proofs.lemmas.Grind.{get_or-set_at, common_steps}
 use Rattle.std.proofs.lemmas.Option.{get_or_from_slice_get, slice_get_within}
@@ -9,11 +9,12 @@ use Rattle.words.specs.declared.call.Client.{Client}
 use Rattle.persist.specs.Memory.{Words, Access, Load, Store, Cas, Flush, evicted as evicted_word}
 use Rattle.arena.specs.Shape.{Shape, record_of}
 use Rattle.arena.specs.Place.{IsPlace, is_same, is_same-true}
-use Rattle.arena.specs.Ranges.{Fits}
+use Rattle.arena.specs.Ranges.{Fits, IsReadByCalls}
+use Rattle.recover.specs.Sound.{SizeIsSound}
 use Rattle.arena.specs.Laws.{IsLaidOut, at-written}
 use Rattle.arena.specs.declared.place.Place.{Place}
 use Rattle.arena.specs.declared.place.Place.TheVariants.{Bump}
-use Rattle.stepper.specs.Step.{after_one, found, place_of}
+use Rattle.stepper.specs.Step.{after_one, found, place_of, IsReadInRange}
 use Rattle.words.specs.declared.told.Told.{Told}
 use Rattle.stepper.specs.Preparation.{IsBegun}
 use Rattle.stepper.specs.declared.After.{After}
@@ -27,27 +28,42 @@ use Rattle.protocol.specs.declared.UnderWay.{UnderWay}
 use Rattle.interleave.specs.State.{machine_of}
 use Rattle.interleave.proofs.ShownLaws.{shown_at}
 use Rattle.interleave.proofs.Records.{record_in_range}
-use Rattle.interleave.proofs.InRange.{AccessFits, AfterFits, at_place, access_fits, successor_fits, begun_fits}
+use Rattle.interleave.proofs.InRange.{AccessFits, AfterFits, at_place, access_fits, read_in_range, reads_by_calls, successor_fits, begun_fits}
 
 bool_cases : (b : Bool) → (b ≡ true) ⊎ (b ≡ false)
 bool_cases true = inl refl
 bool_cases false = inr refl
 
+length_set : (ws : List ℕ) (u v : ℕ) → length (slice_set ws u v) ≡ length ws
+length_set [] u v = refl
+length_set (w ∷ ws) zero v = refl
+length_set (w ∷ ws) (suc u) v = ap suc (length_set ws u v)
+
 -- a write of a value that fits
-AllFit-set : (s : Shape) (word_of : Place → ℕ) (place_at : ℕ → Option Place) (size : ℕ) → IsLaidOut s word_of place_at size → (ws : List ℕ) (p : Place) (v : ℕ) → size ≤ length ws → IsPlace s p → Fits s p v → AllFit s word_of ws → AllFit s word_of (slice_set ws (word_of p) v)
-AllFit-set s word_of place_at size laid ws p v long hp fits all = λ q hq.
+AllFit-set : (s : Shape) (word_of : Place → ℕ) (place_at : ℕ → Option Place) (size : ℕ) → IsLaidOut s word_of place_at size → (ws : List ℕ) (p : Place) (v : ℕ) → size ≤ length ws → IsPlace s p → (IsReadByCalls p → Fits s p v) → AllFit s word_of ws → AllFit s word_of (slice_set ws (word_of p) v)
+AllFit-set s word_of place_at size laid ws p v long hp fits all = λ q hq read.
     rw (at-written s word_of place_at size laid p q hp hq ws v long)
     (elim (bool_cases (is_same p q)) [
-      | inl e ↦ rw e (subst (λ (r : Place). Fits s r v) (is_same-true p q e) fits)
-      | inr e ↦ rw e (all q hq)
+      | inl e ↦ rw e (subst (λ (r : Place). IsReadByCalls r → Fits s r v) (is_same-true p q e) fits read)
+      | inr e ↦ rw e (all q hq read)
     ])
 
+-- a write of a word of the layout
+count-set : (s : Shape) (size : ℕ) (ws : List ℕ) (u v : ℕ) → u < size → SizeIsSound s size ws → SizeIsSound s size (slice_set ws u v)
+count-set s size ws u v lt (inl e) = inl (length_set ws u v ∙ e)
+count-set s size ws u v lt (inr b) = inr (record {
+  count = length_set ws u v ∙ b.count;
+  room = subst (λ n. size ≤ n) (sym (length_set ws u v)) b.room;
+  rest = λ w past within. get_or-set_other ws u w v 0 (λ e. omega (arith, e, lt, past)) ∙ b.rest w past (subst (λ n. w < n) (length_set ws u v) within);
+})
+
 pub WordsFit-after : (s : Shape) (word_of : Place → ℕ) (place_at : ℕ → Option Place) (size : ℕ) → IsLaidOut s word_of place_at size → (access : Access Place) → AccessFits s access → (ws : Words) → WordsFit s word_of size ws → WordsFit s word_of size (after_one word_of access ws)
-WordsFit-after s word_of place_at size laid (Load p) h ws w = record { room = w.room; same = w.same; cached = w.cached; kept = w.kept }
+WordsFit-after s word_of place_at size laid (Load p) h ws w = record { room = w.room; same = w.same; count = w.count; cached = w.cached; kept = w.kept }
 WordsFit-after s word_of place_at size laid (Store p v) h ws w = record {
   room = grind (arith, common_steps, w.room);
   same = grind (arith, common_steps, w.same);
-  cached = AllFit-set s word_of place_at size laid ws.cached p v w.room h.0 h.1 w.cached;
+  count = w.count;
+  cached = AllFit-set s word_of place_at size laid ws.cached p v w.room h.0 (λ read. h.1) w.cached;
   kept = w.kept;
 }
 WordsFit-after s word_of place_at size laid (Cas p old new) h ws w =
@@ -55,14 +71,16 @@ WordsFit-after s word_of place_at size laid (Cas p old new) h ws w =
       | inl e ↦ rw e (record {
         room = grind (arith, common_steps, w.room);
         same = grind (arith, common_steps, w.same);
-        cached = AllFit-set s word_of place_at size laid ws.cached p new w.room h.0 h.1 w.cached;
+        count = w.count;
+        cached = AllFit-set s word_of place_at size laid ws.cached p new w.room h.0 (λ read. h.1) w.cached;
         kept = w.kept;
       })
-      | inr e ↦ rw e (record { room = w.room; same = w.same; cached = w.cached; kept = w.kept })
+      | inr e ↦ rw e (record { room = w.room; same = w.same; count = w.count; cached = w.cached; kept = w.kept })
     ]
 WordsFit-after s word_of place_at size laid (Flush p) h ws w = record {
   room = w.room;
   same = grind (arith, common_steps, w.same);
+  count = count-set s size ws.kept (word_of p) (slice_index ws.cached (word_of p)) (laid.below p h) w.count;
   cached = w.cached;
   kept = AllFit-set s word_of place_at size laid ws.kept p (slice_index ws.cached (word_of p)) (omega (arith, w.room, w.same)) h (w.cached p h) w.kept;
 }
@@ -72,9 +90,10 @@ pub call_fits : (s : Shape) (word_of : Place → ℕ) (size : ℕ) (ws : Words) 
 call_fits s word_of size ws calls t u safe here = subst (IfCall s) (get_or_from_slice_get calls t (Some u) None here) (safe.calls_fit t)
 
 -- what its step reads is in range
-pub read_fits : (s : Shape) (word_of : Place → ℕ) (size : ℕ) (ws : Words) (calls : List (Option UnderWay)) (u : UnderWay) → IsSafe s word_of size ws calls → CallFits s u → Fits s (place_of (access_of s.kind u.op)) (found word_of (access_of s.kind u.op) ws)
+pub read_fits : (s : Shape) (word_of : Place → ℕ) (size : ℕ) (ws : Words) (calls : List (Option UnderWay)) (u : UnderWay) → IsSafe s word_of size ws calls → CallFits s u → IsReadInRange s (access_of s.kind u.op) (found word_of (access_of s.kind u.op) ws)
 read_fits s word_of size ws calls u safe fits =
-    safe.words.cached (place_of (access_of s.kind u.op)) (at_place s (access_of s.kind u.op) (access_fits s s.kind u.op refl fits.point))
+    let a = access_of s.kind u.op in
+    read_in_range s a (found word_of a ws) (reads_by_calls s.kind u.op) (safe.words.cached (place_of a) (at_place s a (access_fits s s.kind u.op refl fits.point)))
 
 -- a client's place is written
 pub IsSafe-put : (s : Shape) (word_of : Place → ℕ) (size : ℕ) (ws : Words) (calls : List (Option UnderWay)) (t : ℕ) (x : Option UnderWay) → IsSafe s word_of size ws calls → t < length calls → IfCall s x → IsSafe s word_of size ws (slice_set calls t x)
@@ -130,7 +149,7 @@ pub IsSafe-evicted : (s : Shape) (word_of : Place → ℕ) (place_at : ℕ → O
 IsSafe-evicted s word_of place_at size laid ws calls p hp safe =
     let flushed = IsSafe-accessed s word_of place_at size laid ws calls (Flush p) hp safe in
     record {
-      words = record { room = flushed.words.room; same = flushed.words.same; cached = flushed.words.cached; kept = flushed.words.kept };
+      words = record { room = flushed.words.room; same = flushed.words.same; count = flushed.words.count; cached = flushed.words.cached; kept = flushed.words.kept };
       clients = safe.clients;
       few = safe.few;
       calls_fit = safe.calls_fit;

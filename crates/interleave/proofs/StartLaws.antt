@@ -16,6 +16,7 @@ use Rattle.history.specs.declared.event.Event.TheVariants.{Call as call_event}
 use Rattle.protocol.specs.Machine.{World, Log, begun_of, call_begun, started}
 use Rattle.protocol.specs.declared.Issued.{Issued}
 use Rattle.protocol.specs.declared.UnderWay.{UnderWay}
+use Rattle.recover.specs.declared.recovery.Recovery.{Recovery}
 use Rattle.interleave.specs.Holds.{Holds}
 use Rattle.interleave.specs.State.{State, Laid, as_machine, used_by, begun}
 use Rattle.interleave.specs.Trace.{Traced, state_with}
@@ -41,17 +42,17 @@ module _ {L : Type 0} (laid : Laid L) (laws : (l : L) → IsLaidOut (laid.shape 
   used_is = shown_at (laid.shape layout) (laid.word_of layout) ws.cached (Bump client) client_in
 
   pub used_few : slice_index ws.cached (laid.word_of layout (Bump client)) ≤ (laid.shape layout).records
-  used_few = holds.safe.words.cached (Bump client) client_in
+  used_few = holds.safe.words.cached (Bump client) client_in tt
 
   -- the world that a start leaves
   pub begun_is : (number : ℕ) (call : Call) (place used : ℕ) (token : Token) (op : Op) (after : Traced)
       → place ≡ length t.log.events → used ≡ slice_index ws.cached (laid.word_of layout (Bump client)) → token.0 ≡ 1 + client.0 * (laid.shape layout).records + used
       → op ≡ begun_at (laid.shape layout).kind (record { client = client; used = used; token = token; number = number; call = call })
       → after.base ≡ t.base → after.told ≡ t.told → after.log.events ≡ t.log.events ++ call_event client number call ∷ []
-      → after.log.issued ≡ t.log.issued ++ record { place = length t.log.events; begun = record { client = client; used = used; token = token; number = number; call = call } } ∷ [] → after.log.effects ≡ t.log.effects
+      → after.log.issued ≡ t.log.issued ++ record { place = length t.log.events; begun = record { client = client; used = used; token = token; number = number; call = call } } ∷ [] → after.log.effects ≡ t.log.effects → after.recovery ≡ t.recovery
       → state_with layout (counted ws) queue (slice_set calls client.0 (Some (record { place = place; begun = record { client = client; used = used; token = token; number = number; call = call }; op = op }))) after
       ≡ begun laid w client number call
-  begun_is number call place used token op after at is_used is_token is_op base told events issued effects =
+  begun_is number call place used token op after at is_used is_token is_op base told events issued effects recovery =
       let m : World = as_machine laid w in
       let b : Begun = record { client = client; used = used; token = token; number = number; call = call } in
       let same : b ≡ begun_of m client number call =
@@ -69,4 +70,5 @@ module _ {L : Type 0} (laid : Laid L) (laws : (l : L) → IsLaidOut (laid.shape 
       ap (λ (u : UnderWay). state_with layout (counted ws) queue (slice_set calls client.0 (Some u)) after) under_way
       ∙ ap (λ (x : List ℕ). let v : State L = record (state_with layout (counted ws) queue (slice_set calls client.0 (Some (call_begun m (begun_of m client number call)))) after) { base = x } in v) base
       ∙ ap (λ (x : List Told). let v : State L = record (state_with layout (counted ws) queue (slice_set calls client.0 (Some (call_begun m (begun_of m client number call)))) after) { base = t.base; told = x } in v) told
-      ∙ ap (λ (x : Log). let v : State L = record (state_with layout (counted ws) queue (slice_set calls client.0 (Some (call_begun m (begun_of m client number call)))) t) { log = x } in v) log
+      ∙ ap (λ (x : Log). let v : State L = record (state_with layout (counted ws) queue (slice_set calls client.0 (Some (call_begun m (begun_of m client number call)))) t) { log = x; recovery = after.recovery } in v) log
+      ∙ ap (λ (x : Option Recovery). let v : State L = record (begun laid w client number call) { recovery = x } in v) recovery

@@ -2,7 +2,7 @@
 use Rattle.std.specs.Prelude.{Bool, true, false, Option, Some, None, Result, Ok, Err}
 use Rattle.words.specs.declared.call.Reply.{Reply}
 use Rattle.words.specs.declared.refusal.Refusal.{Refusal}
-use Rattle.words.specs.declared.refusal.Refusal.TheVariants.{NoClient, Busy, Idle, NoMemory}
+use Rattle.words.specs.declared.refusal.Refusal.TheVariants.{NoClient, NotReady, Busy, Idle, NoMemory}
 use Rattle.stepper.specs.declared.After.{After}
 use Rattle.stepper.specs.declared.After.TheVariants.{More, Done}
 use Rattle.helping.specs.Looks.{found_no_node}
@@ -14,17 +14,19 @@ abbrev pub answer_of : After Op → Option Reply
 answer_of (More op) = None
 answer_of (Done reply) = Some reply
 
--- whether a client may start a call
-abbrev pub idle_result : Option (Option UnderWay) → Result Unit Refusal
-idle_result None = Err NoClient
-idle_result (Some None) = Ok tt
-idle_result (Some (Some u)) = Err Busy
+-- whether a client may start a call, where recovery is under way (`down`) or not
+abbrev pub idle_result : Bool → Option (Option UnderWay) → Result Unit Refusal
+idle_result down None = Err NoClient
+idle_result true (Some call) = Err NotReady
+idle_result false (Some None) = Ok tt
+idle_result false (Some (Some u)) = Err Busy
 
 -- the call that a client has under way
-abbrev pub waiting_result : Option (Option UnderWay) → Result UnderWay Refusal
-waiting_result None = Err NoClient
-waiting_result (Some None) = Err Idle
-waiting_result (Some (Some u)) = Ok u
+abbrev pub waiting_result : Bool → Option (Option UnderWay) → Result UnderWay Refusal
+waiting_result down None = Err NoClient
+waiting_result true (Some call) = Err NotReady
+waiting_result false (Some None) = Err Idle
+waiting_result false (Some (Some u)) = Ok u
 
 -- whether memory was refused
 abbrev pub is_no_memory : {X : Type 0} → Result X Refusal → Bool

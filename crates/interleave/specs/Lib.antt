@@ -10,3 +10,5 @@ pub mod Keeping
 pub mod Ranges
 pub mod OneAccess
 pub mod OneEvent
+pub mod Booted
+pub mod Down

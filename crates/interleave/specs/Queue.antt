@@ -8,7 +8,7 @@ use Rattle.words.specs.declared.refusal.Refusal.TheVariants.{StaleNumber}
 use Rattle.words.specs.declared.told.Told.{Told}
 use Rattle.words.specs.declared.told.Told.TheVariants.{None as told_none}
 use Rattle.durable.specs.Rows.{no_calls}
-use Rattle.logqueue.specs.Numbers.{is_stale, new_queue as new_log_queue}
+use Rattle.logqueue.specs.Numbers.{is_stale, told_queue, new_queue as new_log_queue}
 use Rattle.interleave.specs.declared.queue.Queue.{Queue}
 use Rattle.interleave.specs.declared.queue.Queue.TheVariants.{Durable, Log}
 
@@ -31,6 +31,11 @@ abbrev pub number_check : Queue → Client → ℕ → Result ℕ Refusal
 number_check (Durable told) client number = Ok 0
 number_check (Log clients) client number =
     if is_stale (slice_index clients.floors client.0) number then Err StaleNumber else Ok number
+
+-- recovery told its clients this; a log queue has its floors from it
+abbrev pub retold : Queue → List Told → Queue
+retold (Durable old) told = Durable told
+retold (Log clients) told = Log (told_queue told)
 
 -- the number of an answered call becomes the floor of its client
 abbrev pub after_return : Queue → Client → ℕ → Queue

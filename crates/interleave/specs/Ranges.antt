@@ -1,10 +1,11 @@
--- Every word of every place, and every number of a waiting call, is in its range: so each step is safe, in every interleaving.
+-- Every word that calls read, and every number of a waiting call, is in its range: so each step is safe, in every interleaving.
 use Rattle.std.specs.Prelude.{◌≡◌, ℕ, ◌≤◌, List, Option, Some, None, length, slice_index, slice_index_or}
 use Rattle.persist.specs.Memory.{Words}
 use Rattle.arena.specs.Shape.{Shape}
 use Rattle.arena.specs.Place.{IsPlace}
-use Rattle.arena.specs.Ranges.{Fits}
+use Rattle.arena.specs.Ranges.{Fits, IsReadByCalls}
 use Rattle.arena.specs.declared.place.Place.{Place}
+use Rattle.recover.specs.Sound.{SizeIsSound}
 use Rattle.stepper.specs.Preparation.{IsBegun}
 use Rattle.helping.specs.Table.{IsPoint}
 use Rattle.words.specs.declared.call.Kind.{Kind}
@@ -14,11 +15,12 @@ use Rattle.interleave.specs.declared.queue.Queue.{Queue}
 use Rattle.interleave.specs.declared.queue.Queue.TheVariants.{Durable, Log}
 
 abbrev pub AllFit : Shape → (Place → ℕ) → List ℕ → Type 0
-AllFit s word_of ws = (p : Place) → IsPlace s p → Fits s p (slice_index ws (word_of p))
+AllFit s word_of ws = (p : Place) → IsPlace s p → IsReadByCalls p → Fits s p (slice_index ws (word_of p))
 
 pub record WordsFit (s : Shape) (word_of : Place → ℕ) (size : ℕ) (ws : Words) : Type 0 where
   pub room : size ≤ length ws.cached
   pub same : length ws.kept ≡ length ws.cached
+  pub count : SizeIsSound s size ws.kept
   pub cached : AllFit s word_of ws.cached
   pub kept : AllFit s word_of ws.kept
 

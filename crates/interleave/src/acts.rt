@@ -19,6 +19,10 @@ pub enum Act {
     Evict {
         word: usize,
     },
+    /// The whole system stops, and begins to recover.
+    Crash,
+    /// Recovery goes on by one step.
+    Recover,
 }
 
 /// How a list of acts went.

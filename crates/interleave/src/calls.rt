@@ -1,6 +1,6 @@
 //! Calls under way.
 
-ghost use Rattle.std.specs.Prelude.{◌≡◌, ◌<◌, ◌≤◌, ◌+◌, ◌*◌, replicate, slice_get, None, IfOk};
+ghost use Rattle.std.specs.Prelude.{◌≡◌, ◌<◌, ◌≤◌, ◌+◌, ◌*◌, replicate, length, slice_get, None, IfOk};
 ghost use Rattle.interleave.specs.Calls.{idle_result, waiting_result};
 
 use protocol::UnderWay;
@@ -18,23 +18,40 @@ pub(crate) fn nobody(alloc: Global, clients: u32) -> Result<Vec<Option<UnderWay>
     Ok(calls)
 }
 
-/// Whether a client may start a call: it is there, and has none under way.
-pub(crate) fn check_idle(calls: &[Option<UnderWay>], client: Client) -> Result<(), Refusal>
-    ensures { result ≡ idle_result (slice_get calls.now client.0) }
+/// Ends every call, as a crash does.
+pub(crate) fn end_all(calls: &mut [Option<UnderWay>])
+    ensures { calls.new ≡ replicate (length calls.old) None }
+{
+    calls.fill(None);
+}
+
+/// Whether a client may start a call: it is there, recovery is not under way, and neither is a call of the client's.
+pub(crate) fn check_idle(
+    calls: &[Option<UnderWay>],
+    down: bool,
+    client: Client,
+) -> Result<(), Refusal>
+    ensures { result ≡ idle_result down (slice_get calls.now client.0) }
 {
     match calls.get(client.0 as usize).copied() {
         None => Err(Refusal::NoClient),
+        Some(_) if down => Err(Refusal::NotReady),
         Some(None) => Ok(()),
         Some(Some(_)) => Err(Refusal::Busy),
     }
 }
 
 /// The call that a client has under way.
-pub(crate) fn waiting(calls: &[Option<UnderWay>], client: Client) -> Result<UnderWay, Refusal>
-    ensures { result ≡ waiting_result (slice_get calls.now client.0) }
+pub(crate) fn waiting(
+    calls: &[Option<UnderWay>],
+    down: bool,
+    client: Client,
+) -> Result<UnderWay, Refusal>
+    ensures { result ≡ waiting_result down (slice_get calls.now client.0) }
 {
     match calls.get(client.0 as usize).copied() {
         None => Err(Refusal::NoClient),
+        Some(_) if down => Err(Refusal::NotReady),
         Some(None) => Err(Refusal::Idle),
         Some(Some(under_way)) => Ok(under_way),
     }

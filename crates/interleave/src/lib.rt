@@ -4,6 +4,7 @@
 mod acts;
 mod calls;
 mod content;
+mod crashing;
 mod effects;
 mod evicting;
 mod laws;

@@ -7,7 +7,7 @@ ghost use Rattle.stepper.specs.Step.{kept_by};
 ghost use Rattle.helping.specs.Table.{access_of, IsPoint};
 ghost use Rattle.protocol.specs.Machine.{noticed, counts};
 ghost use Rattle.interleave.specs.Effects.{AreInSequence};
-ghost use Rattle.interleave.specs.Keeping.{keeping_of};
+ghost use Rattle.interleave.specs.Keeping.{keeping_of, is_noticed};
 ghost use Rattle.interleave.specs.Ranges.{WordsFit};
 ghost use Rattle.interleave.specs.Shown.{shown};
 ghost use Rattle.interleave.specs.State.{machine_of};
@@ -36,18 +36,29 @@ pub(crate) fn kept_at<L: Layout>(layout: &L, memory: &Memory, place: Place) -> u
     memory.kept(word)
 }
 
-/// What the next step of a call will keep, if that step is a flush.
+/// Whether a call may take effect when the word of the place is kept.
+fn is_noticed(place: Place) -> bool
+    ensures { result ≡ is_noticed place }
+{
+    matches!(
+        place,
+        Place::Next(_) | Place::Mark(_) | Place::Cell(_) | Place::Status(_)
+    )
+}
+
+/// What the next step of a call will keep, if that step is a flush by which a call may take effect. The words of a
+/// preparation are none such, so most flushes look at no kept word.
 pub(crate) fn about_to_keep<L: Layout>(layout: &L, memory: &Memory, op: Op) -> Option<Keeping>
     requires point { IsPoint (L.shape layout.now) op }
     requires fit { WordsFit (L.shape layout.now) (L.word_of layout.now) (L.size_of layout.now) memory.now }
     ensures { result ≡ keeping_of (shown (L.shape layout.now) (L.word_of layout.now) memory.now.kept) (kept_by (access_of (L.shape layout.now).kind op)) }
 {
     match op.keeps(layout) {
-        Some(place) => Some(Keeping {
+        Some(place) if is_noticed(place) => Some(Keeping {
             place,
             old: kept_at(layout, memory, place),
         }),
-        None => None,
+        _ => None,
     }
 }
 

@@ -1,7 +1,8 @@
 //! What a queue keeps for its clients beside its memory, by its kind.
 
 ghost use Rattle.std.specs.Prelude.{◌≡◌, ◌<◌, ◌≤◌, Ok, Err};
-ghost use Rattle.interleave.specs.Queue.{new_queue, told_in, number_check, after_return};
+ghost use Rattle.interleave.specs.Booted.{told_so};
+ghost use Rattle.interleave.specs.Queue.{new_queue, told_in, number_check, after_return, retold};
 
 use durable::DurableQueue;
 use logqueue::LogQueue;
@@ -23,6 +24,16 @@ impl Queue {
         match kind {
             Kind::Durable => Queue::Durable(DurableQueue::new(clients)),
             Kind::Log => Queue::Log(LogQueue::new()),
+        }
+    }
+
+    /// That of a queue whose clients are told this.
+    pub(crate) fn told_so(kind: Kind, told: [Told; 16]) -> Self
+        ensures { result ≡ told_so kind told }
+    {
+        match kind {
+            Kind::Durable => Queue::Durable(DurableQueue::recovered(told)),
+            Kind::Log => Queue::Log(LogQueue::recovered(told)),
         }
     }
 
@@ -51,6 +62,16 @@ impl Queue {
                 }
             }
         }
+    }
+
+    /// Recovery told its clients this.
+    pub(crate) fn recovered(&mut self, told: [Told; 16])
+        ensures { self.new ≡ retold self.old told }
+    {
+        *self = match self {
+            Queue::Durable(_) => Queue::Durable(DurableQueue::recovered(told)),
+            Queue::Log(_) => Queue::Log(LogQueue::recovered(told)),
+        };
     }
 
     /// Notes that a call of this number was answered.

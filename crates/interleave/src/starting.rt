@@ -28,6 +28,7 @@ fn begin<L: Layout>(
     call: Call,
 ) -> Result<(), Refusal>
     requires holds { Holds (record { shape = L.shape; word_of = L.word_of; place_at = L.place_at; size_of = L.size_of }) (state_with layout.now memory.old queue.now calls.old trace.old) }
+    requires ready { trace.old.recovery ≡ None }
     requires idle { slice_get calls.old client.0 ≡ Some None }
     ensures world { state_with layout.now memory.new queue.now calls.new trace.new
         ≡ start_with (record { shape = L.shape; word_of = L.word_of; place_at = L.place_at; size_of = L.size_of }) (is_no_memory result) (state_with layout.now memory.old queue.now calls.old trace.old) client call (Ok number) }
@@ -79,7 +80,7 @@ pub(crate) fn start_call<L: Layout>(
     ensures full { is_no_memory result ≡ true → trace.old.room ≡ 0 }
     ensures room { trace.old.room ≤ trace.new.room + 1 }
 {
-    check_idle(calls, client)?;
+    check_idle(calls, trace.is_down(), client)?;
     let number = queue.number(client, number)?;
     begin(layout, memory, queue, calls, trace, client, number, call)
 }

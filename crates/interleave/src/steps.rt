@@ -4,6 +4,7 @@ ghost use Rattle.std.specs.Prelude.{◌≡◌, ◌≤◌, ◌<◌, ◌+◌, leng
 ghost use Rattle.arena.specs.Place.{IsPlace};
 ghost use Rattle.stepper.specs.Step.{after_one};
 ghost use Rattle.helping.specs.Table.{access_of};
+ghost use Rattle.protocol.specs.declared.UnderWay.{UnderWay as AnyUnderWay};
 ghost use Rattle.protocol.specs.Machine.{effects_after, events_after, next_of, stepped, with_next};
 ghost use Rattle.interleave.specs.Calls.{answer_of, is_no_memory, went_on_to_nothing};
 ghost use Rattle.interleave.specs.Effects.{AreInSequence};
@@ -68,30 +69,29 @@ fn go_on(
     calls: &mut [Option<UnderWay>],
     trace: &mut Trace,
     client: Client,
-    under_way: UnderWay,
     after: After<Op>,
 ) -> Option<Reply>
     requires client { client.0 < length calls.old }
     requires room { 0 < trace.old.room }
-    ensures calls { calls.new ≡ slice_set calls.old client.0 (with_next under_way after) }
+    ensures calls { (under_way : AnyUnderWay) → slice_get calls.old client.0 ≡ Some (Some under_way) → calls.new ≡ slice_set calls.old client.0 (with_next under_way after) }
     ensures answer { result ≡ answer_of after }
     ensures base { trace.new.base ≡ trace.old.base }
     ensures told { trace.new.told ≡ trace.old.told }
     ensures log { trace.new.log ≡ record trace.old.log { events = events_after trace.old.log.events client after } }
+    ensures recovery { trace.new.recovery ≡ trace.old.recovery }
     ensures room { trace.old.room ≤ trace.new.room + 1 }
     ensures stays { result ≡ None → trace.new.room ≡ trace.old.room }
 {
+    let call = &mut calls[client.0 as usize];
     match after {
         After::More(op) => {
-            calls[client.0 as usize] = Some(UnderWay {
-                place: under_way.place,
-                begun: under_way.begun,
-                op,
-            });
+            if let Some(under_way) = call {
+                under_way.op = op;
+            }
             None
         }
         After::Done(reply) => {
-            calls[client.0 as usize] = None;
+            *call = None;
             trace.answer(client, reply);
             Some(reply)
         }
@@ -118,13 +118,14 @@ fn advance<L: Layout>(
     ensures told { trace.new.told ≡ trace.old.told }
     ensures log { trace.new.log ≡ (stepped (machine_of (L.shape layout.now) (L.word_of layout.now) memory.old calls.old trace.old.base trace.old.told trace.old.log) client under_way).log }
     ensures answer { result ≡ answer_of (next_of (machine_of (L.shape layout.now) (L.word_of layout.now) memory.old calls.old trace.old.base trace.old.told trace.old.log) under_way) }
+    ensures recovery { trace.new.recovery ≡ trace.old.recovery }
     ensures room { trace.old.room ≤ trace.new.room + 1 }
     ensures stays { result ≡ None → trace.new.room ≡ trace.old.room }
 {
     let keeping = about_to_keep(layout, memory, under_way.op);
     let after = under_way.op.step(layout, memory);
     note(layout, memory, calls, trace, under_way, keeping, after);
-    go_on(calls, trace, client, under_way, after)
+    go_on(calls, trace, client, after)
 }
 
 /// One step of a client's call, unless it is refused.
@@ -144,7 +145,7 @@ pub(crate) fn step_call<L: Layout>(
     ensures room { trace.old.room ≤ trace.new.room + 1 }
     ensures stays { result ≡ Ok None → trace.old.room ≤ trace.new.room }
 {
-    let under_way = waiting(calls, client)?;
+    let under_way = waiting(calls, trace.is_down(), client)?;
     if trace.reserve(1).is_err() {
         return Err(Refusal::NoMemory);
     }

@@ -1,25 +1,31 @@
-//! What a world keeps of what happened: the history, the records that calls took, and when calls took effect.
+//! What a world keeps of what happened: the history, the records that calls took, when calls took effect, and how far
+//! recovery is.
 
-ghost use Rattle.std.specs.Prelude.{◌≡◌, ◌<◌, ◌≤◌, ◌+◌, ◌++◌, [], ◌∷◌, length, IfOk, OnOk, OnErr, IfErr};
-ghost use Rattle.history.specs.Effects.{took_effect, forgotten, settled_at, order_of};
+ghost use Rattle.std.specs.Prelude.{◌≡◌, ◌<◌, ◌≤◌, ◌+◌, ◌++◌, [], ◌∷◌, length, Some, None, is_some, false, OnOk, OnErr};
+ghost use Rattle.history.specs.Effects.{took_effect, forgotten, settled_at, settled_ones};
 ghost use Rattle.interleave.specs.Effects.{looked_at, AreInSequence};
-ghost use Rattle.history.specs.declared.event.Event.TheVariants.{Call as call_event, Return as return_event};
+ghost use Rattle.history.specs.declared.event.Event.TheVariants.{Call as call_event, Return as return_event, Crash as crash_event};
+ghost use Rattle.recover.specs.Table.{boot_point};
+ghost use Rattle.protocol.specs.Machine.{events_recovered, recovery_left};
+ghost use Rattle.interleave.specs.State.{is_ready};
 
 use crate::effects::{forget, settle};
-use history::{Effect, Event, History, Sequence};
+use history::{Effect, Event, History, Sequence, keep_settled};
 use protocol::Issued;
+use recover::{Recovered, Recovery, boot};
 use std::alloc::{AllocError, Global};
 use std::marker::Model;
 use stepper::Begun;
 use words::{Client, Reply, Told};
 
 /// What happened in a world. Contracts see the history's events, the records that calls took, when calls took
-/// effect, and for how many acts more there is room.
+/// effect, the recovery that is under way, and for how many acts more there is room.
 #[derive(Drop)]
 pub(crate) struct Trace {
     history: History,
     issued: Vec<Issued>,
     effects: Vec<Effect>,
+    recovery: Option<Recovery>,
 }
 
 impl Model for Trace {
@@ -32,6 +38,7 @@ impl Model for Trace {
       base = t.history.base.items;
       told = t.history.told;
       log = record { events = t.history.events.items; issued = t.issued.items; effects = t.effects.items };
+      recovery = t.recovery;
       room = min t.history.events.room (min (vec_capacity t.issued - vec_len t.issued) (vec_capacity t.effects - length t.history.events.items));
     } };
 
@@ -44,6 +51,7 @@ impl Trace {
         ensures base { result.base ≡ [] }
         ensures told { result.told ≡ told }
         ensures log { result.log ≡ record { events = []; issued = []; effects = [] } }
+        ensures recovery { result.recovery ≡ None }
     {
         Trace {
             history: History {
@@ -53,6 +61,26 @@ impl Trace {
             },
             issued: Vec::new(alloc),
             effects: Vec::new(alloc),
+            recovery: None,
+        }
+    }
+
+    /// Nothing happened yet to a queue that held and told this, and recovery begins.
+    pub(crate) fn booted(alloc: Global, base: Vec<u32>, told: [Told; 16]) -> Self
+        ensures base { result.base ≡ base.items }
+        ensures told { result.told ≡ told }
+        ensures log { result.log ≡ record { events = []; issued = []; effects = [] } }
+        ensures recovery { result.recovery ≡ Some boot_point }
+    {
+        Trace {
+            history: History {
+                base: Sequence::from_vec(base),
+                told,
+                events: Sequence::new(alloc),
+            },
+            issued: Vec::new(alloc),
+            effects: Vec::new(alloc),
+            recovery: Some(boot()),
         }
     }
 
@@ -85,6 +113,7 @@ impl Trace {
         ensures base { self.new.base ≡ self.old.base }
         ensures told { self.new.told ≡ self.old.told }
         ensures log { self.new.log ≡ self.old.log }
+        ensures recovery { self.new.recovery ≡ self.old.recovery }
         ensures kept { self.old.room ≤ self.new.room }
         ensures room { OnOk result (acts ≤ self.new.room) }
         ensures full { OnErr result (self.old.room < acts) }
@@ -106,6 +135,7 @@ impl Trace {
         ensures events { self.new.log.events ≡ self.old.log.events ++ call_event begun.client begun.number begun.call ∷ [] }
         ensures issued { self.new.log.issued ≡ self.old.log.issued ++ record { place = length self.old.log.events; begun = begun } ∷ [] }
         ensures effects { self.new.log.effects ≡ self.old.log.effects }
+        ensures recovery { self.new.recovery ≡ self.old.recovery }
         ensures room { self.old.room ≤ self.new.room + 1 }
     {
         let place = self.history.events.len();
@@ -125,9 +155,61 @@ impl Trace {
         ensures events { self.new.log.events ≡ self.old.log.events ++ return_event client reply ∷ [] }
         ensures issued { self.new.log.issued ≡ self.old.log.issued }
         ensures effects { self.new.log.effects ≡ self.old.log.effects }
+        ensures recovery { self.new.recovery ≡ self.old.recovery }
         ensures room { self.old.room ≤ self.new.room + 1 }
     {
         self.history.events.push(Event::Return { client, reply });
+    }
+
+    /// The recovery that is under way.
+    pub(crate) fn recovery(&self) -> Option<Recovery>
+        ensures { result ≡ self.now.recovery }
+    {
+        self.recovery
+    }
+
+    /// Whether recovery is under way.
+    pub(crate) fn is_down(&self) -> bool
+        ensures { result ≡ is_some self.now.recovery }
+    {
+        self.recovery.is_some()
+    }
+
+    /// The whole system stopped: what waited to count does not, and recovery begins.
+    pub(crate) fn crash(&mut self)
+        requires { 0 < self.old.room }
+        ensures base { self.new.base ≡ self.old.base }
+        ensures told { self.new.told ≡ self.old.told }
+        ensures events { self.new.log.events ≡ self.old.log.events ++ crash_event ∷ [] }
+        ensures issued { self.new.log.issued ≡ self.old.log.issued }
+        ensures effects { self.new.log.effects ≡ settled_ones self.old.log.effects }
+        ensures recovery { self.new.recovery ≡ Some boot_point }
+        ensures room { self.old.room ≤ self.new.room + 1 }
+    {
+        self.history.events.push(Event::Crash);
+        keep_settled(&mut self.effects);
+        self.recovery = Some(boot());
+    }
+
+    /// Recovery made a step, and this comes next.
+    pub(crate) fn recover(&mut self, next: Recovered)
+        requires { 0 < self.old.room }
+        ensures base { self.new.base ≡ self.old.base }
+        ensures told { self.new.told ≡ self.old.told }
+        ensures events { self.new.log.events ≡ events_recovered self.old.log.events next }
+        ensures issued { self.new.log.issued ≡ self.old.log.issued }
+        ensures effects { self.new.log.effects ≡ self.old.log.effects }
+        ensures recovery { self.new.recovery ≡ recovery_left next }
+        ensures room { self.old.room ≤ self.new.room + 1 }
+        ensures stays { is_ready next ≡ false → self.new.room ≡ self.old.room }
+    {
+        match next {
+            Recovered::More(recovery) => self.recovery = Some(recovery),
+            Recovered::Ready(told) => {
+                self.history.events.push(Event::Ready { told });
+                self.recovery = None;
+            }
+        }
     }
 
     /// The call at the place takes effect, with this reply.

@@ -1,16 +1,21 @@
 //! The world of one queue.
 
-ghost use Rattle.std.specs.Prelude.{◌≡◌, ◌≤◌, ◌<◌, ◌+◌, ◌==◌, ◌⊎◌, length, slice_get, true, Ok, Err, None, IfOk, IfErr, OnOk, OnErr};
+ghost use Rattle.std.specs.Prelude.{◌≡◌, ◌≢◌, ◌≤◌, ◌<◌, ◌+◌, ◌==◌, ◌⊎◌, length, slice_get, true, false, Ok, Err, None, IfOk, IfErr, OnOk, OnErr};
 ghost use Rattle.history.specs.Parts.{IsPartOf};
+ghost use Rattle.recover.specs.Sound.{AreSoundWords};
+ghost use Rattle.interleave.specs.Booted.{booted_world, MayRefuse};
 ghost use Rattle.interleave.specs.Calls.{is_no_memory, waiting_result};
+ghost use Rattle.interleave.specs.Down.{StaysDown, AreToldWhenReady, IsToldWhenReady, HasNoCrash, recovery_step_of, recoveries};
 ghost use Rattle.interleave.specs.Holds.{IsExplained};
+ghost use Rattle.interleave.specs.declared.acts.Act.{Act};
 ghost use Rattle.words.specs.declared.refusal.Refusal.{Refusal as AnyRefusal};
 ghost use Rattle.interleave.specs.Queue.{told_in, told_to};
-ghost use Rattle.interleave.specs.State.{new_world, after_start, start_result, after_step, step_result, after_evict, evict_result, after_act, after_acts, after_alone, IsAnsweredAlone, is_accepted, taken_of, order_in, kept_content};
+ghost use Rattle.interleave.specs.State.{new_world, after_start, start_result, after_step, step_result, after_evict, evict_result, after_crash, crash_result, after_recover, recover_result, is_down, after_act, after_acts, after_alone, IsAnsweredAlone, is_accepted, taken_of, order_in, kept_content, kept_tells, IsKeptSound, AreToldOfAnnounced, IsMended, steps_to_ready, most_to_ready};
 
 use crate::acts::{Act, Ran};
 use crate::calls::{nobody, waiting};
 use crate::content::content;
+use crate::crashing::{crash_all, recover_on};
 use crate::evicting::evict_word;
 use crate::queue::Queue;
 use crate::starting::start_call;
@@ -20,13 +25,14 @@ use arena::Layout;
 use history::{History, Order, Sequence};
 use persist::{Change, Memory};
 use protocol::UnderWay;
+use recover::{sound, tells};
 use std::alloc::Global;
 use std::marker::Model;
 use words::{Call, Client, Refusal, Reply, Told};
 
 /// One queue over its memory, the calls that its clients have under way, and what happened. A call is started, and
 /// then goes on by single steps, each of them one access to the memory, in any interleaving with the others; at any
-/// moment the environment may keep a word.
+/// moment the environment may keep a word, or the whole system may stop, and then recover by single steps.
 #[derive(Drop)]
 pub struct World<L: Layout + Drop> {
     layout: L,
@@ -68,16 +74,45 @@ impl<L: Layout + Drop> World<L> {
         })
     }
 
-    /// Starts a call. It is refused, in this order, where there is no such client (NoClient), where the client
-    /// has a call under way (Busy), where a log queue finds its number stale (StaleNumber), where the client's
-    /// records are used up (NoRoom), and for want of memory (NoMemory); the last two alone make an access. A durable
-    /// queue ignores the number.
+    /// A world that begins on what a memory keeps, as a crash left it: what is not kept is lost, and recovery begins.
+    /// Its history begins with what the kept words hold and tell. It is refused, in this order, where the words break a
+    /// rule (Damaged, with the first such rule), and for want of memory (NoMemory).
+    pub fn boot(alloc: Global, layout: L, memory: Memory) -> Result<Self, Refusal>
+        ensures booted { IfOk result (λ w. w.now ≡ booted_world (record { shape = L.shape; word_of = L.word_of; place_at = L.place_at; size_of = L.size_of }) layout memory) }
+        ensures sound { IfOk result (λ w. AreSoundWords (L.shape layout) (L.size_of layout) (L.word_of layout) memory.kept) }
+        ensures errors { IfErr result (λ e. MayRefuse (L.shape layout) (L.size_of layout) (L.word_of layout) memory.kept e) }
+    {
+        let clients = layout.clients();
+        let mut memory = memory;
+        sound(&layout, &memory)?;
+        memory.crash();
+        let base = content(alloc, &layout, &memory)?;
+        let Ok(calls) = nobody(alloc, clients) else {
+            return Err(Refusal::NoMemory);
+        };
+        let told = tells(&layout, &memory);
+        let queue = Queue::told_so(layout.kind(), told);
+        let trace = Trace::booted(alloc, base, told);
+        Ok(World {
+            layout,
+            memory,
+            queue,
+            calls,
+            trace,
+        })
+    }
+
+    /// Starts a call. It is refused, in this order, where there is no such client (NoClient), where recovery is under
+    /// way (NotReady), where the client has a call under way (Busy), where a log queue finds its number stale
+    /// (StaleNumber), where the client's records are used up (NoRoom), and for want of memory (NoMemory); the last two
+    /// alone make an access. A durable queue ignores the number.
     pub fn start(&mut self, client: Client, number: u64, call: Call) -> Result<(), Refusal>
         ensures world { self.new.now ≡ after_start (record { shape = L.shape; word_of = L.word_of; place_at = L.place_at; size_of = L.size_of }) (is_no_memory result) self.old.now client number call }
         ensures result { result ≡ start_result (record { shape = L.shape; word_of = L.word_of; place_at = L.place_at; size_of = L.size_of }) (is_no_memory result) self.old.now client number }
         ensures full { is_no_memory result ≡ true → self.old.room ≡ 0 }
         ensures room { self.old.room ≤ self.new.room + 1 }
         ensures explained { IsExplained (record { shape = L.shape; word_of = L.word_of; place_at = L.place_at; size_of = L.size_of }) self.new.now }
+        ensures sound { IsKeptSound (record { shape = L.shape; word_of = L.word_of; place_at = L.place_at; size_of = L.size_of }) self.new.now }
         ensures order { order_in self.new.now ≡ order_in self.old.now }
     {
         start_call(
@@ -93,8 +128,8 @@ impl<L: Layout + Drop> World<L> {
     }
 
     /// One step of a client's call: exactly one access. It answers the reply where that was the last. It is
-    /// refused, in this order, where there is no such client (NoClient), where it has no call (Idle), and for want of
-    /// memory (NoMemory).
+    /// refused, in this order, where there is no such client (NoClient), where recovery is under way (NotReady), where it
+    /// has no call (Idle), and for want of memory (NoMemory).
     pub fn step(&mut self, client: Client) -> Result<Option<Reply>, Refusal>
         ensures world { self.new.now ≡ after_step (record { shape = L.shape; word_of = L.word_of; place_at = L.place_at; size_of = L.size_of }) (is_no_memory result) self.old.now client }
         ensures result { result ≡ step_result (record { shape = L.shape; word_of = L.word_of; place_at = L.place_at; size_of = L.size_of }) (is_no_memory result) self.old.now client }
@@ -102,6 +137,7 @@ impl<L: Layout + Drop> World<L> {
         ensures room { self.old.room ≤ self.new.room + 1 }
         ensures stays { result ≡ Ok None → self.old.room ≤ self.new.room }
         ensures explained { IsExplained (record { shape = L.shape; word_of = L.word_of; place_at = L.place_at; size_of = L.size_of }) self.new.now }
+        ensures sound { IsKeptSound (record { shape = L.shape; word_of = L.word_of; place_at = L.place_at; size_of = L.size_of }) self.new.now }
         ensures order { IsPartOf (order_in self.old.now) (order_in self.new.now) }
     {
         step_call(
@@ -121,7 +157,11 @@ impl<L: Layout + Drop> World<L> {
         ensures result { result ≡ evict_result (record { shape = L.shape; word_of = L.word_of; place_at = L.place_at; size_of = L.size_of }) self.old.now word }
         ensures room { self.new.room ≡ self.old.room }
         ensures explained { IsExplained (record { shape = L.shape; word_of = L.word_of; place_at = L.place_at; size_of = L.size_of }) self.new.now }
+        ensures sound { IsKeptSound (record { shape = L.shape; word_of = L.word_of; place_at = L.place_at; size_of = L.size_of }) self.new.now }
         ensures order { IsPartOf (order_in self.old.now) (order_in self.new.now) }
+        ensures tells { is_down self.old.now ≡ true → kept_tells (record { shape = L.shape; word_of = L.word_of; place_at = L.place_at; size_of = L.size_of }) self.new.now ≡ kept_tells (record { shape = L.shape; word_of = L.word_of; place_at = L.place_at; size_of = L.size_of }) self.old.now }
+        ensures holds { is_down self.old.now ≡ true → kept_content (record { shape = L.shape; word_of = L.word_of; place_at = L.place_at; size_of = L.size_of }) self.new.now ≡ kept_content (record { shape = L.shape; word_of = L.word_of; place_at = L.place_at; size_of = L.size_of }) self.old.now }
+        ensures left { steps_to_ready (record { shape = L.shape; word_of = L.word_of; place_at = L.place_at; size_of = L.size_of }) self.new.now ≡ steps_to_ready (record { shape = L.shape; word_of = L.word_of; place_at = L.place_at; size_of = L.size_of }) self.old.now }
     {
         evict_word(
             &self.layout,
@@ -133,13 +173,89 @@ impl<L: Layout + Drop> World<L> {
         )
     }
 
+    /// The whole system stops: what is not kept is lost, calls under way end without an answer, and recovery begins
+    /// anew, also where it was under way. It is refused for want of memory alone (NoMemory), and then nothing changed.
+    pub fn crash(&mut self) -> Result<(), Refusal>
+        ensures world { self.new.now ≡ after_crash (record { shape = L.shape; word_of = L.word_of; place_at = L.place_at; size_of = L.size_of }) (is_no_memory result) self.old.now }
+        ensures result { result ≡ crash_result (is_no_memory result) }
+        ensures full { is_no_memory result ≡ true → self.old.room ≡ 0 }
+        ensures room { self.old.room ≤ self.new.room + 1 }
+        ensures explained { IsExplained (record { shape = L.shape; word_of = L.word_of; place_at = L.place_at; size_of = L.size_of }) self.new.now }
+        ensures sound { IsKeptSound (record { shape = L.shape; word_of = L.word_of; place_at = L.place_at; size_of = L.size_of }) self.new.now }
+        ensures order { order_in self.new.now ≡ order_in self.old.now }
+        ensures tells { kept_tells (record { shape = L.shape; word_of = L.word_of; place_at = L.place_at; size_of = L.size_of }) self.new.now ≡ kept_tells (record { shape = L.shape; word_of = L.word_of; place_at = L.place_at; size_of = L.size_of }) self.old.now }
+        ensures holds { kept_content (record { shape = L.shape; word_of = L.word_of; place_at = L.place_at; size_of = L.size_of }) self.new.now ≡ kept_content (record { shape = L.shape; word_of = L.word_of; place_at = L.place_at; size_of = L.size_of }) self.old.now }
+    {
+        crash_all(
+            &self.layout,
+            &mut self.memory,
+            &self.queue,
+            &mut self.calls,
+            &mut self.trace,
+        )
+    }
+
+    /// One step of recovery: exactly one access. It answers whether the queue is ready now, and then each client is
+    /// told what became of its last call. It is refused, in this order, where no recovery is under way (AlreadyReady),
+    /// and for want of memory (NoMemory).
+    pub fn recover_step(&mut self) -> Result<bool, Refusal>
+        ensures world { self.new.now ≡ after_recover (record { shape = L.shape; word_of = L.word_of; place_at = L.place_at; size_of = L.size_of }) (is_no_memory result) self.old.now }
+        ensures result { result ≡ recover_result (record { shape = L.shape; word_of = L.word_of; place_at = L.place_at; size_of = L.size_of }) (is_no_memory result) self.old.now }
+        ensures full { is_no_memory result ≡ true → self.old.room ≡ 0 }
+        ensures room { self.old.room ≤ self.new.room + 1 }
+        ensures stays { result ≡ Ok false → self.old.room ≤ self.new.room }
+        ensures explained { IsExplained (record { shape = L.shape; word_of = L.word_of; place_at = L.place_at; size_of = L.size_of }) self.new.now }
+        ensures sound { IsKeptSound (record { shape = L.shape; word_of = L.word_of; place_at = L.place_at; size_of = L.size_of }) self.new.now }
+        ensures order { order_in self.new.now ≡ order_in self.old.now }
+        ensures tells { kept_tells (record { shape = L.shape; word_of = L.word_of; place_at = L.place_at; size_of = L.size_of }) self.new.now ≡ kept_tells (record { shape = L.shape; word_of = L.word_of; place_at = L.place_at; size_of = L.size_of }) self.old.now }
+        ensures holds { kept_content (record { shape = L.shape; word_of = L.word_of; place_at = L.place_at; size_of = L.size_of }) self.new.now ≡ kept_content (record { shape = L.shape; word_of = L.word_of; place_at = L.place_at; size_of = L.size_of }) self.old.now }
+        ensures told { result ≡ Ok true → told_in self.new.now.queue ≡ kept_tells (record { shape = L.shape; word_of = L.word_of; place_at = L.place_at; size_of = L.size_of }) self.new.now }
+        ensures announced { result ≡ Ok true → AreToldOfAnnounced (record { shape = L.shape; word_of = L.word_of; place_at = L.place_at; size_of = L.size_of }) self.new.now }
+        ensures mended { result ≡ Ok true → IsMended (record { shape = L.shape; word_of = L.word_of; place_at = L.place_at; size_of = L.size_of }) self.new.now }
+        ensures few { steps_to_ready (record { shape = L.shape; word_of = L.word_of; place_at = L.place_at; size_of = L.size_of }) self.old.now ≤ most_to_ready (L.shape self.old.now.layout) }
+        ensures falls { IfOk result (λ ready. steps_to_ready (record { shape = L.shape; word_of = L.word_of; place_at = L.place_at; size_of = L.size_of }) self.new.now < steps_to_ready (record { shape = L.shape; word_of = L.word_of; place_at = L.place_at; size_of = L.size_of }) self.old.now) }
+    {
+        recover_on(
+            &self.layout,
+            &mut self.memory,
+            &mut self.queue,
+            &self.calls,
+            &mut self.trace,
+        )
+    }
+
+    /// The layout of its memory.
+    pub fn layout(&self) -> &L
+        ensures { result.now ≡ self.now.now.layout }
+    {
+        &self.layout
+    }
+
+    /// Its memory, to look at what is kept.
+    pub fn memory(&self) -> &Memory
+        ensures { result.now ≡ self.now.now.words }
+    {
+        &self.memory
+    }
+
+    /// Whether recovery is under way.
+    pub fn is_down(&self) -> bool
+        ensures { result ≡ is_down self.now.now }
+    {
+        self.trace.is_down()
+    }
+
     /// The acts in order. One that its own call refuses is passed over, and counted.
     pub fn run(&mut self, acts: &[Act]) -> Ran
         ensures world { length acts.now ≤ self.old.room → self.new.now ≡ after_acts (record { shape = L.shape; word_of = L.word_of; place_at = L.place_at; size_of = L.size_of }) self.old.now acts.now }
         ensures taken { length acts.now ≤ self.old.room → result.taken ≡ taken_of (record { shape = L.shape; word_of = L.word_of; place_at = L.place_at; size_of = L.size_of }) self.old.now acts.now }
         ensures all { result.taken + result.refused ≡ length acts.now }
         ensures explained { IsExplained (record { shape = L.shape; word_of = L.word_of; place_at = L.place_at; size_of = L.size_of }) self.new.now }
+        ensures sound { IsKeptSound (record { shape = L.shape; word_of = L.word_of; place_at = L.place_at; size_of = L.size_of }) self.new.now }
         ensures order { IsPartOf (order_in self.old.now) (order_in self.new.now) }
+        ensures tells { length acts.now ≤ self.old.room → StaysDown (record { shape = L.shape; word_of = L.word_of; place_at = L.place_at; size_of = L.size_of }) self.old.now acts.now → kept_tells (record { shape = L.shape; word_of = L.word_of; place_at = L.place_at; size_of = L.size_of }) self.new.now ≡ kept_tells (record { shape = L.shape; word_of = L.word_of; place_at = L.place_at; size_of = L.size_of }) self.old.now }
+        ensures announced { length acts.now ≤ self.old.room → AreToldWhenReady (record { shape = L.shape; word_of = L.word_of; place_at = L.place_at; size_of = L.size_of }) self.old.now acts.now }
+        ensures ready { length acts.now ≤ self.old.room → HasNoCrash acts.now → most_to_ready (L.shape self.old.now.layout) ≤ recoveries acts.now → is_down self.new.now ≡ false }
     {
         let mut ran = Ran {
             taken: 0,
@@ -161,7 +277,12 @@ impl<L: Layout + Drop> World<L> {
         ensures accepted { 0 < self.old.room → result ≡ is_accepted (record { shape = L.shape; word_of = L.word_of; place_at = L.place_at; size_of = L.size_of }) self.old.now act }
         ensures room { self.old.room ≤ self.new.room + 1 }
         ensures explained { IsExplained (record { shape = L.shape; word_of = L.word_of; place_at = L.place_at; size_of = L.size_of }) self.new.now }
+        ensures sound { IsKeptSound (record { shape = L.shape; word_of = L.word_of; place_at = L.place_at; size_of = L.size_of }) self.new.now }
         ensures order { IsPartOf (order_in self.old.now) (order_in self.new.now) }
+        ensures tells { is_down self.old.now ≡ true → kept_tells (record { shape = L.shape; word_of = L.word_of; place_at = L.place_at; size_of = L.size_of }) self.new.now ≡ kept_tells (record { shape = L.shape; word_of = L.word_of; place_at = L.place_at; size_of = L.size_of }) self.old.now }
+        ensures announced { 0 < self.old.room → IsToldWhenReady (record { shape = L.shape; word_of = L.word_of; place_at = L.place_at; size_of = L.size_of }) self.old.now self.new.now }
+        ensures left { 0 < self.old.room → act ≢ Act.Crash → is_down self.new.now ≡ true → recovery_step_of act + steps_to_ready (record { shape = L.shape; word_of = L.word_of; place_at = L.place_at; size_of = L.size_of }) self.new.now ≤ steps_to_ready (record { shape = L.shape; word_of = L.word_of; place_at = L.place_at; size_of = L.size_of }) self.old.now }
+        ensures down { act ≢ Act.Crash → is_down self.new.now ≡ true → is_down self.old.now ≡ true }
     {
         match act {
             Act::Start {
@@ -171,15 +292,17 @@ impl<L: Layout + Drop> World<L> {
             } => self.start(client, number, call).is_ok(),
             Act::Step { client } => self.step(client).is_ok(),
             Act::Evict { word } => self.evict(word).is_ok(),
+            Act::Crash => self.crash().is_ok(),
+            Act::Recover => self.recover_step().is_ok(),
         }
     }
 
     /// A client's call goes on alone until it answers: its reply, and how many steps that took, at most 64 from
-    /// wherever it waits. It is refused, in this order, where there is no such client (NoClient), where it has no
-    /// call (Idle), and, before its first step, for want of memory (NoMemory).
+    /// wherever it waits. It is refused, in this order, where there is no such client (NoClient), where recovery is
+    /// under way (NotReady), where it has no call (Idle), and, before its first step, for want of memory (NoMemory).
     pub fn run_alone(&mut self, client: Client) -> Result<(Reply, u32), Refusal>
-        ensures refused { (refusal : AnyRefusal) → waiting_result (slice_get self.old.now.calls client.0) ≡ Err refusal → result ≡ Err refusal }
-        ensures errors { IfErr result (λ e. (e ≡ Refusal.NoMemory) ⊎ (waiting_result (slice_get self.old.now.calls client.0) ≡ Err e)) }
+        ensures refused { (refusal : AnyRefusal) → waiting_result (is_down self.old.now) (slice_get self.old.now.calls client.0) ≡ Err refusal → result ≡ Err refusal }
+        ensures errors { IfErr result (λ e. (e ≡ Refusal.NoMemory) ⊎ (waiting_result (is_down self.old.now) (slice_get self.old.now.calls client.0) ≡ Err e)) }
         ensures full { is_no_memory result ≡ true → self.old.room ≡ 0 }
         ensures same { IfErr result (λ e. self.new.now ≡ self.old.now) }
         ensures steps { IfOk result (λ answer. answer.1 ≤ 64) }
@@ -187,9 +310,10 @@ impl<L: Layout + Drop> World<L> {
         ensures world { IfOk result (λ answer. self.new.now ≡ after_alone (record { shape = L.shape; word_of = L.word_of; place_at = L.place_at; size_of = L.size_of }) answer.1 self.old.now client) }
         ensures room { self.old.room ≤ self.new.room + 1 }
         ensures explained { IsExplained (record { shape = L.shape; word_of = L.word_of; place_at = L.place_at; size_of = L.size_of }) self.new.now }
+        ensures sound { IsKeptSound (record { shape = L.shape; word_of = L.word_of; place_at = L.place_at; size_of = L.size_of }) self.new.now }
         ensures order { IsPartOf (order_in self.old.now) (order_in self.new.now) }
     {
-        waiting(&self.calls, client)?;
+        waiting(&self.calls, self.trace.is_down(), client)?;
         self.reserve(1)?;
         let mut steps = 0u32;
         loop {
@@ -246,7 +370,8 @@ impl<L: Layout + Drop> World<L> {
         self.trace.history()
     }
 
-    /// What the client was last told: what the base tells. A client that there is not is told nothing.
+    /// What the client was last told: what the last recovery read, and at first what the base tells. A client that
+    /// there is not is told nothing.
     pub fn told(&self, client: Client) -> Told
         ensures { result ≡ told_to (told_in self.now.now.queue) client }
     {

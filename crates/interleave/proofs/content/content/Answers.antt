@@ -21,7 +21,7 @@ loop-preserved g c =
     let word : Place → ℕ = shown (g.L.Layout.shape c.args.layout.now) (g.L.Layout.word_of c.args.layout.now) c.args.memory.now.kept in
     let links : ℕ = c.clients.result * c.records.result in
     let rest : List ℕ = content_from word (links - (c.loop.counter + 1)) c.kept_at.result in
-    let fits : word (Next c.loop.node) ≤ greatest (g.L.Layout.shape c.args.layout.now) = subst (λ n. n ≤ greatest (g.L.Layout.shape c.args.layout.now)) (sym (shown_at (g.L.Layout.shape c.args.layout.now) (g.L.Layout.word_of c.args.layout.now) c.args.memory.now.kept (Next c.loop.node) c.loop.invariant.node)) (c.requires.kept (Next c.loop.node) c.loop.invariant.node) in
+    let fits : word (Next c.loop.node) ≤ greatest (g.L.Layout.shape c.args.layout.now) = subst (λ n. n ≤ greatest (g.L.Layout.shape c.args.layout.now)) (sym (shown_at (g.L.Layout.shape c.args.layout.now) (g.L.Layout.word_of c.args.layout.now) c.args.memory.now.kept (Next c.loop.node) c.loop.invariant.node)) (c.requires.kept (Next c.loop.node) c.loop.invariant.node tt) in
     let read : c.kept_at.result ≡ word (Next c.loop.node) = c.kept_at.ensures in
     record {
       links = c.loop.invariant.links;

@@ -1,5 +1,4 @@
 use Rattle.std.proofs.Common.{◌≡◌, ◌≤◌, List, length, Some, refl, sym, ap, ◌∙◌, subst}
-use Rattle.interleave.specs.Holds.{of_keeps}
 use Rattle.history.specs.declared.event.Effect.{Effect}
 use Rattle.persist.specs.Changes.{change_of}
 use Rattle.persist.specs.Memory.{Words, evicted as evicted_word}
@@ -8,7 +7,7 @@ use Rattle.interleave.specs.Ranges.{WordsFit}
 use Rattle.interleave.specs.State.{Laid, machine_of}
 use Rattle.interleave.specs.Trace.{Traced}
 use Rattle.interleave.proofs.EvictLaws.{is_place, word_is, below, notes_change, notes_nothing, room_is, left_is}
-use Rattle.interleave.proofs.MachineFacts.{room_held, sequence_held}
+use Rattle.interleave.proofs.MachineFacts.{sequence_held}
 use Rattle.interleave.proofs.Safety.{IsSafe-evicted}
 use Rattle.interleave.proofs.evicting.evict_word.Goals as goal
 
@@ -69,7 +68,7 @@ returns-in-Some-change-clause-world g c =
     let effects = ap (λ (m : Words). noticed (machine_of (g.L.Layout.shape c.args.layout.now) (g.L.Layout.word_of c.args.layout.now) m c.args.calls.now t.base t.told t.log) c.in-Some.place c.in-Some-change.change.new) (c.evict.ensures.done lt) ∙ notes in
     left_is laid g.met.L.Layout.laid_out c.args.layout.now c.args.memory.now c.args.queue.now c.args.calls.now t c.args.word c.in-Some.place named c.requires.holds
     c.evict.new.self c.notice.new.trace (c.evict.ensures.done lt) (ap (λ (x : Traced). x.base) noted) (ap (λ (x : Traced). x.told) noted)
-    (ap (λ (x : Traced). x.log) noted ∙ ap (λ (e : List Effect). let l : Log = record t.log { effects = e } in l) effects)
+    (ap (λ (x : Traced). x.log) noted ∙ ap (λ (e : List Effect). let l : Log = record t.log { effects = e } in l) effects) (ap (λ (x : Traced). x.recovery) noted)
 
 pub returns-in_default-change-clause-world : goal.returns-in_default-change-clause-world
 returns-in_default-change-clause-world g c =
@@ -79,4 +78,4 @@ returns-in_default-change-clause-world g c =
     let t : Traced = c.args.trace.now in
     left_is laid g.met.L.Layout.laid_out c.args.layout.now c.args.memory.now c.args.queue.now c.args.calls.now t c.args.word c.in-Some.place named c.requires.holds
     c.evict.new.self t (c.evict.ensures.done lt) refl refl
-    (ap (λ (e : List Effect). let l : Log = record t.log { effects = e } in l) (notes_nothing laid g.met.L.Layout.laid_out c.args.layout.now c.args.memory.now c.args.queue.now c.args.calls.now t c.args.word c.in-Some.place named c.requires.holds (cc (c.evict.ensures.change lt, c.in_ok-change.was, c.in_default-change.is))))
+    (ap (λ (e : List Effect). let l : Log = record t.log { effects = e } in l) (notes_nothing laid g.met.L.Layout.laid_out c.args.layout.now c.args.memory.now c.args.queue.now c.args.calls.now t c.args.word c.in-Some.place named c.requires.holds (cc (c.evict.ensures.change lt, c.in_ok-change.was, c.in_default-change.is)))) refl

@@ -1,5 +1,4 @@
 use Rattle.std.proofs.Common.{◌≡◌, ◌++◌, [], ◌∷◌, ◌+◌, ◌*◌, ◌==◌, slice_set, Bool, false, if◌then◌else◌, length, Some, refl, sym, ap, ◌∙◌, arith, rules}
-use Rattle.interleave.specs.Holds.{of_keeps}
 use Rattle.std.proofs.lemmas.Bool.{ne_eqb}
 use Rattle.persist.specs.Memory.{Words}
 use Rattle.stepper.specs.declared.prepare.Begun.{Begun}
@@ -55,7 +54,7 @@ returns-clause-world g c =
     let same : r.log ≡ t.log = c.reserve.ensures.log in
     let is = begun_is laid g.met.L.Layout.laid_out c.args.layout.now c.args.memory.now c.args.queue.now c.args.calls.now c.args.trace.now c.args.client c.requires.holds c.requires.idle c.args.number c.args.call c.moment.result c.load_at-used.result c.record_number.result c.begin.result c.begin-2.new.self
     (c.moment.ensures ∙ ap (λ (l : Log). length l.events) same) c.load_at-used.ensures.value (c.record_number.ensures.number ∙ ap (λ n. 1 + c.args.client.0 * n + c.load_at-used.result) c.records-records.ensures.value) (c.begin.ensures ∙ ap (λ k. begun_at k b) c.kind.ensures)
-    (c.begin-2.ensures.base ∙ c.reserve.ensures.base) (c.begin-2.ensures.told ∙ c.reserve.ensures.told) (c.begin-2.ensures.events ∙ ap (λ (l : Log). l.events ++ call_event c.args.client c.args.number c.args.call ∷ []) same) (c.begin-2.ensures.issued ∙ ap (λ (l : Log). l.issued ++ (let i : Issued = record { place = length l.events; begun = b } in i) ∷ []) same) (c.begin-2.ensures.effects ∙ ap (λ (l : Log). l.effects) same) in
+    (c.begin-2.ensures.base ∙ c.reserve.ensures.base) (c.begin-2.ensures.told ∙ c.reserve.ensures.told) (c.begin-2.ensures.events ∙ ap (λ (l : Log). l.events ++ call_event c.args.client c.args.number c.args.call ∷ []) same) (c.begin-2.ensures.issued ∙ ap (λ (l : Log). l.issued ++ (let i : Issued = record { place = length l.events; begun = b } in i) ∷ []) same) (c.begin-2.ensures.effects ∙ ap (λ (l : Log). l.effects) same) (c.begin-2.ensures.recovery ∙ c.reserve.ensures.recovery) in
     let w = state_with c.args.layout.now c.args.memory.now c.args.queue.now c.args.calls.now t in
     let test : (used_by laid w c.args.client == (g.L.Layout.shape c.args.layout.now).records) ≡ false = ne_eqb _ _ (λ e. c.if-used-records.false (c.load_at-used.ensures.value ∙ sym used ∙ e ∙ sym c.records-records.ensures.value)) in
     ap (λ (m : Words). state_with c.args.layout.now m c.args.queue.now (slice_set c.args.calls.now c.args.client.0 (Some u)) c.begin-2.new.self) c.load_at-used.ensures.one_access

@@ -47,7 +47,7 @@ returns-clause-calls g c =
     let t = c.args.trace.now in
     let fits = call_fits _ _ _ _ _ _ _ c.requires.safe c.requires.waits in
     let next = next_is _ _ _ c.args.memory.now c.args.calls.now t.base t.told t.log c.args.under_way fits c.requires.safe in
-    c.go_on.ensures.calls ∙ rw (c.step-after.ensures.next, next) refl
+    c.go_on.ensures.calls c.args.under_way c.requires.waits ∙ rw (c.step-after.ensures.next, next) refl
 
 pub returns-clause-answer : goal.returns-clause-answer
 returns-clause-answer g c =

@@ -23,9 +23,9 @@ pub advance-answer-requires-clause-effects : goal.advance-answer-requires-clause
 advance-answer-requires-clause-effects g c =
     let laid : Laid g.row.L.Denot = record { shape = g.L.Layout.shape; word_of = g.L.Layout.word_of; place_at = g.L.Layout.place_at; size_of = g.L.Layout.size_of } in
     let w = state_with c.args.layout.now c.args.memory.now c.args.queue.now c.args.calls.now.items c.args.trace.now in
-    let waits : slice_get c.deref.result.now c.args.client.0 ≡ Some (Some c.in_ok-under_way.under_way) = waiting_is (slice_get c.deref.result.now c.args.client.0) c.in_ok-under_way.under_way (sym c.waiting.ensures ∙ c.in_ok-under_way.was) in
+    let waits : slice_get c.deref.result.now c.args.client.0 ≡ Some (Some c.in_ok-under_way.under_way) = waiting_is _ (slice_get c.deref.result.now c.args.client.0) c.in_ok-under_way.under_way (sym c.waiting.ensures ∙ c.in_ok-under_way.was) in
     let here = subst (λ (cs : List (Option UnderWay)). slice_get cs c.args.client.0 ≡ Some (Some c.in_ok-under_way.under_way)) c.deref.ensures.value waits in
-    let fact = step_room (as_machine laid w) (of_keeps _ c.requires.holds.inv) c.args.client c.in_ok-under_way.under_way (may_step laid g.met.L.Layout.laid_out w c.args.client c.in_ok-under_way.under_way here) in
+    let fact = step_room (as_machine laid w) (of_keeps _ c.requires.holds.inv) c.args.client c.in_ok-under_way.under_way (may_step laid g.met.L.Layout.laid_out w c.args.client c.in_ok-under_way.under_way c.requires.holds here) in
     let u = c.in_ok-under_way.under_way in
     let s = g.L.Layout.shape c.args.layout.now in
     let word_of = g.L.Layout.word_of c.args.layout.now in
@@ -38,6 +38,6 @@ advance-answer-requires-clause-effects g c =
 
 pub returned-requires : goal.returned-requires
 returned-requires g c =
-    let waits : slice_get c.deref.result.now c.args.client.0 ≡ Some (Some c.in_ok-under_way.under_way) = waiting_is (slice_get c.deref.result.now c.args.client.0) c.in_ok-under_way.under_way (sym c.waiting.ensures ∙ c.in_ok-under_way.was) in
+    let waits : slice_get c.deref.result.now c.args.client.0 ≡ Some (Some c.in_ok-under_way.under_way) = waiting_is _ (slice_get c.deref.result.now c.args.client.0) c.in_ok-under_way.under_way (sym c.waiting.ensures ∙ c.in_ok-under_way.was) in
     let here = subst (λ (cs : List (Option UnderWay)). slice_get cs c.args.client.0 ≡ Some (Some c.in_ok-under_way.under_way)) c.deref.ensures.value waits in
     omega (arith, (call_fits _ _ _ _ _ _ _ c.requires.holds.safe here).begun.client, c.requires.holds.safe.few)

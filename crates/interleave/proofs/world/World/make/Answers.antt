@@ -1,6 +1,7 @@
 use Rattle.std.proofs.Common.{◌≡◌, ℕ, List, Option, None, sym, subst, ap, ◌∙◌, replicate, rules}
 use Rattle.words.specs.declared.told.Told.{Told}
 use Rattle.persist.specs.Memory.{Words, zero_words}
+use Rattle.recover.specs.declared.recovery.Recovery.{Recovery}
 use Rattle.protocol.specs.Machine.{Log}
 use Rattle.protocol.specs.declared.UnderWay.{UnderWay}
 use Rattle.interleave.specs.Holds.{Holds}
@@ -26,6 +27,7 @@ invariant_of-result g c =
     ∙ ap (λ q. state_with c.args.layout (zero_words (g.L.Layout.size_of c.args.layout)) q c.in-Ok.calls.items c.new-trace.result) queue
     ∙ ap (λ (cs : List (Option UnderWay)). state_with c.args.layout (zero_words (g.L.Layout.size_of c.args.layout)) (new_queue s.kind s.clients) cs c.new-trace.result) calls
     ∙ ap (λ (b : List ℕ). let w : State g.row.L.Denot = record (state_with c.args.layout (zero_words (g.L.Layout.size_of c.args.layout)) (new_queue s.kind s.clients) (replicate s.clients None) c.new-trace.result) { base = b } in w) base
-    ∙ ap (λ (t : List Told). let w : State g.row.L.Denot = record (new_world laid c.args.layout) { told = t; log = c.new-trace.result.log } in w) told
-    ∙ ap (λ (l : Log). let w : State g.row.L.Denot = record (new_world laid c.args.layout) { log = l } in w) log in
+    ∙ ap (λ (t : List Told). let w : State g.row.L.Denot = record (new_world laid c.args.layout) { told = t; log = c.new-trace.result.log; recovery = c.new-trace.result.recovery } in w) told
+    ∙ ap (λ (l : Log). let w : State g.row.L.Denot = record (new_world laid c.args.layout) { log = l; recovery = c.new-trace.result.recovery } in w) log
+    ∙ ap (λ (r : Option Recovery). let w : State g.row.L.Denot = record (new_world laid c.args.layout) { recovery = r } in w) c.new-trace.ensures.recovery in
     subst (Holds laid) (sym world) new

@@ -1,4 +1,3 @@
-use Rattle.interleave.specs.Holds.{of_keeps}
 use Rattle.interleave.proofs.MachineFacts.{room_held}
 use Rattle.interleave.proofs.world.World.reserve.Goals as goal
 

@@ -1,11 +1,12 @@
-use Rattle.std.proofs.Common.{◌≡◌, ℕ, suc, ◌+◌, ◌≤◌, ◌<◌, Bool, false, List, Option, Some, None, Ok, slice_get, refl, sym, ap, ◌∙◌, subst, arith, rules}
+use Rattle.std.proofs.Common.{◌≡◌, ℕ, suc, ◌+◌, ◌≤◌, ◌<◌, Bool, true, false, List, Option, Some, None, Ok, slice_get, refl, sym, ap, ◌∙◌, subst, arith, rules}
 use Rattle.history.specs.Parts.{IsPartOf}
 use Rattle.history.proofs.Members.{part_same, part_of_part}
 use Rattle.protocol.specs.Machine.{next_of}
 use Rattle.protocol.specs.declared.UnderWay.{UnderWay}
 use Rattle.interleave.specs.Calls.{answer_of, is_no_memory}
 use Rattle.interleave.specs.Holds.{Holds, IsExplained}
-use Rattle.interleave.specs.State.{State, Laid, as_machine, gone_on, after_step, after_alone, IsAnsweredAlone, step_result, order_in}
+use Rattle.interleave.proofs.KeptTells.{kept_sound}
+use Rattle.interleave.specs.State.{IsKeptSound, State, Laid, as_machine, gone_on, after_step, after_alone, IsAnsweredAlone, step_result, order_in}
 use Rattle.interleave.specs.Trace.{Roomy, state_with}
 use Rattle.interleave.proofs.AloneLaws.{left_in, left_few, step_is, answer_is, goes_on}
 use Rattle.interleave.proofs.HoldsKept.{explained_world, holds_gone_on, waiting_is}
@@ -18,6 +19,13 @@ returns-in_err-waiting-clause-explained g c =
     let was : inside ≡ c.args.self.now.now = ap (λ (r : Roomy g.row.L.Denot). r.now) c.self.view_is in
     subst (IsExplained laid) was (explained_world laid g.met.L.Layout.laid_out inside c.self.invariant)
 
+pub returns-in_err-waiting-clause-sound : goal.returns-in_err-waiting-clause-sound
+returns-in_err-waiting-clause-sound g c =
+    let laid : Laid g.row.L.Denot = record { shape = g.L.Layout.shape; word_of = g.L.Layout.word_of; place_at = g.L.Layout.place_at; size_of = g.L.Layout.size_of } in
+    let inside : State g.row.L.Denot = state_with c.self.inside.layout c.self.inside.memory c.self.inside.queue c.self.inside.calls.items c.self.inside.trace in
+    let was : inside ≡ c.args.self.now.now = ap (λ (r : Roomy g.row.L.Denot). r.now) c.self.view_is in
+    subst (IsKeptSound laid) was (kept_sound laid g.met.L.Layout.laid_out inside c.self.invariant)
+
 pub returns-in_err-waiting-clause-order : goal.returns-in_err-waiting-clause-order
 returns-in_err-waiting-clause-order g c = part_same (order_in c.args.self.now.now)
 
@@ -27,6 +35,13 @@ returns-in_err-reserve-clause-explained g c =
     let inside : State g.row.L.Denot = state_with c.self.inside.layout c.self.inside.memory c.self.inside.queue c.self.inside.calls.items c.self.inside.trace in
     let was : inside ≡ c.args.self.now.now = ap (λ (r : Roomy g.row.L.Denot). r.now) c.self.view_is in
     subst (IsExplained laid) (was ∙ sym c.reserve.ensures.same) (explained_world laid g.met.L.Layout.laid_out inside c.self.invariant)
+
+pub returns-in_err-reserve-clause-sound : goal.returns-in_err-reserve-clause-sound
+returns-in_err-reserve-clause-sound g c =
+    let laid : Laid g.row.L.Denot = record { shape = g.L.Layout.shape; word_of = g.L.Layout.word_of; place_at = g.L.Layout.place_at; size_of = g.L.Layout.size_of } in
+    let inside : State g.row.L.Denot = state_with c.self.inside.layout c.self.inside.memory c.self.inside.queue c.self.inside.calls.items c.self.inside.trace in
+    let was : inside ≡ c.args.self.now.now = ap (λ (r : Roomy g.row.L.Denot). r.now) c.self.view_is in
+    subst (IsKeptSound laid) (was ∙ sym c.reserve.ensures.same) (kept_sound laid g.met.L.Layout.laid_out inside c.self.invariant)
 
 pub returns-in_err-reserve-clause-order : goal.returns-in_err-reserve-clause-order
 returns-in_err-reserve-clause-order g c =
@@ -38,7 +53,7 @@ loop-answer-init g c =
     let inside : State g.row.L.Denot = state_with c.self.inside.layout c.self.inside.memory c.self.inside.queue c.self.inside.calls.items c.self.inside.trace in
     let was : inside ≡ c.args.self.now.now = ap (λ (r : Roomy g.row.L.Denot). r.now) c.self.view_is in
     let same : c.reserve.new.self.now ≡ c.args.self.now.now = c.reserve.ensures.same in
-    let waits : slice_get c.deref.result.now c.args.client.0 ≡ Some (Some c.in_ok-waiting.field-0) = waiting_is (slice_get c.deref.result.now c.args.client.0) c.in_ok-waiting.field-0 (sym c.waiting.ensures ∙ c.in_ok-waiting.was) in
+    let waits : slice_get c.deref.result.now c.args.client.0 ≡ Some (Some c.in_ok-waiting.field-0) = waiting_is _ (slice_get c.deref.result.now c.args.client.0) c.in_ok-waiting.field-0 (sym c.waiting.ensures ∙ c.in_ok-waiting.was) in
     let here : slice_get inside.calls c.args.client.0 ≡ Some (Some c.in_ok-waiting.field-0) = subst (λ (cs : List (Option UnderWay)). slice_get cs c.args.client.0 ≡ Some (Some c.in_ok-waiting.field-0)) c.deref.ensures.value waits in
     record {
       world = same;
@@ -51,6 +66,28 @@ loop-answer-init g c =
       order = subst (λ (w : State g.row.L.Denot). IsPartOf (order_in c.args.self.now.now) (order_in w)) (sym same) (part_same (order_in c.args.self.now.now));
     }
 
+not_true : (b : Bool) → (b ≡ true → ⊥) → b ≡ false
+not_true true h = absurd (h refl)
+not_true false h = refl
+
+pub returns-in_err-answer-clause-errors : goal.returns-in_err-answer-clause-errors
+returns-in_err-answer-clause-errors g c =
+    let laid : Laid g.row.L.Denot = record { shape = g.L.Layout.shape; word_of = g.L.Layout.word_of; place_at = g.L.Layout.place_at; size_of = g.L.Layout.size_of } in
+    let w : State g.row.L.Denot = c.loop-answer.self.now in
+    let u : UnderWay = c.loop-answer.invariant.waits.call in
+    let paid : is_no_memory c.step.result ≡ false = not_true (is_no_memory c.step.result) (λ e. omega (arith, c.step.ensures.full e, c.loop-answer.invariant.room)) in
+    let answered : c.step.result ≡ Ok (answer_of (next_of (as_machine laid w) u)) = c.step.ensures.result ∙ ap (λ (b : Bool). step_result laid b w c.args.client) paid ∙ answer_is laid g.met.L.Layout.laid_out w c.args.client u c.loop-answer.invariant.waits.is c.loop-answer.invariant.holds in
+    absurd (cc (answered, c.in_err-answer.was))
+
+pub returns-in_err-answer-clause-same : goal.returns-in_err-answer-clause-same
+returns-in_err-answer-clause-same g c =
+    let laid : Laid g.row.L.Denot = record { shape = g.L.Layout.shape; word_of = g.L.Layout.word_of; place_at = g.L.Layout.place_at; size_of = g.L.Layout.size_of } in
+    let w : State g.row.L.Denot = c.loop-answer.self.now in
+    let u : UnderWay = c.loop-answer.invariant.waits.call in
+    let paid : is_no_memory c.step.result ≡ false = not_true (is_no_memory c.step.result) (λ e. omega (arith, c.step.ensures.full e, c.loop-answer.invariant.room)) in
+    let answered : c.step.result ≡ Ok (answer_of (next_of (as_machine laid w) u)) = c.step.ensures.result ∙ ap (λ (b : Bool). step_result laid b w c.args.client) paid ∙ answer_is laid g.met.L.Layout.laid_out w c.args.client u c.loop-answer.invariant.waits.is c.loop-answer.invariant.holds in
+    absurd (cc (answered, c.in_err-answer.was))
+
 pub returns-in-Some-clause-order : goal.returns-in-Some-clause-order
 returns-in-Some-clause-order g c = part_of_part c.step.ensures.order c.loop-answer.invariant.order
 
@@ -61,8 +98,8 @@ loop-answer-smaller g c =
     let u : UnderWay = c.loop-answer.invariant.waits.call in
     let here : slice_get w.calls c.args.client.0 ≡ Some (Some u) = c.loop-answer.invariant.waits.is in
     let paid : is_no_memory c.step.result ≡ false = ap is_no_memory c.in_ok-answer.was in
-    let stepped : c.step.new.self.now ≡ gone_on laid w c.args.client u = c.step.ensures.world ∙ ap (λ (b : Bool). after_step laid b w c.args.client) paid ∙ step_is laid g.met.L.Layout.laid_out w c.args.client u here in
-    let answered : Ok c.in_ok-answer.answer ≡ Ok (answer_of (next_of (as_machine laid w) u)) = sym c.in_ok-answer.was ∙ c.step.ensures.result ∙ ap (λ (b : Bool). step_result laid b w c.args.client) paid ∙ answer_is laid g.met.L.Layout.laid_out w c.args.client u here in
+    let stepped : c.step.new.self.now ≡ gone_on laid w c.args.client u = c.step.ensures.world ∙ ap (λ (b : Bool). after_step laid b w c.args.client) paid ∙ step_is laid g.met.L.Layout.laid_out w c.args.client u here c.loop-answer.invariant.holds in
+    let answered : Ok c.in_ok-answer.answer ≡ Ok (answer_of (next_of (as_machine laid w) u)) = sym c.in_ok-answer.was ∙ c.step.ensures.result ∙ ap (λ (b : Bool). step_result laid b w c.args.client) paid ∙ answer_is laid g.met.L.Layout.laid_out w c.args.client u here c.loop-answer.invariant.holds in
     let none : answer_of (next_of (as_machine laid w) u) ≡ None = cc (answered, c.in_default.is) in
     let on = goes_on laid g.met.L.Layout.laid_out w c.args.client u here c.loop-answer.invariant.holds none in
     subst (λ (v : State g.row.L.Denot). left_in laid v c.args.client < left_in laid w c.args.client) (sym stepped) on.fewer
@@ -74,8 +111,8 @@ loop-answer-preserved g c =
     let u : UnderWay = c.loop-answer.invariant.waits.call in
     let here : slice_get w.calls c.args.client.0 ≡ Some (Some u) = c.loop-answer.invariant.waits.is in
     let paid : is_no_memory c.step.result ≡ false = ap is_no_memory c.in_ok-answer.was in
-    let stepped : c.step.new.self.now ≡ gone_on laid w c.args.client u = c.step.ensures.world ∙ ap (λ (b : Bool). after_step laid b w c.args.client) paid ∙ step_is laid g.met.L.Layout.laid_out w c.args.client u here in
-    let answered : Ok c.in_ok-answer.answer ≡ Ok (answer_of (next_of (as_machine laid w) u)) = sym c.in_ok-answer.was ∙ c.step.ensures.result ∙ ap (λ (b : Bool). step_result laid b w c.args.client) paid ∙ answer_is laid g.met.L.Layout.laid_out w c.args.client u here in
+    let stepped : c.step.new.self.now ≡ gone_on laid w c.args.client u = c.step.ensures.world ∙ ap (λ (b : Bool). after_step laid b w c.args.client) paid ∙ step_is laid g.met.L.Layout.laid_out w c.args.client u here c.loop-answer.invariant.holds in
+    let answered : Ok c.in_ok-answer.answer ≡ Ok (answer_of (next_of (as_machine laid w) u)) = sym c.in_ok-answer.was ∙ c.step.ensures.result ∙ ap (λ (b : Bool). step_result laid b w c.args.client) paid ∙ answer_is laid g.met.L.Layout.laid_out w c.args.client u here c.loop-answer.invariant.holds in
     let none : answer_of (next_of (as_machine laid w) u) ≡ None = cc (answered, c.in_default.is) in
     let on = goes_on laid g.met.L.Layout.laid_out w c.args.client u here c.loop-answer.invariant.holds none in
     let fewer : left_in laid c.step.new.self.now c.args.client < left_in laid w c.args.client = subst (λ (v : State g.row.L.Denot). left_in laid v c.args.client < left_in laid w c.args.client) (sym stepped) on.fewer in

@@ -1,7 +1,8 @@
 use Rattle.std.proofs.Common.{◌≡◌, ℕ, ◌≤◌, sym, subst, ◌∙◌, ap, rules}
 use Rattle.interleave.specs.Calls.{is_no_memory}
 use Rattle.interleave.specs.Holds.{Holds, IsExplained}
-use Rattle.interleave.specs.State.{State, Laid, order_in}
+use Rattle.interleave.proofs.KeptTells.{kept_sound}
+use Rattle.interleave.specs.State.{IsKeptSound, State, Laid, order_in}
 use Rattle.interleave.specs.Trace.{Roomy, state_with}
 use Rattle.words.specs.declared.call.Call.TheVariants.{Enq}
 use Rattle.protocol.specs.Machine.{FitsCall}
@@ -23,6 +24,14 @@ returns-clause-explained g c =
     let fits : FitsCall c.args.call = call_fits c.args.call value in
     let old : State g.row.L.Denot = state_with c.self.inside.layout c.self.inside.memory c.self.inside.queue c.self.inside.calls.items c.self.inside.trace in
     subst (IsExplained laid) (sym c.start_call.ensures.world) (explained_world laid g.met.L.Layout.laid_out _ (holds_after_start laid g.met.L.Layout.laid_out (is_no_memory c.start_call.result) old c.args.client c.args.number c.args.call c.self.invariant fits))
+
+pub returns-clause-sound : goal.returns-clause-sound
+returns-clause-sound g c =
+    let laid : Laid g.row.L.Denot = record { shape = g.L.Layout.shape; word_of = g.L.Layout.word_of; place_at = g.L.Layout.place_at; size_of = g.L.Layout.size_of } in
+    let value : (v : ℕ) → c.args.call ≡ Enq v → v ≤ 4294967295 = search rules in
+    let fits : FitsCall c.args.call = call_fits c.args.call value in
+    let old : State g.row.L.Denot = state_with c.self.inside.layout c.self.inside.memory c.self.inside.queue c.self.inside.calls.items c.self.inside.trace in
+    subst (IsKeptSound laid) (sym c.start_call.ensures.world) (kept_sound laid g.met.L.Layout.laid_out _ (holds_after_start laid g.met.L.Layout.laid_out (is_no_memory c.start_call.result) old c.args.client c.args.number c.args.call c.self.invariant fits))
 
 pub returns-clause-order : goal.returns-clause-order
 returns-clause-order g c =

@@ -2,7 +2,8 @@ use Rattle.std.proofs.Common.{◌≡◌, sym, subst, ap}
 use Rattle.history.specs.Parts.{IsPartOf}
 use Rattle.interleave.specs.Calls.{is_no_memory}
 use Rattle.interleave.specs.Holds.{Holds, IsExplained}
-use Rattle.interleave.specs.State.{State, Laid, order_in}
+use Rattle.interleave.proofs.KeptTells.{kept_sound}
+use Rattle.interleave.specs.State.{IsKeptSound, State, Laid, order_in}
 use Rattle.interleave.specs.Trace.{Roomy, state_with}
 use Rattle.interleave.proofs.HoldsKept.{holds_after_step, part_after_step, explained_world}
 use Rattle.interleave.proofs.world.World.step.Goals as goal
@@ -18,6 +19,12 @@ returns-clause-explained g c =
     let laid : Laid g.row.L.Denot = record { shape = g.L.Layout.shape; word_of = g.L.Layout.word_of; place_at = g.L.Layout.place_at; size_of = g.L.Layout.size_of } in
     let old : State g.row.L.Denot = state_with c.self.inside.layout c.self.inside.memory c.self.inside.queue c.self.inside.calls.items c.self.inside.trace in
     subst (IsExplained laid) (sym c.step_call.ensures.world) (explained_world laid g.met.L.Layout.laid_out _ (holds_after_step laid g.met.L.Layout.laid_out (is_no_memory c.step_call.result) old c.args.client c.self.invariant))
+
+pub returns-clause-sound : goal.returns-clause-sound
+returns-clause-sound g c =
+    let laid : Laid g.row.L.Denot = record { shape = g.L.Layout.shape; word_of = g.L.Layout.word_of; place_at = g.L.Layout.place_at; size_of = g.L.Layout.size_of } in
+    let old : State g.row.L.Denot = state_with c.self.inside.layout c.self.inside.memory c.self.inside.queue c.self.inside.calls.items c.self.inside.trace in
+    subst (IsKeptSound laid) (sym c.step_call.ensures.world) (kept_sound laid g.met.L.Layout.laid_out _ (holds_after_step laid g.met.L.Layout.laid_out (is_no_memory c.step_call.result) old c.args.client c.self.invariant))
 
 pub returns-clause-order : goal.returns-clause-order
 returns-clause-order g c =
