@@ -1,7 +1,7 @@
 -- A call that goes on alone to its answer goes on as by single steps.
-use Rattle.std.proofs.Common.{◌≡◌, ℕ, zero, suc, ◌+◌, ◌-◌, ◌≤◌, ◌<◌, false, List, [], ◌∷◌, length, slice_get, slice_index, slice_set, refl, sym, ap, ◌∙◌, arith}
+use Rattle.std.proofs.Common.{◌≡◌, ℕ, zero, suc, ◌+◌, ◌-◌, ◌≤◌, ◌<◌, false, true, List, [], ◌∷◌, length, slice_get, slice_index, slice_set, refl, sym, ap, ◌∙◌, arith}
 use Rattle.std.proofs.lemmas.Option.{slice_get_within}
-use Rattle.std.specs.Prelude.{Option, Some, None, Result, Ok, Err}
+use Rattle.std.specs.Prelude.{Bool, Option, Some, None, Result, Ok, Err}
 use Rattle.words.specs.declared.call.Client.{Client}
 use Rattle.words.specs.declared.call.Reply.{Reply}
 use Rattle.words.specs.declared.refusal.Refusal.{Refusal}
@@ -11,9 +11,11 @@ use Rattle.stepper.specs.declared.After.TheVariants.{More, Done}
 use Rattle.protocol.specs.Machine.{next_of, with_next}
 use Rattle.protocol.specs.declared.UnderWay.{UnderWay}
 use Rattle.interleave.specs.Calls.{answer_of, waiting_result}
-use Rattle.interleave.specs.State.{State, Laid, as_machine, gone_on, step_with, step_result, step_result_with, after_step, after_alone, IsAnsweredAlone}
+use Rattle.interleave.specs.State.{State, Laid, as_machine, is_down, gone_on, step_with, step_result, step_result_with, after_step, after_alone, IsAnsweredAlone}
 use Rattle.explore.specs.Prints.{return_line, refused_line}
-use Rattle.explore.specs.Transcript.{Play, stepped, counted, most_alone, after_steps, steps_text}
+use Rattle.explore.specs.Steps.{counted, call_counted}
+use Rattle.explore.specs.Transcript.{Play, stepped, most_alone, after_steps, steps_text}
+use Rattle.explore.specs.declared.steps.Steps.{Steps}
 use Rattle.explore.proofs.Plays.{refused_same, leads_on, prints_on, ends_answered, prints_answered, ends_refused, prints_refused}
 
 get_set : {X : Type 0} (xs : List X) (i : ℕ) (x : X) → i < length xs → slice_get (slice_set xs i x) i ≡ Some x
@@ -52,22 +54,32 @@ first laid (suc k) w client = ap (λ v. after_step laid false v client) (first l
 
 -- once it is answered, the client has no call
 answered_idle : {L : Type 0} (laid : Laid L) (w : State L) (client : Client) (reply : Reply) → step_result laid false w client ≡ Ok (Some reply) → step_result laid false (after_step laid false w client) client ≡ Err Idle
-answered_idle laid w client reply is = go (slice_get w.calls client.0) refl
+answered_idle laid w client reply is = go (is_down w) (slice_get w.calls client.0) refl refl
   where
-    done : (u : UnderWay) (a : After _) → slice_get w.calls client.0 ≡ Some (Some u) → next_of (as_machine laid w) u ≡ a → answer_of a ≡ Some reply → step_result laid false (gone_on laid w client u) client ≡ Err Idle
-    done u (More op) here next told = absurd (cc)
-    done u (Done r) here next told =
-        let none : slice_get (gone_on laid w client u).calls client.0 ≡ Some None = get_set w.calls client.0 (with_next u (next_of (as_machine laid w) u)) (slice_get_within w.calls client.0 (Some u) here) ∙ ap (λ (a : After _). Some (with_next u a)) next in
-        ap (λ (o : Option (Option UnderWay)). step_result_with laid false (gone_on laid w client u) (waiting_result o)) none
+    said : (d : Bool) (o : Option (Option UnderWay)) → is_down w ≡ d → slice_get w.calls client.0 ≡ o → step_result_with laid false w (waiting_result d o) ≡ Ok (Some reply)
+    said d o down here =
+        sym (ap (λ (e : Bool). step_result_with laid false w (waiting_result e o)) down)
+        ∙ sym (ap (λ (p : Option (Option UnderWay)). step_result_with laid false w (waiting_result (is_down w) p)) here)
+        ∙ is
 
-    go : (o : Option (Option UnderWay)) → slice_get w.calls client.0 ≡ o → step_result laid false (after_step laid false w client) client ≡ Err Idle
-    go None here = let told = sym is ∙ ap (λ (o : Option (Option UnderWay)). step_result_with laid false w (waiting_result o)) here in absurd (cc)
-    go (Some None) here = let told = sym is ∙ ap (λ (o : Option (Option UnderWay)). step_result_with laid false w (waiting_result o)) here in absurd (cc)
-    go (Some (Some u)) here =
-        let step : after_step laid false w client ≡ gone_on laid w client u = ap (λ (o : Option (Option UnderWay)). step_with laid false w client (waiting_result o)) here in
-        let both = sym (ap (λ (o : Option (Option UnderWay)). step_result_with laid false w (waiting_result o)) here) ∙ is in
+    done : (u : UnderWay) (a : After _) → is_down w ≡ false → slice_get w.calls client.0 ≡ Some (Some u) → next_of (as_machine laid w) u ≡ a → answer_of a ≡ Some reply → step_result laid false (gone_on laid w client u) client ≡ Err Idle
+    done u (More op) up here next told = absurd (cc)
+    done u (Done r) up here next told =
+        let none : slice_get (gone_on laid w client u).calls client.0 ≡ Some None = get_set w.calls client.0 (with_next u (next_of (as_machine laid w) u)) (slice_get_within w.calls client.0 (Some u) here) ∙ ap (λ (a : After _). Some (with_next u a)) next in
+        ap (λ (o : Option (Option UnderWay)). step_result_with laid false (gone_on laid w client u) (waiting_result (is_down w) o)) none
+        ∙ ap (λ (d : Bool). step_result_with laid false (gone_on laid w client u) (waiting_result d (Some None))) up
+
+    go : (d : Bool) (o : Option (Option UnderWay)) → is_down w ≡ d → slice_get w.calls client.0 ≡ o → step_result laid false (after_step laid false w client) client ≡ Err Idle
+    go d None down here = let told = said d None down here in absurd (cc)
+    go true (Some call) down here = let told = said true (Some call) down here in absurd (cc)
+    go false (Some None) up here = let told = said false (Some None) up here in absurd (cc)
+    go false (Some (Some u)) up here =
+        let step : after_step laid false w client ≡ gone_on laid w client u =
+        ap (λ (o : Option (Option UnderWay)). step_with laid false w client (waiting_result (is_down w) o)) here
+        ∙ ap (λ (d : Bool). step_with laid false w client (waiting_result d (Some (Some u)))) up in
+        let both = said false (Some (Some u)) up here in
         let told : answer_of (next_of (as_machine laid w) u) ≡ Some reply = cc in
-        ap (λ v. step_result laid false v client) step ∙ done u (next_of (as_machine laid w) u) here refl told
+        ap (λ v. step_result laid false v client) step ∙ done u (next_of (as_machine laid w) u) up here refl told
 
 -- before the step that answers, none does
 goes_first : {L : Type 0} (laid : Laid L) (k : ℕ) (w : State L) (client : Client) (reply : Reply) → step_result laid false (after_alone laid (suc k) w client) client ≡ Ok (Some reply) → step_result laid false w client ≡ Ok None
@@ -87,21 +99,29 @@ goes_first laid k w client reply last = go (step_result laid false w client) ref
 
 -- where so many steps alone lead, and what they count
 abbrev pub alone : {L : Type 0} → Laid L → Play L → Client → ℕ → Play L
-alone laid play client n = record { world = after_alone laid n play.world client; steps = slice_set play.steps client.0 (counted n (slice_index play.steps client.0)) }
+alone laid play client n = record { world = after_alone laid n play.world client; steps = call_counted n client play.steps }
 
 pub record Alone {L : Type 0} (laid : Laid L) (play : Play L) (client : Client) (n m : ℕ) (reply : Reply) : Type 0 where
   pub leads : after_steps laid client m play ≡ alone laid play client n
-  pub prints : steps_text laid client m play ≡ return_line client reply (counted n (slice_index play.steps client.0))
+  pub prints : steps_text laid client m play ≡ return_line client reply (counted n (slice_index play.steps.calls client.0))
 
-next_alone : {L : Type 0} (laid : Laid L) (play : Play L) (client : Client) (k : ℕ) → client.0 < length play.steps → alone laid (stepped laid play client) client (suc k) ≡ alone laid play client (suc (suc k))
+-- counted once and then again
+again : (n : ℕ) (client : Client) (steps : Steps) → client.0 < length steps.calls → counted n (slice_index (call_counted 1 client steps).calls client.0) ≡ counted (suc n) (slice_index steps.calls client.0)
+again n client steps there =
+    let v = slice_index steps.calls client.0 in
+    ap (counted n) (index_set steps.calls client.0 (counted 1 v) there) ∙ counts n v
+
+counted_on : (n : ℕ) (client : Client) (steps : Steps) → client.0 < length steps.calls → call_counted n client (call_counted 1 client steps) ≡ call_counted (suc n) client steps
+counted_on n client steps there =
+    ap (λ l. record steps { calls = l }) (set_set steps.calls client.0 (counted 1 (slice_index steps.calls client.0)) _ ∙ ap (slice_set steps.calls client.0) (again n client steps there))
+
+next_alone : {L : Type 0} (laid : Laid L) (play : Play L) (client : Client) (k : ℕ) → client.0 < length play.steps.calls → alone laid (stepped laid play client) client (suc k) ≡ alone laid play client (suc (suc k))
 next_alone laid play client k there =
-    let v = slice_index play.steps client.0 in
-    let again : counted (suc k) (slice_index (slice_set play.steps client.0 (counted 1 v)) client.0) ≡ counted (suc (suc k)) v = ap (counted (suc k)) (index_set play.steps client.0 (counted 1 v) there) ∙ counts (suc k) v in
-    ap (λ w. record { world = w; steps = slice_set (slice_set play.steps client.0 (counted 1 v)) client.0 (counted (suc k) (slice_index (slice_set play.steps client.0 (counted 1 v)) client.0)) }) (sym (first laid (suc k) play.world client))
-    ∙ ap (λ l. record { world = after_alone laid (suc (suc k)) play.world client; steps = l }) (set_set play.steps client.0 (counted 1 v) _ ∙ ap (slice_set play.steps client.0) again)
+    ap (λ w. record { world = w; steps = call_counted (suc k) client (call_counted 1 client play.steps) }) (sym (first laid (suc k) play.world client))
+    ∙ ap (λ s. record { world = after_alone laid (suc (suc k)) play.world client; steps = s }) (counted_on (suc k) client play.steps there)
 
 -- a call that is answered after so many steps alone is so within as many single steps or more
-pub goes_alone : {L : Type 0} (laid : Laid L) (client : Client) (n m : ℕ) (play : Play L) (reply : Reply) → n ≤ m → client.0 < length play.steps → IsAnsweredAlone laid play.world client n reply → Alone laid play client n m reply
+pub goes_alone : {L : Type 0} (laid : Laid L) (client : Client) (n m : ℕ) (play : Play L) (reply : Reply) → n ≤ m → client.0 < length play.steps.calls → IsAnsweredAlone laid play.world client n reply → Alone laid play client n m reply
 goes_alone laid client zero m play reply few there is = absurd is
 goes_alone laid client (suc zero) m play reply few there is =
     let all : m ≡ m - 0 = omega arith in
@@ -113,11 +133,10 @@ goes_alone laid client (suc (suc k)) m play reply few there is =
     let all : m ≡ m - 0 = omega arith in
     let none : step_result laid false play.world client ≡ Ok None = goes_first laid k play.world client reply is in
     let next = stepped laid play client in
-    let v = slice_index play.steps client.0 in
-    let rest = goes_alone laid client (suc k) (m - (0 + 1)) next reply (omega (arith, few)) (omega (arith, there, length_set play.steps client.0 (counted 1 v))) (ap (λ w. step_result laid false w client) (sym (first laid k play.world client)) ∙ is) in
+    let rest = goes_alone laid client (suc k) (m - (0 + 1)) next reply (omega (arith, few)) (omega (arith, there, length_set play.steps.calls client.0 (counted 1 (slice_index play.steps.calls client.0)))) (ap (λ w. step_result laid false w client) (sym (first laid k play.world client)) ∙ is) in
     record {
       leads = ap (λ j. after_steps laid client j play) all ∙ sym (leads_on laid client m 0 play next (omega (arith, few)) none refl) ∙ rest.leads ∙ next_alone laid play client k there;
-      prints = ap (λ j. steps_text laid client j play) all ∙ sym (prints_on laid client m 0 play next (omega (arith, few)) none refl) ∙ rest.prints ∙ ap (return_line client reply) (ap (counted (suc k)) (index_set play.steps client.0 (counted 1 v) there) ∙ counts (suc k) v);
+      prints = ap (λ j. steps_text laid client j play) all ∙ sym (prints_on laid client m 0 play next (omega (arith, few)) none refl) ∙ rest.prints ∙ ap (return_line client reply) (again (suc k) client play.steps there);
     }
 
 pub few_alone : (n : ℕ) → n ≤ 64 → n ≤ most_alone

@@ -5,3 +5,4 @@ pub mod Scripts
 pub mod Unique
 pub mod Plays
 pub mod Alone
+pub mod Recoveries

@@ -10,7 +10,7 @@ use Rattle.words.specs.declared.call.Kind.{Kind}
 use Rattle.explore.specs.Grammar.{kind_word, queue_words, command_words, IsServedQueue, IsServed}
 use Rattle.explore.specs.Script.{Says}
 use Rattle.explore.specs.declared.command.Command.{Command}
-use Rattle.explore.specs.declared.command.Command.TheVariants.{Enq, NumberedEnq, Deq, NumberedDeq, Step, End, Evict, Content, Order}
+use Rattle.explore.specs.declared.command.Command.TheVariants.{Enq, NumberedEnq, Deq, NumberedDeq, Step, End, Evict, Crash, Recover, RecoverBy, Content, Order}
 use Rattle.explore.specs.declared.command.QueueLine.{QueueLine}
 use Rattle.explore.proofs.Numbers.{own}
 use Rattle.explore.proofs.Scripts.{same_kind}
@@ -40,8 +40,11 @@ command_of row ns =
     (if row == 30265750 then Step (client_of ns) (slice_index ns 1) else
     (if row == 26589585 then End (client_of ns) else
     (if row == 26597797 then Evict (slice_index ns 0) else
+    (if row == 26069380 then Crash else
+    (if row == 29988236 then Recover else
+    (if row == 29988237 then RecoverBy (slice_index ns 0) else
     (if row == 26066360 then Content else
-    Order))))))))
+    Order)))))))))))
 
 read_back : (command : Command) → IsServed command → command_of (tag (command_words command)) (numbers (command_words command)) ≡ command
 unfolding command_of tag numbers client_of
@@ -71,6 +74,11 @@ read_back (End client) served =
 read_back (Evict word) served =
     let e0 : digits_value 10 (decimal word) ≡ word = read word (omega (arith, served)) in
     ap (λ n. Evict (n)) e0
+read_back Crash served = refl
+read_back Recover served = refl
+read_back (RecoverBy most) served =
+    let e0 : digits_value 10 (decimal most) ≡ most = read most (omega (arith, served)) in
+    ap (λ n. RecoverBy (n)) e0
 read_back Content served = refl
 read_back Order served = refl
 

@@ -5,7 +5,7 @@ use Rattle.arena.specs.Limits.{AreCounts}
 use Rattle.words.specs.declared.call.Kind.{Kind}
 use Rattle.words.specs.declared.call.Kind.TheVariants.{Durable, Log}
 use Rattle.explore.specs.declared.command.Command.{Command}
-use Rattle.explore.specs.declared.command.Command.TheVariants.{Enq, NumberedEnq, Deq, NumberedDeq, Step, End, Evict, Content, Order}
+use Rattle.explore.specs.declared.command.Command.TheVariants.{Enq, NumberedEnq, Deq, NumberedDeq, Step, End, Evict, Crash, Recover, RecoverBy, Content, Order}
 use Rattle.explore.specs.declared.command.QueueLine.{QueueLine}
 
 abbrev pub kind_word : Kind → List ℕ
@@ -16,7 +16,7 @@ kind_word Log = codes "log"
 abbrev pub queue_words : QueueLine → List (List ℕ)
 queue_words queue = codes "queue" ∷ kind_word queue.kind ∷ decimal queue.clients ∷ decimal queue.records ∷ []
 
--- `enq C V`, `enq C N V`, `deq C`, `deq C N`, `step C M`, `end C`, `evict W`, `content`, `order`
+-- `enq C V`, `enq C N V`, `deq C`, `deq C N`, `step C M`, `end C`, `evict W`, `crash`, `recover`, `recover M`, `content`, `order`
 abbrev pub command_words : Command → List (List ℕ)
 command_words (Enq client value) = codes "enq" ∷ decimal client.0 ∷ decimal value ∷ []
 command_words (NumberedEnq client number value) = codes "enq" ∷ decimal client.0 ∷ decimal number ∷ decimal value ∷ []
@@ -25,6 +25,9 @@ command_words (NumberedDeq client number) = codes "deq" ∷ decimal client.0 ∷
 command_words (Step client most) = codes "step" ∷ decimal client.0 ∷ decimal most ∷ []
 command_words (End client) = codes "end" ∷ decimal client.0 ∷ []
 command_words (Evict word) = codes "evict" ∷ decimal word ∷ []
+command_words Crash = codes "crash" ∷ []
+command_words Recover = codes "recover" ∷ []
+command_words (RecoverBy most) = codes "recover" ∷ decimal most ∷ []
 command_words Content = codes "content" ∷ []
 command_words Order = codes "order" ∷ []
 
@@ -41,6 +44,9 @@ IsServed (NumberedDeq client number) = (client.0 ≤ 255) × (number < 2 ^ 64)
 IsServed (Step client most) = (client.0 ≤ 255) × (1 ≤ most) × (most ≤ 1000)
 IsServed (End client) = client.0 ≤ 255
 IsServed (Evict word) = word < 2 ^ 64
+IsServed Crash = Unit {0}
+IsServed Recover = Unit {0}
+IsServed (RecoverBy most) = (1 ≤ most) × (most ≤ 1000)
 IsServed Content = Unit {0}
 IsServed Order = Unit {0}
 
@@ -57,6 +63,9 @@ is_on Log (NumberedDeq client number) = true
 is_on kind (Step client most) = true
 is_on kind (End client) = true
 is_on kind (Evict word) = true
+is_on kind Crash = true
+is_on kind Recover = true
+is_on kind (RecoverBy most) = true
 is_on kind Content = true
 is_on kind Order = true
 

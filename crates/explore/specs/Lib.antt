@@ -4,5 +4,6 @@ pub mod Grammar
 pub mod Rows
 pub mod Script
 pub mod Prints
+pub mod Steps
 pub mod Transcript
 pub mod Run

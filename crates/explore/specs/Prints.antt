@@ -1,13 +1,14 @@
 -- The lines that are printed.
-use Rattle.std.specs.Prelude.{ℕ, ◌==◌, List, [], ◌∷◌, ◌++◌, Option, Some, None, Bool, slice_get, if◌then◌else◌, length, codes, decimal}
+use Rattle.std.specs.Prelude.{ℕ, zero, suc, ◌==◌, List, [], ◌∷◌, ◌++◌, Option, Some, None, Bool, slice_get, if◌then◌else◌, length, codes, decimal}
 use Rattle.std.specs.List.{join_with_byte, flat_map}
 use Rattle.words.specs.Refusal.{refusal_text}
-use Rattle.words.specs.Text.{reply_text}
+use Rattle.words.specs.Text.{reply_text, told_text}
 use Rattle.words.specs.declared.call.Call.{Call}
 use Rattle.words.specs.declared.call.Call.TheVariants.{Enq, Deq}
 use Rattle.words.specs.declared.call.Client.{Client}
 use Rattle.words.specs.declared.call.Reply.{Reply}
 use Rattle.words.specs.declared.refusal.Refusal.{Refusal}
+use Rattle.words.specs.declared.told.Told.{Told}
 use Rattle.history.specs.declared.event.Entry.{Entry}
 use Rattle.history.specs.declared.event.Event.{Event}
 use Rattle.history.specs.declared.event.Event.TheVariants.{Call as call_event, Return as return_event, Crash as crash_event, Ready as ready_event}
@@ -44,6 +45,25 @@ content_line values = codes "content" ++ values_text values ++ codes "\n"
 -- whether an eviction changed the kept value
 abbrev pub evict_line : ℕ → Bool → List ℕ
 evict_line word changed = codes "evict " ++ decimal word ++ (if changed then codes " kept\n" else codes " same\n")
+
+abbrev pub crash_line : List ℕ
+crash_line = codes "crash\n"
+
+-- recovery is not at its end yet
+abbrev pub recovering_line : List ℕ
+recovering_line = codes "recovering\n"
+
+-- the queue is ready, after so many steps of recovery since the crash
+abbrev pub ready_line : ℕ → List ℕ
+ready_line steps = codes "ready steps " ++ decimal steps ++ codes "\n"
+
+-- what a client is told, and what each client below a number is
+abbrev pub told_line : ℕ → Told → List ℕ
+told_line client told = codes "told " ++ decimal client ++ codes " " ++ told_text told ++ codes "\n"
+
+abbrev pub told_lines : (ℕ → Told) → ℕ → List ℕ
+told_lines told zero = []
+told_lines told (suc clients) = told_lines told clients ++ told_line clients (told clients)
 
 -- a call in the order: its client, its number on a log queue, what it asked for and its reply
 abbrev pub number_text : ℕ → List ℕ

@@ -1,8 +1,8 @@
--- The lines in two groups.
+-- The lines in three groups.
 use Rattle.std.specs.Prelude.{ℕ, List}
 use Rattle.words.specs.declared.call.Client.{Client}
 use Rattle.explore.specs.Grammar.{SaysCommand}
-use Rattle.explore.specs.declared.command.Command.TheVariants.{Enq, NumberedEnq, Deq, NumberedDeq, Step, End, Evict, Content, Order}
+use Rattle.explore.specs.declared.command.Command.TheVariants.{Enq, NumberedEnq, Deq, NumberedDeq, Step, End, Evict, Crash, Recover, RecoverBy, Content, Order}
 
 -- a line starts no call, and goes on with none
 pub record IsNoCall (line : List ℕ) : Type 0 where
@@ -18,3 +18,9 @@ pub record IsNoMemoryLine (line : List ℕ) : Type 0 where
   pub evict : (word : ℕ) → SaysCommand line (Evict word) → ⊥
   pub content : SaysCommand line Content → ⊥
   pub order : SaysCommand line Order → ⊥
+
+-- a line says nothing about crashes
+pub record IsNoCrashLine (line : List ℕ) : Type 0 where
+  pub crash : SaysCommand line Crash → ⊥
+  pub recover : SaysCommand line Recover → ⊥
+  pub recover_by : (most : ℕ) → SaysCommand line (RecoverBy most) → ⊥

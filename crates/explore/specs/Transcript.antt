@@ -1,5 +1,5 @@
 -- What a world prints that follows a script.
-use Rattle.std.specs.Prelude.{ℕ, false, zero, suc, ◌+◌, min, List, [], ◌∷◌, ◌++◌, Option, Some, None, is_some, Result, Ok, Err, replicate, slice_index, slice_set}
+use Rattle.std.specs.Prelude.{ℕ, Bool, false, true, zero, suc, List, [], ◌∷◌, ◌++◌, Option, Some, None, is_some, Result, Ok, Err, replicate, slice_index, slice_set}
 use Rattle.words.specs.declared.call.Call.{Call}
 use Rattle.words.specs.declared.call.Call.TheVariants.{Enq as enq_call, Deq as deq_call}
 use Rattle.words.specs.declared.call.Client.{Client}
@@ -7,28 +7,32 @@ use Rattle.words.specs.declared.call.Kind.{Kind}
 use Rattle.words.specs.declared.call.Kind.TheVariants.{Durable, Log}
 use Rattle.words.specs.declared.call.Reply.{Reply}
 use Rattle.words.specs.declared.refusal.Refusal.{Refusal}
+use Rattle.words.specs.declared.told.Told.{Told}
 use Rattle.persist.specs.declared.access.Change.{Change}
 use Rattle.arena.specs.Shape.{Counts, shape_of}
 use Rattle.arena.specs.Durable.{durable_word, durable_place, durable_size}
 use Rattle.arena.specs.Log.{log_word, log_place, log_size}
-use Rattle.interleave.specs.State.{State, Laid, new_world, after_start, start_result, after_step, step_result, after_evict, evict_result, order_in, kept_content}
-use Rattle.explore.specs.Prints.{size_line, call_line, return_line, refused_line, content_line, evict_line, order_lines}
+use Rattle.interleave.specs.Queue.{told_in, told_to}
+use Rattle.interleave.specs.State.{State, Laid, new_world, after_start, start_result, after_step, step_result, after_evict, evict_result, after_crash, after_recover, recover_result, most_to_ready, order_in, kept_content}
+use Rattle.explore.specs.Prints.{size_line, call_line, return_line, refused_line, content_line, evict_line, crash_line, recovering_line, ready_line, told_lines, order_lines}
+use Rattle.explore.specs.Steps.{counted, call_counted, recovery_counted}
 use Rattle.explore.specs.declared.command.Command.{Command}
-use Rattle.explore.specs.declared.command.Command.TheVariants.{Enq, NumberedEnq, Deq, NumberedDeq, Step, End, Evict, Content, Order}
+use Rattle.explore.specs.declared.command.Command.TheVariants.{Enq, NumberedEnq, Deq, NumberedDeq, Step, End, Evict, Crash, Recover, RecoverBy, Content, Order}
 use Rattle.explore.specs.declared.command.QueueLine.{QueueLine}
+use Rattle.explore.specs.declared.steps.Steps.{Steps}
 
--- a world, and how many steps each client's call has made
+-- a world, and how many steps each client's call has made, and recovery
 pub record Play (L : Type 0) : Type 0 where
   pub world : State L
-  pub steps : List ℕ
+  pub steps : Steps
 
 -- a start prints its line, or why it was refused, and a call that was started has made no step
 abbrev pub start_text : Command → Result Unit Refusal → List ℕ
 start_text command (Ok u) = call_line command
 start_text command (Err refusal) = refused_line refusal
 
-abbrev pub steps_with : Client → List ℕ → Result Unit Refusal → List ℕ
-steps_with client steps (Ok u) = slice_set steps client.0 0
+abbrev pub steps_with : Client → Steps → Result Unit Refusal → Steps
+steps_with client steps (Ok u) = record steps { calls = slice_set steps.calls client.0 0 }
 steps_with client steps (Err refusal) = steps
 
 abbrev pub started : {L : Type 0} → Laid L → Play L → Client → ℕ → Call → Play L
@@ -37,14 +41,11 @@ started laid play client number call = record {
   steps = steps_with client play.steps (start_result laid false play.world client number);
 }
 
--- steps are counted; the count stays at its greatest value
-abbrev pub counted : ℕ → ℕ → ℕ
-counted more steps = min (steps + more) 18446744073709551615
-
+-- a step of a client's call
 abbrev pub stepped : {L : Type 0} → Laid L → Play L → Client → Play L
 stepped laid play client = record {
   world = after_step laid false play.world client;
-  steps = slice_set play.steps client.0 (counted 1 (slice_index play.steps client.0));
+  steps = call_counted 1 client play.steps;
 }
 
 -- up to so many steps: they end early at the one that answers, which prints the answer, or that is refused
@@ -66,7 +67,7 @@ text_then client steps (Err refusal) going = refused_line refusal
 abbrev pub steps_text : {L : Type 0} → Laid L → Client → ℕ → Play L → List ℕ
 steps_text laid client zero play = []
 steps_text laid client (suc most) play =
-    text_then client (counted 1 (slice_index play.steps client.0)) (step_result laid false play.world client) (steps_text laid client most (stepped laid play client))
+    text_then client (counted 1 (slice_index play.steps.calls client.0)) (step_result laid false play.world client) (steps_text laid client most (stepped laid play client))
 
 -- an eviction
 abbrev pub after_eviction : {L : Type 0} → Laid L → Play L → ℕ → Play L
@@ -75,6 +76,40 @@ after_eviction laid play word = record { world = after_evict laid play.world wor
 abbrev pub evict_text : ℕ → Result (Option Change) Refusal → List ℕ
 evict_text word (Ok change) = evict_line word (is_some change)
 evict_text word (Err refusal) = refused_line refusal
+
+-- a crash, and a step of recovery
+abbrev pub crashed : {L : Type 0} → Laid L → Play L → Play L
+crashed laid play = record { world = after_crash laid false play.world; steps = record play.steps { recovery = 0 } }
+
+abbrev pub recovered : {L : Type 0} → Laid L → Play L → Play L
+recovered laid play = record { world = after_recover laid false play.world; steps = recovery_counted play.steps }
+
+-- recovery goes on by up to so many steps: they end early at the one after which the queue is ready, or that is refused
+abbrev pub recover_then : {A : Type 0} → Result Bool Refusal → A → A → (Refusal → A) → A
+recover_then (Ok false) going ready refused = going
+recover_then (Ok true) going ready refused = ready
+recover_then (Err refusal) going ready refused = refused refusal
+
+abbrev pub after_recovery : {L : Type 0} → Laid L → ℕ → Play L → Play L
+after_recovery laid zero play = play
+after_recovery laid (suc most) play =
+    recover_then (recover_result laid false play.world) (after_recovery laid most (recovered laid play)) (recovered laid play) (λ refusal. play)
+
+-- a ready queue prints how many steps there were since the crash, and what each client is told
+abbrev pub told_at : {L : Type 0} → State L → ℕ → Told
+told_at w client = told_to (told_in w.queue) (record { 0 = client })
+
+abbrev pub ready_text : {L : Type 0} → Laid L → Play L → List ℕ
+ready_text laid play = ready_line play.steps.recovery ++ told_lines (told_at play.world) (laid.shape play.world.layout).clients
+
+abbrev pub recovery_text : {L : Type 0} → Laid L → ℕ → Play L → List ℕ
+recovery_text laid zero play = recovering_line
+recovery_text laid (suc most) play =
+    recover_then (recover_result laid false play.world) (recovery_text laid most (recovered laid play)) (ready_text laid (recovered laid play)) refused_line
+
+-- no recovery needs more steps than these
+unfoldable pub most_recovery : {L : Type 0} → Laid L → State L → ℕ
+most_recovery laid w = most_to_ready (laid.shape w.layout)
 
 -- no call that goes on alone needs more steps than these
 unfoldable pub most_alone : ℕ
@@ -89,6 +124,9 @@ after_command laid play (NumberedDeq client number) = started laid play client n
 after_command laid play (Step client most) = after_steps laid client most play
 after_command laid play (End client) = after_steps laid client most_alone play
 after_command laid play (Evict word) = after_eviction laid play word
+after_command laid play Crash = crashed laid play
+after_command laid play Recover = after_recovery laid (most_recovery laid play.world) play
+after_command laid play (RecoverBy most) = after_recovery laid most play
 after_command laid play Content = play
 after_command laid play Order = play
 
@@ -101,6 +139,9 @@ command_prints laid play (NumberedDeq client number) = start_text (NumberedDeq c
 command_prints laid play (Step client most) = steps_text laid client most play
 command_prints laid play (End client) = steps_text laid client most_alone play
 command_prints laid play (Evict word) = evict_text word (evict_result laid play.world word)
+command_prints laid play Crash = crash_line
+command_prints laid play Recover = recovery_text laid (most_recovery laid play.world) play
+command_prints laid play (RecoverBy most) = recovery_text laid most play
 command_prints laid play Content = content_line (kept_content laid play.world)
 command_prints laid play Order = order_lines play.world.log.events (order_in play.world)
 
@@ -108,9 +149,9 @@ abbrev pub commands_print : {L : Type 0} → Laid L → Play L → List Command 
 commands_print laid play [] = []
 commands_print laid play (command ∷ commands) = command_prints laid play command ++ commands_print laid (after_command laid play command) commands
 
--- a new world, in which no call has made a step; a client's number is one byte
+-- a new world, in which no step was made; a client's number is one byte
 abbrev pub new_play : {L : Type 0} → Laid L → L → Play L
-new_play laid layout = record { world = new_world laid layout; steps = replicate 256 0 }
+new_play laid layout = record { world = new_world laid layout; steps = record { calls = replicate 256 0; recovery = 0 } }
 
 -- the layout of a durable queue
 abbrev pub durable_laid : Laid Counts

@@ -46,6 +46,14 @@ pub enum Command {
     Evict {
         word: u64,
     },
+    /// The whole system stops: what is not kept is lost.
+    Crash,
+    /// Recovery goes on to its end.
+    Recover,
+    /// Recovery goes on by at most so many steps.
+    RecoverBy {
+        most: u32,
+    },
     /// Show what the queue holds.
     Content,
     /// Show in which order the calls took effect.

@@ -5,7 +5,7 @@ ghost use Rattle.words.specs.declared.call.Client.{Client};
 ghost use Rattle.words.specs.declared.call.Kind.{Kind};
 ghost use Rattle.explore.specs.Lines.{words_of};
 ghost use Rattle.explore.specs.Grammar.{SaysQueue, SaysCommand, kind_word, is_on};
-ghost use Rattle.explore.specs.Rows.{IsNoCall, IsNoMemoryLine};
+ghost use Rattle.explore.specs.Rows.{IsNoCall, IsNoMemoryLine, IsNoCrashLine};
 ghost use Rattle.explore.specs.declared.command.Command.{Command};
 ghost use Rattle.explore.specs.declared.command.QueueLine.{QueueLine};
 
@@ -148,6 +148,37 @@ fn evict(line: &[u8]) -> Option<Command>
     Some(Command::Evict { word })
 }
 
+/// `crash`
+fn crash(line: &[u8]) -> Option<Command>
+    ensures { MatchOption result (SaysCommand line.now Command.Crash → ⊥) (SaysCommand line.now) }
+{
+    if is_name(line, b"crash") {
+        Some(Command::Crash)
+    } else {
+        None
+    }
+}
+
+/// `recover`
+fn recover(line: &[u8]) -> Option<Command>
+    ensures { MatchOption result (SaysCommand line.now Command.Recover → ⊥) (SaysCommand line.now) }
+{
+    if is_name(line, b"recover") {
+        Some(Command::Recover)
+    } else {
+        None
+    }
+}
+
+/// `recover M`
+fn recover_by(line: &[u8]) -> Option<Command>
+    ensures { MatchOption result ((most : ℕ) → SaysCommand line.now (Command.RecoverBy most) → ⊥) (SaysCommand line.now) }
+{
+    let numbers = after_name(line, b"recover")?;
+    let most = one_number(numbers, STEPS)?;
+    Some(Command::RecoverBy { most: most as u32 })
+}
+
 /// `content`
 fn content(line: &[u8]) -> Option<Command>
     ensures { MatchOption result (SaysCommand line.now Command.Content → ⊥) (SaysCommand line.now) }
@@ -205,6 +236,19 @@ fn memory_line(line: &[u8]) -> Option<Command>
     order(line)
 }
 
+/// The lines about crashes.
+fn crash_line(line: &[u8]) -> Option<Command>
+    ensures { MatchOption result (IsNoCrashLine line.now) (SaysCommand line.now) }
+{
+    if let Some(command) = crash(line) {
+        return Some(command);
+    }
+    if let Some(command) = recover(line) {
+        return Some(command);
+    }
+    recover_by(line)
+}
+
 /// Any line but the queue's.
 #[tactic(auto, using(crate::proofs::Rows::no_row))]
 pub(crate) fn command(line: &[u8]) -> Option<Command>
@@ -213,7 +257,10 @@ pub(crate) fn command(line: &[u8]) -> Option<Command>
     if let Some(command) = call_line(line) {
         return Some(command);
     }
-    memory_line(line)
+    if let Some(command) = memory_line(line) {
+        return Some(command);
+    }
+    crash_line(line)
 }
 
 /// Whether a queue of this kind has such a command.

@@ -9,6 +9,7 @@ mod ordered;
 mod parse;
 mod play;
 mod running;
+mod steps;
 mod text;
 
 pub use command::{Command, QueueLine, Script};

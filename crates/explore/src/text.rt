@@ -1,13 +1,13 @@
 //! The lines that are printed.
 
 ghost use Rattle.std.specs.Prelude.{◌≡◌, ◌≢◌, ◌++◌, OnOk, IfErr, string_bytes};
-ghost use Rattle.explore.specs.Prints.{size_line, call_line, return_line, refused_line, content_line, values_text, evict_line, entry_line, order_lines};
+ghost use Rattle.explore.specs.Prints.{size_line, call_line, return_line, refused_line, content_line, values_text, evict_line, crash_line, recovering_line, ready_line, told_line, entry_line, order_lines};
 
 use crate::command::Command;
 use crate::ordered::{Ordered, named_call};
 use history::{Entry, Event};
 use std::fmt::{self, Write};
-use words::{Call, Client, Refusal, Reply};
+use words::{Call, Client, Refusal, Reply, Told};
 
 /// As a script spells it: `enq 0 5`.
 impl fmt::Display for Command {
@@ -29,6 +29,9 @@ impl fmt::Display for Command {
             Command::Step { client, most } => write!(f, "step {} {most}", client.0),
             Command::End { client } => write!(f, "end {}", client.0),
             Command::Evict { word } => write!(f, "evict {word}"),
+            Command::Crash => write!(f, "crash"),
+            Command::Recover => write!(f, "recover"),
+            Command::RecoverBy { most } => write!(f, "recover {most}"),
             Command::Content => write!(f, "content"),
             Command::Order => write!(f, "order"),
         }
@@ -107,6 +110,38 @@ pub(crate) fn write_evict(out: &mut String, word: u64, changed: bool) -> Result<
 {
     let outcome = if changed { "kept" } else { "same" };
     writeln!(out, "evict {word} {outcome}").map_err(|_| Refusal::NoMemory)
+}
+
+/// `crash`
+pub(crate) fn write_crash(out: &mut String) -> Result<(), Refusal>
+    ensures text { OnOk result (string_bytes out.new ≡ string_bytes out.old ++ crash_line) }
+    ensures errors { IfErr result (λ e. e ≡ Refusal.NoMemory) }
+{
+    writeln!(out, "crash").map_err(|_| Refusal::NoMemory)
+}
+
+/// `recovering`
+pub(crate) fn write_recovering(out: &mut String) -> Result<(), Refusal>
+    ensures text { OnOk result (string_bytes out.new ≡ string_bytes out.old ++ recovering_line) }
+    ensures errors { IfErr result (λ e. e ≡ Refusal.NoMemory) }
+{
+    writeln!(out, "recovering").map_err(|_| Refusal::NoMemory)
+}
+
+/// `ready steps 13`
+pub(crate) fn write_ready(out: &mut String, steps: u64) -> Result<(), Refusal>
+    ensures text { OnOk result (string_bytes out.new ≡ string_bytes out.old ++ ready_line steps) }
+    ensures errors { IfErr result (λ e. e ≡ Refusal.NoMemory) }
+{
+    writeln!(out, "ready steps {steps}").map_err(|_| Refusal::NoMemory)
+}
+
+/// `told 0 got 5`
+pub(crate) fn write_told(out: &mut String, client: Client, told: Told) -> Result<(), Refusal>
+    ensures text { OnOk result (string_bytes out.new ≡ string_bytes out.old ++ told_line client.0 told) }
+    ensures errors { IfErr result (λ e. e ≡ Refusal.NoMemory) }
+{
+    writeln!(out, "told {} {told}", client.0).map_err(|_| Refusal::NoMemory)
 }
 
 /// As a transcript spells it: `0 enq 5 done`, `0 #1 enq 9 done`, `1 deq got 5`.

@@ -1,6 +1,12 @@
 //! Follows scripts of single steps on a queue.
 #![tactic(auto)]
 
+ghost use Rattle.std.specs.Prelude.{◌≡◌};
+ghost use Rattle.std.specs.IoError.{error_kind};
+ghost use Rattle.words.specs.declared.refusal.Refusal.TheVariants.{NoMemory};
+ghost use Rattle.pqx.specs.Faults.{fault_of, fault_of_system};
+ghost use Rattle.pqx.specs.declared.Fault.TheVariants.{Refused};
+
 use clap::{ArgMatches, Command};
 use std::alloc::{AllocError, Global};
 use std::env;
@@ -19,6 +25,8 @@ enum Fault {
 }
 
 impl From<Refusal> for Fault {
+    ghost from_gives = { λ refusal fault. fault ≡ fault_of refusal };
+
     fn from(refusal: Refusal) -> Fault {
         match refusal {
             Refusal::BadLine(number) => Fault::Line(number, refusal),
@@ -29,6 +37,8 @@ impl From<Refusal> for Fault {
 
 /// A fault of the system before anything runs: want of memory, or else a failed read.
 impl From<io::Error> for Fault {
+    ghost from_gives = { λ error fault. fault ≡ fault_of_system (error_kind error) };
+
     fn from(error: io::Error) -> Fault {
         match error.kind() {
             ErrorKind::OutOfMemory => Fault::Refused(Refusal::NoMemory),
@@ -38,6 +48,8 @@ impl From<io::Error> for Fault {
 }
 
 impl From<AllocError> for Fault {
+    ghost from_gives = { λ _ fault. fault ≡ Refused NoMemory };
+
     fn from(_: AllocError) -> Fault {
         Fault::Refused(Refusal::NoMemory)
     }

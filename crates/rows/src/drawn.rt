@@ -30,7 +30,7 @@ struct Scene {
 }
 
 /// A number below `n`, or 0.
-fn below(rng: &mut Pcg32, n: usize) -> usize {
+pub(crate) fn below(rng: &mut Pcg32, n: usize) -> usize {
     if n == 0 {
         return 0;
     }

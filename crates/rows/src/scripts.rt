@@ -205,7 +205,7 @@ fn prints_what_the_steps_do(rt: HostRuntime) -> Result<(), Fail> {
 }
 
 /// Texts with a bad line, and its number.
-static BAD: [(&str, u32); 53] = [
+static BAD: [(&str, u32); 59] = [
     ("enq 0 5", 1),
     ("content", 1),
     ("# one\n\nstep 0 1", 3),
@@ -256,9 +256,15 @@ static BAD: [(&str, u32); 53] = [
     ("queue log 0 1", 1),
     ("queue log 1 4097", 1),
     ("queue Log 1 1", 1),
-    ("queue durable 1 1\ncrash", 2),
-    ("queue durable 1 1\nrecover", 2),
-    ("queue log 1 1\nrecover 5", 2),
+    ("queue durable 1 1\ncrash 1", 2),
+    ("queue durable 1 1\ncrashes", 2),
+    ("crash", 1),
+    ("recover", 1),
+    ("queue durable 1 1\nrecover 0", 2),
+    ("queue durable 1 1\nrecover 1001", 2),
+    ("queue durable 1 1\nrecover 05", 2),
+    ("queue log 1 1\nrecover 5 5", 2),
+    ("queue log 1 1\nrecover ", 2),
 ];
 
 #[test]

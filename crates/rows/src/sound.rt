@@ -11,7 +11,7 @@ use words::{Refusal, Rule};
 type Case = (usize, &'static [(usize, u64)], Option<Rule>);
 
 /// Memory with these kept words. The last of two values for a word counts.
-fn kept_words(
+pub(crate) fn kept_words(
     alloc: Global,
     count: usize,
     base: &[(usize, u64)],
@@ -30,7 +30,7 @@ fn kept_words(
 }
 
 /// What the words are refused with.
-fn wanted(rule: Option<Rule>) -> Result<(), Refusal> {
+pub(crate) fn wanted(rule: Option<Rule>) -> Result<(), Refusal> {
     match rule {
         None => Ok(()),
         Some(rule) => Err(Refusal::Damaged(rule)),
@@ -38,7 +38,7 @@ fn wanted(rule: Option<Rule>) -> Result<(), Refusal> {
 }
 
 /// A durable queue's words once its client put 5 and took it out again.
-static TAKEN_OUT: [(usize, u64); 8] = [
+pub(crate) static TAKEN_OUT: [(usize, u64); 8] = [
     (0, 1),
     (1, 1),
     (2, 2),
@@ -50,7 +50,7 @@ static TAKEN_OUT: [(usize, u64); 8] = [
 ];
 
 /// Changes of those words.
-static DURABLE: [Case; 32] = [
+pub(crate) static DURABLE: [Case; 32] = [
     (15, &[], None),
     // Too many words, and a broker's block.
     (16, &[], Some(Rule::Size)),
@@ -97,7 +97,7 @@ static DURABLE: [Case; 32] = [
 ];
 
 /// A log queue's words once its client put 5 and took it out again.
-static LOGGED: [(usize, u64); 15] = [
+pub(crate) static LOGGED: [(usize, u64); 15] = [
     (0, 1),
     (1, 1),
     (2, 2),
@@ -116,7 +116,7 @@ static LOGGED: [(usize, u64); 15] = [
 ];
 
 /// Changes of those words.
-static LOG: [Case; 31] = [
+pub(crate) static LOG: [Case; 31] = [
     (24, &[], None),
     (25, &[], Some(Rule::Size)),
     (24, &[(3, 1)], Some(Rule::Records)),

@@ -1,0 +1,60 @@
+//! How many steps were made.
+
+ghost use Rattle.std.specs.Prelude.{◌≡◌, replicate, slice_index, slice_set};
+ghost use Rattle.explore.specs.Steps.{counted, call_counted, recovery_counted};
+
+use words::Client;
+
+/// How many steps each client's call has made, and recovery since the last crash. A client's number is one byte.
+#[derive(Drop)]
+pub(crate) struct Steps {
+    pub(crate) calls: [u64; 256],
+    pub(crate) recovery: u64,
+}
+
+impl Steps {
+    /// No step was made yet.
+    pub(crate) fn new() -> Self
+        ensures { result ≡ record { calls = replicate 256 0; recovery = 0 } }
+    {
+        Steps {
+            calls: [0; 256],
+            recovery: 0,
+        }
+    }
+
+    /// A client begins a call.
+    pub(crate) fn begin(&mut self, client: Client)
+        ensures { self.new ≡ record self.old { calls = slice_set self.old.calls client.0 0 } }
+    {
+        self.calls[client.0 as usize] = 0;
+    }
+
+    /// Counts steps of a client's call, and answers how many it has made.
+    pub(crate) fn go_on(&mut self, client: Client, more: u64) -> u64
+        ensures count { result ≡ counted more (slice_index self.old.calls client.0) }
+        ensures steps { self.new ≡ call_counted more client self.old }
+    {
+        let at = client.0 as usize;
+        let count = self.calls[at].saturating_add(more);
+        self.calls[at] = count;
+        count
+    }
+
+    /// Recovery begins anew.
+    pub(crate) fn crash(&mut self)
+        ensures { self.new ≡ record self.old { recovery = 0 } }
+    {
+        self.recovery = 0;
+    }
+
+    /// Counts a step of recovery, and answers how many there were since the crash.
+    pub(crate) fn recover(&mut self) -> u64
+        ensures count { result ≡ counted 1 self.old.recovery }
+        ensures steps { self.new ≡ recovery_counted self.old }
+    {
+        let count = self.recovery.saturating_add(1);
+        self.recovery = count;
+        count
+    }
+}

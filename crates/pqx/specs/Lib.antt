@@ -1,0 +1,2 @@
+-- What a fault says.
+pub mod Faults
