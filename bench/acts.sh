@@ -3,14 +3,14 @@
 # over the time is at most 1.2. And calls a second of a log queue over those of a durable one: at least 0.6, its calls
 # having more steps. Printed, not tested.
 set -eu
-cd "$(dirname "$0")/../crates/actload"
-rt run -- durable 2 0 100 > /dev/null 2>&1
+cd "$(dirname "$0")/../crates/load"
+rt run > /dev/null 2>&1
 
 # Acts a second and calls a second, by the best of 300 turns of 4,000 acts in the best of four runs, as a run may share
 # its core: KIND CLIENTS ACTS-BEFORE.
 rates() {
     for _ in 1 2 3 4; do
-        ./out/actload "$1" "$2" $(($3 / $2)) $((4000 / $2)) 300
+        ./out/load acts "$1" "$2" $(($3 / $2)) $((4000 / $2)) 300
     done | sort -n | head -n 1 | awk '{ print 4000e9 / $1, $2 * 1e9 / $1 }'
 }
 

@@ -2,7 +2,7 @@
 # Time of the checker on a made history of 2n events over that on n events, for n = 2,000 and 4 and 16 clients: at most
 # 2.2. And its plain twin's time over its own, at n = 2,000. Printed, not tested.
 set -eu
-cd "$(dirname "$0")/../crates/checkload"
+cd "$(dirname "$0")/../crates/load"
 rt run > /dev/null 2>&1
 
 # Seconds of a check, the best of five times, a run without checks taken off: BODY CLIENTS EVENTS TURNS.
@@ -10,9 +10,9 @@ seconds() {
     local begun middle
     for ((batch = 0; batch < 5; batch++)); do
         begun=$(date +%s.%N)
-        ./out/checkload "$1" "$2" "$3" 0 > /dev/null
+        ./out/load check "$1" "$2" "$3" 0 > /dev/null
         middle=$(date +%s.%N)
-        ./out/checkload "$1" "$2" "$3" "$4" > /dev/null
+        ./out/load check "$1" "$2" "$3" "$4" > /dev/null
         echo "$(date +%s.%N) $middle $begun"
     done | awk -v turns="$4" '{ print ($1 - $2 - ($2 - $3)) / turns }' | sort -g | head -n 1
 }

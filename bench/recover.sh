@@ -2,14 +2,14 @@
 # Recovery's steps after a crash with 2n values in the queue over those with n, and its time over its time: at most 2.1.
 # And a crash's time in a memory of 2w words over that of w, and in nanoseconds a word. Printed, not tested.
 set -eu
-cd "$(dirname "$0")/../crates/recoverload"
-rt run -- log 16 4 > /dev/null 2>&1
+cd "$(dirname "$0")/../crates/load"
+rt run > /dev/null 2>&1
 
 # Steps, nanoseconds of the crash, nanoseconds of recovery, each by the best of 200 turns in the best of six runs, as a run
 # may share its core: KIND RECORDS NODES.
 measure() {
     for _ in 1 2 3 4 5 6; do
-        ./out/recoverload "$1" "$2" "$3" 200
+        ./out/load recover "$1" "$2" "$3" 200
     done | awk 'NR == 1 || $2 < crash { crash = $2 } NR == 1 || $3 < time { time = $3 } END { print $1, crash, time }'
 }
 

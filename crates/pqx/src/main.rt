@@ -55,13 +55,33 @@ impl From<AllocError> for Fault {
     }
 }
 
+/// What `--version` prints after the name.
+const VERSION: &str = "0.1.0";
+
+/// What help says of scripts.
+const SCRIPTS: &str = "\
+A script names a queue and then acts on it, a line for each act. An empty line, and one that begins with #, says
+nothing. This one has a client call, stops everything before the call's effect is kept, and recovers:
+
+  queue log 1 2    a log queue of 1 client, who can begin 2 calls
+  enq 0 1 9        client 0 calls: to enqueue 9, as its call number 1
+  step 0 18        the call goes on by 18 steps, and has then linked its node
+  crash            the whole system stops, and what is not kept is lost
+  recover          recovery goes on to its end, and client 0 is told that its call was not taken
+  content          prints what the queue holds: nothing
+
+The other lines: queue durable T K, deq C N, end C, evict W, recover M, order; on a durable queue enq C V and deq C.
+docs/SCRIPT.md has all of them, and every line that is printed.";
+
 /// The command line: `pqx run`.
 fn matches<'a>(alloc: Global, words: &'a [String]) -> Result<ArgMatches<'a>, clap::Error> {
-    let run = Command::new(alloc, "run").about(
-        "Follows the script that standard input has, and prints",
-    );
+    let run = Command::new(alloc, "run")
+        .about("Follows the script that standard input has, and prints what happens")
+        .after_help(SCRIPTS);
     let pqx = Command::new(alloc, "pqx")
+        .version(VERSION)
         .about("Follows scripts of single steps on a queue")
+        .after_help(SCRIPTS)
         .subcommand_required(true)
         .subcommand(run)?;
     pqx.try_get_matches_from(words)

@@ -1,0 +1,86 @@
+//! The command line.
+
+use clap::{Arg, ArgMatches, Command, Error, value_parser};
+use std::alloc::{AllocError, Global};
+use words::Kind;
+
+/// A number that has to stand there.
+fn number<'a>(alloc: Global, id: &'a str) -> Arg<'a> {
+    Arg::new(alloc, id)
+        .required(true)
+        .value_parser(value_parser!(u32))
+}
+
+/// One of two words.
+fn either<'a>(alloc: Global, id: &'a str, words: &'a [&'a str]) -> Arg<'a> {
+    Arg::new(alloc, id).required(true).value_parser(words)
+}
+
+/// How many turns are measured.
+fn turns<'a>(alloc: Global) -> Arg<'a> {
+    Arg::new(alloc, "turns")
+        .value_parser(value_parser!(u32))
+        .help("Prints the best of so many turns, in nanoseconds")
+}
+
+static KINDS: [&str; 2] = ["durable", "log"];
+
+static CHECKERS: [&str; 2] = ["fast", "plain"];
+
+/// `acts KIND CLIENTS BEFORE ROUNDS [TURNS]`
+fn acts<'a>(alloc: Global) -> Result<Command<'a>, AllocError> {
+    Command::new(alloc, "acts")
+        .about(
+            "Plays acts on a world, a round being one of each client, and measures the last rounds",
+        )
+        .arg(either(alloc, "kind", KINDS.as_slice()))?
+        .arg(number(alloc, "clients"))?
+        .arg(number(alloc, "before").help("Rounds before the measured ones"))?
+        .arg(number(alloc, "rounds"))?
+        .arg(turns(alloc))
+}
+
+/// `recover KIND RECORDS NODES [TURNS]`
+fn recover<'a>(alloc: Global) -> Result<Command<'a>, AllocError> {
+    Command::new(alloc, "recover")
+        .about(
+            "Fills a queue of one client, crashes it, and measures the crash and recovery to its end",
+        )
+        .arg(either(alloc, "kind", KINDS.as_slice()))?
+        .arg(number(alloc, "records"))?
+        .arg(number(alloc, "nodes").help("How many values the queue holds"))?
+        .arg(turns(alloc))
+}
+
+/// `check CHECKER CLIENTS EVENTS TURNS`
+fn check<'a>(alloc: Global) -> Result<Command<'a>, AllocError> {
+    Command::new(alloc, "check")
+        .about("Checks a made history so many times")
+        .arg(either(alloc, "checker", CHECKERS.as_slice()))?
+        .arg(number(alloc, "clients"))?
+        .arg(number(alloc, "events"))?
+        .arg(number(alloc, "turns"))
+}
+
+/// What is asked for.
+pub(crate) fn matches<'a>(alloc: Global, words: &'a [String]) -> Result<ArgMatches<'a>, Error> {
+    Command::new(alloc, "load")
+        .about("Plays loads that are timed; without a command, a small one of each")
+        .subcommand(acts(alloc)?)?
+        .subcommand(recover(alloc)?)?
+        .subcommand(check(alloc)?)?
+        .try_get_matches_from(words)
+}
+
+/// A number that was asked for.
+pub(crate) fn count(words: &ArgMatches<'_>, id: &str) -> u32 {
+    words.get_one(id).unwrap_or(0)
+}
+
+/// The kind of queue that was asked for.
+pub(crate) fn kind(words: &ArgMatches<'_>) -> Kind {
+    match words.get_str("kind") {
+        Some("log") => Kind::Log,
+        _ => Kind::Durable,
+    }
+}

@@ -1,0 +1,110 @@
+//! Loads that the scripts of bench/ time: acts on a world, crashes and recovery, and the checker of histories.
+//! Without a subcommand it plays a small one of each.
+#![tactic(auto)]
+
+mod acts;
+mod asked;
+mod histories;
+mod recovery;
+mod turns;
+
+use crate::acts::Acts;
+use crate::asked::{count, kind, matches};
+use crate::histories::CheckLoad;
+use crate::recovery::Recovery;
+use crate::turns::{Load, Queue, best_on};
+use anyhow::Result;
+use clap::ArgMatches;
+use std::env;
+use std::process::ExitCode;
+use words::Kind;
+
+/// Plays a load so many times, and prints what its best turn took, or without a number only what it came to.
+fn print_best<M: Load>(rt: &HostRuntime, queue: Queue, load: &M, turns: Option<u32>) -> Result<()> {
+    let figures = best_on(rt, queue, load, turns.unwrap_or(1))?;
+    match turns {
+        Some(_) => load.print_times(rt, figures),
+        None => load.print_count(rt, figures),
+    }
+}
+
+/// `load acts KIND CLIENTS BEFORE ROUNDS [TURNS]`
+fn play_acts(rt: &HostRuntime, words: &ArgMatches<'_>) -> Result<()> {
+    let queue = Queue {
+        kind: kind(words),
+        clients: count(words, "clients"),
+        records: arena::MAX_RECORDS,
+    };
+    let load = Acts {
+        before: count(words, "before"),
+        rounds: count(words, "rounds"),
+    };
+    print_best(rt, queue, &load, words.get_one("turns"))
+}
+
+/// `load recover KIND RECORDS NODES [TURNS]`
+fn play_recovery(rt: &HostRuntime, words: &ArgMatches<'_>) -> Result<()> {
+    let queue = Queue {
+        kind: kind(words),
+        clients: 1,
+        records: count(words, "records"),
+    };
+    let load = Recovery {
+        nodes: count(words, "nodes"),
+    };
+    print_best(rt, queue, &load, words.get_one("turns"))
+}
+
+/// `load check CHECKER CLIENTS EVENTS TURNS`
+fn play_checks(rt: &HostRuntime, words: &ArgMatches<'_>) -> Result<()> {
+    let load = CheckLoad {
+        plain: words.get_str("checker") == Some("plain"),
+        clients: count(words, "clients"),
+        events: count(words, "events"),
+    };
+    load.run(rt, count(words, "turns"))
+}
+
+/// A small load of each.
+fn small_ones(rt: &HostRuntime) -> Result<()> {
+    let queue = Queue {
+        kind: Kind::Durable,
+        clients: 2,
+        records: arena::MAX_RECORDS,
+    };
+    let load = Acts {
+        before: 0,
+        rounds: 100,
+    };
+    print_best(rt, queue, &load, None)?;
+    let queue = Queue {
+        kind: Kind::Log,
+        clients: 1,
+        records: 16,
+    };
+    print_best(rt, queue, &Recovery { nodes: 4 }, None)?;
+    let load = CheckLoad {
+        plain: false,
+        clients: 4,
+        events: 200,
+    };
+    load.run(rt, 1)
+}
+
+fn main(rt: HostRuntime) -> Result<ExitCode> {
+    let words: Vec<String> = env::args(&rt)?.collect(rt.alloc())?;
+    let asked = match matches(rt.alloc(), &words) {
+        Ok(asked) => asked,
+        Err(error) => {
+            error.print(&rt)?;
+            return Ok(ExitCode::from(error.exit_code() as u8));
+        }
+    };
+    match asked.subcommand() {
+        Some(("acts", words)) => play_acts(&rt, words)?,
+        Some(("recover", words)) => play_recovery(&rt, words)?,
+        Some(("check", words)) => play_checks(&rt, words)?,
+        _ => small_ones(&rt)?,
+    }
+    Ok(ExitCode::SUCCESS)
+}

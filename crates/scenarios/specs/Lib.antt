@@ -1,0 +1,3 @@
+-- Scenarios' files, and what a text prints as a script.
+pub mod Names
+pub mod Printed

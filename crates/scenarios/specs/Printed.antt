@@ -1,0 +1,20 @@
+-- What a text prints as a script, also one that is none.
+use Rattle.std.specs.Prelude.{◌≡◌, ◌⊎◌, ℕ, List, ◌++◌, Option, codes, decimal}
+use Rattle.words.specs.Refusal.{refusal_text}
+use Rattle.words.specs.declared.refusal.Refusal.TheVariants.{BadLine}
+use Rattle.explore.specs.Lines.{lines_of}
+use Rattle.explore.specs.Script.{Says, IsFirstBad}
+use Rattle.explore.specs.Transcript.{script_prints}
+use Rattle.explore.specs.declared.command.Command.{Command}
+use Rattle.explore.specs.declared.command.QueueLine.{QueueLine}
+
+-- `line 3: 28 BadLine`
+abbrev pub bad_line : ℕ → List ℕ
+bad_line number = codes "line " ++ decimal number ++ codes ": " ++ refusal_text (BadLine number) ++ codes "\n"
+
+-- the transcript of the script that the text says, or else that its first bad line is bad
+abbrev pub IsPrintOf : List ℕ → List ℕ → Type 0
+IsPrintOf text printed =
+    ((queue : Option QueueLine) × (commands : List Command)
+        × Says (lines_of text) queue commands × (printed ≡ script_prints queue commands))
+    ⊎ ((number : ℕ) × IsFirstBad (lines_of text) number × (printed ≡ bad_line number))

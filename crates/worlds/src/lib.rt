@@ -1,0 +1,5 @@
+//! Worlds of both kinds of queue, driven by calls.
+#![tactic(auto)]
+
+#[cfg(test)]
+mod calls;

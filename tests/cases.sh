@@ -1,0 +1,36 @@
+# Cases of a built program: a script of tests/ reads this file, tries each of its cases, and ends with `count`.
+work=$(mktemp -d)
+trap 'rm -r "$work"' EXIT
+passed=0
+failed=0
+
+# Says how a case of this name went: what differs from what was wanted of it, or nothing.
+judge() {
+    if [ -z "$2" ]; then
+        passed=$((passed + 1))
+        return
+    fi
+    failed=$((failed + 1))
+    printf 'FAILED: %s\n%s\n' "$1" "$2"
+}
+
+# Where a file and what was wanted of it differ. `diff` ends with 1 where they do.
+difference() {
+    diff --text --unified=1 --label "wanted: $1" --label "found: $1" "$2" "$3" || true
+}
+
+# Compares what a command wrote ($work/out, $work/err) and its status with what is wanted of the case:
+# NAME STATUS-WANTED STATUS OUT-WANTED ERR-WANTED, the last two being files.
+compare() {
+    local said=
+    [ "$3" -eq "$2" ] || said="status $3, and not $2"$'\n'
+    said+=$(difference 'standard output' "$4" "$work/out")
+    said+=$(difference 'standard error' "$5" "$work/err")
+    judge "$1" "$said"
+}
+
+# How many passed and failed, as the last line, and that as the status.
+count() {
+    printf '%d passed, %d failed\n' "$passed" "$failed"
+    [ "$failed" -eq 0 ]
+}

@@ -1,0 +1,89 @@
+#!/usr/bin/env bash
+# What no proof can see of pqx: what the built program writes on standard output and on standard error, and its status,
+# on good and bad command lines, scripts, inputs and outputs, compared to the letter. It takes the program that the last
+# `rt ci`, or `rt run` in crates/pqx, left.
+set -eu
+cd "$(dirname "$0")/.."
+. tests/cases.sh
+pqx=$PWD/crates/pqx/out/pqx
+[ -x "$pqx" ] || {
+    printf 'there is no %s: run rt ci, or rt run in crates/pqx\n' "$pqx"
+    failed=1
+    count
+}
+data=crates/scenarios/data
+
+# Runs pqx with these words on the standard input that it was given. What is wanted stands in tests/pqx/NAME.out and
+# NAME.err, where there is no such file nothing: NAME STATUS WORD..
+try() {
+    local name=$1 wanted=$2 status=0 out=/dev/null err=/dev/null
+    shift 2
+    "$pqx" "$@" > "$work/out" 2> "$work/err" || status=$?
+    [ ! -e "tests/pqx/$name.out" ] || out=tests/pqx/$name.out
+    [ ! -e "tests/pqx/$name.err" ] || err=tests/pqx/$name.err
+    compare "$name" "$wanted" "$status" "$out" "$err"
+}
+
+# Command lines.
+try help 0 --help < /dev/null
+try short-help 0 -h < /dev/null
+try help-command 0 help < /dev/null
+try run-help 0 run --help < /dev/null
+try help-run 0 help run < /dev/null
+try version 0 --version < /dev/null
+try short-version 0 -V < /dev/null
+try no-command 2 < /dev/null
+try unknown-command 2 walk < /dev/null
+try unknown-option 2 --walk < /dev/null
+try unknown-option-of-run 2 run --walk < /dev/null
+try stray-word 2 run crash.script < /dev/null
+try empty-word 2 '' < /dev/null
+try misspelt-command 2 runs < "$data/bad-step-0.script"
+
+# Scripts: those of the scenarios. A bad line is told on standard error alone, and ends with status 1.
+for script in "$data"/*.script; do
+    name=$(basename "$script" .script)
+    status=0
+    "$pqx" run < "$script" > "$work/out" 2> "$work/err" || status=$?
+    case $(head -c 5 "$data/$name.out") in
+        'line ')
+            sed 's/^/pqx: /' "$data/$name.out" > "$work/wanted"
+            compare "script $name" 1 "$status" /dev/null "$work/wanted"
+            ;;
+        *) compare "script $name" 0 "$status" "$data/$name.out" /dev/null ;;
+    esac
+done
+
+# Scripts that are no text: a byte 0, and bytes that no character has.
+printf 'queue durable 1 1\n\0\n' > "$work/in"
+try script-with-a-zero 1 run < "$work/in"
+printf 'queue durable 1 1\n# \377\376\n\377\n' > "$work/in"
+try script-of-no-characters 1 run < "$work/in"
+printf 'queue durable 1 1\n# \377\376\n' > "$work/in"
+try comment-of-no-characters 0 run < "$work/in"
+
+# Inputs that cannot be read, and one that comes by and by.
+try input-is-a-folder 1 run < tests
+try input-is-closed 1 run <&-
+try input-is-a-pipe 0 run < <(printf 'queue durable '; sleep 0.1; printf '1 1\ncontent\n')
+
+# Outputs that cannot be written: a full one, and a closed one. On standard error both say the same.
+failing_output() {
+    printf 'pqx: 27 WriteFailed\n' > "$work/wanted"
+    : > "$work/out"
+    compare "$1" 1 "$2" /dev/null "$work/wanted"
+}
+status=0
+"$pqx" run < examples/crash.script > /dev/full 2> "$work/err" || status=$?
+failing_output output-is-full "$status"
+status=0
+"$pqx" run < examples/crash.script >&- 2> "$work/err" || status=$?
+failing_output output-is-closed "$status"
+status=0
+"$pqx" --help < /dev/null > /dev/full 2> "$work/err" || status=$?
+failing_output help-to-a-full-output "$status"
+status=0
+"$pqx" --version < /dev/null >&- 2> "$work/err" || status=$?
+failing_output version-to-a-closed-output "$status"
+
+count
