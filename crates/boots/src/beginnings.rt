@@ -85,6 +85,39 @@ fn stopped<L: Layout + Drop>(
     Ok(world)
 }
 
+/// Whether a world begins with what a stopped one holds.
+pub(crate) fn begins_with<L: Layout + Drop>(
+    old: &World<L>,
+    new: &World<L>,
+) -> Result<bool, Refusal> {
+    let held = old.content()?;
+    let same = new.content()?.as_slice() == held.as_slice();
+    Ok(same && new.history().base.as_slice() == held.as_slice())
+}
+
+/// Whether a world begins with this told to client 0.
+fn begins_telling<L: Layout + Drop>(world: &World<L>, told: Told) -> bool {
+    world.history().told[0] == told && world.told(Client(0)) == told
+}
+
+/// Whether a world recovers in so many steps, tells client 0 this, and is explained.
+fn recovers<L: Layout + Drop>(
+    alloc: Global,
+    world: &mut World<L>,
+    steps: u32,
+    told: Told,
+) -> Result<bool, Refusal> {
+    let right = recover(world)? == steps && world.told(Client(0)) == told;
+    Ok(right && is_explained(alloc, world)?)
+}
+
+/// Whether a world is explained in which client 0 goes on.
+fn serves<L: Layout + Drop>(alloc: Global, world: &mut World<L>) -> Result<bool, Refusal> {
+    finish(world, 0, 4, Call::Enq(7))?;
+    finish(world, 0, 5, Call::Deq)?;
+    is_explained(alloc, world)
+}
+
 /// Whether a world that begins on what a stopped one keeps begins with what that holds and tells, and both recover in
 /// so many steps and tell client 0 this, which then goes on with the new one.
 fn goes_on<L: Layout + Drop>(
@@ -96,14 +129,10 @@ fn goes_on<L: Layout + Drop>(
 ) -> Result<bool, Refusal> {
     let memory = copy(alloc, old.memory())?;
     let mut new = World::boot(alloc, layout, memory)?;
-    let mut right = new.history().base.as_slice() == old.content()?.as_slice();
-    right &= new.history().told[0] == told && new.told(Client(0)) == told;
-    right &= recover(&mut old)? == steps && recover(&mut new)? == steps;
-    right &= old.told(Client(0)) == told && new.told(Client(0)) == told;
-    right &= is_explained(alloc, &old)? && is_explained(alloc, &new)?;
-    finish(&mut new, 0, 4, Call::Enq(7))?;
-    finish(&mut new, 0, 5, Call::Deq)?;
-    Ok(right && is_explained(alloc, &new)?)
+    let mut right = begins_with(&old, &new)? && begins_telling(&new, told);
+    right &= recovers(alloc, &mut old, steps, told)?;
+    right &= recovers(alloc, &mut new, steps, told)?;
+    Ok(right && serves(alloc, &mut new)?)
 }
 
 fn durable_goes_on(alloc: Global) -> Result<bool, Refusal> {
@@ -200,6 +229,21 @@ fn two_ways<L: Layout + Drop>(
     Ok(())
 }
 
+/// Whether a world recovers in so many steps once the system stops.
+fn stops_and_recovers<L: Layout + Drop>(world: &mut World<L>, steps: u32) -> Result<bool, Refusal> {
+    world.crash()?;
+    Ok(recover(world)? == steps)
+}
+
+/// Whether two worlds tell each client the same, and hold the same.
+fn are_alike<L: Layout + Drop>(one: &World<L>, other: &World<L>) -> Result<bool, Refusal> {
+    let mut right = true;
+    for client in 0..16u8 {
+        right &= one.told(Client(client)) == other.told(Client(client));
+    }
+    Ok(right && one.content()?.as_slice() == other.content()?.as_slice())
+}
+
 /// Whether both then keep the same, recover in so many steps, tell their clients the same, and hold the same.
 fn tell_the_same<L: Layout + Drop>(
     mut one: World<L>,
@@ -211,13 +255,8 @@ fn tell_the_same<L: Layout + Drop>(
     two_ways(&mut one, &mut other, announced, linked)?;
     let mut right = keep_the_same(one.memory(), other.memory());
     right &= one.history().events.len() != other.history().events.len();
-    one.crash()?;
-    other.crash()?;
-    right &= recover(&mut one)? == steps && recover(&mut other)? == steps;
-    for client in 0..16u8 {
-        right &= one.told(Client(client)) == other.told(Client(client));
-    }
-    Ok(right && one.content()?.as_slice() == other.content()?.as_slice())
+    right &= stops_and_recovers(&mut one, steps)? && stops_and_recovers(&mut other, steps)?;
+    Ok(right && are_alike(&one, &other)?)
 }
 
 fn durables_tell_the_same(alloc: Global) -> Result<bool, Refusal> {

@@ -1,6 +1,6 @@
 //! Drawn acts with crashes and recovery: the order explains what happened, and the queue holds what its replay leaves.
 
-use crate::beginnings::copy;
+use crate::beginnings::{begins_with, copy};
 use arena::{DurableLayout, Layout, LogLayout};
 use history::{Event, check, replay};
 use interleave::{Act, World};
@@ -110,8 +110,7 @@ fn drawn<L: Layout + Drop>(
     let mut old = World::make(alloc, first)?;
     let mut right = happen(alloc, &mut old, &mut rng, 0)?;
     let mut new = World::boot(alloc, second, copy(alloc, old.memory())?)?;
-    right &= new.content()?.as_slice() == old.content()?.as_slice();
-    right &= new.history().base.as_slice() == old.content()?.as_slice();
+    right &= begins_with(&old, &new)?;
     right &= happen(alloc, &mut new, &mut rng, ACTS)?;
     if !right {
         return Ok(None);

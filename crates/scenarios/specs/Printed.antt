@@ -16,5 +16,5 @@ bad_line number = codes "line " ++ decimal number ++ codes ": " ++ refusal_text 
 abbrev pub IsPrintOf : List ℕ → List ℕ → Type 0
 IsPrintOf text printed =
     ((queue : Option QueueLine) × (commands : List Command)
-        × Says (lines_of text) queue commands × (printed ≡ script_prints queue commands))
+    × Says (lines_of text) queue commands × (printed ≡ script_prints queue commands))
     ⊎ ((number : ℕ) × IsFirstBad (lines_of text) number × (printed ≡ bad_line number))
