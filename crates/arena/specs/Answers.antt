@@ -4,15 +4,16 @@ use Rattle.words.specs.declared.call.Kind.{Kind}
 use Rattle.words.specs.declared.call.Kind.TheVariants.{Durable, Log}
 use Rattle.words.specs.declared.call.NodeId.{NodeId}
 use Rattle.words.specs.declared.call.Token.{Token}
+use Rattle.arena.specs.declared.codes.TheConstants.{EMPTY_CELL, GOT_CELL, EMPTY_STATUS}
 use Rattle.arena.specs.declared.place.Write.{Write}
 use Rattle.arena.specs.declared.place.Place.TheVariants.{Cell, Status, EntryNode}
 
--- that the dequeue found the queue empty: 1 in its cell, or status 2 in its entry
+-- that the dequeue found the queue empty: in its cell, or as its entry's status
 abbrev pub empty_answer_of : Kind → Token → Write
-empty_answer_of Durable token = record { place = Cell token; value = 1 }
-empty_answer_of Log token = record { place = Status token; value = 2 }
+empty_answer_of Durable token = record { place = Cell token; value = EMPTY_CELL }
+empty_answer_of Log token = record { place = Status token; value = EMPTY_STATUS }
 
--- that the dequeue claimed a node of this value: the value and 2 in its cell, or the node in its entry
+-- that the dequeue claimed a node of this value: the value in its cell, or the node in its entry
 abbrev pub result_of : Kind → Token → NodeId → ℕ → Write
-result_of Durable token node value = record { place = Cell token; value = value + 2 }
+result_of Durable token node value = record { place = Cell token; value = value + GOT_CELL }
 result_of Log token node value = record { place = EntryNode token; value = node.0 }

@@ -5,7 +5,6 @@ use Rattle.std.proofs.lemmas.Bool.Decides.{nat_tests}
 use Rattle.words.specs.declared.call.Kind.TheVariants.{Durable}
 use Rattle.arena.specs.Shape.{Shape, greatest}
 use Rattle.arena.specs.Place.{IsPlace}
-use Rattle.arena.specs.Laws.{IsLaidOut}
 use Rattle.arena.specs.declared.place.Place.{Place}
 use Rattle.arena.specs.declared.place.Place.TheVariants.{Head, Tail, Announcement, Bump, Value, Next, Mark, Cell, Insert, Number, EntryKind, Status, EntryNode}
 
@@ -45,38 +44,35 @@ durable_place s w =
     else (if nat_lt w (durable_size s) then Some (Cell (record { 0 = w - cells_from s + 1 }))
     else None)))))
 
-below : (s : Shape) (p : Place) → s.kind ≡ Durable → IsPlace s p → durable_word s p < durable_size s
-below s Head kind h = grind arith
-below s Tail kind h = grind arith
-below s (Announcement x) kind h = grind arith
-below s (Bump x) kind h = grind arith
-below s (Value x) kind h = grind arith
-below s (Next x) kind h = grind arith
-below s (Mark x) kind h = grind arith
-below s (Cell x) kind h = grind arith
-below s (Insert x) kind h = absurd (cc)
-below s (Number x) kind h = absurd (cc)
-below s (EntryKind x) kind h = absurd (cc)
-below s (Status x) kind h = absurd (cc)
-below s (EntryNode x) kind h = absurd (cc)
+pub durable_below : (s : Shape) (p : Place) → s.kind ≡ Durable → IsPlace s p → durable_word s p < durable_size s
+durable_below s Head kind h = grind arith
+durable_below s Tail kind h = grind arith
+durable_below s (Announcement x) kind h = grind arith
+durable_below s (Bump x) kind h = grind arith
+durable_below s (Value x) kind h = grind arith
+durable_below s (Next x) kind h = grind arith
+durable_below s (Mark x) kind h = grind arith
+durable_below s (Cell x) kind h = grind arith
+durable_below s (Insert x) kind h = absurd (cc)
+durable_below s (Number x) kind h = absurd (cc)
+durable_below s (EntryKind x) kind h = absurd (cc)
+durable_below s (Status x) kind h = absurd (cc)
+durable_below s (EntryNode x) kind h = absurd (cc)
 
-own : (s : Shape) (p : Place) → s.kind ≡ Durable → IsPlace s p → durable_place s (durable_word s p) ≡ Some p
-own s Head kind h = grind (arith, nat_tests)
-own s Tail kind h = grind (arith, nat_tests)
-own s (Announcement x) kind h = grind (arith, nat_tests)
-own s (Bump x) kind h = grind (arith, nat_tests)
-own s (Value x) kind h = grind (arith, nat_tests)
-own s (Next x) kind h = grind (arith, nat_tests)
-own s (Mark x) kind h = grind (arith, nat_tests)
-own s (Cell x) kind h = grind (arith, nat_tests)
-own s (Insert x) kind h = absurd (cc)
-own s (Number x) kind h = absurd (cc)
-own s (EntryKind x) kind h = absurd (cc)
-own s (Status x) kind h = absurd (cc)
-own s (EntryNode x) kind h = absurd (cc)
+pub durable_own : (s : Shape) (p : Place) → s.kind ≡ Durable → IsPlace s p → durable_place s (durable_word s p) ≡ Some p
+durable_own s Head kind h = grind (arith, nat_tests)
+durable_own s Tail kind h = grind (arith, nat_tests)
+durable_own s (Announcement x) kind h = grind (arith, nat_tests)
+durable_own s (Bump x) kind h = grind (arith, nat_tests)
+durable_own s (Value x) kind h = grind (arith, nat_tests)
+durable_own s (Next x) kind h = grind (arith, nat_tests)
+durable_own s (Mark x) kind h = grind (arith, nat_tests)
+durable_own s (Cell x) kind h = grind (arith, nat_tests)
+durable_own s (Insert x) kind h = absurd (cc)
+durable_own s (Number x) kind h = absurd (cc)
+durable_own s (EntryKind x) kind h = absurd (cc)
+durable_own s (Status x) kind h = absurd (cc)
+durable_own s (EntryNode x) kind h = absurd (cc)
 
-named : (s : Shape) (w : ℕ) → s.kind ≡ Durable → MatchOption (durable_place s w) (durable_size s ≤ w) (λ p. IsPlace s p × (durable_word s p ≡ w))
-named s w kind = grind (arith, nat_tests)
-
-pub durable_laid_out : (s : Shape) → s.kind ≡ Durable → IsLaidOut s (durable_word s) (durable_place s) (durable_size s)
-durable_laid_out s kind = record { below = λ p. below s p kind; own = λ p. own s p kind; named = λ w. named s w kind }
+pub durable_named : (s : Shape) (w : ℕ) → s.kind ≡ Durable → MatchOption (durable_place s w) (durable_size s ≤ w) (λ p. IsPlace s p × (durable_word s p ≡ w))
+durable_named s w kind = grind (arith, nat_tests)

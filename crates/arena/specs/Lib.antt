@@ -2,9 +2,10 @@ pub mod Shape
 pub mod Limits
 pub mod Place
 pub mod Ranges
-pub mod Laws
 pub mod Durable
 pub mod Log
+pub mod Layout
+pub mod Laws
 pub mod Answers
 pub mod Words
 pub mod Chain

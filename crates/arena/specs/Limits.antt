@@ -1,9 +1,10 @@
 -- How large a queue may be.
+use Rattle.words.specs.declared.limits.TheConstants.{MAX_CLIENTS, MAX_RECORDS}
 use Rattle.std.specs.Prelude.{ℕ, ◌≤◌}
 
--- 1 to 16 clients, with 1 to 4,096 records each
+-- a queue has some clients, and each of them some records, no more than the most
 pub record AreCounts (clients records : ℕ) : Type 0 where
   pub some_client : 1 ≤ clients
-  pub few_clients : clients ≤ 16
+  pub few_clients : clients ≤ MAX_CLIENTS
   pub some_record : 1 ≤ records
-  pub few_records : records ≤ 4096
+  pub few_records : records ≤ MAX_RECORDS

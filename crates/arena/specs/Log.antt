@@ -5,7 +5,6 @@ use Rattle.std.proofs.lemmas.Bool.Decides.{nat_tests}
 use Rattle.words.specs.declared.call.Kind.TheVariants.{Log}
 use Rattle.arena.specs.Shape.{Shape, greatest}
 use Rattle.arena.specs.Place.{IsPlace}
-use Rattle.arena.specs.Laws.{IsLaidOut}
 use Rattle.arena.specs.declared.place.Place.{Place}
 use Rattle.arena.specs.declared.place.Place.TheVariants.{Head, Tail, Announcement, Bump, Value, Next, Mark, Cell, Insert, Number, EntryKind, Status, EntryNode}
 
@@ -57,38 +56,35 @@ log_place s w =
     else (if nat_lt w (log_size s) then Some (entry_place ((w - entries_from s) / 4 + 1) ((w - entries_from s) % 4))
     else None)))))
 
-below : (s : Shape) (p : Place) → s.kind ≡ Log → IsPlace s p → log_word s p < log_size s
-below s Head kind h = grind arith
-below s Tail kind h = grind arith
-below s (Announcement x) kind h = grind arith
-below s (Bump x) kind h = grind arith
-below s (Value x) kind h = grind arith
-below s (Next x) kind h = grind arith
-below s (Mark x) kind h = grind arith
-below s (Cell x) kind h = absurd (cc)
-below s (Insert x) kind h = grind arith
-below s (Number x) kind h = grind arith
-below s (EntryKind x) kind h = grind arith
-below s (Status x) kind h = grind arith
-below s (EntryNode x) kind h = grind arith
+pub log_below : (s : Shape) (p : Place) → s.kind ≡ Log → IsPlace s p → log_word s p < log_size s
+log_below s Head kind h = grind arith
+log_below s Tail kind h = grind arith
+log_below s (Announcement x) kind h = grind arith
+log_below s (Bump x) kind h = grind arith
+log_below s (Value x) kind h = grind arith
+log_below s (Next x) kind h = grind arith
+log_below s (Mark x) kind h = grind arith
+log_below s (Cell x) kind h = absurd (cc)
+log_below s (Insert x) kind h = grind arith
+log_below s (Number x) kind h = grind arith
+log_below s (EntryKind x) kind h = grind arith
+log_below s (Status x) kind h = grind arith
+log_below s (EntryNode x) kind h = grind arith
 
-own : (s : Shape) (p : Place) → s.kind ≡ Log → IsPlace s p → log_place s (log_word s p) ≡ Some p
-own s Head kind h = grind (arith, nat_tests)
-own s Tail kind h = grind (arith, nat_tests)
-own s (Announcement x) kind h = grind (arith, nat_tests)
-own s (Bump x) kind h = grind (arith, nat_tests)
-own s (Value x) kind h = grind (arith, nat_tests)
-own s (Next x) kind h = grind (arith, nat_tests)
-own s (Mark x) kind h = grind (arith, nat_tests)
-own s (Cell x) kind h = absurd (cc)
-own s (Insert x) kind h = grind (arith, nat_tests)
-own s (Number x) kind h = grind (arith, nat_tests)
-own s (EntryKind x) kind h = grind (arith, nat_tests)
-own s (Status x) kind h = grind (arith, nat_tests)
-own s (EntryNode x) kind h = grind (arith, nat_tests)
+pub log_own : (s : Shape) (p : Place) → s.kind ≡ Log → IsPlace s p → log_place s (log_word s p) ≡ Some p
+log_own s Head kind h = grind (arith, nat_tests)
+log_own s Tail kind h = grind (arith, nat_tests)
+log_own s (Announcement x) kind h = grind (arith, nat_tests)
+log_own s (Bump x) kind h = grind (arith, nat_tests)
+log_own s (Value x) kind h = grind (arith, nat_tests)
+log_own s (Next x) kind h = grind (arith, nat_tests)
+log_own s (Mark x) kind h = grind (arith, nat_tests)
+log_own s (Cell x) kind h = absurd (cc)
+log_own s (Insert x) kind h = grind (arith, nat_tests)
+log_own s (Number x) kind h = grind (arith, nat_tests)
+log_own s (EntryKind x) kind h = grind (arith, nat_tests)
+log_own s (Status x) kind h = grind (arith, nat_tests)
+log_own s (EntryNode x) kind h = grind (arith, nat_tests)
 
-named : (s : Shape) (w : ℕ) → s.kind ≡ Log → MatchOption (log_place s w) (log_size s ≤ w) (λ p. IsPlace s p × (log_word s p ≡ w))
-named s w kind = grind (arith, nat_tests)
-
-pub log_laid_out : (s : Shape) → s.kind ≡ Log → IsLaidOut s (log_word s) (log_place s) (log_size s)
-log_laid_out s kind = record { below = λ p. below s p kind; own = λ p. own s p kind; named = λ w. named s w kind }
+pub log_named : (s : Shape) (w : ℕ) → s.kind ≡ Log → MatchOption (log_place s w) (log_size s ≤ w) (λ p. IsPlace s p × (log_word s p ≡ w))
+log_named s w kind = grind (arith, nat_tests)

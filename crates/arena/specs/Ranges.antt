@@ -1,5 +1,7 @@
 -- The range of each word's value.
-use Rattle.std.specs.Prelude.{ℕ, ◌≤◌}
+use Rattle.std.specs.Prelude.{ℕ, ◌+◌, ◌≤◌}
+use Rattle.words.specs.declared.limits.TheConstants.{MAX_CALL_NUMBER, MAX_VALUE}
+use Rattle.arena.specs.declared.codes.TheConstants.{GOT_CELL}
 use Rattle.arena.specs.Shape.{Shape, greatest}
 use Rattle.arena.specs.declared.place.Place.{Place}
 use Rattle.arena.specs.declared.place.Place.TheVariants.{Head, Tail, Announcement, Bump, Value, Next, Mark, Cell, Insert, Number, EntryKind, Status, EntryNode}
@@ -9,12 +11,12 @@ Fits s Head v = v ≤ greatest s
 Fits s Tail v = v ≤ greatest s
 Fits s (Announcement t) v = v ≤ greatest s
 Fits s (Bump t) v = v ≤ s.records
-Fits s (Value n) v = v ≤ 4294967295
+Fits s (Value n) v = v ≤ MAX_VALUE
 Fits s (Next n) v = v ≤ greatest s
 Fits s (Mark n) v = v ≤ greatest s
-Fits s (Cell c) v = v ≤ 4294967297
+Fits s (Cell c) v = v ≤ MAX_VALUE + GOT_CELL
 Fits s (Insert n) v = v ≤ greatest s
-Fits s (Number e) v = v ≤ 1099511627776
+Fits s (Number e) v = v ≤ MAX_CALL_NUMBER
 Fits s (EntryKind e) v = v ≤ 2
 Fits s (Status e) v = v ≤ 2
 Fits s (EntryNode e) v = v ≤ greatest s

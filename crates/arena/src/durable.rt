@@ -5,10 +5,11 @@ ghost use Rattle.arena.specs.Shape.{greatest, shape_of};
 ghost use Rattle.arena.specs.Limits.{AreCounts};
 ghost use Rattle.arena.specs.Durable.{durable_node_place};
 
-use crate::layout::{Layout, MAX_CLIENTS, MAX_RECORDS, check_counts};
+use crate::codes::{EMPTY_CELL, GOT_CELL};
+use crate::layout::{Layout, check_counts};
 use crate::place::{Place, Write};
 use std::marker::Model;
-use words::{Client, Kind, NodeId, Refusal, Token};
+use words::{Client, Kind, MAX_CLIENTS, MAX_RECORD_NUMBER, NodeId, Refusal, Token};
 
 /// The words of a durable queue.
 #[derive(Clone, Copy, Debug)]
@@ -31,7 +32,8 @@ impl Model for DurableLayout {
 }
 
 impl DurableLayout {
-    /// A layout for 1 to 16 clients with 1 to 4,096 records each.
+    /// A layout for 1 to [`MAX_CLIENTS`] clients with 1 to [`words::MAX_RECORDS`] records each. It is refused, in this
+    /// order, where the clients are none or more (BadClients), and where the records are (BadRecords).
     pub fn make(clients: u32, records: u32) -> Result<Self, Refusal>
         ensures ok { IsOk result ↔ AreCounts clients records }
         ensures made { IfOk result (λ l. l ≡ record { clients = clients; records = records }) }
@@ -45,7 +47,7 @@ impl DurableLayout {
     /// The greatest number of a node.
     fn greatest(&self) -> usize
         ensures value { result ≡ greatest (shape_of Kind.Durable self.now) }
-        ensures small { result ≤ 65536 }
+        ensures small { result ≤ MAX_RECORD_NUMBER }
         ensures counts { AreCounts self.now.clients self.now.records }
     {
         self.clients as usize * self.records as usize
@@ -63,21 +65,12 @@ fn node_place(node: NodeId, field: usize) -> Place
     }
 }
 
+#[tactic(auto, unfolding(crate::specs::Layout::word_at, crate::specs::Layout::place_at, crate::specs::Layout::size_of))]
 impl Layout for DurableLayout {
-    ghost use Rattle.std.specs.Prelude.{refl};
     ghost use Rattle.words.specs.declared.call.Kind.TheVariants.{Durable};
     ghost use Rattle.arena.specs.Shape.{shape_of};
-    ghost use Rattle.arena.specs.Durable.{durable_word, durable_place, durable_size, durable_laid_out};
 
     ghost shape = { shape_of Durable };
-
-    ghost word_of = { λ l. durable_word (shape_of Durable l) };
-
-    ghost place_at = { λ l. durable_place (shape_of Durable l) };
-
-    ghost size_of = { λ l. durable_size (shape_of Durable l) };
-
-    ghost laid_out = { λ l. durable_laid_out (shape_of Durable l) refl };
 
     fn size(&self) -> usize {
         let greatest = self.greatest();
@@ -140,7 +133,7 @@ impl Layout for DurableLayout {
     fn empty_answer(&self, token: Token) -> Write {
         Write {
             place: Place::Cell(token),
-            value: 1,
+            value: EMPTY_CELL,
         }
     }
 
@@ -148,7 +141,7 @@ impl Layout for DurableLayout {
         let _node = node;
         Write {
             place: Place::Cell(token),
-            value: value as u64 + 2,
+            value: value as u64 + GOT_CELL,
         }
     }
 }

@@ -5,10 +5,11 @@ ghost use Rattle.arena.specs.Shape.{greatest, shape_of};
 ghost use Rattle.arena.specs.Limits.{AreCounts};
 ghost use Rattle.arena.specs.Log.{log_node_place, entry_place as entry_place_at};
 
-use crate::layout::{Layout, MAX_CLIENTS, MAX_RECORDS, check_counts};
+use crate::codes::EMPTY_STATUS;
+use crate::layout::{Layout, check_counts};
 use crate::place::{Place, Write};
 use std::marker::Model;
-use words::{Client, Kind, NodeId, Refusal, Token};
+use words::{Client, Kind, MAX_CLIENTS, MAX_RECORD_NUMBER, NodeId, Refusal, Token};
 
 /// The words of a log queue.
 #[derive(Clone, Copy, Debug)]
@@ -31,7 +32,8 @@ impl Model for LogLayout {
 }
 
 impl LogLayout {
-    /// A layout for 1 to 16 clients with 1 to 4,096 records each.
+    /// A layout for 1 to [`MAX_CLIENTS`] clients with 1 to [`words::MAX_RECORDS`] records each. It is refused, in this
+    /// order, where the clients are none or more (BadClients), and where the records are (BadRecords).
     pub fn make(clients: u32, records: u32) -> Result<Self, Refusal>
         ensures ok { IsOk result ↔ AreCounts clients records }
         ensures made { IfOk result (λ l. l ≡ record { clients = clients; records = records }) }
@@ -45,7 +47,7 @@ impl LogLayout {
     /// The greatest number of a node.
     fn greatest(&self) -> usize
         ensures value { result ≡ greatest (shape_of Kind.Log self.now) }
-        ensures small { result ≤ 65536 }
+        ensures small { result ≤ MAX_RECORD_NUMBER }
         ensures counts { AreCounts self.now.clients self.now.records }
     {
         self.clients as usize * self.records as usize
@@ -76,21 +78,12 @@ fn entry_place(entry: Token, field: usize) -> Place
     }
 }
 
+#[tactic(auto, unfolding(crate::specs::Layout::word_at, crate::specs::Layout::place_at, crate::specs::Layout::size_of))]
 impl Layout for LogLayout {
-    ghost use Rattle.std.specs.Prelude.{refl};
     ghost use Rattle.words.specs.declared.call.Kind.TheVariants.{Log};
     ghost use Rattle.arena.specs.Shape.{shape_of};
-    ghost use Rattle.arena.specs.Log.{log_word, log_place, log_size, log_laid_out};
 
     ghost shape = { shape_of Log };
-
-    ghost word_of = { λ l. log_word (shape_of Log l) };
-
-    ghost place_at = { λ l. log_place (shape_of Log l) };
-
-    ghost size_of = { λ l. log_size (shape_of Log l) };
-
-    ghost laid_out = { λ l. log_laid_out (shape_of Log l) refl };
 
     fn size(&self) -> usize {
         let greatest = self.greatest();
@@ -159,7 +152,7 @@ impl Layout for LogLayout {
     fn empty_answer(&self, token: Token) -> Write {
         Write {
             place: Place::Status(token),
-            value: 2,
+            value: EMPTY_STATUS,
         }
     }
 

@@ -42,7 +42,7 @@ fn act(rng: &mut Pcg32, clients: usize, words: usize, number: u64, down: bool) -
     match below(rng, 64) {
         0 => Act::Crash,
         1..=4 => Act::Evict {
-            word: below(rng, words),
+            at: below(rng, words),
         },
         5..=14 => start(rng, client, number),
         15..=16 => Act::Recover,

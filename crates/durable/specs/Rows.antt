@@ -1,5 +1,6 @@
 -- What the clients of a durable queue are told.
 use Rattle.std.specs.Prelude.{ℕ, ◌-◌, List, ◌++◌, replicate, Option, Some, None}
+use Rattle.words.specs.declared.limits.TheConstants.{MAX_CLIENTS}
 use Rattle.words.specs.declared.told.Row.{Row}
 use Rattle.words.specs.declared.told.Row.TheVariants.{NoCall}
 use Rattle.words.specs.declared.told.Verdict.{Verdict}
@@ -8,7 +9,7 @@ use Rattle.words.specs.declared.told.Told.TheVariants.{None as told_none, Verdic
 
 -- each client that there is has called nothing yet
 abbrev pub no_calls : ℕ → List Told
-no_calls clients = replicate clients (told_row NoCall) ++ replicate (16 - clients) told_none
+no_calls clients = replicate clients (told_row NoCall) ++ replicate (MAX_CLIENTS - clients) told_none
 
 -- the row that a client is told
 abbrev pub row_of : Option Told → Row

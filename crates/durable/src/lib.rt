@@ -2,18 +2,15 @@
 #![tactic(auto)]
 
 ghost use Rattle.std.specs.Prelude.{◌≡◌, ◌≤◌, ◌<◌, slice_get};
-ghost use Rattle.helping.specs.Table.{begun_at};
 ghost use Rattle.durable.specs.Rows.{no_calls, row_of};
 
-pub use helping::Op;
 use std::marker::Model;
-use stepper::Begun;
-use words::{Client, Kind, Row, Told};
+use words::{Client, MAX_CLIENTS, Reports, Row, Told};
 
 /// What a durable queue tells its clients: at first what the base tells, then what the last recovery read.
 #[derive(Clone, Copy, Debug)]
 pub struct DurableQueue {
-    told: [Told; 16],
+    told: Reports,
 }
 
 impl Model for DurableQueue {
@@ -30,10 +27,10 @@ impl Model for DurableQueue {
 impl DurableQueue {
     /// A queue of so many clients, none of which has called.
     pub fn new(clients: u32) -> Self
-        requires { clients ≤ 16 }
+        requires { clients ≤ MAX_CLIENTS }
         ensures { result ≡ no_calls clients }
     {
-        let mut told = [Told::None; 16];
+        let mut told = [Told::None; MAX_CLIENTS];
         for client in 0..clients as usize {
             told[client] = Told::Row(Row::NoCall);
         }
@@ -41,14 +38,14 @@ impl DurableQueue {
     }
 
     /// A queue whose clients are told this.
-    pub fn recovered(told: [Told; 16]) -> Self
+    pub fn recovered(told: Reports) -> Self
         ensures { result ≡ told }
     {
         DurableQueue { told }
     }
 
     /// What each client is told.
-    pub fn told(&self) -> &[Told; 16]
+    pub fn told(&self) -> &Reports
         ensures { result.now ≡ self.now }
     {
         &self.told
@@ -62,12 +59,5 @@ impl DurableQueue {
             Some(Told::Row(row)) => *row,
             _ => Row::NoCall,
         }
-    }
-
-    /// Where a call begins that took its record.
-    pub fn begin(&self, begun: Begun) -> Op
-        ensures { result ≡ begun_at Kind.Durable begun }
-    {
-        Op::begin(Kind::Durable, begun)
     }
 }

@@ -1,15 +1,16 @@
 -- Some steps are the first and then the rest.
-use Rattle.std.proofs.Common.{◌⊎◌, inl, inr, ◌≡◌, ◌≢◌, refl, false, ℕ, suc, ◌<◌, ◌+◌, ◌-◌, sym, ap, ◌∙◌, arith, slice_index}
+use Rattle.std.proofs.Common.{[], ◌∷◌, ◌⊎◌, inl, inr, ◌≡◌, ◌≢◌, refl, false, ℕ, suc, ◌<◌, ◌+◌, ◌-◌, sym, ap, ◌∙◌, arith, slice_index}
 use Rattle.std.specs.Prelude.{Option, None, Some, Result, Ok, Err, OnOk, slice_get}
 use Rattle.words.specs.declared.call.Client.{Client}
 use Rattle.words.specs.declared.call.Reply.{Reply}
 use Rattle.words.specs.declared.refusal.Refusal.{Refusal}
 use Rattle.words.specs.declared.refusal.Refusal.TheVariants.{NoMemory}
 use Rattle.interleave.specs.Calls.{is_no_memory, waiting_result}
-use Rattle.interleave.specs.State.{State, Laid, is_down, step_result, step_result_with, step_with, after_step}
-use Rattle.explore.specs.Steps.{counted, call_counted}
-use Rattle.explore.specs.Transcript.{Play, stepped, play_then, text_then, after_steps, steps_text}
-use Rattle.explore.specs.Prints.{return_line, refused_line}
+use Rattle.interleave.specs.State.{State, is_down, step_result, step_result_with, step_with, after_step}
+use Rattle.explore.specs.Steps.{count_after, call_counted}
+use Rattle.explore.specs.Play.{Play, play_after_step, play_then, after_steps}
+use Rattle.explore.specs.Transcript.{lines_then, step_lines}
+use Rattle.explore.specs.declared.printed.Line.TheVariants.{Return, Refused}
 use Rattle.explore.specs.declared.steps.Steps.{Steps}
 
 -- a refusal that is not for want of memory
@@ -33,49 +34,80 @@ always_ok (Ok x) p = p
 always_ok (Err e) p = tt
 
 -- a refused step changes nothing
-by_waiting : {L : Type 0} (laid : Laid L) (w : State L) (client : Client) (u : Result _ Refusal) (refusal : Refusal) → step_result_with laid false w u ≡ Err refusal → step_with laid false w client u ≡ w
-by_waiting laid w client (Ok u) refusal is = absurd (cc)
-by_waiting laid w client (Err e) refusal is = refl
+by_waiting : (w : State) (client : Client) (u : Result _ Refusal) (refusal : Refusal)
+    → step_result_with false w u ≡ Err refusal → step_with false w client u ≡ w
+by_waiting w client (Ok u) refusal is = absurd (cc)
+by_waiting w client (Err e) refusal is = refl
 
-pub refused_same : {L : Type 0} (laid : Laid L) (w : State L) (client : Client) (refusal : Refusal) → step_result laid false w client ≡ Err refusal → after_step laid false w client ≡ w
-refused_same laid w client refusal is = by_waiting laid w client (waiting_result (is_down w) (slice_get w.calls client.0)) refusal is
+pub refused_same : (w : State) (client : Client) (refusal : Refusal) → step_result false w client ≡ Err refusal
+    → after_step false w client ≡ w
+refused_same w client refusal is =
+    by_waiting w client (waiting_result (is_down w) (slice_get w.calls client.0)) refusal is
 
 -- a step that answers is the last
-pub ends_answered : {L : Type 0} (laid : Laid L) (client : Client) (most done : ℕ) (play : Play L) (reply : Reply) → done < most → step_result laid false play.world client ≡ Ok (Some reply) → after_steps laid client (most - done) play ≡ stepped laid play client
-ends_answered laid client most done play reply more is =
+pub ends_answered : (client : Client) (most done : ℕ) (play : Play) (reply : Reply) → done < most
+    → step_result false play.world client ≡ Ok (Some reply)
+    → after_steps client (most - done) play ≡ play_after_step play client
+ends_answered client most done play reply more is =
     let left : most - done ≡ suc (most - (done + 1)) = omega arith in
-    ap (λ n. after_steps laid client n play) left ∙ ap (λ (r : Result (Option Reply) Refusal). play_then r (after_steps laid client (most - (done + 1)) (stepped laid play client)) (stepped laid play client) play) is
+    ap (λ n. after_steps client n play) left
+    ∙ ap (λ (r : Result (Option Reply) Refusal).
+    play_then r (after_steps client (most - (done + 1)) (play_after_step play client)) (play_after_step play client) play) is
 
-pub prints_answered : {L : Type 0} (laid : Laid L) (client : Client) (most done : ℕ) (play : Play L) (reply : Reply) → done < most → step_result laid false play.world client ≡ Ok (Some reply) → steps_text laid client (most - done) play ≡ return_line client reply (counted 1 (slice_index play.steps.calls client.0))
-prints_answered laid client most done play reply more is =
+pub gives_answered : (client : Client) (most done : ℕ) (play : Play) (reply : Reply) → done < most
+    → step_result false play.world client ≡ Ok (Some reply)
+    → step_lines client (most - done) play
+    ≡ Return client reply (count_after 1 (slice_index play.steps.calls client.0)) ∷ []
+gives_answered client most done play reply more is =
     let left : most - done ≡ suc (most - (done + 1)) = omega arith in
-    ap (λ n. steps_text laid client n play) left ∙ ap (λ (r : Result (Option Reply) Refusal). text_then client (counted 1 (slice_index play.steps.calls client.0)) r (steps_text laid client (most - (done + 1)) (stepped laid play client))) is
+    ap (λ n. step_lines client n play) left
+    ∙ ap (λ (r : Result (Option Reply) Refusal).
+    lines_then client (count_after 1 (slice_index play.steps.calls client.0)) r
+    (step_lines client (most - (done + 1)) (play_after_step play client))) is
 
 -- and so is one that is refused
-pub ends_refused : {L : Type 0} (laid : Laid L) (client : Client) (most done : ℕ) (play : Play L) (refusal : Refusal) → done < most → step_result laid false play.world client ≡ Err refusal → after_steps laid client (most - done) play ≡ play
-ends_refused laid client most done play refusal more is =
+pub ends_refused : (client : Client) (most done : ℕ) (play : Play) (refusal : Refusal) → done < most
+    → step_result false play.world client ≡ Err refusal → after_steps client (most - done) play ≡ play
+ends_refused client most done play refusal more is =
     let left : most - done ≡ suc (most - (done + 1)) = omega arith in
-    ap (λ n. after_steps laid client n play) left ∙ ap (λ (r : Result (Option Reply) Refusal). play_then r (after_steps laid client (most - (done + 1)) (stepped laid play client)) (stepped laid play client) play) is
+    ap (λ n. after_steps client n play) left
+    ∙ ap (λ (r : Result (Option Reply) Refusal).
+    play_then r (after_steps client (most - (done + 1)) (play_after_step play client)) (play_after_step play client) play) is
 
-pub prints_refused : {L : Type 0} (laid : Laid L) (client : Client) (most done : ℕ) (play : Play L) (refusal : Refusal) → done < most → step_result laid false play.world client ≡ Err refusal → steps_text laid client (most - done) play ≡ refused_line refusal
-prints_refused laid client most done play refusal more is =
+pub gives_refused : (client : Client) (most done : ℕ) (play : Play) (refusal : Refusal) → done < most
+    → step_result false play.world client ≡ Err refusal → step_lines client (most - done) play ≡ Refused refusal ∷ []
+gives_refused client most done play refusal more is =
     let left : most - done ≡ suc (most - (done + 1)) = omega arith in
-    ap (λ n. steps_text laid client n play) left ∙ ap (λ (r : Result (Option Reply) Refusal). text_then client (counted 1 (slice_index play.steps.calls client.0)) r (steps_text laid client (most - (done + 1)) (stepped laid play client))) is
+    ap (λ n. step_lines client n play) left
+    ∙ ap (λ (r : Result (Option Reply) Refusal).
+    lines_then client (count_after 1 (slice_index play.steps.calls client.0)) r
+    (step_lines client (most - (done + 1)) (play_after_step play client))) is
 
 -- a step, by what it leaves and what it counts
-pub one_step : {L : Type 0} (laid : Laid L) (client : Client) (play : Play L) (world : State L) (steps : Steps) → world ≡ after_step laid false play.world client → steps ≡ call_counted 1 client play.steps → record { world = world; steps = steps } ≡ stepped laid play client
-one_step laid client play world steps left count = cc
+pub one_step : (client : Client) (play : Play) (world : State) (steps : Steps)
+    → world ≡ after_step false play.world client → steps ≡ call_counted 1 client play.steps
+    → record { world = world; steps = steps } ≡ play_after_step play client
+one_step client play world steps left count = cc
 
 -- after a step that does not answer, the steps that are left lead where they did with it
-pub leads_on : {L : Type 0} (laid : Laid L) (client : Client) (most done : ℕ) (play next : Play L) → done < most → step_result laid false play.world client ≡ Ok None → next ≡ stepped laid play client → after_steps laid client (most - (done + 1)) next ≡ after_steps laid client (most - done) play
-leads_on laid client most done play next more going same =
+pub leads_on : (client : Client) (most done : ℕ) (play next : Play) → done < most
+    → step_result false play.world client ≡ Ok None → next ≡ play_after_step play client
+    → after_steps client (most - (done + 1)) next ≡ after_steps client (most - done) play
+leads_on client most done play next more going same =
     let left : most - done ≡ suc (most - (done + 1)) = omega arith in
-    ap (λ p. after_steps laid client (most - (done + 1)) p) same
-    ∙ sym (ap (λ n. after_steps laid client n play) left ∙ ap (λ (r : Result (Option Reply) Refusal). play_then r (after_steps laid client (most - (done + 1)) (stepped laid play client)) (stepped laid play client) play) going)
+    ap (λ p. after_steps client (most - (done + 1)) p) same
+    ∙ sym (ap (λ n. after_steps client n play) left
+    ∙ ap (λ (r : Result (Option Reply) Refusal).
+    play_then r (after_steps client (most - (done + 1)) (play_after_step play client)) (play_after_step play client) play) going)
 
--- and print the same
-pub prints_on : {L : Type 0} (laid : Laid L) (client : Client) (most done : ℕ) (play next : Play L) → done < most → step_result laid false play.world client ≡ Ok None → next ≡ stepped laid play client → steps_text laid client (most - (done + 1)) next ≡ steps_text laid client (most - done) play
-prints_on laid client most done play next more going same =
+-- and give the same lines
+pub gives_on : (client : Client) (most done : ℕ) (play next : Play) → done < most
+    → step_result false play.world client ≡ Ok None → next ≡ play_after_step play client
+    → step_lines client (most - (done + 1)) next ≡ step_lines client (most - done) play
+gives_on client most done play next more going same =
     let left : most - done ≡ suc (most - (done + 1)) = omega arith in
-    ap (λ p. steps_text laid client (most - (done + 1)) p) same
-    ∙ sym (ap (λ n. steps_text laid client n play) left ∙ ap (λ (r : Result (Option Reply) Refusal). text_then client (counted 1 (slice_index play.steps.calls client.0)) r (steps_text laid client (most - (done + 1)) (stepped laid play client))) going)
+    ap (λ p. step_lines client (most - (done + 1)) p) same
+    ∙ sym (ap (λ n. step_lines client n play) left
+    ∙ ap (λ (r : Result (Option Reply) Refusal).
+    lines_then client (count_after 1 (slice_index play.steps.calls client.0)) r
+    (step_lines client (most - (done + 1)) (play_after_step play client))) going)

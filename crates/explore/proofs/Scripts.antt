@@ -9,6 +9,7 @@ use Rattle.words.specs.declared.call.Kind.TheVariants.{Durable, Log}
 use Rattle.explore.specs.Grammar.{queue_words, kind_word, command_words, is_on, IsServed, SaysQueue, SaysCommand}
 use Rattle.explore.specs.Script.{Says, Continues, EndsBadly, IsFirstBad}
 use Rattle.std.proofs.lemmas.Bool.{not-false}
+use Rattle.explore.specs.declared.limits.TheConstants.{MAX_LINES}
 use Rattle.explore.specs.declared.command.Command.{Command}
 use Rattle.explore.specs.declared.command.QueueLine.{QueueLine}
 
@@ -21,10 +22,10 @@ told_same : (lines : List (List ℕ)) (line : List ℕ) → is_told line ≡ fal
 told_same lines line told =
     ap (map words_of) (filter-append is_told lines (line ∷ []) ∙ ap (λ (b : Bool). filter is_told lines ++ cond b (line ∷ []) []) told ∙ append-nil (filter is_told lines))
 
-one_more : (lines : List (List ℕ)) (line : List ℕ) → length lines < 1000 → length (lines ++ line ∷ []) ≤ 1000
+one_more : (lines : List (List ℕ)) (line : List ℕ) → length lines < MAX_LINES → length (lines ++ line ∷ []) ≤ MAX_LINES
 one_more lines line few = omega (arith, length-append lines (line ∷ []))
 
-pub says_skip : (lines : List (List ℕ)) (line : List ℕ) (queue : Option QueueLine) (commands : List Command) → Says lines queue commands → length lines < 1000 → is_told line ≡ false → Says (lines ++ line ∷ []) queue commands
+pub says_skip : (lines : List (List ℕ)) (line : List ℕ) (queue : Option QueueLine) (commands : List Command) → Says lines queue commands → length lines < MAX_LINES → is_told line ≡ false → Says (lines ++ line ∷ []) queue commands
 says_skip lines line queue commands says few told = record {
   few = one_more lines line few;
   words = told_same lines line told ∙ says.words;
@@ -34,7 +35,7 @@ says_skip lines line queue commands says few told = record {
   of_kind = says.of_kind;
 }
 
-pub says_queue : (lines : List (List ℕ)) (line : List ℕ) (queue : QueueLine) (commands : List Command) → Says lines None commands → length lines < 1000 → is_told line ≡ true → SaysQueue line queue → Says (lines ++ line ∷ []) (Some queue) commands
+pub says_queue : (lines : List (List ℕ)) (line : List ℕ) (queue : QueueLine) (commands : List Command) → Says lines None commands → length lines < MAX_LINES → is_told line ≡ true → SaysQueue line queue → Says (lines ++ line ∷ []) (Some queue) commands
 says_queue lines line queue commands says few told line_says =
     let none : commands ≡ [] = says.queue_first refl in
     record {
@@ -50,7 +51,7 @@ says_queue lines line queue commands says few told line_says =
       of_kind = subst (All (λ command. is_on queue.kind command ≡ true)) (sym none) (All-nil (λ command. is_on queue.kind command ≡ true));
     }
 
-pub says_command : (lines : List (List ℕ)) (line : List ℕ) (queue : QueueLine) (commands : List Command) (command : Command) → Says lines (Some queue) commands → length lines < 1000 → is_told line ≡ true → SaysCommand line command → is_on queue.kind command ≡ true → Says (lines ++ line ∷ []) (Some queue) (commands ++ command ∷ [])
+pub says_command : (lines : List (List ℕ)) (line : List ℕ) (queue : QueueLine) (commands : List Command) (command : Command) → Says lines (Some queue) commands → length lines < MAX_LINES → is_told line ≡ true → SaysCommand line command → is_on queue.kind command ≡ true → Says (lines ++ line ∷ []) (Some queue) (commands ++ command ∷ [])
 says_command lines line queue commands command says few told line_says on = record {
   few = one_more lines line few;
   words =
@@ -103,8 +104,8 @@ bad_later lines line first commands says told never (Some queue) more bad =
     let words : kind_word queue.kind ≡ kind_word first.kind = cc in
     never last.0 (record { words = last.1; served = last.2 }) (ap (λ k. is_on k last.0) (same_kind first.kind queue.kind (sym words)) ∙ last.3)
 
--- there is no line past the 1,000th
-pub too_many : (lines : List (List ℕ)) (line : List ℕ) (queue : Option QueueLine) (commands : List Command) → 1000 ≤ length lines → Says (lines ++ line ∷ []) queue commands → ⊥
+-- there is no line past the last allowed
+pub too_many : (lines : List (List ℕ)) (line : List ℕ) (queue : Option QueueLine) (commands : List Command) → MAX_LINES ≤ length lines → Says (lines ++ line ∷ []) queue commands → ⊥
 too_many lines line queue commands many says = let few = says.few in omega (arith, few, length-append lines (line ∷ []))
 
 -- once there is a queue, a line that is no command's of its kind ends badly
@@ -116,7 +117,7 @@ next_lines : (lines : List (List ℕ)) (k : ℕ) (line : List ℕ) → (k < leng
 next_lines lines k line turn = take_more lines k line turn.0 ∙ ap (λ (l : List ℕ). take k lines ++ l ∷ []) (sym turn.1)
 
 -- a good line
-pub goes_on : (lines : List (List ℕ)) (k : ℕ) (line : List ℕ) → (k < length lines) × (line ≡ get_or lines k line) → k < 1000 → (queue new_queue : Option QueueLine) (commands new_commands : List Command) → Says (take k lines) queue commands → Continues queue commands line new_queue new_commands → Says (take (k + 1) lines) new_queue new_commands
+pub goes_on : (lines : List (List ℕ)) (k : ℕ) (line : List ℕ) → (k < length lines) × (line ≡ get_or lines k line) → k < MAX_LINES → (queue new_queue : Option QueueLine) (commands new_commands : List Command) → Says (take k lines) queue commands → Continues queue commands line new_queue new_commands → Says (take (k + 1) lines) new_queue new_commands
 goes_on lines k line turn few queue new_queue commands new_commands says continues =
     let here = turn.0 in
     subst (λ (ls : List (List ℕ)). Says ls new_queue new_commands) (sym (next_lines lines k line turn)) (continues (take k lines) says (omega (arith, length-take k lines)))
@@ -133,8 +134,8 @@ stops lines k line turn queue commands says ends =
       bad = λ other more bad. ends (take k lines) says other more (subst (λ (ls : List (List ℕ)). Says ls other more) (next_lines lines k line turn) bad);
     }
 
--- the 1,001st line
-pub stops_past : (lines : List (List ℕ)) (k : ℕ) (line : List ℕ) → (k < length lines) × (line ≡ get_or lines k line) → 1000 ≤ k → (queue : Option QueueLine) (commands : List Command) → Says (take k lines) queue commands → IsFirstBad lines (k + 1)
+-- a line past the last allowed
+pub stops_past : (lines : List (List ℕ)) (k : ℕ) (line : List ℕ) → (k < length lines) × (line ≡ get_or lines k line) → MAX_LINES ≤ k → (queue : Option QueueLine) (commands : List Command) → Says (take k lines) queue commands → IsFirstBad lines (k + 1)
 stops_past lines k line turn many queue commands says =
     let here = turn.0 in
     let before : k ≡ k + 1 - 1 = omega arith in

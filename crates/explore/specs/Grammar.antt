@@ -4,6 +4,8 @@ use Rattle.explore.specs.Lines.{words_of}
 use Rattle.arena.specs.Limits.{AreCounts}
 use Rattle.words.specs.declared.call.Kind.{Kind}
 use Rattle.words.specs.declared.call.Kind.TheVariants.{Durable, Log}
+use Rattle.words.specs.declared.limits.TheConstants.{MAX_VALUE}
+use Rattle.explore.specs.declared.limits.TheConstants.{MAX_CLIENT_NUMBER, MAX_STEPS}
 use Rattle.explore.specs.declared.command.Command.{Command}
 use Rattle.explore.specs.declared.command.Command.TheVariants.{Enq, NumberedEnq, Deq, NumberedDeq, Step, End, Evict, Crash, Recover, RecoverBy, Content, Order}
 use Rattle.explore.specs.declared.command.QueueLine.{QueueLine}
@@ -16,7 +18,8 @@ kind_word Log = codes "log"
 abbrev pub queue_words : QueueLine → List (List ℕ)
 queue_words queue = codes "queue" ∷ kind_word queue.kind ∷ decimal queue.clients ∷ decimal queue.records ∷ []
 
--- `enq C V`, `enq C N V`, `deq C`, `deq C N`, `step C M`, `end C`, `evict W`, `crash`, `recover`, `recover M`, `content`, `order`
+-- `enq C V`, `enq C N V`, `deq C`, `deq C N`, `step C M`, `end C`, `evict W`, `crash`, `recover`, `recover M`,
+-- `content`, `order`
 abbrev pub command_words : Command → List (List ℕ)
 command_words (Enq client value) = codes "enq" ∷ decimal client.0 ∷ decimal value ∷ []
 command_words (NumberedEnq client number value) = codes "enq" ∷ decimal client.0 ∷ decimal number ∷ decimal value ∷ []
@@ -31,22 +34,23 @@ command_words (RecoverBy most) = codes "recover" ∷ decimal most ∷ []
 command_words Content = codes "content" ∷ []
 command_words Order = codes "order" ∷ []
 
--- a queue of 1 to 16 clients with 1 to 4,096 records each
+-- a queue has some clients, and each of them some records, no more than the most
 abbrev pub IsServedQueue : QueueLine → Type 0
 IsServedQueue queue = AreCounts queue.clients queue.records
 
--- a client's number is one byte, a value has 32 bits, a call's number and a word's have 64, and a line asks for 1 to 1,000 steps
+-- a client's number is one byte, a value has 32 bits, a call's number and a word's have 64, and a line asks for
+-- some steps, not too many
 abbrev pub IsServed : Command → Type 0
-IsServed (Enq client value) = (client.0 ≤ 255) × (value ≤ 4294967295)
-IsServed (NumberedEnq client number value) = (client.0 ≤ 255) × (number < 2 ^ 64) × (value ≤ 4294967295)
-IsServed (Deq client) = client.0 ≤ 255
-IsServed (NumberedDeq client number) = (client.0 ≤ 255) × (number < 2 ^ 64)
-IsServed (Step client most) = (client.0 ≤ 255) × (1 ≤ most) × (most ≤ 1000)
-IsServed (End client) = client.0 ≤ 255
+IsServed (Enq client value) = (client.0 ≤ MAX_CLIENT_NUMBER) × (value ≤ MAX_VALUE)
+IsServed (NumberedEnq client number value) = (client.0 ≤ MAX_CLIENT_NUMBER) × (number < 2 ^ 64) × (value ≤ MAX_VALUE)
+IsServed (Deq client) = client.0 ≤ MAX_CLIENT_NUMBER
+IsServed (NumberedDeq client number) = (client.0 ≤ MAX_CLIENT_NUMBER) × (number < 2 ^ 64)
+IsServed (Step client most) = (client.0 ≤ MAX_CLIENT_NUMBER) × (1 ≤ most) × (most ≤ MAX_STEPS)
+IsServed (End client) = client.0 ≤ MAX_CLIENT_NUMBER
 IsServed (Evict word) = word < 2 ^ 64
 IsServed Crash = Unit {0}
 IsServed Recover = Unit {0}
-IsServed (RecoverBy most) = (1 ≤ most) × (most ≤ 1000)
+IsServed (RecoverBy most) = (1 ≤ most) × (most ≤ MAX_STEPS)
 IsServed Content = Unit {0}
 IsServed Order = Unit {0}
 

@@ -5,5 +5,6 @@ pub mod Rows
 pub mod Script
 pub mod Prints
 pub mod Steps
+pub mod Play
 pub mod Transcript
 pub mod Run

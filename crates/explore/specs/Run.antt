@@ -5,7 +5,7 @@ use Rattle.words.specs.declared.refusal.Refusal.{Refusal}
 use Rattle.words.specs.declared.refusal.Refusal.TheVariants.{BadLine, WriteFailed}
 use Rattle.explore.specs.Lines.{lines_of}
 use Rattle.explore.specs.Script.{Says, IsFirstBad}
-use Rattle.explore.specs.Transcript.{script_prints}
+use Rattle.explore.specs.Transcript.{script_text}
 use Rattle.explore.specs.declared.command.Command.{Command}
 use Rattle.explore.specs.declared.command.QueueLine.{QueueLine}
 
@@ -13,11 +13,13 @@ use Rattle.explore.specs.declared.command.QueueLine.{QueueLine}
 abbrev pub Prints : Option (List ℕ) → Option (List ℕ) → Option (List ℕ) → Type 0
 Prints None old new = Unit {0}
 Prints (Some text) old new =
-    (queue : Option QueueLine) × (commands : List Command) × Says (lines_of text) queue commands × Appends old new (script_prints queue commands)
+    (queue : Option QueueLine) × (commands : List Command)
+    × Says (lines_of text) queue commands × Appends old new (script_text queue commands)
 
 -- a line that is called bad is the first bad one of the bytes to read
 abbrev pub NamesBadLine : Option (List ℕ) → Refusal → Type 0
-NamesBadLine input refusal = (number : ℕ) → refusal ≡ BadLine number → IfSome input (λ text. IsFirstBad (lines_of text) number)
+NamesBadLine input refusal =
+    (number : ℕ) → refusal ≡ BadLine number → IfSome input (λ text. IsFirstBad (lines_of text) number)
 
 -- nothing was written, unless the writing failed
 abbrev pub WritesNothing : Option (List ℕ) → Option (List ℕ) → Refusal → Type 0

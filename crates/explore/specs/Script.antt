@@ -2,6 +2,7 @@
 use Rattle.std.specs.Prelude.{◌≡◌, ◌≤◌, ◌<◌, ℕ, ◌-◌, List, [], ◌∷◌, ◌++◌, Option, Some, None, true, IfSome, length, map, take, filter, All}
 use Rattle.explore.specs.Lines.{words_of, is_told}
 use Rattle.explore.specs.Grammar.{queue_words, command_words, IsServedQueue, IsServed, is_on}
+use Rattle.explore.specs.declared.limits.TheConstants.{MAX_LINES}
 use Rattle.explore.specs.declared.command.Command.{Command}
 use Rattle.explore.specs.declared.command.QueueLine.{QueueLine}
 
@@ -10,9 +11,10 @@ abbrev pub script_words : Option QueueLine → List Command → List (List (List
 script_words None commands = map command_words commands
 script_words (Some queue) commands = queue_words queue ∷ map command_words commands
 
--- these lines say this script: at most 1,000 lines, and those that aren't skipped are its queue's line, if it has one, and then its commands'
+-- these lines say this script: not too many lines, and those that aren't skipped are its queue's line, if it has one,
+-- and then its commands'
 pub record Says (lines : List (List ℕ)) (queue : Option QueueLine) (commands : List Command) : Type 0 where
-  pub few : length lines ≤ 1000
+  pub few : length lines ≤ MAX_LINES
   pub words : map words_of (filter is_told lines) ≡ script_words queue commands
   pub queue_first : queue ≡ None → commands ≡ []
   pub queue_served : IfSome queue IsServedQueue
@@ -29,9 +31,11 @@ pub record IsFirstBad (lines : List (List ℕ)) (number : ℕ) : Type 0 where
 -- whatever lines said the script so far, they say the new one with this line
 abbrev pub Continues : Option QueueLine → List Command → List ℕ → Option QueueLine → List Command → Type 0
 Continues queue commands line new_queue new_commands =
-    (lines : List (List ℕ)) → Says lines queue commands → length lines < 1000 → Says (lines ++ line ∷ []) new_queue new_commands
+    (lines : List (List ℕ)) → Says lines queue commands → length lines < MAX_LINES
+    → Says (lines ++ line ∷ []) new_queue new_commands
 
 -- whatever lines said the script so far, they say none with this line
 abbrev pub EndsBadly : Option QueueLine → List Command → List ℕ → Type 0
 EndsBadly queue commands line =
-    (lines : List (List ℕ)) → Says lines queue commands → (other : Option QueueLine) (more : List Command) → Says (lines ++ line ∷ []) other more → ⊥
+    (lines : List (List ℕ)) → Says lines queue commands
+    → (other : Option QueueLine) (more : List Command) → Says (lines ++ line ∷ []) other more → ⊥

@@ -1,5 +1,6 @@
 //! What the lines of a script say.
 
+use std::fmt;
 use words::{Client, Kind};
 
 /// The first line of a script: the queue that it is about.
@@ -58,6 +59,35 @@ pub enum Command {
     Content,
     /// Show in which order the calls took effect.
     Order,
+}
+
+/// As a script spells it: `enq 0 5`.
+impl fmt::Display for Command {
+    ghost use Rattle.std.specs.Prelude.{Some};
+    ghost use Rattle.explore.specs.Prints.{command_text};
+
+    ghost output = { λ command. Some (command_text command) };
+
+    fn fmt<W: fmt::Write>(&self, f: &mut fmt::Formatter<W>) -> fmt::Result {
+        match *self {
+            Command::Enq { client, value } => write!(f, "enq {} {value}", client.0),
+            Command::NumberedEnq {
+                client,
+                number,
+                value,
+            } => write!(f, "enq {} {number} {value}", client.0),
+            Command::Deq { client } => write!(f, "deq {}", client.0),
+            Command::NumberedDeq { client, number } => write!(f, "deq {} {number}", client.0),
+            Command::Step { client, most } => write!(f, "step {} {most}", client.0),
+            Command::End { client } => write!(f, "end {}", client.0),
+            Command::Evict { word } => write!(f, "evict {word}"),
+            Command::Crash => write!(f, "crash"),
+            Command::Recover => write!(f, "recover"),
+            Command::RecoverBy { most } => write!(f, "recover {most}"),
+            Command::Content => write!(f, "content"),
+            Command::Order => write!(f, "order"),
+        }
+    }
 }
 
 /// A script: no queue and nothing to do, or a queue and the commands on it, in order.

@@ -10,9 +10,9 @@ ghost use Rattle.explore.specs.declared.command.Command.{Command};
 ghost use Rattle.explore.specs.declared.command.QueueLine.{QueueLine};
 
 use crate::command::{Command, QueueLine};
+use crate::limits::{MAX_CLIENT_NUMBER, MAX_STEPS};
 use crate::line::{Limits, after_name, is_name, one_number, three_numbers, two_numbers};
-use arena::{MAX_CLIENTS, MAX_RECORDS};
-use words::{Client, Kind};
+use words::{Client, Kind, MAX_CLIENTS, MAX_RECORDS, MAX_VALUE};
 
 const CLIENTS: Limits = Limits {
     least: 1,
@@ -26,12 +26,12 @@ const RECORDS: Limits = Limits {
 
 const CLIENT: Limits = Limits {
     least: 0,
-    most: 255,
+    most: MAX_CLIENT_NUMBER as u64,
 };
 
 const VALUE: Limits = Limits {
     least: 0,
-    most: 4_294_967_295,
+    most: MAX_VALUE as u64,
 };
 
 /// The number of a call, or of a word.
@@ -42,12 +42,14 @@ const NUMBER: Limits = Limits {
 
 const STEPS: Limits = Limits {
     least: 1,
-    most: 1_000,
+    most: MAX_STEPS as u64,
 };
 
 /// The kind of a queue, and what follows it.
 fn kind(text: &[u8]) -> Option<(Kind, &[u8])>
-    ensures { MatchOption result ((kind : Kind) (rest : List (List ℕ)) → words_of text.now ≡ kind_word kind ∷ rest → rest ≡ []) (λ r. words_of text.now ≡ kind_word r.0 ∷ words_of r.1.now) }
+    ensures { MatchOption result
+        ((kind : Kind) (rest : List (List ℕ)) → words_of text.now ≡ kind_word kind ∷ rest → rest ≡ [])
+        (λ r. words_of text.now ≡ kind_word r.0 ∷ words_of r.1.now) }
 {
     if let Some(rest) = after_name(text, b"durable") {
         return Some((Kind::Durable, rest));
@@ -70,7 +72,8 @@ pub(crate) fn queue_line(line: &[u8]) -> Option<QueueLine>
 
 /// `enq C V`
 fn enq(line: &[u8]) -> Option<Command>
-    ensures { MatchOption result ((client : Client) (value : ℕ) → SaysCommand line.now (Command.Enq client value) → ⊥) (SaysCommand line.now) }
+    ensures { MatchOption result ((client : Client) (value : ℕ) → SaysCommand line.now (Command.Enq client value) → ⊥)
+        (SaysCommand line.now) }
 {
     let numbers = after_name(line, b"enq")?;
     let (client, value) = two_numbers(numbers, CLIENT, VALUE)?;
@@ -82,7 +85,9 @@ fn enq(line: &[u8]) -> Option<Command>
 
 /// `enq C N V`
 fn numbered_enq(line: &[u8]) -> Option<Command>
-    ensures { MatchOption result ((client : Client) (number : ℕ) (value : ℕ) → SaysCommand line.now (Command.NumberedEnq client number value) → ⊥) (SaysCommand line.now) }
+    ensures { MatchOption result
+        ((client : Client) (number value : ℕ) → SaysCommand line.now (Command.NumberedEnq client number value) → ⊥)
+        (SaysCommand line.now) }
 {
     let numbers = after_name(line, b"enq")?;
     let (client, number, value) = three_numbers(numbers, CLIENT, NUMBER, VALUE)?;
@@ -95,7 +100,8 @@ fn numbered_enq(line: &[u8]) -> Option<Command>
 
 /// `deq C`
 fn deq(line: &[u8]) -> Option<Command>
-    ensures { MatchOption result ((client : Client) → SaysCommand line.now (Command.Deq client) → ⊥) (SaysCommand line.now) }
+    ensures { MatchOption result ((client : Client) → SaysCommand line.now (Command.Deq client) → ⊥)
+        (SaysCommand line.now) }
 {
     let numbers = after_name(line, b"deq")?;
     let client = one_number(numbers, CLIENT)?;
@@ -106,7 +112,9 @@ fn deq(line: &[u8]) -> Option<Command>
 
 /// `deq C N`
 fn numbered_deq(line: &[u8]) -> Option<Command>
-    ensures { MatchOption result ((client : Client) (number : ℕ) → SaysCommand line.now (Command.NumberedDeq client number) → ⊥) (SaysCommand line.now) }
+    ensures { MatchOption result
+        ((client : Client) (number : ℕ) → SaysCommand line.now (Command.NumberedDeq client number) → ⊥)
+        (SaysCommand line.now) }
 {
     let numbers = after_name(line, b"deq")?;
     let (client, number) = two_numbers(numbers, CLIENT, NUMBER)?;
@@ -118,7 +126,8 @@ fn numbered_deq(line: &[u8]) -> Option<Command>
 
 /// `step C M`
 fn step(line: &[u8]) -> Option<Command>
-    ensures { MatchOption result ((client : Client) (most : ℕ) → SaysCommand line.now (Command.Step client most) → ⊥) (SaysCommand line.now) }
+    ensures { MatchOption result ((client : Client) (most : ℕ) → SaysCommand line.now (Command.Step client most) → ⊥)
+        (SaysCommand line.now) }
 {
     let numbers = after_name(line, b"step")?;
     let (client, most) = two_numbers(numbers, CLIENT, STEPS)?;
@@ -130,7 +139,8 @@ fn step(line: &[u8]) -> Option<Command>
 
 /// `end C`
 fn end(line: &[u8]) -> Option<Command>
-    ensures { MatchOption result ((client : Client) → SaysCommand line.now (Command.End client) → ⊥) (SaysCommand line.now) }
+    ensures { MatchOption result ((client : Client) → SaysCommand line.now (Command.End client) → ⊥)
+        (SaysCommand line.now) }
 {
     let numbers = after_name(line, b"end")?;
     let client = one_number(numbers, CLIENT)?;
@@ -172,7 +182,8 @@ fn recover(line: &[u8]) -> Option<Command>
 
 /// `recover M`
 fn recover_by(line: &[u8]) -> Option<Command>
-    ensures { MatchOption result ((most : ℕ) → SaysCommand line.now (Command.RecoverBy most) → ⊥) (SaysCommand line.now) }
+    ensures { MatchOption result ((most : ℕ) → SaysCommand line.now (Command.RecoverBy most) → ⊥)
+        (SaysCommand line.now) }
 {
     let numbers = after_name(line, b"recover")?;
     let most = one_number(numbers, STEPS)?;

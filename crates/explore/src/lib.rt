@@ -4,16 +4,19 @@
 mod command;
 mod grammar;
 mod laws;
+mod limits;
 mod line;
 mod ordered;
 mod parse;
 mod play;
+mod player;
+mod printed;
 mod running;
 mod steps;
-mod text;
 
 pub use command::{Command, QueueLine, Script};
 pub use laws::one_script_a_text;
-pub use parse::{MAX_LINES, parse_script};
+pub use limits::{MAX_CLIENT_NUMBER, MAX_LINES, MAX_STEPS};
+pub use parse::parse_script;
 pub use play::transcript;
 pub use running::run;

@@ -40,7 +40,8 @@ pub(crate) struct Limits {
 
 /// A number within limits.
 fn number_within(word: &[u8], limits: Limits) -> Option<u64>
-    ensures { MatchOption result ((n : ℕ) → IsWithin limits n → word.now ≢ decimal n) (λ n. (word.now ≡ decimal n) × IsWithin limits n) }
+    ensures { MatchOption result ((n : ℕ) → IsWithin limits n → word.now ≢ decimal n)
+        (λ n. (word.now ≡ decimal n) × IsWithin limits n) }
 {
     let n = number(word)?;
     if n < limits.least || n > limits.most {
@@ -58,7 +59,8 @@ fn first_space(text: &[u8]) -> Option<usize>
 
 /// The first word of a text, and what follows the space after it.
 fn first_word(text: &[u8]) -> (&[u8], Option<&[u8]>)
-    ensures { MatchOption result.1 (words_of text.now ≡ result.0.now ∷ []) (λ rest. words_of text.now ≡ result.0.now ∷ words_of rest.now) }
+    ensures { MatchOption result.1 (words_of text.now ≡ result.0.now ∷ [])
+        (λ rest. words_of text.now ≡ result.0.now ∷ words_of rest.now) }
 {
     match first_space(text) {
         None => (text, None),
@@ -68,7 +70,8 @@ fn first_word(text: &[u8]) -> (&[u8], Option<&[u8]>)
 
 /// What follows a name and one space.
 pub(crate) fn after_name<'a>(line: &'a [u8], name: &[u8]) -> Option<&'a [u8]>
-    ensures { MatchOption result ((rest : List (List ℕ)) → words_of line.now ≡ name.now ∷ rest → rest ≡ []) (λ rest. words_of line.now ≡ name.now ∷ words_of rest.now) }
+    ensures { MatchOption result ((rest : List (List ℕ)) → words_of line.now ≡ name.now ∷ rest → rest ≡ [])
+        (λ rest. words_of line.now ≡ name.now ∷ words_of rest.now) }
 {
     let (word, rest) = first_word(line);
     if word == name { rest } else { None }
@@ -76,7 +79,8 @@ pub(crate) fn after_name<'a>(line: &'a [u8], name: &[u8]) -> Option<&'a [u8]>
 
 /// The number that is all of a text.
 pub(crate) fn one_number(text: &[u8], limits: Limits) -> Option<u64>
-    ensures { MatchOption result ((n : ℕ) → IsWithin limits n → words_of text.now ≢ decimal n ∷ []) (λ n. (words_of text.now ≡ decimal n ∷ []) × IsWithin limits n) }
+    ensures { MatchOption result ((n : ℕ) → IsWithin limits n → words_of text.now ≢ decimal n ∷ [])
+        (λ n. (words_of text.now ≡ decimal n ∷ []) × IsWithin limits n) }
 {
     let (word, rest) = first_word(text);
     if rest.is_some() {
@@ -87,7 +91,9 @@ pub(crate) fn one_number(text: &[u8], limits: Limits) -> Option<u64>
 
 /// The two numbers that are all of a text.
 pub(crate) fn two_numbers(text: &[u8], first: Limits, second: Limits) -> Option<(u64, u64)>
-    ensures { MatchOption result ((m n : ℕ) → IsWithin first m → IsWithin second n → words_of text.now ≢ decimal m ∷ decimal n ∷ []) (λ r. (words_of text.now ≡ decimal r.0 ∷ decimal r.1 ∷ []) × IsWithin first r.0 × IsWithin second r.1) }
+    ensures { MatchOption result
+        ((m n : ℕ) → IsWithin first m → IsWithin second n → words_of text.now ≢ decimal m ∷ decimal n ∷ [])
+        (λ r. (words_of text.now ≡ decimal r.0 ∷ decimal r.1 ∷ []) × IsWithin first r.0 × IsWithin second r.1) }
 {
     let (word, rest) = first_word(text);
     let m = number_within(word, first)?;
@@ -112,7 +118,11 @@ pub(crate) fn three_numbers(
     second: Limits,
     third: Limits,
 ) -> Option<(u64, u64, u64)>
-    ensures { MatchOption result ((k m n : ℕ) → IsWithin first k → IsWithin second m → IsWithin third n → words_of text.now ≢ decimal k ∷ decimal m ∷ decimal n ∷ []) (λ r. (words_of text.now ≡ decimal r.0 ∷ decimal r.1 ∷ decimal r.2 ∷ []) × IsWithin first r.0 × IsWithin second r.1 × IsWithin third r.2) }
+    ensures { MatchOption result
+        ((k m n : ℕ) → IsWithin first k → IsWithin second m → IsWithin third n
+        → words_of text.now ≢ decimal k ∷ decimal m ∷ decimal n ∷ [])
+        (λ r. (words_of text.now ≡ decimal r.0 ∷ decimal r.1 ∷ decimal r.2 ∷ [])
+        × IsWithin first r.0 × IsWithin second r.1 × IsWithin third r.2) }
 {
     let (word, rest) = first_word(text);
     let k = number_within(word, first)?;

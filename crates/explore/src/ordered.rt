@@ -1,9 +1,10 @@
 //! A call in the order in which the calls took effect.
 
 ghost use Rattle.std.specs.Prelude.{◌≡◌};
-ghost use Rattle.explore.specs.Prints.{ordered_at};
+ghost use Rattle.explore.specs.Transcript.{call_in_order_at};
 
-use history::{Entry, Event};
+use events::{Entry, Event};
+use std::fmt;
 use words::{Call, Client, Reply};
 
 /// A call and its reply.
@@ -16,9 +17,29 @@ pub(crate) struct Ordered {
     pub(crate) reply: Reply,
 }
 
+/// As a transcript spells it: `0 enq 5 done`, `0 #1 enq 9 done`, `1 deq got 5`.
+impl fmt::Display for Ordered {
+    ghost use Rattle.std.specs.Prelude.{Some};
+    ghost use Rattle.explore.specs.Prints.{ordered_text};
+
+    ghost output = { λ ordered. Some (ordered_text ordered) };
+
+    fn fmt<W: fmt::Write>(&self, f: &mut fmt::Formatter<W>) -> fmt::Result {
+        write!(f, "{}", self.client.0)?;
+        if self.number != 0 {
+            write!(f, " #{}", self.number)?;
+        }
+        match self.call {
+            Call::Enq(value) => write!(f, " enq {value} ")?,
+            Call::Deq => write!(f, " deq ")?,
+        }
+        write!(f, "{}", self.reply)
+    }
+}
+
 /// The call that an entry names, with its reply.
 pub(crate) fn named_call(events: &[Event], entry: Entry) -> Option<Ordered>
-    ensures { result ≡ ordered_at events.now entry }
+    ensures { result ≡ call_in_order_at events.now entry }
 {
     match events.get(entry.place) {
         Some(

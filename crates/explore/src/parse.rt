@@ -8,11 +8,9 @@ ghost use Rattle.explore.specs.Script.{Says, IsFirstBad, Continues, EndsBadly};
 
 use crate::command::{Command, QueueLine, Script};
 use crate::grammar::{command, is_on, queue_line};
+use crate::limits::MAX_LINES;
 use std::alloc::Global;
 use words::{Kind, Refusal};
-
-/// The most lines of a script.
-pub const MAX_LINES: u32 = 1_000;
 
 /// Whether a line is empty or a comment.
 fn is_skipped(line: &[u8]) -> bool
@@ -36,7 +34,8 @@ fn body(text: &[u8]) -> &[u8]
 
 /// The command of a line, where a queue of this kind has it.
 fn command_on(kind: Kind, line: &[u8]) -> Option<Command>
-    ensures { MatchOption result ((command : Command) → SaysCommand line.now command → is_on kind command ≡ true → ⊥) (λ command. SaysCommand line.now command × (is_on kind command ≡ true)) }
+    ensures { MatchOption result ((command : Command) → SaysCommand line.now command → is_on kind command ≡ true → ⊥)
+        (λ command. SaysCommand line.now command × (is_on kind command ≡ true)) }
 {
     let command = command(line)?;
     if is_on(kind, command) {
@@ -74,10 +73,11 @@ fn add_line(
 }
 
 /// The script that a text says. It is refused where memory is (NoMemory), and else where a line is none that is
-/// served, or is past the 1,000th: BadLine, with the number of the first such line.
+/// served, or is past the [`MAX_LINES`]th: BadLine, with the number of the first such line.
 pub fn parse_script(alloc: Global, text: &[u8]) -> Result<Script, Refusal>
     ensures script { IfOk result (λ script. Says (lines_of text.now) script.queue script.commands.items) }
-    ensures errors { IfErr result (λ e. (e ≡ Refusal.NoMemory) ⊎ ((number : ℕ) × (e ≡ Refusal.BadLine number) × IsFirstBad (lines_of text.now) number)) }
+    ensures errors { IfErr result (λ e. (e ≡ Refusal.NoMemory)
+        ⊎ ((number : ℕ) × (e ≡ Refusal.BadLine number) × IsFirstBad (lines_of text.now) number)) }
 {
     let mut queue = None;
     let mut commands = Vec::new(alloc);

@@ -1,24 +1,26 @@
 //! How many steps were made.
 
-ghost use Rattle.std.specs.Prelude.{◌≡◌, replicate, slice_index, slice_set};
-ghost use Rattle.explore.specs.Steps.{counted, call_counted, recovery_counted};
+ghost use Rattle.std.specs.Prelude.{◌≡◌, ◌<◌, length, replicate, slice_index, slice_set};
+ghost use Rattle.explore.specs.declared.limits.TheConstants.{CLIENT_NUMBERS};
+ghost use Rattle.explore.specs.Steps.{count_after, call_counted, recovery_counted};
 
+use crate::limits::CLIENT_NUMBERS;
 use words::Client;
 
 /// How many steps each client's call has made, and recovery since the last crash. A client's number is one byte.
 #[derive(Drop)]
 pub(crate) struct Steps {
-    pub(crate) calls: [u64; 256],
+    pub(crate) calls: [u64; CLIENT_NUMBERS],
     pub(crate) recovery: u64,
 }
 
 impl Steps {
     /// No step was made yet.
     pub(crate) fn new() -> Self
-        ensures { result ≡ record { calls = replicate 256 0; recovery = 0 } }
+        ensures { result ≡ record { calls = replicate CLIENT_NUMBERS 0; recovery = 0 } }
     {
         Steps {
-            calls: [0; 256],
+            calls: [0; CLIENT_NUMBERS],
             recovery: 0,
         }
     }
@@ -32,8 +34,9 @@ impl Steps {
 
     /// Counts steps of a client's call, and answers how many it has made.
     pub(crate) fn go_on(&mut self, client: Client, more: u64) -> u64
-        ensures count { result ≡ counted more (slice_index self.old.calls client.0) }
+        ensures count { result ≡ count_after more (slice_index self.old.calls client.0) }
         ensures steps { self.new ≡ call_counted more client self.old }
+        ensures kept { client.0 < length self.old.calls }
     {
         let at = client.0 as usize;
         let count = self.calls[at].saturating_add(more);
@@ -48,13 +51,10 @@ impl Steps {
         self.recovery = 0;
     }
 
-    /// Counts a step of recovery, and answers how many there were since the crash.
-    pub(crate) fn recover(&mut self) -> u64
-        ensures count { result ≡ counted 1 self.old.recovery }
-        ensures steps { self.new ≡ recovery_counted self.old }
+    /// Counts a step of recovery.
+    pub(crate) fn recover(&mut self)
+        ensures { self.new ≡ recovery_counted self.old }
     {
-        let count = self.recovery.saturating_add(1);
-        self.recovery = count;
-        count
+        self.recovery = self.recovery.saturating_add(1);
     }
 }

@@ -5,6 +5,8 @@ use Rattle.words.specs.declared.call.NodeId.{NodeId}
 use Rattle.words.specs.declared.call.Token.{Token}
 use Rattle.words.specs.declared.call.Call.{Call}
 use Rattle.words.specs.declared.call.Call.TheVariants.{Enq, Deq}
+use Rattle.words.specs.declared.call.Reply.{Reply}
+use Rattle.words.specs.declared.limits.TheConstants.{MAX_VALUE}
 use Rattle.words.specs.declared.call.Reply.TheVariants.{Done as Answered, Got, Empty}
 use Rattle.persist.specs.Memory.{Access, Load, Store, Cas, Flush}
 use Rattle.arena.specs.Shape.{Shape}
@@ -13,14 +15,16 @@ use Rattle.arena.specs.Answers.{empty_answer_of, result_of}
 use Rattle.arena.specs.declared.place.Write.{Write}
 use Rattle.arena.specs.declared.place.Place.{Place}
 use Rattle.arena.specs.declared.place.Place.TheVariants.{Head, Tail, Value, Next, Mark}
-use Rattle.stepper.specs.Preparation.{prepared_to, store_access, flush_access, store_successor, flush_successor, IsPreparing}
-use Rattle.stepper.specs.declared.After.{After}
-use Rattle.stepper.specs.declared.After.TheVariants.{More, Done}
+use Rattle.stepper.specs.Preparation.{prepared_to, access_of as prepare_access, successor as prepare_successor, IsPoint as IsPreparePoint}
+use Rattle.stepper.specs.declared.resume.After.{After}
+use Rattle.stepper.specs.declared.resume.After.TheVariants.{More, Done}
 use Rattle.stepper.specs.declared.prepare.Begun.{Begun}
 use Rattle.stepper.specs.declared.prepare.Prepare.{Prepare}
-use Rattle.stepper.specs.declared.prepare.Prepare.TheVariants.{Store as prepare_store, Flush as prepare_flush, Prepared as prepared}
+use Rattle.stepper.specs.declared.prepare.Prepare.TheVariants.{Store as prepare_store, Flush as prepare_flush}
 use Rattle.helping.specs.Claims.{winner}
 use Rattle.helping.specs.declared.dequeue.Claim.{Claim}
+use Rattle.helping.specs.declared.dequeue.Claimed.{Claimed}
+use Rattle.helping.specs.declared.dequeue.DequeueClaim.{DequeueClaim as ClaimPoint}
 use Rattle.helping.specs.declared.dequeue.Claim.TheVariants.{Won, LostTo}
 use Rattle.helping.specs.declared.op.Op.{Op}
 use Rattle.helping.specs.declared.op.Op.TheVariants.{PrepareStore, PrepareFlush, EnqueueLoadTail, EnqueueLoadNext, EnqueueCheckTail, EnqueueLink, EnqueueFlushLink, EnqueueMoveTail, EnqueueFlushPassedLink, EnqueueHelpTail, DequeueLoadHead, DequeueLoadTail, DequeueLoadNext, DequeueCheckHead, DequeueStoreEmpty, DequeueFlushEmpty, DequeueFlushPassedLink, DequeueHelpTail, DequeueLoadValue, DequeueClaim, DequeueFlushClaim, DequeueStoreResult, DequeueFlushResult, DequeueMoveHead}
@@ -40,8 +44,8 @@ flush w = Flush w.place
 
 -- the one access of each waiting point
 abbrev pub access_of : Kind → Op → Access Place
-access_of kind (PrepareStore p) = store_access p
-access_of kind (PrepareFlush p) = flush_access p
+access_of kind (PrepareStore p) = prepare_access (prepare_store p)
+access_of kind (PrepareFlush p) = prepare_access (prepare_flush p)
 access_of kind (EnqueueLoadTail p) = Load Tail
 access_of kind (EnqueueLoadNext p) = Load (Next p.last)
 access_of kind (EnqueueCheckTail p) = Load Tail
@@ -60,10 +64,10 @@ access_of kind (DequeueFlushPassedLink p) = Flush (Next p.last)
 access_of kind (DequeueHelpTail p) = Cas Tail p.last.0 p.next.0
 access_of kind (DequeueLoadValue p) = Load (Value p.next)
 access_of kind (DequeueClaim p) = Cas (Mark p.next) 0 p.token.0
-access_of kind (DequeueFlushClaim p) = Flush (Mark p.next)
-access_of kind (DequeueStoreResult p) = store (result_of kind (winner p.claim p.token) p.next p.value)
-access_of kind (DequeueFlushResult p) = flush (result_of kind (winner p.claim p.token) p.next p.value)
-access_of kind (DequeueMoveHead p) = Cas Head p.first.0 p.next.0
+access_of kind (DequeueFlushClaim p) = Flush (Mark p.claimed.next)
+access_of kind (DequeueStoreResult p) = store (result_of kind (winner p.claimed.claim p.claimed.token) p.claimed.next p.claimed.value)
+access_of kind (DequeueFlushResult p) = flush (result_of kind (winner p.claimed.claim p.claimed.token) p.claimed.next p.claimed.value)
+access_of kind (DequeueMoveHead p) = Cas Head p.claimed.first.0 p.claimed.next.0
 
 -- where a call acts, once its record is prepared
 abbrev pub first_from : Call → Begun → Op
@@ -73,27 +77,32 @@ first_from Deq b = DequeueLoadHead (record { token = b.token })
 abbrev pub first_of : Begun → Op
 first_of b = first_from b.call b
 
-abbrev pub prepared_op : Prepare → Op
-prepared_op (prepare_store p) = PrepareStore p
-prepared_op (prepare_flush p) = PrepareFlush p
-prepared_op (prepared b) = first_of b
+-- where the call of a preparation waits: in it, or, at its end, where it acts
+abbrev pub prepared_op : After Prepare Begun → Op
+prepared_op (More (prepare_store p)) = PrepareStore p
+prepared_op (More (prepare_flush p)) = PrepareFlush p
+prepared_op (Done b) = first_of b
 
 -- where a call begins that took its record
 abbrev pub begun_at : Kind → Begun → Op
 begun_at kind b = prepared_op (prepared_to kind b 0)
 
-abbrev pub going_on : After Prepare → After Op
-going_on (More prepare) = More (prepared_op prepare)
-going_on (Done reply) = Done reply
-
-abbrev pub answer_or_again : Claim → Token → ℕ → After Op
+-- a winner is answered, a loser begins anew
+abbrev pub answer_or_again : Claim → Token → ℕ → After Op Reply
 answer_or_again Won token value = Done (Got value)
 answer_or_again (LostTo other) token value = More (DequeueLoadHead (record { token = token }))
 
+-- how a claim went, by what its swap found; and what is known then
+abbrev pub claim_by : ℕ → Claim
+claim_by found = if found == 0 then Won else LostTo (token_of found)
+
+abbrev pub claimed_at : ClaimPoint → Claim → Claimed
+claimed_at p claim = record { token = p.token; first = p.first; next = p.next; value = p.value; claim = claim }
+
 -- what comes after the access found this value
-abbrev pub successor : Kind → Op → ℕ → After Op
-successor kind (PrepareStore p) found = going_on (store_successor p)
-successor kind (PrepareFlush p) found = going_on (flush_successor kind p)
+abbrev pub successor : Kind → Op → ℕ → After Op Reply
+successor kind (PrepareStore p) found = More (prepared_op (prepare_successor kind (prepare_store p)))
+successor kind (PrepareFlush p) found = More (prepared_op (prepare_successor kind (prepare_flush p)))
 successor kind (EnqueueLoadTail p) found = More (EnqueueLoadNext (record { node = p.node; last = node_of found }))
 successor kind (EnqueueLoadNext p) found = More (EnqueueCheckTail (record { node = p.node; last = p.last; next = node_of found }))
 successor kind (EnqueueCheckTail p) found =
@@ -126,24 +135,23 @@ successor kind (DequeueFlushEmpty p) found = Done Empty
 successor kind (DequeueFlushPassedLink p) found = More (DequeueHelpTail (record { token = p.token; last = p.last; next = p.next }))
 successor kind (DequeueHelpTail p) found = More (DequeueLoadHead (record { token = p.token }))
 successor kind (DequeueLoadValue p) found = More (DequeueClaim (record { token = p.token; first = p.first; next = p.next; value = found }))
-successor kind (DequeueClaim p) found =
-    More (DequeueFlushClaim (record { token = p.token; first = p.first; next = p.next; value = p.value; claim = if found == 0 then Won else LostTo (token_of found) }))
-successor kind (DequeueFlushClaim p) found =
-    More (DequeueStoreResult (record { token = p.token; first = p.first; next = p.next; value = p.value; claim = p.claim }))
-successor kind (DequeueStoreResult p) found =
-    More (DequeueFlushResult (record { token = p.token; first = p.first; next = p.next; value = p.value; claim = p.claim }))
-successor kind (DequeueFlushResult p) found =
-    More (DequeueMoveHead (record { token = p.token; first = p.first; next = p.next; value = p.value; claim = p.claim }))
-successor kind (DequeueMoveHead p) found = answer_or_again p.claim p.token p.value
+successor kind (DequeueClaim p) found = More (DequeueFlushClaim (record { claimed = claimed_at p (claim_by found) }))
+successor kind (DequeueFlushClaim p) found = More (DequeueStoreResult (record { claimed = p.claimed }))
+successor kind (DequeueStoreResult p) found = More (DequeueFlushResult (record { claimed = p.claimed }))
+successor kind (DequeueFlushResult p) found = More (DequeueMoveHead (record { claimed = p.claimed }))
+successor kind (DequeueMoveHead p) found = answer_or_again p.claimed.claim p.claimed.token p.claimed.value
 
 -- the numbers of a claim, and of what follows it
 abbrev pub IsClaiming : Shape → ℕ → ℕ → ℕ → ℕ → Type 0
-IsClaiming s token first next value = IsRecord s token × IsNode s first × IsNode s next × (value ≤ 4294967295)
+IsClaiming s token first next value = IsRecord s token × IsNode s first × IsNode s next × (value ≤ MAX_VALUE)
+
+abbrev pub IsClaimedAt : Shape → Claimed → Type 0
+IsClaimedAt s c = IsClaiming s c.token.0 c.first.0 c.next.0 c.value × IsRecord s (winner c.claim c.token).0
 
 -- what the call learnt is in range
 abbrev pub IsPoint : Shape → Op → Type 0
-IsPoint s (PrepareStore p) = IsPreparing s p.begun p.index p.write
-IsPoint s (PrepareFlush p) = IsPreparing s p.begun p.index p.write
+IsPoint s (PrepareStore p) = IsPreparePoint s (prepare_store p)
+IsPoint s (PrepareFlush p) = IsPreparePoint s (prepare_flush p)
 IsPoint s (EnqueueLoadTail p) = IsRecord s p.node.0
 IsPoint s (EnqueueLoadNext p) = IsRecord s p.node.0 × IsNode s p.last.0
 IsPoint s (EnqueueCheckTail p) = IsRecord s p.node.0 × IsNode s p.last.0 × IsNode s p.next.0
@@ -162,7 +170,7 @@ IsPoint s (DequeueFlushPassedLink p) = IsRecord s p.token.0 × IsNode s p.last.0
 IsPoint s (DequeueHelpTail p) = IsRecord s p.token.0 × IsNode s p.last.0 × IsNode s p.next.0
 IsPoint s (DequeueLoadValue p) = IsRecord s p.token.0 × IsNode s p.first.0 × IsNode s p.next.0
 IsPoint s (DequeueClaim p) = IsClaiming s p.token.0 p.first.0 p.next.0 p.value
-IsPoint s (DequeueFlushClaim p) = IsClaiming s p.token.0 p.first.0 p.next.0 p.value × IsRecord s (winner p.claim p.token).0
-IsPoint s (DequeueStoreResult p) = IsClaiming s p.token.0 p.first.0 p.next.0 p.value × IsRecord s (winner p.claim p.token).0
-IsPoint s (DequeueFlushResult p) = IsClaiming s p.token.0 p.first.0 p.next.0 p.value × IsRecord s (winner p.claim p.token).0
-IsPoint s (DequeueMoveHead p) = IsClaiming s p.token.0 p.first.0 p.next.0 p.value × IsRecord s (winner p.claim p.token).0
+IsPoint s (DequeueFlushClaim p) = IsClaimedAt s p.claimed
+IsPoint s (DequeueStoreResult p) = IsClaimedAt s p.claimed
+IsPoint s (DequeueFlushResult p) = IsClaimedAt s p.claimed
+IsPoint s (DequeueMoveHead p) = IsClaimedAt s p.claimed

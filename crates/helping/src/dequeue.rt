@@ -1,14 +1,16 @@
 //! The waiting points of a dequeue, after Michael and Scott (1996), with a claim: the node after the
 //! sentinel is claimed by a compare-and-swap, the claim is kept, the result is kept, and only then the
-//! head moves. Whoever meets a claimed node finishes these steps for the claimer.
+//! head moves. Whoever meets a claimed node finishes these steps for the claimer. The `//` at a point says what
+//! goes wrong without it, with the must-fail edit that shows it.
 
 ghost use Rattle.std.specs.Prelude.{◌≡◌};
+ghost use Rattle.arena.specs.Answers.{result_of};
 ghost use Rattle.helping.specs.Claims.{winner};
 
 use crate::Op;
 use arena::{Layout, Place, Write};
 use persist::{Swap, WordMemory};
-use stepper::{After, Resume, cas_at, flush_at, load_at, store_at};
+use stepper::{After, Resume, Stepped, cas_at, flush_at, load_at, store_at};
 use words::{NodeId, Reply, Token};
 
 /// How a claim went.
@@ -31,30 +33,46 @@ impl Claim {
     }
 }
 
+/// A claim that was made, and the node that it is of.
+#[derive(Clone, Copy, Debug, PartialEq, Eq, Hash)]
+pub struct Claimed {
+    pub(crate) token: Token,
+    pub(crate) first: NodeId,
+    pub(crate) next: NodeId,
+    pub(crate) value: u32,
+    pub(crate) claim: Claim,
+}
+
+impl Claimed {
+    /// Where the winner's result is written, and what.
+    fn result<L: Layout>(&self, layout: &L) -> Write
+        ensures { result
+            ≡ result_of (L.shape layout.now).kind (winner self.now.claim self.now.token) self.now.next self.now.value }
+    {
+        layout.result(self.claim.winner(self.token), self.next, self.value)
+    }
+}
+
 /// About to load the head.
 #[derive(Clone, Copy, Debug, PartialEq, Eq, Hash)]
 pub struct DequeueLoadHead {
     pub(crate) token: Token,
 }
 
+// The head is the sentinel, or the last claimed node or the one before it, so a dequeue does not walk the list.
 impl Resume for DequeueLoadHead {
-    type Op = Op;
+    type Point = Op;
 
-    ghost use Rattle.helping.specs.Table.{access_of, successor, IsPoint};
     ghost use Rattle.helping.specs.declared.op.Op.TheVariants.{DequeueLoadHead};
 
-    ghost access = { λ kind p. access_of kind (DequeueLoadHead p) };
+    ghost point = { DequeueLoadHead };
 
-    ghost next = { λ kind p found. successor kind (DequeueLoadHead p) found };
-
-    ghost in_range = { λ s p. IsPoint s (DequeueLoadHead p) };
-
-    fn step<L: Layout, M: WordMemory>(self, layout: &L, memory: &mut M) -> After<Op> {
+    fn step<L: Layout, M: WordMemory>(self, layout: &L, memory: &mut M) -> Stepped<Op, Reply> {
         let first = NodeId(load_at(layout, memory, Place::Head) as u32);
-        After::More(Op::DequeueLoadTail(DequeueLoadTail {
+        Stepped::quiet(After::More(Op::DequeueLoadTail(DequeueLoadTail {
             token: self.token,
             first,
-        }))
+        })))
     }
 }
 
@@ -65,29 +83,27 @@ pub struct DequeueLoadTail {
     pub(crate) first: NodeId,
 }
 
+// Where the tail is at the head, the node behind it may have a link that is not kept, and is not to be claimed yet
+// (`claims_past_a_lagging_tail`).
 impl Resume for DequeueLoadTail {
-    type Op = Op;
+    type Point = Op;
 
-    ghost use Rattle.helping.specs.Table.{access_of, successor, IsPoint};
     ghost use Rattle.helping.specs.declared.op.Op.TheVariants.{DequeueLoadTail};
 
-    ghost access = { λ kind p. access_of kind (DequeueLoadTail p) };
+    ghost point = { DequeueLoadTail };
 
-    ghost next = { λ kind p found. successor kind (DequeueLoadTail p) found };
-
-    ghost in_range = { λ s p. IsPoint s (DequeueLoadTail p) };
-
-    fn step<L: Layout, M: WordMemory>(self, layout: &L, memory: &mut M) -> After<Op> {
+    fn step<L: Layout, M: WordMemory>(self, layout: &L, memory: &mut M) -> Stepped<Op, Reply> {
         let last = NodeId(load_at(layout, memory, Place::Tail) as u32);
-        After::More(Op::DequeueLoadNext(DequeueLoadNext {
+        Stepped::quiet(After::More(Op::DequeueLoadNext(DequeueLoadNext {
             token: self.token,
             first: self.first,
             last,
-        }))
+        })))
     }
 }
 
-/// About to load the head node's link.
+/// About to load the head node's link. Where it is 0 the queue is empty at this moment, and the dequeue that answers
+/// Empty has taken effect here.
 #[derive(Clone, Copy, Debug, PartialEq, Eq, Hash)]
 pub struct DequeueLoadNext {
     pub(crate) token: Token,
@@ -95,27 +111,24 @@ pub struct DequeueLoadNext {
     pub(crate) last: NodeId,
 }
 
+// It comes after the tail: a link read first could be 0 before the tail passed the node, and an answer Empty would then
+// be of no moment within the call.
 impl Resume for DequeueLoadNext {
-    type Op = Op;
+    type Point = Op;
 
-    ghost use Rattle.helping.specs.Table.{access_of, successor, IsPoint};
     ghost use Rattle.helping.specs.declared.op.Op.TheVariants.{DequeueLoadNext};
 
-    ghost access = { λ kind p. access_of kind (DequeueLoadNext p) };
+    ghost point = { DequeueLoadNext };
 
-    ghost next = { λ kind p found. successor kind (DequeueLoadNext p) found };
-
-    ghost in_range = { λ s p. IsPoint s (DequeueLoadNext p) };
-
-    fn step<L: Layout, M: WordMemory>(self, layout: &L, memory: &mut M) -> After<Op> {
+    fn step<L: Layout, M: WordMemory>(self, layout: &L, memory: &mut M) -> Stepped<Op, Reply> {
         let DequeueLoadNext { token, first, last } = self;
         let next = NodeId(load_at(layout, memory, Place::Next(first)) as u32);
-        After::More(Op::DequeueCheckHead(DequeueCheckHead {
+        Stepped::quiet(After::More(Op::DequeueCheckHead(DequeueCheckHead {
             token,
             first,
             last,
             next,
-        }))
+        })))
     }
 }
 
@@ -128,19 +141,16 @@ pub struct DequeueCheckHead {
     pub(crate) next: NodeId,
 }
 
+// Where the head moved, the node that was read is claimed already, and this dequeue would help for nothing or for ever
+// (`goes_on_though_the_head_moved`).
 impl Resume for DequeueCheckHead {
-    type Op = Op;
+    type Point = Op;
 
-    ghost use Rattle.helping.specs.Table.{access_of, successor, IsPoint};
     ghost use Rattle.helping.specs.declared.op.Op.TheVariants.{DequeueCheckHead};
 
-    ghost access = { λ kind p. access_of kind (DequeueCheckHead p) };
+    ghost point = { DequeueCheckHead };
 
-    ghost next = { λ kind p found. successor kind (DequeueCheckHead p) found };
-
-    ghost in_range = { λ s p. IsPoint s (DequeueCheckHead p) };
-
-    fn step<L: Layout, M: WordMemory>(self, layout: &L, memory: &mut M) -> After<Op> {
+    fn step<L: Layout, M: WordMemory>(self, layout: &L, memory: &mut M) -> Stepped<Op, Reply> {
         let DequeueCheckHead {
             token,
             first,
@@ -148,7 +158,7 @@ impl Resume for DequeueCheckHead {
             next,
         } = self;
         let head = load_at(layout, memory, Place::Head);
-        After::More(if head != first.0 as u64 {
+        Stepped::quiet(After::More(if head != first.0 as u64 {
             Op::DequeueLoadHead(DequeueLoadHead { token })
         } else if first.0 != last.0 {
             Op::DequeueLoadValue(DequeueLoadValue { token, first, next })
@@ -156,7 +166,7 @@ impl Resume for DequeueCheckHead {
             Op::DequeueStoreEmpty(DequeueStoreEmpty { token })
         } else {
             Op::DequeueFlushPassedLink(DequeueFlushPassedLink { token, last, next })
-        })
+        }))
     }
 }
 
@@ -166,22 +176,19 @@ pub struct DequeueStoreEmpty {
     pub(crate) token: Token,
 }
 
+// After a crash the client is told by this word: without it an Empty that was answered would be told as open, or as not
+// taken.
 impl Resume for DequeueStoreEmpty {
-    type Op = Op;
+    type Point = Op;
 
-    ghost use Rattle.helping.specs.Table.{access_of, successor, IsPoint};
     ghost use Rattle.helping.specs.declared.op.Op.TheVariants.{DequeueStoreEmpty};
 
-    ghost access = { λ kind p. access_of kind (DequeueStoreEmpty p) };
+    ghost point = { DequeueStoreEmpty };
 
-    ghost next = { λ kind p found. successor kind (DequeueStoreEmpty p) found };
-
-    ghost in_range = { λ s p. IsPoint s (DequeueStoreEmpty p) };
-
-    fn step<L: Layout, M: WordMemory>(self, layout: &L, memory: &mut M) -> After<Op> {
+    fn step<L: Layout, M: WordMemory>(self, layout: &L, memory: &mut M) -> Stepped<Op, Reply> {
         let token = self.token;
         store_at(layout, memory, layout.empty_answer(token));
-        After::More(Op::DequeueFlushEmpty(DequeueFlushEmpty { token }))
+        Stepped::quiet(After::More(Op::DequeueFlushEmpty(DequeueFlushEmpty { token })))
     }
 }
 
@@ -191,21 +198,21 @@ pub struct DequeueFlushEmpty {
     pub(crate) token: Token,
 }
 
+// A crash would lose an answer that is not kept, and the client would be told that its answered call was not taken
+// (the scenarios of empty dequeues).
 impl Resume for DequeueFlushEmpty {
-    type Op = Op;
+    type Point = Op;
 
-    ghost use Rattle.helping.specs.Table.{access_of, successor, IsPoint};
     ghost use Rattle.helping.specs.declared.op.Op.TheVariants.{DequeueFlushEmpty};
 
-    ghost access = { λ kind p. access_of kind (DequeueFlushEmpty p) };
+    ghost point = { DequeueFlushEmpty };
 
-    ghost next = { λ kind p found. successor kind (DequeueFlushEmpty p) found };
-
-    ghost in_range = { λ s p. IsPoint s (DequeueFlushEmpty p) };
-
-    fn step<L: Layout, M: WordMemory>(self, layout: &L, memory: &mut M) -> After<Op> {
-        flush_at(layout, memory, layout.empty_answer(self.token).place);
-        After::Done(Reply::Empty)
+    fn step<L: Layout, M: WordMemory>(self, layout: &L, memory: &mut M) -> Stepped<Op, Reply> {
+        let change = flush_at(layout, memory, layout.empty_answer(self.token).place);
+        Stepped {
+            after: After::Done(Reply::Empty),
+            change,
+        }
     }
 }
 
@@ -217,22 +224,22 @@ pub struct DequeueFlushPassedLink {
     pub(crate) next: NodeId,
 }
 
+// A claimed node behind a link that is not kept would be lost in a crash, with the dequeue that was answered with it
+// (`tail_passes_an_unkept_link`).
 impl Resume for DequeueFlushPassedLink {
-    type Op = Op;
+    type Point = Op;
 
-    ghost use Rattle.helping.specs.Table.{access_of, successor, IsPoint};
     ghost use Rattle.helping.specs.declared.op.Op.TheVariants.{DequeueFlushPassedLink};
 
-    ghost access = { λ kind p. access_of kind (DequeueFlushPassedLink p) };
+    ghost point = { DequeueFlushPassedLink };
 
-    ghost next = { λ kind p found. successor kind (DequeueFlushPassedLink p) found };
-
-    ghost in_range = { λ s p. IsPoint s (DequeueFlushPassedLink p) };
-
-    fn step<L: Layout, M: WordMemory>(self, layout: &L, memory: &mut M) -> After<Op> {
+    fn step<L: Layout, M: WordMemory>(self, layout: &L, memory: &mut M) -> Stepped<Op, Reply> {
         let DequeueFlushPassedLink { token, last, next } = self;
-        flush_at(layout, memory, Place::Next(last));
-        After::More(Op::DequeueHelpTail(DequeueHelpTail { token, last, next }))
+        let change = flush_at(layout, memory, Place::Next(last));
+        Stepped {
+            after: After::More(Op::DequeueHelpTail(DequeueHelpTail { token, last, next })),
+            change,
+        }
     }
 }
 
@@ -244,26 +251,22 @@ pub struct DequeueHelpTail {
     pub(crate) next: NodeId,
 }
 
+// The head may not pass the tail; without it a dequeue would wait for the enqueuer, which may have stopped.
 impl Resume for DequeueHelpTail {
-    type Op = Op;
+    type Point = Op;
 
-    ghost use Rattle.helping.specs.Table.{access_of, successor, IsPoint};
     ghost use Rattle.helping.specs.declared.op.Op.TheVariants.{DequeueHelpTail};
 
-    ghost access = { λ kind p. access_of kind (DequeueHelpTail p) };
+    ghost point = { DequeueHelpTail };
 
-    ghost next = { λ kind p found. successor kind (DequeueHelpTail p) found };
-
-    ghost in_range = { λ s p. IsPoint s (DequeueHelpTail p) };
-
-    fn step<L: Layout, M: WordMemory>(self, layout: &L, memory: &mut M) -> After<Op> {
+    fn step<L: Layout, M: WordMemory>(self, layout: &L, memory: &mut M) -> Stepped<Op, Reply> {
         let DequeueHelpTail { token, last, next } = self;
         let tail = Write {
             place: Place::Tail,
             value: next.0 as u64,
         };
         let _swap = cas_at(layout, memory, last.0 as u64, tail);
-        After::More(Op::DequeueLoadHead(DequeueLoadHead { token }))
+        Stepped::quiet(After::More(Op::DequeueLoadHead(DequeueLoadHead { token })))
     }
 }
 
@@ -275,27 +278,23 @@ pub struct DequeueLoadValue {
     pub(crate) next: NodeId,
 }
 
+// It comes before the claim, so that winner and losers alike can write the result without a further load.
 impl Resume for DequeueLoadValue {
-    type Op = Op;
+    type Point = Op;
 
-    ghost use Rattle.helping.specs.Table.{access_of, successor, IsPoint};
     ghost use Rattle.helping.specs.declared.op.Op.TheVariants.{DequeueLoadValue};
 
-    ghost access = { λ kind p. access_of kind (DequeueLoadValue p) };
+    ghost point = { DequeueLoadValue };
 
-    ghost next = { λ kind p found. successor kind (DequeueLoadValue p) found };
-
-    ghost in_range = { λ s p. IsPoint s (DequeueLoadValue p) };
-
-    fn step<L: Layout, M: WordMemory>(self, layout: &L, memory: &mut M) -> After<Op> {
+    fn step<L: Layout, M: WordMemory>(self, layout: &L, memory: &mut M) -> Stepped<Op, Reply> {
         let DequeueLoadValue { token, first, next } = self;
         let value = load_at(layout, memory, Place::Value(next)) as u32;
-        After::More(Op::DequeueClaim(DequeueClaim {
+        Stepped::quiet(After::More(Op::DequeueClaim(DequeueClaim {
             token,
             first,
             next,
             value,
-        }))
+        })))
     }
 }
 
@@ -308,19 +307,15 @@ pub struct DequeueClaim {
     pub(crate) value: u32,
 }
 
+// A swap: by a store two dequeues would both take the node for theirs.
 impl Resume for DequeueClaim {
-    type Op = Op;
+    type Point = Op;
 
-    ghost use Rattle.helping.specs.Table.{access_of, successor, IsPoint};
     ghost use Rattle.helping.specs.declared.op.Op.TheVariants.{DequeueClaim};
 
-    ghost access = { λ kind p. access_of kind (DequeueClaim p) };
+    ghost point = { DequeueClaim };
 
-    ghost next = { λ kind p found. successor kind (DequeueClaim p) found };
-
-    ghost in_range = { λ s p. IsPoint s (DequeueClaim p) };
-
-    fn step<L: Layout, M: WordMemory>(self, layout: &L, memory: &mut M) -> After<Op> {
+    fn step<L: Layout, M: WordMemory>(self, layout: &L, memory: &mut M) -> Stepped<Op, Reply> {
         let DequeueClaim {
             token,
             first,
@@ -335,182 +330,120 @@ impl Resume for DequeueClaim {
             Swap::Done => Claim::Won,
             Swap::Found(winner) => Claim::LostTo(Token(winner as u32)),
         };
-        After::More(Op::DequeueFlushClaim(DequeueFlushClaim {
+        let claimed = Claimed {
             token,
             first,
             next,
             value,
             claim,
-        }))
+        };
+        Stepped::quiet(After::More(Op::DequeueFlushClaim(DequeueFlushClaim { claimed })))
     }
 }
 
-/// About to keep the claim, its own or another's.
+/// About to keep the claim, its own or another's: the winner's dequeue takes effect, if no other flush or eviction kept
+/// it before.
 #[derive(Clone, Copy, Debug, PartialEq, Eq, Hash)]
 pub struct DequeueFlushClaim {
-    pub(crate) token: Token,
-    pub(crate) first: NodeId,
-    pub(crate) next: NodeId,
-    pub(crate) value: u32,
-    pub(crate) claim: Claim,
+    pub(crate) claimed: Claimed,
 }
 
+// A crash would lose a claim that is not kept, and the item would come out twice (`answers_before_the_claim_is_kept`).
 impl Resume for DequeueFlushClaim {
-    type Op = Op;
+    type Point = Op;
 
-    ghost use Rattle.helping.specs.Table.{access_of, successor, IsPoint};
     ghost use Rattle.helping.specs.declared.op.Op.TheVariants.{DequeueFlushClaim};
 
-    ghost access = { λ kind p. access_of kind (DequeueFlushClaim p) };
+    ghost point = { DequeueFlushClaim };
 
-    ghost next = { λ kind p found. successor kind (DequeueFlushClaim p) found };
-
-    ghost in_range = { λ s p. IsPoint s (DequeueFlushClaim p) };
-
-    fn step<L: Layout, M: WordMemory>(self, layout: &L, memory: &mut M) -> After<Op> {
-        let DequeueFlushClaim {
-            token,
-            first,
-            next,
-            value,
-            claim,
-        } = self;
-        flush_at(layout, memory, Place::Mark(next));
-        After::More(Op::DequeueStoreResult(DequeueStoreResult {
-            token,
-            first,
-            next,
-            value,
-            claim,
-        }))
+    fn step<L: Layout, M: WordMemory>(self, layout: &L, memory: &mut M) -> Stepped<Op, Reply> {
+        let claimed = self.claimed;
+        let change = flush_at(layout, memory, Place::Mark(claimed.next));
+        Stepped {
+            after: After::More(Op::DequeueStoreResult(DequeueStoreResult { claimed })),
+            change,
+        }
     }
 }
 
 /// About to say what the winner got.
 #[derive(Clone, Copy, Debug, PartialEq, Eq, Hash)]
 pub struct DequeueStoreResult {
-    pub(crate) token: Token,
-    pub(crate) first: NodeId,
-    pub(crate) next: NodeId,
-    pub(crate) value: u32,
-    pub(crate) claim: Claim,
+    pub(crate) claimed: Claimed,
 }
 
+// A loser writes the winner's answer, too: once the head has passed the node, recovery does not look at its claim
+// (`loser_writes_its_own_answer`).
 impl Resume for DequeueStoreResult {
-    type Op = Op;
+    type Point = Op;
 
-    ghost use Rattle.helping.specs.Table.{access_of, successor, IsPoint};
     ghost use Rattle.helping.specs.declared.op.Op.TheVariants.{DequeueStoreResult};
 
-    ghost access = { λ kind p. access_of kind (DequeueStoreResult p) };
+    ghost point = { DequeueStoreResult };
 
-    ghost next = { λ kind p found. successor kind (DequeueStoreResult p) found };
-
-    ghost in_range = { λ s p. IsPoint s (DequeueStoreResult p) };
-
-    fn step<L: Layout, M: WordMemory>(self, layout: &L, memory: &mut M) -> After<Op> {
-        let DequeueStoreResult {
-            token,
-            first,
-            next,
-            value,
-            claim,
-        } = self;
-        store_at(
-            layout,
-            memory,
-            layout.result(claim.winner(token), next, value),
-        );
-        After::More(Op::DequeueFlushResult(DequeueFlushResult {
-            token,
-            first,
-            next,
-            value,
-            claim,
-        }))
+    fn step<L: Layout, M: WordMemory>(self, layout: &L, memory: &mut M) -> Stepped<Op, Reply> {
+        let claimed = self.claimed;
+        store_at(layout, memory, claimed.result(layout));
+        Stepped::quiet(After::More(Op::DequeueFlushResult(DequeueFlushResult { claimed })))
     }
 }
 
 /// About to keep that result.
 #[derive(Clone, Copy, Debug, PartialEq, Eq, Hash)]
 pub struct DequeueFlushResult {
-    pub(crate) token: Token,
-    pub(crate) first: NodeId,
-    pub(crate) next: NodeId,
-    pub(crate) value: u32,
-    pub(crate) claim: Claim,
+    pub(crate) claimed: Claimed,
 }
 
+// The head passes no node whose result is not kept: a crash would leave its claimer without an answer
+// (`result_is_not_kept`).
 impl Resume for DequeueFlushResult {
-    type Op = Op;
+    type Point = Op;
 
-    ghost use Rattle.helping.specs.Table.{access_of, successor, IsPoint};
     ghost use Rattle.helping.specs.declared.op.Op.TheVariants.{DequeueFlushResult};
 
-    ghost access = { λ kind p. access_of kind (DequeueFlushResult p) };
+    ghost point = { DequeueFlushResult };
 
-    ghost next = { λ kind p found. successor kind (DequeueFlushResult p) found };
-
-    ghost in_range = { λ s p. IsPoint s (DequeueFlushResult p) };
-
-    fn step<L: Layout, M: WordMemory>(self, layout: &L, memory: &mut M) -> After<Op> {
-        let DequeueFlushResult {
-            token,
-            first,
-            next,
-            value,
-            claim,
-        } = self;
-        let result = layout.result(claim.winner(token), next, value);
-        flush_at(layout, memory, result.place);
-        After::More(Op::DequeueMoveHead(DequeueMoveHead {
-            token,
-            first,
-            next,
-            value,
-            claim,
-        }))
+    fn step<L: Layout, M: WordMemory>(self, layout: &L, memory: &mut M) -> Stepped<Op, Reply> {
+        let claimed = self.claimed;
+        let result = claimed.result(layout);
+        let change = flush_at(layout, memory, result.place);
+        Stepped {
+            after: After::More(Op::DequeueMoveHead(DequeueMoveHead { claimed })),
+            change,
+        }
     }
 }
 
 /// About to move the head to the claimed node. The winner is answered, a loser begins anew.
 #[derive(Clone, Copy, Debug, PartialEq, Eq, Hash)]
 pub struct DequeueMoveHead {
-    pub(crate) token: Token,
-    pub(crate) first: NodeId,
-    pub(crate) next: NodeId,
-    pub(crate) value: u32,
-    pub(crate) claim: Claim,
+    pub(crate) claimed: Claimed,
 }
 
+// A swap: where another helped and the head is further on, a store would move it back (`head_moves_by_a_store`).
 impl Resume for DequeueMoveHead {
-    type Op = Op;
+    type Point = Op;
 
-    ghost use Rattle.helping.specs.Table.{access_of, successor, IsPoint};
     ghost use Rattle.helping.specs.declared.op.Op.TheVariants.{DequeueMoveHead};
 
-    ghost access = { λ kind p. access_of kind (DequeueMoveHead p) };
+    ghost point = { DequeueMoveHead };
 
-    ghost next = { λ kind p found. successor kind (DequeueMoveHead p) found };
-
-    ghost in_range = { λ s p. IsPoint s (DequeueMoveHead p) };
-
-    fn step<L: Layout, M: WordMemory>(self, layout: &L, memory: &mut M) -> After<Op> {
-        let DequeueMoveHead {
+    fn step<L: Layout, M: WordMemory>(self, layout: &L, memory: &mut M) -> Stepped<Op, Reply> {
+        let Claimed {
             token,
             first,
             next,
             value,
             claim,
-        } = self;
+        } = self.claimed;
         let head = Write {
             place: Place::Head,
             value: next.0 as u64,
         };
         let _swap = cas_at(layout, memory, first.0 as u64, head);
-        match claim {
+        Stepped::quiet(match claim {
             Claim::Won => After::Done(Reply::Got(value)),
             Claim::LostTo(_) => After::More(Op::DequeueLoadHead(DequeueLoadHead { token })),
-        }
+        })
     }
 }

@@ -1,10 +1,11 @@
-//! The waiting points of an enqueue, after Michael and Scott (1996), with flushes: a link is kept before
-//! the tail passes it, by whoever moves the tail.
+//! The waiting points of an enqueue, after Michael and Scott (1996): the node is linked behind the last one, the
+//! link is kept, and only then the tail moves. Whoever meets a tail that lags keeps the link that it has to pass, and
+//! moves it on. The `//` at a point says what goes wrong without it, with the must-fail edit that shows it.
 
 use crate::Op;
 use arena::{Layout, Place, Write};
 use persist::{Swap, WordMemory};
-use stepper::{After, Resume, cas_at, flush_at, load_at};
+use stepper::{After, Resume, Stepped, cas_at, flush_at, load_at};
 use words::{NodeId, Reply};
 
 /// About to load the tail.
@@ -13,24 +14,20 @@ pub struct EnqueueLoadTail {
     pub(crate) node: NodeId,
 }
 
+// The tail is near the last node, so an enqueue does not walk the list; it may lag, which the next two points see.
 impl Resume for EnqueueLoadTail {
-    type Op = Op;
+    type Point = Op;
 
-    ghost use Rattle.helping.specs.Table.{access_of, successor, IsPoint};
     ghost use Rattle.helping.specs.declared.op.Op.TheVariants.{EnqueueLoadTail};
 
-    ghost access = { λ kind p. access_of kind (EnqueueLoadTail p) };
+    ghost point = { EnqueueLoadTail };
 
-    ghost next = { λ kind p found. successor kind (EnqueueLoadTail p) found };
-
-    ghost in_range = { λ s p. IsPoint s (EnqueueLoadTail p) };
-
-    fn step<L: Layout, M: WordMemory>(self, layout: &L, memory: &mut M) -> After<Op> {
+    fn step<L: Layout, M: WordMemory>(self, layout: &L, memory: &mut M) -> Stepped<Op, Reply> {
         let last = NodeId(load_at(layout, memory, Place::Tail) as u32);
-        After::More(Op::EnqueueLoadNext(EnqueueLoadNext {
+        Stepped::quiet(After::More(Op::EnqueueLoadNext(EnqueueLoadNext {
             node: self.node,
             last,
-        }))
+        })))
     }
 }
 
@@ -41,25 +38,22 @@ pub struct EnqueueLoadNext {
     pub(crate) last: NodeId,
 }
 
+// A node with a link is not the last: without this look an enqueue would wait for whoever linked it to move the tail
+// (`waits_for_a_stopped_client`).
 impl Resume for EnqueueLoadNext {
-    type Op = Op;
+    type Point = Op;
 
-    ghost use Rattle.helping.specs.Table.{access_of, successor, IsPoint};
     ghost use Rattle.helping.specs.declared.op.Op.TheVariants.{EnqueueLoadNext};
 
-    ghost access = { λ kind p. access_of kind (EnqueueLoadNext p) };
+    ghost point = { EnqueueLoadNext };
 
-    ghost next = { λ kind p found. successor kind (EnqueueLoadNext p) found };
-
-    ghost in_range = { λ s p. IsPoint s (EnqueueLoadNext p) };
-
-    fn step<L: Layout, M: WordMemory>(self, layout: &L, memory: &mut M) -> After<Op> {
+    fn step<L: Layout, M: WordMemory>(self, layout: &L, memory: &mut M) -> Stepped<Op, Reply> {
         let next = NodeId(load_at(layout, memory, Place::Next(self.last)) as u32);
-        After::More(Op::EnqueueCheckTail(EnqueueCheckTail {
+        Stepped::quiet(After::More(Op::EnqueueCheckTail(EnqueueCheckTail {
             node: self.node,
             last: self.last,
             next,
-        }))
+        })))
     }
 }
 
@@ -71,28 +65,25 @@ pub struct EnqueueCheckTail {
     pub(crate) next: NodeId,
 }
 
+// The tail and the link were read at two moments; where the tail moved between them, what was read is of no one moment
+// and the call begins anew (`goes_on_though_the_tail_moved`).
 impl Resume for EnqueueCheckTail {
-    type Op = Op;
+    type Point = Op;
 
-    ghost use Rattle.helping.specs.Table.{access_of, successor, IsPoint};
     ghost use Rattle.helping.specs.declared.op.Op.TheVariants.{EnqueueCheckTail};
 
-    ghost access = { λ kind p. access_of kind (EnqueueCheckTail p) };
+    ghost point = { EnqueueCheckTail };
 
-    ghost next = { λ kind p found. successor kind (EnqueueCheckTail p) found };
-
-    ghost in_range = { λ s p. IsPoint s (EnqueueCheckTail p) };
-
-    fn step<L: Layout, M: WordMemory>(self, layout: &L, memory: &mut M) -> After<Op> {
+    fn step<L: Layout, M: WordMemory>(self, layout: &L, memory: &mut M) -> Stepped<Op, Reply> {
         let EnqueueCheckTail { node, last, next } = self;
         let tail = load_at(layout, memory, Place::Tail);
-        After::More(if tail != last.0 as u64 {
+        Stepped::quiet(After::More(if tail != last.0 as u64 {
             Op::EnqueueLoadTail(EnqueueLoadTail { node })
         } else if next.0 == 0 {
             Op::EnqueueLink(EnqueueLink { node, last })
         } else {
             Op::EnqueueFlushPassedLink(EnqueueFlushPassedLink { node, last, next })
-        })
+        }))
     }
 }
 
@@ -103,54 +94,51 @@ pub struct EnqueueLink {
     pub(crate) last: NodeId,
 }
 
+// A swap and not a store: of two enqueues at one node the second would cut off the first one's node, though that may be
+// answered already.
 impl Resume for EnqueueLink {
-    type Op = Op;
+    type Point = Op;
 
-    ghost use Rattle.helping.specs.Table.{access_of, successor, IsPoint};
     ghost use Rattle.helping.specs.declared.op.Op.TheVariants.{EnqueueLink};
 
-    ghost access = { λ kind p. access_of kind (EnqueueLink p) };
+    ghost point = { EnqueueLink };
 
-    ghost next = { λ kind p found. successor kind (EnqueueLink p) found };
-
-    ghost in_range = { λ s p. IsPoint s (EnqueueLink p) };
-
-    fn step<L: Layout, M: WordMemory>(self, layout: &L, memory: &mut M) -> After<Op> {
+    fn step<L: Layout, M: WordMemory>(self, layout: &L, memory: &mut M) -> Stepped<Op, Reply> {
         let EnqueueLink { node, last } = self;
         let link = Write {
             place: Place::Next(last),
             value: node.0 as u64,
         };
-        After::More(match cas_at(layout, memory, 0, link) {
+        Stepped::quiet(After::More(match cas_at(layout, memory, 0, link) {
             Swap::Done => Op::EnqueueFlushLink(EnqueueFlushLink { node, last }),
             Swap::Found(_) => Op::EnqueueLoadTail(EnqueueLoadTail { node }),
-        })
+        }))
     }
 }
 
-/// About to keep the link.
+/// About to keep the link: the enqueue takes effect, if no other flush or eviction kept it before.
 #[derive(Clone, Copy, Debug, PartialEq, Eq, Hash)]
 pub struct EnqueueFlushLink {
     pub(crate) node: NodeId,
     pub(crate) last: NodeId,
 }
 
+// A crash would lose a link that is not kept, and with it a node whose enqueue was answered
+// (`answers_before_the_link_is_kept`).
 impl Resume for EnqueueFlushLink {
-    type Op = Op;
+    type Point = Op;
 
-    ghost use Rattle.helping.specs.Table.{access_of, successor, IsPoint};
     ghost use Rattle.helping.specs.declared.op.Op.TheVariants.{EnqueueFlushLink};
 
-    ghost access = { λ kind p. access_of kind (EnqueueFlushLink p) };
+    ghost point = { EnqueueFlushLink };
 
-    ghost next = { λ kind p found. successor kind (EnqueueFlushLink p) found };
-
-    ghost in_range = { λ s p. IsPoint s (EnqueueFlushLink p) };
-
-    fn step<L: Layout, M: WordMemory>(self, layout: &L, memory: &mut M) -> After<Op> {
+    fn step<L: Layout, M: WordMemory>(self, layout: &L, memory: &mut M) -> Stepped<Op, Reply> {
         let EnqueueFlushLink { node, last } = self;
-        flush_at(layout, memory, Place::Next(last));
-        After::More(Op::EnqueueMoveTail(EnqueueMoveTail { node, last }))
+        let change = flush_at(layout, memory, Place::Next(last));
+        Stepped {
+            after: After::More(Op::EnqueueMoveTail(EnqueueMoveTail { node, last })),
+            change,
+        }
     }
 }
 
@@ -161,25 +149,21 @@ pub struct EnqueueMoveTail {
     pub(crate) last: NodeId,
 }
 
+// A swap: where another helped and the tail is further on, a store would move it back (`tail_moves_by_a_store`).
 impl Resume for EnqueueMoveTail {
-    type Op = Op;
+    type Point = Op;
 
-    ghost use Rattle.helping.specs.Table.{access_of, successor, IsPoint};
     ghost use Rattle.helping.specs.declared.op.Op.TheVariants.{EnqueueMoveTail};
 
-    ghost access = { λ kind p. access_of kind (EnqueueMoveTail p) };
+    ghost point = { EnqueueMoveTail };
 
-    ghost next = { λ kind p found. successor kind (EnqueueMoveTail p) found };
-
-    ghost in_range = { λ s p. IsPoint s (EnqueueMoveTail p) };
-
-    fn step<L: Layout, M: WordMemory>(self, layout: &L, memory: &mut M) -> After<Op> {
+    fn step<L: Layout, M: WordMemory>(self, layout: &L, memory: &mut M) -> Stepped<Op, Reply> {
         let tail = Write {
             place: Place::Tail,
             value: self.node.0 as u64,
         };
         let _swap = cas_at(layout, memory, self.last.0 as u64, tail);
-        After::Done(Reply::Done)
+        Stepped::quiet(After::Done(Reply::Done))
     }
 }
 
@@ -191,22 +175,22 @@ pub struct EnqueueFlushPassedLink {
     pub(crate) next: NodeId,
 }
 
+// Behind a link that is not kept this enqueue's own node would be lost with it, though its own link was kept
+// (`tail_passes_an_unkept_link` shows it on a dequeue's).
 impl Resume for EnqueueFlushPassedLink {
-    type Op = Op;
+    type Point = Op;
 
-    ghost use Rattle.helping.specs.Table.{access_of, successor, IsPoint};
     ghost use Rattle.helping.specs.declared.op.Op.TheVariants.{EnqueueFlushPassedLink};
 
-    ghost access = { λ kind p. access_of kind (EnqueueFlushPassedLink p) };
+    ghost point = { EnqueueFlushPassedLink };
 
-    ghost next = { λ kind p found. successor kind (EnqueueFlushPassedLink p) found };
-
-    ghost in_range = { λ s p. IsPoint s (EnqueueFlushPassedLink p) };
-
-    fn step<L: Layout, M: WordMemory>(self, layout: &L, memory: &mut M) -> After<Op> {
+    fn step<L: Layout, M: WordMemory>(self, layout: &L, memory: &mut M) -> Stepped<Op, Reply> {
         let EnqueueFlushPassedLink { node, last, next } = self;
-        flush_at(layout, memory, Place::Next(last));
-        After::More(Op::EnqueueHelpTail(EnqueueHelpTail { node, last, next }))
+        let change = flush_at(layout, memory, Place::Next(last));
+        Stepped {
+            after: After::More(Op::EnqueueHelpTail(EnqueueHelpTail { node, last, next })),
+            change,
+        }
     }
 }
 
@@ -218,25 +202,21 @@ pub struct EnqueueHelpTail {
     pub(crate) next: NodeId,
 }
 
+// Without it an enqueue would wait for the client that lags, which may have stopped (`waits_for_a_stopped_client`).
 impl Resume for EnqueueHelpTail {
-    type Op = Op;
+    type Point = Op;
 
-    ghost use Rattle.helping.specs.Table.{access_of, successor, IsPoint};
     ghost use Rattle.helping.specs.declared.op.Op.TheVariants.{EnqueueHelpTail};
 
-    ghost access = { λ kind p. access_of kind (EnqueueHelpTail p) };
+    ghost point = { EnqueueHelpTail };
 
-    ghost next = { λ kind p found. successor kind (EnqueueHelpTail p) found };
-
-    ghost in_range = { λ s p. IsPoint s (EnqueueHelpTail p) };
-
-    fn step<L: Layout, M: WordMemory>(self, layout: &L, memory: &mut M) -> After<Op> {
+    fn step<L: Layout, M: WordMemory>(self, layout: &L, memory: &mut M) -> Stepped<Op, Reply> {
         let EnqueueHelpTail { node, last, next } = self;
         let tail = Write {
             place: Place::Tail,
             value: next.0 as u64,
         };
         let _swap = cas_at(layout, memory, last.0 as u64, tail);
-        After::More(Op::EnqueueLoadTail(EnqueueLoadTail { node }))
+        Stepped::quiet(After::More(Op::EnqueueLoadTail(EnqueueLoadTail { node })))
     }
 }

@@ -7,7 +7,7 @@ mod enqueue;
 mod op;
 
 pub use dequeue::{
-    Claim, DequeueCheckHead, DequeueClaim, DequeueFlushClaim, DequeueFlushEmpty,
+    Claim, Claimed, DequeueCheckHead, DequeueClaim, DequeueFlushClaim, DequeueFlushEmpty,
     DequeueFlushPassedLink, DequeueFlushResult, DequeueHelpTail, DequeueLoadHead, DequeueLoadNext,
     DequeueLoadTail, DequeueLoadValue, DequeueMoveHead, DequeueStoreEmpty, DequeueStoreResult,
 };

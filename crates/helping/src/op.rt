@@ -1,8 +1,8 @@
 //! A call under way, by the point where it waits.
 
 ghost use Rattle.std.specs.Prelude.{◌≡◌};
-ghost use Rattle.stepper.specs.Step.{kept_by};
-ghost use Rattle.helping.specs.Table.{access_of, first_of, begun_at, going_on, prepared_op};
+ghost use Rattle.stepper.specs.declared.resume.After.TheVariants.{More};
+ghost use Rattle.helping.specs.Table.{first_of, begun_at, prepared_op};
 ghost use Rattle.helping.specs.Looks.{is_look, found_no_node};
 
 use crate::dequeue::{
@@ -14,10 +14,12 @@ use crate::enqueue::{
     EnqueueCheckTail, EnqueueFlushLink, EnqueueFlushPassedLink, EnqueueHelpTail, EnqueueLink,
     EnqueueLoadNext, EnqueueLoadTail, EnqueueMoveTail,
 };
-use arena::{Layout, Place};
+use arena::Layout;
 use persist::WordMemory;
-use stepper::{After, Begun, Prepare, PrepareFlush, PrepareStore, Resume};
-use words::{Call, Kind, NodeId};
+use stepper::{
+    After, Begun, Points, Prepare, PrepareFlush, PrepareStore, Prepared, Resume, Stepped,
+};
+use words::{Call, Kind, NodeId, Reply};
 
 /// A call under way, by the point where it waits.
 #[derive(Clone, Copy, Debug, PartialEq, Eq, Hash)]
@@ -56,25 +58,6 @@ impl Op {
         Op::prepared(Prepare::begin(kind, begun))
     }
 
-    /// The place whose word the next step keeps, if that step is a flush.
-    pub fn keeps<L: Layout>(&self, layout: &L) -> Option<Place>
-        ensures { result ≡ kept_by (access_of (L.shape layout.now).kind self.now) }
-    {
-        match self {
-            Op::PrepareFlush(point) => Some(point.place()),
-            Op::EnqueueFlushLink(point) => Some(Place::Next(point.last)),
-            Op::EnqueueFlushPassedLink(point) => Some(Place::Next(point.last)),
-            Op::DequeueFlushEmpty(point) => Some(layout.empty_answer(point.token).place),
-            Op::DequeueFlushPassedLink(point) => Some(Place::Next(point.last)),
-            Op::DequeueFlushClaim(point) => Some(Place::Mark(point.next)),
-            Op::DequeueFlushResult(point) => {
-                let winner = point.claim.winner(point.token);
-                Some(layout.result(winner, point.next, point.value).place)
-            }
-            _ => None,
-        }
-    }
-
     /// Whether the next step of this dequeue looks for the node after the head.
     pub fn looks(&self) -> bool
         ensures { result ≡ is_look self.now }
@@ -105,40 +88,46 @@ impl Op {
     }
 
     /// Where the call of a preparation waits.
-    fn prepared(prepare: Prepare) -> Self
-        ensures { result ≡ prepared_op prepare }
+    fn prepared(after: After<Prepare, Prepared>) -> Self
+        ensures { result ≡ prepared_op after }
     {
-        match prepare {
-            Prepare::Store(point) => Op::PrepareStore(point),
-            Prepare::Flush(point) => Op::PrepareFlush(point),
-            Prepare::Prepared(begun) => Op::first(begun),
+        match after {
+            After::More(Prepare::Store(point)) => Op::PrepareStore(point),
+            After::More(Prepare::Flush(point)) => Op::PrepareFlush(point),
+            After::Done(begun) => Op::first(begun),
         }
     }
 }
 
 /// The same, after a step of the preparation.
-fn go_on(after: After<Prepare>) -> After<Op>
-    ensures { result ≡ going_on after }
+fn go_on(stepped: Stepped<Prepare, Prepared>) -> Stepped<Op, Reply>
+    ensures after { result.after ≡ More (prepared_op stepped.after) }
+    ensures change { result.change ≡ stepped.change }
 {
-    match after {
-        After::More(prepare) => After::More(Op::prepared(prepare)),
-        After::Done(reply) => After::Done(reply),
+    Stepped {
+        after: After::More(Op::prepared(stepped.after)),
+        change: stepped.change,
     }
 }
 
-impl Resume for Op {
-    type Op = Op;
+impl Points for Op {
+    type Answer = Reply;
 
-    ghost use Rattle.stepper.specs.Step.{kept_by};
-    ghost use Rattle.helping.specs.Table.{access_of, access_of, successor, IsPoint};
+    ghost use Rattle.helping.specs.Table.{access_of, successor, IsPoint};
 
     ghost access = { access_of };
 
-    ghost next = { successor };
+    ghost successor = { λ s. successor s.kind };
 
     ghost in_range = { IsPoint };
+}
 
-    fn step<L: Layout, M: WordMemory>(self, layout: &L, memory: &mut M) -> After<Op> {
+impl Resume for Op {
+    type Point = Op;
+
+    ghost point = { λ op. op };
+
+    fn step<L: Layout, M: WordMemory>(self, layout: &L, memory: &mut M) -> Stepped<Op, Reply> {
         match self {
             Op::PrepareStore(point) => go_on(point.step(layout, memory)),
             Op::PrepareFlush(point) => go_on(point.step(layout, memory)),

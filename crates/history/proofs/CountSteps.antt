@@ -1,16 +1,18 @@
 -- The plain queue by counting.
-use Rattle.std.proofs.Common.{ℕ, suc, zero, ◌≡◌, ◌<◌, ◌≤◌, ◌+◌, List, [], ◌∷◌, ◌++◌, length, arith, ap, ◌∙◌, Option, Some, None, slice_get, take, drop, get_or, subst, sym, refl, append-nil, length-append, length-drop}
+use Rattle.std.proofs.Common.{ℕ, suc, zero, ◌≡◌, ◌<◌, ◌≤◌, ◌+◌, List, [], ◌∷◌, ◌++◌, length, arith, ap, ◌∙◌, Option}
+use Rattle.std.proofs.Common.{Some, None, slice_get, take, drop, get_or, subst, sym, refl, append-nil, length-append}
+use Rattle.std.proofs.Common.{length-drop}
 use Rattle.std.proofs.lemmas.List.{drop-append-le, drop-drop, take_more, flat_map_more}
 use Rattle.words.specs.declared.call.Call.{Call}
 use Rattle.words.specs.declared.call.Call.TheVariants.{Enq, Deq}
 use Rattle.words.specs.declared.call.Reply.{Reply}
 use Rattle.words.specs.declared.call.Reply.TheVariants.{Got, Empty}
-use Rattle.history.specs.declared.event.Event.{Event}
-use Rattle.history.specs.declared.event.Entry.{Entry}
-use Rattle.history.specs.Replay.{call_at, left_by, queue_after, IsServed}
+use Rattle.events.specs.declared.event.Event.{Event}
+use Rattle.events.specs.declared.event.Entry.{Entry}
+use Rattle.events.specs.Replay.{call_at, queue_after_call, queue_after, IsServed}
 use Rattle.words.specs.PlainQueue.{reply_of, served}
 use Rattle.history.proofs.ReplaySteps.{queue_more}
-use Rattle.history.specs.Counting.{put_by, put_all, taken_by}
+use Rattle.history.specs.Counting.{values_of_call, values_of_order, dequeue_count}
 
 -- what a dequeue answers, by the front
 abbrev pub front_reply : Option ℕ → Reply
@@ -26,48 +28,59 @@ reply_at_front (x ∷ xs) (suc n) = reply_at_front xs n
 -- so for a queue and what was found at its front
 pub reply_by_front : (queue all : List ℕ) (taken : ℕ) (found : Option ℕ) → queue ≡ drop taken all
     → found ≡ slice_get all taken → front_reply found ≡ reply_of queue Deq
-reply_by_front queue all taken found q f = ap front_reply f ∙ sym (reply_at_front all taken) ∙ ap (λ (r : List ℕ). reply_of r Deq) (sym q)
+reply_by_front queue all taken found q f = ap front_reply f ∙ sym (reply_at_front all taken)
+    ∙ ap (λ (r : List ℕ). reply_of r Deq) (sym q)
 
 -- what is left after a call
 pub count_left : (queue all : List ℕ) (taken : ℕ) (call : Call) → queue ≡ drop taken all → taken ≤ length all
-    → served queue call ≡ drop (taken + taken_by (reply_of queue call)) (all ++ put_by (Some call))
+    → served queue call ≡ drop (taken + dequeue_count (reply_of queue call)) (all ++ values_of_call (Some call))
 count_left queue all taken (Enq value) q le = grind (arith, drop-append-le taken all (value ∷ []), q)
 count_left [] all taken Deq q le = rw (append-nil) (grind (arith, q))
 count_left (x ∷ rest) all taken Deq q le = rw (append-nil) (ap (drop 1) q ∙ drop-drop 1 taken all)
 
 -- what is taken was put
 pub count_within : (queue all : List ℕ) (taken : ℕ) (call : Call) → queue ≡ drop taken all
-    → taken ≤ length all → taken + taken_by (reply_of queue call) ≤ length (all ++ put_by (Some call))
+    → taken ≤ length all → taken + dequeue_count (reply_of queue call) ≤ length (all ++ values_of_call (Some call))
 count_within queue all taken (Enq value) q le = omega (arith, length-append all (value ∷ []))
 count_within [] all taken Deq q le = omega (arith, length-append {A = ℕ} all [])
-count_within (x ∷ rest) all taken Deq q le = omega (arith, length-append {A = ℕ} all [], ap length q, length-drop taken all)
+count_within (x ∷ rest) all taken Deq q le =
+    omega (arith, length-append {A = ℕ} all [], ap length q, length-drop taken all)
 
 -- what was put with one more entry
 pub put_more : (events : List Event) (base : List ℕ) (order : List Entry) (i : ℕ) (d : Entry)
     → i < length order
-    → base ++ put_all events (take (i + 1) order) ≡ (base ++ put_all events (take i order)) ++ put_by (call_at events (get_or order i d).place)
+    → base ++ values_of_order events (take (i + 1) order)
+    ≡ (base ++ values_of_order events (take i order)) ++ values_of_call (call_at events (get_or order i d).place)
 put_more events base order i d lt =
-    ap (λ (es : List Entry). base ++ put_all events es) (take_more order i d lt)
-    ∙ sym (flat_map_more (λ (e : Entry). put_by (call_at events e.place)) base (take i order) (get_or order i d))
+    ap (λ (es : List Entry). base ++ values_of_order events es) (take_more order i d lt)
+    ∙ sym (flat_map_more (λ (e : Entry). values_of_call (call_at events e.place)) base (take i order)
+    (get_or order i d))
 
 -- the queue after the first i entries is what was put, without as many as were taken
 pub record IsCounted (events : List Event) (base : List ℕ) (order : List Entry) (i taken : ℕ) : Type 0 where
-  pub within : taken ≤ length (base ++ put_all events (take i order))
-  pub queue : queue_after events base (take i order) ≡ drop taken (base ++ put_all events (take i order))
+  pub within : taken ≤ length (base ++ values_of_order events (take i order))
+  pub queue : queue_after events base (take i order) ≡ drop taken (base ++ values_of_order events (take i order))
 
 pub counted_more : (events : List Event) (base : List ℕ) (order : List Entry) (i taken more : ℕ) (d : Entry)
     → i < length order → IsCounted events base order i taken
     → IsServed events (queue_after events base (take i order)) (get_or order i d)
-    → more ≡ taken_by (get_or order i d).reply → IsCounted events base order (i + 1) (taken + more)
+    → more ≡ dequeue_count (get_or order i d).reply → IsCounted events base order (i + 1) (taken + more)
 counted_more events base order i taken more d lt so_far right is_more =
     let queue : List ℕ = queue_after events base (take i order) in
-    let all : List ℕ = base ++ put_all events (take i order) in
-    let put : base ++ put_all events (take (i + 1) order) ≡ all ++ put_by (Some right.call) = put_more events base order i d lt ∙ ap (λ (o : Option Call). all ++ put_by o) right.names in
-    let took : more ≡ taken_by (reply_of queue right.call) = is_more ∙ ap taken_by right.reply in
-    let left : queue_after events base (take (i + 1) order) ≡ served queue right.call = sym (queue_more events base queue (left_by queue (call_at events (get_or order i d).place)) order i d lt refl refl) ∙ ap (λ (o : Option Call). left_by queue o) right.names in
-    let counted : served queue right.call ≡ drop (taken + taken_by (reply_of queue right.call)) (all ++ put_by (Some right.call)) = count_left queue all taken right.call so_far.queue so_far.within in
-    let few : taken + taken_by (reply_of queue right.call) ≤ length (all ++ put_by (Some right.call)) = count_within queue all taken right.call so_far.queue so_far.within in
+    let all : List ℕ = base ++ values_of_order events (take i order) in
+    let put : base ++ values_of_order events (take (i + 1) order) ≡ all ++ values_of_call (Some right.call) =
+    put_more events base order i d lt ∙ ap (λ (o : Option Call). all ++ values_of_call o) right.names in
+    let took : more ≡ dequeue_count (reply_of queue right.call) = is_more ∙ ap dequeue_count right.reply in
+    let left : queue_after events base (take (i + 1) order) ≡ served queue right.call =
+    sym (queue_more events base queue (queue_after_call queue (call_at events (get_or order i d).place)) order i
+    d lt refl refl) ∙ ap (λ (o : Option Call). queue_after_call queue o) right.names in
+    let counted : served queue right.call ≡ drop (taken + dequeue_count (reply_of queue right.call))
+    (all ++ values_of_call (Some right.call)) = count_left queue all taken right.call so_far.queue so_far.within in
+    let few : taken + dequeue_count (reply_of queue right.call) ≤ length (all ++ values_of_call (Some right.call)) =
+    count_within queue all taken right.call so_far.queue so_far.within in
     record {
-      within = subst (λ (xs : List ℕ). taken + more ≤ length xs) (sym put) (subst (λ (n : ℕ). taken + n ≤ length (all ++ put_by (Some right.call))) (sym took) few);
-      queue = left ∙ counted ∙ ap (λ (n : ℕ). drop (taken + n) (all ++ put_by (Some right.call))) (sym took) ∙ ap (λ (xs : List ℕ). drop (taken + more) xs) (sym put);
+      within = subst (λ (xs : List ℕ). taken + more ≤ length xs) (sym put)
+          (subst (λ (n : ℕ). taken + n ≤ length (all ++ values_of_call (Some right.call))) (sym took) few);
+      queue = left ∙ counted ∙ ap (λ (n : ℕ). drop (taken + n) (all ++ values_of_call (Some right.call))) (sym took)
+          ∙ ap (λ (xs : List ℕ). drop (taken + more) xs) (sym put);
     }

@@ -1,5 +1,6 @@
 -- The front of the queue, one entry on.
-use Rattle.std.proofs.Common.{ℕ, ◌≡◌, ◌<◌, ◌≤◌, ◌+◌, List, [], ◌∷◌, ◌++◌, Option, Some, None, get_or, length, take, drop, refl, ap, arith, sym, ◌∙◌, append-nil, length-take}
+use Rattle.std.proofs.Common.{ℕ, ◌≡◌, ◌<◌, ◌≤◌, ◌+◌, List, [], ◌∷◌, ◌++◌, Option, Some, None, get_or, length, take}
+use Rattle.std.proofs.Common.{drop, refl, ap, arith, sym, ◌∙◌, append-nil, length-take}
 use Rattle.std.specs.Prelude.{IfNone, option_to_list}
 use Rattle.std.proofs.lemmas.List.{append_assoc, drop_more, drop_all, get_or-take, take_more, drop-append-le}
 use Rattle.std.proofs.lemmas.Option.{slice_get-get_or}
@@ -8,46 +9,54 @@ use Rattle.words.specs.declared.call.Call.{Call}
 use Rattle.words.specs.declared.call.Call.TheVariants.{Enq, Deq}
 use Rattle.words.specs.declared.call.Reply.{Reply}
 use Rattle.words.specs.PlainQueue.{reply_of, served}
-use Rattle.history.specs.declared.event.Event.{Event}
-use Rattle.history.specs.declared.event.Entry.{Entry}
-use Rattle.history.specs.Counting.{put_by, put_all}
-use Rattle.history.specs.Fronts.{put_between, held, reply_by}
-use Rattle.history.specs.Replay.{call_at, queue_after, IsServed, IsRightAt}
+use Rattle.events.specs.declared.event.Event.{Event}
+use Rattle.events.specs.declared.event.Entry.{Entry}
+use Rattle.history.specs.Counting.{values_of_call, values_of_order}
+use Rattle.history.specs.Fronts.{values_between, queue_from, reply_of_front}
+use Rattle.events.specs.Replay.{call_at, queue_after, IsServed, IsRightAt}
 use Rattle.history.proofs.ReplaySteps.{right_here}
 
 -- the first entry's call puts its value
-pub put_first : (events : List Event) (order : List Entry) (from to value : ℕ) (d : Entry) → from < to
+pub values_first : (events : List Event) (order : List Entry) (from to value : ℕ) (d : Entry) → from < to
     → to ≤ length order → call_at events (get_or order from d).place ≡ Some (Enq value)
-    → put_between events order from to ≡ value ∷ put_between events order (from + 1) to
-put_first events order from to value d below within names =
-    ap (put_all events) (drop_more (take to order) from d (omega (arith, length-take to order)))
-    ∙ ap (λ (e : Entry). put_by (call_at events e.place) ++ put_between events order (from + 1) to) (get_or-take to order from d below)
-    ∙ ap (λ (c : Option Call). put_by c ++ put_between events order (from + 1) to) names
+    → values_between events order from to ≡ value ∷ values_between events order (from + 1) to
+values_first events order from to value d below within names =
+    ap (values_of_order events) (drop_more (take to order) from d (omega (arith, length-take to order)))
+    ∙ ap (λ (e : Entry). values_of_call (call_at events e.place) ++ values_between events order (from + 1) to)
+    (get_or-take to order from d below)
+    ∙ ap (λ (c : Option Call). values_of_call c ++ values_between events order (from + 1) to) names
 
 -- no entries put nothing
-pub put_none : (events : List Event) (order : List Entry) (to : ℕ) → put_between events order to to ≡ []
-put_none events order to = ap (put_all events) (drop_all to (take to order) (omega (arith, length-take to order)))
+pub values_none : (events : List Event) (order : List Entry) (to : ℕ) → values_between events order to to ≡ []
+values_none events order to = ap (values_of_order events)
+    (drop_all to (take to order) (omega (arith, length-take to order)))
 
 -- one entry more at the end
 pub put_last : (events : List Event) (order : List Entry) (from i : ℕ) (d : Entry) → from ≤ i
     → i < length order
-    → put_between events order from (i + 1) ≡ put_between events order from i ++ put_by (call_at events (get_or order i d).place)
+    → values_between events order from (i + 1) ≡ values_between events order from i ++ values_of_call
+    (call_at events (get_or order i d).place)
 put_last events order from i d below within =
-    ap (λ (es : List Entry). put_all events (drop from es)) (take_more order i d within)
-    ∙ ap (put_all events) (drop-append-le from (take i order) (get_or order i d ∷ []) (omega (arith, length-take i order)))
-    ∙ flat_map-append (λ (e : Entry). put_by (call_at events e.place)) (drop from (take i order)) (get_or order i d ∷ [])
-    ∙ ap (λ (vs : List ℕ). put_between events order from i ++ vs) (append-nil (put_by (call_at events (get_or order i d).place)))
+    ap (λ (es : List Entry). values_of_order events (drop from es)) (take_more order i d within)
+    ∙ ap (values_of_order events) (drop-append-le from (take i order) (get_or order i d ∷ [])
+    (omega (arith, length-take i order)))
+    ∙ flat_map-append (λ (e : Entry). values_of_call (call_at events e.place)) (drop from (take i order))
+    (get_or order i d ∷ [])
+    ∙ ap (λ (vs : List ℕ). values_between events order from i ++ vs)
+    (append-nil (values_of_call (call_at events (get_or order i d).place)))
 
 pub held_last : (events : List Event) (base : List ℕ) (order : List Entry) (taken from i : ℕ) (d : Entry)
     → from ≤ i → i < length order
-    → held events base order taken from (i + 1) ≡ held events base order taken from i ++ put_by (call_at events (get_or order i d).place)
+    → queue_from events base order taken from (i + 1) ≡ queue_from events base order taken from i ++ values_of_call
+    (call_at events (get_or order i d).place)
 held_last events base order taken from i d below within =
     ap (λ (vs : List ℕ). drop taken base ++ vs) (put_last events order from i d below within)
-    ∙ sym (append_assoc (drop taken base) (put_between events order from i) (put_by (call_at events (get_or order i d).place)))
+    ∙ sym (append_assoc (drop taken base) (values_between events order from i)
+    (values_of_call (call_at events (get_or order i d).place)))
 
 -- what a dequeue answers by the front, and leaves
 pub reply_by_front : (queue rest : List ℕ) (front : Option ℕ) → queue ≡ option_to_list front ++ rest
-    → IfNone front (queue ≡ []) → reply_by front ≡ reply_of queue Deq
+    → IfNone front (queue ≡ []) → reply_of_front front ≡ reply_of queue Deq
 reply_by_front queue rest None is none = rw none refl
 reply_by_front queue rest (Some value) is none = rw is refl
 
@@ -57,24 +66,29 @@ left_by_front queue rest None is none = rw none (sym none ∙ is)
 left_by_front queue rest (Some value) is none = rw is refl
 
 -- the entry at i is right where its reply is the queue's
-pub right_by_reply : (events : List Event) (base : List ℕ) (order : List Entry) (i : ℕ) (d : Entry) (call : Call) (reply : Reply)
+pub right_by_reply : (events : List Event) (base : List ℕ) (order : List Entry) (i : ℕ) (d : Entry) (call : Call)
+    (reply : Reply)
     → i < length order → call_at events (get_or order i d).place ≡ Some call
     → reply ≡ reply_of (queue_after events base (take i order)) call → (get_or order i d).reply ≡ reply
     → IsRightAt events base order i
 right_by_reply events base order i d call reply within names is same =
-    right_here events base (queue_after events base (take i order)) order i d within refl (record { call = call; names = names; reply = same ∙ is })
+    right_here events base (queue_after events base (take i order)) order i d within refl
+    (record { call = call; names = names; reply = same ∙ is })
 
-pub reply_by_right : (events : List Event) (base : List ℕ) (order : List Entry) (i : ℕ) (d : Entry) (call : Call) (reply : Reply)
+pub reply_by_right : (events : List Event) (base : List ℕ) (order : List Entry) (i : ℕ) (d : Entry) (call : Call)
+    (reply : Reply)
     → i < length order → call_at events (get_or order i d).place ≡ Some call
     → reply ≡ reply_of (queue_after events base (take i order)) call → IsRightAt events base order i
     → (get_or order i d).reply ≡ reply
 reply_by_right events base order i d call reply within names is right =
-    let served : IsServed events (queue_after events base (take i order)) (get_or order i d) = right.served (get_or order i d) (slice_get-get_or order i d within) in
+    let served : IsServed events (queue_after events base (take i order)) (get_or order i d) =
+    right.served (get_or order i d) (slice_get-get_or order i d within) in
     let one : served.call ≡ call = cc (served.names, names) in
     served.reply ∙ ap (reply_of (queue_after events base (take i order))) one ∙ sym is
 
 pub wrong_without_call : (events : List Event) (base : List ℕ) (order : List Entry) (i : ℕ) (d : Entry)
     → i < length order → call_at events (get_or order i d).place ≡ None → IsRightAt events base order i → ⊥
 wrong_without_call events base order i d within none right =
-    let served : IsServed events (queue_after events base (take i order)) (get_or order i d) = right.served (get_or order i d) (slice_get-get_or order i d within) in
+    let served : IsServed events (queue_after events base (take i order)) (get_or order i d) =
+    right.served (get_or order i d) (slice_get-get_or order i d within) in
     cc (served.names, none)

@@ -3,9 +3,10 @@ use Rattle.std.proofs.Common.{ℕ, ◌≡◌, ◌<◌, List, Some, slice_get, ge
 use Rattle.std.specs.Prelude.{All}
 use Rattle.std.proofs.lemmas.Option.{slice_get_within, slice_get-get_or, get_or_from_slice_get}
 use Rattle.words.specs.declared.call.Client.{Client}
-use Rattle.history.specs.declared.event.Event.{Event}
-use Rattle.history.specs.declared.event.Event.TheVariants.{Call as call_event, Return as return_event, Crash as crash_event, Ready as ready_event}
-use Rattle.history.specs.History.{IsUnderWay, MayStand}
+use Rattle.events.specs.declared.event.Event.{Event}
+use Rattle.events.specs.declared.event.Event.TheVariants.{Call as call_event, Return as return_event}
+use Rattle.events.specs.declared.event.Event.TheVariants.{Crash as crash_event, Ready as ready_event}
+use Rattle.events.specs.History.{IsUnderWay, MayStand}
 use Rattle.history.specs.Sweeps.{HasClient, StandsUp, StandsInTurn, IsInTurn}
 
 -- each event may stand where it stands
@@ -48,7 +49,8 @@ pub turn_from_may : (events : List Event) → EachMayStand events → (client : 
 turn_from_may events may client = record { each = each }
   where
     each : (p : ℕ) (event : Event) → slice_get events p ≡ Some event → StandsInTurn events client p event
-    each p (call_event other number call) at = λ same. subst (λ (c : Client). IsUnderWay events c p → ⊥) same (may p _ at).1.0
+    each p (call_event other number call) at = λ same. subst (λ (c : Client). IsUnderWay events c p → ⊥) same
+        (may p _ at).1.0
     each p (return_event other reply) at = λ same. subst (λ (c : Client). IsUnderWay events c p) same (may p _ at).0
     each p crash_event at = tt
     each p (ready_event told) at = tt

@@ -5,22 +5,22 @@ use Rattle.words.specs.declared.call.Call.{Call}
 use Rattle.words.specs.declared.call.Call.TheVariants.{Enq, Deq}
 use Rattle.words.specs.declared.call.Reply.{Reply}
 use Rattle.words.specs.declared.call.Reply.TheVariants.{Done, Got, Empty}
-use Rattle.history.specs.declared.event.Event.{Event}
-use Rattle.history.specs.declared.event.Entry.{Entry}
-use Rattle.history.specs.Replay.{call_at}
+use Rattle.events.specs.declared.event.Event.{Event}
+use Rattle.events.specs.declared.event.Entry.{Entry}
+use Rattle.events.specs.Replay.{call_at}
 
 -- the values that a call puts into the queue
-abbrev pub put_by : Option Call → List ℕ
-put_by (Some (Enq value)) = value ∷ []
-put_by (Some Deq) = []
-put_by None = []
+abbrev pub values_of_call : Option Call → List ℕ
+values_of_call (Some (Enq value)) = value ∷ []
+values_of_call (Some Deq) = []
+values_of_call None = []
 
 -- the values that these calls put into the queue
-abbrev pub put_all : List Event → List Entry → List ℕ
-put_all events order = flat_map (λ entry. put_by (call_at events entry.place)) order
+abbrev pub values_of_order : List Event → List Entry → List ℕ
+values_of_order events order = flat_map (λ entry. values_of_call (call_at events entry.place)) order
 
 -- how many values a reply takes out of the queue
-abbrev pub taken_by : Reply → ℕ
-taken_by (Got value) = 1
-taken_by Done = 0
-taken_by Empty = 0
+abbrev pub dequeue_count : Reply → ℕ
+dequeue_count (Got value) = 1
+dequeue_count Done = 0
+dequeue_count Empty = 0

@@ -5,22 +5,24 @@ use Rattle.words.specs.declared.call.Kind.{Kind}
 use Rattle.words.specs.declared.call.Kind.TheVariants.{Durable, Log}
 use Rattle.words.specs.declared.call.Reply.{Reply}
 use Rattle.words.specs.declared.call.Reply.TheVariants.{Got, Empty}
+use Rattle.words.specs.declared.limits.TheConstants.{MAX_CLIENTS}
 use Rattle.words.specs.declared.told.Outcome.{Outcome}
 use Rattle.words.specs.declared.told.Outcome.TheVariants.{NotTaken, Taken}
 use Rattle.words.specs.declared.told.Row.{Row}
 use Rattle.words.specs.declared.told.Row.TheVariants.{NoCall, Open, Empty as row_empty, Got as row_got}
 use Rattle.words.specs.declared.told.Told.{Told}
 use Rattle.words.specs.declared.told.Told.TheVariants.{None as told_none, Verdict as told_verdict, Row as told_row}
-use Rattle.history.specs.declared.event.Event.{Event}
-use Rattle.history.specs.declared.event.Entry.{Entry}
-use Rattle.history.specs.History.{BeginsAt, ReadyAt}
-use Rattle.history.specs.Telling.{BeginsTold, HasNoneTaken, IsToldSome, IsToldBase}
+use Rattle.events.specs.declared.event.Event.{Event}
+use Rattle.events.specs.declared.event.Entry.{Entry}
+use Rattle.events.specs.History.{BeginsAt, ReadyAt}
+use Rattle.events.specs.Telling.{BeginsTold, HasNoneTaken, IsToldSome, IsToldBase}
 
--- the outcome is that the call took effect with this reply; the row is that of a call with this reply
+-- the outcome is that the call took effect with this reply
 abbrev pub IsOutcomeTaken : Reply → Outcome → Type 0
 IsOutcomeTaken reply (Taken other) = other ≡ reply
 IsOutcomeTaken reply NotTaken = ⊥
 
+-- the row is that of a call with this reply
 abbrev pub IsRowTaken : Reply → Row → Type 0
 IsRowTaken reply (row_got value) = reply ≡ Got value
 IsRowTaken reply row_empty = reply ≡ Empty
@@ -90,14 +92,14 @@ pub record IsSaidLast (kind : Kind) (events : List Event) (order : List Entry) (
   pub says : SaysLast kind events order client told index
 
 -- before the Ready at q the client's last call in the order is this
-pub record IsHeard (kind : Kind) (events : List Event) (order : List Entry) (client : Client) (q from : ℕ)
+pub record IsProgress (kind : Kind) (events : List Event) (order : List Entry) (client : Client) (q from : ℕ)
     (last : Option ℕ) : Type 0 where
   pub low : from ≤ q
   pub is_last : IsLast kind events order client from last
   pub none : HasNoneTaken kind events order client from q
 
 -- so it is of the first n entries, none of which begins at `from` or later
-pub record IsHeardTo (kind : Kind) (events : List Event) (order : List Entry) (client : Client) (q from : ℕ)
+pub record IsProgressTo (kind : Kind) (events : List Event) (order : List Entry) (client : Client) (q from : ℕ)
     (last : Option ℕ) (n : ℕ) : Type 0 where
   pub low : from ≤ q
   pub is_last : IsLast kind events order client from last
@@ -134,4 +136,4 @@ pub record IsLaterEntry (events : List Event) (order : List Entry) (client : Cli
 
 -- a Ready that stands at q tells sixteen clients
 pub record TellsSixteen (events : List Event) (q : ℕ) : Type 0 where
-  pub sixteen : (tells : List Told) → ReadyAt events q tells → length tells ≡ 16
+  pub sixteen : (tells : List Told) → ReadyAt events q tells → length tells ≡ MAX_CLIENTS

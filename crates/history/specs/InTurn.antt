@@ -4,9 +4,9 @@ use Rattle.words.specs.PlainQueue.{reply_of, served}
 use Rattle.words.specs.declared.call.Call.{Call}
 use Rattle.words.specs.declared.call.Client.{Client}
 use Rattle.words.specs.declared.call.Reply.{Reply}
-use Rattle.history.specs.declared.event.Event.{Event}
-use Rattle.history.specs.declared.event.Event.TheVariants.{Call as call_event, Return as return_event}
-use Rattle.history.specs.declared.event.Entry.{Entry}
+use Rattle.events.specs.declared.event.Event.{Event}
+use Rattle.events.specs.declared.event.Event.TheVariants.{Call as call_event, Return as return_event}
+use Rattle.events.specs.declared.event.Entry.{Entry}
 
 -- a call, with its number, and the reply that it returned
 pub record Turn : Type 0 where
@@ -15,10 +15,10 @@ pub record Turn : Type 0 where
   pub reply : Reply
 
 -- each call, and then its return
-abbrev pub in_turn : Client → List Turn → List Event
-in_turn client [] = []
-in_turn client (turn ∷ turns) =
-    call_event client turn.number turn.call ∷ return_event client turn.reply ∷ in_turn client turns
+abbrev pub events_in_turn : Client → List Turn → List Event
+events_in_turn client [] = []
+events_in_turn client (turn ∷ turns) =
+    call_event client turn.number turn.call ∷ return_event client turn.reply ∷ events_in_turn client turns
 
 -- each reply is the plain queue's
 abbrev pub AreServed : List ℕ → List Turn → Type 0
@@ -32,5 +32,5 @@ order_in_turn place (turn ∷ turns) =
     record { place = place; reply = turn.reply } ∷ order_in_turn (place + 2) turns
 
 -- what the plain queue holds after them
-abbrev pub left_in_turn : List ℕ → List Turn → List ℕ
-left_in_turn base turns = fold (λ queue turn. served queue turn.call) base turns
+abbrev pub queue_in_turn : List ℕ → List Turn → List ℕ
+queue_in_turn base turns = fold (λ queue turn. served queue turn.call) base turns

@@ -1,8 +1,8 @@
 -- What the nested loops of the plain checker look at.
 use Rattle.std.specs.Prelude.{ℕ, ◌≡◌, List, Some, slice_get}
-use Rattle.history.specs.declared.event.Event.{Event}
-use Rattle.history.specs.declared.event.Entry.{Entry}
-use Rattle.history.specs.History.{Precedes}
+use Rattle.events.specs.declared.event.Event.{Event}
+use Rattle.events.specs.declared.event.Entry.{Entry}
+use Rattle.events.specs.History.{Precedes}
 
 -- the call of the entry at i precedes none that stands at j
 pub record IsNotAfter (events : List Event) (order : List Entry) (i j : ℕ) : Type 0 where

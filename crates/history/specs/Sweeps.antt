@@ -3,14 +3,16 @@ use Rattle.std.specs.Prelude.{ℕ, ◌≡◌, ◌<◌, ◌≤◌, ◌+◌, List,
 use Rattle.words.specs.declared.call.Client.{Client}
 use Rattle.words.specs.declared.call.Kind.TheVariants.{Durable, Log}
 use Rattle.words.specs.declared.call.Reply.{Reply}
+use Rattle.words.specs.declared.limits.TheConstants.{MAX_CLIENTS}
 use Rattle.words.specs.declared.told.Told.{Told}
-use Rattle.history.specs.declared.event.Event.{Event}
-use Rattle.history.specs.declared.event.Event.TheVariants.{Call as call_event, Return as return_event, Crash as crash_event, Ready as ready_event}
-use Rattle.history.specs.declared.event.Entry.{Entry}
-use Rattle.history.specs.History.{BeginsAt, ReturnAt, IsEnd, IsOpenFrom, IsDown, IsUnderWay, IsDurable}
-use Rattle.history.specs.Telling.{TellsAt, IsToldIfInterrupted}
-use Rattle.history.specs.Explains.{IsAnswered}
-use Rattle.history.specs.Orders.{TakenAs}
+use Rattle.events.specs.declared.event.Event.{Event}
+use Rattle.events.specs.declared.event.Event.TheVariants.{Call as call_event, Return as return_event}
+use Rattle.events.specs.declared.event.Event.TheVariants.{Crash as crash_event, Ready as ready_event}
+use Rattle.events.specs.declared.event.Entry.{Entry}
+use Rattle.events.specs.History.{BeginsAt, ReturnAt, IsEnd, IsOpenFrom, IsDown, IsUnderWay, IsDurable}
+use Rattle.events.specs.Telling.{TellsAt, IsToldIfInterrupted}
+use Rattle.events.specs.Explains.{IsAnswered}
+use Rattle.events.specs.Orders.{IsTakenAs}
 
 -- one of the first n entries has this place
 pub record HasPlace (order : List Entry) (n place : ℕ) : Type 0 where
@@ -28,8 +30,8 @@ pub record IsGreatest (order : List Entry) (n greatest : ℕ) : Type 0 where
 
 -- a Call or a Return is of a client from 0 to 15
 abbrev pub HasClient : Event → Type 0
-HasClient (call_event client number call) = client.0 < 16
-HasClient (return_event client reply) = client.0 < 16
+HasClient (call_event client number call) = client.0 < MAX_CLIENTS
+HasClient (return_event client reply) = client.0 < MAX_CLIENTS
 HasClient crash_event = ⊤
 HasClient (ready_event told) = ⊤
 
@@ -88,16 +90,16 @@ pub record HasEndedEntry (events : List Event) (order : List Entry) (client : Cl
   pub ends : IsEnd events client entry.place end
   pub before : end < k
 
--- so it is of the calls that ended before k: a call without an end before it begins at `call`, and what is complete stands before `from`
+-- so it is of the calls that ended before k, whose entries stand before `from`; one without an end begins at `call`
 pub record IsAnsweredTo (events : List Event) (order : List Entry) (client : Client) (k call from : ℕ) : Type 0 where
   pub last : IsUnderWay events client k → IsOpenFrom events client k call
   pub before : IsUnderWay events client k → call < k
   pub answered : (p e : ℕ) (reply : Reply) → e < k → BeginsAt events client p → IsEnd events client p e
-      → ReturnAt events e client reply → TakenAs order p reply
+      → ReturnAt events e client reply → IsTakenAs order p reply
   pub ended : 0 < from → HasEndedEntry events order client k from
 
 -- the entry of the call at p with this reply stands just before `after`, not before `from`
-pub record IsTakenNext (order : List Entry) (from p : ℕ) (reply : Reply) (after : ℕ) : Type 0 where
+pub record IsNextEntry (order : List Entry) (from p : ℕ) (reply : Reply) (after : ℕ) : Type 0 where
   pub index : ℕ
   pub last : index + 1 ≡ after
   pub entry : Entry
@@ -106,7 +108,7 @@ pub record IsTakenNext (order : List Entry) (from p : ℕ) (reply : Reply) (afte
   pub same : entry.reply ≡ reply
 
 -- no entry of the call at p with this reply stands from `from` on
-pub record IsNotTakenFrom (order : List Entry) (from p : ℕ) (reply : Reply) : Type 0 where
+pub record HasNoEntryFrom (order : List Entry) (from p : ℕ) (reply : Reply) : Type 0 where
   pub none : (i : ℕ) (entry : Entry) → from ≤ i → slice_get order i ≡ Some entry → entry.place ≡ p
       → entry.reply ≡ reply → ⊥
 

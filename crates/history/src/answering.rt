@@ -3,13 +3,13 @@
 
 ghost use Rattle.std.specs.Prelude.{◌≡◌, ◌<◌, ◌≤◌, ◌+◌, ◌↔◌, length, IsTrue, IfSome, IfNone, EachIndex};
 ghost use Rattle.words.specs.declared.call.Reply.{Reply};
-ghost use Rattle.history.specs.Explains.{IsAnswered, KeepsPrecedence};
-ghost use Rattle.history.specs.History.{ReturnAt, IsHistory};
-ghost use Rattle.history.specs.Orders.{IsNew};
-ghost use Rattle.history.specs.Sweeps.{IsAnsweredOf, IsAnsweredTo, IsTakenNext, IsNotTakenFrom};
+ghost use Rattle.events.specs.Explains.{IsAnswered, KeepsPrecedence};
+ghost use Rattle.events.specs.History.{ReturnAt, IsHistory};
+ghost use Rattle.events.specs.Orders.{IsNew};
+ghost use Rattle.history.specs.Sweeps.{IsAnsweredOf, IsAnsweredTo, IsNextEntry, HasNoEntryFrom};
 
-use crate::event::{Entry, Event};
 use crate::places::begins_at;
+use events::{Entry, Event};
 use words::{Client, Reply};
 
 /// Where a client's pass stands: its last call, and the entry from which on its next one stands.
@@ -20,10 +20,10 @@ struct Pass {
 }
 
 /// The place after the entry of the call at `p`, where it stands from `from` on and has this reply.
-fn taken_next(entries: &[Entry], from: usize, p: usize, reply: Reply) -> Option<usize>
+fn place_after_entry(entries: &[Entry], from: usize, p: usize, reply: Reply) -> Option<usize>
     requires { EachIndex entries.now (λ i. IsNew entries.now i) }
-    ensures some { IfSome result (λ after. IsTakenNext entries.now from p reply after) }
-    ensures none { IfNone result (IsNotTakenFrom entries.now from p reply) }
+    ensures some { IfSome result (λ after. IsNextEntry entries.now from p reply after) }
+    ensures none { IfNone result (HasNoEntryFrom entries.now from p reply) }
 {
     for i in from..entries.len() {
         let entry = entries[i];
@@ -39,7 +39,7 @@ fn taken_next(entries: &[Entry], from: usize, p: usize, reply: Reply) -> Option<
 }
 
 /// What the client's call is answered at `k`, if it is.
-fn returned_at(events: &[Event], client: Client, k: usize) -> Option<Reply>
+fn return_at(events: &[Event], client: Client, k: usize) -> Option<Reply>
     requires { k < length events.now }
     ensures some { IfSome result (λ reply. ReturnAt events.now k client reply) }
     ensures none { IfNone result ((reply : Reply) → ReturnAt events.now k client reply → ⊥) }
@@ -72,10 +72,10 @@ fn after_event(
     if begins_at(events, client, k) {
         return Some(Pass { call: k, ..pass });
     }
-    let Some(reply) = returned_at(events, client, k) else {
+    let Some(reply) = return_at(events, client, k) else {
         return Some(pass);
     };
-    let Some(from) = taken_next(entries, pass.from, pass.call, reply) else {
+    let Some(from) = place_after_entry(entries, pass.from, pass.call, reply) else {
         return None;
     };
     Some(Pass { from, ..pass })

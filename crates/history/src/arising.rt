@@ -2,12 +2,12 @@
 
 ghost use Rattle.std.specs.Prelude.{◌≡◌, ◌<◌, ◌≤◌, ◌+◌, ◌↔◌, ℕ, Some, length, IsTrue, All, slice_get};
 ghost use Rattle.words.specs.declared.call.Client.{Client};
-ghost use Rattle.history.specs.declared.event.Event.{Event};
-ghost use Rattle.history.specs.History.{IsDown, IsUnderWay, IsHistory};
+ghost use Rattle.events.specs.declared.event.Event.{Event};
+ghost use Rattle.events.specs.History.{IsDown, IsUnderWay, IsHistory};
 ghost use Rattle.history.specs.Sweeps.{HasClient, StandsUp, StandsInTurn, IsInTurn};
 
-use crate::event::Event;
 use crate::places::has_one_kind;
+use events::Event;
 use words::Client;
 
 /// Whether a Call or a Return is of a client from 0 to 15.

@@ -1,25 +1,25 @@
 //! The checker.
 
 ghost use Rattle.std.specs.Prelude.{◌<◌, ◌↔◌, length, IsTrue, All, EachIndex};
-ghost use Rattle.history.specs.Explains.{Explains, IsExplained, KeepsPrecedence};
-ghost use Rattle.history.specs.History.{IsHistory};
-ghost use Rattle.history.specs.Orders.{IsNew};
+ghost use Rattle.events.specs.Explains.{Explains, IsExplained, KeepsPrecedence};
+ghost use Rattle.events.specs.History.{IsHistory};
+ghost use Rattle.events.specs.Orders.{IsNew};
 ghost use Rattle.history.specs.Sweeps.{Tells};
 
 use crate::answering::all_answered;
 use crate::arising::arises;
-use crate::event::{Entry, Event, History, Order};
 use crate::fronts::replay_is_right;
 use crate::hearing::all_told;
 use crate::naming::names_once;
 use crate::ordering::names_calls;
 use crate::places::is_durable;
 use crate::preceding::precedence_is_kept;
-use words::{Kind, Told};
+use events::{Entry, Event, History, Order};
+use words::{Kind, Reports};
 
 /// Whether what clients are told agrees with the order. That of interrupted calls follows from the rest: such a call is
 /// its client's last one begun before the next Ready.
-fn tells(told: &[Told; 16], events: &[Event], entries: &[Entry]) -> bool
+fn tells(told: &Reports, events: &[Event], entries: &[Entry]) -> bool
     requires calls { All (λ entry. entry.place < length events.now) entries.now }
     requires history { IsHistory events.now }
     requires once { EachIndex entries.now (λ i. IsNew entries.now i) }
@@ -33,7 +33,7 @@ fn tells(told: &[Told; 16], events: &[Event], entries: &[Entry]) -> bool
 }
 
 /// Whether the order explains the history, which may arise.
-fn explains(base: &[u32], told: &[Told; 16], events: &[Event], entries: &[Entry]) -> bool
+fn explains(base: &[u32], told: &Reports, events: &[Event], entries: &[Entry]) -> bool
     requires { IsHistory events.now }
     ensures { IsTrue result ↔ Explains base.now told.now events.now entries.now }
 {

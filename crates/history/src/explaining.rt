@@ -1,12 +1,12 @@
 //! Whether an order has the replies that calls returned, and keeps precedence.
 
 ghost use Rattle.std.specs.Prelude.{◌<◌, ◌≤◌, ◌↔◌, ℕ, length, IsTrue, EachIndex, All};
-ghost use Rattle.history.specs.Explains.{IsAnswered, KeepsPrecedence};
+ghost use Rattle.events.specs.Explains.{IsAnswered, KeepsPrecedence};
 ghost use Rattle.history.specs.Plainly.{IsNotAfter};
 
-use crate::event::{Entry, Event};
-use crate::ordering::taken_as;
+use crate::ordering::is_taken_as;
 use crate::places::precedes;
+use events::{Entry, Event};
 
 /// Whether the call at `p`, if it is complete, is in the order with the reply that it returned.
 fn is_answered(events: &[Event], entries: &[Entry], p: usize) -> bool
@@ -22,7 +22,7 @@ fn is_answered(events: &[Event], entries: &[Entry], p: usize) -> bool
                 client: other,
                 reply,
             } if other == client => {
-                return taken_as(entries, p, reply);
+                return is_taken_as(entries, p, reply);
             }
             Event::Crash => return true,
             _ => {}

@@ -1,12 +1,12 @@
 //! The replay of an order without memory: where the front of the queue stands.
 
 ghost use Rattle.std.specs.Prelude.{◌≡◌, ◌<◌, ◌≤◌, ◌+◌, ◌↔◌, ◌++◌, [], length, IsTrue, IfNone, take, option_to_list};
-ghost use Rattle.history.specs.Counting.{put_all};
-ghost use Rattle.history.specs.Fronts.{put_between, held, reply_by, IsFront};
-ghost use Rattle.history.specs.Replay.{queue_after, IsRightAt, Replays};
+ghost use Rattle.history.specs.Counting.{values_of_order};
+ghost use Rattle.history.specs.Fronts.{values_between, queue_from, reply_of_front, IsFront};
+ghost use Rattle.events.specs.Replay.{queue_after, IsRightAt, Replays};
 
-use crate::event::{Entry, Event};
 use crate::replaying::named_call;
+use events::{Entry, Event};
 use words::{Call, Reply};
 
 /// Where the front of the queue stands: after so many values of the base, and of the entries from one on.
@@ -21,9 +21,9 @@ fn take_put(events: &[Event], entries: &[Entry], front: &mut usize, to: usize) -
     requires below { front.old ≤ to }
     requires within { to ≤ length entries.now }
     ensures below { front.new ≤ to }
-    ensures front { put_between events.now entries.now front.old to ≡
-        option_to_list result ++ put_between events.now entries.now front.new to }
-    ensures none { IfNone result (put_between events.now entries.now front.old to ≡ []) }
+    ensures front { values_between events.now entries.now front.old to ≡
+        option_to_list result ++ values_between events.now entries.now front.new to }
+    ensures none { IfNone result (values_between events.now entries.now front.old to ≡ []) }
 {
     let from = *front;
     for k in from..to {
@@ -49,9 +49,9 @@ fn take_front(
     requires within { to ≤ length entries.now }
     ensures base { fronts.new.base ≤ length base.now }
     ensures entry { fronts.new.entry ≤ to }
-    ensures front { held events.now base.now entries.now fronts.old.base fronts.old.entry to ≡
-        option_to_list result ++ held events.now base.now entries.now fronts.new.base fronts.new.entry to }
-    ensures none { IfNone result (held events.now base.now entries.now fronts.old.base fronts.old.entry to ≡ []) }
+    ensures front { queue_from events.now base.now entries.now fronts.old.base fronts.old.entry to ≡
+        option_to_list result ++ queue_from events.now base.now entries.now fronts.new.base fronts.new.entry to }
+    ensures none { IfNone result (queue_from events.now base.now entries.now fronts.old.base fronts.old.entry to ≡ []) }
 {
     if fronts.base < base.len() {
         let value = base[fronts.base];
@@ -63,7 +63,7 @@ fn take_front(
 
 /// What a dequeue answers whose queue has this front.
 fn reply_with(front: Option<u32>) -> Reply
-    ensures { result ≡ reply_by front }
+    ensures { result ≡ reply_of_front front }
 {
     match front {
         None => Reply::Empty,

@@ -3,20 +3,20 @@
 
 ghost use Rattle.std.specs.Prelude.{◌≡◌, ◌<◌, ◌≤◌, ◌+◌, ◌↔◌, ◌⊎◌, Some, length, IsTrue, IfSome, IfNone, All};
 ghost use Rattle.std.specs.Prelude.{EachIndex, slice_get};
-ghost use Rattle.history.specs.Telling.{IsToldSome, IsToldBase, TellsAt};
+ghost use Rattle.events.specs.Telling.{IsToldSome, IsToldBase, TellsAt};
 ghost use Rattle.history.specs.Hearing.{IsOutcomeTaken, IsRowTaken, SaysTaken, SaysNotTaken, IsToldNotTaken};
-ghost use Rattle.history.specs.Hearing.{IsToldNotTakenIn, IsLastEntry, IsLast, SaysLast, IsSaidLast, IsHeard};
-ghost use Rattle.history.specs.Hearing.{IsHeardTo, HasNoCall, IsToldAt, IsToldOfAll, BeginsSomeTold, IsLaterEntry};
+ghost use Rattle.history.specs.Hearing.{IsToldNotTakenIn, IsLastEntry, IsLast, SaysLast, IsSaidLast, IsProgress};
+ghost use Rattle.history.specs.Hearing.{IsProgressTo, HasNoCall, IsToldAt, IsToldOfAll, BeginsSomeTold, IsLaterEntry};
 ghost use Rattle.history.specs.Hearing.{TellsSixteen};
-ghost use Rattle.history.specs.Explains.{KeepsPrecedence};
-ghost use Rattle.history.specs.History.{IsHistory};
+ghost use Rattle.events.specs.Explains.{KeepsPrecedence};
+ghost use Rattle.events.specs.History.{IsHistory};
 ghost use Rattle.history.specs.Sweeps.{Ascends};
-ghost use Rattle.history.specs.Orders.{IsNew};
+ghost use Rattle.events.specs.Orders.{IsNew};
 
-use crate::event::{Entry, Event};
 use crate::places::begins_at;
-use crate::telling::{is_told, is_told_of};
-use words::{Client, Kind, Outcome, Reply, Row, Told};
+use crate::telling::{Listener, is_told, is_told_of};
+use events::{Entry, Event};
+use words::{Client, Kind, Outcome, Reply, Reports, Row, Told};
 
 /// Whether the outcome is that the call took effect with this reply.
 fn is_outcome_taken(reply: Reply, outcome: Outcome) -> bool
@@ -69,35 +69,37 @@ fn says_not_taken(kind: Kind, number: u64, told: Told) -> bool
 }
 
 /// Whether a call of the client begins at `p`, and what is told says that it took no effect.
-fn is_told_not_taken(kind: Kind, events: &[Event], client: Client, told: Told, p: usize) -> bool
-    requires { p < length events.now }
-    ensures { IsTrue result ↔ IsToldNotTaken kind events.now client told p }
+fn is_told_not_taken(who: &Listener, told: Told, p: usize) -> bool
+    requires { p < length who.now.events.now }
+    ensures { IsTrue result ↔ IsToldNotTaken who.now.kind who.now.events.now who.now.client told p }
 {
-    match events[p] {
+    match who.events[p] {
         Event::Call {
-            client: other,
+            client,
             number,
             call,
-        } => other == client && is_told_of(kind, call) && says_not_taken(kind, number, told),
+        } => {
+            client == who.client
+                && is_told_of(who.kind, call)
+                && says_not_taken(who.kind, number, told)
+        }
         _ => false,
     }
 }
 
 /// Whether so it is at some place from one up to another, which is then `found`.
 fn is_told_not_taken_in(
-    kind: Kind,
-    events: &[Event],
-    client: Client,
+    who: &Listener,
     told: Told,
     from: usize,
     to: usize,
     found: &mut usize,
 ) -> bool
-    requires { to ≤ length events.now }
-    ensures { IsTrue result ↔ IsToldNotTakenIn kind events.now client told from to }
+    requires { to ≤ length who.now.events.now }
+    ensures { IsTrue result ↔ IsToldNotTakenIn who.now.kind who.now.events.now who.now.client told from to }
 {
     for p in from..to {
-        if is_told_not_taken(kind, events, client, told, p) {
+        if is_told_not_taken(who, told, p) {
             *found = p;
             return true;
         }
@@ -106,34 +108,29 @@ fn is_told_not_taken_in(
 }
 
 /// Whether what is told says what became of the client's call of the entry at `i`.
-fn says_last(
-    kind: Kind,
-    events: &[Event],
-    entries: &[Entry],
-    client: Client,
-    told: Told,
-    i: usize,
-) -> bool
-    requires within { i < length entries.now }
-    requires calls { All (λ entry. entry.place < length events.now) entries.now }
-    ensures { IsTrue result ↔ SaysLast kind events.now entries.now client told i }
+fn says_last(who: &Listener, told: Told, i: usize) -> bool
+    requires within { i < length who.now.entries.now }
+    requires calls { All (λ entry. entry.place < length who.now.events.now) who.now.entries.now }
+    ensures { IsTrue result ↔ SaysLast who.now.kind who.now.events.now who.now.entries.now who.now.client told i }
 {
-    let entry = entries[i];
-    match events[entry.place] {
+    let entry = who.entries[i];
+    match who.events[entry.place] {
         Event::Call {
-            client: other,
+            client,
             number,
             call,
         } => {
-            other == client && is_told_of(kind, call) && says_taken(kind, number, entry.reply, told)
+            client == who.client
+                && is_told_of(who.kind, call)
+                && says_taken(who.kind, number, entry.reply, told)
         }
         _ => false,
     }
 }
 
-/// What is known of a client's calls before a Ready.
+/// Where a client's pass over the Readys stands: what is known of its calls before the next one.
 #[derive(Clone, Copy)]
-struct Heard {
+struct Progress {
     /// The entry of its last call in the order, if there is one.
     last: Option<usize>,
     /// The place after that call, else 0: its calls from there on are not in the order.
@@ -145,190 +142,155 @@ struct Heard {
 }
 
 /// Whether what is told says what became of the client's last call in the order, if there is one.
-fn says_of_last(
-    kind: Kind,
-    events: &[Event],
-    entries: &[Entry],
-    client: Client,
-    told: Told,
-    last: Option<usize>,
-) -> bool
-    requires within { IfSome last (λ i. i < length entries.now) }
-    requires calls { All (λ entry. entry.place < length events.now) entries.now }
-    ensures { IsTrue result ↔ IsSaidLast kind events.now entries.now client told last }
+fn says_of_last(who: &Listener, told: Told, last: Option<usize>) -> bool
+    requires within { IfSome last (λ i. i < length who.now.entries.now) }
+    requires calls { All (λ entry. entry.place < length who.now.events.now) who.now.entries.now }
+    ensures { IsTrue result ↔ IsSaidLast who.now.kind who.now.events.now who.now.entries.now who.now.client told last }
 {
     match last {
-        Some(i) => says_last(kind, events, entries, client, told, i),
+        Some(i) => says_last(who, told, i),
         None => false,
     }
 }
 
 /// Whether it says of a later call that it took no effect. Mostly that is the client's last call, or the one that was
 /// `found` at an earlier Ready.
-fn says_of_later(
-    kind: Kind,
-    events: &[Event],
-    client: Client,
-    told: Told,
-    from: usize,
-    to: usize,
-    found: &mut usize,
-) -> bool
-    requires { to ≤ length events.now }
-    ensures { IsTrue result ↔ IsToldNotTakenIn kind events.now client told from to }
+fn says_of_later(who: &Listener, told: Told, from: usize, to: usize, found: &mut usize) -> bool
+    requires { to ≤ length who.now.events.now }
+    ensures { IsTrue result ↔ IsToldNotTakenIn who.now.kind who.now.events.now who.now.client told from to }
 {
     if from >= to {
         return false;
     }
-    if is_told_not_taken(kind, events, client, told, to - 1) {
+    if is_told_not_taken(who, told, to - 1) {
         return true;
     }
     let near = *found;
     if from <= near && near < to {
-        if is_told_not_taken(kind, events, client, told, near) {
+        if is_told_not_taken(who, told, near) {
             return true;
         }
     }
-    is_told_not_taken_in(kind, events, client, told, from, to, found)
+    is_told_not_taken_in(who, told, from, to, found)
 }
 
 /// Whether a Ready at `q` that tells the client this tells it rightly.
-fn is_heard_rightly(
-    kind: Kind,
-    base: &[Told; 16],
-    events: &[Event],
-    entries: &[Entry],
-    client: Client,
+fn tells_it_rightly(
+    who: &Listener,
+    base: &Reports,
     q: usize,
     told: Told,
-    heard: Heard,
+    progress: Progress,
     found: &mut usize,
 ) -> bool
-    requires within { IfSome heard.last (λ i. i < length entries.now) }
-    requires calls { All (λ entry. entry.place < length events.now) entries.now }
-    requires once { EachIndex entries.now (λ i. IsNew entries.now i) }
-    requires ready { q ≤ length events.now }
-    requires heard { IsHeard kind events.now entries.now client q heard.from heard.last }
-    requires few { heard.calls ≤ q }
-    requires later { HasNoCall kind events.now client heard.calls q }
+    requires within { IfSome progress.last (λ i. i < length who.now.entries.now) }
+    requires calls { All (λ entry. entry.place < length who.now.events.now) who.now.entries.now }
+    requires once { EachIndex who.now.entries.now (λ i. IsNew who.now.entries.now i) }
+    requires ready { q ≤ length who.now.events.now }
+    requires progress { IsProgress who.now.kind who.now.events.now who.now.entries.now who.now.client q
+        progress.from progress.last }
+    requires few { progress.calls ≤ q }
+    requires later { HasNoCall who.now.kind who.now.events.now who.now.client progress.calls q }
     ensures { IsTrue result ↔
-        IsToldSome kind events.now entries.now client q told
-        ⊎ IsToldBase kind base.now events.now entries.now client q told }
+        IsToldSome who.now.kind who.now.events.now who.now.entries.now who.now.client q told
+        ⊎ IsToldBase who.now.kind base.now who.now.events.now who.now.entries.now who.now.client q told }
 {
-    if says_of_last(kind, events, entries, client, told, heard.last) {
+    if says_of_last(who, told, progress.last) {
         return true;
     }
-    if says_of_later(kind, events, client, told, heard.from, heard.calls, found) {
+    if says_of_later(who, told, progress.from, progress.calls, found) {
         return true;
     }
-    match heard.last {
+    match progress.last {
         Some(_) => false,
-        None => is_told(base, client, told),
+        None => is_told(base, who.client, told),
     }
 }
 
 /// Whether the entry at `i` is of a call of the client that begins at `q` or later.
-fn is_later(events: &[Event], entries: &[Entry], client: Client, q: usize, i: usize) -> bool
-    requires within { i < length entries.now }
-    requires calls { All (λ entry. entry.place < length events.now) entries.now }
-    ensures { IsTrue result ↔ IsLaterEntry events.now entries.now client q i }
+fn is_later(who: &Listener, q: usize, i: usize) -> bool
+    requires within { i < length who.now.entries.now }
+    requires calls { All (λ entry. entry.place < length who.now.events.now) who.now.entries.now }
+    ensures { IsTrue result ↔ IsLaterEntry who.now.events.now who.now.entries.now who.now.client q i }
 {
-    let place = entries[i].place;
-    place >= q && begins_at(events, client, place)
+    let place = who.entries[i].place;
+    place >= q && begins_at(who.events, who.client, place)
 }
 
 /// Whether a call of the client that it may be told of begins at `p`.
-fn begins_told(kind: Kind, events: &[Event], client: Client, p: usize) -> bool
-    requires { p < length events.now }
-    ensures { IsTrue result ↔ BeginsSomeTold kind events.now client p }
+fn begins_told(who: &Listener, p: usize) -> bool
+    requires { p < length who.now.events.now }
+    ensures { IsTrue result ↔ BeginsSomeTold who.now.kind who.now.events.now who.now.client p }
 {
-    match events[p] {
-        Event::Call {
-            client: other,
-            call,
-            ..
-        } => other == client && is_told_of(kind, call),
+    match who.events[p] {
+        Event::Call { client, call, .. } => client == who.client && is_told_of(who.kind, call),
         _ => false,
     }
 }
 
 /// What is known after the entry at `i`, which begins before the Ready if it is the client's.
-fn after_entry(
-    kind: Kind,
-    events: &[Event],
-    entries: &[Entry],
-    client: Client,
-    q: usize,
-    i: usize,
-    heard: Heard,
-) -> Heard
-    requires within { i < length entries.now }
-    requires calls { All (λ entry. entry.place < length events.now) entries.now }
-    requires ascends { Ascends events.now entries.now client }
-    requires earlier { IsLaterEntry events.now entries.now client q i → ⊥ }
-    requires heard { IsHeardTo kind events.now entries.now client q heard.from heard.last i }
-    ensures heard { IsHeardTo kind events.now entries.now client q result.from result.last (i + 1) }
-    ensures calls { result.calls ≡ heard.calls }
+fn after_entry(who: &Listener, q: usize, i: usize, progress: Progress) -> Progress
+    requires within { i < length who.now.entries.now }
+    requires calls { All (λ entry. entry.place < length who.now.events.now) who.now.entries.now }
+    requires ascends { Ascends who.now.events.now who.now.entries.now who.now.client }
+    requires earlier { IsLaterEntry who.now.events.now who.now.entries.now who.now.client q i → ⊥ }
+    requires so_far { IsProgressTo who.now.kind who.now.events.now who.now.entries.now who.now.client q
+        progress.from progress.last i }
+    ensures so_far { IsProgressTo who.now.kind who.now.events.now who.now.entries.now who.now.client q
+        result.from result.last (i + 1) }
+    ensures calls { result.calls ≡ progress.calls }
 {
-    let place = entries[i].place;
-    if !begins_told(kind, events, client, place) {
-        return heard;
+    let place = who.entries[i].place;
+    if !begins_told(who, place) {
+        return progress;
     }
-    Heard {
+    Progress {
         last: Some(i),
         from: place + 1,
-        ..heard
+        ..progress
     }
 }
 
 /// What is known before the Ready at `q`: the entries are looked at up to the client's first that begins later.
-fn before_ready(
-    kind: Kind,
-    events: &[Event],
-    entries: &[Entry],
-    client: Client,
-    q: usize,
-    heard: Heard,
-) -> Heard
-    requires calls { All (λ entry. entry.place < length events.now) entries.now }
-    requires ascends { Ascends events.now entries.now client }
-    requires entries { heard.entries ≤ length entries.now }
-    requires heard { IsHeardTo kind events.now entries.now client q heard.from heard.last heard.entries }
-    ensures entries { result.entries ≤ length entries.now }
-    ensures so_far { IsHeardTo kind events.now entries.now client q result.from result.last result.entries }
-    ensures heard { IsHeard kind events.now entries.now client q result.from result.last }
-    ensures calls { result.calls ≡ heard.calls }
+fn before_ready(who: &Listener, q: usize, progress: Progress) -> Progress
+    requires calls { All (λ entry. entry.place < length who.now.events.now) who.now.entries.now }
+    requires ascends { Ascends who.now.events.now who.now.entries.now who.now.client }
+    requires entries { progress.entries ≤ length who.now.entries.now }
+    requires so_far { IsProgressTo who.now.kind who.now.events.now who.now.entries.now who.now.client q
+        progress.from progress.last progress.entries }
+    ensures entries { result.entries ≤ length who.now.entries.now }
+    ensures so_far { IsProgressTo who.now.kind who.now.events.now who.now.entries.now who.now.client q
+        result.from result.last result.entries }
+    ensures progress { IsProgress who.now.kind who.now.events.now who.now.entries.now who.now.client q
+        result.from result.last }
+    ensures calls { result.calls ≡ progress.calls }
 {
-    let mut now = heard;
-    for i in heard.entries..entries.len() {
-        if is_later(events, entries, client, q, i) {
-            return Heard { entries: i, ..now };
+    let mut now = progress;
+    for i in progress.entries..who.entries.len() {
+        if is_later(who, q, i) {
+            return Progress { entries: i, ..now };
         }
-        now = after_entry(kind, events, entries, client, q, i, now);
+        now = after_entry(who, q, i, now);
     }
-    Heard {
-        entries: entries.len(),
+    Progress {
+        entries: who.entries.len(),
         ..now
     }
 }
 
 /// The place after the client's last call before the place after `q`, where it is known of `q`.
-fn calls_after(kind: Kind, events: &[Event], client: Client, q: usize, calls: usize) -> usize
-    requires within { q < length events.now }
+fn calls_after(who: &Listener, q: usize, calls: usize) -> usize
+    requires within { q < length who.now.events.now }
     requires few { calls ≤ q }
-    requires later { HasNoCall kind events.now client calls q }
+    requires later { HasNoCall who.now.kind who.now.events.now who.now.client calls q }
     ensures few { result ≤ q + 1 }
-    ensures later { HasNoCall kind events.now client result (q + 1) }
+    ensures later { HasNoCall who.now.kind who.now.events.now who.now.client result (q + 1) }
 {
-    if begins_told(kind, events, client, q) {
-        q + 1
-    } else {
-        calls
-    }
+    if begins_told(who, q) { q + 1 } else { calls }
 }
 
 /// What a Ready tells a client.
-fn told_to(tells: &[Told; 16], client: Client) -> Option<Told>
+fn report_to(tells: &Reports, client: Client) -> Option<Told>
     ensures told { result ≡ slice_get tells.now client.0 }
     ensures sixteen { length tells.now ≡ 16 }
 {
@@ -337,30 +299,27 @@ fn told_to(tells: &[Told; 16], client: Client) -> Option<Told>
 
 /// Whether a Ready that stands at `q` tells the client rightly.
 fn is_told_at(
-    kind: Kind,
-    base: &[Told; 16],
-    events: &[Event],
-    entries: &[Entry],
-    client: Client,
+    who: &Listener,
+    base: &Reports,
     q: usize,
-    heard: Heard,
+    progress: Progress,
     found: &mut usize,
 ) -> bool
-    requires within { IfSome heard.last (λ i. i < length entries.now) }
-    requires calls { All (λ entry. entry.place < length events.now) entries.now }
-    requires once { EachIndex entries.now (λ i. IsNew entries.now i) }
-    requires ready { q < length events.now }
-    requires heard { IsHeard kind events.now entries.now client q heard.from heard.last }
-    requires few { heard.calls ≤ q }
-    requires later { HasNoCall kind events.now client heard.calls q }
-    ensures told { IsTrue result ↔ IsToldAt kind base.now events.now entries.now client q }
-    ensures sixteen { TellsSixteen events.now q }
+    requires within { IfSome progress.last (λ i. i < length who.now.entries.now) }
+    requires calls { All (λ entry. entry.place < length who.now.events.now) who.now.entries.now }
+    requires once { EachIndex who.now.entries.now (λ i. IsNew who.now.entries.now i) }
+    requires ready { q < length who.now.events.now }
+    requires progress { IsProgress who.now.kind who.now.events.now who.now.entries.now who.now.client q
+        progress.from progress.last }
+    requires few { progress.calls ≤ q }
+    requires later { HasNoCall who.now.kind who.now.events.now who.now.client progress.calls q }
+    ensures told { IsTrue result ↔
+        IsToldAt who.now.kind base.now who.now.events.now who.now.entries.now who.now.client q }
+    ensures sixteen { TellsSixteen who.now.events.now q }
 {
-    match events[q] {
-        Event::Ready { told } => match told_to(&told, client) {
-            Some(told) => is_heard_rightly(
-                kind, base, events, entries, client, q, told, heard, found,
-            ),
+    match who.events[q] {
+        Event::Ready { told } => match report_to(&told, who.client) {
+            Some(told) => tells_it_rightly(who, base, q, told, progress, found),
             None => true,
         },
         _ => true,
@@ -368,38 +327,33 @@ fn is_told_at(
 }
 
 /// Whether each Ready tells the client rightly.
-fn is_told_of_all(
-    kind: Kind,
-    base: &[Told; 16],
-    events: &[Event],
-    entries: &[Entry],
-    client: Client,
-) -> bool
-    requires calls { All (λ entry. entry.place < length events.now) entries.now }
-    requires once { EachIndex entries.now (λ i. IsNew entries.now i) }
-    requires ascends { Ascends events.now entries.now client }
-    ensures told { IsTrue result ↔ IsToldOfAll kind base.now events.now entries.now client }
-    ensures sixteen { IsTrue result → EachIndex events.now (λ q. TellsSixteen events.now q) }
+fn is_told_of_all(who: &Listener, base: &Reports) -> bool
+    requires calls { All (λ entry. entry.place < length who.now.events.now) who.now.entries.now }
+    requires once { EachIndex who.now.entries.now (λ i. IsNew who.now.entries.now i) }
+    requires ascends { Ascends who.now.events.now who.now.entries.now who.now.client }
+    ensures told { IsTrue result ↔
+        IsToldOfAll who.now.kind base.now who.now.events.now who.now.entries.now who.now.client }
+    ensures sixteen { IsTrue result → EachIndex who.now.events.now (λ q. TellsSixteen who.now.events.now q) }
 {
-    let mut heard = Heard {
+    let mut progress = Progress {
         last: None,
         from: 0,
         entries: 0,
         calls: 0,
     };
     let mut found = 0;
-    for q in 0..events.len() {
-        heard = before_ready(kind, events, entries, client, q, heard);
-        if !is_told_at(kind, base, events, entries, client, q, heard, &mut found) {
+    for q in 0..who.events.len() {
+        progress = before_ready(who, q, progress);
+        if !is_told_at(who, base, q, progress, &mut found) {
             return false;
         }
-        heard.calls = calls_after(kind, events, client, q, heard.calls);
+        progress.calls = calls_after(who, q, progress.calls);
     }
     true
 }
 
 /// Whether each Ready tells each client rightly.
-pub(crate) fn all_told(kind: Kind, base: &[Told; 16], events: &[Event], entries: &[Entry]) -> bool
+pub(crate) fn all_told(kind: Kind, base: &Reports, events: &[Event], entries: &[Entry]) -> bool
     requires calls { All (λ entry. entry.place < length events.now) entries.now }
     requires history { IsHistory events.now }
     requires once { EachIndex entries.now (λ i. IsNew entries.now i) }
@@ -408,7 +362,13 @@ pub(crate) fn all_told(kind: Kind, base: &[Told; 16], events: &[Event], entries:
     ensures sixteen { IsTrue result → EachIndex events.now (λ q. TellsSixteen events.now q) }
 {
     for t in 0..16u8 {
-        if !is_told_of_all(kind, base, events, entries, Client(t)) {
+        let who = Listener {
+            kind,
+            events,
+            entries,
+            client: Client(t),
+        };
+        if !is_told_of_all(&who, base) {
             return false;
         }
     }

@@ -3,23 +3,23 @@
 ghost use Rattle.std.specs.Prelude.{◌≡◌, ℕ, List};
 ghost use Rattle.words.specs.declared.call.Client.{Client};
 ghost use Rattle.words.specs.declared.told.Told.{Told};
-ghost use Rattle.history.specs.Explains.{Explains};
-ghost use Rattle.history.specs.InTurn.{Turn, in_turn, AreServed, order_in_turn, left_in_turn};
-ghost use Rattle.history.specs.Replay.{queue_after};
-ghost use Rattle.history.specs.declared.event.Entry.{Entry};
+ghost use Rattle.events.specs.Explains.{Explains};
+ghost use Rattle.history.specs.InTurn.{Turn, events_in_turn, AreServed, order_in_turn, queue_in_turn};
+ghost use Rattle.events.specs.Replay.{queue_after};
+ghost use Rattle.events.specs.declared.event.Entry.{Entry};
 
 /// Whatever order explains them, a client's calls that run to their ends one after another are answered by the plain
 /// queue.
 pub fn calls_in_turn_are_served()
     ensures { (client : Client) (turns : List Turn) (base : List ℕ) (told : List Told) (order : List Entry)
-        → Explains base told (in_turn client turns) order → AreServed base turns }
+        → Explains base told (events_in_turn client turns) order → AreServed base turns }
 {}
 
 /// Only the order in which they were made explains such calls, and it leaves what the plain queue leaves.
 pub fn calls_in_turn_have_one_order()
     ensures order { (client : Client) (turns : List Turn) (base : List ℕ) (told : List Told) (order : List Entry)
-        → Explains base told (in_turn client turns) order → order ≡ order_in_turn 0 turns }
+        → Explains base told (events_in_turn client turns) order → order ≡ order_in_turn 0 turns }
     ensures left { (client : Client) (turns : List Turn) (base : List ℕ) (told : List Told) (order : List Entry)
-        → Explains base told (in_turn client turns) order
-        → queue_after (in_turn client turns) base order ≡ left_in_turn base turns }
+        → Explains base told (events_in_turn client turns) order
+        → queue_after (events_in_turn client turns) base order ≡ queue_in_turn base turns }
 {}

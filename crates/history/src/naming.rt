@@ -1,15 +1,15 @@
 //! Whether an order names no call twice, by a pass for each client.
 
 ghost use Rattle.std.specs.Prelude.{◌<◌, ◌+◌, ◌↔◌, length, IsTrue, IfSome, IfNone, All, EachIndex, IsSome};
-ghost use Rattle.history.specs.Replay.{call_at};
+ghost use Rattle.events.specs.Replay.{call_at};
 ghost use Rattle.words.specs.declared.call.Client.{Client};
-ghost use Rattle.history.specs.Explains.{KeepsPrecedence};
-ghost use Rattle.history.specs.History.{IsHistory};
-ghost use Rattle.history.specs.Orders.{IsNew};
+ghost use Rattle.events.specs.Explains.{KeepsPrecedence};
+ghost use Rattle.events.specs.History.{IsHistory};
+ghost use Rattle.events.specs.Orders.{IsNew};
 ghost use Rattle.history.specs.Sweeps.{Ascends, AscendsTo};
 
-use crate::event::{Entry, Event};
 use crate::places::begins_at;
+use events::{Entry, Event};
 use words::Client;
 
 /// Where the client's next call in the order may begin, after the entry at `i`; nothing where that stands too low.

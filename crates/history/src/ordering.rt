@@ -1,16 +1,16 @@
 //! What an order holds.
 
 ghost use Rattle.std.specs.Prelude.{◌<◌, ◌↔◌, length, IsTrue, EachIndex, IsSome, All};
-ghost use Rattle.history.specs.Replay.{call_at};
-ghost use Rattle.history.specs.Orders.{TakenAs, InOrder, IsNew, IsOrder};
+ghost use Rattle.events.specs.Replay.{call_at};
+ghost use Rattle.events.specs.Orders.{IsTakenAs, InOrder, IsNew, IsOrder};
 
-use crate::event::{Entry, Event};
 use crate::replaying::named_call;
+use events::{Entry, Event};
 use words::Reply;
 
 /// Whether the call at `p` is in the order, with this reply.
-pub(crate) fn taken_as(entries: &[Entry], p: usize, reply: Reply) -> bool
-    ensures { IsTrue result ↔ TakenAs entries.now p reply }
+pub(crate) fn is_taken_as(entries: &[Entry], p: usize, reply: Reply) -> bool
+    ensures { IsTrue result ↔ IsTakenAs entries.now p reply }
 {
     entries.contains(&Entry { place: p, reply })
 }

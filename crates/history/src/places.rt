@@ -1,11 +1,11 @@
 //! What stands at a place of a history.
 
 ghost use Rattle.std.specs.Prelude.{◌≡◌, ◌<◌, ◌≤◌, ◌↔◌, ℕ, Some, length, IsTrue, slice_get, All};
-ghost use Rattle.history.specs.declared.event.Event.{Event};
-ghost use Rattle.history.specs.History.{BeginsAt, EndsAt, Precedes, IsOpenFrom, IsUnderWay, IsDown, MayStand};
-ghost use Rattle.history.specs.History.{IsDurable, IsNumbered, IsUnnumbered, IsHistory};
+ghost use Rattle.events.specs.declared.event.Event.{Event};
+ghost use Rattle.events.specs.History.{BeginsAt, EndsAt, Precedes, IsOpenFrom, IsUnderWay, IsDown, MayStand};
+ghost use Rattle.events.specs.History.{IsDurable, IsNumbered, IsUnnumbered, IsHistory};
 
-use crate::event::Event;
+use events::Event;
 use words::Client;
 
 /// Whether a call of the client begins at `p`.

@@ -1,18 +1,18 @@
 //! The plain twin of the checker: nested loops over the definitions.
 
 ghost use Rattle.std.specs.Prelude.{◌↔◌, IsTrue};
-ghost use Rattle.history.specs.Explains.{Explains, IsExplained};
+ghost use Rattle.events.specs.Explains.{Explains, IsExplained};
 
-use crate::event::{Entry, Event, History, Order};
 use crate::explaining::{has_answers, keeps_precedence};
 use crate::ordering::is_order;
 use crate::places::{is_durable, is_history};
 use crate::replaying::replays;
 use crate::telling::{tells_at_each_ready, tells_interrupted};
-use words::{Kind, Told};
+use events::{Entry, Event, History, Order};
+use words::{Kind, Reports};
 
 /// Whether the order explains the history.
-fn explains(base: &[u32], told: &[Told; 16], events: &[Event], entries: &[Entry]) -> bool
+fn explains(base: &[u32], told: &Reports, events: &[Event], entries: &[Entry]) -> bool
     ensures { IsTrue result ↔ Explains base.now told.now events.now entries.now }
 {
     if !is_order(events, entries) {

@@ -1,12 +1,12 @@
 //! Whether an order keeps precedence, by the greatest place so far.
 
 ghost use Rattle.std.specs.Prelude.{◌≡◌, ◌<◌, ◌≤◌, ◌+◌, ◌↔◌, ◌⊎◌, ℕ, length, IsTrue, All};
-ghost use Rattle.history.specs.Explains.{KeepsPrecedence};
+ghost use Rattle.events.specs.Explains.{KeepsPrecedence};
 ghost use Rattle.history.specs.Plainly.{IsNotAfter};
 ghost use Rattle.history.specs.Sweeps.{IsGreatest};
 
-use crate::event::{Entry, Event};
 use crate::places::precedes;
+use events::{Entry, Event};
 
 /// The greater of two numbers.
 fn greater(a: usize, b: usize) -> usize

@@ -1,11 +1,12 @@
 //! The replay of an order on a plain queue.
 
-ghost use Rattle.std.specs.Prelude.{◌≡◌, ◌<◌, ◌≤◌, ◌↔◌, ◌++◌, length, IsTrue, IfOk, IfErr, MatchResult, slice_get, drop};
+ghost use Rattle.std.specs.Prelude.{◌≡◌, ◌<◌, ◌≤◌, ◌↔◌, ◌++◌, length, IsTrue, IfOk, IfErr, MatchResult, slice_get};
+ghost use Rattle.std.specs.Prelude.{drop};
 ghost use Rattle.words.specs.PlainQueue.{reply_of, served};
-ghost use Rattle.history.specs.Counting.{put_all, taken_by};
-ghost use Rattle.history.specs.Replay.{call_at, left_by, queue_after, IsServed, Replays, IsFirstWrong};
+ghost use Rattle.history.specs.Counting.{values_of_order, dequeue_count};
+ghost use Rattle.events.specs.Replay.{call_at, queue_after_call, queue_after, IsServed, Replays, IsFirstWrong};
 
-use crate::event::{Entry, Event, History, Order};
+use events::{Entry, Event, History, Order};
 use std::alloc::{AllocError, Global};
 use words::{Call, Refusal, Reply};
 
@@ -43,7 +44,7 @@ fn answer(queue: &mut Vec<u32>, call: Call) -> Result<Reply, AllocError>
 fn is_served(queue: &mut Vec<u32>, events: &[Event], entry: &Entry) -> Result<bool, AllocError>
     ensures served { IfOk result (λ yes. IsTrue yes ↔ IsServed events.now queue.old.items entry.now) }
     ensures left { IfOk result (λ yes. IsTrue yes → queue.new.items ≡
-        left_by queue.old.items (call_at events.now entry.now.place)) }
+        queue_after_call queue.old.items (call_at events.now entry.now.place)) }
 {
     let Some(call) = named_call(events, entry.place) else {
         return Ok(false);
@@ -98,8 +99,8 @@ pub fn replay(
 }
 
 /// How many values the reply takes out of the queue.
-pub(crate) fn taken_by_reply(reply: Reply) -> usize
-    ensures value { result ≡ taken_by reply }
+pub(crate) fn count_of_reply(reply: Reply) -> usize
+    ensures value { result ≡ dequeue_count reply }
     ensures few { result ≤ 1 }
 {
     match reply {
@@ -110,7 +111,7 @@ pub(crate) fn taken_by_reply(reply: Reply) -> usize
 
 /// The n-th of the values that were ever in the queue.
 fn value_at(events: &[Event], base: &[u32], before: &[Entry], n: usize) -> Option<u32>
-    ensures { result ≡ slice_get (base.now ++ put_all events.now before.now) n }
+    ensures { result ≡ slice_get (base.now ++ values_of_order events.now before.now) n }
 {
     if n < base.len() {
         return Some(base[n]);
@@ -129,7 +130,8 @@ fn value_at(events: &[Event], base: &[u32], before: &[Entry], n: usize) -> Optio
 
 /// The queue's reply to a call, where `taken` values were taken out before.
 fn reply_after(events: &[Event], base: &[u32], before: &[Entry], taken: usize, call: Call) -> Reply
-    requires { queue_after events.now base.now before.now ≡ drop taken (base.now ++ put_all events.now before.now) }
+    requires { queue_after events.now base.now before.now ≡
+        drop taken (base.now ++ values_of_order events.now before.now) }
     ensures { result ≡ reply_of (queue_after events.now base.now before.now) call }
 {
     match call {
@@ -149,7 +151,8 @@ fn is_served_after(
     taken: usize,
     entry: &Entry,
 ) -> bool
-    requires { queue_after events.now base.now before.now ≡ drop taken (base.now ++ put_all events.now before.now) }
+    requires { queue_after events.now base.now before.now ≡
+        drop taken (base.now ++ values_of_order events.now before.now) }
     ensures { IsTrue result ↔ IsServed events.now (queue_after events.now base.now before.now) entry.now }
 {
     match named_call(events, entry.place) {
@@ -168,7 +171,7 @@ pub(crate) fn replays(events: &[Event], base: &[u32], entries: &[Entry]) -> bool
         if !is_served_after(events, base, &entries[..i], taken, &entries[i]) {
             return false;
         }
-        taken += taken_by_reply(entries[i].reply);
+        taken += count_of_reply(entries[i].reply);
     }
     true
 }

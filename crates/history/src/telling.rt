@@ -1,13 +1,22 @@
 //! What clients are told at a Ready.
 
 ghost use Rattle.std.specs.Prelude.{◌≡◌, ◌<◌, ◌≤◌, ◌↔◌, ◌⊎◌, Some, All, EachIndex, length, IsTrue, slice_get};
-ghost use Rattle.history.specs.Telling.{IsToldOf, BeginsTaken, HasNoneTaken, IsOutcome, IsRow, Says, IsToldCall};
-ghost use Rattle.history.specs.Telling.{IsToldSome, IsToldBase, TellsRightly, TellsAt, IsToldTaken};
-ghost use Rattle.history.specs.Telling.{IsToldIfInterrupted};
+ghost use Rattle.events.specs.Telling.{IsToldOf, BeginsTaken, HasNoneTaken, IsOutcome, IsRow, Says, IsToldCall};
+ghost use Rattle.events.specs.Telling.{IsToldSome, IsToldBase, TellsRightly, TellsAt, IsToldTaken};
+ghost use Rattle.events.specs.Telling.{IsToldIfInterrupted};
 
-use crate::event::{Entry, Event};
-use crate::ordering::{in_order, taken_as};
-use words::{Call, Client, Kind, Outcome, Reply, Row, Told, Verdict};
+use crate::ordering::{in_order, is_taken_as};
+use events::{Entry, Event};
+use words::{Call, Client, Kind, Outcome, Reply, Reports, Row, Told, Verdict};
+
+/// A client of a queue of this kind, in a history with its order.
+#[derive(Clone, Copy)]
+pub(crate) struct Listener<'a> {
+    pub(crate) kind: Kind,
+    pub(crate) events: &'a [Event],
+    pub(crate) entries: &'a [Entry],
+    pub(crate) client: Client,
+}
 
 /// Whether a client is told of such a call.
 pub(crate) fn is_told_of(kind: Kind, call: Call) -> bool
@@ -20,34 +29,25 @@ pub(crate) fn is_told_of(kind: Kind, call: Call) -> bool
 }
 
 /// Whether a call of the client that it may be told of begins at `p`, and is in the order.
-fn begins_taken(kind: Kind, events: &[Event], entries: &[Entry], client: Client, p: usize) -> bool
-    requires { p < length events.now }
-    ensures { IsTrue result ↔ BeginsTaken kind events.now entries.now client p }
+fn begins_taken(who: &Listener, p: usize) -> bool
+    requires { p < length who.now.events.now }
+    ensures { IsTrue result ↔ BeginsTaken who.now.kind who.now.events.now who.now.entries.now who.now.client p }
 {
-    match events[p] {
-        Event::Call {
-            client: other,
-            call,
-            ..
-        } => other == client && is_told_of(kind, call) && in_order(entries, p),
+    match who.events[p] {
+        Event::Call { client, call, .. } => {
+            client == who.client && is_told_of(who.kind, call) && in_order(who.entries, p)
+        }
         _ => false,
     }
 }
 
 /// Whether none of these calls from one place up to another is in the order.
-fn has_none_taken(
-    kind: Kind,
-    events: &[Event],
-    entries: &[Entry],
-    client: Client,
-    from: usize,
-    to: usize,
-) -> bool
-    requires { to ≤ length events.now }
-    ensures { IsTrue result ↔ HasNoneTaken kind events.now entries.now client from to }
+fn has_none_taken(who: &Listener, from: usize, to: usize) -> bool
+    requires { to ≤ length who.now.events.now }
+    ensures { IsTrue result ↔ HasNoneTaken who.now.kind who.now.events.now who.now.entries.now who.now.client from to }
 {
     for p in from..to {
-        if begins_taken(kind, events, entries, client, p) {
+        if begins_taken(who, p) {
             return false;
         }
     }
@@ -59,7 +59,7 @@ fn is_outcome(entries: &[Entry], p: usize, outcome: Outcome) -> bool
     ensures { IsTrue result ↔ IsOutcome entries.now p outcome }
 {
     match outcome {
-        Outcome::Taken(reply) => taken_as(entries, p, reply),
+        Outcome::Taken(reply) => is_taken_as(entries, p, reply),
         Outcome::NotTaken => !in_order(entries, p),
     }
 }
@@ -69,8 +69,8 @@ fn is_row(entries: &[Entry], p: usize, row: Row) -> bool
     ensures { IsTrue result ↔ IsRow entries.now p row }
 {
     match row {
-        Row::Got(value) => taken_as(entries, p, Reply::Got(value)),
-        Row::Empty => taken_as(entries, p, Reply::Empty),
+        Row::Got(value) => is_taken_as(entries, p, Reply::Got(value)),
+        Row::Empty => is_taken_as(entries, p, Reply::Empty),
         Row::Open => !in_order(entries, p),
         Row::NoCall => false,
     }
@@ -90,48 +90,34 @@ fn says(kind: Kind, entries: &[Entry], p: usize, number: u64, told: Told) -> boo
 }
 
 /// Whether the client is told of its call at `p`, and no later one before the Ready is in the order.
-fn is_told_call(
-    kind: Kind,
-    events: &[Event],
-    entries: &[Entry],
-    client: Client,
-    ready: usize,
-    told: Told,
-    p: usize,
-) -> bool
+fn is_told_call(who: &Listener, ready: usize, told: Told, p: usize) -> bool
     requires first { p < ready }
-    requires second { ready ≤ length events.now }
-    ensures { IsTrue result ↔ IsToldCall kind events.now entries.now client ready told p }
+    requires second { ready ≤ length who.now.events.now }
+    ensures { IsTrue result ↔
+        IsToldCall who.now.kind who.now.events.now who.now.entries.now who.now.client ready told p }
 {
-    match events[p] {
+    match who.events[p] {
         Event::Call {
-            client: other,
+            client,
             number,
             call,
         } => {
-            other == client
-                && is_told_of(kind, call)
-                && says(kind, entries, p, number, told)
-                && has_none_taken(kind, events, entries, client, p + 1, ready)
+            client == who.client
+                && is_told_of(who.kind, call)
+                && says(who.kind, who.entries, p, number, told)
+                && has_none_taken(who, p + 1, ready)
         }
         _ => false,
     }
 }
 
 /// Whether the client is told of one of its calls begun before the Ready.
-fn is_told_some(
-    kind: Kind,
-    events: &[Event],
-    entries: &[Entry],
-    client: Client,
-    ready: usize,
-    told: Told,
-) -> bool
-    requires { ready ≤ length events.now }
-    ensures { IsTrue result ↔ IsToldSome kind events.now entries.now client ready told }
+fn is_told_some(who: &Listener, ready: usize, told: Told) -> bool
+    requires { ready ≤ length who.now.events.now }
+    ensures { IsTrue result ↔ IsToldSome who.now.kind who.now.events.now who.now.entries.now who.now.client ready told }
 {
     for p in 0..ready {
-        if is_told_call(kind, events, entries, client, ready, told, p) {
+        if is_told_call(who, ready, told, p) {
             return true;
         }
     }
@@ -139,7 +125,7 @@ fn is_told_some(
 }
 
 /// Whether the client is told this.
-pub(crate) fn is_told(tells: &[Told; 16], client: Client, told: Told) -> bool
+pub(crate) fn is_told(tells: &Reports, client: Client, told: Told) -> bool
     ensures { IsTrue result ↔ (slice_get tells.now client.0 ≡ Some told) }
 {
     match tells.get(client.0 as usize) {
@@ -149,55 +135,44 @@ pub(crate) fn is_told(tells: &[Told; 16], client: Client, told: Told) -> bool
 }
 
 /// Whether none of the client's calls before the Ready is in the order, and it is told what the base tells.
-fn is_told_base(
-    kind: Kind,
-    base: &[Told; 16],
-    events: &[Event],
-    entries: &[Entry],
-    client: Client,
-    ready: usize,
-    told: Told,
-) -> bool
-    requires { ready ≤ length events.now }
-    ensures { IsTrue result ↔ IsToldBase kind base.now events.now entries.now client ready told }
+fn is_told_base(who: &Listener, base: &Reports, ready: usize, told: Told) -> bool
+    requires { ready ≤ length who.now.events.now }
+    ensures { IsTrue result ↔
+        IsToldBase who.now.kind base.now who.now.events.now who.now.entries.now who.now.client ready told }
 {
-    is_told(base, client, told) && has_none_taken(kind, events, entries, client, 0, ready)
+    is_told(base, who.client, told) && has_none_taken(who, 0, ready)
 }
 
 /// Whether the client is told the one or the other.
-fn is_told_rightly(
-    kind: Kind,
-    base: &[Told; 16],
-    events: &[Event],
-    entries: &[Entry],
-    client: Client,
-    ready: usize,
-    told: Told,
-) -> bool
-    requires { ready ≤ length events.now }
+fn is_told_rightly(who: &Listener, base: &Reports, ready: usize, told: Told) -> bool
+    requires { ready ≤ length who.now.events.now }
     ensures { IsTrue result ↔
-        IsToldSome kind events.now entries.now client ready told
-        ⊎ IsToldBase kind base.now events.now entries.now client ready told }
+        IsToldSome who.now.kind who.now.events.now who.now.entries.now who.now.client ready told
+        ⊎ IsToldBase who.now.kind base.now who.now.events.now who.now.entries.now who.now.client ready told }
 {
-    is_told_some(kind, events, entries, client, ready, told)
-        || is_told_base(kind, base, events, entries, client, ready, told)
+    is_told_some(who, ready, told) || is_told_base(who, base, ready, told)
 }
 
 /// Whether each client is told the one or the other.
 fn tells_rightly(
     kind: Kind,
-    base: &[Told; 16],
+    base: &Reports,
     events: &[Event],
     entries: &[Entry],
     ready: usize,
-    tells: &[Told; 16],
+    tells: &Reports,
 ) -> bool
     requires { ready ≤ length events.now }
     ensures { IsTrue result ↔ TellsRightly kind base.now events.now entries.now ready tells.now }
 {
     for t in 0..16u8 {
-        let told = tells[t as usize];
-        if !is_told_rightly(kind, base, events, entries, Client(t), ready, told) {
+        let who = Listener {
+            kind,
+            events,
+            entries,
+            client: Client(t),
+        };
+        if !is_told_rightly(&who, base, ready, tells[t as usize]) {
             return false;
         }
     }
@@ -205,7 +180,7 @@ fn tells_rightly(
 }
 
 /// Whether a Ready that stands at `q` tells each client the one or the other.
-fn tells_at(kind: Kind, base: &[Told; 16], events: &[Event], entries: &[Entry], q: usize) -> bool
+fn tells_at(kind: Kind, base: &Reports, events: &[Event], entries: &[Entry], q: usize) -> bool
     requires { q < length events.now }
     ensures { IsTrue result ↔ TellsAt kind base.now events.now entries.now q }
 {
@@ -218,7 +193,7 @@ fn tells_at(kind: Kind, base: &[Told; 16], events: &[Event], entries: &[Entry], 
 /// Whether each Ready tells each client the one or the other.
 pub(crate) fn tells_at_each_ready(
     kind: Kind,
-    base: &[Told; 16],
+    base: &Reports,
     events: &[Event],
     entries: &[Entry],
 ) -> bool

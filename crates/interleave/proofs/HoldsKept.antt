@@ -1,4 +1,5 @@
 -- Each act keeps what holds of a world, and is the machine's.
+use Rattle.words.specs.declared.call.Reply.{Reply}
 use Rattle.std.proofs.Common.{◌≡◌, ◌≢◌, ◌+◌, ◌-◌, ◌++◌, nat_lt, ℕ, zero, suc, replicate, ◌<◌, ◌≤◌, inl, inr, Bool, true, false, if◌then◌else◌, ◌==◌, List, [], ◌∷◌, map, length, Option, Some, None, Result, Ok, Err, slice_get, slice_index, slice_index_or, slice_set, refl, sym, ap, ◌∙◌, subst, arith, get_or-set_other}
 use Rattle.std.specs.Prelude.{is_some, filter}
 use mathlib.Core.Path.{fun_ext}
@@ -15,44 +16,45 @@ use Rattle.words.specs.declared.refusal.Refusal.TheVariants.{StaleNumber}
 use Rattle.logqueue.specs.Numbers.{is_stale}
 use Rattle.words.specs.declared.call.Kind.{Kind}
 use Rattle.words.specs.declared.call.Kind.TheVariants.{Durable as durable_kind, Log as log_kind}
-use Rattle.persist.specs.Memory.{evicted as evicted_word}
-use Rattle.arena.specs.Laws.{IsLaidOut}
+use Rattle.persist.specs.Memory.{words_after_eviction}
+use Rattle.arena.specs.Layout.{place_at, size_of, word_at}
 use Rattle.arena.specs.declared.place.Place.{Place}
 use Rattle.arena.specs.Ranges.{Fits}
 use Rattle.arena.specs.Shape.{Shape}
 use Rattle.std.proofs.lemmas.List.{length-replicate}
 use Rattle.arena.specs.declared.place.Place.TheVariants.{Bump}
-use Rattle.stepper.specs.Step.{found, place_of, IsReadInRange}
-use Rattle.stepper.specs.declared.After.{After}
-use Rattle.stepper.specs.declared.After.TheVariants.{More, Done}
+use Rattle.stepper.specs.Step.{value_found, place_of, IsReadInRange}
+use Rattle.stepper.specs.declared.resume.After.{After}
+use Rattle.stepper.specs.declared.resume.After.TheVariants.{More, Done}
 use Rattle.helping.specs.Table.{access_of}
 use Rattle.helping.specs.declared.op.Op.{Op}
-use Rattle.protocol.specs.Machine.{World, Memory, MayStart, MayStep, FitsKind, FitsCall, with_call, with_next, next_of, begun_of, call_begun, started, stepped, evicted, flushed, crashed as machine_crashed, recovered, recovered_next, events_recovered, new_world as new_machine}
+use Rattle.protocol.specs.Machine.{World, Memory, MayStart, MayStep, FitsKind, FitsCall, with_call, with_next, next_of, begun_of, call_begun, with_start, with_step, with_eviction, with_flush, with_crash as machine_crashed, with_recovery_step, next_recovery, recovery_events, new_world as new_machine}
 use Rattle.protocol.specs.declared.UnderWay.{UnderWay}
-use Rattle.recover.specs.Table.{no_call as no_call_told, access_of as recovery_access, successor as recovery_successor}
-use Rattle.recover.specs.declared.recovery.Recovered.{Recovered}
-use Rattle.recover.specs.declared.recovery.Recovered.TheVariants.{More as go_on, Ready}
+use Rattle.recover.specs.Table.{no_call as no_call_told, access_of as recovery_access, recovery_after}
+use Rattle.stepper.specs.declared.resume.After.{After}
+use Rattle.stepper.specs.declared.resume.After.TheVariants.{More as go_on, Done as Ready}
 use Rattle.recover.specs.declared.recovery.Recovery.{Recovery}
-use Rattle.history.specs.Effects.{entry_of, order_of, settled_ones}
-use Rattle.history.specs.declared.event.Effect.{Effect}
+use Rattle.events.specs.Effects.{entry_of, order_of, settled_effects}
+use Rattle.events.specs.declared.event.Effect.{Effect}
 use Rattle.words.specs.declared.told.Told.{Told}
 use Rattle.words.specs.declared.told.Told.TheVariants.{None as told_none}
 use Rattle.interleave.specs.Calls.{waiting_result, idle_result}
-use Rattle.interleave.specs.Holds.{Holds, IsExplained, Keeps, of_keeps, to_keeps}
+use Rattle.interleave.specs.Holds.{Holds, IsExplained, Invariant, from_invariant, to_invariant}
 use Rattle.interleave.specs.Queue.{number_check, new_queue, told_in}
 use Rattle.interleave.specs.Ranges.{IsOfKind, IsSafe, IfCall}
-use Rattle.interleave.specs.Shown.{shown, shown_memory}
-use Rattle.interleave.specs.State.{State, Laid, new_world, as_machine, is_down, queue_left, gone_on, looked_at_bump, begun, used_by, number_of_idle, number_to_start, start_with, step_with, evict_with, after_start, after_step, after_evict, crashed, after_crash, queue_recovered, recovered_on, recover_with, after_recover, order_in}
+use Rattle.interleave.specs.Values.{value_of_place, memory_by_place}
+use Rattle.interleave.specs.State.{State, new_world, machine, is_down, queue_left, after_one_access, after_bump_load, after_call_began, used_by, number_of_idle, number_to_start, start_with, step_with, evict_with, after_start, after_step, after_evict, after_stop, after_crash, queue_at_ready, after_recovery_step, recover_with, after_recover, order_in}
 use Rattle.interleave.specs.declared.queue.Queue.{Queue}
 use Rattle.interleave.specs.declared.queue.Queue.TheVariants.{Durable, Log}
 use Rattle.interleave.proofs.InRange.{AccessFits, access_fits, recovery_access_fits, at_place, in_range}
-use Rattle.history.specs.Parts.{IsPartOf}
-use Rattle.history.proofs.Members.{part_same}
-use Rattle.protocol.proofs.Facts.{inv_new, inv_started, inv_stepped, inv_evicted, inv_crashed, inv_recovered, recovery_point, recovery_reads as reads_fit, recovery_silent, no_calls, zero_fits, explained, part_stepped, part_evicted, TellsNothing}
+use Rattle.events.specs.Parts.{IsPartOf}
+use Rattle.events.proofs.Members.{part_same}
+use Rattle.protocol.proofs.worlds.Facts.{inv_new, inv_started, inv_stepped, inv_evicted, inv_crashed, inv_recovered, recovery_point, recovery_reads as reads_fit, recovery_silent, no_calls, zero_fits, explained, part_stepped, part_evicted}
+use Rattle.protocol.specs.Acts.{TellsNothing}
 use Rattle.interleave.proofs.MachineFacts.{agreement}
 use Rattle.interleave.proofs.NoteLaws.{place_of_word}
 use Rattle.interleave.proofs.Safety.{call_fits as call_in_range, IsSafe-accessed, IsSafe-gone_on, IsSafe-begun, IsSafe-evicted}
-use Rattle.interleave.proofs.ShownLaws.{shown_accessed, shown_evicted, shown_at, shown_zero, zero_at}
+use Rattle.interleave.proofs.ValueLaws.{shown_accessed, shown_evicted, shown_at, shown_zero, zero_at}
 
 -- a client's place in the list of calls is its call
 pub calls_with : (calls : List (Option UnderWay)) (t : ℕ) (x : Option UnderWay) → t < length calls → (λ j. slice_index_or (slice_set calls t x) j None) ≡ with_call (λ j. slice_index_or calls j None) t x
@@ -61,7 +63,7 @@ calls_with calls t x within = fun_ext (λ j. elim (eqb_tells j t) [
   | inr e ↦ rw e.0 (get_or-set_other calls t j x None e.1)
 ])
 
-pub kind_left : (kind : Kind) (queue : Queue) (u : UnderWay) (a : After Op) → IsOfKind kind queue → IsOfKind kind (queue_left queue u a)
+pub kind_left : (kind : Kind) (queue : Queue) (u : UnderWay) (a : After Op Reply) → IsOfKind kind queue → IsOfKind kind (queue_left queue u a)
 kind_left kind queue u (More op) h = h
 kind_left durable_kind (Durable told) u (Done reply) h = h
 kind_left durable_kind (Log clients) u (Done reply) h = h
@@ -167,304 +169,301 @@ settled_twice (e ∷ es) = go e.settled refl (settled_twice es)
         ap (λ (c : Bool). if c then e ∷ filter (λ (x : Effect). x.settled) tail else filter (λ (x : Effect). x.settled) tail) is ∙ ap (λ t. e ∷ t) twice
     go false is twice = twice
 
-settled_order : (es : List Effect) → order_of (settled_ones es) ≡ order_of es
+settled_order : (es : List Effect) → order_of (settled_effects es) ≡ order_of es
 settled_order es = ap (map entry_of) (settled_twice es)
 
-module _ {L : Type 0} (laid : Laid L) (laws : (l : L) → IsLaidOut (laid.shape l) (laid.word_of l) (laid.place_at l) (laid.size_of l)) where
-  -- where a call is under way, recovery is not
-  pub ready_if_called : (w : State L) (client : Client) (u : UnderWay) → Holds laid w → slice_get w.calls client.0 ≡ Some (Some u) → w.recovery ≡ None
-  ready_if_called w client u holds here = go w.recovery refl
-    where
-      go : (o : Option Recovery) → w.recovery ≡ o → w.recovery ≡ None
-      go None e = e
-      go (Some r) e =
-          let none : slice_index_or w.calls client.0 None ≡ None = no_calls (as_machine laid w) (of_keeps _ holds.inv) r e client.0 in
-          let some : slice_index_or w.calls client.0 None ≡ Some u = get_or_from_slice_get w.calls client.0 (Some u) None here in
-          cc
+-- where a call is under way, recovery is not
+pub ready_if_called : (w : State) (client : Client) (u : UnderWay) → Holds w → slice_get w.calls client.0 ≡ Some (Some u) → w.recovery ≡ None
+ready_if_called w client u holds here = go w.recovery refl
+  where
+    go : (o : Option Recovery) → w.recovery ≡ o → w.recovery ≡ None
+    go None e = e
+    go (Some r) e =
+        let none : slice_index_or w.calls client.0 None ≡ None = no_calls (machine w) (from_invariant _ holds.inv) r e client.0 in
+        let some : slice_index_or w.calls client.0 None ≡ Some u = get_or_from_slice_get w.calls client.0 (Some u) None here in
+        cc
 
-  -- the call that waits may step
-  pub may_step : (w : State L) (client : Client) (u : UnderWay) → Holds laid w → slice_get w.calls client.0 ≡ Some (Some u) → MayStep (as_machine laid w) client u
-  may_step w client u holds here = record { ready = ready_if_called w client u holds here; waits = get_or_from_slice_get w.calls client.0 (Some u) None here }
+-- the call that waits may step
+pub may_step : (w : State) (client : Client) (u : UnderWay) → Holds w → slice_get w.calls client.0 ≡ Some (Some u) → MayStep (machine w) client u
+may_step w client u holds here = record { ready = ready_if_called w client u holds here; waits = get_or_from_slice_get w.calls client.0 (Some u) None here }
 
-  -- a step of a world is the machine's
-  pub gone_on_is : (w : State L) (client : Client) (u : UnderWay) → Holds laid w → slice_get w.calls client.0 ≡ Some (Some u) → as_machine laid (gone_on laid w client u) ≡ stepped (as_machine laid w) client u
-  gone_on_is w client u holds here =
-      let s = laid.shape w.layout in
-      let a = access_of s.kind u.op in
-      let fits = call_in_range s (laid.word_of w.layout) (laid.size_of w.layout) w.words w.calls client.0 u holds.safe here in
-      let memory = shown_accessed s (laid.word_of w.layout) (laid.place_at w.layout) (laid.size_of w.layout) (laws w.layout) w.words a (at_place s a (access_fits s s.kind u.op refl fits.point)) holds.safe.words.room (omega (arith, holds.safe.words.room, holds.safe.words.same)) in
-      let calls = calls_with w.calls client.0 (with_next u (next_of (as_machine laid w) u)) (slice_get_within w.calls client.0 (Some u) here) in
-      ap (λ (m : Memory). let x : World = record (as_machine laid (gone_on laid w client u)) { memory = m } in x) memory
-      ∙ ap (λ (f : ℕ → Option UnderWay). let x : World = record (stepped (as_machine laid w) client u) { calls = f } in x) calls
+-- a step of a world is the machine's
+pub gone_on_is : (w : State) (client : Client) (u : UnderWay) → Holds w → slice_get w.calls client.0 ≡ Some (Some u) → machine (after_one_access w client u) ≡ with_step (machine w) client u
+gone_on_is w client u holds here =
+    let s = w.shape in
+    let a = access_of s.kind u.op in
+    let fits = call_in_range s w.words w.calls client.0 u holds.safe here in
+    let memory = shown_accessed s w.words a (at_place s a (access_fits s s.kind u.op refl fits.point)) holds.safe.words.room (omega (arith, holds.safe.words.room, holds.safe.words.same)) in
+    let calls = calls_with w.calls client.0 (with_next u (next_of (machine w) u)) (slice_get_within w.calls client.0 (Some u) here) in
+    ap (λ (m : Memory). let x : World = record (machine (after_one_access w client u)) { memory = m } in x) memory
+    ∙ ap (λ (f : ℕ → Option UnderWay). let x : World = record (with_step (machine w) client u) { calls = f } in x) calls
 
-  pub holds_gone_on : (w : State L) (client : Client) (u : UnderWay) → Holds laid w → slice_get w.calls client.0 ≡ Some (Some u) → Holds laid (gone_on laid w client u)
-  holds_gone_on w client u holds here = record {
-    safe = IsSafe-gone_on (laid.shape w.layout) (laid.word_of w.layout) (laid.place_at w.layout) (laid.size_of w.layout) (laws w.layout) w.words w.calls w.base w.told w.log client.0 u holds.safe here;
-    kind = kind_left (laid.shape w.layout).kind w.queue u (next_of (as_machine laid w) u) holds.kind;
-    inv = subst Keeps (sym (gone_on_is w client u holds here)) (to_keeps _ (inv_stepped (as_machine laid w) (of_keeps _ holds.inv) client u (may_step w client u holds here)));
-  }
+pub holds_gone_on : (w : State) (client : Client) (u : UnderWay) → Holds w → slice_get w.calls client.0 ≡ Some (Some u) → Holds (after_one_access w client u)
+holds_gone_on w client u holds here = record {
+  safe = IsSafe-gone_on w.shape w.words w.calls w.base w.told w.log client.0 u holds.safe here;
+  kind = kind_left w.shape.kind w.queue u (next_of (machine w) u) holds.kind;
+  inv = subst Invariant (sym (gone_on_is w client u holds here)) (to_invariant _ (inv_stepped (machine w) (from_invariant _ holds.inv) client u (may_step w client u holds here)));
+}
 
-  -- a word that is counted is as it was
-  holds_counted : (w : State L) → Holds laid w → Holds laid (looked_at_bump w)
-  holds_counted w holds = record {
-    safe = record {
-      words = record { room = holds.safe.words.room; same = holds.safe.words.same; count = holds.safe.words.count; cached = holds.safe.words.cached; kept = holds.safe.words.kept };
-      clients = holds.safe.clients;
-      few = holds.safe.few;
-      calls_fit = holds.safe.calls_fit;
-    };
-    kind = holds.kind;
-    inv = holds.inv;
-  }
+-- a word that is counted is as it was
+holds_counted : (w : State) → Holds w → Holds (after_bump_load w)
+holds_counted w holds = record {
+  safe = record {
+    words = record { room = holds.safe.words.room; same = holds.safe.words.same; count = holds.safe.words.count; cached = holds.safe.words.cached; kept = holds.safe.words.kept };
+    clients = holds.safe.clients;
+    few = holds.safe.few;
+    calls_fit = holds.safe.calls_fit;
+  };
+  kind = holds.kind;
+  inv = holds.inv;
+}
 
-  -- a start of a world is the machine's
-  begun_state_is : (w : State L) (client : Client) (number : ℕ) (call : Call) → slice_get w.calls client.0 ≡ Some None → as_machine laid (begun laid w client number call) ≡ started (as_machine laid w) client number call
-  begun_state_is w client number call idle =
-      let m = as_machine laid w in
-      ap (λ (f : ℕ → Option UnderWay). let x : World = record (started m client number call) { calls = f } in x)
-      (calls_with w.calls client.0 (Some (call_begun m (begun_of m client number call))) (slice_get_within w.calls client.0 None idle))
+-- a start of a world is the machine's
+begun_state_is : (w : State) (client : Client) (number : ℕ) (call : Call) → slice_get w.calls client.0 ≡ Some None → machine (after_call_began w client number call) ≡ with_start (machine w) client number call
+begun_state_is w client number call idle =
+    let m = machine w in
+    ap (λ (f : ℕ → Option UnderWay). let x : World = record (with_start m client number call) { calls = f } in x)
+    (calls_with w.calls client.0 (Some (call_begun m (begun_of m client number call))) (slice_get_within w.calls client.0 None idle))
 
-  may_start : (w : State L) (client : Client) (number : ℕ) (call : Call) → Holds laid w → w.recovery ≡ None → slice_get w.calls client.0 ≡ Some None → used_by laid w client ≢ (laid.shape w.layout).records → FitsKind (laid.shape w.layout).kind number → FitsCall call → MayStart (as_machine laid w) client number call
-  may_start w client number call holds ready idle left number_fits call_fits =
-      let s = laid.shape w.layout in
-      let client_in : client.0 < s.clients = omega (arith, slice_get_within w.calls client.0 None idle, holds.safe.clients) in
-      let used = shown_at s (laid.word_of w.layout) w.words.cached (Bump client) client_in in
-      let few : slice_index w.words.cached (laid.word_of w.layout (Bump client)) ≤ s.records = holds.safe.words.cached (Bump client) client_in tt in
-      record {
-        ready = ready;
-        is_client = client_in;
-        idle = get_or_from_slice_get w.calls client.0 None None idle;
-        record_left = omega (arith, used, few, left);
-        number_fits = number_fits;
-        call_fits = call_fits;
-      }
+may_start : (w : State) (client : Client) (number : ℕ) (call : Call) → Holds w → w.recovery ≡ None → slice_get w.calls client.0 ≡ Some None → used_by w client ≢ w.shape.records → FitsKind w.shape.kind number → FitsCall call → MayStart (machine w) client number call
+may_start w client number call holds ready idle left number_fits call_fits =
+    let s = w.shape in
+    let client_in : client.0 < s.clients = omega (arith, slice_get_within w.calls client.0 None idle, holds.safe.clients) in
+    let used = shown_at s w.words.cached (Bump client) client_in in
+    let few : slice_index w.words.cached (word_at w.shape (Bump client)) ≤ s.records = holds.safe.words.cached (Bump client) client_in tt in
+    record {
+      ready = ready;
+      is_client = client_in;
+      idle = get_or_from_slice_get w.calls client.0 None None idle;
+      record_left = omega (arith, used, few, left);
+      number_fits = number_fits;
+      call_fits = call_fits;
+    }
 
-  holds_begun : (w : State L) (client : Client) (number : ℕ) (call : Call) → Holds laid w → w.recovery ≡ None → slice_get w.calls client.0 ≡ Some None → used_by laid w client ≢ (laid.shape w.layout).records → FitsKind (laid.shape w.layout).kind number → FitsCall call → Holds laid (begun laid w client number call)
-  holds_begun w client number call holds ready idle left number_fits call_fits =
-      let s = laid.shape w.layout in
-      let within = slice_get_within w.calls client.0 None idle in
-      let may = may_start w client number call holds ready idle left number_fits call_fits in
-      let safe = IsSafe-begun s (laid.word_of w.layout) (laid.place_at w.layout) (laid.size_of w.layout) (laws w.layout) w.words w.calls client (used_by laid w client) number (length w.log.events) call holds.safe within may.record_left (number_few s.kind number number_fits) (value_few call call_fits) in
-      record {
-        safe = record {
-          words = record { room = safe.words.room; same = safe.words.same; count = safe.words.count; cached = safe.words.cached; kept = safe.words.kept };
-          clients = safe.clients;
-          few = safe.few;
-          calls_fit = safe.calls_fit;
-        };
-        kind = holds.kind;
-        inv = subst Keeps (sym (begun_state_is w client number call idle)) (to_keeps _ (inv_started (as_machine laid w) (of_keeps _ holds.inv) client number call may));
-      }
+holds_begun : (w : State) (client : Client) (number : ℕ) (call : Call) → Holds w → w.recovery ≡ None → slice_get w.calls client.0 ≡ Some None → used_by w client ≢ w.shape.records → FitsKind w.shape.kind number → FitsCall call → Holds (after_call_began w client number call)
+holds_begun w client number call holds ready idle left number_fits call_fits =
+    let s = w.shape in
+    let within = slice_get_within w.calls client.0 None idle in
+    let may = may_start w client number call holds ready idle left number_fits call_fits in
+    let safe = IsSafe-begun s w.words w.calls client (used_by w client) number (length w.log.events) call holds.safe within may.record_left (number_few s.kind number number_fits) (value_few call call_fits) in
+    record {
+      safe = record {
+        words = record { room = safe.words.room; same = safe.words.same; count = safe.words.count; cached = safe.words.cached; kept = safe.words.kept };
+        clients = safe.clients;
+        few = safe.few;
+        calls_fit = safe.calls_fit;
+      };
+      kind = holds.kind;
+      inv = subst Invariant (sym (begun_state_is w client number call idle)) (to_invariant _ (inv_started (machine w) (from_invariant _ holds.inv) client number call may));
+    }
 
-  -- whatever a start answers
-  pub holds_after_start : (full : Bool) (w : State L) (client : Client) (number : ℕ) (call : Call) → Holds laid w → FitsCall call → Holds laid (after_start laid full w client number call)
-  holds_after_start full w client number call holds fits = from_check (number_to_start w client number) refl
-    where
-      started_if : (n : ℕ) → w.recovery ≡ None → slice_get w.calls client.0 ≡ Some None → FitsKind (laid.shape w.layout).kind n → (no_room : Bool) → (used_by laid w client == (laid.shape w.layout).records) ≡ no_room → Holds laid (if no_room then looked_at_bump w else (if full then looked_at_bump w else begun laid w client n call))
-      started_if n ready idle number_fits true e = holds_counted w holds
-      started_if n ready idle number_fits false e = by_memory full
-        where
-          by_memory : (f : Bool) → Holds laid (if f then looked_at_bump w else begun laid w client n call)
-          by_memory true = holds_counted w holds
-          by_memory false = holds_begun w client n call holds ready idle (eqb-false _ _ e) number_fits fits
+-- whatever a start answers
+pub holds_after_start : (full : Bool) (w : State) (client : Client) (number : ℕ) (call : Call) → Holds w → FitsCall call → Holds (after_start full w client number call)
+holds_after_start full w client number call holds fits = from_check (number_to_start w client number) refl
+  where
+    started_if : (n : ℕ) → w.recovery ≡ None → slice_get w.calls client.0 ≡ Some None → FitsKind w.shape.kind n → (no_room : Bool) → (used_by w client == w.shape.records) ≡ no_room → Holds (if no_room then after_bump_load w else (if full then after_bump_load w else after_call_began w client n call))
+    started_if n ready idle number_fits true e = holds_counted w holds
+    started_if n ready idle number_fits false e = by_memory full
+      where
+        by_memory : (f : Bool) → Holds (if f then after_bump_load w else after_call_began w client n call)
+        by_memory true = holds_counted w holds
+        by_memory false = holds_begun w client n call holds ready idle (eqb-false _ _ e) number_fits fits
 
-      from_check : (r : Result ℕ Refusal) → number_to_start w client number ≡ r → Holds laid (start_with laid full w client call r)
-      from_check (Err refusal) e = holds
-      from_check (Ok n) e =
-          let found = number_fits_kind (laid.shape w.layout).kind w.queue client number n (is_down w) (slice_get w.calls client.0) holds.kind e in
-          started_if n (is_none w.recovery found.0) found.1 found.2 (used_by laid w client == (laid.shape w.layout).records) refl
+    from_check : (r : Result ℕ Refusal) → number_to_start w client number ≡ r → Holds (start_with full w client call r)
+    from_check (Err refusal) e = holds
+    from_check (Ok n) e =
+        let found = number_fits_kind w.shape.kind w.queue client number n (is_down w) (slice_get w.calls client.0) holds.kind e in
+        started_if n (is_none w.recovery found.0) found.1 found.2 (used_by w client == w.shape.records) refl
 
-  -- whatever a step answers
-  pub holds_after_step : (full : Bool) (w : State L) (client : Client) → Holds laid w → Holds laid (after_step laid full w client)
-  holds_after_step full w client holds = from_waiting (waiting_result (is_down w) (slice_get w.calls client.0)) refl
-    where
-      from_waiting : (r : Result UnderWay Refusal) → waiting_result (is_down w) (slice_get w.calls client.0) ≡ r → Holds laid (step_with laid full w client r)
-      from_waiting (Err refusal) e = holds
-      from_waiting (Ok u) e = by_memory full
-        where
-          by_memory : (f : Bool) → Holds laid (if f then w else gone_on laid w client u)
-          by_memory true = holds
-          by_memory false = holds_gone_on w client u holds (waiting_is _ _ u e)
+-- whatever a step answers
+pub holds_after_step : (full : Bool) (w : State) (client : Client) → Holds w → Holds (after_step full w client)
+holds_after_step full w client holds = from_waiting (waiting_result (is_down w) (slice_get w.calls client.0)) refl
+  where
+    from_waiting : (r : Result UnderWay Refusal) → waiting_result (is_down w) (slice_get w.calls client.0) ≡ r → Holds (step_with full w client r)
+    from_waiting (Err refusal) e = holds
+    from_waiting (Ok u) e = by_memory full
+      where
+        by_memory : (f : Bool) → Holds (if f then w else after_one_access w client u)
+        by_memory true = holds
+        by_memory false = holds_gone_on w client u holds (waiting_is _ _ u e)
 
-  -- an eviction of a world is the machine's
-  pub evicted_is : (w : State L) (word : ℕ) (p : Place) → Holds laid w → laid.place_at w.layout word ≡ Some p → as_machine laid (evict_with laid w word (Some p)) ≡ evicted (as_machine laid w) p
-  evicted_is w word p holds named =
-      let s = laid.shape w.layout in
-      let at = place_of_word s (laid.word_of w.layout) (laid.place_at w.layout) (laid.size_of w.layout) (laws w.layout) word p named in
-      let memory : shown_memory s (laid.word_of w.layout) (evicted_word word w.words) ≡ flushed (shown_memory s (laid.word_of w.layout) w.words) p =
-      ap (λ (v : ℕ). shown_memory s (laid.word_of w.layout) (evicted_word v w.words)) (sym at.1)
-      ∙ shown_evicted s (laid.word_of w.layout) (laid.place_at w.layout) (laid.size_of w.layout) (laws w.layout) w.words p at.0 (omega (arith, holds.safe.words.room, holds.safe.words.same)) in
-      ap (λ (m : Memory). let x : World = record (evicted (as_machine laid w) p) { memory = m } in x) memory
+-- an eviction of a world is the machine's
+pub evicted_is : (w : State) (word : ℕ) (p : Place) → Holds w → place_at w.shape word ≡ Some p → machine (evict_with w word (Some p)) ≡ with_eviction (machine w) p
+evicted_is w word p holds named =
+    let s = w.shape in
+    let at = place_of_word s word p named in
+    let memory : memory_by_place s (words_after_eviction word w.words) ≡ with_flush (memory_by_place s w.words) p =
+    ap (λ (v : ℕ). memory_by_place s (words_after_eviction v w.words)) (sym at.1)
+    ∙ shown_evicted s w.words p at.0 (omega (arith, holds.safe.words.room, holds.safe.words.same)) in
+    ap (λ (m : Memory). let x : World = record (with_eviction (machine w) p) { memory = m } in x) memory
 
-  pub holds_after_evict : (w : State L) (word : ℕ) → Holds laid w → Holds laid (after_evict laid w word)
-  holds_after_evict w word holds = from_place (laid.place_at w.layout word) refl
-    where
-      from_place : (o : Option Place) → laid.place_at w.layout word ≡ o → Holds laid (evict_with laid w word o)
-      from_place None e = holds
-      from_place (Some p) e =
-          let s = laid.shape w.layout in
-          let at = place_of_word s (laid.word_of w.layout) (laid.place_at w.layout) (laid.size_of w.layout) (laws w.layout) word p e in
-          let safe = IsSafe-evicted s (laid.word_of w.layout) (laid.place_at w.layout) (laid.size_of w.layout) (laws w.layout) w.words w.calls p at.0 holds.safe in
-          record {
-            safe = subst (λ v. IsSafe s (laid.word_of w.layout) (laid.size_of w.layout) (evicted_word v w.words) w.calls) at.1 safe;
-            kind = holds.kind;
-            inv = subst Keeps (sym (evicted_is w word p holds e)) (to_keeps _ (inv_evicted (as_machine laid w) (of_keeps _ holds.inv) p));
-          }
+pub holds_after_evict : (w : State) (word : ℕ) → Holds w → Holds (after_evict w word)
+holds_after_evict w word holds = from_place (place_at w.shape word) refl
+  where
+    from_place : (o : Option Place) → place_at w.shape word ≡ o → Holds (evict_with w word o)
+    from_place None e = holds
+    from_place (Some p) e =
+        let s = w.shape in
+        let at = place_of_word s word p e in
+        let safe = IsSafe-evicted s w.words w.calls p at.0 holds.safe in
+        record {
+          safe = subst (λ v. IsSafe s (words_after_eviction v w.words) w.calls) at.1 safe;
+          kind = holds.kind;
+          inv = subst Invariant (sym (evicted_is w word p holds e)) (to_invariant _ (inv_evicted (machine w) (from_invariant _ holds.inv) p));
+        }
 
-  -- at every moment the order explains the history, and the kept words hold what its replay leaves
-  pub explained_world : (w : State L) → Holds laid w → IsExplained laid w
-  explained_world w holds =
-      let e = explained (as_machine laid w) (of_keeps _ holds.inv) in
-      record { history = e.0; explains = e.1; agrees = agreement (as_machine laid w) (of_keeps _ holds.inv) }
+-- at every moment the order explains the history, and the kept words hold what its replay leaves
+pub explained_world : (w : State) → Holds w → IsExplained w
+explained_world w holds =
+    let e = explained (machine w) (from_invariant _ holds.inv) in
+    record { history = e.0; explains = e.1; agrees = agreement (machine w) (from_invariant _ holds.inv) }
 
-  -- nothing that stands in the order is taken back
-  pub part_after_start : (full : Bool) (w : State L) (client : Client) (number : ℕ) (call : Call) → order_in (after_start laid full w client number call) ≡ order_in w
-  part_after_start full w client number call = from_check (number_to_start w client number)
-    where
-      from_check : (r : Result ℕ Refusal) → order_in (start_with laid full w client call r) ≡ order_in w
-      from_check (Err refusal) = refl
-      from_check (Ok n) = both (used_by laid w client == (laid.shape w.layout).records) full
-        where
-          both : (a b : Bool) → order_in (if a then looked_at_bump w else (if b then looked_at_bump w else begun laid w client n call)) ≡ order_in w
-          both true b = refl
-          both false true = refl
-          both false false = refl
+-- nothing that stands in the order is taken back
+pub part_after_start : (full : Bool) (w : State) (client : Client) (number : ℕ) (call : Call) → order_in (after_start full w client number call) ≡ order_in w
+part_after_start full w client number call = from_check (number_to_start w client number)
+  where
+    from_check : (r : Result ℕ Refusal) → order_in (start_with full w client call r) ≡ order_in w
+    from_check (Err refusal) = refl
+    from_check (Ok n) = both (used_by w client == w.shape.records) full
+      where
+        both : (a b : Bool) → order_in (if a then after_bump_load w else (if b then after_bump_load w else after_call_began w client n call)) ≡ order_in w
+        both true b = refl
+        both false true = refl
+        both false false = refl
 
-  pub part_after_step : (full : Bool) (w : State L) (client : Client) → Holds laid w → IsPartOf (order_in w) (order_in (after_step laid full w client))
-  part_after_step full w client holds = from_waiting (waiting_result (is_down w) (slice_get w.calls client.0)) refl
-    where
-      from_waiting : (r : Result UnderWay Refusal) → waiting_result (is_down w) (slice_get w.calls client.0) ≡ r → IsPartOf (order_in w) (order_in (step_with laid full w client r))
-      from_waiting (Err refusal) e = part_same (order_in w)
-      from_waiting (Ok u) e = by_memory full
-        where
-          by_memory : (f : Bool) → IsPartOf (order_in w) (order_in (if f then w else gone_on laid w client u))
-          by_memory true = part_same (order_in w)
-          by_memory false = part_stepped (as_machine laid w) (of_keeps _ holds.inv) client u (may_step w client u holds (waiting_is _ _ u e))
+pub part_after_step : (full : Bool) (w : State) (client : Client) → Holds w → IsPartOf (order_in w) (order_in (after_step full w client))
+part_after_step full w client holds = from_waiting (waiting_result (is_down w) (slice_get w.calls client.0)) refl
+  where
+    from_waiting : (r : Result UnderWay Refusal) → waiting_result (is_down w) (slice_get w.calls client.0) ≡ r → IsPartOf (order_in w) (order_in (step_with full w client r))
+    from_waiting (Err refusal) e = part_same (order_in w)
+    from_waiting (Ok u) e = by_memory full
+      where
+        by_memory : (f : Bool) → IsPartOf (order_in w) (order_in (if f then w else after_one_access w client u))
+        by_memory true = part_same (order_in w)
+        by_memory false = part_stepped (machine w) (from_invariant _ holds.inv) client u (may_step w client u holds (waiting_is _ _ u e))
 
-  pub part_after_evict : (w : State L) (word : ℕ) → Holds laid w → IsPartOf (order_in w) (order_in (after_evict laid w word))
-  part_after_evict w word holds = from_place (laid.place_at w.layout word)
-    where
-      from_place : (o : Option Place) → IsPartOf (order_in w) (order_in (evict_with laid w word o))
-      from_place None = part_same (order_in w)
-      from_place (Some p) = part_evicted (as_machine laid w) (of_keeps _ holds.inv) p
+pub part_after_evict : (w : State) (word : ℕ) → Holds w → IsPartOf (order_in w) (order_in (after_evict w word))
+part_after_evict w word holds = from_place (place_at w.shape word)
+  where
+    from_place : (o : Option Place) → IsPartOf (order_in w) (order_in (evict_with w word o))
+    from_place None = part_same (order_in w)
+    from_place (Some p) = part_evicted (machine w) (from_invariant _ holds.inv) p
 
-  -- a crash of a world is the machine's
-  pub crashed_is : (w : State L) → as_machine laid (crashed laid w) ≡ machine_crashed (as_machine laid w)
-  crashed_is w =
-      let calls : (λ (j : ℕ). slice_index_or (replicate (length w.calls) (let x : Option UnderWay = None in x)) j None) ≡ (λ j. None) = fun_ext (no_call (length w.calls)) in
-      ap (λ (f : ℕ → Option UnderWay). let x : World = record (machine_crashed (as_machine laid w)) { calls = f } in x) calls
+-- a crash of a world is the machine's
+pub crashed_is : (w : State) → machine (after_stop w) ≡ machine_crashed (machine w)
+crashed_is w =
+    let calls : (λ (j : ℕ). slice_index_or (replicate (length w.calls) (let x : Option UnderWay = None in x)) j None) ≡ (λ j. None) = fun_ext (no_call (length w.calls)) in
+    ap (λ (f : ℕ → Option UnderWay). let x : World = record (machine_crashed (machine w)) { calls = f } in x) calls
 
-  holds_crashed : (w : State L) → Holds laid w → Holds laid (crashed laid w)
-  holds_crashed w holds = record {
-    safe = record {
-      words = record { room = omega (arith, holds.safe.words.room, holds.safe.words.same); same = refl; count = holds.safe.words.count; cached = holds.safe.words.kept; kept = holds.safe.words.kept };
-      clients = length-replicate (length w.calls) None ∙ holds.safe.clients;
-      few = holds.safe.few;
-      calls_fit = λ t. subst (IfCall (laid.shape w.layout)) (sym (no_call (length w.calls) t)) tt;
-    };
-    kind = holds.kind;
-    inv = subst Keeps (sym (crashed_is w)) (to_keeps _ (inv_crashed (as_machine laid w) (of_keeps _ holds.inv)));
-  }
+holds_crashed : (w : State) → Holds w → Holds (after_stop w)
+holds_crashed w holds = record {
+  safe = record {
+    words = record { room = omega (arith, holds.safe.words.room, holds.safe.words.same); same = refl; count = holds.safe.words.count; cached = holds.safe.words.kept; kept = holds.safe.words.kept };
+    clients = length-replicate (length w.calls) None ∙ holds.safe.clients;
+    few = holds.safe.few;
+    calls_fit = λ t. subst (IfCall w.shape) (sym (no_call (length w.calls) t)) tt;
+  };
+  kind = holds.kind;
+  inv = subst Invariant (sym (crashed_is w)) (to_invariant _ (inv_crashed (machine w) (from_invariant _ holds.inv)));
+}
 
-  pub holds_after_crash : (full : Bool) (w : State L) → Holds laid w → Holds laid (after_crash laid full w)
-  holds_after_crash true w holds = holds
-  holds_after_crash false w holds = holds_crashed w holds
+pub holds_after_crash : (full : Bool) (w : State) → Holds w → Holds (after_crash full w)
+holds_after_crash true w holds = holds
+holds_after_crash false w holds = holds_crashed w holds
 
-  pub part_after_crash : (full : Bool) (w : State L) → order_in (after_crash laid full w) ≡ order_in w
-  part_after_crash true w = refl
-  part_after_crash false w = settled_order w.log.effects
+pub part_after_crash : (full : Bool) (w : State) → order_in (after_crash full w) ≡ order_in w
+part_after_crash true w = refl
+part_after_crash false w = settled_order w.log.effects
 
-  -- recovery's access is at a place, and what it may write fits there
-  pub access_of_recovery : (w : State L) (r : Recovery) → Holds laid w → w.recovery ≡ Some r → AccessFits (laid.shape w.layout) (recovery_access (laid.shape w.layout).kind r)
-  access_of_recovery w r holds e = recovery_access_fits (laid.shape w.layout) (laid.shape w.layout).kind r refl (recovery_point (as_machine laid w) (of_keeps _ holds.inv) r e)
+-- recovery's access is at a place, and what it may write fits there
+pub access_of_recovery : (w : State) (r : Recovery) → Holds w → w.recovery ≡ Some r → AccessFits w.shape (recovery_access w.shape.kind r.at)
+access_of_recovery w r holds e = recovery_access_fits w.shape w.shape.kind r.at refl (recovery_point (machine w) (from_invariant _ holds.inv) r e)
 
-  -- what recovery finds there is in range
-  pub recovery_reads : (w : State L) (r : Recovery) → Holds laid w → w.recovery ≡ Some r
-      → IsReadInRange (laid.shape w.layout) (recovery_access (laid.shape w.layout).kind r) (found (laid.word_of w.layout) (recovery_access (laid.shape w.layout).kind r) w.words)
-  recovery_reads w r holds e =
-      let s = laid.shape w.layout in
-      let a = recovery_access s.kind r in
-      let same = shown_at s (laid.word_of w.layout) w.words.cached (place_of a) (at_place s a (access_of_recovery w r holds e)) in
-      in_range s a (found (laid.word_of w.layout) a w.words) (subst (Fits s (place_of a)) same (reads_fit (as_machine laid w) (of_keeps _ holds.inv) r e))
+-- what recovery finds there is in range
+pub recovery_reads : (w : State) (r : Recovery) → Holds w → w.recovery ≡ Some r
+    → IsReadInRange w.shape (recovery_access w.shape.kind r.at) (value_found w.shape (recovery_access w.shape.kind r.at) w.words)
+recovery_reads w r holds e =
+    let s = w.shape in
+    let a = recovery_access s.kind r.at in
+    let same = shown_at s w.words.cached (place_of a) (at_place s a (access_of_recovery w r holds e)) in
+    in_range s a (value_found w.shape a w.words) (subst (Fits s (place_of a)) same (reads_fit (machine w) (from_invariant _ holds.inv) r e))
 
-  -- and it goes on as the machine's does
-  pub recovery_next : (w : State L) (r : Recovery) → Holds laid w → w.recovery ≡ Some r
-      → recovery_successor (laid.shape w.layout) r (found (laid.word_of w.layout) (recovery_access (laid.shape w.layout).kind r) w.words) ≡ recovered_next (as_machine laid w) r
-  recovery_next w r holds e =
-      let s = laid.shape w.layout in
-      let a = recovery_access s.kind r in
-      ap (recovery_successor s r) (sym (shown_at s (laid.word_of w.layout) w.words.cached (place_of a) (at_place s a (access_of_recovery w r holds e))))
+-- and it goes on as the machine's does
+pub recovery_next : (w : State) (r : Recovery) → Holds w → w.recovery ≡ Some r
+    → recovery_after w.shape r (value_found w.shape (recovery_access w.shape.kind r.at) w.words) ≡ next_recovery (machine w) r
+recovery_next w r holds e =
+    let s = w.shape in
+    let a = recovery_access s.kind r.at in
+    ap (recovery_after s r) (sym (shown_at s w.words.cached (place_of a) (at_place s a (access_of_recovery w r holds e))))
 
-  -- a step of recovery of a world is the machine's
-  pub recovered_is : (w : State L) (r : Recovery) → Holds laid w → w.recovery ≡ Some r → as_machine laid (recovered_on laid w r) ≡ recovered (as_machine laid w) r
-  recovered_is w r holds e =
-      let s = laid.shape w.layout in
-      let a = recovery_access s.kind r in
-      let memory = shown_accessed s (laid.word_of w.layout) (laid.place_at w.layout) (laid.size_of w.layout) (laws w.layout) w.words a (at_place s a (access_of_recovery w r holds e)) holds.safe.words.room (omega (arith, holds.safe.words.room, holds.safe.words.same)) in
-      let effects : w.log.effects ≡ (recovered (as_machine laid w) r).log.effects = sym (recovery_silent (as_machine laid w) (of_keeps _ holds.inv) r e) in
-      ap (λ (m : Memory). let x : World = record (as_machine laid (recovered_on laid w r)) { memory = m } in x) memory
-      ∙ ap (λ (es : List Effect). let x : World = record (recovered (as_machine laid w) r) { log = record { events = events_recovered w.log.events (recovered_next (as_machine laid w) r); issued = w.log.issued; effects = es } } in x) effects
+-- a step of recovery of a world is the machine's
+pub recovered_is : (w : State) (r : Recovery) → Holds w → w.recovery ≡ Some r → machine (after_recovery_step w r) ≡ with_recovery_step (machine w) r
+recovered_is w r holds e =
+    let s = w.shape in
+    let a = recovery_access s.kind r.at in
+    let memory = shown_accessed s w.words a (at_place s a (access_of_recovery w r holds e)) holds.safe.words.room (omega (arith, holds.safe.words.room, holds.safe.words.same)) in
+    let effects : w.log.effects ≡ (with_recovery_step (machine w) r).log.effects = sym (recovery_silent (machine w) (from_invariant _ holds.inv) r e) in
+    ap (λ (m : Memory). let x : World = record (machine (after_recovery_step w r)) { memory = m } in x) memory
+    ∙ ap (λ (es : List Effect). let x : World = record (with_recovery_step (machine w) r) { log = record { events = recovery_events w.log.events (next_recovery (machine w) r); issued = w.log.issued; effects = es } } in x) effects
 
-  kind_recovered : (kind : Kind) (queue : Queue) (next : Recovered) → IsOfKind kind queue → IsOfKind kind (queue_recovered queue next)
-  kind_recovered kind queue (go_on r) h = h
-  kind_recovered durable_kind (Durable told) (Ready t) h = h
-  kind_recovered durable_kind (Log clients) (Ready t) h = h
-  kind_recovered log_kind (Durable told) (Ready t) h = h
-  kind_recovered log_kind (Log clients) (Ready t) h = h
+kind_recovered : (kind : Kind) (queue : Queue) (next : After Recovery (List Told)) → IsOfKind kind queue → IsOfKind kind (queue_at_ready queue next)
+kind_recovered kind queue (go_on r) h = h
+kind_recovered durable_kind (Durable told) (Ready t) h = h
+kind_recovered durable_kind (Log clients) (Ready t) h = h
+kind_recovered log_kind (Durable told) (Ready t) h = h
+kind_recovered log_kind (Log clients) (Ready t) h = h
 
-  holds_recovered : (w : State L) (r : Recovery) → Holds laid w → w.recovery ≡ Some r → Holds laid (recovered_on laid w r)
-  holds_recovered w r holds e =
-      let s = laid.shape w.layout in
-      let safe = IsSafe-accessed s (laid.word_of w.layout) (laid.place_at w.layout) (laid.size_of w.layout) (laws w.layout) w.words w.calls (recovery_access s.kind r) (access_of_recovery w r holds e) holds.safe in
-      record {
-        safe = record { words = safe.words; clients = safe.clients; few = safe.few; calls_fit = safe.calls_fit };
-        kind = kind_recovered s.kind w.queue (recovered_next (as_machine laid w) r) holds.kind;
-        inv = subst Keeps (sym (recovered_is w r holds e)) (to_keeps _ (inv_recovered (as_machine laid w) (of_keeps _ holds.inv) r e));
-      }
+holds_recovered : (w : State) (r : Recovery) → Holds w → w.recovery ≡ Some r → Holds (after_recovery_step w r)
+holds_recovered w r holds e =
+    let s = w.shape in
+    let safe = IsSafe-accessed s w.words w.calls (recovery_access s.kind r.at) (access_of_recovery w r holds e) holds.safe in
+    record {
+      safe = record { words = safe.words; clients = safe.clients; few = safe.few; calls_fit = safe.calls_fit };
+      kind = kind_recovered s.kind w.queue (next_recovery (machine w) r) holds.kind;
+      inv = subst Invariant (sym (recovered_is w r holds e)) (to_invariant _ (inv_recovered (machine w) (from_invariant _ holds.inv) r e));
+    }
 
-  pub holds_after_recover : (full : Bool) (w : State L) → Holds laid w → Holds laid (after_recover laid full w)
-  holds_after_recover full w holds = go w.recovery refl full
-    where
-      go : (o : Option Recovery) → w.recovery ≡ o → (f : Bool) → Holds laid (recover_with laid f w o)
-      go None e f = holds
-      go (Some r) e true = holds
-      go (Some r) e false = holds_recovered w r holds e
+pub holds_after_recover : (full : Bool) (w : State) → Holds w → Holds (after_recover full w)
+holds_after_recover full w holds = go w.recovery refl full
+  where
+    go : (o : Option Recovery) → w.recovery ≡ o → (f : Bool) → Holds (recover_with f w o)
+    go None e f = holds
+    go (Some r) e true = holds
+    go (Some r) e false = holds_recovered w r holds e
 
-  pub part_after_recover : (full : Bool) (w : State L) → order_in (after_recover laid full w) ≡ order_in w
-  part_after_recover full w = go w.recovery full
-    where
-      go : (o : Option Recovery) (f : Bool) → order_in (recover_with laid f w o) ≡ order_in w
-      go None f = refl
-      go (Some r) true = refl
-      go (Some r) false = refl
+pub part_after_recover : (full : Bool) (w : State) → order_in (after_recover full w) ≡ order_in w
+part_after_recover full w = go w.recovery full
+  where
+    go : (o : Option Recovery) (f : Bool) → order_in (recover_with f w o) ≡ order_in w
+    go None f = refl
+    go (Some r) true = refl
+    go (Some r) false = refl
 
-  -- a new world
-  new_is : (layout : L) → as_machine laid (new_world laid layout) ≡ new_machine (laid.shape layout) (new_world laid layout).told
-  new_is layout =
-      let s = laid.shape layout in
-      let words : shown s (laid.word_of layout) (replicate (laid.size_of layout) 0) ≡ (λ p. 0) = shown_zero s (laid.word_of layout) (laid.size_of layout) in
-      let calls : (λ (j : ℕ). slice_index_or (replicate s.clients (let x : Option UnderWay = None in x)) j None) ≡ (λ j. None) = fun_ext (no_call s.clients) in
-      let w : World = new_machine s (new_world laid layout).told in
-      ap (λ (f : Place → ℕ). let x : World = record (as_machine laid (new_world laid layout)) { memory = record { cached = f; kept = f } } in x) words
-      ∙ ap (λ (f : ℕ → Option UnderWay). let x : World = record w { calls = f } in x) calls
+-- a new world
+new_is : (s : Shape) → machine (new_world s) ≡ new_machine s (new_world s).told
+new_is s =
+    let words : value_of_place s (replicate (size_of s) 0) ≡ (λ p. 0) = shown_zero s (size_of s) in
+    let calls : (λ (j : ℕ). slice_index_or (replicate s.clients (let x : Option UnderWay = None in x)) j None) ≡ (λ j. None) = fun_ext (no_call s.clients) in
+    let w : World = new_machine s (new_world s).told in
+    ap (λ (f : Place → ℕ). let x : World = record (machine (new_world s)) { memory = record { cached = f; kept = f } } in x) words
+    ∙ ap (λ (f : ℕ → Option UnderWay). let x : World = record w { calls = f } in x) calls
 
-  pub holds_new : (layout : L) → 1 ≤ (laid.shape layout).clients → (laid.shape layout).clients ≤ 16 → IsOfKind (laid.shape layout).kind (new_queue (laid.shape layout).kind (laid.shape layout).clients) → Holds laid (new_world laid layout)
-  holds_new layout some few kind =
-      let s = laid.shape layout in
-      let size = laid.size_of layout in
-      let zeros : List ℕ = replicate size 0 in
-      let long : length zeros ≡ size = length-replicate size 0 in
-      let fit : (p : Place) → Fits s p (slice_index zeros (laid.word_of layout p)) = λ p. subst (Fits s p) (sym (zero_at size (laid.word_of layout p))) (zero_fits s p) in
-      record {
-        safe = record {
-          words = record { room = omega (arith, long); same = refl; count = inl long; cached = λ p at read. fit p; kept = λ p at read. fit p };
-          clients = length-replicate s.clients None;
-          few = few;
-          calls_fit = λ t. subst (IfCall s) (sym (no_call s.clients t)) tt;
-        };
-        kind = kind;
-        inv = subst Keeps (sym (new_is layout)) (to_keeps _ (inv_new s (new_world laid layout).told some few (tells_nothing s some few)));
-      }
+pub holds_new : (s : Shape) → 1 ≤ s.clients → s.clients ≤ 16 → IsOfKind s.kind (new_queue s.kind s.clients) → Holds (new_world s)
+holds_new s some few kind =
+    let size = size_of s in
+    let zeros : List ℕ = replicate size 0 in
+    let long : length zeros ≡ size = length-replicate size 0 in
+    let fit : (p : Place) → Fits s p (slice_index zeros (word_at s p)) = λ p. subst (Fits s p) (sym (zero_at size (word_at s p))) (zero_fits s p) in
+    record {
+      safe = record {
+        words = record { room = omega (arith, long); same = refl; count = inl long; cached = λ p at read. fit p; kept = λ p at read. fit p };
+        clients = length-replicate s.clients None;
+        few = few;
+        calls_fit = λ t. subst (IfCall s) (sym (no_call s.clients t)) tt;
+      };
+      kind = kind;
+      inv = subst Invariant (sym (new_is s)) (to_invariant _ (inv_new s (new_world s).told some few (tells_nothing s some few)));
+    }
 
 pub new_kind : (kind : Kind) (clients : ℕ) → IsOfKind kind (new_queue kind clients)
 new_kind durable_kind clients = tt

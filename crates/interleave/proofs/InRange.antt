@@ -1,4 +1,5 @@
 -- Each step's access is at a place of the layout, what it writes fits there, and what it leads to is in range.
+use Rattle.words.specs.declared.call.Reply.{Reply}
 use Rattle.std.proofs.Common.{◌≡◌, ℕ, zero, suc, ◌+◌, List, [], ◌∷◌, Option, Some, None, slice_get, arith, refl, subst}
 use Rattle.std.proofs.lemmas.Bool.Decides.{nat_tests}
 use Rattle.words.specs.declared.call.Kind.{Kind}
@@ -13,12 +14,12 @@ use Rattle.arena.specs.Ranges.{Fits, IsReadByCalls}
 use Rattle.arena.specs.declared.place.Place.{Place}
 use Rattle.arena.specs.declared.place.Write.{Write}
 use Rattle.recover.specs.Table.{access_of as recovery_access, IsPoint as IsRecoveryPoint}
-use Rattle.recover.specs.declared.recovery.Recovery.{Recovery}
-use Rattle.recover.specs.declared.recovery.Recovery.TheVariants.{RecoveryLoadHead, RecoveryLoadNext, RecoveryLoadInsert, RecoveryStoreStatus, RecoveryFlushStatus, RecoveryLoadMark, RecoveryLoadValue, RecoveryStoreResult, RecoveryFlushResult, RecoveryStoreHead, RecoveryFlushHead, RecoveryStoreTail, RecoveryFlushTail, RecoveryLoadAnnouncement, RecoveryLoadCell, RecoveryLoadNumber, RecoveryLoadKind, RecoveryLoadStatus, RecoveryLoadRemove, RecoveryLoadEntryNode, RecoveryLoadRemovedValue}
+use Rattle.recover.specs.declared.point.RecoveryPoint.{RecoveryPoint}
+use Rattle.recover.specs.declared.point.RecoveryPoint.TheVariants.{RecoveryLoadHead, RecoveryLoadNext, RecoveryLoadInsert, RecoveryStoreStatus, RecoveryFlushStatus, RecoveryLoadMark, RecoveryLoadValue, RecoveryStoreResult, RecoveryFlushResult, RecoveryStoreHead, RecoveryFlushHead, RecoveryStoreTail, RecoveryFlushTail, RecoveryLoadAnnouncement, RecoveryLoadCell, RecoveryLoadNumber, RecoveryLoadKind, RecoveryLoadStatus, RecoveryLoadRemove, RecoveryLoadEntryNode, RecoveryLoadRemovedValue}
 use Rattle.stepper.specs.Step.{place_of, IsReadInRange}
 use Rattle.stepper.specs.Preparation.{preparation_from, preparation_of, prepared_with, IsBegun, IsPreparing}
-use Rattle.stepper.specs.declared.After.{After}
-use Rattle.stepper.specs.declared.After.TheVariants.{More, Done}
+use Rattle.stepper.specs.declared.resume.After.{After}
+use Rattle.stepper.specs.declared.resume.After.TheVariants.{More, Done}
 use Rattle.stepper.specs.declared.prepare.Begun.{Begun}
 use Rattle.helping.specs.declared.dequeue.Claim.{Claim}
 use Rattle.helping.specs.declared.dequeue.Claim.TheVariants.{Won, LostTo}
@@ -33,7 +34,7 @@ AccessFits s (Store p v) = IsPlace s p × Fits s p v
 AccessFits s (Cas p old new) = IsPlace s p × Fits s p new
 AccessFits s (Flush p) = IsPlace s p
 
-abbrev pub AfterFits : Shape → After Op → Type 0
+abbrev pub AfterFits : Shape → After Op Reply → Type 0
 AfterFits s (More op) = IsPoint s op
 AfterFits s (Done reply) = Unit {0}
 
@@ -158,7 +159,7 @@ access_fits s Log (DequeueFlushResult p) k h = grind arith
 access_fits s kind (DequeueMoveHead p) k h = grind arith
 
 -- the same of recovery
-pub recovery_access_fits : (s : Shape) (kind : Kind) (r : Recovery) → s.kind ≡ kind → IsRecoveryPoint s r → AccessFits s (recovery_access kind r)
+pub recovery_access_fits : (s : Shape) (kind : Kind) (at : RecoveryPoint) → s.kind ≡ kind → IsRecoveryPoint s at → AccessFits s (recovery_access kind at)
 recovery_access_fits s kind (RecoveryLoadHead p) k h = tt
 recovery_access_fits s kind (RecoveryLoadNext p) k h = grind arith
 recovery_access_fits s kind (RecoveryLoadInsert p) k h = grind arith
@@ -207,4 +208,4 @@ successor_fits s (DequeueClaim p) v h f = grind (arith, nat_tests)
 successor_fits s (DequeueFlushClaim p) v h f = grind (arith, nat_tests)
 successor_fits s (DequeueStoreResult p) v h f = grind (arith, nat_tests)
 successor_fits s (DequeueFlushResult p) v h f = grind (arith, nat_tests)
-successor_fits s (DequeueMoveHead p) v h f = again_fits s p.claim p.token p.value h.0.0
+successor_fits s (DequeueMoveHead p) v h f = again_fits s p.claimed.claim p.claimed.token p.claimed.value h.0.0

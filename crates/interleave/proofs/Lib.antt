@@ -1,4 +1,4 @@
-pub mod ShownLaws
+pub mod ValueLaws
 pub mod Unsettled
 pub mod Records
 pub mod Contents

@@ -3,16 +3,17 @@ use Rattle.std.proofs.Common.{◌≡◌, ◌≢◌, ℕ, ◌<◌, ◌≤◌, Lis
 use Rattle.std.specs.Prelude.{All, AllPairs, slice_index_or}
 use Rattle.std.proofs.lemmas.Option.{slice_get_within, get_or_from_slice_get}
 use Rattle.arena.specs.Content.{kept_content}
-use Rattle.history.specs.Effects.{order_of}
-use Rattle.history.specs.Log.{IsEffect}
-use Rattle.history.specs.Replay.{queue_after}
-use Rattle.history.specs.declared.event.Effect.{Effect}
-use Rattle.history.proofs.LogQueue.{queue_of_order}
+use Rattle.events.specs.Effects.{order_of}
+use Rattle.events.specs.Trace.{IsEffect}
+use Rattle.events.specs.Replay.{queue_after}
+use Rattle.events.specs.declared.event.Effect.{Effect}
+use Rattle.events.proofs.TraceQueue.{queue_of_order}
 use Rattle.protocol.specs.Machine.{World}
-use Rattle.protocol.proofs.Facts.{Inv, in_log, agrees, effect_room}
+use Rattle.protocol.specs.invariants.Worlds.{Inv}
+use Rattle.protocol.proofs.worlds.Facts.{in_log, agrees, effect_room}
 use Rattle.interleave.specs.Effects.{AreInSequence}
-use Rattle.interleave.specs.Holds.{Holds, of_keeps}
-use Rattle.interleave.specs.State.{State, Laid, as_machine}
+use Rattle.interleave.specs.Holds.{Holds, from_invariant}
+use Rattle.interleave.specs.State.{State, machine}
 
 -- a fact of each item, at a place
 at_place : {X : Type 0} (P : X → Type 0) (xs : List X) → All P xs → (k : ℕ) (x : X) → slice_get xs k ≡ Some x → P x
@@ -37,8 +38,8 @@ pub agreement : (w : World) → Inv w → kept_content w.shape w.memory.kept ≡
 agreement w inv = agrees w inv ∙ sym (queue_of_order w.shape.kind w.base w.told w.log.events w.log.effects (in_log w inv))
 
 -- the same of a world
-pub room_held : {L : Type 0} {laid : Laid L} {w : State L} → Holds laid w → length w.log.effects ≤ length w.log.events
-room_held {laid = laid} {w = w} holds = effect_room (as_machine laid w) (of_keeps (as_machine laid w) holds.inv)
+pub room_held : {w : State} → Holds w → length w.log.effects ≤ length w.log.events
+room_held {w = w} holds = effect_room (machine w) (from_invariant (machine w) holds.inv)
 
-pub sequence_held : {L : Type 0} {laid : Laid L} {w : State L} → Holds laid w → AreInSequence w.log.effects
-sequence_held {laid = laid} {w = w} holds = in_sequence (as_machine laid w) (of_keeps (as_machine laid w) holds.inv)
+pub sequence_held : {w : State} → Holds w → AreInSequence w.log.effects
+sequence_held {w = w} holds = in_sequence (machine w) (from_invariant (machine w) holds.inv)

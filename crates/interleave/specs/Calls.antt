@@ -3,14 +3,14 @@ use Rattle.std.specs.Prelude.{Bool, true, false, Option, Some, None, Result, Ok,
 use Rattle.words.specs.declared.call.Reply.{Reply}
 use Rattle.words.specs.declared.refusal.Refusal.{Refusal}
 use Rattle.words.specs.declared.refusal.Refusal.TheVariants.{NoClient, NotReady, Busy, Idle, NoMemory}
-use Rattle.stepper.specs.declared.After.{After}
-use Rattle.stepper.specs.declared.After.TheVariants.{More, Done}
+use Rattle.stepper.specs.declared.resume.After.{After}
+use Rattle.stepper.specs.declared.resume.After.TheVariants.{More, Done}
 use Rattle.helping.specs.Looks.{found_no_node}
 use Rattle.helping.specs.declared.op.Op.{Op}
 use Rattle.protocol.specs.declared.UnderWay.{UnderWay}
 
 -- what a step answers
-abbrev pub answer_of : After Op → Option Reply
+abbrev pub answer_of : After Op Reply → Option Reply
 answer_of (More op) = None
 answer_of (Done reply) = Some reply
 
@@ -34,6 +34,6 @@ is_no_memory (Err NoMemory) = true
 is_no_memory _ = false
 
 -- whether a step went on with no node found
-abbrev pub went_on_to_nothing : After Op → Bool
+abbrev pub went_on_to_nothing : After Op Reply → Bool
 went_on_to_nothing (More op) = found_no_node op
 went_on_to_nothing (Done reply) = false

@@ -4,5 +4,5 @@ use Rattle.arena.specs.Words.{marks, values}
 use Rattle.arena.specs.declared.place.Place.{Place}
 
 -- the value of a node, if it is not claimed
-abbrev pub unclaimed : (Place → ℕ) → ℕ → List ℕ
-unclaimed word n = if marks word n == 0 then values word n ∷ [] else []
+abbrev pub unclaimed_from : (Place → ℕ) → ℕ → List ℕ
+unclaimed_from word n = if marks word n == 0 then values word n ∷ [] else []

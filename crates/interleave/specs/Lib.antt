@@ -1,14 +1,15 @@
 pub mod Content
 pub mod Queue
 pub mod Calls
-pub mod Shown
+pub mod Values
 pub mod Effects
 pub mod Trace
 pub mod State
 pub mod Holds
-pub mod Keeping
+pub mod Changes
 pub mod Ranges
 pub mod OneAccess
+pub mod Recoveries
 pub mod OneEvent
 pub mod Booted
 pub mod Down

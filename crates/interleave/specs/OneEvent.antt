@@ -4,40 +4,41 @@ use Rattle.words.specs.declared.call.Call.{Call}
 use Rattle.words.specs.declared.call.Client.{Client}
 use Rattle.words.specs.declared.call.Reply.{Reply}
 use Rattle.words.specs.declared.refusal.Refusal.{Refusal}
-use Rattle.history.specs.declared.event.Event.{Event}
-use Rattle.history.specs.declared.event.Event.TheVariants.{Call as call_event, Return as return_event, Crash as crash_event, Ready as ready_event}
-use Rattle.recover.specs.declared.recovery.Recovered.{Recovered}
-use Rattle.recover.specs.declared.recovery.Recovered.TheVariants.{More as go_on, Ready}
+use Rattle.words.specs.declared.told.Told.{Told}
+use Rattle.events.specs.declared.event.Event.{Event}
+use Rattle.events.specs.declared.event.Event.TheVariants.{Call as call_event, Return as return_event, Crash as crash_event, Ready as ready_event}
+use Rattle.stepper.specs.declared.resume.After.{After}
+use Rattle.stepper.specs.declared.resume.After.TheVariants.{More as go_on, Done as Ready}
 use Rattle.recover.specs.declared.recovery.Recovery.{Recovery}
-use Rattle.protocol.specs.Machine.{recovered_next}
-use Rattle.interleave.specs.State.{State, Laid, as_machine, number_to_start, start_result, step_result}
-use Rattle.interleave.specs.declared.acts.Act.{Act}
-use Rattle.interleave.specs.declared.acts.Act.TheVariants.{Start, Step, Evict, Crash, Recover}
+use Rattle.protocol.specs.Machine.{next_recovery}
+use Rattle.interleave.specs.State.{State, machine, number_to_start, start_result, step_result}
+use Rattle.protocol.specs.declared.acts.Act.{Act}
+use Rattle.protocol.specs.declared.acts.Act.TheVariants.{Start, Step, Evict, Crash, Recover}
 
 -- the Call of a start that is accepted
-abbrev pub called : Result Unit Refusal → Result ℕ Refusal → Client → Call → List Event
-called (Ok u) (Ok number) client call = call_event client number call ∷ []
-called (Ok u) (Err refusal) client call = []
-called (Err refusal) number client call = []
+abbrev pub call_events : Result Unit Refusal → Result ℕ Refusal → Client → Call → List Event
+call_events (Ok u) (Ok number) client call = call_event client number call ∷ []
+call_events (Ok u) (Err refusal) client call = []
+call_events (Err refusal) number client call = []
 
 -- the Return of a step that answers
-abbrev pub returned : Result (Option Reply) Refusal → Client → List Event
-returned (Ok (Some reply)) client = return_event client reply ∷ []
-returned (Ok None) client = []
-returned (Err refusal) client = []
+abbrev pub return_events : Result (Option Reply) Refusal → Client → List Event
+return_events (Ok (Some reply)) client = return_event client reply ∷ []
+return_events (Ok None) client = []
+return_events (Err refusal) client = []
 
 -- the Ready of recovery's last step
-abbrev pub readied : Recovered → List Event
-readied (go_on r) = []
-readied (Ready told) = ready_event told ∷ []
+abbrev pub ready_events : After Recovery (List Told) → List Event
+ready_events (go_on r) = []
+ready_events (Ready told) = ready_event told ∷ []
 
-abbrev pub readied_by : {L : Type 0} → Laid L → State L → Option Recovery → List Event
-readied_by laid w None = []
-readied_by laid w (Some r) = readied (recovered_next (as_machine laid w) r)
+abbrev pub ready_events_by : State → Option Recovery → List Event
+ready_events_by w None = []
+ready_events_by w (Some r) = ready_events (next_recovery (machine w) r)
 
-abbrev pub event_of : {L : Type 0} → Laid L → State L → Act → List Event
-event_of laid w (Start client number call) = called (start_result laid false w client number) (number_to_start w client number) client call
-event_of laid w (Step client) = returned (step_result laid false w client) client
-event_of laid w (Evict word) = []
-event_of laid w Crash = crash_event ∷ []
-event_of laid w Recover = readied_by laid w w.recovery
+abbrev pub event_of : State → Act ℕ → List Event
+event_of w (Start client number call) = call_events (start_result false w client number) (number_to_start w client number) client call
+event_of w (Step client) = return_events (step_result false w client) client
+event_of w (Evict word) = []
+event_of w Crash = crash_event ∷ []
+event_of w Recover = ready_events_by w w.recovery

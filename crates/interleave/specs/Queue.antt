@@ -33,9 +33,9 @@ number_check (Log clients) client number =
     if is_stale (slice_index clients.floors client.0) number then Err StaleNumber else Ok number
 
 -- recovery told its clients this; a log queue has its floors from it
-abbrev pub retold : Queue → List Told → Queue
-retold (Durable old) told = Durable told
-retold (Log clients) told = Log (told_queue told)
+abbrev pub queue_with_reports : Queue → List Told → Queue
+queue_with_reports (Durable old) told = Durable told
+queue_with_reports (Log clients) told = Log (told_queue told)
 
 -- the number of an answered call becomes the floor of its client
 abbrev pub after_return : Queue → Client → ℕ → Queue

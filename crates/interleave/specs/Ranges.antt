@@ -1,6 +1,8 @@
 -- Every word that calls read, and every number of a waiting call, is in its range: so each step is safe, in every interleaving.
 use Rattle.std.specs.Prelude.{◌≡◌, ℕ, ◌≤◌, List, Option, Some, None, length, slice_index, slice_index_or}
 use Rattle.persist.specs.Memory.{Words}
+use Rattle.words.specs.declared.limits.TheConstants.{MAX_CLIENTS}
+use Rattle.arena.specs.Layout.{size_of, word_at}
 use Rattle.arena.specs.Shape.{Shape}
 use Rattle.arena.specs.Place.{IsPlace}
 use Rattle.arena.specs.Ranges.{Fits, IsReadByCalls}
@@ -14,15 +16,15 @@ use Rattle.protocol.specs.declared.UnderWay.{UnderWay}
 use Rattle.interleave.specs.declared.queue.Queue.{Queue}
 use Rattle.interleave.specs.declared.queue.Queue.TheVariants.{Durable, Log}
 
-abbrev pub AllFit : Shape → (Place → ℕ) → List ℕ → Type 0
-AllFit s word_of ws = (p : Place) → IsPlace s p → IsReadByCalls p → Fits s p (slice_index ws (word_of p))
+abbrev pub AllFit : Shape → List ℕ → Type 0
+AllFit s ws = (p : Place) → IsPlace s p → IsReadByCalls p → Fits s p (slice_index ws (word_at s p))
 
-pub record WordsFit (s : Shape) (word_of : Place → ℕ) (size : ℕ) (ws : Words) : Type 0 where
-  pub room : size ≤ length ws.cached
+pub record WordsFit (s : Shape) (ws : Words) : Type 0 where
+  pub room : size_of s ≤ length ws.cached
   pub same : length ws.kept ≡ length ws.cached
-  pub count : SizeIsSound s size ws.kept
-  pub cached : AllFit s word_of ws.cached
-  pub kept : AllFit s word_of ws.kept
+  pub count : SizeIsSound s ws.kept
+  pub cached : AllFit s ws.cached
+  pub kept : AllFit s ws.kept
 
 -- what a call under way learnt is in range
 pub record CallFits (s : Shape) (u : UnderWay) : Type 0 where
@@ -40,8 +42,8 @@ IsOfKind durable_kind (Log clients) = ⊥
 IsOfKind log_kind (Durable told) = ⊥
 IsOfKind log_kind (Log clients) = Unit {0}
 
-pub record IsSafe (s : Shape) (word_of : Place → ℕ) (size : ℕ) (ws : Words) (calls : List (Option UnderWay)) : Type 0 where
-  pub words : WordsFit s word_of size ws
+pub record IsSafe (s : Shape) (ws : Words) (calls : List (Option UnderWay)) : Type 0 where
+  pub words : WordsFit s ws
   pub clients : length calls ≡ s.clients
-  pub few : s.clients ≤ 16
+  pub few : s.clients ≤ MAX_CLIENTS
   pub calls_fit : (t : ℕ) → IfCall s (slice_index_or calls t None)

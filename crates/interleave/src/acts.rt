@@ -1,29 +1,7 @@
 //! Acts, as data.
 
-use words::{Call, Client};
-
-/// One act on a world.
-#[derive(Clone, Copy, Debug, PartialEq, Eq)]
-pub enum Act {
-    /// The client starts a call. A durable queue ignores the number.
-    Start {
-        client: Client,
-        number: u64,
-        call: Call,
-    },
-    /// The client's call goes on by one step.
-    Step {
-        client: Client,
-    },
-    /// The environment keeps a word.
-    Evict {
-        word: usize,
-    },
-    /// The whole system stops, and begins to recover.
-    Crash,
-    /// Recovery goes on by one step.
-    Recover,
-}
+/// One act on a world: the environment keeps a word by its index.
+pub type Act = protocol::Act<usize>;
 
 /// How a list of acts went.
 #[derive(Clone, Copy, Debug, PartialEq, Eq)]

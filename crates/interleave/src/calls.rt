@@ -5,7 +5,7 @@ ghost use Rattle.interleave.specs.Calls.{idle_result, waiting_result};
 
 use protocol::UnderWay;
 use std::alloc::{AllocError, Global};
-use words::{Client, Refusal, Token};
+use words::{Client, MAX_CLIENTS, MAX_RECORDS, Refusal, Token};
 
 /// No call under way, for any of so many clients.
 pub(crate) fn nobody(alloc: Global, clients: u32) -> Result<Vec<Option<UnderWay>>, AllocError>
@@ -61,8 +61,8 @@ pub(crate) fn waiting(
 #[tactic(auto, using(crate::proofs::Records::record_in_range))]
 pub(crate) fn record_number(clients: u32, records: u32, client: Client, used: u32) -> Token
     requires client { client.0 < clients }
-    requires clients { clients ≤ 16 }
-    requires records { records ≤ 4096 }
+    requires clients { clients ≤ MAX_CLIENTS }
+    requires records { records ≤ MAX_RECORDS }
     requires used { used < records }
     ensures number { result.0 ≡ 1 + client.0 * records + used }
     ensures few { result.0 ≤ clients * records }

@@ -3,9 +3,9 @@
 ghost use Rattle.std.specs.Prelude.{◌≡◌, ◌++◌, IfOk, IfErr, OnOk};
 ghost use Rattle.arena.specs.Place.{IsNode};
 ghost use Rattle.arena.specs.Content.{kept_content};
-ghost use Rattle.interleave.specs.Content.{unclaimed};
+ghost use Rattle.interleave.specs.Content.{unclaimed_from};
 ghost use Rattle.interleave.specs.Ranges.{WordsFit};
-ghost use Rattle.interleave.specs.Shown.{shown};
+ghost use Rattle.interleave.specs.Values.{value_of_place};
 
 use crate::notice::kept_at;
 use arena::{Layout, Place};
@@ -21,8 +21,9 @@ fn add_unclaimed<L: Layout>(
     node: NodeId,
 ) -> Result<(), Refusal>
     requires node { IsNode (L.shape layout.now) node.0 }
-    requires fit { WordsFit (L.shape layout.now) (L.word_of layout.now) (L.size_of layout.now) memory.now }
-    ensures added { OnOk result (values.new.items ≡ values.old.items ++ unclaimed (shown (L.shape layout.now) (L.word_of layout.now) memory.now.kept) node.0) }
+    requires fit { WordsFit (L.shape layout.now) memory.now }
+    ensures added { OnOk result (values.new.items
+        ≡ values.old.items ++ unclaimed_from (value_of_place (L.shape layout.now) memory.now.kept) node.0) }
     ensures errors { IfErr result (λ e. e ≡ Refusal.NoMemory) }
 {
     if kept_at(layout, memory, Place::Mark(node)) != 0 {
@@ -41,8 +42,9 @@ pub(crate) fn content<L: Layout>(
     layout: &L,
     memory: &Memory,
 ) -> Result<Vec<u32>, Refusal>
-    requires { WordsFit (L.shape layout.now) (L.word_of layout.now) (L.size_of layout.now) memory.now }
-    ensures content { IfOk result (λ values. values.items ≡ kept_content (L.shape layout.now) (shown (L.shape layout.now) (L.word_of layout.now) memory.now.kept)) }
+    requires { WordsFit (L.shape layout.now) memory.now }
+    ensures content { IfOk result (λ values. values.items
+        ≡ kept_content (L.shape layout.now) (value_of_place (L.shape layout.now) memory.now.kept)) }
     ensures errors { IfErr result (λ e. e ≡ Refusal.NoMemory) }
 {
     let mut values = Vec::new(alloc);

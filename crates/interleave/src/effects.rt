@@ -1,14 +1,14 @@
 //! Effects that wait to count.
 
 ghost use Rattle.std.specs.Prelude.{◌≡◌, ◌≤◌, length, vec_capacity, MatchOption};
-ghost use Rattle.history.specs.Effects.{forgotten, settled_at, is_unsettled_at};
+ghost use Rattle.events.specs.Effects.{without_pending, with_settled, is_pending_at};
 ghost use Rattle.interleave.specs.Effects.{AreInSequence, HasNoneUnsettled, IsUnsettledAt};
 
-use history::Effect;
+use events::Effect;
 
 /// Whether it is the effect of the call at the place, and waits to count.
 fn waits(effect: Effect, place: usize) -> bool
-    ensures { result ≡ is_unsettled_at place effect }
+    ensures { result ≡ is_pending_at place effect }
 {
     effect.place == place && !effect.settled
 }
@@ -36,7 +36,7 @@ fn unsettled(effects: &[Effect], place: usize) -> Option<usize>
 /// What the call at the place found counts no more, if it waits to.
 pub(crate) fn forget(effects: &mut Vec<Effect>, place: usize)
     requires { AreInSequence effects.old.items }
-    ensures effects { effects.new.items ≡ forgotten place effects.old.items }
+    ensures effects { effects.new.items ≡ without_pending place effects.old.items }
     ensures capacity { vec_capacity effects.new ≡ vec_capacity effects.old }
 {
     if let Some(i) = unsettled(effects, place) {
@@ -47,7 +47,7 @@ pub(crate) fn forget(effects: &mut Vec<Effect>, place: usize)
 /// What the call at the place found counts, where it stands.
 pub(crate) fn settle(effects: &mut [Effect], place: usize)
     requires { AreInSequence effects.old }
-    ensures { effects.new ≡ settled_at place effects.old }
+    ensures { effects.new ≡ with_settled place effects.old }
 {
     if let Some(i) = unsettled(effects, place) {
         effects[i].settled = true;

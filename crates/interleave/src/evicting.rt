@@ -5,7 +5,7 @@ ghost use Rattle.interleave.specs.Holds.{Holds};
 ghost use Rattle.interleave.specs.State.{after_evict, evict_result};
 ghost use Rattle.interleave.specs.Trace.{state_with};
 
-use crate::notice::notice;
+use crate::notice::note_change;
 use crate::queue::Queue;
 use crate::trace::Trace;
 use arena::Layout;
@@ -22,18 +22,17 @@ pub(crate) fn evict_word<L: Layout>(
     trace: &mut Trace,
     word: usize,
 ) -> Result<Option<Change>, Refusal>
-    requires holds { Holds (record { shape = L.shape; word_of = L.word_of; place_at = L.place_at; size_of = L.size_of }) (state_with layout.now memory.old queue.now calls.now trace.old) }
-    ensures world { state_with layout.now memory.new queue.now calls.now trace.new
-        ≡ after_evict (record { shape = L.shape; word_of = L.word_of; place_at = L.place_at; size_of = L.size_of }) (state_with layout.now memory.old queue.now calls.now trace.old) word }
-    ensures result { result ≡ evict_result (record { shape = L.shape; word_of = L.word_of; place_at = L.place_at; size_of = L.size_of }) (state_with layout.now memory.old queue.now calls.now trace.old) word }
+    requires holds { Holds (state_with (L.shape layout.now) memory.old queue.now calls.now trace.old) }
+    ensures world { state_with (L.shape layout.now) memory.new queue.now calls.now trace.new
+        ≡ after_evict (state_with (L.shape layout.now) memory.old queue.now calls.now trace.old) word }
+    ensures result { result
+        ≡ evict_result (state_with (L.shape layout.now) memory.old queue.now calls.now trace.old) word }
     ensures room { trace.new.room ≡ trace.old.room }
 {
-    let Some(place) = layout.what_is(word) else {
+    if word >= layout.size() {
         return Err(Refusal::NoWord);
-    };
-    let change = memory.evict(word)?;
-    if let Some(change) = change {
-        notice(layout, memory, calls, trace, place, change.new);
     }
+    let change = memory.evict(word)?;
+    note_change(layout, memory, calls, trace, change);
     Ok(change)
 }

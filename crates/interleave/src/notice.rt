@@ -3,63 +3,27 @@
 ghost use Rattle.std.specs.Prelude.{◌≡◌, ◌≤◌, length, slice_index_or, None};
 ghost use Rattle.arena.specs.Shape.{owner};
 ghost use Rattle.arena.specs.Place.{IsPlace};
-ghost use Rattle.stepper.specs.Step.{kept_by};
-ghost use Rattle.helping.specs.Table.{access_of, IsPoint};
-ghost use Rattle.protocol.specs.Machine.{noticed, counts};
+ghost use Rattle.protocol.specs.Machine.{effects_on_keep, effects_on_count};
 ghost use Rattle.interleave.specs.Effects.{AreInSequence};
-ghost use Rattle.interleave.specs.Keeping.{keeping_of, is_noticed};
+ghost use Rattle.interleave.specs.Trace.{machine_with, with_effects};
+ghost use Rattle.interleave.specs.Changes.{effects_on_change};
 ghost use Rattle.interleave.specs.Ranges.{WordsFit};
-ghost use Rattle.interleave.specs.Shown.{shown};
-ghost use Rattle.interleave.specs.State.{machine_of};
+ghost use Rattle.interleave.specs.Values.{value_of_place};
 
 use crate::trace::Trace;
-use arena::{Layout, Place};
-use helping::Op;
-use persist::{KeptWords, Memory};
+use arena::{EMPTY_CELL, EMPTY_STATUS, Layout, Place};
+use persist::{Change, KeptWords, Memory};
 use protocol::UnderWay;
 use words::Reply;
-
-/// A place whose word is about to be kept, and the value that is kept there.
-#[derive(Clone, Copy, Debug)]
-pub(crate) struct Keeping {
-    pub(crate) place: Place,
-    pub(crate) old: u64,
-}
 
 /// The kept value of a place. Looking at it is no access.
 pub(crate) fn kept_at<L: Layout>(layout: &L, memory: &Memory, place: Place) -> u64
     requires place { IsPlace (L.shape layout.now) place }
-    requires fit { WordsFit (L.shape layout.now) (L.word_of layout.now) (L.size_of layout.now) memory.now }
-    ensures { result ≡ shown (L.shape layout.now) (L.word_of layout.now) memory.now.kept place }
+    requires fit { WordsFit (L.shape layout.now) memory.now }
+    ensures { result ≡ value_of_place (L.shape layout.now) memory.now.kept place }
 {
     let word = layout.word(place);
     memory.kept(word)
-}
-
-/// Whether a call may take effect when the word of the place is kept.
-fn is_noticed(place: Place) -> bool
-    ensures { result ≡ is_noticed place }
-{
-    matches!(
-        place,
-        Place::Next(_) | Place::Mark(_) | Place::Cell(_) | Place::Status(_)
-    )
-}
-
-/// What the next step of a call will keep, if that step is a flush by which a call may take effect. The words of a
-/// preparation are none such, so most flushes look at no kept word.
-pub(crate) fn about_to_keep<L: Layout>(layout: &L, memory: &Memory, op: Op) -> Option<Keeping>
-    requires point { IsPoint (L.shape layout.now) op }
-    requires fit { WordsFit (L.shape layout.now) (L.word_of layout.now) (L.size_of layout.now) memory.now }
-    ensures { result ≡ keeping_of (shown (L.shape layout.now) (L.word_of layout.now) memory.now.kept) (kept_by (access_of (L.shape layout.now).kind op)) }
-{
-    match op.keeps(layout) {
-        Some(place) if is_noticed(place) => Some(Keeping {
-            place,
-            old: kept_at(layout, memory, place),
-        }),
-        _ => None,
-    }
 }
 
 /// The call whose record has this number, if it is under way.
@@ -75,7 +39,7 @@ fn call_with<L: Layout>(layout: &L, calls: &[Option<UnderWay>], number: u64) -> 
 
 /// The kept value of a place has become this: a call takes effect when its link or its claim is kept, and an empty
 /// dequeue counts when its answer is.
-pub(crate) fn notice<L: Layout>(
+fn notice<L: Layout>(
     layout: &L,
     memory: &Memory,
     calls: &[Option<UnderWay>],
@@ -84,10 +48,12 @@ pub(crate) fn notice<L: Layout>(
     new: u64,
 )
     requires place { IsPlace (L.shape layout.now) place }
-    requires fit { WordsFit (L.shape layout.now) (L.word_of layout.now) (L.size_of layout.now) memory.now }
+    requires fit { WordsFit (L.shape layout.now) memory.now }
     requires sequence { AreInSequence trace.old.log.effects }
-    requires room { length (noticed (machine_of (L.shape layout.now) (L.word_of layout.now) memory.now calls.now trace.old.base trace.old.told trace.old.log) place new) ≤ length trace.old.log.events }
-    ensures { trace.new ≡ record trace.old { log = record trace.old.log { effects = noticed (machine_of (L.shape layout.now) (L.word_of layout.now) memory.now calls.now trace.old.base trace.old.told trace.old.log) place new } } }
+    requires room { length (effects_on_keep
+        (machine_with (L.shape layout.now) memory.now calls.now trace.old) place new) ≤ length trace.old.log.events }
+    ensures { trace.new ≡ with_effects trace.old
+        (effects_on_keep (machine_with (L.shape layout.now) memory.now calls.now trace.old) place new) }
 {
     match place {
         Place::Next(_) => {
@@ -102,12 +68,12 @@ pub(crate) fn notice<L: Layout>(
             }
         }
         Place::Cell(token) => {
-            if new == 1 {
+            if new == EMPTY_CELL {
                 settle_call(layout, calls, trace, token.0 as u64);
             }
         }
         Place::Status(entry) => {
-            if new == 2 {
+            if new == EMPTY_STATUS {
                 settle_call(layout, calls, trace, entry.0 as u64);
             }
         }
@@ -115,10 +81,34 @@ pub(crate) fn notice<L: Layout>(
     }
 }
 
+/// What takes effect by a change of a kept word, if there was one: by a step's flush, or by an eviction.
+pub(crate) fn note_change<L: Layout>(
+    layout: &L,
+    memory: &Memory,
+    calls: &[Option<UnderWay>],
+    trace: &mut Trace,
+    change: Option<Change>,
+)
+    requires fit { WordsFit (L.shape layout.now) memory.now }
+    requires sequence { AreInSequence trace.old.log.effects }
+    requires room { let w = machine_with (L.shape layout.now) memory.now calls.now trace.old in
+        length (effects_on_change w change) ≤ length trace.old.log.events }
+    ensures { let w = machine_with (L.shape layout.now) memory.now calls.now trace.old in
+        trace.new ≡ with_effects trace.old (effects_on_change w change) }
+{
+    let Some(change) = change else {
+        return;
+    };
+    if let Some(place) = layout.what_is(change.word) {
+        notice(layout, memory, calls, trace, place, change.new);
+    }
+}
+
 /// What the call with this record found counts.
 fn settle_call<L: Layout>(layout: &L, calls: &[Option<UnderWay>], trace: &mut Trace, number: u64)
     requires sequence { AreInSequence trace.old.log.effects }
-    ensures { trace.new ≡ record trace.old { log = record trace.old.log { effects = counts (slice_index_or calls.now (owner (L.shape layout.now) number) None) trace.old.log.effects } } }
+    ensures { trace.new ≡ with_effects trace.old
+        (effects_on_count (slice_index_or calls.now (owner (L.shape layout.now) number) None) trace.old.log.effects) }
 {
     if let Some(under_way) = call_with(layout, calls, number) {
         trace.settle(under_way.place);

@@ -1,12 +1,12 @@
 //! What a queue keeps for its clients beside its memory, by its kind.
 
 ghost use Rattle.std.specs.Prelude.{◌≡◌, ◌<◌, ◌≤◌, Ok, Err};
-ghost use Rattle.interleave.specs.Booted.{told_so};
-ghost use Rattle.interleave.specs.Queue.{new_queue, told_in, number_check, after_return, retold};
+ghost use Rattle.interleave.specs.Booted.{queue_at_boot};
+ghost use Rattle.interleave.specs.Queue.{new_queue, told_in, number_check, after_return, queue_with_reports};
 
 use durable::DurableQueue;
 use logqueue::LogQueue;
-use words::{Client, Kind, Refusal, Told};
+use words::{Client, Kind, MAX_CLIENTS, Refusal, Reports};
 
 /// What a queue keeps for its clients, by its kind.
 #[derive(Clone, Copy, Debug)]
@@ -18,7 +18,7 @@ pub enum Queue {
 impl Queue {
     /// That of a new queue.
     pub(crate) fn new(kind: Kind, clients: u32) -> Self
-        requires { clients ≤ 16 }
+        requires { clients ≤ MAX_CLIENTS }
         ensures { result ≡ new_queue kind clients }
     {
         match kind {
@@ -28,8 +28,8 @@ impl Queue {
     }
 
     /// That of a queue whose clients are told this.
-    pub(crate) fn told_so(kind: Kind, told: [Told; 16]) -> Self
-        ensures { result ≡ told_so kind told }
+    pub(crate) fn at_boot(kind: Kind, told: Reports) -> Self
+        ensures { result ≡ queue_at_boot kind told }
     {
         match kind {
             Kind::Durable => Queue::Durable(DurableQueue::recovered(told)),
@@ -38,7 +38,7 @@ impl Queue {
     }
 
     /// What each client was last told.
-    pub(crate) fn told(&self) -> [Told; 16]
+    pub(crate) fn told(&self) -> Reports
         ensures { result ≡ told_in self.now }
     {
         match self {
@@ -49,7 +49,7 @@ impl Queue {
 
     /// The number that a call has in the history: a durable queue ignores it. A log queue refuses a stale one.
     pub(crate) fn number(&self, client: Client, number: u64) -> Result<u64, Refusal>
-        requires { client.0 < 16 }
+        requires { client.0 < MAX_CLIENTS }
         ensures { result ≡ number_check self.now client number }
     {
         match self {
@@ -65,8 +65,8 @@ impl Queue {
     }
 
     /// Recovery told its clients this.
-    pub(crate) fn recovered(&mut self, told: [Told; 16])
-        ensures { self.new ≡ retold self.old told }
+    pub(crate) fn recovered(&mut self, told: Reports)
+        ensures { self.new ≡ queue_with_reports self.old told }
     {
         *self = match self {
             Queue::Durable(_) => Queue::Durable(DurableQueue::recovered(told)),
@@ -76,7 +76,7 @@ impl Queue {
 
     /// Notes that a call of this number was answered.
     pub(crate) fn returned(&mut self, client: Client, number: u64)
-        requires { client.0 < 16 }
+        requires { client.0 < MAX_CLIENTS }
         ensures { self.new ≡ after_return self.old client number }
     {
         match self {

@@ -27,12 +27,14 @@ fn begin<L: Layout>(
     number: u64,
     call: Call,
 ) -> Result<(), Refusal>
-    requires holds { Holds (record { shape = L.shape; word_of = L.word_of; place_at = L.place_at; size_of = L.size_of }) (state_with layout.now memory.old queue.now calls.old trace.old) }
+    requires holds { Holds (state_with (L.shape layout.now) memory.old queue.now calls.old trace.old) }
     requires ready { trace.old.recovery ≡ None }
     requires idle { slice_get calls.old client.0 ≡ Some None }
-    ensures world { state_with layout.now memory.new queue.now calls.new trace.new
-        ≡ start_with (record { shape = L.shape; word_of = L.word_of; place_at = L.place_at; size_of = L.size_of }) (is_no_memory result) (state_with layout.now memory.old queue.now calls.old trace.old) client call (Ok number) }
-    ensures result { result ≡ start_result_with (record { shape = L.shape; word_of = L.word_of; place_at = L.place_at; size_of = L.size_of }) (is_no_memory result) (state_with layout.now memory.old queue.now calls.old trace.old) client (Ok number) }
+    ensures world { state_with (L.shape layout.now) memory.new queue.now calls.new trace.new
+        ≡ start_with (is_no_memory result)
+        (state_with (L.shape layout.now) memory.old queue.now calls.old trace.old) client call (Ok number) }
+    ensures result { result ≡ start_result_with (is_no_memory result)
+        (state_with (L.shape layout.now) memory.old queue.now calls.old trace.old) client (Ok number) }
     ensures full { is_no_memory result ≡ true → trace.old.room ≡ 0 }
     ensures room { trace.old.room ≤ trace.new.room + 1 }
 {
@@ -73,10 +75,12 @@ pub(crate) fn start_call<L: Layout>(
     number: u64,
     call: Call,
 ) -> Result<(), Refusal>
-    requires holds { Holds (record { shape = L.shape; word_of = L.word_of; place_at = L.place_at; size_of = L.size_of }) (state_with layout.now memory.old queue.now calls.old.items trace.old) }
-    ensures world { state_with layout.now memory.new queue.now calls.new.items trace.new
-        ≡ after_start (record { shape = L.shape; word_of = L.word_of; place_at = L.place_at; size_of = L.size_of }) (is_no_memory result) (state_with layout.now memory.old queue.now calls.old.items trace.old) client number call }
-    ensures result { result ≡ start_result (record { shape = L.shape; word_of = L.word_of; place_at = L.place_at; size_of = L.size_of }) (is_no_memory result) (state_with layout.now memory.old queue.now calls.old.items trace.old) client number }
+    requires holds { Holds (state_with (L.shape layout.now) memory.old queue.now calls.old.items trace.old) }
+    ensures world { state_with (L.shape layout.now) memory.new queue.now calls.new.items trace.new
+        ≡ after_start (is_no_memory result)
+        (state_with (L.shape layout.now) memory.old queue.now calls.old.items trace.old) client number call }
+    ensures result { result ≡ start_result (is_no_memory result)
+        (state_with (L.shape layout.now) memory.old queue.now calls.old.items trace.old) client number }
     ensures full { is_no_memory result ≡ true → trace.old.room ≡ 0 }
     ensures room { trace.old.room ≤ trace.new.room + 1 }
 {

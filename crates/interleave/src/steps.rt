@@ -1,32 +1,31 @@
 //! One step of a call.
 
-ghost use Rattle.std.specs.Prelude.{◌≡◌, ◌≤◌, ◌<◌, ◌+◌, length, slice_get, slice_set, Some, None, Ok, true, false, IfSome};
-ghost use Rattle.arena.specs.Place.{IsPlace};
+ghost use Rattle.std.specs.Prelude.{◌≡◌, ◌≤◌, ◌<◌, ◌+◌, length, slice_get, slice_set, Some, None, Ok, true, false};
 ghost use Rattle.stepper.specs.Step.{after_one};
 ghost use Rattle.helping.specs.Table.{access_of};
 ghost use Rattle.protocol.specs.declared.UnderWay.{UnderWay as AnyUnderWay};
-ghost use Rattle.protocol.specs.Machine.{effects_after, events_after, next_of, stepped, with_next};
+ghost use Rattle.protocol.specs.Machine.{effects_after, events_after, next_of, with_step, with_next};
 ghost use Rattle.interleave.specs.Calls.{answer_of, is_no_memory, went_on_to_nothing};
 ghost use Rattle.interleave.specs.Effects.{AreInSequence};
 ghost use Rattle.interleave.specs.Holds.{Holds};
-ghost use Rattle.interleave.specs.Keeping.{noted};
+ghost use Rattle.interleave.specs.Changes.{effects_on_step};
 ghost use Rattle.interleave.specs.Ranges.{WordsFit, IsSafe};
-ghost use Rattle.interleave.specs.State.{machine_of, after_step, step_result};
-ghost use Rattle.interleave.specs.Trace.{state_with};
+ghost use Rattle.interleave.specs.State.{after_step, step_result};
+ghost use Rattle.interleave.specs.Trace.{state_with, machine_with, with_effects};
 
 use crate::calls::waiting;
-use crate::notice::{Keeping, about_to_keep, kept_at, notice};
+use crate::notice::note_change;
 use crate::queue::Queue;
 use crate::trace::Trace;
 use arena::Layout;
 use helping::Op;
 use persist::Memory;
 use protocol::UnderWay;
-use stepper::{After, Resume};
+use stepper::{After, Resume, Stepped};
 use words::{Client, Refusal, Reply};
 
 /// Whether a dequeue looked, and found no node to take.
-fn found_nothing(after: After<Op>) -> bool
+fn found_nothing(after: After<Op, Reply>) -> bool
     ensures { result ≡ went_on_to_nothing after }
 {
     match after {
@@ -35,33 +34,27 @@ fn found_nothing(after: After<Op>) -> bool
     }
 }
 
-/// Notes what a step did that was to keep this: a look, or a change of a kept word.
+/// Notes what a step did: a look, or a change of a kept word.
 fn note<L: Layout>(
     layout: &L,
     memory: &Memory,
     calls: &[Option<UnderWay>],
     trace: &mut Trace,
     under_way: UnderWay,
-    keeping: Option<Keeping>,
-    after: After<Op>,
+    stepped: Stepped<Op, Reply>,
 )
-    requires place { IfSome keeping (λ k. IsPlace (L.shape layout.now) k.place) }
-    requires fit { WordsFit (L.shape layout.now) (L.word_of layout.now) (L.size_of layout.now) memory.now }
+    requires fit { WordsFit (L.shape layout.now) memory.now }
     requires sequence { AreInSequence trace.old.log.effects }
-    requires room { length (noted (machine_of (L.shape layout.now) (L.word_of layout.now) memory.now calls.now trace.old.base trace.old.told trace.old.log) under_way keeping after) ≤ length trace.old.log.events }
-    ensures { trace.new ≡ record trace.old { log = record trace.old.log { effects = noted (machine_of (L.shape layout.now) (L.word_of layout.now) memory.now calls.now trace.old.base trace.old.told trace.old.log) under_way keeping after } } }
+    requires room { let w = machine_with (L.shape layout.now) memory.now calls.now trace.old in
+        length (effects_on_step w under_way stepped.change stepped.after) ≤ length trace.old.log.events }
+    ensures { let w = machine_with (L.shape layout.now) memory.now calls.now trace.old in
+        trace.new ≡ with_effects trace.old (effects_on_step w under_way stepped.change stepped.after) }
 {
     if under_way.op.looks() {
-        trace.look(under_way.place, found_nothing(after));
+        trace.look(under_way.place, found_nothing(stepped.after));
         return;
     }
-    let Some(keeping) = keeping else {
-        return;
-    };
-    let new = kept_at(layout, memory, keeping.place);
-    if new != keeping.old {
-        notice(layout, memory, calls, trace, keeping.place, new);
-    }
+    note_change(layout, memory, calls, trace, stepped.change);
 }
 
 /// What a step leads to takes the call's place, and an answer is noted.
@@ -69,11 +62,12 @@ fn go_on(
     calls: &mut [Option<UnderWay>],
     trace: &mut Trace,
     client: Client,
-    after: After<Op>,
+    after: After<Op, Reply>,
 ) -> Option<Reply>
     requires client { client.0 < length calls.old }
     requires room { 0 < trace.old.room }
-    ensures calls { (under_way : AnyUnderWay) → slice_get calls.old client.0 ≡ Some (Some under_way) → calls.new ≡ slice_set calls.old client.0 (with_next under_way after) }
+    ensures calls { (under_way : AnyUnderWay) → slice_get calls.old client.0 ≡ Some (Some under_way)
+        → calls.new ≡ slice_set calls.old client.0 (with_next under_way after) }
     ensures answer { result ≡ answer_of after }
     ensures base { trace.new.base ≡ trace.old.base }
     ensures told { trace.new.told ≡ trace.old.told }
@@ -107,25 +101,29 @@ fn advance<L: Layout>(
     client: Client,
     under_way: UnderWay,
 ) -> Option<Reply>
-    requires safe { IsSafe (L.shape layout.now) (L.word_of layout.now) (L.size_of layout.now) memory.old calls.old }
+    requires safe { IsSafe (L.shape layout.now) memory.old calls.old }
     requires waits { slice_get calls.old client.0 ≡ Some (Some under_way) }
     requires sequence { AreInSequence trace.old.log.effects }
-    requires effects { length (effects_after (machine_of (L.shape layout.now) (L.word_of layout.now) memory.old calls.old trace.old.base trace.old.told trace.old.log) under_way under_way.op) ≤ length trace.old.log.events }
+    requires effects { length (effects_after (machine_with
+        (L.shape layout.now) memory.old calls.old trace.old) under_way under_way.op) ≤ length trace.old.log.events }
     requires room { 0 < trace.old.room }
-    ensures words { memory.new ≡ after_one (L.word_of layout.now) (access_of (L.shape layout.now).kind under_way.op) memory.old }
-    ensures calls { calls.new ≡ slice_set calls.old client.0 (with_next under_way (next_of (machine_of (L.shape layout.now) (L.word_of layout.now) memory.old calls.old trace.old.base trace.old.told trace.old.log) under_way)) }
+    ensures words { memory.new
+        ≡ after_one (L.shape layout.now) (access_of (L.shape layout.now).kind under_way.op) memory.old }
+    ensures calls { calls.new ≡ slice_set calls.old client.0
+        (with_next under_way (next_of (machine_with (L.shape layout.now) memory.old calls.old trace.old) under_way)) }
     ensures base { trace.new.base ≡ trace.old.base }
     ensures told { trace.new.told ≡ trace.old.told }
-    ensures log { trace.new.log ≡ (stepped (machine_of (L.shape layout.now) (L.word_of layout.now) memory.old calls.old trace.old.base trace.old.told trace.old.log) client under_way).log }
-    ensures answer { result ≡ answer_of (next_of (machine_of (L.shape layout.now) (L.word_of layout.now) memory.old calls.old trace.old.base trace.old.told trace.old.log) under_way) }
+    ensures log { trace.new.log
+        ≡ (with_step (machine_with (L.shape layout.now) memory.old calls.old trace.old) client under_way).log }
+    ensures answer { result
+        ≡ answer_of (next_of (machine_with (L.shape layout.now) memory.old calls.old trace.old) under_way) }
     ensures recovery { trace.new.recovery ≡ trace.old.recovery }
     ensures room { trace.old.room ≤ trace.new.room + 1 }
     ensures stays { result ≡ None → trace.new.room ≡ trace.old.room }
 {
-    let keeping = about_to_keep(layout, memory, under_way.op);
-    let after = under_way.op.step(layout, memory);
-    note(layout, memory, calls, trace, under_way, keeping, after);
-    go_on(calls, trace, client, after)
+    let stepped = under_way.op.step(layout, memory);
+    note(layout, memory, calls, trace, under_way, stepped);
+    go_on(calls, trace, client, stepped.after)
 }
 
 /// One step of a client's call, unless it is refused.
@@ -137,10 +135,12 @@ pub(crate) fn step_call<L: Layout>(
     trace: &mut Trace,
     client: Client,
 ) -> Result<Option<Reply>, Refusal>
-    requires holds { Holds (record { shape = L.shape; word_of = L.word_of; place_at = L.place_at; size_of = L.size_of }) (state_with layout.now memory.old queue.old calls.old.items trace.old) }
-    ensures world { state_with layout.now memory.new queue.new calls.new.items trace.new
-        ≡ after_step (record { shape = L.shape; word_of = L.word_of; place_at = L.place_at; size_of = L.size_of }) (is_no_memory result) (state_with layout.now memory.old queue.old calls.old.items trace.old) client }
-    ensures result { result ≡ step_result (record { shape = L.shape; word_of = L.word_of; place_at = L.place_at; size_of = L.size_of }) (is_no_memory result) (state_with layout.now memory.old queue.old calls.old.items trace.old) client }
+    requires holds { Holds (state_with (L.shape layout.now) memory.old queue.old calls.old.items trace.old) }
+    ensures world { state_with (L.shape layout.now) memory.new queue.new calls.new.items trace.new
+        ≡ after_step (is_no_memory result)
+        (state_with (L.shape layout.now) memory.old queue.old calls.old.items trace.old) client }
+    ensures result { result ≡ step_result (is_no_memory result)
+        (state_with (L.shape layout.now) memory.old queue.old calls.old.items trace.old) client }
     ensures full { is_no_memory result ≡ true → trace.old.room ≡ 0 }
     ensures room { trace.old.room ≤ trace.new.room + 1 }
     ensures stays { result ≡ Ok None → trace.old.room ≤ trace.new.room }

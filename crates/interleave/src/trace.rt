@@ -1,22 +1,27 @@
 //! What a world keeps of what happened: the history, the records that calls took, when calls took effect, and how far
 //! recovery is.
 
-ghost use Rattle.std.specs.Prelude.{◌≡◌, ◌<◌, ◌≤◌, ◌+◌, ◌++◌, [], ◌∷◌, length, Some, None, is_some, false, OnOk, OnErr};
-ghost use Rattle.history.specs.Effects.{took_effect, forgotten, settled_at, settled_ones};
-ghost use Rattle.interleave.specs.Effects.{looked_at, AreInSequence};
-ghost use Rattle.history.specs.declared.event.Event.TheVariants.{Call as call_event, Return as return_event, Crash as crash_event};
-ghost use Rattle.recover.specs.Table.{boot_point};
-ghost use Rattle.protocol.specs.Machine.{events_recovered, recovery_left};
-ghost use Rattle.interleave.specs.State.{is_ready};
+ghost use Rattle.std.specs.Prelude.{◌≡◌, ◌<◌, ◌≤◌, ◌+◌, ◌++◌, [], ◌∷◌, length, Some, None, is_some, true, IfSome, OnOk, OnErr};
+ghost use Rattle.events.specs.Effects.{with_effect, without_pending, with_settled, settled_effects};
+ghost use Rattle.interleave.specs.Effects.{effects_with_look, AreInSequence};
+ghost use Rattle.events.specs.declared.event.Event.TheVariants.{Call as call_event, Return as return_event, Crash as crash_event};
+ghost use Rattle.stepper.specs.Step.{after_one, value_found};
+ghost use Rattle.recover.specs.Table.{access_of, boot_recovery, recovery_after};
+ghost use Rattle.recover.specs.declared.recovery.Recovery.{Recovery as AnyRecovery};
+ghost use Rattle.interleave.specs.Recoveries.{MayRecover, reports_of};
+ghost use Rattle.protocol.specs.Machine.{recovery_events, recovery_left};
+ghost use Rattle.interleave.specs.Trace.{with_effects};
 
 use crate::effects::{forget, settle};
-use history::{Effect, Event, History, Sequence, keep_settled};
+use arena::Layout;
+use events::{Effect, Event, History, Sequence, keep_settled};
+use persist::Memory;
 use protocol::Issued;
-use recover::{Recovered, Recovery, boot};
+use recover::{Recovery, boot};
 use std::alloc::{AllocError, Global};
 use std::marker::Model;
 use stepper::Begun;
-use words::{Client, Reply, Told};
+use words::{Client, Reply, Reports};
 
 /// What happened in a world. Contracts see the history's events, the records that calls took, when calls took
 /// effect, the recovery that is under way, and for how many acts more there is room.
@@ -47,7 +52,7 @@ impl Model for Trace {
 
 impl Trace {
     /// Nothing happened yet, to an empty queue of which clients are told this.
-    pub(crate) fn new(alloc: Global, told: [Told; 16]) -> Self
+    pub(crate) fn new(alloc: Global, told: Reports) -> Self
         ensures base { result.base ≡ [] }
         ensures told { result.told ≡ told }
         ensures log { result.log ≡ record { events = []; issued = []; effects = [] } }
@@ -66,11 +71,11 @@ impl Trace {
     }
 
     /// Nothing happened yet to a queue that held and told this, and recovery begins.
-    pub(crate) fn booted(alloc: Global, base: Vec<u32>, told: [Told; 16]) -> Self
+    pub(crate) fn booted(alloc: Global, base: Vec<u32>, told: Reports) -> Self
         ensures base { result.base ≡ base.items }
         ensures told { result.told ≡ told }
         ensures log { result.log ≡ record { events = []; issued = []; effects = [] } }
-        ensures recovery { result.recovery ≡ Some boot_point }
+        ensures recovery { result.recovery ≡ Some boot_recovery }
     {
         Trace {
             history: History {
@@ -132,8 +137,10 @@ impl Trace {
         requires { 0 < self.old.room }
         ensures base { self.new.base ≡ self.old.base }
         ensures told { self.new.told ≡ self.old.told }
-        ensures events { self.new.log.events ≡ self.old.log.events ++ call_event begun.client begun.number begun.call ∷ [] }
-        ensures issued { self.new.log.issued ≡ self.old.log.issued ++ record { place = length self.old.log.events; begun = begun } ∷ [] }
+        ensures events { self.new.log.events
+            ≡ self.old.log.events ++ call_event begun.client begun.number begun.call ∷ [] }
+        ensures issued { self.new.log.issued
+            ≡ self.old.log.issued ++ record { place = length self.old.log.events; begun = begun } ∷ [] }
         ensures effects { self.new.log.effects ≡ self.old.log.effects }
         ensures recovery { self.new.recovery ≡ self.old.recovery }
         ensures room { self.old.room ≤ self.new.room + 1 }
@@ -161,13 +168,6 @@ impl Trace {
         self.history.events.push(Event::Return { client, reply });
     }
 
-    /// The recovery that is under way.
-    pub(crate) fn recovery(&self) -> Option<Recovery>
-        ensures { result ≡ self.now.recovery }
-    {
-        self.recovery
-    }
-
     /// Whether recovery is under way.
     pub(crate) fn is_down(&self) -> bool
         ensures { result ≡ is_some self.now.recovery }
@@ -182,8 +182,8 @@ impl Trace {
         ensures told { self.new.told ≡ self.old.told }
         ensures events { self.new.log.events ≡ self.old.log.events ++ crash_event ∷ [] }
         ensures issued { self.new.log.issued ≡ self.old.log.issued }
-        ensures effects { self.new.log.effects ≡ settled_ones self.old.log.effects }
-        ensures recovery { self.new.recovery ≡ Some boot_point }
+        ensures effects { self.new.log.effects ≡ settled_effects self.old.log.effects }
+        ensures recovery { self.new.recovery ≡ Some boot_recovery }
         ensures room { self.old.room ≤ self.new.room + 1 }
     {
         self.history.events.push(Event::Crash);
@@ -191,31 +191,38 @@ impl Trace {
         self.recovery = Some(boot());
     }
 
-    /// Recovery made a step, and this comes next.
-    pub(crate) fn recover(&mut self, next: Recovered)
-        requires { 0 < self.old.room }
+    /// Recovery makes a step. Once it is at its end it answers what each client is told.
+    pub(crate) fn recover<L: Layout>(&mut self, layout: &L, memory: &mut Memory) -> Option<Reports>
+        requires down { is_some self.old.recovery ≡ true }
+        requires room { 0 < self.old.room }
+        requires may { IfSome self.old.recovery (λ r. MayRecover (L.shape layout.now) memory.old r) }
         ensures base { self.new.base ≡ self.old.base }
         ensures told { self.new.told ≡ self.old.told }
-        ensures events { self.new.log.events ≡ events_recovered self.old.log.events next }
         ensures issued { self.new.log.issued ≡ self.old.log.issued }
         ensures effects { self.new.log.effects ≡ self.old.log.effects }
-        ensures recovery { self.new.recovery ≡ recovery_left next }
+        ensures step { (r : AnyRecovery) → self.old.recovery ≡ Some r →
+            let s = L.shape layout.now in let access = access_of s.kind r.at in
+            let next = recovery_after s r (value_found s access memory.old) in
+            (memory.new ≡ after_one s access memory.old) × (self.new.recovery ≡ recovery_left next)
+            × (self.new.log.events ≡ recovery_events self.old.log.events next) × (result ≡ reports_of next) }
         ensures room { self.old.room ≤ self.new.room + 1 }
-        ensures stays { is_ready next ≡ false → self.new.room ≡ self.old.room }
+        ensures stays { result ≡ None → self.new.room ≡ self.old.room }
     {
-        match next {
-            Recovered::More(recovery) => self.recovery = Some(recovery),
-            Recovered::Ready(told) => {
-                self.history.events.push(Event::Ready { told });
-                self.recovery = None;
-            }
+        let recovery = self.recovery.as_mut()?;
+        if !recovery.step(layout, memory) {
+            return None;
         }
+        let told = *recovery.told();
+        self.history.events.push(Event::Ready { told });
+        self.recovery = None;
+        Some(told)
     }
 
     /// The call at the place takes effect, with this reply.
     pub(crate) fn take(&mut self, place: usize, reply: Reply)
         requires { length self.old.log.effects < length self.old.log.events }
-        ensures same { self.new ≡ record self.old { log = record self.old.log { effects = took_effect place reply (length self.old.log.events) self.old.log.effects } } }
+        ensures same { self.new
+            ≡ with_effects self.old (with_effect place reply (length self.old.log.events) self.old.log.effects) }
     {
         let moment = self.history.events.len();
         self.effects.push_reserved(Effect {
@@ -229,8 +236,10 @@ impl Trace {
     /// The call at the place looks, and finds the queue empty or not. What it found before counts no more.
     pub(crate) fn look(&mut self, place: usize, empty: bool)
         requires sequence { AreInSequence self.old.log.effects }
-        requires room { length (looked_at place empty (length self.old.log.events) self.old.log.effects) ≤ length self.old.log.events }
-        ensures same { self.new ≡ record self.old { log = record self.old.log { effects = looked_at place empty (length self.old.log.events) self.old.log.effects } } }
+        requires room { length (effects_with_look place empty (length self.old.log.events) self.old.log.effects)
+            ≤ length self.old.log.events }
+        ensures same { self.new
+            ≡ with_effects self.old (effects_with_look place empty (length self.old.log.events) self.old.log.effects) }
     {
         let moment = self.history.events.len();
         forget(&mut self.effects, place);
@@ -247,7 +256,7 @@ impl Trace {
     /// What the call at the place found counts.
     pub(crate) fn settle(&mut self, place: usize)
         requires { AreInSequence self.old.log.effects }
-        ensures same { self.new ≡ record self.old { log = record self.old.log { effects = settled_at place self.old.log.effects } } }
+        ensures same { self.new ≡ with_effects self.old (with_settled place self.old.log.effects) }
     {
         settle(&mut self.effects, place);
     }

@@ -1,13 +1,14 @@
 //! The world of one queue.
 
 ghost use Rattle.std.specs.Prelude.{◌≡◌, ◌≢◌, ◌≤◌, ◌<◌, ◌+◌, ◌==◌, ◌⊎◌, length, slice_get, true, false, Ok, Err, None, IfOk, IfErr, OnOk, OnErr};
-ghost use Rattle.history.specs.Parts.{IsPartOf};
+ghost use Rattle.events.specs.Parts.{IsPartOf};
 ghost use Rattle.recover.specs.Sound.{AreSoundWords};
 ghost use Rattle.interleave.specs.Booted.{booted_world, MayRefuse};
 ghost use Rattle.interleave.specs.Calls.{is_no_memory, waiting_result};
-ghost use Rattle.interleave.specs.Down.{StaysDown, AreToldWhenReady, IsToldWhenReady, HasNoCrash, recovery_step_of, recoveries};
+ghost use Rattle.interleave.specs.Down.{StaysDown, AreToldWhenReady, IsToldWhenReady};
+ghost use Rattle.protocol.specs.Acts.{HasNoCrash, recovery_step_of, recoveries};
 ghost use Rattle.interleave.specs.Holds.{IsExplained};
-ghost use Rattle.interleave.specs.declared.acts.Act.{Act};
+ghost use Rattle.protocol.specs.declared.acts.Act.{Act};
 ghost use Rattle.words.specs.declared.refusal.Refusal.{Refusal as AnyRefusal};
 ghost use Rattle.interleave.specs.Queue.{told_in, told_to};
 ghost use Rattle.interleave.specs.State.{new_world, after_start, start_result, after_step, step_result, after_evict, evict_result, after_crash, crash_result, after_recover, recover_result, is_down, after_act, after_acts, after_alone, IsAnsweredAlone, is_accepted, taken_of, order_in, kept_content, kept_tells, IsKeptSound, AreToldOfAnnounced, IsMended, steps_to_ready, most_to_ready};
@@ -22,13 +23,13 @@ use crate::starting::start_call;
 use crate::steps::step_call;
 use crate::trace::Trace;
 use arena::Layout;
-use history::{History, Order, Sequence};
+use events::{History, Order, Sequence};
 use persist::{Change, Memory};
 use protocol::UnderWay;
 use recover::{sound, tells};
 use std::alloc::Global;
 use std::marker::Model;
-use words::{Call, Client, Refusal, Reply, Told};
+use words::{Call, Client, MAX_STEPS_ALONE, Refusal, Reply, Told};
 
 /// One queue over its memory, the calls that its clients have under way, and what happened. A call is started, and
 /// then goes on by single steps, each of them one access to the memory, in any interleaving with the others; at any
@@ -46,17 +47,17 @@ impl<L: Layout + Drop> Model for World<L> {
     ghost use Rattle.interleave.specs.Holds.{Holds};
     ghost use Rattle.interleave.specs.Trace.{Roomy, state_with};
 
-    ghost Value = { Roomy L };
+    ghost Value = { Roomy };
 
-    ghost view = { λ w. record { now = state_with w.layout w.memory w.queue w.calls.items w.trace; room = w.trace.room } };
+    ghost view = { λ w. record { now = state_with (L.shape w.layout) w.memory w.queue w.calls.items w.trace; room = w.trace.room } };
 
-    ghost invariant = { λ w. Holds (record { shape = L.shape; word_of = L.word_of; place_at = L.place_at; size_of = L.size_of }) (state_with w.layout w.memory w.queue w.calls.items w.trace) };
+    ghost invariant = { λ w. Holds (state_with (L.shape w.layout) w.memory w.queue w.calls.items w.trace) };
 }
 
 impl<L: Layout + Drop> World<L> {
     /// A world on zero memory, in which no client has called: an empty queue.
     pub fn make(alloc: Global, layout: L) -> Result<Self, Refusal>
-        ensures made { IfOk result (λ w. w.now ≡ new_world (record { shape = L.shape; word_of = L.word_of; place_at = L.place_at; size_of = L.size_of }) layout) }
+        ensures made { IfOk result (λ w. w.now ≡ new_world (L.shape layout)) }
         ensures errors { IfErr result (λ e. e ≡ Refusal.NoMemory) }
     {
         let memory = Memory::new(alloc, layout.size())?;
@@ -78,9 +79,9 @@ impl<L: Layout + Drop> World<L> {
     /// Its history begins with what the kept words hold and tell. It is refused, in this order, where the words break a
     /// rule (Damaged, with the first such rule), and for want of memory (NoMemory).
     pub fn boot(alloc: Global, layout: L, memory: Memory) -> Result<Self, Refusal>
-        ensures booted { IfOk result (λ w. w.now ≡ booted_world (record { shape = L.shape; word_of = L.word_of; place_at = L.place_at; size_of = L.size_of }) layout memory) }
-        ensures sound { IfOk result (λ w. AreSoundWords (L.shape layout) (L.size_of layout) (L.word_of layout) memory.kept) }
-        ensures errors { IfErr result (λ e. MayRefuse (L.shape layout) (L.size_of layout) (L.word_of layout) memory.kept e) }
+        ensures booted { IfOk result (λ w. w.now ≡ booted_world (L.shape layout) memory) }
+        ensures sound { IfOk result (λ w. AreSoundWords (L.shape layout) memory.kept) }
+        ensures errors { IfErr result (λ e. MayRefuse (L.shape layout) memory.kept e) }
     {
         let clients = layout.clients();
         let mut memory = memory;
@@ -91,7 +92,7 @@ impl<L: Layout + Drop> World<L> {
             return Err(Refusal::NoMemory);
         };
         let told = tells(&layout, &memory);
-        let queue = Queue::told_so(layout.kind(), told);
+        let queue = Queue::at_boot(layout.kind(), told);
         let trace = Trace::booted(alloc, base, told);
         Ok(World {
             layout,
@@ -107,12 +108,12 @@ impl<L: Layout + Drop> World<L> {
     /// (StaleNumber), where the client's records are used up (NoRoom), and for want of memory (NoMemory); the last two
     /// alone make an access. A durable queue ignores the number.
     pub fn start(&mut self, client: Client, number: u64, call: Call) -> Result<(), Refusal>
-        ensures world { self.new.now ≡ after_start (record { shape = L.shape; word_of = L.word_of; place_at = L.place_at; size_of = L.size_of }) (is_no_memory result) self.old.now client number call }
-        ensures result { result ≡ start_result (record { shape = L.shape; word_of = L.word_of; place_at = L.place_at; size_of = L.size_of }) (is_no_memory result) self.old.now client number }
+        ensures world { self.new.now ≡ after_start (is_no_memory result) self.old.now client number call }
+        ensures result { result ≡ start_result (is_no_memory result) self.old.now client number }
         ensures full { is_no_memory result ≡ true → self.old.room ≡ 0 }
         ensures room { self.old.room ≤ self.new.room + 1 }
-        ensures explained { IsExplained (record { shape = L.shape; word_of = L.word_of; place_at = L.place_at; size_of = L.size_of }) self.new.now }
-        ensures sound { IsKeptSound (record { shape = L.shape; word_of = L.word_of; place_at = L.place_at; size_of = L.size_of }) self.new.now }
+        ensures explained { IsExplained self.new.now }
+        ensures sound { IsKeptSound self.new.now }
         ensures order { order_in self.new.now ≡ order_in self.old.now }
     {
         start_call(
@@ -128,16 +129,16 @@ impl<L: Layout + Drop> World<L> {
     }
 
     /// One step of a client's call: exactly one access. It answers the reply where that was the last. It is
-    /// refused, in this order, where there is no such client (NoClient), where recovery is under way (NotReady), where it
-    /// has no call (Idle), and for want of memory (NoMemory).
+    /// refused, in this order, where there is no such client (NoClient), where recovery is under way (NotReady), where
+    /// it has no call (Idle), and for want of memory (NoMemory).
     pub fn step(&mut self, client: Client) -> Result<Option<Reply>, Refusal>
-        ensures world { self.new.now ≡ after_step (record { shape = L.shape; word_of = L.word_of; place_at = L.place_at; size_of = L.size_of }) (is_no_memory result) self.old.now client }
-        ensures result { result ≡ step_result (record { shape = L.shape; word_of = L.word_of; place_at = L.place_at; size_of = L.size_of }) (is_no_memory result) self.old.now client }
+        ensures world { self.new.now ≡ after_step (is_no_memory result) self.old.now client }
+        ensures result { result ≡ step_result (is_no_memory result) self.old.now client }
         ensures full { is_no_memory result ≡ true → self.old.room ≡ 0 }
         ensures room { self.old.room ≤ self.new.room + 1 }
         ensures stays { result ≡ Ok None → self.old.room ≤ self.new.room }
-        ensures explained { IsExplained (record { shape = L.shape; word_of = L.word_of; place_at = L.place_at; size_of = L.size_of }) self.new.now }
-        ensures sound { IsKeptSound (record { shape = L.shape; word_of = L.word_of; place_at = L.place_at; size_of = L.size_of }) self.new.now }
+        ensures explained { IsExplained self.new.now }
+        ensures sound { IsKeptSound self.new.now }
         ensures order { IsPartOf (order_in self.old.now) (order_in self.new.now) }
     {
         step_call(
@@ -153,15 +154,15 @@ impl<L: Layout + Drop> World<L> {
     /// The environment keeps a word. It is no access, takes no memory, and may make a call take effect. It is refused
     /// where there is no such word (NoWord).
     pub fn evict(&mut self, word: usize) -> Result<Option<Change>, Refusal>
-        ensures world { self.new.now ≡ after_evict (record { shape = L.shape; word_of = L.word_of; place_at = L.place_at; size_of = L.size_of }) self.old.now word }
-        ensures result { result ≡ evict_result (record { shape = L.shape; word_of = L.word_of; place_at = L.place_at; size_of = L.size_of }) self.old.now word }
+        ensures world { self.new.now ≡ after_evict self.old.now word }
+        ensures result { result ≡ evict_result self.old.now word }
         ensures room { self.new.room ≡ self.old.room }
-        ensures explained { IsExplained (record { shape = L.shape; word_of = L.word_of; place_at = L.place_at; size_of = L.size_of }) self.new.now }
-        ensures sound { IsKeptSound (record { shape = L.shape; word_of = L.word_of; place_at = L.place_at; size_of = L.size_of }) self.new.now }
+        ensures explained { IsExplained self.new.now }
+        ensures sound { IsKeptSound self.new.now }
         ensures order { IsPartOf (order_in self.old.now) (order_in self.new.now) }
-        ensures tells { is_down self.old.now ≡ true → kept_tells (record { shape = L.shape; word_of = L.word_of; place_at = L.place_at; size_of = L.size_of }) self.new.now ≡ kept_tells (record { shape = L.shape; word_of = L.word_of; place_at = L.place_at; size_of = L.size_of }) self.old.now }
-        ensures holds { is_down self.old.now ≡ true → kept_content (record { shape = L.shape; word_of = L.word_of; place_at = L.place_at; size_of = L.size_of }) self.new.now ≡ kept_content (record { shape = L.shape; word_of = L.word_of; place_at = L.place_at; size_of = L.size_of }) self.old.now }
-        ensures left { steps_to_ready (record { shape = L.shape; word_of = L.word_of; place_at = L.place_at; size_of = L.size_of }) self.new.now ≡ steps_to_ready (record { shape = L.shape; word_of = L.word_of; place_at = L.place_at; size_of = L.size_of }) self.old.now }
+        ensures tells { is_down self.old.now ≡ true → kept_tells self.new.now ≡ kept_tells self.old.now }
+        ensures holds { is_down self.old.now ≡ true → kept_content self.new.now ≡ kept_content self.old.now }
+        ensures left { steps_to_ready self.new.now ≡ steps_to_ready self.old.now }
     {
         evict_word(
             &self.layout,
@@ -176,15 +177,15 @@ impl<L: Layout + Drop> World<L> {
     /// The whole system stops: what is not kept is lost, calls under way end without an answer, and recovery begins
     /// anew, also where it was under way. It is refused for want of memory alone (NoMemory), and then nothing changed.
     pub fn crash(&mut self) -> Result<(), Refusal>
-        ensures world { self.new.now ≡ after_crash (record { shape = L.shape; word_of = L.word_of; place_at = L.place_at; size_of = L.size_of }) (is_no_memory result) self.old.now }
+        ensures world { self.new.now ≡ after_crash (is_no_memory result) self.old.now }
         ensures result { result ≡ crash_result (is_no_memory result) }
         ensures full { is_no_memory result ≡ true → self.old.room ≡ 0 }
         ensures room { self.old.room ≤ self.new.room + 1 }
-        ensures explained { IsExplained (record { shape = L.shape; word_of = L.word_of; place_at = L.place_at; size_of = L.size_of }) self.new.now }
-        ensures sound { IsKeptSound (record { shape = L.shape; word_of = L.word_of; place_at = L.place_at; size_of = L.size_of }) self.new.now }
+        ensures explained { IsExplained self.new.now }
+        ensures sound { IsKeptSound self.new.now }
         ensures order { order_in self.new.now ≡ order_in self.old.now }
-        ensures tells { kept_tells (record { shape = L.shape; word_of = L.word_of; place_at = L.place_at; size_of = L.size_of }) self.new.now ≡ kept_tells (record { shape = L.shape; word_of = L.word_of; place_at = L.place_at; size_of = L.size_of }) self.old.now }
-        ensures holds { kept_content (record { shape = L.shape; word_of = L.word_of; place_at = L.place_at; size_of = L.size_of }) self.new.now ≡ kept_content (record { shape = L.shape; word_of = L.word_of; place_at = L.place_at; size_of = L.size_of }) self.old.now }
+        ensures tells { kept_tells self.new.now ≡ kept_tells self.old.now }
+        ensures holds { kept_content self.new.now ≡ kept_content self.old.now }
     {
         crash_all(
             &self.layout,
@@ -199,21 +200,21 @@ impl<L: Layout + Drop> World<L> {
     /// told what became of its last call. It is refused, in this order, where no recovery is under way (AlreadyReady),
     /// and for want of memory (NoMemory).
     pub fn recover_step(&mut self) -> Result<bool, Refusal>
-        ensures world { self.new.now ≡ after_recover (record { shape = L.shape; word_of = L.word_of; place_at = L.place_at; size_of = L.size_of }) (is_no_memory result) self.old.now }
-        ensures result { result ≡ recover_result (record { shape = L.shape; word_of = L.word_of; place_at = L.place_at; size_of = L.size_of }) (is_no_memory result) self.old.now }
+        ensures world { self.new.now ≡ after_recover (is_no_memory result) self.old.now }
+        ensures result { result ≡ recover_result (is_no_memory result) self.old.now }
         ensures full { is_no_memory result ≡ true → self.old.room ≡ 0 }
         ensures room { self.old.room ≤ self.new.room + 1 }
         ensures stays { result ≡ Ok false → self.old.room ≤ self.new.room }
-        ensures explained { IsExplained (record { shape = L.shape; word_of = L.word_of; place_at = L.place_at; size_of = L.size_of }) self.new.now }
-        ensures sound { IsKeptSound (record { shape = L.shape; word_of = L.word_of; place_at = L.place_at; size_of = L.size_of }) self.new.now }
+        ensures explained { IsExplained self.new.now }
+        ensures sound { IsKeptSound self.new.now }
         ensures order { order_in self.new.now ≡ order_in self.old.now }
-        ensures tells { kept_tells (record { shape = L.shape; word_of = L.word_of; place_at = L.place_at; size_of = L.size_of }) self.new.now ≡ kept_tells (record { shape = L.shape; word_of = L.word_of; place_at = L.place_at; size_of = L.size_of }) self.old.now }
-        ensures holds { kept_content (record { shape = L.shape; word_of = L.word_of; place_at = L.place_at; size_of = L.size_of }) self.new.now ≡ kept_content (record { shape = L.shape; word_of = L.word_of; place_at = L.place_at; size_of = L.size_of }) self.old.now }
-        ensures told { result ≡ Ok true → told_in self.new.now.queue ≡ kept_tells (record { shape = L.shape; word_of = L.word_of; place_at = L.place_at; size_of = L.size_of }) self.new.now }
-        ensures announced { result ≡ Ok true → AreToldOfAnnounced (record { shape = L.shape; word_of = L.word_of; place_at = L.place_at; size_of = L.size_of }) self.new.now }
-        ensures mended { result ≡ Ok true → IsMended (record { shape = L.shape; word_of = L.word_of; place_at = L.place_at; size_of = L.size_of }) self.new.now }
-        ensures few { steps_to_ready (record { shape = L.shape; word_of = L.word_of; place_at = L.place_at; size_of = L.size_of }) self.old.now ≤ most_to_ready (L.shape self.old.now.layout) }
-        ensures falls { IfOk result (λ ready. steps_to_ready (record { shape = L.shape; word_of = L.word_of; place_at = L.place_at; size_of = L.size_of }) self.new.now < steps_to_ready (record { shape = L.shape; word_of = L.word_of; place_at = L.place_at; size_of = L.size_of }) self.old.now) }
+        ensures tells { kept_tells self.new.now ≡ kept_tells self.old.now }
+        ensures holds { kept_content self.new.now ≡ kept_content self.old.now }
+        ensures told { result ≡ Ok true → told_in self.new.now.queue ≡ kept_tells self.new.now }
+        ensures announced { result ≡ Ok true → AreToldOfAnnounced self.new.now }
+        ensures mended { result ≡ Ok true → IsMended self.new.now }
+        ensures few { steps_to_ready self.old.now ≤ most_to_ready (self.old.now.shape) }
+        ensures falls { IfOk result (λ ready. steps_to_ready self.new.now < steps_to_ready self.old.now) }
     {
         recover_on(
             &self.layout,
@@ -226,7 +227,7 @@ impl<L: Layout + Drop> World<L> {
 
     /// The layout of its memory.
     pub fn layout(&self) -> &L
-        ensures { result.now ≡ self.now.now.layout }
+        ensures { L.shape result.now ≡ self.now.now.shape }
     {
         &self.layout
     }
@@ -247,15 +248,17 @@ impl<L: Layout + Drop> World<L> {
 
     /// The acts in order. One that its own call refuses is passed over, and counted.
     pub fn run(&mut self, acts: &[Act]) -> Ran
-        ensures world { length acts.now ≤ self.old.room → self.new.now ≡ after_acts (record { shape = L.shape; word_of = L.word_of; place_at = L.place_at; size_of = L.size_of }) self.old.now acts.now }
-        ensures taken { length acts.now ≤ self.old.room → result.taken ≡ taken_of (record { shape = L.shape; word_of = L.word_of; place_at = L.place_at; size_of = L.size_of }) self.old.now acts.now }
+        ensures world { length acts.now ≤ self.old.room → self.new.now ≡ after_acts self.old.now acts.now }
+        ensures taken { length acts.now ≤ self.old.room → result.taken ≡ taken_of self.old.now acts.now }
         ensures all { result.taken + result.refused ≡ length acts.now }
-        ensures explained { IsExplained (record { shape = L.shape; word_of = L.word_of; place_at = L.place_at; size_of = L.size_of }) self.new.now }
-        ensures sound { IsKeptSound (record { shape = L.shape; word_of = L.word_of; place_at = L.place_at; size_of = L.size_of }) self.new.now }
+        ensures explained { IsExplained self.new.now }
+        ensures sound { IsKeptSound self.new.now }
         ensures order { IsPartOf (order_in self.old.now) (order_in self.new.now) }
-        ensures tells { length acts.now ≤ self.old.room → StaysDown (record { shape = L.shape; word_of = L.word_of; place_at = L.place_at; size_of = L.size_of }) self.old.now acts.now → kept_tells (record { shape = L.shape; word_of = L.word_of; place_at = L.place_at; size_of = L.size_of }) self.new.now ≡ kept_tells (record { shape = L.shape; word_of = L.word_of; place_at = L.place_at; size_of = L.size_of }) self.old.now }
-        ensures announced { length acts.now ≤ self.old.room → AreToldWhenReady (record { shape = L.shape; word_of = L.word_of; place_at = L.place_at; size_of = L.size_of }) self.old.now acts.now }
-        ensures ready { length acts.now ≤ self.old.room → HasNoCrash acts.now → most_to_ready (L.shape self.old.now.layout) ≤ recoveries acts.now → is_down self.new.now ≡ false }
+        ensures tells { length acts.now ≤ self.old.room → StaysDown self.old.now acts.now
+            → kept_tells self.new.now ≡ kept_tells self.old.now }
+        ensures announced { length acts.now ≤ self.old.room → AreToldWhenReady self.old.now acts.now }
+        ensures ready { length acts.now ≤ self.old.room → HasNoCrash acts.now
+            → most_to_ready (self.old.now.shape) ≤ recoveries acts.now → is_down self.new.now ≡ false }
     {
         let mut ran = Ran {
             taken: 0,
@@ -273,15 +276,16 @@ impl<L: Layout + Drop> World<L> {
 
     /// One act. It answers whether it was accepted.
     fn act(&mut self, act: Act) -> bool
-        ensures world { 0 < self.old.room → self.new.now ≡ after_act (record { shape = L.shape; word_of = L.word_of; place_at = L.place_at; size_of = L.size_of }) self.old.now act }
-        ensures accepted { 0 < self.old.room → result ≡ is_accepted (record { shape = L.shape; word_of = L.word_of; place_at = L.place_at; size_of = L.size_of }) self.old.now act }
+        ensures world { 0 < self.old.room → self.new.now ≡ after_act self.old.now act }
+        ensures accepted { 0 < self.old.room → result ≡ is_accepted self.old.now act }
         ensures room { self.old.room ≤ self.new.room + 1 }
-        ensures explained { IsExplained (record { shape = L.shape; word_of = L.word_of; place_at = L.place_at; size_of = L.size_of }) self.new.now }
-        ensures sound { IsKeptSound (record { shape = L.shape; word_of = L.word_of; place_at = L.place_at; size_of = L.size_of }) self.new.now }
+        ensures explained { IsExplained self.new.now }
+        ensures sound { IsKeptSound self.new.now }
         ensures order { IsPartOf (order_in self.old.now) (order_in self.new.now) }
-        ensures tells { is_down self.old.now ≡ true → kept_tells (record { shape = L.shape; word_of = L.word_of; place_at = L.place_at; size_of = L.size_of }) self.new.now ≡ kept_tells (record { shape = L.shape; word_of = L.word_of; place_at = L.place_at; size_of = L.size_of }) self.old.now }
-        ensures announced { 0 < self.old.room → IsToldWhenReady (record { shape = L.shape; word_of = L.word_of; place_at = L.place_at; size_of = L.size_of }) self.old.now self.new.now }
-        ensures left { 0 < self.old.room → act ≢ Act.Crash → is_down self.new.now ≡ true → recovery_step_of act + steps_to_ready (record { shape = L.shape; word_of = L.word_of; place_at = L.place_at; size_of = L.size_of }) self.new.now ≤ steps_to_ready (record { shape = L.shape; word_of = L.word_of; place_at = L.place_at; size_of = L.size_of }) self.old.now }
+        ensures tells { is_down self.old.now ≡ true → kept_tells self.new.now ≡ kept_tells self.old.now }
+        ensures announced { 0 < self.old.room → IsToldWhenReady self.old.now self.new.now }
+        ensures left { 0 < self.old.room → act ≢ Act.Crash → is_down self.new.now ≡ true
+            → recovery_step_of act + steps_to_ready self.new.now ≤ steps_to_ready self.old.now }
         ensures down { act ≢ Act.Crash → is_down self.new.now ≡ true → is_down self.old.now ≡ true }
     {
         match act {
@@ -291,26 +295,29 @@ impl<L: Layout + Drop> World<L> {
                 call,
             } => self.start(client, number, call).is_ok(),
             Act::Step { client } => self.step(client).is_ok(),
-            Act::Evict { word } => self.evict(word).is_ok(),
+            Act::Evict { at } => self.evict(at).is_ok(),
             Act::Crash => self.crash().is_ok(),
             Act::Recover => self.recover_step().is_ok(),
         }
     }
 
-    /// A client's call goes on alone until it answers: its reply, and how many steps that took, at most 64 from
-    /// wherever it waits. It is refused, in this order, where there is no such client (NoClient), where recovery is
-    /// under way (NotReady), where it has no call (Idle), and, before its first step, for want of memory (NoMemory).
+    /// A client's call goes on alone until it answers: its reply, and how many steps that took, at most
+    /// [`MAX_STEPS_ALONE`] from wherever it waits. It is refused, in this order, where there is no such client
+    /// (NoClient), where recovery is under way (NotReady), where it has no call (Idle), and, before its first step, for
+    /// want of memory (NoMemory).
     pub fn run_alone(&mut self, client: Client) -> Result<(Reply, u32), Refusal>
-        ensures refused { (refusal : AnyRefusal) → waiting_result (is_down self.old.now) (slice_get self.old.now.calls client.0) ≡ Err refusal → result ≡ Err refusal }
-        ensures errors { IfErr result (λ e. (e ≡ Refusal.NoMemory) ⊎ (waiting_result (is_down self.old.now) (slice_get self.old.now.calls client.0) ≡ Err e)) }
+        ensures refused { (refusal : AnyRefusal) → waiting_result (is_down self.old.now)
+            (slice_get self.old.now.calls client.0) ≡ Err refusal → result ≡ Err refusal }
+        ensures errors { IfErr result (λ e. (e ≡ Refusal.NoMemory)
+            ⊎ (waiting_result (is_down self.old.now) (slice_get self.old.now.calls client.0) ≡ Err e)) }
         ensures full { is_no_memory result ≡ true → self.old.room ≡ 0 }
         ensures same { IfErr result (λ e. self.new.now ≡ self.old.now) }
-        ensures steps { IfOk result (λ answer. answer.1 ≤ 64) }
-        ensures answer { IfOk result (λ answer. IsAnsweredAlone (record { shape = L.shape; word_of = L.word_of; place_at = L.place_at; size_of = L.size_of }) self.old.now client answer.1 answer.0) }
-        ensures world { IfOk result (λ answer. self.new.now ≡ after_alone (record { shape = L.shape; word_of = L.word_of; place_at = L.place_at; size_of = L.size_of }) answer.1 self.old.now client) }
+        ensures steps { IfOk result (λ answer. answer.1 ≤ MAX_STEPS_ALONE) }
+        ensures answer { IfOk result (λ answer. IsAnsweredAlone self.old.now client answer.1 answer.0) }
+        ensures world { IfOk result (λ answer. self.new.now ≡ after_alone answer.1 self.old.now client) }
         ensures room { self.old.room ≤ self.new.room + 1 }
-        ensures explained { IsExplained (record { shape = L.shape; word_of = L.word_of; place_at = L.place_at; size_of = L.size_of }) self.new.now }
-        ensures sound { IsKeptSound (record { shape = L.shape; word_of = L.word_of; place_at = L.place_at; size_of = L.size_of }) self.new.now }
+        ensures explained { IsExplained self.new.now }
+        ensures sound { IsKeptSound self.new.now }
         ensures order { IsPartOf (order_in self.old.now) (order_in self.new.now) }
     {
         waiting(&self.calls, self.trace.is_down(), client)?;
@@ -342,7 +349,7 @@ impl<L: Layout + Drop> World<L> {
     /// What the queue holds by its kept words: the values of the nodes that kept links reach from the sentinel,
     /// the claimed ones left out.
     pub fn content(&self) -> Result<Vec<u32>, Refusal>
-        ensures content { IfOk result (λ values. values.items ≡ kept_content (record { shape = L.shape; word_of = L.word_of; place_at = L.place_at; size_of = L.size_of }) self.now.now) }
+        ensures content { IfOk result (λ values. values.items ≡ kept_content self.now.now) }
         ensures errors { IfErr result (λ e. e ≡ Refusal.NoMemory) }
     {
         content(*self.calls.allocator(), &self.layout, &self.memory)
@@ -351,10 +358,10 @@ impl<L: Layout + Drop> World<L> {
     /// The calls in the order in which they took effect.
     pub fn order(&self) -> Result<Order, Refusal>
         ensures order { IfOk result (λ order. order.entries.items ≡ order_in self.now.now) }
-        ensures explained { IsExplained (record { shape = L.shape; word_of = L.word_of; place_at = L.place_at; size_of = L.size_of }) self.now.now }
+        ensures explained { IsExplained self.now.now }
         ensures errors { IfErr result (λ e. e ≡ Refusal.NoMemory) }
     {
-        let entries = history::order(*self.calls.allocator(), self.trace.effects())?;
+        let entries = events::order(*self.calls.allocator(), self.trace.effects())?;
         Ok(Order {
             entries: Sequence::from_vec(entries),
         })
@@ -365,7 +372,7 @@ impl<L: Layout + Drop> World<L> {
         ensures base { result.now.base.items ≡ self.now.now.base }
         ensures told { result.now.told ≡ self.now.now.told }
         ensures events { result.now.events.items ≡ self.now.now.log.events }
-        ensures explained { IsExplained (record { shape = L.shape; word_of = L.word_of; place_at = L.place_at; size_of = L.size_of }) self.now.now }
+        ensures explained { IsExplained self.now.now }
     {
         self.trace.history()
     }

@@ -17,7 +17,7 @@ use anyhow::Result;
 use clap::ArgMatches;
 use std::env;
 use std::process::ExitCode;
-use words::Kind;
+use words::{Kind, MAX_RECORDS};
 
 /// Plays a load so many times, and prints what its best turn took, or without a number only what it came to.
 fn print_best<M: Load>(rt: &HostRuntime, queue: Queue, load: &M, turns: Option<u32>) -> Result<()> {
@@ -33,7 +33,7 @@ fn play_acts(rt: &HostRuntime, words: &ArgMatches<'_>) -> Result<()> {
     let queue = Queue {
         kind: kind(words),
         clients: count(words, "clients"),
-        records: arena::MAX_RECORDS,
+        records: MAX_RECORDS,
     };
     let load = Acts {
         before: count(words, "before"),
@@ -70,7 +70,7 @@ fn small_ones(rt: &HostRuntime) -> Result<()> {
     let queue = Queue {
         kind: Kind::Durable,
         clients: 2,
-        records: arena::MAX_RECORDS,
+        records: MAX_RECORDS,
     };
     let load = Acts {
         before: 0,

@@ -1,5 +1,6 @@
 -- Verdicts, and the floor of each client's numbers.
 use Rattle.std.specs.Prelude.{ℕ, ◌-◌, Bool, ◌||◌, ◌==◌, nat_lt, nat_le, List, map, replicate, Option, Some, None}
+use Rattle.words.specs.declared.limits.TheConstants.{MAX_CALL_NUMBER, MAX_CLIENTS}
 use Rattle.words.specs.declared.told.Outcome.{Outcome}
 use Rattle.words.specs.declared.told.Outcome.TheVariants.{NotTaken, Taken}
 use Rattle.words.specs.declared.told.Row.{Row}
@@ -25,12 +26,12 @@ floor_of (told_verdict verdict) = floor_from verdict.number verdict.outcome
 floor_of (told_row row) = 0
 floor_of told_none = 0
 
--- whether a number may not begin a call: it is 0, above 2^40, or not above the floor
+-- whether a number may not begin a call: it is 0, above the greatest, or not above the floor
 abbrev pub is_stale : ℕ → ℕ → Bool
-is_stale floor number = (number == 0) || nat_lt 1099511627776 number || nat_le number floor
+is_stale floor number = (number == 0) || nat_lt MAX_CALL_NUMBER number || nat_le number floor
 
 abbrev pub told_queue : List Told → LogClients
 told_queue told = record { told = told; floors = map floor_of told }
 
 abbrev pub new_queue : LogClients
-new_queue = record { told = replicate 16 told_none; floors = replicate 16 0 }
+new_queue = record { told = replicate MAX_CLIENTS told_none; floors = replicate MAX_CLIENTS 0 }

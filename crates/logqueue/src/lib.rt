@@ -3,23 +3,17 @@
 #![tactic(auto)]
 
 ghost use Rattle.std.specs.Prelude.{◌≡◌, ◌<◌, slice_get, slice_index, slice_set};
-ghost use Rattle.helping.specs.Table.{begun_at};
 ghost use Rattle.logqueue.specs.Numbers.{new_queue, told_queue, verdict_of, floor_of, is_stale};
 
-pub use helping::Op;
 use std::marker::Model;
-use stepper::Begun;
-use words::{Client, Kind, Outcome, Told, Verdict};
-
-/// The greatest number of an operation, 2^40.
-pub const MAX_NUMBER: u64 = 1_099_511_627_776;
+use words::{Client, MAX_CALL_NUMBER, MAX_CLIENTS, Outcome, Reports, Told, Verdict};
 
 /// What a log queue tells its clients, at first what the base tells and then what the last recovery read,
 /// and the floor of each client's numbers.
 #[derive(Clone, Copy, Debug)]
 pub struct LogQueue {
-    told: [Told; 16],
-    floors: [u64; 16],
+    told: Reports,
+    floors: [u64; MAX_CLIENTS],
 }
 
 impl Model for LogQueue {
@@ -38,25 +32,25 @@ impl LogQueue {
         ensures { result ≡ new_queue }
     {
         LogQueue {
-            told: [Told::None; 16],
-            floors: [0; 16],
+            told: [Told::None; MAX_CLIENTS],
+            floors: [0; MAX_CLIENTS],
         }
     }
 
     /// A queue whose clients are told this. Each one's floor is the number of a call that took effect, or
     /// below that of one that did not.
-    pub fn recovered(told: [Told; 16]) -> Self
+    pub fn recovered(told: Reports) -> Self
         ensures { result ≡ told_queue told }
     {
-        let mut floors = [0; 16];
-        for client in 0..16 {
+        let mut floors = [0; MAX_CLIENTS];
+        for client in 0..MAX_CLIENTS {
             floors[client] = floor(told[client]);
         }
         LogQueue { told, floors }
     }
 
     /// What each client is told.
-    pub fn told(&self) -> &[Told; 16]
+    pub fn told(&self) -> &Reports
         ensures { result.now ≡ self.now.told }
     {
         &self.told
@@ -72,27 +66,20 @@ impl LogQueue {
         }
     }
 
-    /// Whether a number may not begin a call: it is 0, above 2^40, or not above the client's floor.
+    /// Whether a number may not begin a call: it is 0, above the greatest, or not above the client's floor.
     pub fn is_stale(&self, client: Client, number: u64) -> bool
-        requires { client.0 < 16 }
+        requires { client.0 < MAX_CLIENTS }
         ensures { result ≡ is_stale (slice_index self.now.floors client.0) number }
     {
-        number == 0 || number > MAX_NUMBER || number <= self.floors[client.0 as usize]
+        number == 0 || number > MAX_CALL_NUMBER || number <= self.floors[client.0 as usize]
     }
 
     /// Raises a client's floor to the number of a call that was answered.
     pub fn returned(&mut self, client: Client, number: u64)
-        requires { client.0 < 16 }
+        requires { client.0 < MAX_CLIENTS }
         ensures { self.new ≡ record self.old { floors = slice_set self.old.floors client.0 number } }
     {
         self.floors[client.0 as usize] = number;
-    }
-
-    /// Where a call begins that took its record.
-    pub fn begin(&self, begun: Begun) -> Op
-        ensures { result ≡ begun_at Kind.Log begun }
-    {
-        Op::begin(Kind::Log, begun)
     }
 }
 

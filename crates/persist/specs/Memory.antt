@@ -15,27 +15,27 @@ pub data Access (A : Type 0) : Type 0 where
   Flush : (word : A) → Access A
 
 -- one access more; the count stays at its greatest value
-abbrev pub counted : Words → Words
-counted ws = record ws { accesses = min (ws.accesses + 1) 18446744073709551615 }
+abbrev pub words_after_access : Words → Words
+words_after_access ws = record ws { accesses = min (ws.accesses + 1) 18446744073709551615 }
 
 -- a store changes the cached value
-abbrev pub stored : ℕ → ℕ → Words → Words
-stored word value ws = record ws { cached = slice_set ws.cached word value }
+abbrev pub words_after_store : ℕ → ℕ → Words → Words
+words_after_store word value ws = record ws { cached = slice_set ws.cached word value }
 
 -- an eviction makes the kept value of the word its cached one
-abbrev pub evicted : ℕ → Words → Words
-evicted word ws = record ws { kept = slice_set ws.kept word (slice_index ws.cached word) }
+abbrev pub words_after_eviction : ℕ → Words → Words
+words_after_eviction word ws = record ws { kept = slice_set ws.kept word (slice_index ws.cached word) }
 
 -- what an access to a word below the size leaves
 abbrev pub after : Access ℕ → Words → Words
-after (Load word) ws = counted ws
-after (Store word value) ws = counted (stored word value ws)
-after (Cas word old new) ws = counted (if slice_index ws.cached word == old then stored word new ws else ws)
-after (Flush word) ws = counted (evicted word ws)
+after (Load word) ws = words_after_access ws
+after (Store word value) ws = words_after_access (words_after_store word value ws)
+after (Cas word old new) ws = words_after_access (if slice_index ws.cached word == old then words_after_store word new ws else ws)
+after (Flush word) ws = words_after_access (words_after_eviction word ws)
 
 -- a crash makes every cached value the kept one
-abbrev pub crashed : Words → Words
-crashed ws = record ws { cached = ws.kept }
+abbrev pub words_after_crash : Words → Words
+words_after_crash ws = record ws { cached = ws.kept }
 
 -- n words, all zero
 abbrev pub zero_words : ℕ → Words

@@ -41,14 +41,16 @@ pub trait WordMemory {
 
     fn store(&mut self, word: usize, value: u64) -> Result<(), Refusal>
         ensures ok { word < length (words self.old).cached → result ≡ Ok tt }
-        ensures done { word < length (words self.old).cached → words self.new ≡ after (Store word value) (words self.old) }
+        ensures done { word < length (words self.old).cached
+            → words self.new ≡ after (Store word value) (words self.old) }
         ensures refused { length (words self.old).cached ≤ word → result ≡ Err Refusal.NoWord }
         ensures same { length (words self.old).cached ≤ word → words self.new ≡ words self.old };
 
     /// Writes `new` where the cached value is `old`.
     fn cas(&mut self, word: usize, old: u64, new: u64) -> Result<Swap, Refusal>
         ensures swap { word < length (words self.old).cached → result ≡ Ok (swap_of (words self.old) word old) }
-        ensures done { word < length (words self.old).cached → words self.new ≡ after (Cas word old new) (words self.old) }
+        ensures done { word < length (words self.old).cached
+            → words self.new ≡ after (Cas word old new) (words self.old) }
         ensures refused { length (words self.old).cached ≤ word → result ≡ Err Refusal.NoWord }
         ensures same { length (words self.old).cached ≤ word → words self.new ≡ words self.old };
 

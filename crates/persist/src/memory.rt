@@ -1,7 +1,7 @@
 //! A memory of the process's own, which simulates a non-volatile one.
 
 ghost use Rattle.std.specs.Prelude.{◌≡◌, ◌↔◌, ◌⊎◌, ◌+◌, ◌<◌, ◌≤◌, min, length, Ok, Err, IfOk, IfErr, slice_index, slice_set};
-ghost use Rattle.persist.specs.Memory.{evicted, crashed, zero_words};
+ghost use Rattle.persist.specs.Memory.{words_after_eviction, words_after_crash, zero_words};
 ghost use Rattle.persist.specs.Changes.{change_of};
 
 use crate::access::{Change, KeptWords, Swap, WordMemory};
@@ -91,7 +91,7 @@ impl Memory {
     /// Keeps a word's cached value by the environment's will. It is no access.
     pub fn evict(&mut self, word: usize) -> Result<Option<Change>, Refusal>
         ensures change { word < length self.old.cached → result ≡ Ok (change_of self.old word) }
-        ensures done { word < length self.old.cached → self.new ≡ evicted word self.old }
+        ensures done { word < length self.old.cached → self.new ≡ words_after_eviction word self.old }
         ensures refused { length self.old.cached ≤ word → result ≡ Err Refusal.NoWord }
         ensures same { length self.old.cached ≤ word → self.new ≡ self.old }
     {
@@ -103,7 +103,7 @@ impl Memory {
 
     /// Makes every cached value the kept one. It is no access.
     pub fn crash(&mut self)
-        ensures { self.new ≡ crashed self.old }
+        ensures { self.new ≡ words_after_crash self.old }
     {
         self.cached.copy_from_slice(&self.kept);
     }

@@ -6,3 +6,4 @@ pub mod Machine
 pub mod Measure
 pub mod Recovered
 pub mod Announced
+pub mod invariants

@@ -4,9 +4,10 @@ use Rattle.words.specs.declared.call.Call.{Call}
 use Rattle.words.specs.declared.call.Call.TheVariants.{Enq, Deq}
 use Rattle.words.specs.declared.call.Client.{Client}
 use Rattle.words.specs.declared.call.Kind.{Kind}
-use Rattle.words.specs.declared.call.Kind.TheVariants.{Durable, Log as log_kind}
+use Rattle.words.specs.declared.call.Kind.TheVariants.{Durable, Log}
 use Rattle.words.specs.declared.call.Reply.{Reply}
 use Rattle.words.specs.declared.call.Reply.TheVariants.{Done as done, Got}
+use Rattle.words.specs.declared.limits.TheConstants.{MAX_CALL_NUMBER, MAX_VALUE}
 use Rattle.words.specs.declared.told.Told.{Told}
 use Rattle.persist.specs.Memory.{Access, Load, Store, Cas, Flush}
 use Rattle.arena.specs.Shape.{Shape, record_of, owner}
@@ -15,19 +16,18 @@ use Rattle.arena.specs.Words.{bumps, values}
 use Rattle.arena.specs.declared.place.Place.{Place}
 use Rattle.arena.specs.declared.place.Place.TheVariants.{Next, Mark, Cell, Status}
 use Rattle.stepper.specs.Step.{place_of, kept_by}
-use Rattle.stepper.specs.declared.After.{After}
-use Rattle.stepper.specs.declared.After.TheVariants.{More, Done}
+use Rattle.stepper.specs.declared.resume.After.{After}
+use Rattle.stepper.specs.declared.resume.After.TheVariants.{More, Done}
 use Rattle.stepper.specs.declared.prepare.Begun.{Begun}
 use Rattle.helping.specs.Table.{access_of, successor, begun_at}
 use Rattle.helping.specs.declared.op.Op.{Op}
 use Rattle.helping.specs.declared.op.Op.TheVariants.{DequeueLoadNext}
-use Rattle.history.specs.Effects.{took_effect, found_empty, forgotten, settled_at, settled_ones}
-use Rattle.history.specs.declared.event.Effect.{Effect}
-use Rattle.history.specs.declared.event.Event.{Event}
-use Rattle.history.specs.declared.event.Event.TheVariants.{Call as call_event, Return as return_event, Crash as crash_event, Ready as ready_event}
-use Rattle.recover.specs.Table.{access_of as recovery_access, successor as recovery_successor, boot_point}
-use Rattle.recover.specs.declared.recovery.Recovered.{Recovered}
-use Rattle.recover.specs.declared.recovery.Recovered.TheVariants.{More as go_on, Ready}
+use Rattle.events.specs.Effects.{with_effect, with_pending, without_pending, with_settled, settled_effects}
+use Rattle.events.specs.declared.event.Effect.{Effect}
+use Rattle.events.specs.declared.event.Event.{Event}
+use Rattle.events.specs.declared.event.Event.TheVariants.{Call as call_event, Return as return_event, Crash as crash_event, Ready as ready_event}
+use Rattle.recover.specs.Table.{access_of as recovery_access, recovery_after, boot_recovery}
+use Rattle.stepper.specs.declared.resume.After.TheVariants.{More as go_on, Done as Ready}
 use Rattle.recover.specs.declared.recovery.Recovery.{Recovery}
 use Rattle.protocol.specs.declared.Issued.{Issued}
 use Rattle.protocol.specs.declared.UnderWay.{UnderWay}
@@ -42,20 +42,20 @@ abbrev pub put : (Place → ℕ) → Place → ℕ → Place → ℕ
 put f p v q = if is_same p q then v else f q
 
 -- what an access leaves, and what a flush or an eviction
-abbrev pub stored : Memory → Place → ℕ → Memory
-stored m p v = record { cached = put m.cached p v; kept = m.kept }
+abbrev pub with_store : Memory → Place → ℕ → Memory
+with_store m p v = record { cached = put m.cached p v; kept = m.kept }
 
-abbrev pub flushed : Memory → Place → Memory
-flushed m p = record { cached = m.cached; kept = put m.kept p (m.cached p) }
+abbrev pub with_flush : Memory → Place → Memory
+with_flush m p = record { cached = m.cached; kept = put m.kept p (m.cached p) }
 
-abbrev pub accessed : Memory → Access Place → Memory
-accessed m (Load p) = m
-accessed m (Store p v) = stored m p v
-accessed m (Cas p old new) = if m.cached p == old then stored m p new else m
-accessed m (Flush p) = flushed m p
+abbrev pub with_access : Memory → Access Place → Memory
+with_access m (Load p) = m
+with_access m (Store p v) = with_store m p v
+with_access m (Cas p old new) = if m.cached p == old then with_store m p new else m
+with_access m (Flush p) = with_flush m p
 
--- the history, the records that its calls took, and when they took effect
-pub record Log : Type 0 where
+-- the trace: the history, the records that its calls took, and when they took effect
+pub record Trace : Type 0 where
   pub events : List Event
   pub issued : List Issued
   pub effects : List Effect
@@ -68,41 +68,44 @@ pub record World : Type 0 where
   pub recovery : Option Recovery
   pub base : List ℕ
   pub told : List Told
-  pub log : Log
+  pub log : Trace
 
 -- what the client has under way becomes this
 abbrev pub with_call : (ℕ → Option UnderWay) → ℕ → Option UnderWay → ℕ → Option UnderWay
 with_call calls client call j = if j == client then call else calls j
 
 -- the effects, where the call with this record takes effect, or what it found counts
-abbrev pub took : Reply → ℕ → Option UnderWay → List Effect → List Effect
-took reply moment (Some u) effects = took_effect u.place reply moment effects
-took reply moment None effects = effects
+abbrev pub effects_on_take : Reply → ℕ → Option UnderWay → List Effect → List Effect
+effects_on_take reply moment (Some u) effects = with_effect u.place reply moment effects
+effects_on_take reply moment None effects = effects
 
-abbrev pub counts : Option UnderWay → List Effect → List Effect
-counts (Some u) effects = settled_at u.place effects
-counts None effects = effects
+abbrev pub effects_on_count : Option UnderWay → List Effect → List Effect
+effects_on_count (Some u) effects = with_settled u.place effects
+effects_on_count None effects = effects
 
 -- the call whose record has this number, if it is under way
 abbrev pub call_with : World → ℕ → Option UnderWay
 call_with w number = w.calls (owner w.shape number)
 
--- a kept word has a new value: a call takes effect when its link or its claim is kept, and an empty dequeue counts when its answer is
-abbrev pub noticed : World → Place → ℕ → List Effect
-noticed w (Next n) new = took done (length w.log.events) (call_with w new) w.log.effects
-noticed w (Mark n) new = took (Got (values w.memory.kept n.0)) (length w.log.events) (call_with w new) w.log.effects
-noticed w (Cell c) new = if new == 1 then counts (call_with w c.0) w.log.effects else w.log.effects
-noticed w (Status e) new = if new == 2 then counts (call_with w e.0) w.log.effects else w.log.effects
-noticed w _ new = w.log.effects
+-- a kept word has a new value: a call takes effect when its link or its claim is kept, and an empty dequeue counts when
+-- its answer is
+abbrev pub effects_on_keep : World → Place → ℕ → List Effect
+effects_on_keep w (Next n) new = effects_on_take done (length w.log.events) (call_with w new) w.log.effects
+effects_on_keep w (Mark n) new =
+    effects_on_take (Got (values w.memory.kept n.0)) (length w.log.events) (call_with w new) w.log.effects
+effects_on_keep w (Cell c) new = if new == 1 then effects_on_count (call_with w c.0) w.log.effects else w.log.effects
+effects_on_keep w (Status e) new = if new == 2 then effects_on_count (call_with w e.0) w.log.effects else w.log.effects
+effects_on_keep w _ new = w.log.effects
 
 -- the effects once the place's word is kept
 abbrev pub after_keeping : World → Place → List Effect
-after_keeping w p = if w.memory.kept p == w.memory.cached p then w.log.effects else noticed w p (w.memory.cached p)
+after_keeping w p =
+    if w.memory.kept p == w.memory.cached p then w.log.effects else effects_on_keep w p (w.memory.cached p)
 
 -- a dequeue that looks at what follows the sentinel may find the queue empty; what it found before counts no more
-abbrev pub looked : ℕ → ℕ → ℕ → List Effect → List Effect
-looked place moment found effects =
-    if found == 0 then found_empty place moment (forgotten place effects) else forgotten place effects
+abbrev pub effects_on_look : ℕ → ℕ → ℕ → List Effect → List Effect
+effects_on_look place moment found effects =
+    if found == 0 then with_pending place moment (without_pending place effects) else without_pending place effects
 
 abbrev pub after_flush : World → Option Place → List Effect
 after_flush w (Some p) = after_keeping w p
@@ -110,25 +113,26 @@ after_flush w None = w.log.effects
 
 -- the effects after a call's step
 abbrev pub effects_after : World → UnderWay → Op → List Effect
-effects_after w u (DequeueLoadNext p) = looked u.place (length w.log.events) (w.memory.cached (Next p.first)) w.log.effects
+effects_after w u (DequeueLoadNext p) =
+    effects_on_look u.place (length w.log.events) (w.memory.cached (Next p.first)) w.log.effects
 effects_after w u op = after_flush w (kept_by (access_of w.shape.kind op))
 
 -- what a step leaves under way, and the events
-abbrev pub with_next : UnderWay → After Op → Option UnderWay
+abbrev pub with_next : UnderWay → After Op Reply → Option UnderWay
 with_next u (More op) = Some (record u { op = op })
 with_next u (Done reply) = None
 
-abbrev pub events_after : List Event → Client → After Op → List Event
+abbrev pub events_after : List Event → Client → After Op Reply → List Event
 events_after events client (More op) = events
 events_after events client (Done reply) = events ++ return_event client reply ∷ []
 
 -- the client's call makes its access, and goes on by the table
-abbrev pub next_of : World → UnderWay → After Op
+abbrev pub next_of : World → UnderWay → After Op Reply
 next_of w u = successor w.shape.kind u.op (w.memory.cached (place_of (access_of w.shape.kind u.op)))
 
-abbrev pub stepped : World → Client → UnderWay → World
-stepped w client u = record w {
-  memory = accessed w.memory (access_of w.shape.kind u.op);
+abbrev pub with_step : World → Client → UnderWay → World
+with_step w client u = record w {
+  memory = with_access w.memory (access_of w.shape.kind u.op);
   calls = with_call w.calls client.0 (with_next u (next_of w u));
   log = record {
     events = events_after w.log.events client (next_of w u);
@@ -150,8 +154,8 @@ begun_of w client number call = record {
 abbrev pub call_begun : World → Begun → UnderWay
 call_begun w b = record { place = length w.log.events; begun = b; op = begun_at w.shape.kind b }
 
-abbrev pub started_with : World → Begun → World
-started_with w b = record w {
+abbrev pub with_start_of : World → Begun → World
+with_start_of w b = record w {
   calls = with_call w.calls b.client.0 (Some (call_begun w b));
   log = record {
     events = w.log.events ++ call_event b.client b.number b.call ∷ [];
@@ -160,45 +164,49 @@ started_with w b = record w {
   };
 }
 
-abbrev pub started : World → Client → ℕ → Call → World
-started w client number call = started_with w (begun_of w client number call)
+abbrev pub with_start : World → Client → ℕ → Call → World
+with_start w client number call = with_start_of w (begun_of w client number call)
 
 -- the environment keeps a word
-abbrev pub evicted : World → Place → World
-evicted w p = record w {
-  memory = flushed w.memory p;
+abbrev pub with_eviction : World → Place → World
+with_eviction w p = record w {
+  memory = with_flush w.memory p;
   log = record { events = w.log.events; issued = w.log.issued; effects = after_keeping w p };
 }
 
 -- the whole system stops: what is not kept is lost, calls under way end, and recovery begins anew
-abbrev pub crashed : World → World
-crashed w = record w {
+abbrev pub with_crash : World → World
+with_crash w = record w {
   memory = record { cached = w.memory.kept; kept = w.memory.kept };
   calls = λ j. None;
-  recovery = Some boot_point;
-  log = record { events = w.log.events ++ crash_event ∷ []; issued = w.log.issued; effects = settled_ones w.log.effects };
+  recovery = Some boot_recovery;
+  log = record {
+    events = w.log.events ++ crash_event ∷ [];
+    issued = w.log.issued;
+    effects = settled_effects w.log.effects;
+  };
 }
 
 -- recovery makes its access, and goes on by the table
-abbrev pub recovered_next : World → Recovery → Recovered
-recovered_next w r = recovery_successor w.shape r (w.memory.cached (place_of (recovery_access w.shape.kind r)))
+abbrev pub next_recovery : World → Recovery → After Recovery (List Told)
+next_recovery w r = recovery_after w.shape r (w.memory.cached (place_of (recovery_access w.shape.kind r.at)))
 
-abbrev pub recovery_left : Recovered → Option Recovery
+abbrev pub recovery_left : After Recovery (List Told) → Option Recovery
 recovery_left (go_on r) = Some r
 recovery_left (Ready told) = None
 
-abbrev pub events_recovered : List Event → Recovered → List Event
-events_recovered events (go_on r) = events
-events_recovered events (Ready told) = events ++ ready_event told ∷ []
+abbrev pub recovery_events : List Event → After Recovery (List Told) → List Event
+recovery_events events (go_on r) = events
+recovery_events events (Ready told) = events ++ ready_event told ∷ []
 
-abbrev pub recovered : World → Recovery → World
-recovered w r = record w {
-  memory = accessed w.memory (recovery_access w.shape.kind r);
-  recovery = recovery_left (recovered_next w r);
+abbrev pub with_recovery_step : World → Recovery → World
+with_recovery_step w r = record w {
+  memory = with_access w.memory (recovery_access w.shape.kind r.at);
+  recovery = recovery_left (next_recovery w r);
   log = record {
-    events = events_recovered w.log.events (recovered_next w r);
+    events = recovery_events w.log.events (next_recovery w r);
     issued = w.log.issued;
-    effects = after_flush w (kept_by (recovery_access w.shape.kind r));
+    effects = after_flush w (kept_by (recovery_access w.shape.kind r.at));
   };
 }
 
@@ -217,10 +225,10 @@ new_world s told = record {
 -- the number of a call fits the kind of the queue: 0 in a durable one, 1 to 2^40 in a log queue
 abbrev pub FitsKind : Kind → ℕ → Type 0
 FitsKind Durable number = number ≡ 0
-FitsKind log_kind number = (1 ≤ number) × (number ≤ 1099511627776)
+FitsKind Log number = (1 ≤ number) × (number ≤ MAX_CALL_NUMBER)
 
 abbrev pub FitsCall : Call → Type 0
-FitsCall (Enq value) = value ≤ 4294967295
+FitsCall (Enq value) = value ≤ MAX_VALUE
 FitsCall Deq = Unit {0}
 
 -- the client may start the call: the queue is ready, it has none under way, and a record is left

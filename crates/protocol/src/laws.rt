@@ -6,116 +6,155 @@ ghost use Rattle.arena.specs.Shape.{Shape, greatest};
 ghost use Rattle.arena.specs.declared.place.Place.{Place};
 ghost use Rattle.words.specs.declared.call.Client.{Client};
 ghost use Rattle.words.specs.declared.told.Told.{Told};
-ghost use Rattle.history.specs.Effects.{order_of};
-ghost use Rattle.history.specs.Parts.{IsPartOf};
-ghost use Rattle.protocol.specs.Acts.{Act, IsNew, IsExplained, TellsByKept, HasNoCrash, recoveries, run};
-ghost use Rattle.protocol.specs.Acts.Act.{Step, Recover};
-ghost use Rattle.protocol.specs.Booted.{MayBoot, booted};
-ghost use Rattle.protocol.specs.Down.{StaysDown, TellsAfter};
-ghost use Rattle.protocol.specs.Kept.{IsSound};
-ghost use Rattle.protocol.specs.Machine.{new_world, crashed};
+ghost use Rattle.events.specs.Effects.{order_of};
+ghost use Rattle.events.specs.Parts.{IsPartOf};
+ghost use Rattle.protocol.specs.Acts.{IsNew, IsExplained, TellsByKept, HasNoCrash, StaysDown, recoveries, with_act, run, world_after};
+ghost use Rattle.protocol.specs.Booted.{MayBoot, world_on};
+ghost use Rattle.protocol.specs.Down.{IsDown, TellsAfter};
+ghost use Rattle.protocol.specs.Machine.{with_crash};
 ghost use Rattle.protocol.specs.Recovered.{IsRecovered};
-ghost use Rattle.recover.specs.Sound.{IsSound as IsSoundForRecovery};
+ghost use Rattle.protocol.specs.declared.acts.Act.{Act};
+ghost use Rattle.protocol.specs.declared.acts.Act.TheVariants.{Step, Recover};
+ghost use Rattle.recover.specs.Sound.{IsSound};
 ghost use Rattle.recover.specs.Told.{tells_by};
 
 /// The history is explained by the effects as they came, which the kept words hold.
 pub fn every_history_is_explained()
-    ensures { (s : Shape) (told : List Told) (acts : List Act) → IsNew s told → IsExplained (run (new_world s told) acts) }
+    ensures { (s : Shape) (told : List Told) (acts : List (Act Place))
+        → IsNew s told → IsExplained (world_after s told acts) }
 {}
 
 /// What was once in the order stays in it, in the same sequence.
 pub fn nothing_is_taken_back()
-    ensures { (s : Shape) (told : List Told) (acts later : List Act) → IsNew s told → IsPartOf (order_of (run (new_world s told) acts).log.effects) (order_of (run (new_world s told) (acts ++ later)).log.effects) }
+    ensures { (s : Shape) (told : List Told) (acts later : List (Act Place))
+        → IsNew s told
+        → IsPartOf (order_of (world_after s told acts).log.effects)
+        (order_of (world_after s told (acts ++ later)).log.effects) }
 {}
 
-/// The kept words are sound at every moment, and so after every crash.
+/// The kept words are sound at every moment, and so after every crash: they keep each of the rules by which `recover`
+/// tells sound words from damaged ones, but for the words' count, which places do not have. No crash leaves words that
+/// are refused.
 pub fn kept_words_are_sound()
-    ensures { (s : Shape) (told : List Told) (acts : List Act) → IsNew s told → IsSound (run (new_world s told) acts).shape (run (new_world s told) acts).memory.kept }
-{}
-
-/// They keep each of the rules by which `recover` tells sound words from damaged ones, but for the words' count, which
-/// places do not have: no crash leaves words that are refused.
-pub fn kept_words_are_sound_for_recovery()
-    ensures { (s : Shape) (told : List Told) (acts : List Act) → IsNew s told → IsSoundForRecovery s (run (new_world s told) acts).memory.kept }
+    ensures { (s : Shape) (told : List Told) (acts : List (Act Place))
+        → IsNew s told → IsSound s (world_after s told acts).memory.kept }
 {}
 
 /// No node stands twice on the chain of the kept links.
 pub fn no_node_stands_twice()
-    ensures { (s : Shape) (told : List Told) (acts : List Act) → IsNew s told → (i j n : ℕ) → slice_get (chain_of (run (new_world s told) acts).shape (run (new_world s told) acts).memory.kept) i ≡ Some n → slice_get (chain_of (run (new_world s told) acts).shape (run (new_world s told) acts).memory.kept) j ≡ Some n → i ≡ j }
+    ensures { (s : Shape) (told : List Told) (acts : List (Act Place))
+        → IsNew s told → (i j n : ℕ)
+        → slice_get (chain_of (world_after s told acts).shape (world_after s told acts).memory.kept) i ≡ Some n
+        → slice_get (chain_of (world_after s told acts).shape (world_after s told acts).memory.kept) j ≡ Some n
+        → i ≡ j }
 {}
 
 /// Each client is told of its last call by the kept words alone.
 pub fn kept_words_are_told()
-    ensures { (s : Shape) (told : List Told) (acts : List Act) → IsNew s told → TellsByKept (run (new_world s told) acts) }
+    ensures { (s : Shape) (told : List Told) (acts : List (Act Place))
+        → IsNew s told → TellsByKept (world_after s told acts) }
 {}
 
 /// After a crash the queue is ready once recovery has made 8 steps a record and 8 a client, and 8 more, whatever else
 /// happens meanwhile but another crash.
 pub fn recovery_ends()
-    ensures { (s : Shape) (told : List Told) (acts later : List Act) → IsNew s told → HasNoCrash later → 8 * greatest s + 8 * s.clients + 8 ≤ recoveries later → (run (crashed (run (new_world s told) acts)) later).recovery ≡ None }
+    ensures { (s : Shape) (told : List Told) (acts later : List (Act Place))
+        → IsNew s told → HasNoCrash later → 8 * greatest s + 8 * s.clients + 8 ≤ recoveries later
+        → (run (with_crash (world_after s told acts)) later).recovery ≡ None }
 {}
 
 /// In a ready queue a client that goes on alone has ended its call after 64 steps.
 pub fn a_call_alone_ends()
-    ensures { (s : Shape) (told : List Told) (acts : List Act) (client : Client) → IsNew s told → (run (new_world s told) acts).recovery ≡ None → (run (run (new_world s told) acts) (replicate 64 (Step client))).calls client.0 ≡ None }
+    ensures { (s : Shape) (told : List Told) (acts : List (Act Place)) (client : Client)
+        → IsNew s told → (world_after s told acts).recovery ≡ None
+        → (run (world_after s told acts) (replicate 64 (Step client))).calls client.0 ≡ None }
 {}
 
 /// While the queue is down nothing changes what the kept words tell, further crashes among it.
 pub fn recovery_changes_nothing_told()
-    ensures { (s : Shape) (told : List Told) (acts later : List Act) → IsNew s told → StaysDown (crashed (run (new_world s told) acts)) later → tells_by s (run (crashed (run (new_world s told) acts)) later).memory.kept ≡ tells_by s (run (new_world s told) acts).memory.kept }
+    ensures { (s : Shape) (told : List Told) (acts later : List (Act Place))
+        → IsNew s told → StaysDown IsDown with_act (with_crash (world_after s told acts)) later
+        → tells_by s (run (with_crash (world_after s told acts)) later).memory.kept
+        ≡ tells_by s (world_after s told acts).memory.kept }
 {}
 
 /// Nor does it change what the kept words hold.
 pub fn recovery_changes_nothing_held()
-    ensures { (s : Shape) (told : List Told) (acts later : List Act) → IsNew s told → StaysDown (crashed (run (new_world s told) acts)) later → kept_content s (run (crashed (run (new_world s told) acts)) later).memory.kept ≡ kept_content s (run (new_world s told) acts).memory.kept }
+    ensures { (s : Shape) (told : List Told) (acts later : List (Act Place))
+        → IsNew s told → StaysDown IsDown with_act (with_crash (world_after s told acts)) later
+        → kept_content s (run (with_crash (world_after s told acts)) later).memory.kept
+        ≡ kept_content s (world_after s told acts).memory.kept }
 {}
 
 /// When recovery ends, each client is told what the words that the crash left tell, as a function of these words alone.
 pub fn told_by_the_words_of_the_crash()
-    ensures { (s : Shape) (told : List Told) (acts later : List Act) (tells : List Told) → IsNew s told → TellsAfter (crashed (run (new_world s told) acts)) later tells → tells ≡ tells_by s (run (new_world s told) acts).memory.kept }
+    ensures { (s : Shape) (told : List Told) (acts later : List (Act Place)) (tells : List Told)
+        → IsNew s told → TellsAfter (with_crash (world_after s told acts)) later tells
+        → tells ≡ tells_by s (world_after s told acts).memory.kept }
 {}
 
 /// So two queues of one shape whose crashes leave equal words tell the same.
 pub fn equal_words_tell_the_same()
-    ensures { (s : Shape) (told other : List Told) (acts others later latest : List Act) (tells telling : List Told) → IsNew s told → IsNew s other → ((p : Place) → (run (new_world s told) acts).memory.kept p ≡ (run (new_world s other) others).memory.kept p) → TellsAfter (crashed (run (new_world s told) acts)) later tells → TellsAfter (crashed (run (new_world s other) others)) latest telling → tells ≡ telling }
+    ensures { (s : Shape) (told other : List Told) (acts others later latest : List (Act Place))
+        (tells telling : List Told)
+        → IsNew s told → IsNew s other
+        → ((p : Place) → (world_after s told acts).memory.kept p ≡ (world_after s other others).memory.kept p)
+        → TellsAfter (with_crash (world_after s told acts)) later tells
+        → TellsAfter (with_crash (world_after s other others)) latest telling → tells ≡ telling }
 {}
 
-/// What the step leaves that ends recovery: the head at the last claimed node and the tail at the last node, each claimed
-/// node's result written, and in a log queue each waiting node's entry taken. Nothing is pending: every word is kept as it
-/// is cached.
+/// What the step leaves that ends recovery: the head at the last claimed node and the tail at the last node, each
+/// claimed node's result written, and in a log queue each waiting node's entry taken. Nothing is pending: every word is
+/// kept as it is cached.
 pub fn what_recovery_leaves()
-    ensures recovered { (s : Shape) (told : List Told) (acts later : List Act) (tells : List Told) → IsNew s told → TellsAfter (crashed (run (new_world s told) acts)) later tells → IsRecovered s (run (crashed (run (new_world s told) acts)) (later ++ Recover ∷ [])).memory.kept }
-    ensures kept { (s : Shape) (told : List Told) (acts later : List Act) (tells : List Told) → IsNew s told → TellsAfter (crashed (run (new_world s told) acts)) later tells → (p : Place) → (run (crashed (run (new_world s told) acts)) (later ++ Recover ∷ [])).memory.cached p ≡ (run (crashed (run (new_world s told) acts)) (later ++ Recover ∷ [])).memory.kept p }
+    ensures recovered { (s : Shape) (told : List Told) (acts later : List (Act Place)) (tells : List Told)
+        → IsNew s told → TellsAfter (with_crash (world_after s told acts)) later tells
+        → IsRecovered s (run (with_crash (world_after s told acts)) (later ++ Recover ∷ [])).memory.kept }
+    ensures kept { (s : Shape) (told : List Told) (acts later : List (Act Place)) (tells : List Told)
+        → IsNew s told → TellsAfter (with_crash (world_after s told acts)) later tells → (p : Place)
+        → (run (with_crash (world_after s told acts)) (later ++ Recover ∷ [])).memory.cached p
+        ≡ (run (with_crash (world_after s told acts)) (later ++ Recover ∷ [])).memory.kept p }
 {}
 
-/// A queue may begin on any sound kept words. What they held and told is then where its history begins, and the effects explain it
-/// as they came.
+/// A queue may begin on any sound kept words. What they held and told is then where its history begins, and the effects
+/// explain it as they came.
 pub fn a_queue_begins_on_sound_words()
-    ensures { (s : Shape) (kept : Place → ℕ) (acts : List Act) → MayBoot s kept → IsExplained (run (booted s kept (tells_by s kept)) acts) }
+    ensures { (s : Shape) (kept : Place → ℕ) (acts : List (Act Place))
+        → MayBoot s kept → IsExplained (run (world_on s kept) acts) }
 {}
 
 /// What a queue keeps at any moment, another may begin on.
 pub fn what_is_kept_may_be_begun_on()
-    ensures { (s : Shape) (told : List Told) (acts : List Act) → IsNew s told → MayBoot s (run (new_world s told) acts).memory.kept }
+    ensures { (s : Shape) (told : List Told) (acts : List (Act Place))
+        → IsNew s told → MayBoot s (world_after s told acts).memory.kept }
 {}
 
 /// So may what is kept by one that began so, again and again.
 pub fn what_it_keeps_may_be_begun_on()
-    ensures { (s : Shape) (kept : Place → ℕ) (acts : List Act) → MayBoot s kept → MayBoot s (run (booted s kept (tells_by s kept)) acts).memory.kept }
+    ensures { (s : Shape) (kept : Place → ℕ) (acts : List (Act Place))
+        → MayBoot s kept → MayBoot s (run (world_on s kept) acts).memory.kept }
 {}
 
 /// When its recovery ends, it tells each client what these words tell: what it began with.
 pub fn it_tells_what_it_began_with()
-    ensures { (s : Shape) (kept : Place → ℕ) (later : List Act) (tells : List Told) → MayBoot s kept → TellsAfter (booted s kept (tells_by s kept)) later tells → tells ≡ tells_by s kept }
+    ensures { (s : Shape) (kept : Place → ℕ) (later : List (Act Place)) (tells : List Told)
+        → MayBoot s kept → TellsAfter (world_on s kept) later tells → tells ≡ tells_by s kept }
 {}
 
 /// Its recovery leaves what one after a crash leaves.
 pub fn what_its_recovery_leaves()
-    ensures recovered { (s : Shape) (kept : Place → ℕ) (later : List Act) (tells : List Told) → MayBoot s kept → TellsAfter (booted s kept (tells_by s kept)) later tells → IsRecovered s (run (booted s kept (tells_by s kept)) (later ++ Recover ∷ [])).memory.kept }
-    ensures kept { (s : Shape) (kept : Place → ℕ) (later : List Act) (tells : List Told) → MayBoot s kept → TellsAfter (booted s kept (tells_by s kept)) later tells → (p : Place) → (run (booted s kept (tells_by s kept)) (later ++ Recover ∷ [])).memory.cached p ≡ (run (booted s kept (tells_by s kept)) (later ++ Recover ∷ [])).memory.kept p }
+    ensures recovered { (s : Shape) (kept : Place → ℕ) (later : List (Act Place)) (tells : List Told)
+        → MayBoot s kept → TellsAfter (world_on s kept) later tells
+        → IsRecovered s (run (world_on s kept) (later ++ Recover ∷ [])).memory.kept }
+    ensures kept { (s : Shape) (kept : Place → ℕ) (later : List (Act Place)) (tells : List Told)
+        → MayBoot s kept → TellsAfter (world_on s kept) later tells → (p : Place)
+        → (run (world_on s kept) (later ++ Recover ∷ [])).memory.cached p
+        ≡ (run (world_on s kept) (later ++ Recover ∷ [])).memory.kept p }
 {}
 
 /// Its recovery ends as after a crash.
 pub fn its_recovery_ends()
-    ensures { (s : Shape) (kept : Place → ℕ) (acts : List Act) → MayBoot s kept → HasNoCrash acts → 8 * greatest s + 8 * s.clients + 8 ≤ recoveries acts → (run (booted s kept (tells_by s kept)) acts).recovery ≡ None }
+    ensures { (s : Shape) (kept : Place → ℕ) (acts : List (Act Place))
+        → MayBoot s kept → HasNoCrash acts → 8 * greatest s + 8 * s.clients + 8 ≤ recoveries acts
+        → (run (world_on s kept) acts).recovery ≡ None }
 {}

@@ -21,7 +21,7 @@ use Rattle.arena.specs.Content.{chain_of, kept_content}
 use Rattle.arena.specs.declared.place.Place.{Place}
 use Rattle.arena.specs.declared.place.Place.TheVariants.{Announcement, Value, Mark, Cell, Number, EntryKind, Status}
 use Rattle.recover.specs.Sound.{AnswersAreSound, IsSound}
-use Rattle.recover.specs.Told.{claimed_by, row_with, enqueued, dequeued, outcome_by, announced_as, told_by, tells_by}
+use Rattle.recover.specs.Told.{node_claimed_by, row_with, enqueue_outcome, dequeue_outcome, outcome_by, report_on, told_by, tells_by}
 use Rattle.recover.proofs.Alike.{chain_like}
 use Rattle.recover.proofs.Surveys.{record_on_chain}
 use Rattle.recover.proofs.ToldBy.{told_nothing, told_of, told_nobody}
@@ -47,16 +47,16 @@ module _ (s : Shape) (k l : Place → ℕ) (same : (p : Place) → IsPlace s p �
   value n i = same (Value (record { 0 = n })) i
 
   -- the node that a token claims
-  claimed_like : (c : ℕ) (ns : List ℕ) → ((n : ℕ) → IsAmong n ns → IsNode s n) → claimed_by l c ns ≡ claimed_by k c ns
+  claimed_like : (c : ℕ) (ns : List ℕ) → ((n : ℕ) → IsAmong n ns → IsNode s n) → node_claimed_by l c ns ≡ node_claimed_by k c ns
   claimed_like c [] all = refl
   claimed_like c (n ∷ ns) all =
-      ap (λ m. if m == c then Some n else claimed_by l c ns) (mark n (all n (inl refl)))
+      ap (λ m. if m == c then Some n else node_claimed_by l c ns) (mark n (all n (inl refl)))
       ∙ ap (λ o. if marks k n == c then Some n else o) (claimed_like c ns (λ m i. all m (inr i)))
 
-  claimed_now : (c : ℕ) → claimed_by l c (chain_of s l) ≡ claimed_by k c (chain_of s k)
-  claimed_now c = ap (claimed_by l c) chains ∙ claimed_like c (chain_of s k) node
+  claimed_now : (c : ℕ) → node_claimed_by l c (chain_of s l) ≡ node_claimed_by k c (chain_of s k)
+  claimed_now c = ap (node_claimed_by l c) chains ∙ claimed_like c (chain_of s k) node
 
-  found : (c : ℕ) (ns : List ℕ) → (claimed_by k c ns ≡ None) ⊎ record { at : ℕ; is : claimed_by k c ns ≡ Some at; among : IsAmong at ns }
+  found : (c : ℕ) (ns : List ℕ) → (node_claimed_by k c ns ≡ None) ⊎ record { at : ℕ; is : node_claimed_by k c ns ≡ Some at; among : IsAmong at ns }
   found c [] = inl refl
   found c (n ∷ ns) = elim (cases_eq (marks k n) c) [
     | inl e ↦ inr (record { at = n; is = rw (eq-eqb (marks k n) c e) refl; among = inl refl })
@@ -67,29 +67,29 @@ module _ (s : Shape) (k l : Place → ℕ) (same : (p : Place) → IsPlace s p �
   ]
 
   -- rows and outcomes
-  row_like : s.kind ≡ Durable → (c : ℕ) → IsRecord s c → row_with l c (claimed_by l c (chain_of s l)) ≡ row_with k c (claimed_by k c (chain_of s k))
+  row_like : s.kind ≡ Durable → (c : ℕ) → IsRecord s c → row_with l c (node_claimed_by l c (chain_of s l)) ≡ row_with k c (node_claimed_by k c (chain_of s k))
   row_like e c r = ap (row_with l c) (claimed_now c) ∙ elim (found c (chain_of s k)) [
     | inl none ↦ ap (row_with l c) none ∙ ap (λ x. if x == 1 then row_empty else Open) (same (Cell (record { 0 = c })) (e, r)) ∙ ap (row_with k c) (sym none)
     | inr q ↦ ap (row_with l c) q.is ∙ ap row_got (value q.at (node q.at q.among)) ∙ ap (row_with k c) (sym q.is)
   ]
 
-  dequeued_like : (e : ℕ) → dequeued l (claimed_by l e (chain_of s l)) ≡ dequeued k (claimed_by k e (chain_of s k))
-  dequeued_like e = ap (dequeued l) (claimed_now e) ∙ elim (found e (chain_of s k)) [
-    | inl none ↦ ap (dequeued l) none ∙ ap (dequeued k) (sym none)
-    | inr q ↦ ap (dequeued l) q.is ∙ ap (λ v. Taken (Got v)) (value q.at (node q.at q.among)) ∙ ap (dequeued k) (sym q.is)
+  dequeued_like : (e : ℕ) → dequeue_outcome l (node_claimed_by l e (chain_of s l)) ≡ dequeue_outcome k (node_claimed_by k e (chain_of s k))
+  dequeued_like e = ap (dequeue_outcome l) (claimed_now e) ∙ elim (found e (chain_of s k)) [
+    | inl none ↦ ap (dequeue_outcome l) none ∙ ap (dequeue_outcome k) (sym none)
+    | inr q ↦ ap (dequeue_outcome l) q.is ∙ ap (λ v. Taken (Got v)) (value q.at (node q.at q.among)) ∙ ap (dequeue_outcome k) (sym q.is)
   ]
 
   outcome_like : s.kind ≡ Log → (e : ℕ) → IsRecord s e → outcome_by s l e ≡ outcome_by s k e
   outcome_like log e r =
-      let removed : Outcome = dequeued l (claimed_by l e (chain_of s l)) in
-      ap (λ x. if x == 1 then enqueued (list_any (nat_eq e) (chain_of s l)) else (if statuses l e == 2 then Taken Empty else removed))
+      let removed : Outcome = dequeue_outcome l (node_claimed_by l e (chain_of s l)) in
+      ap (λ x. if x == 1 then enqueue_outcome (list_any (nat_eq e) (chain_of s l)) else (if statuses l e == 2 then Taken Empty else removed))
       (same (EntryKind (record { 0 = e })) (log, r))
-      ∙ ap (λ c. if entry_kinds k e == 1 then enqueued (list_any (nat_eq e) c) else (if statuses l e == 2 then Taken Empty else removed)) chains
-      ∙ ap (λ x. if entry_kinds k e == 1 then enqueued (list_any (nat_eq e) (chain_of s k)) else (if x == 2 then Taken Empty else removed))
+      ∙ ap (λ c. if entry_kinds k e == 1 then enqueue_outcome (list_any (nat_eq e) c) else (if statuses l e == 2 then Taken Empty else removed)) chains
+      ∙ ap (λ x. if entry_kinds k e == 1 then enqueue_outcome (list_any (nat_eq e) (chain_of s k)) else (if x == 2 then Taken Empty else removed))
       (same (Status (record { 0 = e })) (log, r))
-      ∙ ap (λ o. if entry_kinds k e == 1 then enqueued (list_any (nat_eq e) (chain_of s k)) else (if statuses k e == 2 then Taken Empty else o)) (dequeued_like e)
+      ∙ ap (λ o. if entry_kinds k e == 1 then enqueue_outcome (list_any (nat_eq e) (chain_of s k)) else (if statuses k e == 2 then Taken Empty else o)) (dequeued_like e)
 
-  announced_like : (kind : Kind) → s.kind ≡ kind → (c : ℕ) → IsRecord s c → announced_as kind s l c ≡ announced_as kind s k c
+  announced_like : (kind : Kind) → s.kind ≡ kind → (c : ℕ) → IsRecord s c → report_on kind s l c ≡ report_on kind s k c
   announced_like Durable e c r = ap told_row (row_like e c r)
   announced_like Log e c r =
       ap (λ (n : ℕ). let v : Verdict = record { number = n; outcome = outcome_by s l c } in told_verdict v) (same (Number (record { 0 = c })) (e, r))
@@ -103,7 +103,7 @@ module _ (s : Shape) (k l : Place → ℕ) (same : (p : Place) → IsPlace s p �
         elim (cases_eq (announcements k t) 0) [
           | inl z ↦ told_nothing s l t lt (a ∙ z) ∙ sym (told_nothing s k t lt z)
           | inr some ↦
-              told_of s l t lt (λ z. some (sym a ∙ z)) ∙ ap (announced_as s.kind s l) a
+              told_of s l t lt (λ z. some (sym a ∙ z)) ∙ ap (report_on s.kind s l) a
               ∙ announced_like s.kind refl (announcements k t) (announced_record s.kind s k h.answers t lt some) ∙ sym (told_of s k t lt some)
         ]
   ]

@@ -11,7 +11,7 @@ use Rattle.arena.specs.Words.{links, marks, announcements}
 use Rattle.arena.specs.Chain.{walk}
 use Rattle.arena.specs.Content.{chain_of}
 use Rattle.arena.specs.declared.place.Place.{Place}
-use Rattle.recover.specs.Told.{claimed_by}
+use Rattle.recover.specs.Told.{node_claimed_by}
 use Rattle.recover.specs.Seen.{node_or, IsSeen, AreSeen, IsNodeNoted, IsClaimNoted}
 use Rattle.recover.specs.Sound.{IsOwn, IsOnChain, IsClaimOf, AnswersAreSound, ChainIsSound, IsSound}
 use Rattle.recover.proofs.Chains.{walk_end, walk_next}
@@ -81,7 +81,7 @@ no_claim s kept claimed node m at none = record {
 -- what is seen of a token so far, where the walk still finds these nodes
 pub record IsLookedFor (s : Shape) (kept : Place → ℕ) (token : ℕ) (on_chain : Bool) (claimed : ℕ) (rest : List ℕ) : Type 0 where
   pub node : list_any (nat_eq token) (chain_of s kept) ≡ (on_chain || list_any (nat_eq token) rest)
-  pub claim : claimed_by kept token (chain_of s kept) ≡ node_or claimed (claimed_by kept token rest)
+  pub claim : node_claimed_by kept token (chain_of s kept) ≡ node_or claimed (node_claimed_by kept token rest)
   pub sure : claimed ≢ 0 → IsClaimOf s kept token claimed
 
 looked_for_more : (s : Shape) (kept : Place → ℕ) → IsSound s kept → (token : ℕ) (on_chain : Bool) (claimed next : ℕ) (rest : List ℕ) → token ≢ 0 → IsOnChain s kept next → IsLookedFor s kept token on_chain claimed (next ∷ rest) → IsLookedFor s kept token (on_chain || (token == next)) (if marks kept next == token then next else claimed) rest
@@ -92,9 +92,9 @@ looked_for_more s kept h token on_chain claimed next rest some on f =
     elim (cases_eq (marks kept next) token) [
       | inl e ↦ (
           let mine : IsClaimOf s kept token next = record { on_chain = on; mark = e } in
-          let first : claimed_by kept token (next ∷ rest) ≡ Some next = rw (eq-eqb (marks kept next) token e) refl in
-          let past : node_or next (claimed_by kept token rest) ≡ Some next = rw (ne_eqb next 0 (λ z. omega (arith, z, record_next.0))) refl in
-          let claim : claimed_by kept token (chain_of s kept) ≡ Some next =
+          let first : node_claimed_by kept token (next ∷ rest) ≡ Some next = rw (eq-eqb (marks kept next) token e) refl in
+          let past : node_or next (node_claimed_by kept token rest) ≡ Some next = rw (ne_eqb next 0 (λ z. omega (arith, z, record_next.0))) refl in
+          let claim : node_claimed_by kept token (chain_of s kept) ≡ Some next =
           elim (cases_eq claimed 0) [
             | inl z ↦ f.claim ∙ rw (eq-eqb claimed 0 z) first
             | inr was ↦ (
@@ -106,7 +106,7 @@ looked_for_more s kept h token on_chain claimed next rest some on f =
           ] in
           rw (eq-eqb (marks kept next) token e) (record { node = node; claim = claim ∙ sym past; sure = λ _. mine }))
       | inr d ↦ (
-          let passed : claimed_by kept token (next ∷ rest) ≡ claimed_by kept token rest = rw (ne_eqb (marks kept next) token d) refl in
+          let passed : node_claimed_by kept token (next ∷ rest) ≡ node_claimed_by kept token rest = rw (ne_eqb (marks kept next) token d) refl in
           rw (ne_eqb (marks kept next) token d) (record { node = node; claim = f.claim ∙ ap (node_or claimed) passed; sure = f.sure }))
     ]
 

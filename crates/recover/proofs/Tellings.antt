@@ -13,20 +13,20 @@ use Rattle.arena.specs.Words.{numbers, announcements}
 use Rattle.arena.specs.Content.{chain_of}
 use Rattle.arena.specs.Shape.{Shape}
 use Rattle.arena.specs.declared.place.Place.{Place}
-use Rattle.recover.specs.Told.{claimed_by, row_with, outcome_by, announced_as, told_by, tells_by}
+use Rattle.recover.specs.Told.{node_claimed_by, row_with, outcome_by, report_on, told_by, tells_by}
 use Rattle.recover.proofs.Tables.{set_cases}
 use Rattle.recover.proofs.ToldBy.{told_of, told_nobody}
 
 -- a client that announced an entry, or a cell
 pub told_verdict_of : (s : Shape) (kept : Place → ℕ) (t token number : ℕ) (outcome : Outcome) → IsClient s t → token ≡ announcements kept t → token ≢ 0 → s.kind ≡ Log → number ≡ numbers kept token → outcome ≡ outcome_by s kept token → told_verdict (record { number = number; outcome = outcome }) ≡ told_by s kept t
 told_verdict_of s kept t token number outcome client at some kind numbered became =
-    let verdict : told_verdict (record { number = number; outcome = outcome }) ≡ announced_as Log s kept token = rw (numbered, became) refl in
-    verdict ∙ ap (λ k. announced_as k s kept token) (sym kind) ∙ ap (announced_as s.kind s kept) at ∙ sym (told_of s kept t client (λ z. some (at ∙ z)))
+    let verdict : told_verdict (record { number = number; outcome = outcome }) ≡ report_on Log s kept token = rw (numbered, became) refl in
+    verdict ∙ ap (λ k. report_on k s kept token) (sym kind) ∙ ap (report_on s.kind s kept) at ∙ sym (told_of s kept t client (λ z. some (at ∙ z)))
 
-pub told_row_of : (s : Shape) (kept : Place → ℕ) (t token : ℕ) (row : Row) → IsClient s t → token ≡ announcements kept t → token ≢ 0 → s.kind ≡ Durable → row ≡ row_with kept token (claimed_by kept token (chain_of s kept)) → told_row row ≡ told_by s kept t
+pub told_row_of : (s : Shape) (kept : Place → ℕ) (t token : ℕ) (row : Row) → IsClient s t → token ≡ announcements kept t → token ≢ 0 → s.kind ≡ Durable → row ≡ row_with kept token (node_claimed_by kept token (chain_of s kept)) → told_row row ≡ told_by s kept t
 told_row_of s kept t token row client at some kind became =
-    let tells : told_row row ≡ announced_as Durable s kept token = ap (λ r. told_row r) became in
-    tells ∙ ap (λ k. announced_as k s kept token) (sym kind) ∙ ap (announced_as s.kind s kept) at ∙ sym (told_of s kept t client (λ z. some (at ∙ z)))
+    let tells : told_row row ≡ report_on Durable s kept token = ap (λ r. told_row r) became in
+    tells ∙ ap (λ k. report_on k s kept token) (sym kind) ∙ ap (report_on s.kind s kept) at ∙ sym (told_of s kept t client (λ z. some (at ∙ z)))
 
 -- of sixteen the clients before t are told, and nobody else
 pub record AreToldBefore (s : Shape) (kept : Place → ℕ) (tells : List Told) (t : ℕ) : Type 0 where

@@ -13,7 +13,7 @@ use Rattle.arena.specs.Chain.{IsAmong}
 use Rattle.arena.specs.Content.{chain_of}
 use Rattle.arena.specs.declared.place.Place.{Place}
 use Rattle.recover.specs.Table.{no_call}
-use Rattle.recover.specs.Told.{claimed_by, row_with, dequeued, outcome_by, announced_as, told_by}
+use Rattle.recover.specs.Told.{node_claimed_by, row_with, dequeue_outcome, outcome_by, report_on, told_by}
 use Rattle.recover.specs.Sound.{IsOnChain}
 
 -- links lead to chain nodes alone, and only chain nodes are claimed, each by a token of its own
@@ -23,7 +23,7 @@ pub record IsTellable (s : Shape) (kept : Place → ℕ) : Type 0 where
   pub claimed : (at : ℕ) → marks kept at ≢ 0 → IsOnChain s kept at
   pub once : (n m : ℕ) → marks kept n ≢ 0 → marks kept n ≡ marks kept m → n ≡ m
 
-first_claimed : (kept : Place → ℕ) (e at : ℕ) (ns : List ℕ) → marks kept at ≡ e → ((n : ℕ) → marks kept n ≡ e → n ≡ at) → IsAmong at ns → claimed_by kept e ns ≡ Some at
+first_claimed : (kept : Place → ℕ) (e at : ℕ) (ns : List ℕ) → marks kept at ≡ e → ((n : ℕ) → marks kept n ≡ e → n ≡ at) → IsAmong at ns → node_claimed_by kept e ns ≡ Some at
 first_claimed kept e at [] mark once h = absurd h
 first_claimed kept e at (n ∷ ns) mark once (inl same) = rw (eq-eqb (marks kept n) e (ap (marks kept) (sym same) ∙ mark)) (ap Some (sym same))
 first_claimed kept e at (n ∷ ns) mark once (inr h) =
@@ -32,7 +32,7 @@ first_claimed kept e at (n ∷ ns) mark once (inr h) =
       | inr ne ↦ rw (ne_eqb (marks kept n) e ne) (first_claimed kept e at ns mark once h)
     ]
 
-none_claimed : (kept : Place → ℕ) (e : ℕ) (ns : List ℕ) → ((at : ℕ) → marks kept at ≢ e) → claimed_by kept e ns ≡ None
+none_claimed : (kept : Place → ℕ) (e : ℕ) (ns : List ℕ) → ((at : ℕ) → marks kept at ≢ e) → node_claimed_by kept e ns ≡ None
 none_claimed kept e [] never = refl
 none_claimed kept e (n ∷ ns) never = rw (ne_eqb (marks kept n) e (never n)) (none_claimed kept e ns never)
 
@@ -46,7 +46,7 @@ among_none x [] h = refl
 among_none x (y ∷ ys) h = rw (ne_eqb x y (λ e. h (inl e))) (among_none x ys (λ t. h (inr t)))
 
 -- the token claims this node
-pub claimed_is : (s : Shape) (kept : Place → ℕ) → IsTellable s kept → (e at : ℕ) → e ≢ 0 → marks kept at ≡ e → claimed_by kept e (chain_of s kept) ≡ Some at
+pub claimed_is : (s : Shape) (kept : Place → ℕ) → IsTellable s kept → (e at : ℕ) → e ≢ 0 → marks kept at ≡ e → node_claimed_by kept e (chain_of s kept) ≡ Some at
 claimed_is s kept c e at some mark =
     let marked : marks kept at ≢ 0 = λ z. some (sym mark ∙ z) in
     first_claimed kept e at (chain_of s kept) mark (λ n eq. sym (c.once at n marked (mark ∙ sym eq))) (c.claimed at marked)
@@ -68,27 +68,27 @@ told_empty s kept e kind status = rw (ne_eqb (entry_kinds kept e) 1 kind, eq-eqb
 
 pub told_got : (s : Shape) (kept : Place → ℕ) → IsTellable s kept → (e at : ℕ) → e ≢ 0 → entry_kinds kept e ≢ 1 → statuses kept e ≢ 2 → marks kept at ≡ e → outcome_by s kept e ≡ Taken (Got (values kept at))
 told_got s kept c e at some kind status mark =
-    rw (ne_eqb (entry_kinds kept e) 1 kind, ne_eqb (statuses kept e) 2 status) (ap (dequeued kept) (claimed_is s kept c e at some mark))
+    rw (ne_eqb (entry_kinds kept e) 1 kind, ne_eqb (statuses kept e) 2 status) (ap (dequeue_outcome kept) (claimed_is s kept c e at some mark))
 
 pub told_not_dequeued : (s : Shape) (kept : Place → ℕ) (e : ℕ) → entry_kinds kept e ≢ 1 → statuses kept e ≢ 2 → ((at : ℕ) → marks kept at ≢ e) → outcome_by s kept e ≡ NotTaken
 told_not_dequeued s kept e kind status never =
-    rw (ne_eqb (entry_kinds kept e) 1 kind, ne_eqb (statuses kept e) 2 status) (ap (dequeued kept) (none_claimed kept e (chain_of s kept) never))
+    rw (ne_eqb (entry_kinds kept e) 1 kind, ne_eqb (statuses kept e) 2 status) (ap (dequeue_outcome kept) (none_claimed kept e (chain_of s kept) never))
 
 -- a cell
-pub row_is_got : (s : Shape) (kept : Place → ℕ) → IsTellable s kept → (e at : ℕ) → e ≢ 0 → marks kept at ≡ e → row_with kept e (claimed_by kept e (chain_of s kept)) ≡ row_got (values kept at)
+pub row_is_got : (s : Shape) (kept : Place → ℕ) → IsTellable s kept → (e at : ℕ) → e ≢ 0 → marks kept at ≡ e → row_with kept e (node_claimed_by kept e (chain_of s kept)) ≡ row_got (values kept at)
 row_is_got s kept c e at some mark = ap (row_with kept e) (claimed_is s kept c e at some mark)
 
-pub row_is_empty : (s : Shape) (kept : Place → ℕ) (e : ℕ) → cells kept e ≡ 1 → ((at : ℕ) → marks kept at ≢ e) → row_with kept e (claimed_by kept e (chain_of s kept)) ≡ row_empty
+pub row_is_empty : (s : Shape) (kept : Place → ℕ) (e : ℕ) → cells kept e ≡ 1 → ((at : ℕ) → marks kept at ≢ e) → row_with kept e (node_claimed_by kept e (chain_of s kept)) ≡ row_empty
 row_is_empty s kept e cell never = ap (row_with kept e) (none_claimed kept e (chain_of s kept) never) ∙ rw (eq-eqb (cells kept e) 1 cell) refl
 
-pub row_is_open : (s : Shape) (kept : Place → ℕ) (e : ℕ) → cells kept e ≢ 1 → ((at : ℕ) → marks kept at ≢ e) → row_with kept e (claimed_by kept e (chain_of s kept)) ≡ Open
+pub row_is_open : (s : Shape) (kept : Place → ℕ) (e : ℕ) → cells kept e ≢ 1 → ((at : ℕ) → marks kept at ≢ e) → row_with kept e (node_claimed_by kept e (chain_of s kept)) ≡ Open
 row_is_open s kept e cell never = ap (row_with kept e) (none_claimed kept e (chain_of s kept) never) ∙ rw (ne_eqb (cells kept e) 1 cell) refl
 
 -- a client that announced nothing, one that did, and nobody
 pub told_nothing : (s : Shape) (kept : Place → ℕ) (t : ℕ) → t < s.clients → announcements kept t ≡ 0 → told_by s kept t ≡ no_call s.kind
 told_nothing s kept t client none = rw (lt-ltb t s.clients client, eq-eqb (announcements kept t) 0 none) refl
 
-pub told_of : (s : Shape) (kept : Place → ℕ) (t : ℕ) → t < s.clients → announcements kept t ≢ 0 → told_by s kept t ≡ announced_as s.kind s kept (announcements kept t)
+pub told_of : (s : Shape) (kept : Place → ℕ) (t : ℕ) → t < s.clients → announcements kept t ≢ 0 → told_by s kept t ≡ report_on s.kind s kept (announcements kept t)
 told_of s kept t client some = rw (lt-ltb t s.clients client, ne_eqb (announcements kept t) 0 some) refl
 
 pub told_nobody : (s : Shape) (kept : Place → ℕ) (t : ℕ) → s.clients ≤ t → told_by s kept t ≡ told_none

@@ -1,5 +1,6 @@
 -- Tables that `sound` fills as it goes: where each node stands on the chain, and what each token claims.
 use Rattle.std.specs.Prelude.{◌≡◌, ◌≢◌, ℕ, ◌+◌, ◌≤◌, ◌<◌, List, length, slice_index}
+use Rattle.arena.specs.declared.codes.TheConstants.{DEQUEUE_KIND, GOT_CELL}
 use Rattle.arena.specs.Shape.{Shape, greatest}
 use Rattle.arena.specs.Words.{links, marks, cells, entry_kinds, entry_nodes}
 use Rattle.arena.specs.Chain.{IsChain, LeadsTo}
@@ -44,7 +45,7 @@ pub record IsTokenTable (s : Shape) (kept : Place → ℕ) (claimed : List ℕ) 
 
 -- durable queues: a cell tells only what it claims, and a claimed node's cell tells of it
 pub record CellTells (s : Shape) (kept : Place → ℕ) (c : ℕ) : Type 0 where
-  pub result : 2 ≤ cells kept c → IsResult s kept c
+  pub result : GOT_CELL ≤ cells kept c → IsResult s kept c
 
 pub record ClaimIsToldInCell (s : Shape) (kept : Place → ℕ) (n : ℕ) : Type 0 where
   pub not_empty : IsClaimed s kept n → cells kept (marks kept n) ≢ 1
@@ -57,8 +58,8 @@ pub record IsInsertedIfOn (s : Shape) (kept : Place → ℕ) (n : ℕ) : Type 0 
 pub record EntryTells (s : Shape) (kept : Place → ℕ) (e : ℕ) : Type 0 where
   pub kind : entry_kinds kept e ≤ 2
   pub status : StatusIsSound s kept e
-  pub result : entry_kinds kept e ≡ 2 → RemovedIsSound s kept e
+  pub result : entry_kinds kept e ≡ DEQUEUE_KIND → RemovedIsSound s kept e
 
 pub record ClaimIsToldInEntry (s : Shape) (kept : Place → ℕ) (n : ℕ) : Type 0 where
-  pub kind : IsClaimed s kept n → entry_kinds kept (marks kept n) ≡ 2
+  pub kind : IsClaimed s kept n → entry_kinds kept (marks kept n) ≡ DEQUEUE_KIND
   pub told : IsPassed s kept n → entry_nodes kept (marks kept n) ≢ 0

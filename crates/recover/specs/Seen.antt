@@ -6,7 +6,7 @@ use Rattle.arena.specs.Place.{IsClient, IsNode}
 use Rattle.arena.specs.Words.{marks, announcements}
 use Rattle.arena.specs.Content.{chain_of}
 use Rattle.arena.specs.declared.place.Place.{Place}
-use Rattle.recover.specs.Told.{claimed_by}
+use Rattle.recover.specs.Told.{node_claimed_by}
 
 -- this node, or where it is 0 the other
 abbrev pub node_or : ℕ → Option ℕ → Option ℕ
@@ -15,7 +15,7 @@ node_or node other = if node == 0 then other else Some node
 -- whether the token's record is a node of the chain, and the first node of the chain that the token claims, or 0
 pub record IsSeen (s : Shape) (kept : Place → ℕ) (token : ℕ) (on_chain : Bool) (claimed : ℕ) : Type 0 where
   pub node : on_chain ≡ list_any (nat_eq token) (chain_of s kept)
-  pub claim : node_or claimed None ≡ claimed_by kept token (chain_of s kept)
+  pub claim : node_or claimed None ≡ node_claimed_by kept token (chain_of s kept)
   pub within : IsNode s claimed
 
 -- that is seen of the record that the client announced, if it did

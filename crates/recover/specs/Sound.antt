@@ -7,6 +7,10 @@ use Rattle.words.specs.declared.refusal.Refusal.{Refusal}
 use Rattle.words.specs.declared.refusal.Refusal.TheVariants.{Damaged}
 use Rattle.words.specs.declared.refusal.Rule.{Rule}
 use Rattle.words.specs.declared.refusal.Rule.TheVariants.{Size, Records, Chain, Claims, Ends, Rows, Entries, Image, Directory}
+use Rattle.words.specs.declared.limits.TheConstants.{MAX_CALL_NUMBER, MAX_VALUE}
+use Rattle.arena.specs.declared.codes.TheConstants.{DEQUEUE_KIND, EMPTY_CELL, EMPTY_STATUS, ENQUEUE_KIND, GOT_CELL, TAKEN_STATUS}
+use Rattle.arena.specs.Layout.{size_of}
+use Rattle.recover.specs.Kept.{kept_in}
 use Rattle.arena.specs.Shape.{Shape, greatest, record_of, owner}
 use Rattle.arena.specs.Place.{IsClient, IsNode, IsRecord}
 use Rattle.arena.specs.Words.{links, marks, values, inserts, cells, numbers, entry_kinds, statuses, entry_nodes, bumps, announcements}
@@ -15,22 +19,18 @@ use Rattle.arena.specs.Content.{chain_of}
 use Rattle.arena.specs.declared.place.Place.{Place}
 use Rattle.arena.specs.declared.place.Place.TheVariants.{Head, Tail, Insert, Number, EntryNode}
 
--- the values of the places, where the words are these
-abbrev pub kept_in : (Place → ℕ) → List ℕ → Place → ℕ
-kept_in word_of ws p = slice_index ws (word_of p)
-
 -- a block of a broker, in which a queue of either kind has room: past the queue's words it is all zero
 abbrev pub block_size : Shape → ℕ
 block_size s = 6 + 2 * s.clients + 8 * greatest s
 
-pub record IsBlock (s : Shape) (size : ℕ) (ws : List ℕ) : Type 0 where
+pub record IsBlock (s : Shape) (ws : List ℕ) : Type 0 where
   pub count : length ws ≡ block_size s
-  pub room : size ≤ length ws
-  pub rest : (w : ℕ) → size ≤ w → w < length ws → slice_index ws w ≡ 0
+  pub room : size_of s ≤ length ws
+  pub rest : (w : ℕ) → size_of s ≤ w → w < length ws → slice_index ws w ≡ 0
 
 -- there are as many words as the layout has, or they are a block
-abbrev pub SizeIsSound : Shape → ℕ → List ℕ → Type 0
-SizeIsSound s size ws = (length ws ≡ size) ⊎ IsBlock s size ws
+abbrev pub SizeIsSound : Shape → List ℕ → Type 0
+SizeIsSound s ws = (length ws ≡ size_of s) ⊎ IsBlock s ws
 
 -- its client used the record: it comes before the client's next one
 pub record IsIssued (s : Shape) (kept : Place → ℕ) (number : ℕ) : Type 0 where
@@ -94,7 +94,7 @@ pub record ChainIsSound (s : Shape) (kept : Place → ℕ) : Type 0 where
 
 -- values are in range; no claimed node follows an unclaimed one; claims are by used records, each by its own
 pub record ClaimsAreSound (s : Shape) (kept : Place → ℕ) : Type 0 where
-  pub in_range : (n : ℕ) → IsNode s n → values kept n ≤ 4294967295
+  pub in_range : (n : ℕ) → IsNode s n → values kept n ≤ MAX_VALUE
   pub in_turn : (n : ℕ) → IsOnChain s kept n → IsClaimed s kept (links kept n) → marks kept n ≢ 0
   pub issued : (n : ℕ) → IsClaimed s kept n → IsIssued s kept (marks kept n)
   pub once : (n m : ℕ) → IsClaimed s kept n → IsClaimed s kept m → marks kept n ≡ marks kept m → n ≡ m
@@ -129,7 +129,7 @@ pub record IsClaimOf (s : Shape) (kept : Place → ℕ) (token n : ℕ) : Type 0
 pub record IsResult (s : Shape) (kept : Place → ℕ) (cell : ℕ) : Type 0 where
   pub node : ℕ
   pub claim : IsClaimOf s kept cell node
-  pub value : values kept node + 2 ≡ cells kept cell
+  pub value : values kept node + GOT_CELL ≡ cells kept cell
 
 abbrev pub RowIsSound : Shape → (Place → ℕ) → ℕ → Type 0
 RowIsSound s kept t = (announcements kept t ≡ 0) ⊎ IsOwn s kept t (announcements kept t)
@@ -138,24 +138,24 @@ RowIsSound s kept t = (announcements kept t ≡ 0) ⊎ IsOwn s kept t (announcem
 -- once the head has passed the node it is not open
 pub record RowsAreSound (s : Shape) (kept : Place → ℕ) : Type 0 where
   pub rows : (t : ℕ) → IsClient s t → RowIsSound s kept t
-  pub results : (c : ℕ) → IsRecord s c → 2 ≤ cells kept c → IsResult s kept c
-  pub not_empty : (n : ℕ) → IsClaimed s kept n → cells kept (marks kept n) ≢ 1
+  pub results : (c : ℕ) → IsRecord s c → GOT_CELL ≤ cells kept c → IsResult s kept c
+  pub not_empty : (n : ℕ) → IsClaimed s kept n → cells kept (marks kept n) ≢ EMPTY_CELL
   pub not_open : (n : ℕ) → IsPassed s kept n → cells kept (marks kept n) ≢ 0
 
 -- an entry of an enqueue names its node
 pub record IsEnqueue (kept : Place → ℕ) (e : ℕ) : Type 0 where
-  pub kind : entry_kinds kept e ≡ 1
+  pub kind : entry_kinds kept e ≡ ENQUEUE_KIND
   pub node : entry_nodes kept e ≡ e
 
 abbrev pub IsOfSomeCall : (Place → ℕ) → ℕ → Type 0
-IsOfSomeCall kept e = IsEnqueue kept e ⊎ (entry_kinds kept e ≡ 2)
+IsOfSomeCall kept e = IsEnqueue kept e ⊎ (entry_kinds kept e ≡ DEQUEUE_KIND)
 
 -- an announced entry: of its client, for an enqueue or a dequeue, and numbered
 pub record IsAnnounced (s : Shape) (kept : Place → ℕ) (t e : ℕ) : Type 0 where
   pub own : IsOwn s kept t e
   pub call : IsOfSomeCall kept e
   pub numbered : 1 ≤ numbers kept e
-  pub in_range : numbers kept e ≤ 1099511627776
+  pub in_range : numbers kept e ≤ MAX_CALL_NUMBER
 
 abbrev pub LogIsSound : Shape → (Place → ℕ) → ℕ → Type 0
 LogIsSound s kept t = (announcements kept t ≡ 0) ⊎ IsAnnounced s kept t (announcements kept t)
@@ -163,17 +163,17 @@ LogIsSound s kept t = (announcements kept t ≡ 0) ⊎ IsAnnounced s kept t (ann
 -- a chain node is inserted by the entry of its number, which is an enqueue's
 pub record IsInserted (kept : Place → ℕ) (n : ℕ) : Type 0 where
   pub insert : inserts kept n ≡ n
-  pub kind : entry_kinds kept n ≡ 1
+  pub kind : entry_kinds kept n ≡ ENQUEUE_KIND
 
--- status 1 is that of an enqueue whose node is on the chain, 2 that of a dequeue that claims nothing
+-- one status is that of an enqueue whose node is on the chain, the other that of a dequeue that claims nothing
 pub record IsTaken (s : Shape) (kept : Place → ℕ) (e : ℕ) : Type 0 where
-  pub status : statuses kept e ≡ 1
-  pub kind : entry_kinds kept e ≡ 1
+  pub status : statuses kept e ≡ TAKEN_STATUS
+  pub kind : entry_kinds kept e ≡ ENQUEUE_KIND
   pub on_chain : IsOnChain s kept e
 
 pub record IsEmpty (s : Shape) (kept : Place → ℕ) (e : ℕ) : Type 0 where
-  pub status : statuses kept e ≡ 2
-  pub kind : entry_kinds kept e ≡ 2
+  pub status : statuses kept e ≡ EMPTY_STATUS
+  pub kind : entry_kinds kept e ≡ DEQUEUE_KIND
   pub no_claim : (n : ℕ) → IsClaimOf s kept e n → ⊥
 
 abbrev pub StatusIsSound : Shape → (Place → ℕ) → ℕ → Type 0
@@ -188,10 +188,10 @@ RemovedIsSound s kept e = (entry_nodes kept e ≡ 0) ⊎ IsClaimOf s kept e (ent
 pub record EntriesAreSound (s : Shape) (kept : Place → ℕ) : Type 0 where
   pub inserts : (n : ℕ) → IsOnChain s kept n → IsInserted kept n
   pub logs : (t : ℕ) → IsClient s t → LogIsSound s kept t
-  pub kinds : (e : ℕ) → IsRecord s e → entry_kinds kept e ≤ 2
+  pub kinds : (e : ℕ) → IsRecord s e → entry_kinds kept e ≤ DEQUEUE_KIND
   pub statuses : (e : ℕ) → IsRecord s e → StatusIsSound s kept e
-  pub claims : (n : ℕ) → IsClaimed s kept n → entry_kinds kept (marks kept n) ≡ 2
-  pub results : (e : ℕ) → IsRecord s e → entry_kinds kept e ≡ 2 → RemovedIsSound s kept e
+  pub claims : (n : ℕ) → IsClaimed s kept n → entry_kinds kept (marks kept n) ≡ DEQUEUE_KIND
+  pub results : (e : ℕ) → IsRecord s e → entry_kinds kept e ≡ DEQUEUE_KIND → RemovedIsSound s kept e
   pub told : (n : ℕ) → IsPassed s kept n → entry_nodes kept (marks kept n) ≢ 0
 
 -- the answers of calls, by the kind of the queue
@@ -208,9 +208,9 @@ pub record IsSound (s : Shape) (kept : Place → ℕ) : Type 0 where
   pub answers : AnswersAreSound s.kind s kept
 
 -- the words are as many as they should be, and sound
-pub record AreSoundWords (s : Shape) (size : ℕ) (word_of : Place → ℕ) (ws : List ℕ) : Type 0 where
-  pub count : SizeIsSound s size ws
-  pub sound : IsSound s (kept_in word_of ws)
+pub record AreSoundWords (s : Shape) (ws : List ℕ) : Type 0 where
+  pub count : SizeIsSound s ws
+  pub sound : IsSound s (kept_in s ws)
 
 -- what a rule says of the words of a queue; a rule of the other kind of queue, or of a broker, says nothing
 abbrev pub IfKind : Kind → Kind → Type 0 → Type 0
@@ -219,26 +219,26 @@ IfKind Log Log P = P
 IfKind Durable Log P = Unit {0}
 IfKind Log Durable P = Unit {0}
 
-abbrev pub Keeps : Shape → ℕ → (Place → ℕ) → List ℕ → Rule → Type 0
-Keeps s size word_of ws Size = SizeIsSound s size ws
-Keeps s size word_of ws Records = RecordsAreSound s (kept_in word_of ws)
-Keeps s size word_of ws Chain = ChainIsSound s (kept_in word_of ws)
-Keeps s size word_of ws Claims = ClaimsAreSound s (kept_in word_of ws)
-Keeps s size word_of ws Ends = EndsAreSound s (kept_in word_of ws)
-Keeps s size word_of ws Rows = IfKind Durable s.kind (RowsAreSound s (kept_in word_of ws))
-Keeps s size word_of ws Entries = IfKind Log s.kind (EntriesAreSound s (kept_in word_of ws))
-Keeps s size word_of ws Image = Unit {0}
-Keeps s size word_of ws Directory = Unit {0}
+abbrev pub Obeys : Shape → List ℕ → Rule → Type 0
+Obeys s ws Size = SizeIsSound s ws
+Obeys s ws Records = RecordsAreSound s (kept_in s ws)
+Obeys s ws Chain = ChainIsSound s (kept_in s ws)
+Obeys s ws Claims = ClaimsAreSound s (kept_in s ws)
+Obeys s ws Ends = EndsAreSound s (kept_in s ws)
+Obeys s ws Rows = IfKind Durable s.kind (RowsAreSound s (kept_in s ws))
+Obeys s ws Entries = IfKind Log s.kind (EntriesAreSound s (kept_in s ws))
+Obeys s ws Image = Unit {0}
+Obeys s ws Directory = Unit {0}
 
 -- the words break this rule, and none before it
-pub record IsFirstBroken (s : Shape) (size : ℕ) (word_of : Place → ℕ) (ws : List ℕ) (rule : Rule) : Type 0 where
-  pub broken : Keeps s size word_of ws rule → ⊥
-  pub before : (other : Rule) → number_of other < number_of rule → Keeps s size word_of ws other
+pub record IsFirstBroken (s : Shape) (ws : List ℕ) (rule : Rule) : Type 0 where
+  pub broken : Obeys s ws rule → ⊥
+  pub before : (other : Rule) → number_of other < number_of rule → Obeys s ws other
 
 -- a refusal by the first rule that is broken
-abbrev pub IsDamaged : Shape → ℕ → (Place → ℕ) → List ℕ → Refusal → Type 0
-IsDamaged s size word_of ws (Damaged rule) = IsFirstBroken s size word_of ws rule
-IsDamaged s size word_of ws _ = ⊥
+abbrev pub IsDamaged : Shape → List ℕ → Refusal → Type 0
+IsDamaged s ws (Damaged rule) = IsFirstBroken s ws rule
+IsDamaged s ws _ = ⊥
 
 -- a client announced the entry
 pub record IsAnnouncedOne (s : Shape) (kept : Place → ℕ) (e : ℕ) : Type 0 where
@@ -250,5 +250,5 @@ pub record IsAnnouncedOne (s : Shape) (kept : Place → ℕ) (e : ℕ) : Type 0 
 abbrev pub IsRead : Shape → (Place → ℕ) → Place → Type 0
 IsRead s kept (Insert n) = (n.0 ≡ 0) ⊎ IsOnChain s kept n.0
 IsRead s kept (Number e) = IsAnnouncedOne s kept e.0
-IsRead s kept (EntryNode e) = (entry_kinds kept e.0 ≡ 2) ⊎ IsAnnouncedOne s kept e.0
+IsRead s kept (EntryNode e) = (entry_kinds kept e.0 ≡ DEQUEUE_KIND) ⊎ IsAnnouncedOne s kept e.0
 IsRead s kept _ = Unit {0}

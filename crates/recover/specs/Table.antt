@@ -12,6 +12,8 @@ use Rattle.words.specs.declared.told.Row.{Row}
 use Rattle.words.specs.declared.told.Row.TheVariants.{NoCall, Open, Empty as row_empty, Got as row_got}
 use Rattle.words.specs.declared.told.Told.{Told}
 use Rattle.words.specs.declared.told.Told.TheVariants.{None as told_none, Verdict as told_verdict, Row as told_row}
+use Rattle.words.specs.declared.limits.TheConstants.{MAX_CALL_NUMBER, MAX_CLIENTS, MAX_VALUE}
+use Rattle.arena.specs.declared.codes.TheConstants.{EMPTY_CELL, EMPTY_STATUS, ENQUEUE_KIND, GOT_CELL, TAKEN_STATUS}
 use Rattle.persist.specs.Memory.{Access, Load, Store, Flush}
 use Rattle.arena.specs.Shape.{Shape}
 use Rattle.arena.specs.Place.{IsClient, IsNode, IsRecord}
@@ -19,10 +21,12 @@ use Rattle.arena.specs.Answers.{result_of}
 use Rattle.arena.specs.declared.place.Write.{Write}
 use Rattle.arena.specs.declared.place.Place.{Place}
 use Rattle.arena.specs.declared.place.Place.TheVariants.{Head, Tail, Announcement, Value, Next, Mark, Cell, Insert, Number, EntryKind, Status, EntryNode}
-use Rattle.recover.specs.declared.recovery.Recovered.{Recovered}
-use Rattle.recover.specs.declared.recovery.Recovered.TheVariants.{More, Ready}
+use Rattle.stepper.specs.declared.resume.After.{After}
+use Rattle.stepper.specs.declared.resume.After.TheVariants.{More, Done as Ended}
 use Rattle.recover.specs.declared.recovery.Recovery.{Recovery}
-use Rattle.recover.specs.declared.recovery.Recovery.TheVariants.{RecoveryLoadHead, RecoveryLoadNext, RecoveryLoadInsert, RecoveryStoreStatus, RecoveryFlushStatus, RecoveryLoadMark, RecoveryLoadValue, RecoveryStoreResult, RecoveryFlushResult, RecoveryStoreHead, RecoveryFlushHead, RecoveryStoreTail, RecoveryFlushTail, RecoveryLoadAnnouncement, RecoveryLoadCell, RecoveryLoadNumber, RecoveryLoadKind, RecoveryLoadStatus, RecoveryLoadRemove, RecoveryLoadEntryNode, RecoveryLoadRemovedValue}
+use Rattle.recover.specs.declared.point.Report.{Report}
+use Rattle.recover.specs.declared.point.RecoveryPoint.{RecoveryPoint}
+use Rattle.recover.specs.declared.point.RecoveryPoint.TheVariants.{RecoveryLoadHead, RecoveryLoadNext, RecoveryLoadInsert, RecoveryStoreStatus, RecoveryFlushStatus, RecoveryLoadMark, RecoveryLoadValue, RecoveryStoreResult, RecoveryFlushResult, RecoveryStoreHead, RecoveryFlushHead, RecoveryStoreTail, RecoveryFlushTail, RecoveryLoadAnnouncement, RecoveryLoadCell, RecoveryLoadNumber, RecoveryLoadKind, RecoveryLoadStatus, RecoveryLoadRemove, RecoveryLoadEntryNode, RecoveryLoadRemovedValue}
 
 abbrev pub node_at : ℕ → NodeId
 node_at n = record { 0 = n }
@@ -34,11 +38,11 @@ abbrev pub store : Write → Access Place
 store w = Store w.place w.value
 
 -- the one access of each waiting point
-abbrev pub access_of : Kind → Recovery → Access Place
+abbrev pub access_of : Kind → RecoveryPoint → Access Place
 access_of kind (RecoveryLoadHead p) = Load Head
 access_of kind (RecoveryLoadNext p) = Load (Next p.cur)
 access_of kind (RecoveryLoadInsert p) = Load (Insert p.node)
-access_of kind (RecoveryStoreStatus p) = Store (Status p.entry) 1
+access_of kind (RecoveryStoreStatus p) = Store (Status p.entry) TAKEN_STATUS
 access_of kind (RecoveryFlushStatus p) = Flush (Status p.entry)
 access_of kind (RecoveryLoadMark p) = Load (Mark p.node)
 access_of kind (RecoveryLoadValue p) = Load (Value p.node)
@@ -58,30 +62,30 @@ access_of kind (RecoveryLoadEntryNode p) = Load (EntryNode p.token)
 access_of kind (RecoveryLoadRemovedValue p) = Load (Value p.node)
 
 -- past the last node: the head, if it is not right yet, else the tail
-abbrev pub at_the_end_of : NodeId → Bool → Recovery
-at_the_end_of cur true = RecoveryStoreTail (record { cur = cur })
-at_the_end_of cur false = RecoveryStoreHead (record { cur = cur; unclaimed = None })
+abbrev pub point_at_the_end : NodeId → Bool → RecoveryPoint
+point_at_the_end cur true = RecoveryStoreTail (record { cur = cur })
+point_at_the_end cur false = RecoveryStoreHead (record { cur = cur; unclaimed = None })
 
 -- past a node's status: past the last claimed node no mark is looked at
-abbrev pub past_status_of : NodeId → NodeId → Bool → Recovery
-past_status_of cur node true = RecoveryLoadNext (record { cur = node; moved = true })
-past_status_of cur node false = RecoveryLoadMark (record { cur = cur; node = node })
+abbrev pub point_past_status : NodeId → NodeId → Bool → RecoveryPoint
+point_past_status cur node true = RecoveryLoadNext (record { cur = node; moved = true })
+point_past_status cur node false = RecoveryLoadMark (record { cur = cur; node = node })
 
-abbrev pub to_node : Kind → NodeId → NodeId → Bool → Recovery
-to_node Durable cur node moved = past_status_of cur node moved
+abbrev pub to_node : Kind → NodeId → NodeId → Bool → RecoveryPoint
+to_node Durable cur node moved = point_past_status cur node moved
 to_node Log cur node moved = RecoveryLoadInsert (record { cur = cur; node = node; moved = moved })
 
-abbrev pub to_mark : Kind → NodeId → Token → Recovery
+abbrev pub to_mark : Kind → NodeId → Token → RecoveryPoint
 to_mark Durable node mark = RecoveryLoadValue (record { node = node; mark = mark })
 to_mark Log node mark = RecoveryStoreResult (record { node = node; mark = mark; value = 0 })
 
-abbrev pub past_head : NodeId → Option NodeId → Recovery
+abbrev pub past_head : NodeId → Option NodeId → RecoveryPoint
 past_head cur (Some node) = RecoveryLoadNext (record { cur = node; moved = true })
 past_head cur None = RecoveryStoreTail (record { cur = cur })
 
--- what a cell says: 0 open, 1 empty, v+2 got v
+-- what a cell says
 abbrev pub row_of : ℕ → Row
-row_of answer = if answer == 0 then Open else (if answer == 1 then row_empty else row_got (answer - 2))
+row_of answer = if answer == 0 then Open else (if answer == EMPTY_CELL then row_empty else row_got (answer - GOT_CELL))
 
 abbrev pub taken_as : ℕ → Reply → Told
 taken_as number reply = told_verdict (record { number = number; outcome = Taken reply })
@@ -89,34 +93,31 @@ taken_as number reply = told_verdict (record { number = number; outcome = Taken 
 abbrev pub not_taken_as : ℕ → Told
 not_taken_as number = told_verdict (record { number = number; outcome = NotTaken })
 
--- a client is told this, and the next one comes, if there is one
-abbrev pub telling : Shape → Client → List Told → Told → Recovered
-telling s client told tell =
-    if nat_lt (client.0 + 1) s.clients
-    then More (RecoveryLoadAnnouncement (record { client = record { 0 = client.0 + 1 }; told = slice_set told client.0 tell }))
-    else Ready (slice_set told client.0 tell)
+-- a client is told this
+abbrev pub report_of : Client → Told → After RecoveryPoint Report
+report_of client told = Ended (record { client = client; told = told })
 
 abbrev pub no_call : Kind → Told
 no_call Durable = told_row NoCall
 no_call Log = told_none
 
-abbrev pub to_answer : Kind → Client → Token → List Told → Recovery
-to_answer Durable client token told = RecoveryLoadCell (record { client = client; token = token; told = told })
-to_answer Log client token told = RecoveryLoadNumber (record { client = client; token = token; told = told })
+abbrev pub to_answer : Kind → Client → Token → RecoveryPoint
+to_answer Durable client token = RecoveryLoadCell (record { client = client; token = token })
+to_answer Log client token = RecoveryLoadNumber (record { client = client; token = token })
 
-abbrev pub to_outcome : Bool → Client → Token → List Told → ℕ → Recovery
-to_outcome true client token told number = RecoveryLoadRemove (record { client = client; token = token; told = told; number = number })
-to_outcome false client token told number = RecoveryLoadEntryNode (record { client = client; token = token; told = told; number = number })
+abbrev pub to_outcome : Bool → Client → Token → ℕ → RecoveryPoint
+to_outcome true client token number = RecoveryLoadRemove (record { client = client; token = token; number = number })
+to_outcome false client token number = RecoveryLoadEntryNode (record { client = client; token = token; number = number })
 
 -- what comes after the access found this value
-abbrev pub successor : Shape → Recovery → ℕ → Recovered
+abbrev pub successor : Shape → RecoveryPoint → ℕ → After RecoveryPoint Report
 successor s (RecoveryLoadHead p) found = More (RecoveryLoadNext (record { cur = node_at found; moved = false }))
-successor s (RecoveryLoadNext p) found = More (if found == 0 then at_the_end_of p.cur p.moved else to_node s.kind p.cur (node_at found) p.moved)
+successor s (RecoveryLoadNext p) found = More (if found == 0 then point_at_the_end p.cur p.moved else to_node s.kind p.cur (node_at found) p.moved)
 successor s (RecoveryLoadInsert p) found =
     More (RecoveryStoreStatus (record { cur = p.cur; node = p.node; entry = token_at found; moved = p.moved }))
 successor s (RecoveryStoreStatus p) found =
     More (RecoveryFlushStatus (record { cur = p.cur; node = p.node; entry = p.entry; moved = p.moved }))
-successor s (RecoveryFlushStatus p) found = More (past_status_of p.cur p.node p.moved)
+successor s (RecoveryFlushStatus p) found = More (point_past_status p.cur p.node p.moved)
 successor s (RecoveryLoadMark p) found =
     More (if found == 0 then RecoveryStoreHead (record { cur = p.cur; unclaimed = Some p.node }) else to_mark s.kind p.node (token_at found))
 successor s (RecoveryLoadValue p) found = More (RecoveryStoreResult (record { node = p.node; mark = p.mark; value = found }))
@@ -126,31 +127,51 @@ successor s (RecoveryStoreHead p) found = More (RecoveryFlushHead (record { cur 
 successor s (RecoveryFlushHead p) found = More (past_head p.cur p.unclaimed)
 successor s (RecoveryStoreTail p) found = More (RecoveryFlushTail (record {}))
 successor s (RecoveryFlushTail p) found =
-    More (RecoveryLoadAnnouncement (record { client = record { 0 = 0 }; told = replicate 16 told_none }))
+    More (RecoveryLoadAnnouncement (record { client = record { 0 = 0 } }))
 successor s (RecoveryLoadAnnouncement p) found =
-    if found == 0 then telling s p.client p.told (no_call s.kind) else More (to_answer s.kind p.client (token_at found) p.told)
-successor s (RecoveryLoadCell p) found = telling s p.client p.told (told_row (row_of found))
+    if found == 0 then report_of p.client (no_call s.kind) else More (to_answer s.kind p.client (token_at found))
+successor s (RecoveryLoadCell p) found = report_of p.client (told_row (row_of found))
 successor s (RecoveryLoadNumber p) found =
-    More (RecoveryLoadKind (record { client = p.client; token = p.token; told = p.told; number = found }))
+    More (RecoveryLoadKind (record { client = p.client; token = p.token; number = found }))
 successor s (RecoveryLoadKind p) found =
-    More (RecoveryLoadStatus (record { client = p.client; token = p.token; told = p.told; number = p.number; is_enqueue = found == 1 }))
+    More (RecoveryLoadStatus (record { client = p.client; token = p.token; number = p.number; is_enqueue = found == ENQUEUE_KIND }))
 successor s (RecoveryLoadStatus p) found =
-    if p.is_enqueue && (found == 1) then telling s p.client p.told (taken_as p.number Done)
-    else (if (not p.is_enqueue) && (found == 2) then telling s p.client p.told (taken_as p.number Empty)
-    else More (to_outcome p.is_enqueue p.client p.token p.told p.number))
+    if p.is_enqueue && (found == TAKEN_STATUS) then report_of p.client (taken_as p.number Done)
+    else (if (not p.is_enqueue) && (found == EMPTY_STATUS) then report_of p.client (taken_as p.number Empty)
+    else More (to_outcome p.is_enqueue p.client p.token p.number))
 successor s (RecoveryLoadRemove p) found =
-    telling s p.client p.told (if found == 0 then not_taken_as p.number else taken_as p.number Done)
+    report_of p.client (if found == 0 then not_taken_as p.number else taken_as p.number Done)
 successor s (RecoveryLoadEntryNode p) found =
-    if found == 0 then telling s p.client p.told (not_taken_as p.number)
-    else More (RecoveryLoadRemovedValue (record { client = p.client; told = p.told; number = p.number; node = node_at found }))
-successor s (RecoveryLoadRemovedValue p) found = telling s p.client p.told (taken_as p.number (Got found))
+    if found == 0 then report_of p.client (not_taken_as p.number)
+    else More (RecoveryLoadRemovedValue (record { client = p.client; number = p.number; node = node_at found }))
+successor s (RecoveryLoadRemovedValue p) found = report_of p.client (taken_as p.number (Got found))
+
+-- a client's report is noted, and the next client comes; after the last the queue is ready, and each is told what was noted
+abbrev pub after_report : Shape → List Told → Report → After Recovery (List Told)
+after_report s told report =
+    if nat_lt (report.client.0 + 1) s.clients
+    then More (record { told = slice_set told report.client.0 report.told; at = RecoveryLoadAnnouncement (record { client = record { 0 = report.client.0 + 1 } }) })
+    else Ended (slice_set told report.client.0 report.told)
+
+abbrev pub recovery_at : Shape → List Told → After RecoveryPoint Report → After Recovery (List Told)
+recovery_at s told (More at) = More (record { told = told; at = at })
+recovery_at s told (Ended report) = after_report s told report
+
+-- what comes after a step of recovery whose access found this value
+abbrev pub recovery_after : Shape → Recovery → ℕ → After Recovery (List Told)
+recovery_after s r found = recovery_at s r.told (successor s r.at found)
+
+-- the same, as a recovery and whether it is at its end
+abbrev pub recovery_reached : Bool → Recovery → After Recovery (List Told)
+recovery_reached true r = Ended r.told
+recovery_reached false r = More r
 
 -- where it begins
-abbrev pub boot_point : Recovery
-boot_point = RecoveryLoadHead (record {})
+abbrev pub boot_recovery : Recovery
+boot_recovery = record { told = replicate MAX_CLIENTS told_none; at = RecoveryLoadHead (record {}) }
 
 -- what it learnt is in range
-abbrev pub IsPoint : Shape → Recovery → Type 0
+abbrev pub IsPoint : Shape → RecoveryPoint → Type 0
 IsPoint s (RecoveryLoadHead p) = Unit {0}
 IsPoint s (RecoveryLoadNext p) = IsNode s p.cur.0
 IsPoint s (RecoveryLoadInsert p) = (s.kind ≡ Log) × IsNode s p.cur.0 × IsNode s p.node.0
@@ -158,8 +179,8 @@ IsPoint s (RecoveryStoreStatus p) = (s.kind ≡ Log) × IsNode s p.cur.0 × IsNo
 IsPoint s (RecoveryFlushStatus p) = (s.kind ≡ Log) × IsNode s p.cur.0 × IsNode s p.node.0 × IsRecord s p.entry.0
 IsPoint s (RecoveryLoadMark p) = IsNode s p.cur.0 × IsNode s p.node.0
 IsPoint s (RecoveryLoadValue p) = IsNode s p.node.0 × IsRecord s p.mark.0
-IsPoint s (RecoveryStoreResult p) = IsNode s p.node.0 × IsRecord s p.mark.0 × (p.value ≤ 4294967295)
-IsPoint s (RecoveryFlushResult p) = IsNode s p.node.0 × IsRecord s p.mark.0 × (p.value ≤ 4294967295)
+IsPoint s (RecoveryStoreResult p) = IsNode s p.node.0 × IsRecord s p.mark.0 × (p.value ≤ MAX_VALUE)
+IsPoint s (RecoveryFlushResult p) = IsNode s p.node.0 × IsRecord s p.mark.0 × (p.value ≤ MAX_VALUE)
 IsPoint s (RecoveryStoreHead p) = IsNode s p.cur.0 × IfSome p.unclaimed (λ n. IsNode s n.0)
 IsPoint s (RecoveryFlushHead p) = IsNode s p.cur.0 × IfSome p.unclaimed (λ n. IsNode s n.0)
 IsPoint s (RecoveryStoreTail p) = IsNode s p.cur.0
@@ -167,8 +188,8 @@ IsPoint s (RecoveryFlushTail p) = Unit {0}
 IsPoint s (RecoveryLoadAnnouncement p) = IsClient s p.client.0
 IsPoint s (RecoveryLoadCell p) = (s.kind ≡ Durable) × IsClient s p.client.0 × IsRecord s p.token.0
 IsPoint s (RecoveryLoadNumber p) = (s.kind ≡ Log) × IsClient s p.client.0 × IsRecord s p.token.0
-IsPoint s (RecoveryLoadKind p) = (s.kind ≡ Log) × IsClient s p.client.0 × IsRecord s p.token.0 × (p.number ≤ 1099511627776)
-IsPoint s (RecoveryLoadStatus p) = (s.kind ≡ Log) × IsClient s p.client.0 × IsRecord s p.token.0 × (p.number ≤ 1099511627776)
-IsPoint s (RecoveryLoadRemove p) = (s.kind ≡ Log) × IsClient s p.client.0 × IsRecord s p.token.0 × (p.number ≤ 1099511627776)
-IsPoint s (RecoveryLoadEntryNode p) = (s.kind ≡ Log) × IsClient s p.client.0 × IsRecord s p.token.0 × (p.number ≤ 1099511627776)
-IsPoint s (RecoveryLoadRemovedValue p) = IsClient s p.client.0 × IsNode s p.node.0 × (p.number ≤ 1099511627776)
+IsPoint s (RecoveryLoadKind p) = (s.kind ≡ Log) × IsClient s p.client.0 × IsRecord s p.token.0 × (p.number ≤ MAX_CALL_NUMBER)
+IsPoint s (RecoveryLoadStatus p) = (s.kind ≡ Log) × IsClient s p.client.0 × IsRecord s p.token.0 × (p.number ≤ MAX_CALL_NUMBER)
+IsPoint s (RecoveryLoadRemove p) = (s.kind ≡ Log) × IsClient s p.client.0 × IsRecord s p.token.0 × (p.number ≤ MAX_CALL_NUMBER)
+IsPoint s (RecoveryLoadEntryNode p) = (s.kind ≡ Log) × IsClient s p.client.0 × IsRecord s p.token.0 × (p.number ≤ MAX_CALL_NUMBER)
+IsPoint s (RecoveryLoadRemovedValue p) = IsClient s p.client.0 × IsNode s p.node.0 × (p.number ≤ MAX_CALL_NUMBER)

@@ -10,6 +10,8 @@ use Rattle.words.specs.declared.told.Row.{Row}
 use Rattle.words.specs.declared.told.Row.TheVariants.{Open, Empty as row_empty, Got as row_got}
 use Rattle.words.specs.declared.told.Told.{Told}
 use Rattle.words.specs.declared.told.Told.TheVariants.{None as told_none, Verdict as told_verdict, Row as told_row}
+use Rattle.words.specs.declared.limits.TheConstants.{MAX_CLIENTS}
+use Rattle.arena.specs.declared.codes.TheConstants.{EMPTY_CELL, EMPTY_STATUS, ENQUEUE_KIND}
 use Rattle.arena.specs.Shape.{Shape}
 use Rattle.arena.specs.Words.{marks, values, cells, numbers, entry_kinds, statuses, announcements}
 use Rattle.arena.specs.Content.{chain_of}
@@ -17,40 +19,40 @@ use Rattle.arena.specs.declared.place.Place.{Place}
 use Rattle.recover.specs.Table.{no_call}
 
 -- the first of these nodes that the token claims
-abbrev pub claimed_by : (Place → ℕ) → ℕ → List ℕ → Option ℕ
-claimed_by kept token [] = None
-claimed_by kept token (n ∷ ns) = if marks kept n == token then Some n else claimed_by kept token ns
+abbrev pub node_claimed_by : (Place → ℕ) → ℕ → List ℕ → Option ℕ
+node_claimed_by kept token [] = None
+node_claimed_by kept token (n ∷ ns) = if marks kept n == token then Some n else node_claimed_by kept token ns
 
 -- of a dequeue's cell: what it got, by the chain node that it claims, or what it found
 abbrev pub row_with : (Place → ℕ) → ℕ → Option ℕ → Row
 row_with kept cell (Some node) = row_got (values kept node)
-row_with kept cell None = if cells kept cell == 1 then row_empty else Open
+row_with kept cell None = if cells kept cell == EMPTY_CELL then row_empty else Open
 
 -- of an entry: an enqueue took effect where its node is on the chain, a dequeue where it found the queue empty or claims a chain node
-abbrev pub enqueued : Bool → Outcome
-enqueued on_chain = if on_chain then Taken Done else NotTaken
+abbrev pub enqueue_outcome : Bool → Outcome
+enqueue_outcome on_chain = if on_chain then Taken Done else NotTaken
 
-abbrev pub dequeued : (Place → ℕ) → Option ℕ → Outcome
-dequeued kept (Some node) = Taken (Got (values kept node))
-dequeued kept None = NotTaken
+abbrev pub dequeue_outcome : (Place → ℕ) → Option ℕ → Outcome
+dequeue_outcome kept (Some node) = Taken (Got (values kept node))
+dequeue_outcome kept None = NotTaken
 
 abbrev pub outcome_by : Shape → (Place → ℕ) → ℕ → Outcome
 outcome_by s kept entry =
-    if entry_kinds kept entry == 1 then enqueued (list_any (nat_eq entry) (chain_of s kept))
-    else (if statuses kept entry == 2 then Taken Empty else dequeued kept (claimed_by kept entry (chain_of s kept)))
+    if entry_kinds kept entry == ENQUEUE_KIND then enqueue_outcome (list_any (nat_eq entry) (chain_of s kept))
+    else (if statuses kept entry == EMPTY_STATUS then Taken Empty else dequeue_outcome kept (node_claimed_by kept entry (chain_of s kept)))
 
 -- what became of the call that the client announced last
-abbrev pub announced_as : Kind → Shape → (Place → ℕ) → ℕ → Told
-announced_as Durable s kept cell = told_row (row_with kept cell (claimed_by kept cell (chain_of s kept)))
-announced_as Log s kept entry = told_verdict (record { number = numbers kept entry; outcome = outcome_by s kept entry })
+abbrev pub report_on : Kind → Shape → (Place → ℕ) → ℕ → Told
+report_on Durable s kept cell = told_row (row_with kept cell (node_claimed_by kept cell (chain_of s kept)))
+report_on Log s kept entry = told_verdict (record { number = numbers kept entry; outcome = outcome_by s kept entry })
 
 -- what a client is told; from the last client on there is nobody to be told
 abbrev pub told_by : Shape → (Place → ℕ) → ℕ → Told
 told_by s kept t =
     if nat_lt t s.clients
-    then (if announcements kept t == 0 then no_call s.kind else announced_as s.kind s kept (announcements kept t))
+    then (if announcements kept t == 0 then no_call s.kind else report_on s.kind s kept (announcements kept t))
     else told_none
 
--- what all sixteen are told
+-- what all of them are told
 abbrev pub tells_by : Shape → (Place → ℕ) → List Told
-tells_by s kept = map (told_by s kept) (range_with_len 0 16)
+tells_by s kept = map (told_by s kept) (range_with_len 0 MAX_CLIENTS)

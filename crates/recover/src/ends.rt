@@ -1,24 +1,25 @@
 //! Recovery of the list: it finds the last claimed node and the last node, writes what is missing of the
-//! answers of claimed nodes, and keeps head and tail.
+//! answers of claimed nodes, and keeps head and tail. The `//` at a point says what goes wrong without it, with the
+//! must-fail edit that shows it.
 
 ghost use Rattle.std.specs.Prelude.{◌≡◌};
-ghost use Rattle.recover.specs.Table.{at_the_end_of, past_status_of};
+ghost use Rattle.recover.specs.Table.{point_at_the_end, point_past_status};
 
-use crate::recovery::{Recover, Recovered, Recovery};
+use crate::point::{RecoveryPoint, Report};
 use crate::telling::RecoveryLoadAnnouncement;
-use arena::{Layout, Place, Write};
+use arena::{Layout, Place, TAKEN_STATUS, Write};
 use persist::WordMemory;
-use stepper::{flush_at, load_at, store_at};
-use words::{Client, Kind, NodeId, Token, Told};
+use stepper::{After, Resume, Stepped, flush_at, load_at, store_at};
+use words::{Client, Kind, NodeId, Token};
 
 /// Where recovery goes on past the last node.
-fn at_the_end(cur: NodeId, moved: bool) -> Recovery
-    ensures { result ≡ at_the_end_of cur moved }
+fn at_the_end(cur: NodeId, moved: bool) -> RecoveryPoint
+    ensures { result ≡ point_at_the_end cur moved }
 {
     if moved {
-        Recovery::RecoveryStoreTail(RecoveryStoreTail { cur })
+        RecoveryPoint::RecoveryStoreTail(RecoveryStoreTail { cur })
     } else {
-        Recovery::RecoveryStoreHead(RecoveryStoreHead {
+        RecoveryPoint::RecoveryStoreHead(RecoveryStoreHead {
             cur,
             unclaimed: None,
         })
@@ -26,13 +27,13 @@ fn at_the_end(cur: NodeId, moved: bool) -> Recovery
 }
 
 /// Where recovery goes on with a node whose enqueue is told of: no node past an unclaimed one is claimed.
-fn past_status(cur: NodeId, node: NodeId, moved: bool) -> Recovery
-    ensures { result ≡ past_status_of cur node moved }
+fn past_status(cur: NodeId, node: NodeId, moved: bool) -> RecoveryPoint
+    ensures { result ≡ point_past_status cur node moved }
 {
     if moved {
-        Recovery::RecoveryLoadNext(RecoveryLoadNext { cur: node, moved })
+        RecoveryPoint::RecoveryLoadNext(RecoveryLoadNext { cur: node, moved })
     } else {
-        Recovery::RecoveryLoadMark(RecoveryLoadMark { cur, node })
+        RecoveryPoint::RecoveryLoadMark(RecoveryLoadMark { cur, node })
     }
 }
 
@@ -40,19 +41,24 @@ fn past_status(cur: NodeId, node: NodeId, moved: bool) -> Recovery
 #[derive(Clone, Copy, Debug, PartialEq, Eq, Hash)]
 pub struct RecoveryLoadHead {}
 
-impl Recover for RecoveryLoadHead {
-    ghost use Rattle.recover.specs.Table.{access_of, successor, IsPoint};
-    ghost use Rattle.recover.specs.declared.recovery.Recovery.TheVariants.{RecoveryLoadHead};
+// Nodes before the kept head are answered already: from node 0 the walk would be as long as the queue is old.
+impl Resume for RecoveryLoadHead {
+    type Point = RecoveryPoint;
 
-    ghost access = { λ kind p. access_of kind (RecoveryLoadHead p) };
+    ghost use Rattle.recover.specs.declared.point.RecoveryPoint.TheVariants.{RecoveryLoadHead};
 
-    ghost next = { λ s p found. successor s (RecoveryLoadHead p) found };
+    ghost point = { RecoveryLoadHead };
 
-    ghost in_range = { λ s p. IsPoint s (RecoveryLoadHead p) };
-
-    fn step<L: Layout, M: WordMemory>(self, layout: &L, memory: &mut M) -> Recovered {
+    fn step<L: Layout, M: WordMemory>(
+        self,
+        layout: &L,
+        memory: &mut M,
+    ) -> Stepped<RecoveryPoint, Report> {
         let cur = NodeId(load_at(layout, memory, Place::Head) as u32);
-        Recovered::More(Recovery::RecoveryLoadNext(RecoveryLoadNext { cur, moved: false }))
+        Stepped::quiet(After::More(RecoveryPoint::RecoveryLoadNext(RecoveryLoadNext {
+            cur,
+            moved: false,
+        })))
     }
 }
 
@@ -63,27 +69,34 @@ pub struct RecoveryLoadNext {
     pub(crate) moved: bool,
 }
 
-impl Recover for RecoveryLoadNext {
-    ghost use Rattle.recover.specs.Table.{access_of, successor, IsPoint};
-    ghost use Rattle.recover.specs.declared.recovery.Recovery.TheVariants.{RecoveryLoadNext};
+// The kept head may be behind the last claimed node: recovery that trusts it loses verdicts and gives an item out twice
+// (`recovery_trusts_the_kept_head`).
+impl Resume for RecoveryLoadNext {
+    type Point = RecoveryPoint;
 
-    ghost access = { λ kind p. access_of kind (RecoveryLoadNext p) };
+    ghost use Rattle.recover.specs.declared.point.RecoveryPoint.TheVariants.{RecoveryLoadNext};
 
-    ghost next = { λ s p found. successor s (RecoveryLoadNext p) found };
+    ghost point = { RecoveryLoadNext };
 
-    ghost in_range = { λ s p. IsPoint s (RecoveryLoadNext p) };
-
-    fn step<L: Layout, M: WordMemory>(self, layout: &L, memory: &mut M) -> Recovered {
+    fn step<L: Layout, M: WordMemory>(
+        self,
+        layout: &L,
+        memory: &mut M,
+    ) -> Stepped<RecoveryPoint, Report> {
         let RecoveryLoadNext { cur, moved } = self;
         let node = NodeId(load_at(layout, memory, Place::Next(cur)) as u32);
-        Recovered::More(if node.0 == 0 {
+        Stepped::quiet(After::More(if node.0 == 0 {
             at_the_end(cur, moved)
         } else {
             match layout.kind() {
                 Kind::Durable => past_status(cur, node, moved),
-                Kind::Log => Recovery::RecoveryLoadInsert(RecoveryLoadInsert { cur, node, moved }),
+                Kind::Log => RecoveryPoint::RecoveryLoadInsert(RecoveryLoadInsert {
+                    cur,
+                    node,
+                    moved,
+                }),
             }
-        })
+        }))
     }
 }
 
@@ -95,25 +108,27 @@ pub struct RecoveryLoadInsert {
     pub(crate) moved: bool,
 }
 
-impl Recover for RecoveryLoadInsert {
-    ghost use Rattle.recover.specs.Table.{access_of, successor, IsPoint};
-    ghost use Rattle.recover.specs.declared.recovery.Recovery.TheVariants.{RecoveryLoadInsert};
+// The entry and not the node says what its client is told; past the head too (`recovery_skips_statuses_past_the_head`).
+impl Resume for RecoveryLoadInsert {
+    type Point = RecoveryPoint;
 
-    ghost access = { λ kind p. access_of kind (RecoveryLoadInsert p) };
+    ghost use Rattle.recover.specs.declared.point.RecoveryPoint.TheVariants.{RecoveryLoadInsert};
 
-    ghost next = { λ s p found. successor s (RecoveryLoadInsert p) found };
+    ghost point = { RecoveryLoadInsert };
 
-    ghost in_range = { λ s p. IsPoint s (RecoveryLoadInsert p) };
-
-    fn step<L: Layout, M: WordMemory>(self, layout: &L, memory: &mut M) -> Recovered {
+    fn step<L: Layout, M: WordMemory>(
+        self,
+        layout: &L,
+        memory: &mut M,
+    ) -> Stepped<RecoveryPoint, Report> {
         let RecoveryLoadInsert { cur, node, moved } = self;
         let entry = Token(load_at(layout, memory, Place::Insert(node)) as u32);
-        Recovered::More(Recovery::RecoveryStoreStatus(RecoveryStoreStatus {
+        Stepped::quiet(After::More(RecoveryPoint::RecoveryStoreStatus(RecoveryStoreStatus {
             cur,
             node,
             entry,
             moved,
-        }))
+        })))
     }
 }
 
@@ -126,17 +141,19 @@ pub struct RecoveryStoreStatus {
     pub(crate) moved: bool,
 }
 
-impl Recover for RecoveryStoreStatus {
-    ghost use Rattle.recover.specs.Table.{access_of, successor, IsPoint};
-    ghost use Rattle.recover.specs.declared.recovery.Recovery.TheVariants.{RecoveryStoreStatus};
+// An enqueue whose link is kept and whose node nobody claimed has no other word that tells of it.
+impl Resume for RecoveryStoreStatus {
+    type Point = RecoveryPoint;
 
-    ghost access = { λ kind p. access_of kind (RecoveryStoreStatus p) };
+    ghost use Rattle.recover.specs.declared.point.RecoveryPoint.TheVariants.{RecoveryStoreStatus};
 
-    ghost next = { λ s p found. successor s (RecoveryStoreStatus p) found };
+    ghost point = { RecoveryStoreStatus };
 
-    ghost in_range = { λ s p. IsPoint s (RecoveryStoreStatus p) };
-
-    fn step<L: Layout, M: WordMemory>(self, layout: &L, memory: &mut M) -> Recovered {
+    fn step<L: Layout, M: WordMemory>(
+        self,
+        layout: &L,
+        memory: &mut M,
+    ) -> Stepped<RecoveryPoint, Report> {
         let RecoveryStoreStatus {
             cur,
             node,
@@ -145,15 +162,15 @@ impl Recover for RecoveryStoreStatus {
         } = self;
         let status = Write {
             place: Place::Status(entry),
-            value: 1,
+            value: TAKEN_STATUS,
         };
         store_at(layout, memory, status);
-        Recovered::More(Recovery::RecoveryFlushStatus(RecoveryFlushStatus {
+        Stepped::quiet(After::More(RecoveryPoint::RecoveryFlushStatus(RecoveryFlushStatus {
             cur,
             node,
             entry,
             moved,
-        }))
+        })))
     }
 }
 
@@ -166,25 +183,31 @@ pub struct RecoveryFlushStatus {
     pub(crate) moved: bool,
 }
 
-impl Recover for RecoveryFlushStatus {
-    ghost use Rattle.recover.specs.Table.{access_of, successor, IsPoint};
-    ghost use Rattle.recover.specs.declared.recovery.Recovery.TheVariants.{RecoveryFlushStatus};
+// A status that is not kept is lost where recovery is cut off once the client was told by it
+// (`recovery_does_not_flush_a_status`).
+impl Resume for RecoveryFlushStatus {
+    type Point = RecoveryPoint;
 
-    ghost access = { λ kind p. access_of kind (RecoveryFlushStatus p) };
+    ghost use Rattle.recover.specs.declared.point.RecoveryPoint.TheVariants.{RecoveryFlushStatus};
 
-    ghost next = { λ s p found. successor s (RecoveryFlushStatus p) found };
+    ghost point = { RecoveryFlushStatus };
 
-    ghost in_range = { λ s p. IsPoint s (RecoveryFlushStatus p) };
-
-    fn step<L: Layout, M: WordMemory>(self, layout: &L, memory: &mut M) -> Recovered {
+    fn step<L: Layout, M: WordMemory>(
+        self,
+        layout: &L,
+        memory: &mut M,
+    ) -> Stepped<RecoveryPoint, Report> {
         let RecoveryFlushStatus {
             cur,
             node,
             entry,
             moved,
         } = self;
-        flush_at(layout, memory, Place::Status(entry));
-        Recovered::More(past_status(cur, node, moved))
+        let change = flush_at(layout, memory, Place::Status(entry));
+        Stepped {
+            after: After::More(past_status(cur, node, moved)),
+            change,
+        }
     }
 }
 
@@ -195,34 +218,36 @@ pub struct RecoveryLoadMark {
     pub(crate) node: NodeId,
 }
 
-impl Recover for RecoveryLoadMark {
-    ghost use Rattle.recover.specs.Table.{access_of, successor, IsPoint};
-    ghost use Rattle.recover.specs.declared.recovery.Recovery.TheVariants.{RecoveryLoadMark};
+// Claimed nodes come first, so the first node without a claim is where the head stops.
+impl Resume for RecoveryLoadMark {
+    type Point = RecoveryPoint;
 
-    ghost access = { λ kind p. access_of kind (RecoveryLoadMark p) };
+    ghost use Rattle.recover.specs.declared.point.RecoveryPoint.TheVariants.{RecoveryLoadMark};
 
-    ghost next = { λ s p found. successor s (RecoveryLoadMark p) found };
+    ghost point = { RecoveryLoadMark };
 
-    ghost in_range = { λ s p. IsPoint s (RecoveryLoadMark p) };
-
-    fn step<L: Layout, M: WordMemory>(self, layout: &L, memory: &mut M) -> Recovered {
+    fn step<L: Layout, M: WordMemory>(
+        self,
+        layout: &L,
+        memory: &mut M,
+    ) -> Stepped<RecoveryPoint, Report> {
         let RecoveryLoadMark { cur, node } = self;
         let mark = Token(load_at(layout, memory, Place::Mark(node)) as u32);
-        Recovered::More(if mark.0 == 0 {
-            Recovery::RecoveryStoreHead(RecoveryStoreHead {
+        Stepped::quiet(After::More(if mark.0 == 0 {
+            RecoveryPoint::RecoveryStoreHead(RecoveryStoreHead {
                 cur,
                 unclaimed: Some(node),
             })
         } else {
             match layout.kind() {
-                Kind::Durable => Recovery::RecoveryLoadValue(RecoveryLoadValue { node, mark }),
-                Kind::Log => Recovery::RecoveryStoreResult(RecoveryStoreResult {
+                Kind::Durable => RecoveryPoint::RecoveryLoadValue(RecoveryLoadValue { node, mark }),
+                Kind::Log => RecoveryPoint::RecoveryStoreResult(RecoveryStoreResult {
                     node,
                     mark,
                     value: 0,
                 }),
             }
-        })
+        }))
     }
 }
 
@@ -233,20 +258,26 @@ pub struct RecoveryLoadValue {
     pub(crate) mark: Token,
 }
 
-impl Recover for RecoveryLoadValue {
-    ghost use Rattle.recover.specs.Table.{access_of, successor, IsPoint};
-    ghost use Rattle.recover.specs.declared.recovery.Recovery.TheVariants.{RecoveryLoadValue};
+// A cell tells the value itself; an entry of a log queue names the node, and needs no load.
+impl Resume for RecoveryLoadValue {
+    type Point = RecoveryPoint;
 
-    ghost access = { λ kind p. access_of kind (RecoveryLoadValue p) };
+    ghost use Rattle.recover.specs.declared.point.RecoveryPoint.TheVariants.{RecoveryLoadValue};
 
-    ghost next = { λ s p found. successor s (RecoveryLoadValue p) found };
+    ghost point = { RecoveryLoadValue };
 
-    ghost in_range = { λ s p. IsPoint s (RecoveryLoadValue p) };
-
-    fn step<L: Layout, M: WordMemory>(self, layout: &L, memory: &mut M) -> Recovered {
+    fn step<L: Layout, M: WordMemory>(
+        self,
+        layout: &L,
+        memory: &mut M,
+    ) -> Stepped<RecoveryPoint, Report> {
         let RecoveryLoadValue { node, mark } = self;
         let value = load_at(layout, memory, Place::Value(node)) as u32;
-        Recovered::More(Recovery::RecoveryStoreResult(RecoveryStoreResult { node, mark, value }))
+        Stepped::quiet(After::More(RecoveryPoint::RecoveryStoreResult(RecoveryStoreResult {
+            node,
+            mark,
+            value,
+        })))
     }
 }
 
@@ -258,20 +289,27 @@ pub struct RecoveryStoreResult {
     pub(crate) value: u32,
 }
 
-impl Recover for RecoveryStoreResult {
-    ghost use Rattle.recover.specs.Table.{access_of, successor, IsPoint};
-    ghost use Rattle.recover.specs.declared.recovery.Recovery.TheVariants.{RecoveryStoreResult};
+// Into the record of the claim, not the client's present one: the client may have begun another call since
+// (`recovery_answers_in_another_cell`).
+impl Resume for RecoveryStoreResult {
+    type Point = RecoveryPoint;
 
-    ghost access = { λ kind p. access_of kind (RecoveryStoreResult p) };
+    ghost use Rattle.recover.specs.declared.point.RecoveryPoint.TheVariants.{RecoveryStoreResult};
 
-    ghost next = { λ s p found. successor s (RecoveryStoreResult p) found };
+    ghost point = { RecoveryStoreResult };
 
-    ghost in_range = { λ s p. IsPoint s (RecoveryStoreResult p) };
-
-    fn step<L: Layout, M: WordMemory>(self, layout: &L, memory: &mut M) -> Recovered {
+    fn step<L: Layout, M: WordMemory>(
+        self,
+        layout: &L,
+        memory: &mut M,
+    ) -> Stepped<RecoveryPoint, Report> {
         let RecoveryStoreResult { node, mark, value } = self;
         store_at(layout, memory, layout.result(mark, node, value));
-        Recovered::More(Recovery::RecoveryFlushResult(RecoveryFlushResult { node, mark, value }))
+        Stepped::quiet(After::More(RecoveryPoint::RecoveryFlushResult(RecoveryFlushResult {
+            node,
+            mark,
+            value,
+        })))
     }
 }
 
@@ -283,23 +321,30 @@ pub struct RecoveryFlushResult {
     pub(crate) value: u32,
 }
 
-impl Recover for RecoveryFlushResult {
-    ghost use Rattle.recover.specs.Table.{access_of, successor, IsPoint};
-    ghost use Rattle.recover.specs.declared.recovery.Recovery.TheVariants.{RecoveryFlushResult};
+// The head is about to pass the node: an answer that is not kept would be lost in the next crash
+// (`recovery_does_not_flush_a_result`).
+impl Resume for RecoveryFlushResult {
+    type Point = RecoveryPoint;
 
-    ghost access = { λ kind p. access_of kind (RecoveryFlushResult p) };
+    ghost use Rattle.recover.specs.declared.point.RecoveryPoint.TheVariants.{RecoveryFlushResult};
 
-    ghost next = { λ s p found. successor s (RecoveryFlushResult p) found };
+    ghost point = { RecoveryFlushResult };
 
-    ghost in_range = { λ s p. IsPoint s (RecoveryFlushResult p) };
-
-    fn step<L: Layout, M: WordMemory>(self, layout: &L, memory: &mut M) -> Recovered {
+    fn step<L: Layout, M: WordMemory>(
+        self,
+        layout: &L,
+        memory: &mut M,
+    ) -> Stepped<RecoveryPoint, Report> {
         let RecoveryFlushResult { node, mark, value } = self;
-        flush_at(layout, memory, layout.result(mark, node, value).place);
-        Recovered::More(Recovery::RecoveryLoadNext(RecoveryLoadNext {
+        let change = flush_at(layout, memory, layout.result(mark, node, value).place);
+        let next = RecoveryLoadNext {
             cur: node,
             moved: false,
-        }))
+        };
+        Stepped {
+            after: After::More(RecoveryPoint::RecoveryLoadNext(next)),
+            change,
+        }
     }
 }
 
@@ -310,24 +355,29 @@ pub struct RecoveryStoreHead {
     pub(crate) unclaimed: Option<NodeId>,
 }
 
-impl Recover for RecoveryStoreHead {
-    ghost use Rattle.recover.specs.Table.{access_of, successor, IsPoint};
-    ghost use Rattle.recover.specs.declared.recovery.Recovery.TheVariants.{RecoveryStoreHead};
+// A dequeue that found the head far behind would help along claimed nodes one by one, and take more than its 64 steps.
+impl Resume for RecoveryStoreHead {
+    type Point = RecoveryPoint;
 
-    ghost access = { λ kind p. access_of kind (RecoveryStoreHead p) };
+    ghost use Rattle.recover.specs.declared.point.RecoveryPoint.TheVariants.{RecoveryStoreHead};
 
-    ghost next = { λ s p found. successor s (RecoveryStoreHead p) found };
+    ghost point = { RecoveryStoreHead };
 
-    ghost in_range = { λ s p. IsPoint s (RecoveryStoreHead p) };
-
-    fn step<L: Layout, M: WordMemory>(self, layout: &L, memory: &mut M) -> Recovered {
+    fn step<L: Layout, M: WordMemory>(
+        self,
+        layout: &L,
+        memory: &mut M,
+    ) -> Stepped<RecoveryPoint, Report> {
         let RecoveryStoreHead { cur, unclaimed } = self;
         let head = Write {
             place: Place::Head,
             value: cur.0 as u64,
         };
         store_at(layout, memory, head);
-        Recovered::More(Recovery::RecoveryFlushHead(RecoveryFlushHead { cur, unclaimed }))
+        Stepped::quiet(After::More(RecoveryPoint::RecoveryFlushHead(RecoveryFlushHead {
+            cur,
+            unclaimed,
+        })))
     }
 }
 
@@ -338,26 +388,33 @@ pub struct RecoveryFlushHead {
     pub(crate) unclaimed: Option<NodeId>,
 }
 
-impl Recover for RecoveryFlushHead {
-    ghost use Rattle.recover.specs.Table.{access_of, successor, IsPoint};
-    ghost use Rattle.recover.specs.declared.recovery.Recovery.TheVariants.{RecoveryFlushHead};
+// What recovery leaves is cached and kept alike; the next recovery begins its walk here
+// (`recovery_does_not_flush_the_head`).
+impl Resume for RecoveryFlushHead {
+    type Point = RecoveryPoint;
 
-    ghost access = { λ kind p. access_of kind (RecoveryFlushHead p) };
+    ghost use Rattle.recover.specs.declared.point.RecoveryPoint.TheVariants.{RecoveryFlushHead};
 
-    ghost next = { λ s p found. successor s (RecoveryFlushHead p) found };
+    ghost point = { RecoveryFlushHead };
 
-    ghost in_range = { λ s p. IsPoint s (RecoveryFlushHead p) };
-
-    fn step<L: Layout, M: WordMemory>(self, layout: &L, memory: &mut M) -> Recovered {
+    fn step<L: Layout, M: WordMemory>(
+        self,
+        layout: &L,
+        memory: &mut M,
+    ) -> Stepped<RecoveryPoint, Report> {
         let RecoveryFlushHead { cur, unclaimed } = self;
-        flush_at(layout, memory, Place::Head);
-        Recovered::More(match unclaimed {
-            Some(node) => Recovery::RecoveryLoadNext(RecoveryLoadNext {
+        let change = flush_at(layout, memory, Place::Head);
+        let next = match unclaimed {
+            Some(node) => RecoveryPoint::RecoveryLoadNext(RecoveryLoadNext {
                 cur: node,
                 moved: true,
             }),
-            None => Recovery::RecoveryStoreTail(RecoveryStoreTail { cur }),
-        })
+            None => RecoveryPoint::RecoveryStoreTail(RecoveryStoreTail { cur }),
+        };
+        Stepped {
+            after: After::More(next),
+            change,
+        }
     }
 }
 
@@ -367,24 +424,27 @@ pub struct RecoveryStoreTail {
     pub(crate) cur: NodeId,
 }
 
-impl Recover for RecoveryStoreTail {
-    ghost use Rattle.recover.specs.Table.{access_of, successor, IsPoint};
-    ghost use Rattle.recover.specs.declared.recovery.Recovery.TheVariants.{RecoveryStoreTail};
+// The kept tail may be anywhere on the chain: an enqueue would walk from there node by node, and take more than its 64
+// steps.
+impl Resume for RecoveryStoreTail {
+    type Point = RecoveryPoint;
 
-    ghost access = { λ kind p. access_of kind (RecoveryStoreTail p) };
+    ghost use Rattle.recover.specs.declared.point.RecoveryPoint.TheVariants.{RecoveryStoreTail};
 
-    ghost next = { λ s p found. successor s (RecoveryStoreTail p) found };
+    ghost point = { RecoveryStoreTail };
 
-    ghost in_range = { λ s p. IsPoint s (RecoveryStoreTail p) };
-
-    fn step<L: Layout, M: WordMemory>(self, layout: &L, memory: &mut M) -> Recovered {
+    fn step<L: Layout, M: WordMemory>(
+        self,
+        layout: &L,
+        memory: &mut M,
+    ) -> Stepped<RecoveryPoint, Report> {
         let RecoveryStoreTail { cur } = self;
         let tail = Write {
             place: Place::Tail,
             value: cur.0 as u64,
         };
         store_at(layout, memory, tail);
-        Recovered::More(Recovery::RecoveryFlushTail(RecoveryFlushTail {}))
+        Stepped::quiet(After::More(RecoveryPoint::RecoveryFlushTail(RecoveryFlushTail {})))
     }
 }
 
@@ -392,21 +452,25 @@ impl Recover for RecoveryStoreTail {
 #[derive(Clone, Copy, Debug, PartialEq, Eq, Hash)]
 pub struct RecoveryFlushTail {}
 
-impl Recover for RecoveryFlushTail {
-    ghost use Rattle.recover.specs.Table.{access_of, successor, IsPoint};
-    ghost use Rattle.recover.specs.declared.recovery.Recovery.TheVariants.{RecoveryFlushTail};
+// What recovery leaves is cached and kept alike (`recovery_does_not_flush_the_tail`,
+// `recovery_takes_the_tail_for_kept`).
+impl Resume for RecoveryFlushTail {
+    type Point = RecoveryPoint;
 
-    ghost access = { λ kind p. access_of kind (RecoveryFlushTail p) };
+    ghost use Rattle.recover.specs.declared.point.RecoveryPoint.TheVariants.{RecoveryFlushTail};
 
-    ghost next = { λ s p found. successor s (RecoveryFlushTail p) found };
+    ghost point = { RecoveryFlushTail };
 
-    ghost in_range = { λ s p. IsPoint s (RecoveryFlushTail p) };
-
-    fn step<L: Layout, M: WordMemory>(self, layout: &L, memory: &mut M) -> Recovered {
-        flush_at(layout, memory, Place::Tail);
-        Recovered::More(Recovery::RecoveryLoadAnnouncement(RecoveryLoadAnnouncement {
-            client: Client(0),
-            told: [Told::None; 16],
-        }))
+    fn step<L: Layout, M: WordMemory>(
+        self,
+        layout: &L,
+        memory: &mut M,
+    ) -> Stepped<RecoveryPoint, Report> {
+        let change = flush_at(layout, memory, Place::Tail);
+        let next = RecoveryLoadAnnouncement { client: Client(0) };
+        Stepped {
+            after: After::More(RecoveryPoint::RecoveryLoadAnnouncement(next)),
+            change,
+        }
     }
 }

@@ -1,36 +1,86 @@
-//! What a kept word says.
+//! A queue as its kept words have it.
 
 ghost use Rattle.std.specs.Prelude.{◌≡◌, ◌≤◌, ◌↔◌, length, IsTrue};
+ghost use Rattle.arena.specs.Layout.{size_of};
+ghost use Rattle.arena.specs.Limits.{AreCounts};
 ghost use Rattle.arena.specs.Place.{IsPlace};
 ghost use Rattle.arena.specs.Shape.{greatest};
-ghost use Rattle.recover.specs.Sound.{kept_in, IsIssued};
+ghost use Rattle.recover.specs.Kept.{kept_of};
+ghost use Rattle.recover.specs.Sound.{IsIssued};
 
 use arena::{Layout, Place};
 use persist::KeptWords;
-use words::Client;
+use std::marker::Model;
+use words::{Client, Kind, MAX_RECORD_NUMBER};
 
-/// The kept word of a place.
-pub(crate) fn kept_at<L: Layout, W: KeptWords>(layout: &L, words: &W, place: Place) -> u64
-    requires room { L.size_of layout.now ≤ length (W.kept_words words.now) }
-    requires place { IsPlace (L.shape layout.now) place }
-    ensures value { result ≡ kept_in (L.word_of layout.now) (W.kept_words words.now) place }
-    ensures few { greatest (L.shape layout.now) ≤ 65536 }
-{
-    let word = layout.word(place);
-    words.kept(word)
+/// Kept words that have room for a queue of this layout, to look at. It borrows them, and looking is no access.
+#[derive(Drop)]
+pub struct KeptQueue<'a, L: Layout, W: KeptWords> {
+    layout: &'a L,
+    words: &'a W,
 }
 
-/// Whether a client used the record with this number.
-pub(crate) fn is_issued<L: Layout, W: KeptWords>(layout: &L, words: &W, number: u64) -> bool
-    requires room { L.size_of layout.now ≤ length (W.kept_words words.now) }
-    ensures { IsTrue result ↔ IsIssued (L.shape layout.now)
-        (kept_in (L.word_of layout.now) (W.kept_words words.now)) number }
-{
-    let records = layout.records() as u64;
-    if number == 0 || number > layout.clients() as u64 * records {
-        return false;
+impl<'a, L: Layout, W: KeptWords> Model for KeptQueue<'a, L, W> {
+    ghost use Rattle.std.specs.Prelude.{◌≤◌, length};
+    ghost use Rattle.arena.specs.Layout.{size_of};
+    ghost use Rattle.recover.specs.Kept.{Kept};
+
+    ghost Value = { Kept };
+
+    ghost view = { λ q. record { shape = L.shape q.layout.now; words = W.kept_words q.words.now } };
+
+    ghost invariant = { λ q. size_of (L.shape q.layout.now) ≤ length (W.kept_words q.words.now) };
+}
+
+impl<'a, L: Layout, W: KeptWords> KeptQueue<'a, L, W> {
+    /// The queue that these words are of.
+    pub fn new(layout: &'a L, words: &'a W) -> Self
+        requires { size_of (L.shape layout.now) ≤ length (W.kept_words words.now) }
+        ensures { result ≡ record { shape = L.shape layout.now; words = W.kept_words words.now } }
+    {
+        KeptQueue { layout, words }
     }
-    let owner = (number - 1) / records;
-    let used = kept_at(layout, words, Place::Bump(Client(owner as u8)));
-    (number - 1) % records < used
+
+    pub(crate) fn kind(&self) -> Kind
+        ensures { result ≡ self.now.shape.kind }
+    {
+        self.layout.kind()
+    }
+
+    pub(crate) fn clients(&self) -> u32
+        ensures value { result ≡ self.now.shape.clients }
+        ensures counts { AreCounts self.now.shape.clients self.now.shape.records }
+    {
+        self.layout.clients()
+    }
+
+    pub(crate) fn records(&self) -> u32
+        ensures value { result ≡ self.now.shape.records }
+        ensures counts { AreCounts self.now.shape.clients self.now.shape.records }
+    {
+        self.layout.records()
+    }
+
+    /// The kept word of a place.
+    pub fn kept_at(&self, place: Place) -> u64
+        requires { IsPlace self.now.shape place }
+        ensures value { result ≡ kept_of self.now place }
+        ensures few { greatest self.now.shape ≤ MAX_RECORD_NUMBER }
+    {
+        let word = self.layout.word(place);
+        self.words.kept(word)
+    }
+
+    /// Whether a client used the record with this number.
+    pub(crate) fn is_issued(&self, number: u64) -> bool
+        ensures { IsTrue result ↔ IsIssued self.now.shape (kept_of self.now) number }
+    {
+        let records = self.records() as u64;
+        if number == 0 || number > self.clients() as u64 * records {
+            return false;
+        }
+        let owner = (number - 1) / records;
+        let used = self.kept_at(Place::Bump(Client(owner as u8)));
+        (number - 1) % records < used
+    }
 }

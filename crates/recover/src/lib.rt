@@ -6,6 +6,7 @@ mod claims;
 mod ends;
 mod entries;
 mod kept;
+mod point;
 mod records;
 mod recovery;
 mod rows;
@@ -18,7 +19,9 @@ pub use ends::{
     RecoveryLoadHead, RecoveryLoadInsert, RecoveryLoadMark, RecoveryLoadNext, RecoveryLoadValue,
     RecoveryStoreHead, RecoveryStoreResult, RecoveryStoreStatus, RecoveryStoreTail,
 };
-pub use recovery::{Recover, Recovered, Recovery, boot};
+pub use kept::KeptQueue;
+pub use point::{RecoveryPoint, Report};
+pub use recovery::{Recovery, boot};
 pub use soundness::sound;
 pub use telling::{
     RecoveryLoadAnnouncement, RecoveryLoadCell, RecoveryLoadEntryNode, RecoveryLoadKind,

@@ -1,125 +1,79 @@
-//! Recovery as a step machine.
+//! Recovery: its waiting point, and what it has told.
 
-ghost use Rattle.std.specs.Prelude.{◌≡◌};
-ghost use Rattle.recover.specs.Table.{boot_point};
+ghost use Rattle.std.specs.Prelude.{◌≡◌, ◌<◌, ◌≤◌, length};
+ghost use Rattle.arena.specs.Layout.{size_of};
+ghost use Rattle.stepper.specs.Step.{after_one, value_found, IsReadInRange};
+ghost use Rattle.recover.specs.Table.{access_of, after_report, boot_recovery, recovery_after, recovery_reached, IsPoint};
 
-use crate::ends::{
-    RecoveryFlushHead, RecoveryFlushResult, RecoveryFlushStatus, RecoveryFlushTail,
-    RecoveryLoadHead, RecoveryLoadInsert, RecoveryLoadMark, RecoveryLoadNext, RecoveryLoadValue,
-    RecoveryStoreHead, RecoveryStoreResult, RecoveryStoreStatus, RecoveryStoreTail,
-};
-use crate::telling::{
-    RecoveryLoadAnnouncement, RecoveryLoadCell, RecoveryLoadEntryNode, RecoveryLoadKind,
-    RecoveryLoadNumber, RecoveryLoadRemove, RecoveryLoadRemovedValue, RecoveryLoadStatus,
-};
+use crate::ends::RecoveryLoadHead;
+use crate::point::{RecoveryPoint, Report};
+use crate::telling::RecoveryLoadAnnouncement;
 use arena::Layout;
 use persist::WordMemory;
-use words::Told;
+use stepper::{After, Resume};
+use words::{Client, MAX_CLIENTS, Reports, Told};
 
-/// A recovery under way, by the point where it waits.
+/// A recovery under way: what it has told so far, and where it waits. What is told stands beside the point, so that a
+/// step copies the point alone.
 #[derive(Clone, Copy, Debug, PartialEq, Eq, Hash)]
-pub enum Recovery {
-    RecoveryLoadHead(RecoveryLoadHead),
-    RecoveryLoadNext(RecoveryLoadNext),
-    RecoveryLoadInsert(RecoveryLoadInsert),
-    RecoveryStoreStatus(RecoveryStoreStatus),
-    RecoveryFlushStatus(RecoveryFlushStatus),
-    RecoveryLoadMark(RecoveryLoadMark),
-    RecoveryLoadValue(RecoveryLoadValue),
-    RecoveryStoreResult(RecoveryStoreResult),
-    RecoveryFlushResult(RecoveryFlushResult),
-    RecoveryStoreHead(RecoveryStoreHead),
-    RecoveryFlushHead(RecoveryFlushHead),
-    RecoveryStoreTail(RecoveryStoreTail),
-    RecoveryFlushTail(RecoveryFlushTail),
-    RecoveryLoadAnnouncement(RecoveryLoadAnnouncement),
-    RecoveryLoadCell(RecoveryLoadCell),
-    RecoveryLoadNumber(RecoveryLoadNumber),
-    RecoveryLoadKind(RecoveryLoadKind),
-    RecoveryLoadStatus(RecoveryLoadStatus),
-    RecoveryLoadRemove(RecoveryLoadRemove),
-    RecoveryLoadEntryNode(RecoveryLoadEntryNode),
-    RecoveryLoadRemovedValue(RecoveryLoadRemovedValue),
-}
-
-/// What comes after a step of recovery.
-#[derive(Clone, Copy, Debug, PartialEq, Eq, Hash)]
-pub enum Recovered {
-    /// It goes on from here.
-    More(Recovery),
-    /// The queue is ready, and each client is told this. Places past the last client are None.
-    Ready([Told; 16]),
-}
-
-/// A waiting point of recovery.
-pub trait Recover {
-    ghost use Rattle.std.specs.Prelude.{◌≡◌, ◌≤◌, ℕ, length};
-    ghost use Rattle.words.specs.declared.call.Kind.{Kind};
-    ghost use Rattle.persist.specs.Memory.{Access};
-    ghost use Rattle.arena.specs.Shape.{Shape};
-    ghost use Rattle.arena.specs.declared.place.Place.{Place};
-    ghost use Rattle.stepper.specs.Step.{after_one, found, IsReadInRange};
-    ghost use Rattle.recover.specs.declared.recovery.Recovered.{Recovered};
-
-    /// The one access of its step.
-    ghost access: { Kind → Self → Access Place };
-
-    /// What comes once the access has found a value.
-    ghost next: { Shape → Self → ℕ → Recovered };
-
-    /// What it learnt is in range, as it is where steps on this layout made it.
-    ghost in_range: { Shape → Self → Type 0 };
-
-    /// Makes exactly one access, and answers what comes next.
-    fn step<L: Layout, M: WordMemory>(self, layout: &L, memory: &mut M) -> Recovered
-        requires room { L.size_of layout.now ≤ length (M.words memory.old).cached }
-        requires point { in_range (L.shape layout.now) self }
-        requires read { IsReadInRange (L.shape layout.now) (access (L.shape layout.now).kind self)
-            (found (L.word_of layout.now) (access (L.shape layout.now).kind self) (M.words memory.old)) }
-        ensures one_access { M.words memory.new ≡ after_one (L.word_of layout.now) (access (L.shape layout.now).kind self) (M.words memory.old) }
-        ensures next { result ≡ next (L.shape layout.now) self
-            (found (L.word_of layout.now) (access (L.shape layout.now).kind self) (M.words memory.old)) };
-}
-
-impl Recover for Recovery {
-    ghost use Rattle.recover.specs.Table.{access_of, successor, IsPoint};
-
-    ghost access = { access_of };
-
-    ghost next = { successor };
-
-    ghost in_range = { IsPoint };
-
-    fn step<L: Layout, M: WordMemory>(self, layout: &L, memory: &mut M) -> Recovered {
-        match self {
-            Recovery::RecoveryLoadHead(point) => point.step(layout, memory),
-            Recovery::RecoveryLoadNext(point) => point.step(layout, memory),
-            Recovery::RecoveryLoadInsert(point) => point.step(layout, memory),
-            Recovery::RecoveryStoreStatus(point) => point.step(layout, memory),
-            Recovery::RecoveryFlushStatus(point) => point.step(layout, memory),
-            Recovery::RecoveryLoadMark(point) => point.step(layout, memory),
-            Recovery::RecoveryLoadValue(point) => point.step(layout, memory),
-            Recovery::RecoveryStoreResult(point) => point.step(layout, memory),
-            Recovery::RecoveryFlushResult(point) => point.step(layout, memory),
-            Recovery::RecoveryStoreHead(point) => point.step(layout, memory),
-            Recovery::RecoveryFlushHead(point) => point.step(layout, memory),
-            Recovery::RecoveryStoreTail(point) => point.step(layout, memory),
-            Recovery::RecoveryFlushTail(point) => point.step(layout, memory),
-            Recovery::RecoveryLoadAnnouncement(point) => point.step(layout, memory),
-            Recovery::RecoveryLoadCell(point) => point.step(layout, memory),
-            Recovery::RecoveryLoadNumber(point) => point.step(layout, memory),
-            Recovery::RecoveryLoadKind(point) => point.step(layout, memory),
-            Recovery::RecoveryLoadStatus(point) => point.step(layout, memory),
-            Recovery::RecoveryLoadRemove(point) => point.step(layout, memory),
-            Recovery::RecoveryLoadEntryNode(point) => point.step(layout, memory),
-            Recovery::RecoveryLoadRemovedValue(point) => point.step(layout, memory),
-        }
-    }
+pub struct Recovery {
+    pub(crate) told: Reports,
+    pub(crate) at: RecoveryPoint,
 }
 
 /// Where the recovery of a queue begins.
 pub fn boot() -> Recovery
-    ensures { result ≡ boot_point }
+    ensures { result ≡ boot_recovery }
 {
-    Recovery::RecoveryLoadHead(RecoveryLoadHead {})
+    Recovery {
+        told: [Told::None; MAX_CLIENTS],
+        at: RecoveryPoint::RecoveryLoadHead(RecoveryLoadHead {}),
+    }
+}
+
+impl Recovery {
+    /// One step: exactly one access. It answers whether the queue is ready now, and each client was told.
+    pub fn step<L: Layout, M: WordMemory>(&mut self, layout: &L, memory: &mut M) -> bool
+        requires room { size_of (L.shape layout.now) ≤ length (M.words memory.old).cached }
+        requires point { IsPoint (L.shape layout.now) self.old.at }
+        requires read { let s = L.shape layout.now in let access = access_of s.kind self.old.at in
+            IsReadInRange s access (value_found s access (M.words memory.old)) }
+        ensures one_access { let s = L.shape layout.now in
+            M.words memory.new ≡ after_one s (access_of s.kind self.old.at) (M.words memory.old) }
+        ensures next { let s = L.shape layout.now in let access = access_of s.kind self.old.at in
+            recovery_reached result self.new ≡ recovery_after s self.old (value_found s access (M.words memory.old)) }
+    {
+        match self.at.step(layout, memory).after {
+            After::More(at) => {
+                self.at = at;
+                false
+            }
+            After::Done(report) => self.tell(layout, report),
+        }
+    }
+
+    /// Notes what a client is told, and goes on with the next one, if there is one. It answers whether there is none.
+    fn tell<L: Layout>(&mut self, layout: &L, report: Report) -> bool
+        requires { report.client.0 < (L.shape layout.now).clients }
+        ensures { recovery_reached result self.new ≡ after_report (L.shape layout.now) self.old.told report }
+    {
+        let Report { client, told } = report;
+        let clients = layout.clients();
+        self.told[client.0 as usize] = told;
+        let next = client.0 + 1;
+        if next as u32 >= clients {
+            return true;
+        }
+        self.at = RecoveryPoint::RecoveryLoadAnnouncement(RecoveryLoadAnnouncement {
+            client: Client(next),
+        });
+        false
+    }
+
+    /// What it has told.
+    pub fn told(&self) -> &Reports
+        ensures { result.now ≡ self.now.told }
+    {
+        &self.told
+    }
 }

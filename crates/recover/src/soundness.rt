@@ -2,19 +2,16 @@
 
 ghost use Rattle.std.specs.Prelude.{◌≡◌, ◌≢◌, ℕ, ◌≤◌, ◌<◌, ◌↔◌, length, slice_index, IsTrue, IsOk, IfErr, MatchOption};
 ghost use Rattle.arena.specs.Shape.{greatest};
-ghost use Rattle.recover.specs.Sound.{kept_in, SizeIsSound, RecordsAreSound, AreSoundWords, IsFirstBroken, IsDamaged};
+ghost use Rattle.recover.specs.Kept.{kept_of};
+ghost use Rattle.recover.specs.Sound.{SizeIsSound, RecordsAreSound, AreSoundWords, IsFirstBroken, IsDamaged};
 
-use crate::chain::is_chain_sound;
-use crate::claims::{are_claims_sound, are_ends_sound};
-use crate::entries::are_entries_sound;
-use crate::records::are_records_sound;
-use crate::rows::are_rows_sound;
+use crate::kept::KeptQueue;
 use arena::Layout;
 use persist::KeptWords;
-use words::{Kind, Refusal, Rule};
+use words::{Kind, MAX_RECORD_NUMBER, Refusal, Rule};
 
 /// The most nodes of a queue, node 0 with them.
-const MAX_NODES: usize = 65_537;
+const MAX_NODES: usize = MAX_RECORD_NUMBER as usize + 1;
 
 /// Whether the words from this one on are 0.
 fn is_rest_zero<W: KeptWords>(words: &W, from: usize) -> bool
@@ -31,8 +28,8 @@ fn is_rest_zero<W: KeptWords>(words: &W, from: usize) -> bool
 
 /// Whether there are as many words as the layout has, or they are a broker's block with zeros past them.
 fn is_size_sound<L: Layout, W: KeptWords>(layout: &L, words: &W) -> bool
-    ensures sound { IsTrue result ↔ SizeIsSound (L.shape layout.now) (L.size_of layout.now) (W.kept_words words.now) }
-    ensures few { greatest (L.shape layout.now) ≤ 65536 }
+    ensures sound { IsTrue result ↔ SizeIsSound (L.shape layout.now) (W.kept_words words.now) }
+    ensures few { greatest (L.shape layout.now) ≤ MAX_RECORD_NUMBER }
 {
     let size = layout.size();
     let records = layout.clients() as usize * layout.records() as usize;
@@ -47,71 +44,79 @@ fn is_size_sound<L: Layout, W: KeptWords>(layout: &L, words: &W) -> bool
     is_rest_zero(words, size)
 }
 
-/// The first broken rule of those on the chain and after, where those before it hold.
-fn broken_past_records<L: Layout, W: KeptWords>(
-    layout: &L,
-    words: &W,
-    place: &mut [u32],
-    claimed: &mut [u32],
-) -> Option<Rule>
-    requires count { SizeIsSound (L.shape layout.now) (L.size_of layout.now) (W.kept_words words.now) }
-    requires records { RecordsAreSound (L.shape layout.now) (kept_in (L.word_of layout.now) (W.kept_words words.now)) }
-    requires places { greatest (L.shape layout.now) < length place.old }
-    requires no_place { (n : ℕ) → slice_index place.old n ≡ 0 }
-    requires tokens { greatest (L.shape layout.now) < length claimed.old }
-    requires no_token { (n : ℕ) → slice_index claimed.old n ≡ 0 }
-    ensures { MatchOption result (AreSoundWords (L.shape layout.now)
-        (L.size_of layout.now) (L.word_of layout.now) (W.kept_words words.now))
-        (λ rule. IsFirstBroken (L.shape layout.now) (L.size_of layout.now) (L.word_of layout.now) (W.kept_words words.now) rule) }
-{
-    if !is_chain_sound(layout, words, place) {
-        return Some(Rule::Chain);
-    }
-    if !are_claims_sound(layout, words, claimed) {
-        return Some(Rule::Claims);
-    }
-    if !are_ends_sound(layout, words, place) {
-        return Some(Rule::Ends);
-    }
-    match layout.kind() {
-        Kind::Durable => {
-            if !are_rows_sound(layout, words, place, claimed) {
-                return Some(Rule::Rows);
+impl<L: Layout, W: KeptWords> KeptQueue<'_, L, W> {
+    /// The first broken rule of those on the chain and after, where those before it hold.
+    fn broken_past_records(&self, place: &mut [u32], claimed: &mut [u32]) -> Option<Rule>
+        requires count { SizeIsSound self.now.shape self.now.words }
+        requires records { RecordsAreSound self.now.shape (kept_of self.now) }
+        requires places { greatest self.now.shape < length place.old }
+        requires no_place { (n : ℕ) → slice_index place.old n ≡ 0 }
+        requires tokens { greatest self.now.shape < length claimed.old }
+        requires no_token { (n : ℕ) → slice_index claimed.old n ≡ 0 }
+        ensures { MatchOption result (AreSoundWords self.now.shape self.now.words)
+            (λ rule. IsFirstBroken self.now.shape self.now.words rule) }
+    {
+        // A link back would keep recovery walking for ever, and a link to an unused record would put the next value
+        // enqueued there before those that are in the queue: `names_the_first_broken_rule_of_a_durable_queue`.
+        if !self.is_chain_sound(place) {
+            return Some(Rule::Chain);
+        }
+        // Recovery takes the first node without a claim for the end of the claimed ones. A claim past it would be
+        // lost, and the value given out twice; a token that claims two nodes would tell its caller of one of them.
+        if !self.are_claims_sound(claimed) {
+            return Some(Rule::Claims);
+        }
+        // Recovery walks on from the kept ends. A head past an unclaimed node would lose that node's value, and a
+        // tail off the chain would have the next enqueue linked where no dequeue comes: `wrong_rule_first.edit`.
+        if !self.are_ends_sound(place) {
+            return Some(Rule::Ends);
+        }
+        match self.kind() {
+            Kind::Durable => {
+                // Recovery does not mend cells behind the head. One that is open there, or empty though it claims a
+                // node, would tell its caller that nothing was got, and the value would be gone:
+                // `empty_cell_of_a_claim.edit`.
+                if !self.are_rows_sound(place, claimed) {
+                    return Some(Rule::Rows);
+                }
+            }
+            Kind::Log => {
+                // Recovery tells by these words alone whether an announced call took effect:
+                // `remove_word_ignored.edit`.
+                if !self.are_entries_sound(place, claimed) {
+                    return Some(Rule::Entries);
+                }
             }
         }
-        Kind::Log => {
-            if !are_entries_sound(layout, words, place, claimed) {
-                return Some(Rule::Entries);
-            }
-        }
+        None
     }
-    None
 }
 
 /// The first broken rule.
 fn first_broken<L: Layout, W: KeptWords>(layout: &L, words: &W) -> Option<Rule>
-    ensures { MatchOption result (AreSoundWords (L.shape layout.now)
-        (L.size_of layout.now) (L.word_of layout.now) (W.kept_words words.now))
-        (λ rule. IsFirstBroken (L.shape layout.now) (L.size_of layout.now) (L.word_of layout.now) (W.kept_words words.now) rule) }
+    ensures { MatchOption result (AreSoundWords (L.shape layout.now) (W.kept_words words.now))
+        (λ rule. IsFirstBroken (L.shape layout.now) (W.kept_words words.now) rule) }
 {
+    // With words missing, a place would have no word; with a word too many that is not 0, it is another layout's.
     if !is_size_sound(layout, words) {
         return Some(Rule::Size);
     }
-    if !are_records_sound(layout, words) {
+    let queue = KeptQueue::new(layout, words);
+    // A start trusts that its client's next record is all zero: a link or a claim that stood there would take effect
+    // with the call.
+    if !queue.are_records_sound() {
         return Some(Rule::Records);
     }
     let mut place = [0u32; MAX_NODES];
     let mut claimed = [0u32; MAX_NODES];
-    broken_past_records(layout, words, &mut place, &mut claimed)
+    queue.broken_past_records(&mut place, &mut claimed)
 }
 
 /// Whether kept words are those of a queue that recovery can begin with. It takes no memory but for two tables on
 /// the stack, half a megabyte in all, and its cost is linear in the words.
 pub fn sound<L: Layout, W: KeptWords>(layout: &L, words: &W) -> Result<(), Refusal>
-    ensures ok { IsOk result ↔ AreSoundWords (L.shape layout.now)
-        (L.size_of layout.now) (L.word_of layout.now) (W.kept_words words.now) }
-    ensures damaged { IfErr result (λ e. IsDamaged (L.shape layout.now)
-        (L.size_of layout.now) (L.word_of layout.now) (W.kept_words words.now) e) }
+    ensures ok { IsOk result ↔ AreSoundWords (L.shape layout.now) (W.kept_words words.now) }
+    ensures damaged { IfErr result (λ e. IsDamaged (L.shape layout.now) (W.kept_words words.now) e) }
 {
     match first_broken(layout, words) {
         None => Ok(()),

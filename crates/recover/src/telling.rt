@@ -1,23 +1,24 @@
-//! What each client is told: recovery reads its announcement, and what became of the announced call.
+//! What each client is told: recovery reads its announcement, and what became of the announced call. The `//` at a
+//! point says what goes wrong without it, with the must-fail edit that shows it.
 
-ghost use Rattle.std.specs.Prelude.{◌≡◌, ◌<◌, ◌≤◌};
-ghost use Rattle.recover.specs.Table.{row_of, taken_as, not_taken_as, telling};
+ghost use Rattle.std.specs.Prelude.{◌≡◌, ◌≤◌, ◌+◌};
+ghost use Rattle.recover.specs.Table.{row_of, taken_as, not_taken_as, report_of};
 
-use crate::recovery::{Recover, Recovered, Recovery};
-use arena::{Layout, Place};
+use crate::point::{RecoveryPoint, Report};
+use arena::{EMPTY_CELL, EMPTY_STATUS, ENQUEUE_KIND, GOT_CELL, Layout, Place, TAKEN_STATUS};
 use persist::WordMemory;
-use stepper::load_at;
-use words::{Client, Kind, NodeId, Outcome, Reply, Row, Token, Told, Verdict};
+use stepper::{After, Resume, Stepped, load_at};
+use words::{Client, Kind, MAX_VALUE, NodeId, Outcome, Reply, Row, Token, Told, Verdict};
 
 /// What a cell says.
 fn row(answer: u64) -> Row
-    requires { answer ≤ 4294967297 }
+    requires { answer ≤ MAX_VALUE + GOT_CELL }
     ensures { result ≡ row_of answer }
 {
     match answer {
         0 => Row::Open,
-        1 => Row::Empty,
-        _ => Row::Got((answer - 2) as u32),
+        EMPTY_CELL => Row::Empty,
+        _ => Row::Got((answer - GOT_CELL) as u32),
     }
 }
 
@@ -41,59 +42,46 @@ fn not_taken(number: u64) -> Told
     })
 }
 
-/// Tells a client this, and goes on with the next, if there is one.
-fn tell<L: Layout>(layout: &L, client: Client, told: [Told; 16], tell: Told) -> Recovered
-    requires { client.0 < (L.shape layout.now).clients }
-    ensures { result ≡ telling (L.shape layout.now) client told tell }
+/// Reports that the client is told this.
+fn tell(client: Client, told: Told) -> After<RecoveryPoint, Report>
+    ensures { result ≡ report_of client told }
 {
-    let clients = layout.clients();
-    let mut told = told;
-    told[client.0 as usize] = tell;
-    let next = client.0 + 1;
-    if (next as u32) < clients {
-        Recovered::More(Recovery::RecoveryLoadAnnouncement(RecoveryLoadAnnouncement {
-            client: Client(next),
-            told,
-        }))
-    } else {
-        Recovered::Ready(told)
-    }
+    After::Done(Report { client, told })
 }
 
 /// About to load what a client announced last.
 #[derive(Clone, Copy, Debug, PartialEq, Eq, Hash)]
 pub struct RecoveryLoadAnnouncement {
     pub(crate) client: Client,
-    pub(crate) told: [Told; 16],
 }
 
-impl Recover for RecoveryLoadAnnouncement {
-    ghost use Rattle.recover.specs.Table.{access_of, successor, IsPoint};
-    ghost use Rattle.recover.specs.declared.recovery.Recovery.TheVariants.{RecoveryLoadAnnouncement};
+// The announcement and not the bump word: a call that was not announced is one of which the client is told nothing.
+impl Resume for RecoveryLoadAnnouncement {
+    type Point = RecoveryPoint;
 
-    ghost access = { λ kind p. access_of kind (RecoveryLoadAnnouncement p) };
+    ghost use Rattle.recover.specs.declared.point.RecoveryPoint.TheVariants.{RecoveryLoadAnnouncement};
 
-    ghost next = { λ s p found. successor s (RecoveryLoadAnnouncement p) found };
+    ghost point = { RecoveryLoadAnnouncement };
 
-    ghost in_range = { λ s p. IsPoint s (RecoveryLoadAnnouncement p) };
-
-    fn step<L: Layout, M: WordMemory>(self, layout: &L, memory: &mut M) -> Recovered {
-        let RecoveryLoadAnnouncement { client, told } = self;
+    fn step<L: Layout, M: WordMemory>(
+        self,
+        layout: &L,
+        memory: &mut M,
+    ) -> Stepped<RecoveryPoint, Report> {
+        let client = self.client;
         let token = Token(load_at(layout, memory, Place::Announcement(client)) as u32);
-        match (layout.kind(), token.0) {
-            (Kind::Durable, 0) => tell(layout, client, told, Told::Row(Row::NoCall)),
-            (Kind::Log, 0) => tell(layout, client, told, Told::None),
-            (Kind::Durable, _) => Recovered::More(Recovery::RecoveryLoadCell(RecoveryLoadCell {
+        Stepped::quiet(match (layout.kind(), token.0) {
+            (Kind::Durable, 0) => tell(client, Told::Row(Row::NoCall)),
+            (Kind::Log, 0) => tell(client, Told::None),
+            (Kind::Durable, _) => After::More(RecoveryPoint::RecoveryLoadCell(RecoveryLoadCell {
                 client,
                 token,
-                told,
             })),
-            (Kind::Log, _) => Recovered::More(Recovery::RecoveryLoadNumber(RecoveryLoadNumber {
+            (Kind::Log, _) => After::More(RecoveryPoint::RecoveryLoadNumber(RecoveryLoadNumber {
                 client,
                 token,
-                told,
             })),
-        }
+        })
     }
 }
 
@@ -102,27 +90,24 @@ impl Recover for RecoveryLoadAnnouncement {
 pub struct RecoveryLoadCell {
     pub(crate) client: Client,
     pub(crate) token: Token,
-    pub(crate) told: [Told; 16],
 }
 
-impl Recover for RecoveryLoadCell {
-    ghost use Rattle.recover.specs.Table.{access_of, successor, IsPoint};
-    ghost use Rattle.recover.specs.declared.recovery.Recovery.TheVariants.{RecoveryLoadCell};
+// The walk has written the answer of every claim by now, so the cell says all.
+impl Resume for RecoveryLoadCell {
+    type Point = RecoveryPoint;
 
-    ghost access = { λ kind p. access_of kind (RecoveryLoadCell p) };
+    ghost use Rattle.recover.specs.declared.point.RecoveryPoint.TheVariants.{RecoveryLoadCell};
 
-    ghost next = { λ s p found. successor s (RecoveryLoadCell p) found };
+    ghost point = { RecoveryLoadCell };
 
-    ghost in_range = { λ s p. IsPoint s (RecoveryLoadCell p) };
-
-    fn step<L: Layout, M: WordMemory>(self, layout: &L, memory: &mut M) -> Recovered {
-        let RecoveryLoadCell {
-            client,
-            token,
-            told,
-        } = self;
+    fn step<L: Layout, M: WordMemory>(
+        self,
+        layout: &L,
+        memory: &mut M,
+    ) -> Stepped<RecoveryPoint, Report> {
+        let RecoveryLoadCell { client, token } = self;
         let answer = load_at(layout, memory, Place::Cell(token));
-        tell(layout, client, told, Told::Row(row(answer)))
+        Stepped::quiet(tell(client, Told::Row(row(answer))))
     }
 }
 
@@ -131,32 +116,28 @@ impl Recover for RecoveryLoadCell {
 pub struct RecoveryLoadNumber {
     pub(crate) client: Client,
     pub(crate) token: Token,
-    pub(crate) told: [Told; 16],
 }
 
-impl Recover for RecoveryLoadNumber {
-    ghost use Rattle.recover.specs.Table.{access_of, successor, IsPoint};
-    ghost use Rattle.recover.specs.declared.recovery.Recovery.TheVariants.{RecoveryLoadNumber};
+// By the number the client knows which of its calls it is told of.
+impl Resume for RecoveryLoadNumber {
+    type Point = RecoveryPoint;
 
-    ghost access = { λ kind p. access_of kind (RecoveryLoadNumber p) };
+    ghost use Rattle.recover.specs.declared.point.RecoveryPoint.TheVariants.{RecoveryLoadNumber};
 
-    ghost next = { λ s p found. successor s (RecoveryLoadNumber p) found };
+    ghost point = { RecoveryLoadNumber };
 
-    ghost in_range = { λ s p. IsPoint s (RecoveryLoadNumber p) };
-
-    fn step<L: Layout, M: WordMemory>(self, layout: &L, memory: &mut M) -> Recovered {
-        let RecoveryLoadNumber {
-            client,
-            token,
-            told,
-        } = self;
+    fn step<L: Layout, M: WordMemory>(
+        self,
+        layout: &L,
+        memory: &mut M,
+    ) -> Stepped<RecoveryPoint, Report> {
+        let RecoveryLoadNumber { client, token } = self;
         let number = load_at(layout, memory, Place::Number(token));
-        Recovered::More(Recovery::RecoveryLoadKind(RecoveryLoadKind {
+        Stepped::quiet(After::More(RecoveryPoint::RecoveryLoadKind(RecoveryLoadKind {
             client,
             token,
-            told,
             number,
-        }))
+        })))
     }
 }
 
@@ -165,35 +146,34 @@ impl Recover for RecoveryLoadNumber {
 pub struct RecoveryLoadKind {
     pub(crate) client: Client,
     pub(crate) token: Token,
-    pub(crate) told: [Told; 16],
     pub(crate) number: u64,
 }
 
-impl Recover for RecoveryLoadKind {
-    ghost use Rattle.recover.specs.Table.{access_of, successor, IsPoint};
-    ghost use Rattle.recover.specs.declared.recovery.Recovery.TheVariants.{RecoveryLoadKind};
+// An enqueue and a dequeue are told by different words: a status, or a claim.
+impl Resume for RecoveryLoadKind {
+    type Point = RecoveryPoint;
 
-    ghost access = { λ kind p. access_of kind (RecoveryLoadKind p) };
+    ghost use Rattle.recover.specs.declared.point.RecoveryPoint.TheVariants.{RecoveryLoadKind};
 
-    ghost next = { λ s p found. successor s (RecoveryLoadKind p) found };
+    ghost point = { RecoveryLoadKind };
 
-    ghost in_range = { λ s p. IsPoint s (RecoveryLoadKind p) };
-
-    fn step<L: Layout, M: WordMemory>(self, layout: &L, memory: &mut M) -> Recovered {
+    fn step<L: Layout, M: WordMemory>(
+        self,
+        layout: &L,
+        memory: &mut M,
+    ) -> Stepped<RecoveryPoint, Report> {
         let RecoveryLoadKind {
             client,
             token,
-            told,
             number,
         } = self;
-        let is_enqueue = load_at(layout, memory, Place::EntryKind(token)) == 1;
-        Recovered::More(Recovery::RecoveryLoadStatus(RecoveryLoadStatus {
+        let is_enqueue = load_at(layout, memory, Place::EntryKind(token)) == ENQUEUE_KIND;
+        Stepped::quiet(After::More(RecoveryPoint::RecoveryLoadStatus(RecoveryLoadStatus {
             client,
             token,
-            told,
             number,
             is_enqueue,
-        }))
+        })))
     }
 }
 
@@ -202,51 +182,49 @@ impl Recover for RecoveryLoadKind {
 pub struct RecoveryLoadStatus {
     pub(crate) client: Client,
     pub(crate) token: Token,
-    pub(crate) told: [Told; 16],
     pub(crate) number: u64,
     pub(crate) is_enqueue: bool,
 }
 
-impl Recover for RecoveryLoadStatus {
-    ghost use Rattle.recover.specs.Table.{access_of, successor, IsPoint};
-    ghost use Rattle.recover.specs.declared.recovery.Recovery.TheVariants.{RecoveryLoadStatus};
+// An answer Empty stands nowhere else (`verdict_always_not_taken`).
+impl Resume for RecoveryLoadStatus {
+    type Point = RecoveryPoint;
 
-    ghost access = { λ kind p. access_of kind (RecoveryLoadStatus p) };
+    ghost use Rattle.recover.specs.declared.point.RecoveryPoint.TheVariants.{RecoveryLoadStatus};
 
-    ghost next = { λ s p found. successor s (RecoveryLoadStatus p) found };
+    ghost point = { RecoveryLoadStatus };
 
-    ghost in_range = { λ s p. IsPoint s (RecoveryLoadStatus p) };
-
-    fn step<L: Layout, M: WordMemory>(self, layout: &L, memory: &mut M) -> Recovered {
+    fn step<L: Layout, M: WordMemory>(
+        self,
+        layout: &L,
+        memory: &mut M,
+    ) -> Stepped<RecoveryPoint, Report> {
         let RecoveryLoadStatus {
             client,
             token,
-            told,
             number,
             is_enqueue,
         } = self;
         let status = load_at(layout, memory, Place::Status(token));
-        if is_enqueue && status == 1 {
-            return tell(layout, client, told, taken(number, Reply::Done));
+        if is_enqueue && status == TAKEN_STATUS {
+            return Stepped::quiet(tell(client, taken(number, Reply::Done)));
         }
-        if !is_enqueue && status == 2 {
-            return tell(layout, client, told, taken(number, Reply::Empty));
+        if !is_enqueue && status == EMPTY_STATUS {
+            return Stepped::quiet(tell(client, taken(number, Reply::Empty)));
         }
-        Recovered::More(if is_enqueue {
-            Recovery::RecoveryLoadRemove(RecoveryLoadRemove {
+        Stepped::quiet(After::More(if is_enqueue {
+            RecoveryPoint::RecoveryLoadRemove(RecoveryLoadRemove {
                 client,
                 token,
-                told,
                 number,
             })
         } else {
-            Recovery::RecoveryLoadEntryNode(RecoveryLoadEntryNode {
+            RecoveryPoint::RecoveryLoadEntryNode(RecoveryLoadEntryNode {
                 client,
                 token,
-                told,
                 number,
             })
-        })
+        }))
     }
 }
 
@@ -255,25 +233,25 @@ impl Recover for RecoveryLoadStatus {
 pub struct RecoveryLoadRemove {
     pub(crate) client: Client,
     pub(crate) token: Token,
-    pub(crate) told: [Told; 16],
     pub(crate) number: u64,
 }
 
-impl Recover for RecoveryLoadRemove {
-    ghost use Rattle.recover.specs.Table.{access_of, successor, IsPoint};
-    ghost use Rattle.recover.specs.declared.recovery.Recovery.TheVariants.{RecoveryLoadRemove};
+// The walk begins at the head: an enqueue whose node lies before it has no status (`remove_word_ignored`).
+impl Resume for RecoveryLoadRemove {
+    type Point = RecoveryPoint;
 
-    ghost access = { λ kind p. access_of kind (RecoveryLoadRemove p) };
+    ghost use Rattle.recover.specs.declared.point.RecoveryPoint.TheVariants.{RecoveryLoadRemove};
 
-    ghost next = { λ s p found. successor s (RecoveryLoadRemove p) found };
+    ghost point = { RecoveryLoadRemove };
 
-    ghost in_range = { λ s p. IsPoint s (RecoveryLoadRemove p) };
-
-    fn step<L: Layout, M: WordMemory>(self, layout: &L, memory: &mut M) -> Recovered {
+    fn step<L: Layout, M: WordMemory>(
+        self,
+        layout: &L,
+        memory: &mut M,
+    ) -> Stepped<RecoveryPoint, Report> {
         let RecoveryLoadRemove {
             client,
             token,
-            told,
             number,
         } = self;
         let remove = load_at(layout, memory, Place::Mark(NodeId(token.0)));
@@ -282,7 +260,7 @@ impl Recover for RecoveryLoadRemove {
         } else {
             taken(number, Reply::Done)
         };
-        tell(layout, client, told, verdict)
+        Stepped::quiet(tell(client, verdict))
     }
 }
 
@@ -291,37 +269,38 @@ impl Recover for RecoveryLoadRemove {
 pub struct RecoveryLoadEntryNode {
     pub(crate) client: Client,
     pub(crate) token: Token,
-    pub(crate) told: [Told; 16],
     pub(crate) number: u64,
 }
 
-impl Recover for RecoveryLoadEntryNode {
-    ghost use Rattle.recover.specs.Table.{access_of, successor, IsPoint};
-    ghost use Rattle.recover.specs.declared.recovery.Recovery.TheVariants.{RecoveryLoadEntryNode};
+// The entry names the node that it claims; 0 where no claim of it was kept.
+impl Resume for RecoveryLoadEntryNode {
+    type Point = RecoveryPoint;
 
-    ghost access = { λ kind p. access_of kind (RecoveryLoadEntryNode p) };
+    ghost use Rattle.recover.specs.declared.point.RecoveryPoint.TheVariants.{RecoveryLoadEntryNode};
 
-    ghost next = { λ s p found. successor s (RecoveryLoadEntryNode p) found };
+    ghost point = { RecoveryLoadEntryNode };
 
-    ghost in_range = { λ s p. IsPoint s (RecoveryLoadEntryNode p) };
-
-    fn step<L: Layout, M: WordMemory>(self, layout: &L, memory: &mut M) -> Recovered {
+    fn step<L: Layout, M: WordMemory>(
+        self,
+        layout: &L,
+        memory: &mut M,
+    ) -> Stepped<RecoveryPoint, Report> {
         let RecoveryLoadEntryNode {
             client,
             token,
-            told,
             number,
         } = self;
         let node = NodeId(load_at(layout, memory, Place::EntryNode(token)) as u32);
         if node.0 == 0 {
-            return tell(layout, client, told, not_taken(number));
+            return Stepped::quiet(tell(client, not_taken(number)));
         }
-        Recovered::More(Recovery::RecoveryLoadRemovedValue(RecoveryLoadRemovedValue {
-            client,
-            told,
-            number,
-            node,
-        }))
+        Stepped::quiet(After::More(RecoveryPoint::RecoveryLoadRemovedValue(
+            RecoveryLoadRemovedValue {
+                client,
+                number,
+                node,
+            },
+        )))
     }
 }
 
@@ -329,29 +308,29 @@ impl Recover for RecoveryLoadEntryNode {
 #[derive(Clone, Copy, Debug, PartialEq, Eq, Hash)]
 pub struct RecoveryLoadRemovedValue {
     pub(crate) client: Client,
-    pub(crate) told: [Told; 16],
     pub(crate) number: u64,
     pub(crate) node: NodeId,
 }
 
-impl Recover for RecoveryLoadRemovedValue {
-    ghost use Rattle.recover.specs.Table.{access_of, successor, IsPoint};
-    ghost use Rattle.recover.specs.declared.recovery.Recovery.TheVariants.{RecoveryLoadRemovedValue};
+// The verdict carries the reply, and the reply its value.
+impl Resume for RecoveryLoadRemovedValue {
+    type Point = RecoveryPoint;
 
-    ghost access = { λ kind p. access_of kind (RecoveryLoadRemovedValue p) };
+    ghost use Rattle.recover.specs.declared.point.RecoveryPoint.TheVariants.{RecoveryLoadRemovedValue};
 
-    ghost next = { λ s p found. successor s (RecoveryLoadRemovedValue p) found };
+    ghost point = { RecoveryLoadRemovedValue };
 
-    ghost in_range = { λ s p. IsPoint s (RecoveryLoadRemovedValue p) };
-
-    fn step<L: Layout, M: WordMemory>(self, layout: &L, memory: &mut M) -> Recovered {
+    fn step<L: Layout, M: WordMemory>(
+        self,
+        layout: &L,
+        memory: &mut M,
+    ) -> Stepped<RecoveryPoint, Report> {
         let RecoveryLoadRemovedValue {
             client,
-            told,
             number,
             node,
         } = self;
         let value = load_at(layout, memory, Place::Value(node)) as u32;
-        tell(layout, client, told, taken(number, Reply::Got(value)))
+        Stepped::quiet(tell(client, taken(number, Reply::Got(value))))
     }
 }

@@ -4,17 +4,19 @@ use Rattle.words.specs.declared.call.Kind.{Kind}
 use Rattle.words.specs.declared.call.Kind.TheVariants.{Durable, Log}
 use Rattle.words.specs.declared.call.Call.{Call}
 use Rattle.words.specs.declared.call.Call.TheVariants.{Enq, Deq}
+use Rattle.words.specs.declared.limits.TheConstants.{MAX_CALL_NUMBER, MAX_VALUE}
 use Rattle.arena.specs.Shape.{Shape, record_of}
+use Rattle.arena.specs.declared.codes.TheConstants.{ENQUEUE_KIND, DEQUEUE_KIND}
 use Rattle.arena.specs.Place.{IsClient, IsRecord}
 use Rattle.arena.specs.declared.place.Write.{Write}
 use Rattle.arena.specs.declared.place.Place.{Place}
 use Rattle.arena.specs.declared.place.Place.TheVariants.{Announcement, Bump, Value, Insert, Number, EntryKind, EntryNode}
 use Rattle.persist.specs.Memory.{Access, Store, Flush}
-use Rattle.stepper.specs.declared.After.{After}
-use Rattle.stepper.specs.declared.After.TheVariants.{More}
+use Rattle.stepper.specs.declared.resume.After.{After}
+use Rattle.stepper.specs.declared.resume.After.TheVariants.{More, Done}
 use Rattle.stepper.specs.declared.prepare.Begun.{Begun}
 use Rattle.stepper.specs.declared.prepare.Prepare.{Prepare}
-use Rattle.stepper.specs.declared.prepare.Prepare.TheVariants.{Store as store_next, Flush as flush_next, Prepared as prepared}
+use Rattle.stepper.specs.declared.prepare.Prepare.TheVariants.{Store as store_next, Flush as flush_next}
 use Rattle.stepper.specs.declared.prepare.PrepareStore.{PrepareStore}
 use Rattle.stepper.specs.declared.prepare.PrepareFlush.{PrepareFlush}
 
@@ -33,32 +35,30 @@ abbrev pub preparation_from : Kind → Call → Begun → List Write
 preparation_from Durable (Enq value) b = bump b ∷ write (Value (record { 0 = b.token.0 })) value ∷ []
 preparation_from Durable Deq b = bump b ∷ announcement b ∷ []
 preparation_from Log (Enq value) b =
-    bump b ∷ write (Number b.token) b.number ∷ write (EntryKind b.token) 1 ∷ write (EntryNode b.token) b.token.0
+    bump b ∷ write (Number b.token) b.number ∷ write (EntryKind b.token) ENQUEUE_KIND ∷ write (EntryNode b.token) b.token.0
     ∷ write (Value (record { 0 = b.token.0 })) value ∷ write (Insert (record { 0 = b.token.0 })) b.token.0 ∷ announcement b ∷ []
-preparation_from Log Deq b = bump b ∷ write (Number b.token) b.number ∷ write (EntryKind b.token) 2 ∷ announcement b ∷ []
+preparation_from Log Deq b = bump b ∷ write (Number b.token) b.number ∷ write (EntryKind b.token) DEQUEUE_KIND ∷ announcement b ∷ []
 
 abbrev pub preparation_of : Kind → Begun → List Write
 preparation_of kind b = preparation_from kind b.call b
 
--- what comes with the write at this index, or after the last
-abbrev pub prepared_with : Begun → ℕ → Option Write → Prepare
-prepared_with b index (Some w) = store_next (record { begun = b; index = index; write = w })
-prepared_with b index None = prepared b
+-- what comes with the write at this index; after the last the record is prepared
+abbrev pub prepared_with : Begun → ℕ → Option Write → After Prepare Begun
+prepared_with b index (Some w) = More (store_next (record { begun = b; index = index; write = w }))
+prepared_with b index None = Done b
 
-abbrev pub prepared_to : Kind → Begun → ℕ → Prepare
+abbrev pub prepared_to : Kind → Begun → ℕ → After Prepare Begun
 prepared_to kind b index = prepared_with b index (slice_get (preparation_of kind b) index)
 
-abbrev pub store_access : PrepareStore → Access Place
-store_access p = Store p.write.place p.write.value
+-- the one access of each waiting point
+abbrev pub access_of : Prepare → Access Place
+access_of (store_next p) = Store p.write.place p.write.value
+access_of (flush_next p) = Flush p.write.place
 
-abbrev pub flush_access : PrepareFlush → Access Place
-flush_access p = Flush p.write.place
-
-abbrev pub store_successor : PrepareStore → After Prepare
-store_successor p = More (flush_next (record { begun = p.begun; index = p.index; write = p.write }))
-
-abbrev pub flush_successor : Kind → PrepareFlush → After Prepare
-flush_successor kind p = More (prepared_to kind p.begun (p.index + 1))
+-- what comes then
+abbrev pub successor : Kind → Prepare → After Prepare Begun
+successor kind (store_next p) = More (flush_next (record { begun = p.begun; index = p.index; write = p.write }))
+successor kind (flush_next p) = prepared_to kind p.begun (p.index + 1)
 
 -- a call that took a record of its client's
 pub record IsBegun (s : Shape) (b : Begun) : Type 0 where
@@ -66,10 +66,15 @@ pub record IsBegun (s : Shape) (b : Begun) : Type 0 where
   pub unused : b.used < s.records
   pub is_record : IsRecord s b.token.0
   pub own : b.token.0 ≡ record_of s b.client.0 b.used
-  pub number : b.number ≤ 1099511627776
-  pub value : (v : ℕ) → b.call ≡ Enq v → v ≤ 4294967295
+  pub number : b.number ≤ MAX_CALL_NUMBER
+  pub value : (v : ℕ) → b.call ≡ Enq v → v ≤ MAX_VALUE
 
 -- the write in hand is the one at the index
 pub record IsPreparing (s : Shape) (b : Begun) (index : ℕ) (w : Write) : Type 0 where
   pub begun : IsBegun s b
   pub in_hand : slice_get (preparation_of s.kind b) index ≡ Some w
+
+-- what a waiting point holds is in range
+abbrev pub IsPoint : Shape → Prepare → Type 0
+IsPoint s (store_next p) = IsPreparing s p.begun p.index p.write
+IsPoint s (flush_next p) = IsPreparing s p.begun p.index p.write

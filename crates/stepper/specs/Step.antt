@@ -1,6 +1,9 @@
 -- One access to a memory, at a place, and what a step makes of it.
 use Rattle.std.specs.Prelude.{ℕ, Option, Some, None, slice_index}
 use Rattle.persist.specs.Memory.{Words, Access, Load, Store, Cas, Flush, after}
+use Rattle.persist.specs.Changes.{change_of}
+use Rattle.persist.specs.declared.access.Change.{Change}
+use Rattle.arena.specs.Layout.{word_at}
 use Rattle.arena.specs.Ranges.{Fits}
 use Rattle.arena.specs.Shape.{Shape}
 use Rattle.arena.specs.declared.place.Place.{Place}
@@ -12,19 +15,26 @@ place_of (Cas place old new) = place
 place_of (Flush place) = place
 
 -- the access to the place's word
-abbrev pub at_word : (Place → ℕ) → Access Place → Access ℕ
-at_word word_of (Load place) = Load (word_of place)
-at_word word_of (Store place value) = Store (word_of place) value
-at_word word_of (Cas place old new) = Cas (word_of place) old new
-at_word word_of (Flush place) = Flush (word_of place)
+abbrev pub at_word : Shape → Access Place → Access ℕ
+at_word s (Load place) = Load (word_at s place)
+at_word s (Store place value) = Store (word_at s place) value
+at_word s (Cas place old new) = Cas (word_at s place) old new
+at_word s (Flush place) = Flush (word_at s place)
 
 -- the words after exactly one access, this one
-abbrev pub after_one : (Place → ℕ) → Access Place → Words → Words
-after_one word_of access ws = after (at_word word_of access) ws
+abbrev pub after_one : Shape → Access Place → Words → Words
+after_one s access ws = after (at_word s access) ws
 
 -- the cached value that the access finds
-abbrev pub found : (Place → ℕ) → Access Place → Words → ℕ
-found word_of access ws = slice_index ws.cached (word_of (place_of access))
+abbrev pub value_found : Shape → Access Place → Words → ℕ
+value_found s access ws = slice_index ws.cached (word_at s (place_of access))
+
+-- the change of a kept value, where the access is a flush that makes one
+abbrev pub change_by : Shape → Access Place → Words → Option Change
+change_by s (Flush place) ws = change_of ws (word_at s place)
+change_by s (Load place) ws = None
+change_by s (Store place value) ws = None
+change_by s (Cas place old new) ws = None
 
 -- what it reads is in the range of its place; a store and a flush read nothing
 abbrev pub IsReadInRange : Shape → Access Place → ℕ → Type 0

@@ -1,4 +1,4 @@
-//! Calls as resumable step machines: what waits, and goes on by one access to the memory.
+//! Resumable step machines: what waits, and goes on by one access to the memory.
 #![tactic(auto)]
 
 mod places;
@@ -6,15 +6,5 @@ mod prepare;
 mod resume;
 
 pub use places::{cas_at, flush_at, load_at, store_at};
-pub use prepare::{Begun, Prepare, PrepareFlush, PrepareStore};
-pub use resume::Resume;
-use words::Reply;
-
-/// What comes after a step.
-#[derive(Clone, Copy, Debug, PartialEq, Eq, Hash)]
-pub enum After<O> {
-    /// The call goes on from here.
-    More(O),
-    /// The call is answered.
-    Done(Reply),
-}
+pub use prepare::{Begun, Prepare, PrepareFlush, PrepareStore, Prepared};
+pub use resume::{After, Points, Resume, Stepped};

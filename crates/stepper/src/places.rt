@@ -2,21 +2,23 @@
 
 ghost use Rattle.std.specs.Prelude.{◌≡◌, ◌≤◌, length, slice_index};
 ghost use Rattle.persist.specs.Memory.{Load, Store, Cas, Flush};
-ghost use Rattle.persist.specs.Changes.{swap_of};
+ghost use Rattle.persist.specs.Changes.{change_of, swap_of};
 ghost use Rattle.arena.specs.Shape.{greatest};
+ghost use Rattle.arena.specs.Layout.{size_of, word_at};
 ghost use Rattle.arena.specs.Place.{IsPlace};
 ghost use Rattle.stepper.specs.Step.{after_one};
 
 use arena::{Layout, Place, Write};
-use persist::{Swap, WordMemory};
+use persist::{Change, Swap, WordMemory};
+use words::MAX_RECORD_NUMBER;
 
 /// Loads the word of a place.
 pub fn load_at<L: Layout, M: WordMemory>(layout: &L, memory: &mut M, place: Place) -> u64
     requires place { IsPlace (L.shape layout.now) place }
-    requires room { L.size_of layout.now ≤ length (M.words memory.old).cached }
-    ensures value { result ≡ slice_index (M.words memory.old).cached (L.word_of layout.now place) }
-    ensures one_access { M.words memory.new ≡ after_one (L.word_of layout.now) (Load place) (M.words memory.old) }
-    ensures few { greatest (L.shape layout.now) ≤ 65536 }
+    requires room { size_of (L.shape layout.now) ≤ length (M.words memory.old).cached }
+    ensures value { result ≡ slice_index (M.words memory.old).cached (word_at (L.shape layout.now) place) }
+    ensures one_access { M.words memory.new ≡ after_one (L.shape layout.now) (Load place) (M.words memory.old) }
+    ensures few { greatest (L.shape layout.now) ≤ MAX_RECORD_NUMBER }
 {
     let word = layout.word(place);
     memory.load(word).unwrap()
@@ -25,8 +27,8 @@ pub fn load_at<L: Layout, M: WordMemory>(layout: &L, memory: &mut M, place: Plac
 /// Makes a write.
 pub fn store_at<L: Layout, M: WordMemory>(layout: &L, memory: &mut M, write: Write)
     requires place { IsPlace (L.shape layout.now) write.place }
-    requires room { L.size_of layout.now ≤ length (M.words memory.old).cached }
-    ensures { M.words memory.new ≡ after_one (L.word_of layout.now) (Store write.place write.value) (M.words memory.old) }
+    requires room { size_of (L.shape layout.now) ≤ length (M.words memory.old).cached }
+    ensures { M.words memory.new ≡ after_one (L.shape layout.now) (Store write.place write.value) (M.words memory.old) }
 {
     let word = layout.word(write.place);
     memory.store(word, write.value).unwrap()
@@ -35,21 +37,27 @@ pub fn store_at<L: Layout, M: WordMemory>(layout: &L, memory: &mut M, write: Wri
 /// Makes a write where the place has this old value.
 pub fn cas_at<L: Layout, M: WordMemory>(layout: &L, memory: &mut M, old: u64, write: Write) -> Swap
     requires place { IsPlace (L.shape layout.now) write.place }
-    requires room { L.size_of layout.now ≤ length (M.words memory.old).cached }
-    ensures swap { result ≡ swap_of (M.words memory.old) (L.word_of layout.now write.place) old }
-    ensures one_access { M.words memory.new ≡ after_one (L.word_of layout.now) (Cas write.place old write.value) (M.words memory.old) }
-    ensures few { greatest (L.shape layout.now) ≤ 65536 }
+    requires room { size_of (L.shape layout.now) ≤ length (M.words memory.old).cached }
+    ensures swap { result ≡ swap_of (M.words memory.old) (word_at (L.shape layout.now) write.place) old }
+    ensures one_access { M.words memory.new
+        ≡ after_one (L.shape layout.now) (Cas write.place old write.value) (M.words memory.old) }
+    ensures few { greatest (L.shape layout.now) ≤ MAX_RECORD_NUMBER }
 {
     let word = layout.word(write.place);
     memory.cas(word, old, write.value).unwrap()
 }
 
-/// Keeps the cached value of a place's word.
-pub fn flush_at<L: Layout, M: WordMemory>(layout: &L, memory: &mut M, place: Place)
+/// Keeps the cached value of a place's word. It answers the change, where the kept value changed.
+pub fn flush_at<L: Layout, M: WordMemory>(
+    layout: &L,
+    memory: &mut M,
+    place: Place,
+) -> Option<Change>
     requires place { IsPlace (L.shape layout.now) place }
-    requires room { L.size_of layout.now ≤ length (M.words memory.old).cached }
-    ensures { M.words memory.new ≡ after_one (L.word_of layout.now) (Flush place) (M.words memory.old) }
+    requires room { size_of (L.shape layout.now) ≤ length (M.words memory.old).cached }
+    ensures change { result ≡ change_of (M.words memory.old) (word_at (L.shape layout.now) place) }
+    ensures one_access { M.words memory.new ≡ after_one (L.shape layout.now) (Flush place) (M.words memory.old) }
 {
     let word = layout.word(place);
-    let _change = memory.flush(word).unwrap();
+    memory.flush(word).unwrap()
 }

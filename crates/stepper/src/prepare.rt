@@ -1,13 +1,11 @@
 //! The preparation of a call: it writes its record, each word with a store and a flush, before it acts.
 
-ghost use Rattle.std.specs.Prelude.{◌≡◌, Some, slice_get};
-ghost use Rattle.stepper.specs.Step.{kept_by};
-ghost use Rattle.stepper.specs.Preparation.{flush_access, preparation_from, prepared_to, bump as bump_of, announcement as announcement_of};
+ghost use Rattle.std.specs.Prelude.{◌≡◌, slice_get};
+ghost use Rattle.stepper.specs.Preparation.{preparation_from, prepared_to, bump as bump_of, announcement as announcement_of};
 
-use crate::After;
 use crate::places::{flush_at, store_at};
-use crate::resume::Resume;
-use arena::{Layout, Place, Write};
+use crate::resume::{After, Points, Resume, Stepped};
+use arena::{DEQUEUE_KIND, ENQUEUE_KIND, Layout, Place, Write};
 use persist::WordMemory;
 use words::{Call, Client, Kind, NodeId, Token};
 
@@ -24,13 +22,19 @@ pub struct Begun {
     pub call: Call,
 }
 
-/// Where a preparation is.
+/// What a preparation answers at its end: the call, each word of whose record is kept.
+pub type Prepared = Begun;
+
+/// Where a preparation waits.
 #[derive(Clone, Copy, Debug, PartialEq, Eq, Hash)]
 pub enum Prepare {
+    // The bump word comes first and the announcement last. A record written before it is used up could be taken again
+    // after a crash; an announcement kept before its record would name a call that is not there:
+    // `announces_before_the_node.edit`.
     Store(PrepareStore),
+    // Each word is kept before the next is stored. A link to a node whose value is not kept would lose the value in a
+    // crash, though the enqueue had answered: `flush_of_a_preparation_dropped.edit`.
     Flush(PrepareFlush),
-    /// It is at its end: each of its words is kept.
-    Prepared(Begun),
 }
 
 /// About to store a word of the record. Its fields stand in the order in which a step moves them at the least cost:
@@ -84,7 +88,7 @@ fn log_enqueue(begun: Begun, value: u32, index: u8) -> Option<Write>
     let (place, value) = match index {
         0 => return Some(bump(begun)),
         1 => (Place::Number(begun.token), begun.number),
-        2 => (Place::EntryKind(begun.token), 1),
+        2 => (Place::EntryKind(begun.token), ENQUEUE_KIND),
         3 => (Place::EntryNode(begun.token), number),
         4 => (Place::Value(node), value as u64),
         5 => (Place::Insert(node), number),
@@ -101,7 +105,7 @@ fn log_dequeue(begun: Begun, index: u8) -> Option<Write>
     let (place, value) = match index {
         0 => return Some(bump(begun)),
         1 => (Place::Number(begun.token), begun.number),
-        2 => (Place::EntryKind(begun.token), 2),
+        2 => (Place::EntryKind(begun.token), DEQUEUE_KIND),
         3 => return Some(announcement(begun)),
         _ => return None,
     };
@@ -128,8 +132,8 @@ fn announcement(begun: Begun) -> Write
     }
 }
 
-/// Where a preparation comes to its write at this index.
-fn prepare_at(kind: Kind, begun: Begun, index: u8) -> Prepare
+/// Where a preparation comes to its write at this index; past the last it is at its end.
+fn prepare_at(kind: Kind, begun: Begun, index: u8) -> After<Prepare, Prepared>
     ensures { result ≡ prepared_to kind begun index }
 {
     let write = match (kind, begun.call) {
@@ -139,77 +143,83 @@ fn prepare_at(kind: Kind, begun: Begun, index: u8) -> Prepare
         (Kind::Log, Call::Deq) => log_dequeue(begun, index),
     };
     match write {
-        Some(write) => Prepare::Store(PrepareStore {
+        Some(write) => After::More(Prepare::Store(PrepareStore {
             begun,
             index,
             write,
-        }),
-        None => Prepare::Prepared(begun),
+        })),
+        None => After::Done(begun),
     }
 }
 
 impl Prepare {
     /// Where the preparation of a call begins.
-    pub fn begin(kind: Kind, begun: Begun) -> Self
+    pub fn begin(kind: Kind, begun: Begun) -> After<Prepare, Prepared>
         ensures { result ≡ prepared_to kind begun 0 }
     {
         prepare_at(kind, begun, 0)
     }
 }
 
+impl Points for Prepare {
+    type Answer = Prepared;
+
+    ghost use Rattle.stepper.specs.Preparation.{access_of, successor, IsPoint};
+
+    ghost access = { λ kind p. access_of p };
+
+    ghost successor = { λ s p found. successor s.kind p };
+
+    ghost in_range = { IsPoint };
+}
+
 impl Resume for PrepareStore {
-    type Op = Prepare;
+    type Point = Prepare;
 
-    ghost use Rattle.stepper.specs.Preparation.{store_access, store_successor, IsPreparing};
+    ghost use Rattle.stepper.specs.declared.prepare.Prepare.TheVariants.{Store};
 
-    ghost access = { λ kind p. store_access p };
+    ghost point = { Store };
 
-    ghost next = { λ kind p found. store_successor p };
-
-    ghost in_range = { λ s p. IsPreparing s p.begun p.index p.write };
-
-    fn step<L: Layout, M: WordMemory>(self, layout: &L, memory: &mut M) -> After<Prepare> {
+    fn step<L: Layout, M: WordMemory>(
+        self,
+        layout: &L,
+        memory: &mut M,
+    ) -> Stepped<Prepare, Prepared> {
         let PrepareStore {
             begun,
             index,
             write,
         } = self;
         store_at(layout, memory, write);
-        After::More(Prepare::Flush(PrepareFlush {
+        Stepped::quiet(After::More(Prepare::Flush(PrepareFlush {
             begun,
             index,
             write,
-        }))
-    }
-}
-
-impl PrepareFlush {
-    /// The place whose word it keeps.
-    pub fn place(&self) -> Place
-        ensures { Some result ≡ kept_by (flush_access self.now) }
-    {
-        self.write.place
+        })))
     }
 }
 
 impl Resume for PrepareFlush {
-    type Op = Prepare;
+    type Point = Prepare;
 
-    ghost use Rattle.stepper.specs.Preparation.{flush_access, flush_successor, IsPreparing};
+    ghost use Rattle.stepper.specs.declared.prepare.Prepare.TheVariants.{Flush};
 
-    ghost access = { λ kind p. flush_access p };
+    ghost point = { Flush };
 
-    ghost next = { λ kind p found. flush_successor kind p };
-
-    ghost in_range = { λ s p. IsPreparing s p.begun p.index p.write };
-
-    fn step<L: Layout, M: WordMemory>(self, layout: &L, memory: &mut M) -> After<Prepare> {
+    fn step<L: Layout, M: WordMemory>(
+        self,
+        layout: &L,
+        memory: &mut M,
+    ) -> Stepped<Prepare, Prepared> {
         let PrepareFlush {
             begun,
             index,
             write,
         } = self;
-        flush_at(layout, memory, write.place);
-        After::More(prepare_at(layout.kind(), begun, index + 1))
+        let change = flush_at(layout, memory, write.place);
+        Stepped {
+            after: prepare_at(layout.kind(), begun, index + 1),
+            change,
+        }
     }
 }

@@ -1,37 +1,87 @@
 //! What waits, and goes on by one access.
 
-use crate::After;
+ghost use Rattle.std.specs.Prelude.{◌≡◌, None};
+
 use arena::Layout;
-use persist::WordMemory;
+use persist::{Change, WordMemory};
 
-/// A waiting point of a call: a value that holds what the last step learnt.
-pub trait Resume {
-    type Op;
+/// What comes after a step of a machine with these waiting points and this answer.
+#[derive(Clone, Copy, Debug, PartialEq, Eq, Hash)]
+pub enum After<P, A> {
+    /// It goes on from here.
+    More(P),
+    /// It is at its end, and answers this.
+    Done(A),
+}
 
-    ghost use Rattle.std.specs.Prelude.{◌≡◌, ◌≤◌, ℕ, length};
+/// What a step did: what comes after it, and the change of a kept value, where it was a flush that made one.
+#[derive(Clone, Copy, Debug, PartialEq, Eq, Hash)]
+pub struct Stepped<P, A> {
+    pub after: After<P, A>,
+    pub change: Option<Change>,
+}
+
+impl<P, A> Stepped<P, A> {
+    /// A step that changed no kept value.
+    pub fn quiet(after: After<P, A>) -> Self
+        ensures after { result.after ≡ after }
+        ensures change { result.change ≡ None }
+    {
+        Stepped {
+            after,
+            change: None,
+        }
+    }
+}
+
+/// The waiting points of a step machine: its table.
+pub trait Points {
+    ghost use Rattle.std.specs.Prelude.{ℕ};
     ghost use Rattle.words.specs.declared.call.Kind.{Kind};
     ghost use Rattle.persist.specs.Memory.{Access};
     ghost use Rattle.arena.specs.Shape.{Shape};
     ghost use Rattle.arena.specs.declared.place.Place.{Place};
-    ghost use Rattle.stepper.specs.Step.{after_one, found, IsReadInRange};
-    ghost use Rattle.stepper.specs.declared.After.{After};
+    ghost use Rattle.stepper.specs.declared.resume.After.{After};
 
-    /// The one access of its step.
+    /// What it answers in the end.
+    type Answer;
+
+    /// The one access of a point's step.
     ghost access: { Kind → Self → Access Place };
 
     /// What comes once the access has found a value.
-    ghost next: { Kind → Self → ℕ → After Self.Op };
+    ghost successor: { Shape → Self → ℕ → After Self Self.Answer };
 
-    /// What it learnt is in range, as it is where steps on this layout made it.
+    /// What a point has learnt is in range, as it is where steps on this layout made it.
     ghost in_range: { Shape → Self → Type 0 };
+}
+
+/// A waiting point: a value that holds what the last step learnt.
+pub trait Resume {
+    ghost use Rattle.std.specs.Prelude.{◌≡◌, ◌≤◌, length};
+    ghost use Rattle.arena.specs.Layout.{size_of};
+    ghost use Rattle.stepper.specs.Step.{after_one, change_by, value_found, IsReadInRange};
+
+    /// The points of its machine.
+    type Point: Points;
+
+    /// Which of them it is.
+    ghost point: { Self → Self.Point };
 
     /// Makes exactly one access, and answers what comes next.
-    fn step<L: Layout, M: WordMemory>(self, layout: &L, memory: &mut M) -> After<Self::Op>
-        requires room { L.size_of layout.now ≤ length (M.words memory.old).cached }
-        requires point { in_range (L.shape layout.now) self }
-        requires read { IsReadInRange (L.shape layout.now) (access (L.shape layout.now).kind self)
-            (found (L.word_of layout.now) (access (L.shape layout.now).kind self) (M.words memory.old)) }
-        ensures one_access { M.words memory.new ≡ after_one (L.word_of layout.now) (access (L.shape layout.now).kind self) (M.words memory.old) }
-        ensures next { result ≡ next (L.shape layout.now).kind self
-            (found (L.word_of layout.now) (access (L.shape layout.now).kind self) (M.words memory.old)) };
+    fn step<L: Layout, M: WordMemory>(
+        self,
+        layout: &L,
+        memory: &mut M,
+    ) -> Stepped<Self::Point, <Self::Point as Points>::Answer>
+        requires room { size_of (L.shape layout.now) ≤ length (M.words memory.old).cached }
+        requires point { Self.Point.in_range (L.shape layout.now) (point self) }
+        requires read { let s = L.shape layout.now in let access = Self.Point.access s.kind (point self) in
+            IsReadInRange s access (value_found s access (M.words memory.old)) }
+        ensures one_access { let s = L.shape layout.now in
+            M.words memory.new ≡ after_one s (Self.Point.access s.kind (point self)) (M.words memory.old) }
+        ensures next { let s = L.shape layout.now in let access = Self.Point.access s.kind (point self) in
+            result.after ≡ Self.Point.successor s (point self) (value_found s access (M.words memory.old)) }
+        ensures change { let s = L.shape layout.now in
+            result.change ≡ change_by s (Self.Point.access s.kind (point self)) (M.words memory.old) };
 }

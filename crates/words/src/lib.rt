@@ -2,9 +2,14 @@
 #![tactic(auto)]
 
 mod call;
+mod limits;
 mod refusal;
 mod told;
 
 pub use call::{Call, Client, Kind, NodeId, Reply, Token};
+pub use limits::{
+    MAX_CALL_NUMBER, MAX_CLIENTS, MAX_RECORD_NUMBER, MAX_RECORDS, MAX_STEPS_ALONE, MAX_VALUE,
+    Reports,
+};
 pub use refusal::{Refusal, Rule};
 pub use told::{Outcome, Row, Told, Verdict};

@@ -139,8 +139,8 @@ static ACTS: [Act; 9] = [
         call: Call::Deq,
     },
     Act::Step { client: Client(0) },
-    Act::Evict { word: 0 },
-    Act::Evict { word: 1_000 },
+    Act::Evict { at: 0 },
+    Act::Evict { at: 1_000 },
     Act::Step { client: Client(1) },
     Act::Step { client: Client(2) },
 ];

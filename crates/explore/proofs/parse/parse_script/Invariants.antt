@@ -1,6 +1,7 @@
 use Rattle.std.proofs.Common.{◌≡◌, ◌≤◌, length, take}
 use Rattle.explore.specs.Lines.{lines_of}
 use Rattle.explore.specs.Script.{Says}
+use Rattle.explore.specs.declared.limits.TheConstants.{MAX_LINES}
 use Rattle.explore.proofs.parse.parse_script.Given as goal
 
 -- the lines so far say the script so far
@@ -9,6 +10,6 @@ invariant-loop-line l = record {
   can_next : (goal.iterator-loop-line).can_next l.line-iterator;
   is_finite : (goal.iterator-loop-line).is_finite l.line-iterator;
   count : l.number ≡ length l.yielded;
-  few : l.number ≤ 1000;
+  few : l.number ≤ MAX_LINES;
   says : Says (take (length l.yielded) (lines_of l.text)) l.queue l.commands.items;
 }

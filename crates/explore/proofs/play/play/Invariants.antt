@@ -1,11 +1,9 @@
-use Rattle.std.proofs.Common.{◌≡◌, ◌++◌, drop, string_bytes}
-use Rattle.interleave.specs.State.{Laid}
-use Rattle.explore.specs.Transcript.{Play, commands_print, queue_prints}
+use Rattle.std.proofs.Common.{◌≡◌, ◌++◌, drop}
+use Rattle.explore.specs.Transcript.{lines_of_all, queue_lines}
 use Rattle.explore.proofs.play.play.Given as goal
 
--- what is printed, and what the commands that are left print, is all that there is
+-- the lines so far, and what the commands that are left give, are all that there are
 abbrev pub invariant-loop-command : goal.invariant-loop-command
 invariant-loop-command g l =
-    let laid : Laid _ = record { shape = g.L.Layout.shape; word_of = g.L.Layout.word_of; place_at = g.L.Layout.place_at; size_of = g.L.Layout.size_of } in
-    let play : Play _ = record { world = l.world.now; steps = l.steps } in
-    string_bytes l.out ++ commands_print laid play (drop l.command-index l.commands) ≡ string_bytes l.fn.out ++ queue_prints laid l.fn.layout l.commands
+    l.lines.items ++ lines_of_all l.player (drop l.command-index l.commands)
+    ≡ queue_lines (g.L.Layout.shape l.fn.layout) l.commands

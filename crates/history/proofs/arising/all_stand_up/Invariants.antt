@@ -1,6 +1,6 @@
 use Rattle.std.proofs.Common.{◌<◌, ◌≡◌, ◌↔◌, ℕ, IsTrue, slice_get, Some}
-use Rattle.history.specs.declared.event.Event.{Event}
-use Rattle.history.specs.History.{IsDown}
+use Rattle.events.specs.declared.event.Event.{Event}
+use Rattle.events.specs.History.{IsDown}
 use Rattle.history.specs.Sweeps.{StandsUp}
 use Rattle.history.proofs.arising.all_stand_up.Given as goal
 

@@ -1,6 +1,6 @@
 use Rattle.std.proofs.Common.{◌<◌, ◌≡◌, ◌↔◌, ℕ, IsTrue, slice_get, Some}
-use Rattle.history.specs.declared.event.Event.{Event}
-use Rattle.history.specs.History.{IsUnderWay}
+use Rattle.events.specs.declared.event.Event.{Event}
+use Rattle.events.specs.History.{IsUnderWay}
 use Rattle.history.specs.Sweeps.{StandsInTurn}
 use Rattle.history.proofs.arising.is_in_turn.Given as goal
 

@@ -5,7 +5,10 @@ returns c = (
   λ told.
       let tells = c.tells.ensures.0 told in
       record {
-        is_order = record { calls = c.names_calls.ensures.0 c.if-not-names_calls.false; once = c.names_once.ensures.0 c.if-not-names_once.false };
+        is_order = record {
+          calls = c.names_calls.ensures.0 c.if-not-names_calls.false;
+          once = c.names_once.ensures.0 c.if-not-names_once.false;
+        };
         answers = c.all_answered.ensures.0 c.if-not-all_answered.false;
         replays = c.replay_is_right.ensures.0 c.if-not-replay_is_right.false;
         precedence = c.precedence_is_kept.ensures.0 c.if-not-precedence_is_kept.false;
@@ -13,7 +16,11 @@ returns c = (
         interrupted = tells.interrupted;
         rows = tells.rows;
       },
-  λ explains. c.tells.ensures.1 (record { verdicts = explains.verdicts; interrupted = explains.interrupted; rows = explains.rows }),
+  λ explains. c.tells.ensures.1 (record {
+    verdicts = explains.verdicts;
+    interrupted = explains.interrupted;
+    rows = explains.rows;
+  }),
 )
 
 pub names_once-requires-clause-precedence : goal.names_once-requires-clause-precedence

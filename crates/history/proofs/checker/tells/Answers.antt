@@ -1,8 +1,8 @@
 use Rattle.std.proofs.Common.{List, ℕ, ◌≡◌, length}
 use Rattle.words.specs.declared.told.Told.{Told}
 use Rattle.std.proofs.lemmas.Option.{slice_get_within}
-use Rattle.history.specs.History.{IsDurable, ReadyAt}
-use Rattle.history.proofs.Interrupted.{told_if_interrupted}
+use Rattle.events.specs.History.{IsDurable, ReadyAt}
+use Rattle.events.proofs.Interrupted.{told_if_interrupted}
 use Rattle.history.proofs.checker.tells.Goals as goal
 
 pub returns-then-is_durable : goal.returns-then-is_durable
@@ -18,10 +18,13 @@ returns-then-is_durable c =
 
 pub returns : goal.returns
 returns c =
-    let log : ¬ (IsDurable c.args.events.now) = λ durable. cc (c.is_durable.ensures.1 durable, c.if-is_durable.false) in (
+    let log : ¬ (IsDurable c.args.events.now) =
+    λ durable. cc (c.is_durable.ensures.1 durable, c.if-is_durable.false) in (
       λ told.
           let verdicts = c.all_told-2.ensures.told.0 told in
-          let sixteen : (q : ℕ) (tells : List Told) → ReadyAt c.args.events.now q tells → length tells ≡ 16 = λ q tells at. (c.all_told-2.ensures.sixteen told q (slice_get_within _ _ _ at)).sixteen tells at in
+          let sixteen : (q : ℕ) (tells : List Told) → ReadyAt c.args.events.now q tells
+          → length tells ≡ 16 = λ q tells at.
+          (c.all_told-2.ensures.sixteen told q (slice_get_within _ _ _ at)).sixteen tells at in
           record {
             verdicts = λ _. verdicts;
             interrupted = λ _. told_if_interrupted _ _ _ c.requires.history.places c.requires.once sixteen verdicts;

@@ -1,5 +1,5 @@
 use Rattle.std.proofs.Common.{◌<◌, ℕ}
-use Rattle.history.specs.Explains.{IsAnswered}
+use Rattle.events.specs.Explains.{IsAnswered}
 use Rattle.history.proofs.explaining.has_answers.Given as goal
 
 abbrev pub invariant-loop-p : goal.invariant-loop-p

@@ -1,5 +1,5 @@
 use Rattle.std.proofs.Common.{◌<◌, ℕ}
-use Rattle.history.specs.History.{EndsAt}
+use Rattle.events.specs.History.{EndsAt}
 use Rattle.history.proofs.explaining.is_answered.Given as goal
 
 abbrev pub invariant-loop-k : goal.invariant-loop-k

@@ -1,6 +1,6 @@
 use Rattle.std.proofs.Common.{◌<◌, ℕ}
 use Rattle.history.specs.Fronts.{IsFront}
-use Rattle.history.specs.Replay.{IsRightAt}
+use Rattle.events.specs.Replay.{IsRightAt}
 use Rattle.history.proofs.fronts.replay_is_right.Given as goal
 
 abbrev pub invariant-loop-i : goal.invariant-loop-i

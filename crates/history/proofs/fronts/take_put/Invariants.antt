@@ -1,7 +1,7 @@
 use Rattle.std.proofs.Common.{◌≡◌}
-use Rattle.history.specs.Fronts.{put_between}
+use Rattle.history.specs.Fronts.{values_between}
 use Rattle.history.proofs.fronts.take_put.Given as goal
 
 -- the entries before it put nothing
 abbrev pub invariant-loop-k : goal.invariant-loop-k
-invariant-loop-k l = put_between l.events l.entries l.k l.to ≡ put_between l.events l.entries l.from l.to
+invariant-loop-k l = values_between l.events l.entries l.k l.to ≡ values_between l.events l.entries l.from l.to

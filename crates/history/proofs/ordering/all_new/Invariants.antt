@@ -1,5 +1,5 @@
 use Rattle.std.proofs.Common.{◌<◌, ℕ}
-use Rattle.history.specs.Orders.{IsNew}
+use Rattle.events.specs.Orders.{IsNew}
 use Rattle.history.proofs.ordering.all_new.Given as goal
 
 abbrev pub invariant-loop-i : goal.invariant-loop-i

@@ -1,6 +1,6 @@
 use Rattle.std.proofs.Common.{◌<◌, ◌≤◌, ℕ, List}
 use Rattle.words.specs.declared.told.Told.{Told}
-use Rattle.history.specs.History.{CrashAt, ReadyAt}
+use Rattle.events.specs.History.{CrashAt, ReadyAt}
 use Rattle.history.proofs.places.is_down.Given as goal
 
 -- from k on there is no Crash and no Ready

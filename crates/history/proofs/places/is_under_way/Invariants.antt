@@ -1,5 +1,5 @@
 use Rattle.std.proofs.Common.{◌<◌, ℕ}
-use Rattle.history.specs.History.{IsOpenFrom}
+use Rattle.events.specs.History.{IsOpenFrom}
 use Rattle.history.proofs.places.is_under_way.Given as goal
 
 abbrev pub invariant-loop-q : goal.invariant-loop-q

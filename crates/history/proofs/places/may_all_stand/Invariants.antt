@@ -1,6 +1,6 @@
 use Rattle.std.proofs.Common.{◌<◌, ◌≡◌, ℕ, slice_get, Some}
-use Rattle.history.specs.declared.event.Event.{Event}
-use Rattle.history.specs.History.{MayStand}
+use Rattle.events.specs.declared.event.Event.{Event}
+use Rattle.events.specs.History.{MayStand}
 use Rattle.history.proofs.places.may_all_stand.Given as goal
 
 abbrev pub invariant-loop-p : goal.invariant-loop-p

@@ -1,5 +1,5 @@
 use Rattle.std.proofs.Common.{◌<◌, ℕ}
-use Rattle.history.specs.History.{EndsAt}
+use Rattle.events.specs.History.{EndsAt}
 use Rattle.history.proofs.places.precedes.Given as goal
 
 -- no end of the call so far

@@ -1,5 +1,5 @@
 use Rattle.std.proofs.Common.{rules}
-use Rattle.history.specs.History.{IsDurable}
+use Rattle.events.specs.History.{IsDurable}
 use Rattle.history.proofs.plain.explains.Goals as goal
 
 pub returns-then-is_durable : goal.returns-then-is_durable
@@ -21,13 +21,15 @@ pub returns-then-not-tells_at_each_ready : goal.returns-then-not-tells_at_each_r
 returns-then-not-tells_at_each_ready c = (
   search rules,
   λ explains.
-      let log : ¬ (IsDurable c.args.events.now) = λ durable. cc (c.is_durable.ensures.1 durable, c.if-is_durable.false) in
+      let log : ¬ (IsDurable c.args.events.now) =
+      λ durable. cc (c.is_durable.ensures.1 durable, c.if-is_durable.false) in
       cc (c.tells_at_each_ready-2.ensures.1 (explains.verdicts log), c.if-not-tells_at_each_ready.true),
 )
 
 pub returns : goal.returns
 returns c =
-    let log : ¬ (IsDurable c.args.events.now) = λ durable. cc (c.is_durable.ensures.1 durable, c.if-is_durable.false) in (
+    let log : ¬ (IsDurable c.args.events.now) =
+    λ durable. cc (c.is_durable.ensures.1 durable, c.if-is_durable.false) in (
       λ told. record {
         is_order = c.is_order.ensures.0 c.if-not-is_order.false;
         answers = c.has_answers.ensures.0 c.if-not-has_answers.false;

@@ -11,6 +11,7 @@ returns-then-not-precedes_none c = (search rules, λ keeps. search (rules, each_
 
 pub loop-i-preserved : goal.loop-i-preserved
 loop-i-preserved c = record {
-  greatest = greatest_more _ _ _ _ _ c.loop-i-test.true c.loop-i.invariant.greatest c.greater-greatest.ensures.first c.greater-greatest.ensures.second c.greater-greatest.ensures.one;
+  greatest = greatest_more _ _ _ _ _ c.loop-i-test.true c.loop-i.invariant.greatest c.greater-greatest.ensures.first
+      c.greater-greatest.ensures.second c.greater-greatest.ensures.one;
   kept = below_more _ _ c.loop-i.invariant.kept (c.precedes_none.ensures.0 c.if-not-precedes_none.false);
 }

@@ -1,5 +1,5 @@
 use Rattle.std.proofs.Common.{◌<◌, ◌≡◌, ℕ, take}
-use Rattle.history.specs.Replay.{IsRightAt, queue_after}
+use Rattle.events.specs.Replay.{IsRightAt, queue_after}
 use Rattle.history.proofs.replaying.replay_from.Given as goal
 
 abbrev pub invariant-loop-i : goal.invariant-loop-i

@@ -1,5 +1,5 @@
 use Rattle.std.proofs.Common.{◌<◌, ◌≤◌, ℕ}
-use Rattle.history.specs.Replay.{IsRightAt}
+use Rattle.events.specs.Replay.{IsRightAt}
 use Rattle.history.proofs.CountSteps.{IsCounted}
 use Rattle.history.proofs.replaying.replays.Given as goal
 

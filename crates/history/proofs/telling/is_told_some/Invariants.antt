@@ -1,6 +1,7 @@
 use Rattle.std.proofs.Common.{◌<◌, ℕ}
-use Rattle.history.specs.Telling.{IsToldCall}
+use Rattle.events.specs.Telling.{IsToldCall}
 use Rattle.history.proofs.telling.is_told_some.Given as goal
 
 abbrev pub invariant-loop-p : goal.invariant-loop-p
-invariant-loop-p l = (k : ℕ) → k < l.p → IsToldCall l.kind l.events l.entries l.client l.ready l.told k → ⊥
+invariant-loop-p l = (k : ℕ) → k < l.p → IsToldCall l.who.kind l.who.events.now l.who.entries.now l.who.client
+    l.ready l.told k → ⊥

@@ -1,6 +1,6 @@
 use Rattle.std.proofs.Common.{◌<◌, ℕ, List}
 use Rattle.words.specs.declared.told.Told.{Told}
-use Rattle.history.specs.History.{ReadyAt}
+use Rattle.events.specs.History.{ReadyAt}
 use Rattle.history.proofs.telling.is_told_taken.Given as goal
 
 abbrev pub invariant-loop-q : goal.invariant-loop-q

@@ -1,5 +1,5 @@
 use Rattle.std.proofs.Common.{◌<◌, ℕ}
-use Rattle.history.specs.Telling.{TellsAt}
+use Rattle.events.specs.Telling.{TellsAt}
 use Rattle.history.proofs.telling.tells_at_each_ready.Given as goal
 
 abbrev pub invariant-loop-q : goal.invariant-loop-q

@@ -2,7 +2,7 @@ use Rattle.std.proofs.Common.{◌≡◌, ℕ, ◌-◌, ◌++◌}
 use Rattle.arena.specs.Shape.{greatest}
 use Rattle.arena.specs.Place.{IsNode}
 use Rattle.arena.specs.Content.{kept_content}
-use Rattle.interleave.specs.Shown.{shown}
+use Rattle.interleave.specs.Values.{value_of_place}
 use Rattle.interleave.proofs.Contents.{content_from}
 use Rattle.arena.specs.declared.place.Place.{Place}
 use Rattle.interleave.proofs.content.content.Given as goal
@@ -11,7 +11,7 @@ use Rattle.interleave.proofs.content.content.Given as goal
 abbrev pub invariant-loop : goal.invariant-loop
 invariant-loop g l =
     let s = g.L.Layout.shape l.layout in
-    let word : Place → ℕ = shown s (g.L.Layout.word_of l.layout) l.memory.kept in
+    let word : Place → ℕ = value_of_place s l.memory.kept in
     record {
       links : l.links ≡ greatest s;
       node : IsNode s l.node.0;

@@ -1,17 +1,20 @@
-use Rattle.std.proofs.Common.{◌≡◌, Some, Result, Ok, sym, ap, ◌∙◌}
+use Rattle.std.proofs.Common.{◌≡◌, refl, true, false, Bool, Option, Some, Result, Ok, List, subst, sym, ap, ◌∙◌}
+use Rattle.std.specs.Prelude.{IfSome, is_some}
 use Rattle.words.specs.declared.refusal.Refusal.{Refusal}
-use Rattle.std.specs.Prelude.{Bool, false}
+use Rattle.words.specs.declared.told.Told.{Told}
 use Rattle.persist.specs.Memory.{Words}
-use Rattle.recover.specs.Table.{access_of as recovery_access}
 use Rattle.stepper.specs.Step.{after_one}
-use Rattle.protocol.specs.Machine.{Log, recovered_next, events_recovered}
+use Rattle.stepper.specs.declared.resume.After.{After}
+use Rattle.recover.specs.Table.{access_of as recovery_access}
 use Rattle.recover.specs.declared.recovery.Recovery.{Recovery}
-use Rattle.interleave.specs.Holds.{of_keeps}
-use Rattle.interleave.specs.State.{State, Laid, as_machine, is_ready, recover_with, recover_result_with}
+use Rattle.protocol.specs.Machine.{Trace, next_recovery, recovery_left, recovery_events}
+use Rattle.protocol.proofs.worlds.Facts.{recovery_point}
+use Rattle.interleave.specs.Holds.{from_invariant}
+use Rattle.interleave.specs.Recoveries.{MayRecover}
+use Rattle.interleave.specs.State.{State, machine, is_ready, queue_at_ready, recover_with, recover_result_with}
 use Rattle.interleave.specs.Trace.{state_with}
 use Rattle.interleave.specs.declared.queue.Queue.{Queue}
-use Rattle.protocol.proofs.Facts.{recovery_point}
-use Rattle.interleave.proofs.CrashLaws.{left_by_recovery}
+use Rattle.interleave.proofs.CrashLaws.{left_by_recovery, recovery_some, of_some}
 use Rattle.interleave.proofs.HoldsKept.{recovery_reads, recovery_next}
 use Rattle.interleave.proofs.MachineFacts.{room_held}
 use Rattle.interleave.proofs.crashing.recover_on.Goals as goal
@@ -19,40 +22,41 @@ use Rattle.interleave.proofs.crashing.recover_on.Goals as goal
 pub reserve-requires : goal.reserve-requires
 reserve-requires g c = room_held c.requires.holds
 
-pub step-next-requires-clause-point : goal.step-next-requires-clause-point
-step-next-requires-clause-point g c =
-    let laid : Laid g.row.L.Denot = record { shape = g.L.Layout.shape; word_of = g.L.Layout.word_of; place_at = g.L.Layout.place_at; size_of = g.L.Layout.size_of } in
-    let w : State g.row.L.Denot = state_with c.args.layout.now c.args.memory.now c.args.queue.now c.args.calls.now c.args.trace.now in
-    recovery_point (as_machine laid w) (of_keeps _ c.requires.holds.inv) c.in-Some.recovery (sym c.recovery.ensures ∙ c.in-Some.is)
-
-pub step-next-requires-clause-read : goal.step-next-requires-clause-read
-step-next-requires-clause-read g c =
-    let laid : Laid g.row.L.Denot = record { shape = g.L.Layout.shape; word_of = g.L.Layout.word_of; place_at = g.L.Layout.place_at; size_of = g.L.Layout.size_of } in
-    let w : State g.row.L.Denot = state_with c.args.layout.now c.args.memory.now c.args.queue.now c.args.calls.now c.args.trace.now in
-    recovery_reads laid g.met.L.Layout.laid_out w c.in-Some.recovery c.requires.holds (sym c.recovery.ensures ∙ c.in-Some.is)
+pub recover_once-requires-clause-may : goal.recover_once-requires-clause-may
+recover_once-requires-clause-may g c =
+    let w : State = state_with (g.L.Layout.shape c.args.layout.now) c.args.memory.now c.args.queue.now c.args.calls.now c.args.trace.now in
+    let may : (r : Recovery) → w.recovery ≡ Some r → MayRecover w.shape w.words r = λ r e. record {
+      room = c.requires.holds.safe.words.room;
+      point = recovery_point (machine w) (from_invariant _ c.requires.holds.inv) r e;
+      read = recovery_reads w r c.requires.holds e;
+    } in
+    subst (λ (o : Option Recovery). IfSome o (λ r. MayRecover w.shape w.words r)) (sym c.reserve.ensures.recovery) (of_some w.recovery (λ r. MayRecover w.shape w.words r) may)
 
 pub returns-clause-world : goal.returns-clause-world
 returns-clause-world g c =
-    let laid : Laid g.row.L.Denot = record { shape = g.L.Layout.shape; word_of = g.L.Layout.word_of; place_at = g.L.Layout.place_at; size_of = g.L.Layout.size_of } in
-    let w : State g.row.L.Denot = state_with c.args.layout.now c.args.memory.now c.args.queue.now c.args.calls.now c.args.trace.now in
-    let r : Recovery = c.in-Some.recovery in
-    let e : w.recovery ≡ Some r = sym c.recovery.ensures ∙ c.in-Some.is in
-    let next : c.step-next.result ≡ recovered_next (as_machine laid w) r = c.step-next.ensures.next ∙ recovery_next laid g.met.L.Layout.laid_out w r c.requires.holds e in
-    let ms : Words = after_one (g.L.Layout.word_of c.args.layout.now) (recovery_access (g.L.Layout.shape c.args.layout.now).kind r) c.args.memory.now in
+    let w : State = state_with (g.L.Layout.shape c.args.layout.now) c.args.memory.now c.args.queue.now c.args.calls.now c.args.trace.now in
+    let some = recovery_some w.recovery (sym c.is_down.ensures ∙ c.if-not-is_down.false) in
+    let r : Recovery = some.0 in
+    let e : w.recovery ≡ Some r = some.1 in
+    let step = c.recover_once.ensures.step r (c.reserve.ensures.recovery ∙ e) in
+    let is = recovery_next w r c.requires.holds e in
+    let ms : Words = after_one w.shape (recovery_access w.shape.kind r.at) c.args.memory.now in
     let log : c.reserve.new.self.log ≡ c.args.trace.now.log = c.reserve.ensures.log in
-    ap (λ (m : Words). state_with c.args.layout.now m c.tell.new.queue c.args.calls.now c.recover.new.self) c.step-next.ensures.one_access
-    ∙ ap (λ (q : Queue). state_with c.args.layout.now ms q c.args.calls.now c.recover.new.self) c.tell.ensures.queue
-    ∙ left_by_recovery laid c.args.layout.now c.args.memory.now c.args.queue.now c.args.calls.now c.args.trace.now r c.step-next.result c.recover.new.self next
-    (c.recover.ensures.base ∙ c.reserve.ensures.base) (c.recover.ensures.told ∙ c.reserve.ensures.told)
-    (c.recover.ensures.events ∙ ap (λ (l : Log). events_recovered l.events c.step-next.result) log)
-    (c.recover.ensures.issued ∙ ap (λ (l : Log). l.issued) log) (c.recover.ensures.effects ∙ ap (λ (l : Log). l.effects) log) c.recover.ensures.recovery
-    ∙ ap (recover_with laid false w) (sym e)
+    ap (λ (m : Words). state_with w.shape m c.recover_once.new.queue c.args.calls.now c.recover_once.new.trace) step.0
+    ∙ ap (λ (q : Queue). state_with w.shape ms q c.args.calls.now c.recover_once.new.trace) (step.3 ∙ ap (queue_at_ready c.args.queue.now) is)
+    ∙ left_by_recovery w.shape c.args.memory.now c.args.queue.now c.args.calls.now c.args.trace.now r (next_recovery (machine w) r) c.recover_once.new.trace refl
+    (c.recover_once.ensures.base ∙ c.reserve.ensures.base) (c.recover_once.ensures.told ∙ c.reserve.ensures.told)
+    (step.2 ∙ ap (recovery_events c.reserve.new.self.log.events) is ∙ ap (λ (l : Trace). recovery_events l.events (next_recovery (machine w) r)) log)
+    (c.recover_once.ensures.issued ∙ ap (λ (l : Trace). l.issued) log) (c.recover_once.ensures.effects ∙ ap (λ (l : Trace). l.effects) log)
+    (step.1 ∙ ap recovery_left is)
+    ∙ ap (recover_with false w) (sym e)
 
 pub returns-clause-result : goal.returns-clause-result
 returns-clause-result g c =
-    let laid : Laid g.row.L.Denot = record { shape = g.L.Layout.shape; word_of = g.L.Layout.word_of; place_at = g.L.Layout.place_at; size_of = g.L.Layout.size_of } in
-    let w : State g.row.L.Denot = state_with c.args.layout.now c.args.memory.now c.args.queue.now c.args.calls.now c.args.trace.now in
-    let r : Recovery = c.in-Some.recovery in
-    let e : w.recovery ≡ Some r = sym c.recovery.ensures ∙ c.in-Some.is in
-    let next : c.step-next.result ≡ recovered_next (as_machine laid w) r = c.step-next.ensures.next ∙ recovery_next laid g.met.L.Layout.laid_out w r c.requires.holds e in
-    ap (λ (b : Bool). let x : Result Bool Refusal = Ok b in x) (c.tell.ensures.ready ∙ ap is_ready next) ∙ ap (recover_result_with laid false w) (sym e)
+    let w : State = state_with (g.L.Layout.shape c.args.layout.now) c.args.memory.now c.args.queue.now c.args.calls.now c.args.trace.now in
+    let some = recovery_some w.recovery (sym c.is_down.ensures ∙ c.if-not-is_down.false) in
+    let r : Recovery = some.0 in
+    let e : w.recovery ≡ Some r = some.1 in
+    let step = c.recover_once.ensures.step r (c.reserve.ensures.recovery ∙ e) in
+    let is = recovery_next w r c.requires.holds e in
+    ap (λ (b : Bool). let x : Result Bool Refusal = Ok b in x) (step.4 ∙ ap is_ready is) ∙ ap (recover_result_with false w) (sym e)

@@ -1,4 +1,4 @@
-use Rattle.protocol.proofs.RunsTold.{told_alike}
+use Rattle.protocol.proofs.runs.RunsTold.{told_alike}
 use Rattle.protocol.proofs.laws.equal_words_tell_the_same.Goals as goal
 
 pub returns : goal.returns

@@ -1,4 +1,4 @@
-use Rattle.protocol.proofs.Runs.{no_node_again}
+use Rattle.protocol.proofs.runs.Runs.{no_node_again}
 use Rattle.protocol.proofs.laws.no_node_stands_twice.Goals as goal
 
 pub returns : goal.returns

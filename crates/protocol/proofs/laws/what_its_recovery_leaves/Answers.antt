@@ -1,4 +1,4 @@
-use Rattle.protocol.proofs.RunsLeft.{boot_left, boot_kept}
+use Rattle.protocol.proofs.runs.RunsLeft.{boot_left, boot_kept}
 use Rattle.protocol.proofs.laws.what_its_recovery_leaves.Goals as goal
 
 pub returns-clause-recovered : goal.returns-clause-recovered

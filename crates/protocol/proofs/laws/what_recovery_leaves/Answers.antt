@@ -1,4 +1,4 @@
-use Rattle.protocol.proofs.RunsLeft.{crash_left, crash_kept}
+use Rattle.protocol.proofs.runs.RunsLeft.{crash_left, crash_kept}
 use Rattle.protocol.proofs.laws.what_recovery_leaves.Goals as goal
 
 pub returns-clause-recovered : goal.returns-clause-recovered

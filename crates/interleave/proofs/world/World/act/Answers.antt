@@ -1,11 +1,11 @@
 use Rattle.std.proofs.Common.{◌≡◌, true, List, sym, ap, ◌∙◌, subst, arith}
 use Rattle.interleave.specs.Calls.{is_no_memory}
-use Rattle.interleave.specs.Down.{recovery_step_of}
+use Rattle.protocol.specs.Acts.{recovery_step_of}
 use Rattle.interleave.proofs.DownLaws.{became_ready, start_down, start_refused, step_refused}
-use Rattle.history.proofs.Members.{part_same}
-use Rattle.history.specs.Parts.{IsPartOf}
-use Rattle.history.specs.declared.event.Entry.{Entry}
-use Rattle.interleave.specs.State.{State, Laid, is_down, kept_tells, steps_to_ready, order_in}
+use Rattle.events.proofs.Members.{part_same}
+use Rattle.events.specs.Parts.{IsPartOf}
+use Rattle.events.specs.declared.event.Entry.{Entry}
+use Rattle.interleave.specs.State.{State, is_down, kept_tells, steps_to_ready, order_in}
 use Rattle.interleave.proofs.world.World.act.Goals as goal
 
 pub returns-in-Start-clause-order : goal.returns-in-Start-clause-order
@@ -25,28 +25,24 @@ returns-in-Recover-clause-order g c =
 
 pub returns-in-Start-clause-left : goal.returns-in-Start-clause-left
 returns-in-Start-clause-left g c = λ room other down.
-    let laid : Laid g.row.L.Denot = record { shape = g.L.Layout.shape; word_of = g.L.Layout.word_of; place_at = g.L.Layout.place_at; size_of = g.L.Layout.size_of } in
-    let old : State g.row.L.Denot = c.args.self.now.now in
+    let old : State = c.args.self.now.now in
     let full = is_no_memory c.start.result in
-    let was : is_down old ≡ true = sym (start_down laid full old c.in-Start.client c.in-Start.number c.in-Start.call) ∙ sym (ap is_down c.start.ensures.world) ∙ down in
-    let same : steps_to_ready laid c.start.new.self.now ≡ steps_to_ready laid old = ap (steps_to_ready laid) (c.start.ensures.world ∙ start_refused laid full old c.in-Start.client c.in-Start.number c.in-Start.call was) in
+    let was : is_down old ≡ true = sym (start_down full old c.in-Start.client c.in-Start.number c.in-Start.call) ∙ sym (ap is_down c.start.ensures.world) ∙ down in
+    let same : steps_to_ready c.start.new.self.now ≡ steps_to_ready old = ap (steps_to_ready) (c.start.ensures.world ∙ start_refused full old c.in-Start.client c.in-Start.number c.in-Start.call was) in
     let none : recovery_step_of c.args.act ≡ 0 = ap recovery_step_of c.in-Start.is in
     omega (arith, same, none)
 
 pub returns-in-Start-clause-down : goal.returns-in-Start-clause-down
 returns-in-Start-clause-down g c = λ other down.
-    let laid : Laid g.row.L.Denot = record { shape = g.L.Layout.shape; word_of = g.L.Layout.word_of; place_at = g.L.Layout.place_at; size_of = g.L.Layout.size_of } in
-    let old : State g.row.L.Denot = c.args.self.now.now in
+    let old : State = c.args.self.now.now in
     let full = is_no_memory c.start.result in
-    sym (start_down laid full old c.in-Start.client c.in-Start.number c.in-Start.call) ∙ sym (ap is_down c.start.ensures.world) ∙ down
+    sym (start_down full old c.in-Start.client c.in-Start.number c.in-Start.call) ∙ sym (ap is_down c.start.ensures.world) ∙ down
 
 pub returns-in-Step-clause-tells : goal.returns-in-Step-clause-tells
 returns-in-Step-clause-tells g c = λ down.
-    let laid : Laid g.row.L.Denot = record { shape = g.L.Layout.shape; word_of = g.L.Layout.word_of; place_at = g.L.Layout.place_at; size_of = g.L.Layout.size_of } in
-    ap (kept_tells laid) (c.step.ensures.world ∙ step_refused laid (is_no_memory c.step.result) c.args.self.now.now c.in-Step.client down)
+    ap (kept_tells) (c.step.ensures.world ∙ step_refused (is_no_memory c.step.result) c.args.self.now.now c.in-Step.client down)
 
 pub returns-in-Recover-clause-announced : goal.returns-in-Recover-clause-announced
 returns-in-Recover-clause-announced g c = λ room down up.
-    let laid : Laid g.row.L.Denot = record { shape = g.L.Layout.shape; word_of = g.L.Layout.word_of; place_at = g.L.Layout.place_at; size_of = g.L.Layout.size_of } in
     let full = is_no_memory c.recover_step.result in
-    c.recover_step.ensures.announced (c.recover_step.ensures.result ∙ became_ready laid full c.args.self.now.now down (sym (ap is_down c.recover_step.ensures.world) ∙ up))
+    c.recover_step.ensures.announced (c.recover_step.ensures.result ∙ became_ready full c.args.self.now.now down (sym (ap is_down c.recover_step.ensures.world) ∙ up))

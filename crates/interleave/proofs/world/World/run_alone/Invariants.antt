@@ -1,21 +1,20 @@
 use Rattle.std.proofs.Common.{◌≡◌, ◌+◌, ◌≤◌, ◌<◌, Some, slice_get}
-use Rattle.history.specs.Parts.{IsPartOf}
+use Rattle.events.specs.Parts.{IsPartOf}
 use Rattle.protocol.specs.declared.UnderWay.{UnderWay}
 use Rattle.interleave.specs.Holds.{Holds}
-use Rattle.interleave.specs.State.{Laid, after_alone, order_in}
+use Rattle.interleave.specs.State.{after_alone, order_in}
 use Rattle.interleave.proofs.AloneLaws.{left_in}
 use Rattle.interleave.proofs.world.World.run_alone.Given as goal
 
 -- the call goes on, with as many steps made and left as there are at most
 abbrev pub invariant-loop-answer : goal.invariant-loop-answer
 invariant-loop-answer g l =
-    let laid : Laid _ = record { shape = g.L.Layout.shape; word_of = g.L.Layout.word_of; place_at = g.L.Layout.place_at; size_of = g.L.Layout.size_of } in
     record {
-      world : l.self.now ≡ after_alone laid l.steps l.fn.self.now l.client;
+      world : l.self.now ≡ after_alone l.steps l.fn.self.now l.client;
       client : l.client ≡ l.fn.client;
-      holds : Holds laid l.self.now;
+      holds : Holds l.self.now;
       waits : record { call : UnderWay; is : slice_get l.self.now.calls l.client.0 ≡ Some (Some call) };
-      left : l.steps + left_in laid l.self.now l.client ≤ 64;
+      left : l.steps + left_in l.self.now l.client ≤ 64;
       room : 0 < l.self.room;
       at_first : l.fn.self.room ≤ l.self.room;
       order : IsPartOf (order_in l.fn.self.now) (order_in l.self.now);
@@ -23,5 +22,4 @@ invariant-loop-answer g l =
 
 abbrev pub decreases-loop-answer : goal.decreases-loop-answer
 decreases-loop-answer g l =
-    let laid : Laid _ = record { shape = g.L.Layout.shape; word_of = g.L.Layout.word_of; place_at = g.L.Layout.place_at; size_of = g.L.Layout.size_of } in
-    left_in laid l.self.now l.client
+    left_in l.self.now l.client

@@ -2,7 +2,7 @@ use Rattle.std.proofs.Common.{◌≡◌, ℕ, ◌≤◌, sym, subst, ◌∙◌, 
 use Rattle.interleave.specs.Calls.{is_no_memory}
 use Rattle.interleave.specs.Holds.{Holds, IsExplained}
 use Rattle.interleave.proofs.KeptTells.{kept_sound}
-use Rattle.interleave.specs.State.{IsKeptSound, State, Laid, order_in}
+use Rattle.interleave.specs.State.{IsKeptSound, State, order_in}
 use Rattle.interleave.specs.Trace.{Roomy, state_with}
 use Rattle.words.specs.declared.call.Call.TheVariants.{Enq}
 use Rattle.protocol.specs.Machine.{FitsCall}
@@ -11,31 +11,27 @@ use Rattle.interleave.proofs.world.World.start.Goals as goal
 
 pub invariant_of-self : goal.invariant_of-self
 invariant_of-self g c =
-    let laid : Laid g.row.L.Denot = record { shape = g.L.Layout.shape; word_of = g.L.Layout.word_of; place_at = g.L.Layout.place_at; size_of = g.L.Layout.size_of } in
     let value : (v : ℕ) → c.args.call ≡ Enq v → v ≤ 4294967295 = search rules in
     let fits : FitsCall c.args.call = call_fits c.args.call value in
-    let old : State g.row.L.Denot = state_with c.self.inside.layout c.self.inside.memory c.self.inside.queue c.self.inside.calls.items c.self.inside.trace in
-    subst (Holds laid) (sym c.start_call.ensures.world) (holds_after_start laid g.met.L.Layout.laid_out (is_no_memory c.start_call.result) old c.args.client c.args.number c.args.call c.self.invariant fits)
+    let old : State = state_with (g.L.Layout.shape c.self.inside.layout) c.self.inside.memory c.self.inside.queue c.self.inside.calls.items c.self.inside.trace in
+    subst (Holds) (sym c.start_call.ensures.world) (holds_after_start (is_no_memory c.start_call.result) old c.args.client c.args.number c.args.call c.self.invariant fits)
 
 pub returns-clause-explained : goal.returns-clause-explained
 returns-clause-explained g c =
-    let laid : Laid g.row.L.Denot = record { shape = g.L.Layout.shape; word_of = g.L.Layout.word_of; place_at = g.L.Layout.place_at; size_of = g.L.Layout.size_of } in
     let value : (v : ℕ) → c.args.call ≡ Enq v → v ≤ 4294967295 = search rules in
     let fits : FitsCall c.args.call = call_fits c.args.call value in
-    let old : State g.row.L.Denot = state_with c.self.inside.layout c.self.inside.memory c.self.inside.queue c.self.inside.calls.items c.self.inside.trace in
-    subst (IsExplained laid) (sym c.start_call.ensures.world) (explained_world laid g.met.L.Layout.laid_out _ (holds_after_start laid g.met.L.Layout.laid_out (is_no_memory c.start_call.result) old c.args.client c.args.number c.args.call c.self.invariant fits))
+    let old : State = state_with (g.L.Layout.shape c.self.inside.layout) c.self.inside.memory c.self.inside.queue c.self.inside.calls.items c.self.inside.trace in
+    subst (IsExplained) (sym c.start_call.ensures.world) (explained_world _ (holds_after_start (is_no_memory c.start_call.result) old c.args.client c.args.number c.args.call c.self.invariant fits))
 
 pub returns-clause-sound : goal.returns-clause-sound
 returns-clause-sound g c =
-    let laid : Laid g.row.L.Denot = record { shape = g.L.Layout.shape; word_of = g.L.Layout.word_of; place_at = g.L.Layout.place_at; size_of = g.L.Layout.size_of } in
     let value : (v : ℕ) → c.args.call ≡ Enq v → v ≤ 4294967295 = search rules in
     let fits : FitsCall c.args.call = call_fits c.args.call value in
-    let old : State g.row.L.Denot = state_with c.self.inside.layout c.self.inside.memory c.self.inside.queue c.self.inside.calls.items c.self.inside.trace in
-    subst (IsKeptSound laid) (sym c.start_call.ensures.world) (kept_sound laid g.met.L.Layout.laid_out _ (holds_after_start laid g.met.L.Layout.laid_out (is_no_memory c.start_call.result) old c.args.client c.args.number c.args.call c.self.invariant fits))
+    let old : State = state_with (g.L.Layout.shape c.self.inside.layout) c.self.inside.memory c.self.inside.queue c.self.inside.calls.items c.self.inside.trace in
+    subst (IsKeptSound) (sym c.start_call.ensures.world) (kept_sound _ (holds_after_start (is_no_memory c.start_call.result) old c.args.client c.args.number c.args.call c.self.invariant fits))
 
 pub returns-clause-order : goal.returns-clause-order
 returns-clause-order g c =
-    let laid : Laid g.row.L.Denot = record { shape = g.L.Layout.shape; word_of = g.L.Layout.word_of; place_at = g.L.Layout.place_at; size_of = g.L.Layout.size_of } in
-    let old : State g.row.L.Denot = state_with c.self.inside.layout c.self.inside.memory c.self.inside.queue c.self.inside.calls.items c.self.inside.trace in
-    let was : old ≡ c.args.self.now.now = ap (λ (r : Roomy g.row.L.Denot). r.now) c.self.view_is in
-    ap (order_in {L = g.row.L.Denot}) c.start_call.ensures.world ∙ part_after_start laid g.met.L.Layout.laid_out (is_no_memory c.start_call.result) old c.args.client c.args.number c.args.call ∙ ap (order_in {L = g.row.L.Denot}) was
+    let old : State = state_with (g.L.Layout.shape c.self.inside.layout) c.self.inside.memory c.self.inside.queue c.self.inside.calls.items c.self.inside.trace in
+    let was : old ≡ c.args.self.now.now = ap (λ (r : Roomy). r.now) c.self.view_is in
+    ap order_in c.start_call.ensures.world ∙ part_after_start (is_no_memory c.start_call.result) old c.args.client c.args.number c.args.call ∙ ap order_in was

@@ -1,34 +1,30 @@
 use Rattle.std.proofs.Common.{◌≡◌, sym, subst, ap}
-use Rattle.history.specs.Parts.{IsPartOf}
+use Rattle.events.specs.Parts.{IsPartOf}
 use Rattle.interleave.specs.Calls.{is_no_memory}
 use Rattle.interleave.specs.Holds.{Holds, IsExplained}
 use Rattle.interleave.proofs.KeptTells.{kept_sound}
-use Rattle.interleave.specs.State.{IsKeptSound, State, Laid, order_in}
+use Rattle.interleave.specs.State.{IsKeptSound, State, order_in}
 use Rattle.interleave.specs.Trace.{Roomy, state_with}
 use Rattle.interleave.proofs.HoldsKept.{holds_after_step, part_after_step, explained_world}
 use Rattle.interleave.proofs.world.World.step.Goals as goal
 
 pub invariant_of-self : goal.invariant_of-self
 invariant_of-self g c =
-    let laid : Laid g.row.L.Denot = record { shape = g.L.Layout.shape; word_of = g.L.Layout.word_of; place_at = g.L.Layout.place_at; size_of = g.L.Layout.size_of } in
-    let old : State g.row.L.Denot = state_with c.self.inside.layout c.self.inside.memory c.self.inside.queue c.self.inside.calls.items c.self.inside.trace in
-    subst (Holds laid) (sym c.step_call.ensures.world) (holds_after_step laid g.met.L.Layout.laid_out (is_no_memory c.step_call.result) old c.args.client c.self.invariant)
+    let old : State = state_with (g.L.Layout.shape c.self.inside.layout) c.self.inside.memory c.self.inside.queue c.self.inside.calls.items c.self.inside.trace in
+    subst (Holds) (sym c.step_call.ensures.world) (holds_after_step (is_no_memory c.step_call.result) old c.args.client c.self.invariant)
 
 pub returns-clause-explained : goal.returns-clause-explained
 returns-clause-explained g c =
-    let laid : Laid g.row.L.Denot = record { shape = g.L.Layout.shape; word_of = g.L.Layout.word_of; place_at = g.L.Layout.place_at; size_of = g.L.Layout.size_of } in
-    let old : State g.row.L.Denot = state_with c.self.inside.layout c.self.inside.memory c.self.inside.queue c.self.inside.calls.items c.self.inside.trace in
-    subst (IsExplained laid) (sym c.step_call.ensures.world) (explained_world laid g.met.L.Layout.laid_out _ (holds_after_step laid g.met.L.Layout.laid_out (is_no_memory c.step_call.result) old c.args.client c.self.invariant))
+    let old : State = state_with (g.L.Layout.shape c.self.inside.layout) c.self.inside.memory c.self.inside.queue c.self.inside.calls.items c.self.inside.trace in
+    subst (IsExplained) (sym c.step_call.ensures.world) (explained_world _ (holds_after_step (is_no_memory c.step_call.result) old c.args.client c.self.invariant))
 
 pub returns-clause-sound : goal.returns-clause-sound
 returns-clause-sound g c =
-    let laid : Laid g.row.L.Denot = record { shape = g.L.Layout.shape; word_of = g.L.Layout.word_of; place_at = g.L.Layout.place_at; size_of = g.L.Layout.size_of } in
-    let old : State g.row.L.Denot = state_with c.self.inside.layout c.self.inside.memory c.self.inside.queue c.self.inside.calls.items c.self.inside.trace in
-    subst (IsKeptSound laid) (sym c.step_call.ensures.world) (kept_sound laid g.met.L.Layout.laid_out _ (holds_after_step laid g.met.L.Layout.laid_out (is_no_memory c.step_call.result) old c.args.client c.self.invariant))
+    let old : State = state_with (g.L.Layout.shape c.self.inside.layout) c.self.inside.memory c.self.inside.queue c.self.inside.calls.items c.self.inside.trace in
+    subst (IsKeptSound) (sym c.step_call.ensures.world) (kept_sound _ (holds_after_step (is_no_memory c.step_call.result) old c.args.client c.self.invariant))
 
 pub returns-clause-order : goal.returns-clause-order
 returns-clause-order g c =
-    let laid : Laid g.row.L.Denot = record { shape = g.L.Layout.shape; word_of = g.L.Layout.word_of; place_at = g.L.Layout.place_at; size_of = g.L.Layout.size_of } in
-    let old : State g.row.L.Denot = state_with c.self.inside.layout c.self.inside.memory c.self.inside.queue c.self.inside.calls.items c.self.inside.trace in
-    let was : old ≡ c.args.self.now.now = ap (λ (r : Roomy g.row.L.Denot). r.now) c.self.view_is in
-    subst (λ (w : State g.row.L.Denot). IsPartOf (order_in w) (order_in (state_with c.self.inside.layout c.step_call.new.memory c.step_call.new.queue c.step_call.new.calls.items c.step_call.new.trace))) was (subst (λ (w : State g.row.L.Denot). IsPartOf (order_in old) (order_in w)) (sym c.step_call.ensures.world) (part_after_step laid g.met.L.Layout.laid_out (is_no_memory c.step_call.result) old c.args.client c.self.invariant))
+    let old : State = state_with (g.L.Layout.shape c.self.inside.layout) c.self.inside.memory c.self.inside.queue c.self.inside.calls.items c.self.inside.trace in
+    let was : old ≡ c.args.self.now.now = ap (λ (r : Roomy). r.now) c.self.view_is in
+    subst (λ (w : State). IsPartOf (order_in w) (order_in (state_with (g.L.Layout.shape c.self.inside.layout) c.step_call.new.memory c.step_call.new.queue c.step_call.new.calls.items c.step_call.new.trace))) was (subst (λ (w : State). IsPartOf (order_in old) (order_in w)) (sym c.step_call.ensures.world) (part_after_step (is_no_memory c.step_call.result) old c.args.client c.self.invariant))

@@ -1,0 +1,19 @@
+//! What the words say in which calls note their kind and how they went.
+
+/// In a cell: its dequeue found the queue empty. An open cell is 0.
+pub const EMPTY_CELL: u64 = 1;
+
+/// In a cell: its dequeue got a value. The word is the value and this.
+pub const GOT_CELL: u64 = 2;
+
+/// The kind of an entry: its call is an enqueue.
+pub const ENQUEUE_KIND: u64 = 1;
+
+/// The kind of an entry: its call is a dequeue.
+pub const DEQUEUE_KIND: u64 = 2;
+
+/// The status of an enqueue's entry: it took effect. An open entry's status is 0.
+pub const TAKEN_STATUS: u64 = 1;
+
+/// The status of a dequeue's entry: it found the queue empty.
+pub const EMPTY_STATUS: u64 = 2;

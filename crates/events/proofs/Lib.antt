@@ -1,0 +1,12 @@
+pub mod Lists
+pub mod Growing
+pub mod Members
+pub mod EffectLists
+pub mod GrowingTold
+pub mod GrowingReplay
+pub mod Openings
+pub mod TraceGrows
+pub mod TraceEffects
+pub mod TraceQueue
+pub mod Interrupted
+pub mod TraceExplains

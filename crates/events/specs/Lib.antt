@@ -1,0 +1,9 @@
+pub mod Sequence
+pub mod Effects
+pub mod History
+pub mod Orders
+pub mod Replay
+pub mod Telling
+pub mod Explains
+pub mod Parts
+pub mod Trace

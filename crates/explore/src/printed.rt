@@ -1,0 +1,143 @@
+//! The lines of a transcript.
+
+ghost use Rattle.std.specs.Prelude.{◌≡◌, ◌≢◌, ◌++◌, ◌∷◌, [], OnOk, IfErr};
+
+use crate::command::Command;
+use crate::ordered::Ordered;
+use std::fmt;
+use std::marker::Model;
+use words::{Client, Refusal, Reply, Told};
+
+/// The values that a queue holds, in order.
+#[derive(Drop)]
+pub(crate) struct Values {
+    values: Vec<u32>,
+}
+
+impl Model for Values {
+    ghost use Rattle.std.specs.Prelude.{ℕ, List};
+
+    ghost Value = { List ℕ };
+
+    ghost view = { λ v. v.values.items };
+}
+
+impl Values {
+    pub(crate) fn from_vec(values: Vec<u32>) -> Self
+        ensures { result ≡ values.items }
+    {
+        Values { values }
+    }
+}
+
+/// A line of a transcript.
+#[derive(Drop)]
+pub(crate) enum Line {
+    /// How many words the memory has.
+    Size(usize),
+    /// A command started a call.
+    Call(Command),
+    /// A call returned, after so many steps.
+    Return {
+        client: Client,
+        reply: Reply,
+        steps: u64,
+    },
+    /// What a command asks for was refused.
+    Refused(Refusal),
+    /// A word is kept, and whether that changed its kept value.
+    Evicted {
+        word: u64,
+        changed: bool,
+    },
+    /// The whole system stopped.
+    Crash,
+    /// Recovery is not at its end yet.
+    Recovering,
+    /// The queue is ready, after so many steps of recovery since the crash.
+    Ready {
+        steps: u64,
+    },
+    /// What a client is told.
+    Told {
+        client: Client,
+        told: Told,
+    },
+    /// What the queue holds.
+    Content(Values),
+    /// How many calls took effect.
+    Order(usize),
+    /// One of those calls.
+    Entry(Ordered),
+}
+
+/// Each value after a space, or a dash where there are none.
+impl fmt::Display for Values {
+    ghost use Rattle.std.specs.Prelude.{Some};
+    ghost use Rattle.explore.specs.Prints.{values_text};
+
+    ghost output = { λ values. Some (values_text values) };
+
+    fn fmt<W: fmt::Write>(&self, f: &mut fmt::Formatter<W>) -> fmt::Result {
+        if self.values.is_empty() {
+            return write!(f, " -");
+        }
+        for value in &self.values {
+            write!(f, " {value}")?;
+        }
+        Ok(())
+    }
+}
+
+/// `size 15`, `call enq 0 5`, `return 0 done steps 10`, `refused 11 NoRoom`, `evict 5 kept` or `evict 5 same`,
+/// `crash`, `recovering`, `ready steps 13`, `told 0 got 5`, `content 10 20` or `content -`, `order 2`, `0 enq 5 done`.
+impl fmt::Display for Line {
+    ghost use Rattle.std.specs.Prelude.{Some};
+    ghost use Rattle.explore.specs.Prints.{line_text};
+
+    ghost output = { λ line. Some (line_text line) };
+
+    fn fmt<W: fmt::Write>(&self, f: &mut fmt::Formatter<W>) -> fmt::Result {
+        match self {
+            Line::Size(words) => write!(f, "size {words}"),
+            Line::Call(command) => write!(f, "call {command}"),
+            Line::Return {
+                client,
+                reply,
+                steps,
+            } => write!(f, "return {} {reply} steps {steps}", client.0),
+            Line::Refused(refusal) => write!(f, "refused {refusal}"),
+            Line::Evicted { word, changed } => {
+                let outcome = if *changed { "kept" } else { "same" };
+                write!(f, "evict {word} {outcome}")
+            }
+            Line::Crash => write!(f, "crash"),
+            Line::Recovering => write!(f, "recovering"),
+            Line::Ready { steps } => write!(f, "ready steps {steps}"),
+            Line::Told { client, told } => write!(f, "told {} {told}", client.0),
+            Line::Content(values) => write!(f, "content{values}"),
+            Line::Order(calls) => write!(f, "order {calls}"),
+            Line::Entry(ordered) => write!(f, "{ordered}"),
+        }
+    }
+}
+
+/// Adds a line.
+pub(crate) fn add(lines: &mut Vec<Line>, line: Line) -> Result<(), Refusal>
+    ensures lines { OnOk result (lines.new.items ≡ lines.old.items ++ line ∷ []) }
+    ensures errors { IfErr result (λ e. e ≡ Refusal.NoMemory) }
+{
+    lines.push(line).map_err(|_| Refusal::NoMemory)
+}
+
+/// Adds why something was refused; want of memory is no line, but ends the transcript.
+pub(crate) fn add_refused(lines: &mut Vec<Line>, refusal: Refusal) -> Result<(), Refusal>
+    ensures lines { OnOk result (lines.new.items ≡ lines.old.items ++ Line.Refused refusal ∷ []) }
+    ensures another { OnOk result (refusal ≢ Refusal.NoMemory) }
+    ensures errors { IfErr result (λ e. e ≡ Refusal.NoMemory) }
+{
+    if let Refusal::NoMemory = refusal {
+        return Err(refusal);
+    }
+    add(lines, Line::Refused(refusal))
+}

@@ -1,6 +1,0 @@
-use Rattle.std.proofs.Common.{◌≡◌, take}
-use Rattle.history.specs.Effects.{order_of}
-use Rattle.history.proofs.keeping.order.Given as goal
-
-abbrev pub invariant-loop-effect : goal.invariant-loop-effect
-invariant-loop-effect l = l.entries.items ≡ order_of (take l.effect-index l.effects)

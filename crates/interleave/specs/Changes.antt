@@ -1,0 +1,31 @@
+-- What takes effect by a change of a kept word, and what is noted of a step.
+use Rattle.std.specs.Prelude.{ℕ, List, length, Option, Some, None, if◌then◌else◌}
+use Rattle.words.specs.declared.call.Reply.{Reply}
+use Rattle.persist.specs.declared.access.Change.{Change}
+use Rattle.arena.specs.Layout.{place_at}
+use Rattle.arena.specs.declared.place.Place.{Place}
+use Rattle.stepper.specs.declared.resume.After.{After}
+use Rattle.helping.specs.Looks.{is_look}
+use Rattle.helping.specs.declared.op.Op.{Op}
+use Rattle.events.specs.declared.event.Effect.{Effect}
+use Rattle.protocol.specs.Machine.{World, effects_on_keep}
+use Rattle.protocol.specs.declared.UnderWay.{UnderWay}
+use Rattle.interleave.specs.Calls.{went_on_to_nothing}
+use Rattle.interleave.specs.Effects.{effects_with_look}
+
+-- the effects once the word of this place, if it is one, has a new kept value
+abbrev pub effects_at : World → Option Place → ℕ → List Effect
+effects_at w None new = w.log.effects
+effects_at w (Some place) new = effects_on_keep w place new
+
+-- the effects once a kept word changed so, if one did
+abbrev pub effects_on_change : World → Option Change → List Effect
+effects_on_change w None = w.log.effects
+effects_on_change w (Some change) = effects_at w (place_at w.shape change.word) change.new
+
+-- the effects after a step that made this change, and went on so
+abbrev pub effects_on_step : World → UnderWay → Option Change → After Op Reply → List Effect
+effects_on_step w u change after =
+    if is_look u.op
+    then effects_with_look u.place (went_on_to_nothing after) (length w.log.events) w.log.effects
+    else effects_on_change w change

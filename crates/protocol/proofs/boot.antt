@@ -1,0 +1,2 @@
+pub mod BootedWords
+pub mod Booted

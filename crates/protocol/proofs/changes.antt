@@ -1,0 +1,4 @@
+pub mod Puts
+pub mod Keeps
+pub mod Flushes
+pub mod Stores

@@ -1,0 +1,6 @@
+pub mod Stages
+pub mod Moments
+pub mod Acts
+pub mod ReadyWorlds
+pub mod RecoveringWorlds
+pub mod Facts

@@ -1,0 +1,11 @@
+pub mod Ledger
+pub mod Places
+pub mod Links
+pub mod Base
+pub mod Knows
+pub mod Grows
+pub mod Records
+pub mod Sound
+pub mod Recovery
+pub mod Told
+pub mod Worlds

@@ -1,0 +1,17 @@
+-- The kept words of a queue, seen by their places.
+use Rattle.std.specs.Prelude.{ℕ, List, slice_index}
+use Rattle.arena.specs.Layout.{word_at}
+use Rattle.arena.specs.Shape.{Shape}
+use Rattle.arena.specs.declared.place.Place.{Place}
+
+-- the values of the places, where the words are these
+abbrev pub kept_in : Shape → List ℕ → Place → ℕ
+kept_in s ws p = slice_index ws (word_at s p)
+
+-- a queue as its kept words have it
+pub record Kept : Type 0 where
+  pub shape : Shape
+  pub words : List ℕ
+
+abbrev pub kept_of : Kept → Place → ℕ
+kept_of queue = kept_in queue.shape queue.words

@@ -1,0 +1,98 @@
+//! Where recovery waits.
+
+use crate::ends::{
+    RecoveryFlushHead, RecoveryFlushResult, RecoveryFlushStatus, RecoveryFlushTail,
+    RecoveryLoadHead, RecoveryLoadInsert, RecoveryLoadMark, RecoveryLoadNext, RecoveryLoadValue,
+    RecoveryStoreHead, RecoveryStoreResult, RecoveryStoreStatus, RecoveryStoreTail,
+};
+use crate::telling::{
+    RecoveryLoadAnnouncement, RecoveryLoadCell, RecoveryLoadEntryNode, RecoveryLoadKind,
+    RecoveryLoadNumber, RecoveryLoadRemove, RecoveryLoadRemovedValue, RecoveryLoadStatus,
+};
+use arena::Layout;
+use persist::WordMemory;
+use stepper::{Points, Resume, Stepped};
+use words::{Client, Told};
+
+/// A waiting point of recovery.
+#[derive(Clone, Copy, Debug, PartialEq, Eq, Hash)]
+pub enum RecoveryPoint {
+    RecoveryLoadHead(RecoveryLoadHead),
+    RecoveryLoadNext(RecoveryLoadNext),
+    RecoveryLoadInsert(RecoveryLoadInsert),
+    RecoveryStoreStatus(RecoveryStoreStatus),
+    RecoveryFlushStatus(RecoveryFlushStatus),
+    RecoveryLoadMark(RecoveryLoadMark),
+    RecoveryLoadValue(RecoveryLoadValue),
+    RecoveryStoreResult(RecoveryStoreResult),
+    RecoveryFlushResult(RecoveryFlushResult),
+    RecoveryStoreHead(RecoveryStoreHead),
+    RecoveryFlushHead(RecoveryFlushHead),
+    RecoveryStoreTail(RecoveryStoreTail),
+    RecoveryFlushTail(RecoveryFlushTail),
+    RecoveryLoadAnnouncement(RecoveryLoadAnnouncement),
+    RecoveryLoadCell(RecoveryLoadCell),
+    RecoveryLoadNumber(RecoveryLoadNumber),
+    RecoveryLoadKind(RecoveryLoadKind),
+    RecoveryLoadStatus(RecoveryLoadStatus),
+    RecoveryLoadRemove(RecoveryLoadRemove),
+    RecoveryLoadEntryNode(RecoveryLoadEntryNode),
+    RecoveryLoadRemovedValue(RecoveryLoadRemovedValue),
+}
+
+/// What recovery tells a client.
+#[derive(Clone, Copy, Debug, PartialEq, Eq, Hash)]
+pub struct Report {
+    pub client: Client,
+    pub told: Told,
+}
+
+/// It mends the list, and then reports client by client: each report ends the machine, and the next client begins it
+/// anew.
+impl Points for RecoveryPoint {
+    type Answer = Report;
+
+    ghost use Rattle.recover.specs.Table.{access_of, successor, IsPoint};
+
+    ghost access = { access_of };
+
+    ghost successor = { successor };
+
+    ghost in_range = { IsPoint };
+}
+
+impl Resume for RecoveryPoint {
+    type Point = RecoveryPoint;
+
+    ghost point = { λ at. at };
+
+    fn step<L: Layout, M: WordMemory>(
+        self,
+        layout: &L,
+        memory: &mut M,
+    ) -> Stepped<RecoveryPoint, Report> {
+        match self {
+            RecoveryPoint::RecoveryLoadHead(point) => point.step(layout, memory),
+            RecoveryPoint::RecoveryLoadNext(point) => point.step(layout, memory),
+            RecoveryPoint::RecoveryLoadInsert(point) => point.step(layout, memory),
+            RecoveryPoint::RecoveryStoreStatus(point) => point.step(layout, memory),
+            RecoveryPoint::RecoveryFlushStatus(point) => point.step(layout, memory),
+            RecoveryPoint::RecoveryLoadMark(point) => point.step(layout, memory),
+            RecoveryPoint::RecoveryLoadValue(point) => point.step(layout, memory),
+            RecoveryPoint::RecoveryStoreResult(point) => point.step(layout, memory),
+            RecoveryPoint::RecoveryFlushResult(point) => point.step(layout, memory),
+            RecoveryPoint::RecoveryStoreHead(point) => point.step(layout, memory),
+            RecoveryPoint::RecoveryFlushHead(point) => point.step(layout, memory),
+            RecoveryPoint::RecoveryStoreTail(point) => point.step(layout, memory),
+            RecoveryPoint::RecoveryFlushTail(point) => point.step(layout, memory),
+            RecoveryPoint::RecoveryLoadAnnouncement(point) => point.step(layout, memory),
+            RecoveryPoint::RecoveryLoadCell(point) => point.step(layout, memory),
+            RecoveryPoint::RecoveryLoadNumber(point) => point.step(layout, memory),
+            RecoveryPoint::RecoveryLoadKind(point) => point.step(layout, memory),
+            RecoveryPoint::RecoveryLoadStatus(point) => point.step(layout, memory),
+            RecoveryPoint::RecoveryLoadRemove(point) => point.step(layout, memory),
+            RecoveryPoint::RecoveryLoadEntryNode(point) => point.step(layout, memory),
+            RecoveryPoint::RecoveryLoadRemovedValue(point) => point.step(layout, memory),
+        }
+    }
+}

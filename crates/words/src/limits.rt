@@ -1,0 +1,24 @@
+//! How large a queue may be, and what its calls may ask for.
+
+use crate::told::Told;
+
+/// The most clients of a queue.
+pub const MAX_CLIENTS: usize = 16;
+
+/// The most records of one client in a queue.
+pub const MAX_RECORDS: u32 = 4_096;
+
+/// The greatest number that a record, or a node, of a queue can have: that of the last record of the last client.
+pub const MAX_RECORD_NUMBER: u32 = 65_536;
+
+/// The greatest number of a log queue's call.
+pub const MAX_CALL_NUMBER: u64 = 1_099_511_627_776;
+
+/// The greatest value of an item.
+pub const MAX_VALUE: u32 = 4_294_967_295;
+
+/// The most steps of a call that goes on alone, wherever the other clients stopped.
+pub const MAX_STEPS_ALONE: u32 = 64;
+
+/// What each client is told, and None from the last client on.
+pub type Reports = [Told; MAX_CLIENTS];
