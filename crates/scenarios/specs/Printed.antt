@@ -4,7 +4,7 @@ use Rattle.words.specs.Refusal.{refusal_text}
 use Rattle.words.specs.declared.refusal.Refusal.TheVariants.{BadLine}
 use Rattle.explore.specs.Lines.{lines_of}
 use Rattle.explore.specs.Script.{Says, IsFirstBad}
-use Rattle.explore.specs.Transcript.{script_prints}
+use Rattle.explore.specs.Transcript.{script_text}
 use Rattle.explore.specs.declared.command.Command.{Command}
 use Rattle.explore.specs.declared.command.QueueLine.{QueueLine}
 
@@ -16,5 +16,5 @@ bad_line number = codes "line " ++ decimal number ++ codes ": " ++ refusal_text 
 abbrev pub IsPrintOf : List ℕ → List ℕ → Type 0
 IsPrintOf text printed =
     ((queue : Option QueueLine) × (commands : List Command)
-    × Says (lines_of text) queue commands × (printed ≡ script_prints queue commands))
+    × Says (lines_of text) queue commands × (printed ≡ script_text queue commands))
     ⊎ ((number : ℕ) × IsFirstBad (lines_of text) number × (printed ≡ bad_line number))
