@@ -56,8 +56,8 @@ impl<L: Layout, W: KeptWords> KeptQueue<'_, L, W> {
         ensures { MatchOption result (AreSoundWords self.now.shape self.now.words)
             (λ rule. IsFirstBroken self.now.shape self.now.words rule) }
     {
-        // A link back would keep recovery walking for ever, and a link to an unused record would put the next value
-        // enqueued there before those that are in the queue: `names_the_first_broken_rule_of_a_durable_queue`.
+        // A link back would keep recovery walking for ever, and a link to an unused record would put a value into the
+        // queue before its enqueue took effect: `names_the_first_broken_rule_of_a_durable_queue`.
         if !self.is_chain_sound(place) {
             return Some(Rule::Chain);
         }
