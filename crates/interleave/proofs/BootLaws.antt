@@ -54,7 +54,7 @@ module _ (s : Shape) (ws : Words) (some : 1 ≤ s.clients) (few : s.clients ≤ 
 
   -- they are in range
   pub booted_fit : WordsFit s (words_after_crash ws)
-  booted_fit = record { room = room_of s ws.kept sound.count; same = refl; count = sound.count; cached = in_range; kept = in_range }
+  booted_fit = record { room = room_of s ws.kept sound.count; same = refl; cached_count = sound.count; count = sound.count; cached = in_range; kept = in_range }
 
   -- what they tell, by the places that the layout has
   pub booted_tells : tells_by s (kept_in s ws.kept) ≡ tells_by s (value_of_place s ws.kept)

@@ -209,7 +209,7 @@ holds_gone_on w client u holds here = record {
 holds_counted : (w : State) → Holds w → Holds (after_bump_load w)
 holds_counted w holds = record {
   safe = record {
-    words = record { room = holds.safe.words.room; same = holds.safe.words.same; count = holds.safe.words.count; cached = holds.safe.words.cached; kept = holds.safe.words.kept };
+    words = record { room = holds.safe.words.room; same = holds.safe.words.same; cached_count = holds.safe.words.cached_count; count = holds.safe.words.count; cached = holds.safe.words.cached; kept = holds.safe.words.kept };
     clients = holds.safe.clients;
     few = holds.safe.few;
     calls_fit = holds.safe.calls_fit;
@@ -248,7 +248,7 @@ holds_begun w client number call holds ready idle left number_fits call_fits =
     let safe = IsSafe-begun s w.words w.calls client (used_by w client) number (length w.log.events) call holds.safe within may.record_left (number_few s.kind number number_fits) (value_few call call_fits) in
     record {
       safe = record {
-        words = record { room = safe.words.room; same = safe.words.same; count = safe.words.count; cached = safe.words.cached; kept = safe.words.kept };
+        words = record { room = safe.words.room; same = safe.words.same; cached_count = safe.words.cached_count; count = safe.words.count; cached = safe.words.cached; kept = safe.words.kept };
         clients = safe.clients;
         few = safe.few;
         calls_fit = safe.calls_fit;
@@ -358,7 +358,7 @@ crashed_is w =
 holds_crashed : (w : State) → Holds w → Holds (after_stop w)
 holds_crashed w holds = record {
   safe = record {
-    words = record { room = omega (arith, holds.safe.words.room, holds.safe.words.same); same = refl; count = holds.safe.words.count; cached = holds.safe.words.kept; kept = holds.safe.words.kept };
+    words = record { room = omega (arith, holds.safe.words.room, holds.safe.words.same); same = refl; cached_count = holds.safe.words.count; count = holds.safe.words.count; cached = holds.safe.words.kept; kept = holds.safe.words.kept };
     clients = length-replicate (length w.calls) None ∙ holds.safe.clients;
     few = holds.safe.few;
     calls_fit = λ t. subst (IfCall w.shape) (sym (no_call (length w.calls) t)) tt;
@@ -456,7 +456,7 @@ holds_new s some few kind =
     let fit : (p : Place) → Fits s p (slice_index zeros (word_at s p)) = λ p. subst (Fits s p) (sym (zero_at size (word_at s p))) (zero_fits s p) in
     record {
       safe = record {
-        words = record { room = omega (arith, long); same = refl; count = inl long; cached = λ p at read. fit p; kept = λ p at read. fit p };
+        words = record { room = omega (arith, long); same = refl; cached_count = inl long; count = inl long; cached = λ p at read. fit p; kept = λ p at read. fit p };
         clients = length-replicate s.clients None;
         few = few;
         calls_fit = λ t. subst (IfCall s) (sym (no_call s.clients t)) tt;

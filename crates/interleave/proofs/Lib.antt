@@ -1,3 +1,5 @@
+pub mod Entering
+pub mod RunLaws
 pub mod ValueLaws
 pub mod Unsettled
 pub mod Records

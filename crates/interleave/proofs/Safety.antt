@@ -60,10 +60,11 @@ count-set s ws u v lt (inr b) = inr (record {
 })
 
 pub WordsFit-after : (s : Shape) (access : Access Place) → AccessFits s access → (ws : Words) → WordsFit s ws → WordsFit s (after_one s access ws)
-WordsFit-after s (Load p) h ws w = record { room = w.room; same = w.same; count = w.count; cached = w.cached; kept = w.kept }
+WordsFit-after s (Load p) h ws w = record { room = w.room; same = w.same; cached_count = w.cached_count; count = w.count; cached = w.cached; kept = w.kept }
 WordsFit-after s (Store p v) h ws w = record {
   room = grind (arith, common_steps, w.room);
   same = grind (arith, common_steps, w.same);
+  cached_count = count-set s ws.cached (word_at s p) v ((laid_out s).below p h.0) w.cached_count;
   count = w.count;
   cached = AllFit-set s ws.cached p v w.room h.0 (λ read. h.1) w.cached;
   kept = w.kept;
@@ -73,15 +74,17 @@ WordsFit-after s (Cas p old new) h ws w =
       | inl e ↦ rw e (record {
         room = grind (arith, common_steps, w.room);
         same = grind (arith, common_steps, w.same);
+        cached_count = count-set s ws.cached (word_at s p) new ((laid_out s).below p h.0) w.cached_count;
         count = w.count;
         cached = AllFit-set s ws.cached p new w.room h.0 (λ read. h.1) w.cached;
         kept = w.kept;
       })
-      | inr e ↦ rw e (record { room = w.room; same = w.same; count = w.count; cached = w.cached; kept = w.kept })
+      | inr e ↦ rw e (record { room = w.room; same = w.same; cached_count = w.cached_count; count = w.count; cached = w.cached; kept = w.kept })
     ]
 WordsFit-after s (Flush p) h ws w = record {
   room = w.room;
   same = grind (arith, common_steps, w.same);
+  cached_count = w.cached_count;
   count = count-set s ws.kept (word_at s p) (slice_index ws.cached (word_at s p)) ((laid_out s).below p h) w.count;
   cached = w.cached;
   kept = AllFit-set s ws.kept p (slice_index ws.cached (word_at s p)) (omega (arith, w.room, w.same)) h (w.cached p h) w.kept;
@@ -151,7 +154,7 @@ pub IsSafe-evicted : (s : Shape) (ws : Words) (calls : List (Option UnderWay)) (
 IsSafe-evicted s ws calls p hp safe =
     let flushed = IsSafe-accessed s ws calls (Flush p) hp safe in
     record {
-      words = record { room = flushed.words.room; same = flushed.words.same; count = flushed.words.count; cached = flushed.words.cached; kept = flushed.words.kept };
+      words = record { room = flushed.words.room; same = flushed.words.same; cached_count = flushed.words.cached_count; count = flushed.words.count; cached = flushed.words.cached; kept = flushed.words.kept };
       clients = safe.clients;
       few = safe.few;
       calls_fit = safe.calls_fit;

@@ -12,4 +12,4 @@ pub mod OneAccess
 pub mod Recoveries
 pub mod OneEvent
 pub mod Booted
-pub mod Down
+pub mod Runs

@@ -19,9 +19,11 @@ use Rattle.interleave.specs.declared.queue.Queue.TheVariants.{Durable, Log}
 abbrev pub AllFit : Shape → List ℕ → Type 0
 AllFit s ws = (p : Place) → IsPlace s p → IsReadByCalls p → Fits s p (slice_index ws (word_at s p))
 
+-- there are as many words as the layout has, or a block's, those past the layout 0; and each that calls read is in its range
 pub record WordsFit (s : Shape) (ws : Words) : Type 0 where
   pub room : size_of s ≤ length ws.cached
   pub same : length ws.kept ≡ length ws.cached
+  pub cached_count : SizeIsSound s ws.cached
   pub count : SizeIsSound s ws.kept
   pub cached : AllFit s ws.cached
   pub kept : AllFit s ws.kept

@@ -1,5 +1,5 @@
 -- The state of a world, and what each act makes of it.
-use Rattle.std.specs.Prelude.{◌≡◌, ℕ, zero, suc, ◌+◌, ◌*◌, Bool, false, true, is_ok, is_some, length, List, [], ◌∷◌, Option, Some, None, Result, Ok, Err, replicate, slice_get, slice_index_or, slice_set, if◌then◌else◌, ◌==◌}
+use Rattle.std.specs.Prelude.{◌≡◌, ℕ, zero, suc, ◌+◌, ◌*◌, Bool, false, true, is_ok, is_some, length, List, [], ◌∷◌, Option, Some, None, Result, Ok, Err, replicate, slice_get, slice_index_or, slice_set, nat_lt, if◌then◌else◌, ◌==◌}
 use Rattle.words.specs.declared.call.Call.{Call}
 use Rattle.words.specs.declared.call.Client.{Client}
 use Rattle.words.specs.declared.call.Reply.{Reply}
@@ -163,13 +163,14 @@ after_step full w client = step_with full w client (waiting_result (is_down w) (
 abbrev pub step_result : Bool → State → Client → Result (Option Reply) Refusal
 step_result full w client = step_result_with full w (waiting_result (is_down w) (slice_get w.calls client.0))
 
--- what an eviction leaves, and what it answers: a word has a place where it is below the size
+-- what an eviction leaves, and what it answers. A word past the layout, which a memory of a block's size has, is 0 in
+-- both values for good
 abbrev pub evict_with : State → ℕ → Option Place → State
 evict_with w word None = w
 evict_with w word (Some place) = record w { words = words_after_eviction word w.words; log = (with_eviction (machine w) place).log }
 
 abbrev pub evict_result_with : State → ℕ → Option Place → Result (Option Change) Refusal
-evict_result_with w word None = Err NoWord
+evict_result_with w word None = if nat_lt word (length w.words.cached) then Ok None else Err NoWord
 evict_result_with w word (Some place) = Ok (change_of w.words word)
 
 abbrev pub after_evict : State → ℕ → State
@@ -236,21 +237,34 @@ after_recover full w = recover_with full w w.recovery
 abbrev pub recover_result : Bool → State → Result Bool Refusal
 recover_result full w = recover_result_with full w w.recovery
 
+-- what an attempt at an act leaves, where memory is refused to it (`full`) or not; an eviction takes none
+abbrev pub after_attempt : Bool → State → Act ℕ → State
+after_attempt full w (Start client number call) = after_start full w client number call
+after_attempt full w (Step client) = after_step full w client
+after_attempt full w (Evict word) = after_evict w word
+after_attempt full w Crash = after_crash full w
+after_attempt full w Recover = after_recover full w
+
+-- whether the act is accepted then
+abbrev pub is_accepted_with : Bool → State → Act ℕ → Bool
+is_accepted_with full w (Start client number call) = is_ok (start_result full w client number)
+is_accepted_with full w (Step client) = is_ok (step_result full w client)
+is_accepted_with full w (Evict word) = is_ok (evict_result w word)
+is_accepted_with full w Crash = is_ok (crash_result full)
+is_accepted_with full w Recover = is_ok (recover_result full w)
+
+-- an accepted act counts as one
+abbrev pub count_of : Bool → ℕ
+count_of true = 1
+count_of false = 0
+
 -- an act, memory being there
 abbrev pub after_act : State → Act ℕ → State
-after_act w (Start client number call) = after_start false w client number call
-after_act w (Step client) = after_step false w client
-after_act w (Evict word) = after_evict w word
-after_act w Crash = after_crash false w
-after_act w Recover = after_recover false w
+after_act w act = after_attempt false w act
 
--- whether the act is accepted
+-- whether it is accepted
 abbrev pub is_accepted : State → Act ℕ → Bool
-is_accepted w (Start client number call) = is_ok (start_result false w client number)
-is_accepted w (Step client) = is_ok (step_result false w client)
-is_accepted w (Evict word) = is_ok (evict_result w word)
-is_accepted w Crash = is_ok (crash_result false)
-is_accepted w Recover = is_ok (recover_result false w)
+is_accepted w act = is_accepted_with false w act
 
 -- a whole list of acts; a refused one is passed over
 abbrev pub after_acts : State → List (Act ℕ) → State
@@ -260,7 +274,7 @@ after_acts w (act ∷ acts) = after_acts (after_act w act) acts
 -- how many of the acts are accepted
 abbrev pub taken_of : State → List (Act ℕ) → ℕ
 taken_of w [] = 0
-taken_of w (act ∷ acts) = (if is_accepted w act then 1 else 0) + taken_of (after_act w act) acts
+taken_of w (act ∷ acts) = count_of (is_accepted w act) + taken_of (after_act w act) acts
 
 -- a client's call goes on alone, so many steps
 abbrev pub after_alone : ℕ → State → Client → State

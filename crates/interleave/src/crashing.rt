@@ -1,6 +1,6 @@
 //! A crash of the whole system, and the steps of recovery.
 
-ghost use Rattle.std.specs.Prelude.{◌≡◌, ◌<◌, ◌≤◌, ◌+◌, true, false, is_some, IfSome, Some, Ok};
+ghost use Rattle.std.specs.Prelude.{◌≡◌, ◌<◌, ◌≤◌, ◌+◌, true, false, is_some, IfSome, Some, Ok, IfErr};
 ghost use Rattle.stepper.specs.Step.{after_one, value_found};
 ghost use Rattle.recover.specs.Table.{access_of, recovery_after};
 ghost use Rattle.recover.specs.declared.recovery.Recovery.{Recovery as AnyRecovery};
@@ -35,6 +35,7 @@ pub(crate) fn crash_all<L: Layout>(
     ensures result { result ≡ crash_result (is_no_memory result) }
     ensures full { is_no_memory result ≡ true → trace.old.room ≡ 0 }
     ensures room { trace.old.room ≤ trace.new.room + 1 }
+    ensures spare { IfErr result (λ e. trace.old.room ≤ trace.new.room) }
 {
     if trace.reserve(1).is_err() {
         return Err(Refusal::NoMemory);
@@ -93,6 +94,7 @@ pub(crate) fn recover_on<L: Layout>(
         (state_with (L.shape layout.now) memory.old queue.old calls.now trace.old) }
     ensures full { is_no_memory result ≡ true → trace.old.room ≡ 0 }
     ensures room { trace.old.room ≤ trace.new.room + 1 }
+    ensures spare { IfErr result (λ e. trace.old.room ≤ trace.new.room) }
     ensures stays { result ≡ Ok false → trace.old.room ≤ trace.new.room }
 {
     if !trace.is_down() {

@@ -29,9 +29,6 @@ pub(crate) fn evict_word<L: Layout>(
         ≡ evict_result (state_with (L.shape layout.now) memory.old queue.now calls.now trace.old) word }
     ensures room { trace.new.room ≡ trace.old.room }
 {
-    if word >= layout.size() {
-        return Err(Refusal::NoWord);
-    }
     let change = memory.evict(word)?;
     note_change(layout, memory, calls, trace, change);
     Ok(change)

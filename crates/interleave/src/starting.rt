@@ -1,6 +1,6 @@
 //! The start of a call.
 
-ghost use Rattle.std.specs.Prelude.{◌≡◌, ◌≤◌, ◌<◌, ◌+◌, ◌==◌, length, slice_get, Some, None, true, if◌then◌else◌, Ok};
+ghost use Rattle.std.specs.Prelude.{◌≡◌, ◌≤◌, ◌<◌, ◌+◌, ◌==◌, length, slice_get, Some, None, true, if◌then◌else◌, Ok, IfErr};
 ghost use Rattle.interleave.specs.Calls.{is_no_memory};
 ghost use Rattle.interleave.specs.Holds.{Holds};
 ghost use Rattle.interleave.specs.State.{after_start, start_result, start_with, start_result_with};
@@ -37,6 +37,7 @@ fn begin<L: Layout>(
         (state_with (L.shape layout.now) memory.old queue.now calls.old trace.old) client (Ok number) }
     ensures full { is_no_memory result ≡ true → trace.old.room ≡ 0 }
     ensures room { trace.old.room ≤ trace.new.room + 1 }
+    ensures spare { IfErr result (λ e. trace.old.room ≤ trace.new.room) }
 {
     let records = layout.records();
     let clients = layout.clients();
@@ -83,6 +84,7 @@ pub(crate) fn start_call<L: Layout>(
         (state_with (L.shape layout.now) memory.old queue.now calls.old.items trace.old) client number }
     ensures full { is_no_memory result ≡ true → trace.old.room ≡ 0 }
     ensures room { trace.old.room ≤ trace.new.room + 1 }
+    ensures spare { IfErr result (λ e. trace.old.room ≤ trace.new.room) }
 {
     check_idle(calls, trace.is_down(), client)?;
     let number = queue.number(client, number)?;

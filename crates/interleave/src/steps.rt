@@ -1,6 +1,6 @@
 //! One step of a call.
 
-ghost use Rattle.std.specs.Prelude.{◌≡◌, ◌≤◌, ◌<◌, ◌+◌, length, slice_get, slice_set, Some, None, Ok, true, false};
+ghost use Rattle.std.specs.Prelude.{◌≡◌, ◌≤◌, ◌<◌, ◌+◌, length, slice_get, slice_set, Some, None, Ok, true, false, IfErr};
 ghost use Rattle.stepper.specs.Step.{after_one};
 ghost use Rattle.helping.specs.Table.{access_of};
 ghost use Rattle.protocol.specs.declared.UnderWay.{UnderWay as AnyUnderWay};
@@ -143,6 +143,7 @@ pub(crate) fn step_call<L: Layout>(
         (state_with (L.shape layout.now) memory.old queue.old calls.old.items trace.old) client }
     ensures full { is_no_memory result ≡ true → trace.old.room ≡ 0 }
     ensures room { trace.old.room ≤ trace.new.room + 1 }
+    ensures spare { IfErr result (λ e. trace.old.room ≤ trace.new.room) }
     ensures stays { result ≡ Ok None → trace.old.room ≤ trace.new.room }
 {
     let under_way = waiting(calls, trace.is_down(), client)?;

@@ -5,13 +5,12 @@ ghost use Rattle.events.specs.Parts.{IsPartOf};
 ghost use Rattle.recover.specs.Sound.{AreSoundWords};
 ghost use Rattle.interleave.specs.Booted.{booted_world, MayRefuse};
 ghost use Rattle.interleave.specs.Calls.{is_no_memory, waiting_result};
-ghost use Rattle.interleave.specs.Down.{StaysDown, AreToldWhenReady, IsToldWhenReady};
-ghost use Rattle.protocol.specs.Acts.{HasNoCrash, recovery_step_of, recoveries};
-ghost use Rattle.interleave.specs.Holds.{IsExplained};
+ghost use Rattle.interleave.specs.Holds.{Holds, IsExplained};
 ghost use Rattle.protocol.specs.declared.acts.Act.{Act};
 ghost use Rattle.words.specs.declared.refusal.Refusal.{Refusal as AnyRefusal};
 ghost use Rattle.interleave.specs.Queue.{told_in, told_to};
-ghost use Rattle.interleave.specs.State.{new_world, after_start, start_result, after_step, step_result, after_evict, evict_result, after_crash, crash_result, after_recover, recover_result, is_down, after_act, after_acts, after_alone, IsAnsweredAlone, is_accepted, taken_of, order_in, kept_content, kept_tells, IsKeptSound, AreToldOfAnnounced, IsMended, steps_to_ready, most_to_ready};
+ghost use Rattle.interleave.specs.Runs.{IsAttempt, IsRun};
+ghost use Rattle.interleave.specs.State.{new_world, after_start, start_result, after_step, step_result, after_evict, evict_result, after_crash, crash_result, after_recover, recover_result, is_down, after_alone, count_of, IsAnsweredAlone, order_in, kept_content, kept_tells, IsKeptSound, AreToldOfAnnounced, IsMended, steps_to_ready, most_to_ready};
 
 use crate::acts::{Act, Ran};
 use crate::calls::{nobody, waiting};
@@ -112,6 +111,7 @@ impl<L: Layout + Drop> World<L> {
         ensures result { result ≡ start_result (is_no_memory result) self.old.now client number }
         ensures full { is_no_memory result ≡ true → self.old.room ≡ 0 }
         ensures room { self.old.room ≤ self.new.room + 1 }
+        ensures spare { IfErr result (λ e. self.old.room ≤ self.new.room) }
         ensures explained { IsExplained self.new.now }
         ensures sound { IsKeptSound self.new.now }
         ensures order { order_in self.new.now ≡ order_in self.old.now }
@@ -136,6 +136,7 @@ impl<L: Layout + Drop> World<L> {
         ensures result { result ≡ step_result (is_no_memory result) self.old.now client }
         ensures full { is_no_memory result ≡ true → self.old.room ≡ 0 }
         ensures room { self.old.room ≤ self.new.room + 1 }
+        ensures spare { IfErr result (λ e. self.old.room ≤ self.new.room) }
         ensures stays { result ≡ Ok None → self.old.room ≤ self.new.room }
         ensures explained { IsExplained self.new.now }
         ensures sound { IsKeptSound self.new.now }
@@ -181,6 +182,7 @@ impl<L: Layout + Drop> World<L> {
         ensures result { result ≡ crash_result (is_no_memory result) }
         ensures full { is_no_memory result ≡ true → self.old.room ≡ 0 }
         ensures room { self.old.room ≤ self.new.room + 1 }
+        ensures spare { IfErr result (λ e. self.old.room ≤ self.new.room) }
         ensures explained { IsExplained self.new.now }
         ensures sound { IsKeptSound self.new.now }
         ensures order { order_in self.new.now ≡ order_in self.old.now }
@@ -204,6 +206,7 @@ impl<L: Layout + Drop> World<L> {
         ensures result { result ≡ recover_result (is_no_memory result) self.old.now }
         ensures full { is_no_memory result ≡ true → self.old.room ≡ 0 }
         ensures room { self.old.room ≤ self.new.room + 1 }
+        ensures spare { IfErr result (λ e. self.old.room ≤ self.new.room) }
         ensures stays { result ≡ Ok false → self.old.room ≤ self.new.room }
         ensures explained { IsExplained self.new.now }
         ensures sound { IsKeptSound self.new.now }
@@ -246,19 +249,14 @@ impl<L: Layout + Drop> World<L> {
         self.trace.is_down()
     }
 
-    /// The acts in order. One that its own call refuses is passed over, and counted.
+    /// The acts in order. One that its own call refuses is passed over, and counted. It asks for no room: an act for
+    /// which there is no memory is one of the refused.
     pub fn run(&mut self, acts: &[Act]) -> Ran
-        ensures world { length acts.now ≤ self.old.room → self.new.now ≡ after_acts self.old.now acts.now }
-        ensures taken { length acts.now ≤ self.old.room → result.taken ≡ taken_of self.old.now acts.now }
+        ensures run { IsRun self.old acts.now result.taken self.new }
         ensures all { result.taken + result.refused ≡ length acts.now }
         ensures explained { IsExplained self.new.now }
         ensures sound { IsKeptSound self.new.now }
         ensures order { IsPartOf (order_in self.old.now) (order_in self.new.now) }
-        ensures tells { length acts.now ≤ self.old.room → StaysDown self.old.now acts.now
-            → kept_tells self.new.now ≡ kept_tells self.old.now }
-        ensures announced { length acts.now ≤ self.old.room → AreToldWhenReady self.old.now acts.now }
-        ensures ready { length acts.now ≤ self.old.room → HasNoCrash acts.now
-            → most_to_ready (self.old.now.shape) ≤ recoveries acts.now → is_down self.new.now ≡ false }
     {
         let mut ran = Ran {
             taken: 0,
@@ -276,18 +274,12 @@ impl<L: Layout + Drop> World<L> {
 
     /// One act. It answers whether it was accepted.
     fn act(&mut self, act: Act) -> bool
-        ensures world { 0 < self.old.room → self.new.now ≡ after_act self.old.now act }
-        ensures accepted { 0 < self.old.room → result ≡ is_accepted self.old.now act }
-        ensures room { self.old.room ≤ self.new.room + 1 }
-        ensures explained { IsExplained self.new.now }
-        ensures sound { IsKeptSound self.new.now }
-        ensures order { IsPartOf (order_in self.old.now) (order_in self.new.now) }
-        ensures tells { is_down self.old.now ≡ true → kept_tells self.new.now ≡ kept_tells self.old.now }
-        ensures announced { 0 < self.old.room → IsToldWhenReady self.old.now self.new.now }
-        ensures left { 0 < self.old.room → act ≢ Act.Crash → is_down self.new.now ≡ true
-            → recovery_step_of act + steps_to_ready self.new.now ≤ steps_to_ready self.old.now }
-        ensures down { act ≢ Act.Crash → is_down self.new.now ≡ true → is_down self.old.now ≡ true }
+        ensures attempt { IsAttempt self.old.room self.old.now act result self.new.now }
+        ensures room { self.old.room ≤ self.new.room + count_of result }
+        ensures holds { Holds self.new.now }
     {
+        // What holds of the world before the act is known from here on.
+        let _ = &self.layout;
         match act {
             Act::Start {
                 client,
@@ -316,6 +308,7 @@ impl<L: Layout + Drop> World<L> {
         ensures answer { IfOk result (λ answer. IsAnsweredAlone self.old.now client answer.1 answer.0) }
         ensures world { IfOk result (λ answer. self.new.now ≡ after_alone answer.1 self.old.now client) }
         ensures room { self.old.room ≤ self.new.room + 1 }
+        ensures spare { IfErr result (λ e. self.old.room ≤ self.new.room) }
         ensures explained { IsExplained self.new.now }
         ensures sound { IsKeptSound self.new.now }
         ensures order { IsPartOf (order_in self.old.now) (order_in self.new.now) }

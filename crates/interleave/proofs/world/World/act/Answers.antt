@@ -1,48 +1,59 @@
-use Rattle.std.proofs.Common.{◌≡◌, true, List, sym, ap, ◌∙◌, subst, arith}
+use Rattle.std.proofs.Common.{◌≡◌, ℕ, ◌≤◌, sym, ap, subst, ◌∙◌, rules}
+use Rattle.std.specs.Prelude.{is_ok}
+use Rattle.words.specs.declared.call.Call.TheVariants.{Enq}
+use Rattle.protocol.specs.Machine.{FitsCall}
 use Rattle.interleave.specs.Calls.{is_no_memory}
-use Rattle.protocol.specs.Acts.{recovery_step_of}
-use Rattle.interleave.proofs.DownLaws.{became_ready, start_down, start_refused, step_refused}
-use Rattle.events.proofs.Members.{part_same}
-use Rattle.events.specs.Parts.{IsPartOf}
-use Rattle.events.specs.declared.event.Entry.{Entry}
-use Rattle.interleave.specs.State.{State, is_down, kept_tells, steps_to_ready, order_in}
+use Rattle.interleave.specs.Holds.{Holds}
+use Rattle.interleave.specs.State.{State, after_attempt, is_accepted_with}
+use Rattle.interleave.specs.Trace.{Roomy, state_with}
+use Rattle.interleave.proofs.HoldsKept.{call_fits, holds_after_start, holds_after_step, holds_after_evict, holds_after_crash, holds_after_recover}
 use Rattle.interleave.proofs.world.World.act.Goals as goal
 
-pub returns-in-Start-clause-order : goal.returns-in-Start-clause-order
-returns-in-Start-clause-order g c =
-    let same = c.start.ensures.order in
-    subst (λ (o : List Entry). IsPartOf (order_in c.args.self.now.now) o) (sym same) (part_same (order_in c.args.self.now.now))
-
-pub returns-in-Crash-clause-order : goal.returns-in-Crash-clause-order
-returns-in-Crash-clause-order g c =
-    let same = c.crash.ensures.order in
-    subst (λ (o : List Entry). IsPartOf (order_in c.args.self.now.now) o) (sym same) (part_same (order_in c.args.self.now.now))
-
-pub returns-in-Recover-clause-order : goal.returns-in-Recover-clause-order
-returns-in-Recover-clause-order g c =
-    let same = c.recover_step.ensures.order in
-    subst (λ (o : List Entry). IsPartOf (order_in c.args.self.now.now) o) (sym same) (part_same (order_in c.args.self.now.now))
-
-pub returns-in-Start-clause-left : goal.returns-in-Start-clause-left
-returns-in-Start-clause-left g c = λ room other down.
-    let old : State = c.args.self.now.now in
+pub returns-in-Start-clause-attempt : goal.returns-in-Start-clause-attempt
+returns-in-Start-clause-attempt g c =
     let full = is_no_memory c.start.result in
-    let was : is_down old ≡ true = sym (start_down full old c.in-Start.client c.in-Start.number c.in-Start.call) ∙ sym (ap is_down c.start.ensures.world) ∙ down in
-    let same : steps_to_ready c.start.new.self.now ≡ steps_to_ready old = ap (steps_to_ready) (c.start.ensures.world ∙ start_refused full old c.in-Start.client c.in-Start.number c.in-Start.call was) in
-    let none : recovery_step_of c.args.act ≡ 0 = ap recovery_step_of c.in-Start.is in
-    omega (arith, same, none)
+    record {
+      full = full;
+      short = c.start.ensures.full;
+      leaves = c.start.ensures.world ∙ ap (after_attempt full c.args.self.now.now) (sym c.in-Start.is);
+      accepts = c.is_ok.ensures.value ∙ ap is_ok c.start.ensures.result ∙ ap (is_accepted_with full c.args.self.now.now) (sym c.in-Start.is);
+    }
 
-pub returns-in-Start-clause-down : goal.returns-in-Start-clause-down
-returns-in-Start-clause-down g c = λ other down.
-    let old : State = c.args.self.now.now in
-    let full = is_no_memory c.start.result in
-    sym (start_down full old c.in-Start.client c.in-Start.number c.in-Start.call) ∙ sym (ap is_down c.start.ensures.world) ∙ down
-
-pub returns-in-Step-clause-tells : goal.returns-in-Step-clause-tells
-returns-in-Step-clause-tells g c = λ down.
-    ap (kept_tells) (c.step.ensures.world ∙ step_refused (is_no_memory c.step.result) c.args.self.now.now c.in-Step.client down)
-
-pub returns-in-Recover-clause-announced : goal.returns-in-Recover-clause-announced
-returns-in-Recover-clause-announced g c = λ room down up.
+pub returns-in-Recover-clause-attempt : goal.returns-in-Recover-clause-attempt
+returns-in-Recover-clause-attempt g c =
     let full = is_no_memory c.recover_step.result in
-    c.recover_step.ensures.announced (c.recover_step.ensures.result ∙ became_ready full c.args.self.now.now down (sym (ap is_down c.recover_step.ensures.world) ∙ up))
+    record {
+      full = full;
+      short = c.recover_step.ensures.full;
+      leaves = c.recover_step.ensures.world ∙ ap (after_attempt full c.args.self.now.now) (sym c.in-Recover.is);
+      accepts = c.is_ok-in-Recover.ensures.value ∙ ap is_ok c.recover_step.ensures.result ∙ ap (is_accepted_with full c.args.self.now.now) (sym c.in-Recover.is);
+    }
+
+pub returns-in-Start-clause-holds : goal.returns-in-Start-clause-holds
+returns-in-Start-clause-holds g c =
+    let old : State = state_with (g.L.Layout.shape c.self.inside.layout) c.self.inside.memory c.self.inside.queue c.self.inside.calls.items c.self.inside.trace in
+    let holds : Holds c.args.self.now.now = subst Holds (ap (λ (r : Roomy). r.now) c.self.view_is) c.self.invariant in
+    let value : (v : ℕ) → c.in-Start.call ≡ Enq v → v ≤ 4294967295 = search rules in
+    let fits : FitsCall c.in-Start.call = call_fits c.in-Start.call value in
+    subst Holds (sym c.start.ensures.world)
+    (holds_after_start (is_no_memory c.start.result) c.args.self.now.now c.in-Start.client c.in-Start.number c.in-Start.call holds fits)
+
+pub returns-in-Step-clause-holds : goal.returns-in-Step-clause-holds
+returns-in-Step-clause-holds g c =
+    let holds : Holds c.args.self.now.now = subst Holds (ap (λ (r : Roomy). r.now) c.self.view_is) c.self.invariant in
+    subst Holds (sym c.step.ensures.world) (holds_after_step (is_no_memory c.step.result) c.args.self.now.now c.in-Step.client holds)
+
+pub returns-in-Evict-clause-holds : goal.returns-in-Evict-clause-holds
+returns-in-Evict-clause-holds g c =
+    let holds : Holds c.args.self.now.now = subst Holds (ap (λ (r : Roomy). r.now) c.self.view_is) c.self.invariant in
+    subst Holds (sym c.evict.ensures.world) (holds_after_evict c.args.self.now.now c.in-Evict.at holds)
+
+pub returns-in-Crash-clause-holds : goal.returns-in-Crash-clause-holds
+returns-in-Crash-clause-holds g c =
+    let holds : Holds c.args.self.now.now = subst Holds (ap (λ (r : Roomy). r.now) c.self.view_is) c.self.invariant in
+    subst Holds (sym c.crash.ensures.world) (holds_after_crash (is_no_memory c.crash.result) c.args.self.now.now holds)
+
+pub returns-in-Recover-clause-holds : goal.returns-in-Recover-clause-holds
+returns-in-Recover-clause-holds g c =
+    let holds : Holds c.args.self.now.now = subst Holds (ap (λ (r : Roomy). r.now) c.self.view_is) c.self.invariant in
+    subst Holds (sym c.recover_step.ensures.world) (holds_after_recover (is_no_memory c.recover_step.result) c.args.self.now.now holds)

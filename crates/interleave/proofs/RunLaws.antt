@@ -1,0 +1,228 @@
+-- What an attempt at an act leaves, and a list of them.
+use Rattle.std.proofs.Common.{◌≡◌, ◌≢◌, ℕ, ◌+◌, ◌-◌, ◌≤◌, ◌<◌, Bool, true, false, if◌then◌else◌, List, [], ◌∷◌, ◌++◌, Option, Some, None, Result, Ok, Err, refl, sym, ap, subst, ◌∙◌, arith, slice_get}
+use Rattle.std.specs.Prelude.{is_ok}
+use Rattle.words.specs.declared.call.Call.{Call}
+use Rattle.words.specs.declared.call.Client.{Client}
+use Rattle.words.specs.declared.refusal.Refusal.{Refusal}
+use Rattle.words.specs.declared.told.Told.{Told}
+use Rattle.events.specs.declared.event.Entry.{Entry}
+use Rattle.events.specs.Parts.{IsPartOf}
+use Rattle.events.proofs.Members.{part_same}
+use Rattle.recover.specs.declared.recovery.Recovery.{Recovery}
+use Rattle.protocol.specs.Acts.{HasNoCrash, recovery_step_of}
+use Rattle.protocol.specs.declared.acts.Act.{Act}
+use Rattle.protocol.specs.declared.acts.Act.TheVariants.{Start, Step, Evict, Crash, Recover}
+use Rattle.interleave.specs.Holds.{Holds}
+use Rattle.interleave.specs.Queue.{told_in}
+use Rattle.interleave.specs.Runs.{IsAttempt, IsToldWhenReady, Went, nothing, next, StaysDown, AreToldWhenReady, recovery_steps}
+use Rattle.interleave.specs.State.{State, after_attempt, after_evict, after_crash, after_recover, recover_result, recover_with, recover_result_with, evict_with, is_down, kept_tells, kept_content, steps_to_ready, most_to_ready, count_of, order_in, AreToldOfAnnounced}
+use Rattle.interleave.proofs.DownLaws.{start_refused, step_refused, start_down, step_down, became_ready, some_left}
+use Rattle.interleave.proofs.HoldsKept.{part_after_start, part_after_step, part_after_evict, part_after_crash, part_after_recover}
+use Rattle.interleave.proofs.KeptTells.{tells_on, tells_crashed, tells_evicted, told_by_kept, told_of_announced, falls_on, few_to_ready, left_evicted}
+use Rattle.arena.specs.Layout.{place_at}
+use Rattle.arena.specs.declared.place.Place.{Place}
+
+part_of_same : (w : State) (o : List Entry) → o ≡ order_in w → IsPartOf (order_in w) o
+part_of_same w o same = subst (IsPartOf (order_in w)) (sym same) (part_same (order_in w))
+
+-- nothing is taken back
+pub part_after_attempt : (full : Bool) (w : State) (act : Act ℕ) → Holds w → IsPartOf (order_in w) (order_in (after_attempt full w act))
+part_after_attempt full w (Start client number call) holds = part_of_same w _ (part_after_start full w client number call)
+part_after_attempt full w (Step client) holds = part_after_step full w client holds
+part_after_attempt full w (Evict word) holds = part_after_evict w word holds
+part_after_attempt full w Crash holds = part_of_same w _ (part_after_crash full w)
+part_after_attempt full w Recover holds = part_of_same w _ (part_after_recover full w)
+
+-- while recovery is under way nothing changes what the kept words tell and hold
+pub tells_after_attempt : (full : Bool) (w : State) (act : Act ℕ) → Holds w → is_down w ≡ true
+    → (kept_tells (after_attempt full w act) ≡ kept_tells w) × (kept_content (after_attempt full w act) ≡ kept_content w)
+tells_after_attempt full w (Start client number call) holds down =
+    let same = start_refused full w client number call down in (ap kept_tells same, ap kept_content same)
+tells_after_attempt full w (Step client) holds down =
+    let same = step_refused full w client down in (ap kept_tells same, ap kept_content same)
+tells_after_attempt full w (Evict word) holds down = tells_evicted w word holds down
+tells_after_attempt full w Crash holds down = tells_crashed full w
+tells_after_attempt full w Recover holds down = tells_on full w holds
+
+down_evicted : (w : State) (word : ℕ) → is_down (after_evict w word) ≡ is_down w
+down_evicted w word = go (place_at w.shape word)
+  where
+    go : (o : Option Place) → is_down (evict_with w word o) ≡ is_down w
+    go None = refl
+    go (Some p) = refl
+
+down_recovered : (full : Bool) (w : State) → is_down (after_recover full w) ≡ true → is_down w ≡ true
+down_recovered full w down = go w.recovery refl full down
+  where
+    go : (o : Option Recovery) → w.recovery ≡ o → (f : Bool) → is_down (recover_with f w o) ≡ true → is_down w ≡ true
+    go None e f d = d
+    go (Some r) e true d = d
+    go (Some r) e false d = ap (λ (x : Option Recovery). Rattle.std.specs.Prelude.is_some x) e
+
+-- but for a crash, nothing begins a recovery
+pub down_before : (full : Bool) (w : State) (act : Act ℕ) → act ≢ Crash → is_down (after_attempt full w act) ≡ true → is_down w ≡ true
+down_before full w (Start client number call) other down = sym (start_down full w client number call) ∙ down
+down_before full w (Step client) other down = sym (step_down full w client) ∙ down
+down_before full w (Evict word) other down = sym (down_evicted w word) ∙ down
+down_before full w Crash other down = absurd (other refl)
+down_before full w Recover other down = down_recovered full w down
+
+-- where it ends recovery, it is a step of recovery that says so
+told_recovered : (full : Bool) (w : State) → Holds w → IsToldWhenReady w (after_recover full w)
+told_recovered full w holds = record {
+  tells = λ down up.
+      let is : recover_result full w ≡ Ok true = became_ready full w down up in
+      told_by_kept full w holds is ∙ sym (tells_on full w holds).0;
+  announced = λ down up. told_of_announced full w holds (became_ready full w down up);
+}
+
+crash_down : (full : Bool) (w : State) → is_down w ≡ true → is_down (after_crash full w) ≡ true
+crash_down true w down = down
+crash_down false w down = refl
+
+stays_down : (w v : State) → (is_down w ≡ true → is_down v ≡ true) → IsToldWhenReady w v
+stays_down w v still = record { tells = λ down up. absurd (cc (still down, up)); announced = λ down up. absurd (cc (still down, up)) }
+
+pub told_after_attempt : (full : Bool) (w : State) (act : Act ℕ) → Holds w → IsToldWhenReady w (after_attempt full w act)
+told_after_attempt full w (Start client number call) holds = stays_down w _ (λ down. start_down full w client number call ∙ down)
+told_after_attempt full w (Step client) holds = stays_down w _ (λ down. step_down full w client ∙ down)
+told_after_attempt full w (Evict word) holds = stays_down w _ (λ down. down_evicted w word ∙ down)
+told_after_attempt full w Crash holds = stays_down w _ (crash_down full w)
+told_after_attempt full w Recover holds = told_recovered full w holds
+
+left_recovered : (w : State) → Holds w → is_down w ≡ true → 1 + steps_to_ready (after_recover false w) ≤ steps_to_ready w
+left_recovered w holds down = go w.recovery refl
+  where
+    go : (o : Option Recovery) → w.recovery ≡ o → 1 + steps_to_ready (after_recover false w) ≤ steps_to_ready w
+    go None e = let up : is_down w ≡ false = ap (λ (x : Option Recovery). Rattle.std.specs.Prelude.is_some x) e in absurd (cc (down, up))
+    go (Some r) e =
+        let result : (let x : Result Bool Refusal = Ok (Rattle.interleave.specs.State.is_ready (Rattle.protocol.specs.Machine.next_recovery (Rattle.interleave.specs.State.machine w) r)) in x) ≡ recover_result false w = ap (recover_result_with false w) (sym e) in
+        let less = falls_on false w holds _ result in
+        omega (arith, less)
+
+-- each step of recovery leaves fewer, and nothing but a crash leaves more
+pub left_after_attempt : (full : Bool) (w : State) (act : Act ℕ) → Holds w → act ≢ Crash → is_down w ≡ true
+    → (if full then 0 else recovery_step_of act) + steps_to_ready (after_attempt full w act) ≤ steps_to_ready w
+left_after_attempt full w (Start client number call) holds other down =
+    let same = ap steps_to_ready (start_refused full w client number call down) in both full same
+  where
+    both : (f : Bool) → steps_to_ready (after_attempt full w (Start client number call)) ≡ steps_to_ready w
+        → (let n : ℕ = if f then 0 else 0 in n) + steps_to_ready (after_attempt full w (Start client number call)) ≤ steps_to_ready w
+    both true same = omega (arith, same)
+    both false same = omega (arith, same)
+left_after_attempt full w (Step client) holds other down =
+    let same = ap steps_to_ready (step_refused full w client down) in both full same
+  where
+    both : (f : Bool) → steps_to_ready (after_attempt full w (Step client)) ≡ steps_to_ready w
+        → (let n : ℕ = if f then 0 else 0 in n) + steps_to_ready (after_attempt full w (Step client)) ≤ steps_to_ready w
+    both true same = omega (arith, same)
+    both false same = omega (arith, same)
+left_after_attempt full w (Evict word) holds other down = both full (left_evicted w word)
+  where
+    both : (f : Bool) → steps_to_ready (after_evict w word) ≡ steps_to_ready w
+        → (let n : ℕ = if f then 0 else 0 in n) + steps_to_ready (after_evict w word) ≤ steps_to_ready w
+    both true same = omega (arith, same)
+    both false same = omega (arith, same)
+left_after_attempt full w Crash holds other down = absurd (other refl)
+left_after_attempt true w Recover holds other down = go w.recovery
+  where
+    go : (o : Option Recovery) → 0 + steps_to_ready (recover_with true w o) ≤ steps_to_ready w
+    go None = omega arith
+    go (Some r) = omega arith
+left_after_attempt false w Recover holds other down = left_recovered w holds down
+
+-- so it is of an attempt
+pub part_attempt : {room : ℕ} {w v : State} {act : Act ℕ} {accepted : Bool} → Holds w → IsAttempt room w act accepted v
+    → IsPartOf (order_in w) (order_in v)
+part_attempt {w = w} {act = act} holds attempt =
+    subst (λ (x : State). IsPartOf (order_in w) (order_in x)) (sym attempt.leaves) (part_after_attempt attempt.full w act holds)
+
+pub tells_attempt : {room : ℕ} {w v : State} {act : Act ℕ} {accepted : Bool} → Holds w → IsAttempt room w act accepted v
+    → is_down w ≡ true → kept_tells v ≡ kept_tells w
+tells_attempt {w = w} {act = act} holds attempt down =
+    ap kept_tells attempt.leaves ∙ (tells_after_attempt attempt.full w act holds down).0
+
+pub told_attempt : {room : ℕ} {w v : State} {act : Act ℕ} {accepted : Bool} → Holds w → IsAttempt room w act accepted v
+    → IsToldWhenReady w v
+told_attempt {w = w} {act = act} holds attempt =
+    subst (IsToldWhenReady w) (sym attempt.leaves) (told_after_attempt attempt.full w act holds)
+
+pub down_attempt : {room : ℕ} {w v : State} {act : Act ℕ} {accepted : Bool} → IsAttempt room w act accepted v → act ≢ Crash
+    → is_down v ≡ true → is_down w ≡ true
+down_attempt {w = w} {act = act} attempt other down =
+    down_before attempt.full w act other (sym (ap is_down attempt.leaves) ∙ down)
+
+pub left_attempt : {room : ℕ} {w v : State} {act : Act ℕ} {accepted : Bool} → Holds w → (attempt : IsAttempt room w act accepted v)
+    → act ≢ Crash → is_down w ≡ true → (if attempt.full then 0 else recovery_step_of act) + steps_to_ready v ≤ steps_to_ready w
+left_attempt {w = w} {act = act} holds attempt other down =
+    subst (λ (x : State). (if attempt.full then 0 else recovery_step_of act) + steps_to_ready x ≤ steps_to_ready w) (sym attempt.leaves)
+    (left_after_attempt attempt.full w act holds other down)
+
+-- where no act is a crash, the last is none, and none of those before
+pub no_crash_last : (acts : List (Act ℕ)) (act : Act ℕ) → HasNoCrash (acts ++ act ∷ []) → act ≢ Crash
+no_crash_last [] Crash h = absurd h
+no_crash_last [] (Start client number call) h = λ e. cc
+no_crash_last [] (Step client) h = λ e. cc
+no_crash_last [] (Evict word) h = λ e. cc
+no_crash_last [] Recover h = λ e. cc
+no_crash_last (Crash ∷ acts) act h = absurd h
+no_crash_last (Start client number call ∷ acts) act h = no_crash_last acts act h
+no_crash_last (Step client ∷ acts) act h = no_crash_last acts act h
+no_crash_last (Evict word ∷ acts) act h = no_crash_last acts act h
+no_crash_last (Recover ∷ acts) act h = no_crash_last acts act h
+
+pub no_crash_before : (acts : List (Act ℕ)) (act : Act ℕ) → HasNoCrash (acts ++ act ∷ []) → HasNoCrash acts
+no_crash_before [] act h = tt
+no_crash_before (Crash ∷ acts) act h = absurd h
+no_crash_before (Start client number call ∷ acts) act h = no_crash_before acts act h
+no_crash_before (Step client ∷ acts) act h = no_crash_before acts act h
+no_crash_before (Evict word ∷ acts) act h = no_crash_before acts act h
+no_crash_before (Recover ∷ acts) act h = no_crash_before acts act h
+
+-- how the acts so far went
+pub record SoFar (room : ℕ) (old : State) (acts : List (Act ℕ)) (taken : ℕ) (new : State) : Type 0 where
+  pub went : Went room old acts taken new
+  pub told : AreToldWhenReady went
+  pub tells : StaysDown went → kept_tells new ≡ kept_tells old
+  pub left : HasNoCrash acts → is_down new ≡ true → recovery_steps went + steps_to_ready new ≤ steps_to_ready old
+
+pub none_so_far : (room : ℕ) (w : State) → SoFar room w [] 0 w
+none_so_far room w = record { went = nothing; told = tt; tells = λ down. refl; left = λ free down. omega arith }
+
+-- recovery that was under way all along is under way now
+down_last : {room : ℕ} {old : State} {acts : List (Act ℕ)} {taken : ℕ} {new : State} (went : Went room old acts taken new)
+    → StaysDown went → is_down new ≡ true
+down_last nothing down = down
+down_last (next so_far act accepted attempt) down = down.1
+
+-- and with one more
+pub one_more : {room : ℕ} {old : State} {acts : List (Act ℕ)} {taken : ℕ} {w v : State} {act : Act ℕ} {accepted : Bool}
+    → SoFar room old acts taken w → Holds w → IsAttempt (room - taken) w act accepted v
+    → SoFar room old (acts ++ act ∷ []) (taken + count_of accepted) v
+one_more {acts = acts} {act = act} {accepted = accepted} so_far holds attempt = record {
+  went = next so_far.went act accepted attempt;
+  told = (so_far.told, told_attempt holds attempt);
+  tells = λ down. tells_attempt holds attempt (down_last so_far.went down.0) ∙ so_far.tells down.0;
+  left = λ free down.
+      let other = no_crash_last acts act free in
+      let was = down_attempt attempt other down in
+      let fewer = left_attempt holds attempt other was in
+      let before = so_far.left (no_crash_before acts act free) was in
+      omega (arith, fewer, before);
+}
+
+not_down : (w : State) → (is_down w ≡ true → ⊥) → is_down w ≡ false
+not_down w h = go (is_down w) refl
+  where
+    go : (b : Bool) → is_down w ≡ b → is_down w ≡ false
+    go true e = absurd (h e)
+    go false e = e
+
+-- recovery has ended after so many steps, if there was no crash
+pub ended : {room : ℕ} {old : State} {acts : List (Act ℕ)} {taken : ℕ} {new : State} (so_far : SoFar room old acts taken new)
+    → Holds old → HasNoCrash acts → most_to_ready old.shape ≤ recovery_steps so_far.went → is_down new ≡ false
+ended {old = old} {new = new} so_far holds free many = not_down new (λ down.
+    let left = so_far.left free down in
+    let few = few_to_ready old holds in
+    let some = some_left new down in
+    omega (arith, left, some, few, many))

@@ -1,0 +1,57 @@
+-- How a list of acts goes.
+use Rattle.std.specs.Prelude.{◌≡◌, ℕ, ◌+◌, ◌-◌, ◌≤◌, Bool, true, false, List, [], ◌∷◌, ◌++◌, if◌then◌else◌}
+use Rattle.protocol.specs.Acts.{HasNoCrash, recovery_step_of}
+use Rattle.protocol.specs.declared.acts.Act.{Act}
+use Rattle.interleave.specs.Queue.{told_in}
+use Rattle.interleave.specs.State.{State, after_attempt, is_accepted_with, count_of, is_down, kept_tells, steps_to_ready, most_to_ready, AreToldOfAnnounced}
+use Rattle.interleave.specs.Trace.{Roomy}
+
+-- an attempt at an act, where there is room for so many accepted ones: it was made or refused by the rule, and for want
+-- of memory (`full`) only where there was no room
+pub record IsAttempt (room : ℕ) (old : State) (act : Act ℕ) (accepted : Bool) (new : State) : Type 0 where
+  pub full : Bool
+  pub short : full ≡ true → room ≡ 0
+  pub leaves : new ≡ after_attempt full old act
+  pub accepts : accepted ≡ is_accepted_with full old act
+
+-- the acts were attempted one after another. So many were accepted, each of which may use up one place of the room, and
+-- this is what they left
+pub data Went (room : ℕ) (old : State) : List (Act ℕ) → ℕ → State → Type 0 where
+  nothing : Went room old [] 0 old
+  next : {acts : List (Act ℕ)} {taken : ℕ} {w v : State} (so_far : Went room old acts taken w) (act : Act ℕ)
+      (accepted : Bool) (attempt : IsAttempt (room - taken) w act accepted v)
+      → Went room old (acts ++ act ∷ []) (taken + count_of accepted) v
+
+-- recovery was under way before the first act, and after each
+abbrev pub StaysDown : {room : ℕ} {old : State} {acts : List (Act ℕ)} {taken : ℕ} {new : State}
+    → Went room old acts taken new → Type 0
+StaysDown {old = old} nothing = is_down old ≡ true
+StaysDown (next {v = v} so_far act accepted attempt) = StaysDown so_far × (is_down v ≡ true)
+
+-- where an act ended recovery, each client was told what the kept words tell, and that was right of its announced call
+pub record IsToldWhenReady (old new : State) : Type 0 where
+  pub tells : is_down old ≡ true → is_down new ≡ false → told_in new.queue ≡ kept_tells new
+  pub announced : is_down old ≡ true → is_down new ≡ false → AreToldOfAnnounced new
+
+abbrev pub AreToldWhenReady : {room : ℕ} {old : State} {acts : List (Act ℕ)} {taken : ℕ} {new : State}
+    → Went room old acts taken new → Type 0
+AreToldWhenReady nothing = Unit {0}
+AreToldWhenReady (next {w = w} {v = v} so_far act accepted attempt) = AreToldWhenReady so_far × IsToldWhenReady w v
+
+-- how many steps of recovery were asked for, memory being there
+abbrev pub recovery_steps : {room : ℕ} {old : State} {acts : List (Act ℕ)} {taken : ℕ} {new : State}
+    → Went room old acts taken new → ℕ
+recovery_steps nothing = 0
+recovery_steps (next so_far act accepted attempt) =
+    recovery_steps so_far + (if attempt.full then 0 else recovery_step_of act)
+
+-- a run of the acts, of which so many were accepted
+pub record IsRun (old : Roomy) (acts : List (Act ℕ)) (taken : ℕ) (new : Roomy) : Type 0 where
+  pub went : Went old.room old.now acts taken new.now
+  pub room : old.room ≤ new.room + taken
+  -- whenever recovery ended, each client was told rightly
+  pub told : AreToldWhenReady went
+  -- recovery that was under way all along changes nothing of what the kept words tell
+  pub tells : StaysDown went → kept_tells new.now ≡ kept_tells old.now
+  -- it ends in so many steps, if there was no crash
+  pub ready : HasNoCrash acts → most_to_ready old.now.shape ≤ recovery_steps went → is_down new.now ≡ false
