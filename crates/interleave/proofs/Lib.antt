@@ -1,5 +1,6 @@
 pub mod Entering
 pub mod RunLaws
+pub mod RunStates
 pub mod ValueLaws
 pub mod Unsettled
 pub mod Records

@@ -190,7 +190,7 @@ pub none_so_far : (room : ℕ) (w : State) → SoFar room w [] 0 w
 none_so_far room w = record { went = nothing; told = tt; tells = λ down. refl; left = λ free down. omega arith }
 
 -- recovery that was under way all along is under way now
-down_last : {room : ℕ} {old : State} {acts : List (Act ℕ)} {taken : ℕ} {new : State} (went : Went room old acts taken new)
+pub down_last : {room : ℕ} {old : State} {acts : List (Act ℕ)} {taken : ℕ} {new : State} (went : Went room old acts taken new)
     → StaysDown went → is_down new ≡ true
 down_last nothing down = down
 down_last (next so_far act accepted attempt) down = down.1

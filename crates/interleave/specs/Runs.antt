@@ -1,9 +1,10 @@
 -- How a list of acts goes.
-use Rattle.std.specs.Prelude.{◌≡◌, ℕ, ◌+◌, ◌-◌, ◌≤◌, Bool, true, false, List, [], ◌∷◌, ◌++◌, if◌then◌else◌}
+use Rattle.std.specs.Prelude.{◌≡◌, ℕ, ◌+◌, ◌-◌, ◌≤◌, Bool, true, false, List, [], ◌∷◌, ◌++◌, Ok, if◌then◌else◌}
+use Rattle.words.specs.declared.told.Told.{Told}
 use Rattle.protocol.specs.Acts.{HasNoCrash, recovery_step_of}
 use Rattle.protocol.specs.declared.acts.Act.{Act}
 use Rattle.interleave.specs.Queue.{told_in}
-use Rattle.interleave.specs.State.{State, after_attempt, is_accepted_with, count_of, is_down, kept_tells, steps_to_ready, most_to_ready, AreToldOfAnnounced}
+use Rattle.interleave.specs.State.{State, after_attempt, is_accepted_with, count_of, is_down, kept_tells, most_to_ready, after_recover, recover_result, AreToldOfAnnounced}
 use Rattle.interleave.specs.Trace.{Roomy}
 
 -- an attempt at an act, where there is room for so many accepted ones: it was made or refused by the rule, and for want
@@ -55,3 +56,14 @@ pub record IsRun (old : Roomy) (acts : List (Act ℕ)) (taken : ℕ) (new : Room
   pub tells : StaysDown went → kept_tells new.now ≡ kept_tells old.now
   -- it ends in so many steps, if there was no crash
   pub ready : HasNoCrash acts → most_to_ready old.now.shape ≤ recovery_steps went → is_down new.now ≡ false
+
+-- from here on recovery goes through some acts to its next Ready, at which it tells this
+pub record TellsNext (old : State) (tells : List Told) : Type 0 where
+  pub room : ℕ
+  pub acts : List (Act ℕ)
+  pub taken : ℕ
+  pub last : State
+  pub went : Went room old acts taken last
+  pub down : StaysDown went
+  pub ready : recover_result false last ≡ Ok true
+  pub tells_is : told_in (after_recover false last).queue ≡ tells

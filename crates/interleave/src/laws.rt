@@ -1,7 +1,10 @@
 //! What holds of every act on a world.
 
-ghost use Rattle.std.specs.Prelude.{ℕ, ◌≡◌, ◌≢◌, ◌≤◌, ◌+◌, ◌++◌};
-ghost use Rattle.interleave.specs.State.{State, after_act};
+ghost use Rattle.std.specs.Prelude.{ℕ, List, length, ◌≡◌, ◌≢◌, ◌≤◌, ◌+◌, ◌++◌};
+ghost use Rattle.words.specs.declared.told.Told.{Told};
+ghost use Rattle.interleave.specs.Holds.{Holds};
+ghost use Rattle.interleave.specs.Runs.{Went, TellsNext};
+ghost use Rattle.interleave.specs.State.{State, after_act, after_acts, taken_of};
 ghost use Rattle.interleave.specs.OneAccess.{MakesOneAccess};
 ghost use Rattle.interleave.specs.OneEvent.{event_of};
 ghost use Rattle.protocol.specs.declared.acts.Act.{Act};
@@ -17,4 +20,20 @@ pub fn one_access_an_act()
 /// step that ends recovery its Ready; no other act adds anything.
 pub fn one_event_an_act()
     ensures { (w : State) (act : Act ℕ) → (after_act w act).log.events ≡ w.log.events ++ event_of w act }
+{}
+
+/// Where there is room for all of a list of acts, none is refused for want of memory.
+pub fn acts_with_room_are_made()
+    ensures leaves { (room taken : ℕ) (old new : State) (acts : List (Act ℕ))
+        → Went room old acts taken new → length acts ≤ room → new ≡ after_acts old acts }
+    ensures counts { (room taken : ℕ) (old new : State) (acts : List (Act ℕ))
+        → Went room old acts taken new → length acts ≤ room → taken ≡ taken_of old acts }
+{}
+
+/// Two worlds of one layout, just crashed or booted, whose kept words are equal, tell the same at their next Ready,
+/// whatever evictions, steps and further crashes come between.
+pub fn equal_words_tell_the_same()
+    ensures { (w v : State) (tells telling : List Told)
+        → Holds w → Holds v → w.shape ≡ v.shape → w.words.kept ≡ v.words.kept
+        → TellsNext w tells → TellsNext v telling → tells ≡ telling }
 {}

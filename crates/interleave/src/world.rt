@@ -360,11 +360,12 @@ impl<L: Layout + Drop> World<L> {
         })
     }
 
-    /// What happened since the history begins. It takes no memory.
+    /// What happened since the history begins. It takes no memory. That `Holds` holds is what laws on states ask for.
     pub fn history(&self) -> &History
         ensures base { result.now.base.items ≡ self.now.now.base }
         ensures told { result.now.told ≡ self.now.now.told }
         ensures events { result.now.events.items ≡ self.now.now.log.events }
+        ensures holds { Holds self.now.now }
         ensures explained { IsExplained self.now.now }
     {
         self.trace.history()

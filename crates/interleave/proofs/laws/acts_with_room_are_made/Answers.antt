@@ -1,0 +1,8 @@
+use Rattle.interleave.proofs.RunStates.{all_made}
+use Rattle.interleave.proofs.laws.acts_with_room_are_made.Goals as goal
+
+pub returns-clause-leaves : goal.returns-clause-leaves
+returns-clause-leaves c = λ room taken old new acts went fits. (all_made went fits).0
+
+pub returns-clause-counts : goal.returns-clause-counts
+returns-clause-counts c = λ room taken old new acts went fits. (all_made went fits).1
