@@ -13,3 +13,4 @@ pub mod Recoveries
 pub mod OneEvent
 pub mod Booted
 pub mod Runs
+pub mod Premises

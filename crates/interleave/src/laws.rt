@@ -1,7 +1,16 @@
 //! What holds of every act on a world.
 
-ghost use Rattle.std.specs.Prelude.{ℕ, List, length, ◌≡◌, ◌≢◌, ◌≤◌, ◌+◌, ◌++◌};
+ghost use Rattle.std.specs.Prelude.{ℕ, List, length, slice_get, Some, ◌≡◌, ◌≢◌, ◌≤◌, ◌+◌, ◌++◌};
+ghost use Rattle.words.specs.declared.call.Client.{Client};
 ghost use Rattle.words.specs.declared.told.Told.{Told};
+ghost use Rattle.arena.specs.Shape.{Shape};
+ghost use Rattle.stepper.specs.Step.{IsReadInRange};
+ghost use Rattle.helping.specs.Table.{IsPoint, access_of, successor};
+ghost use Rattle.helping.specs.declared.op.Op.{Op};
+ghost use Rattle.recover.specs.declared.recovery.Recovery.{Recovery};
+ghost use Rattle.protocol.specs.declared.UnderWay.{UnderWay};
+ghost use Rattle.interleave.specs.Premises.{IsMoreInRange, MayGoOn};
+ghost use Rattle.interleave.specs.Recoveries.{MayRecover};
 ghost use Rattle.interleave.specs.Holds.{Holds};
 ghost use Rattle.interleave.specs.Runs.{Went, TellsNext};
 ghost use Rattle.interleave.specs.State.{State, after_act, after_acts, taken_of};
@@ -36,4 +45,14 @@ pub fn equal_words_tell_the_same()
     ensures { (w v : State) (tells telling : List Told)
         → Holds w → Holds v → w.shape ≡ v.shape → w.words.kept ≡ v.words.kept
         → TellsNext w tells → TellsNext v telling → tells ≡ telling }
+{}
+
+/// A step leads into the range that the next one asks for, and so at every moment each call under way and the recovery
+/// wait at points in range, and what they are about to read is in range.
+pub fn steps_stay_in_range()
+    ensures successors { (s : Shape) (op : Op) (found : ℕ) → IsPoint s op → IsReadInRange s (access_of s.kind op) found
+        → IsMoreInRange s (successor s.kind op found) }
+    ensures calls { (w : State) (client : Client) (call : UnderWay) → Holds w
+        → slice_get w.calls client.0 ≡ Some (Some call) → MayGoOn w call }
+    ensures recovery { (w : State) (r : Recovery) → Holds w → w.recovery ≡ Some r → MayRecover w.shape w.words r }
 {}

@@ -18,6 +18,7 @@ mod world;
 pub use acts::{Act, Ran};
 pub use laws::{
     acts_with_room_are_made, equal_words_tell_the_same, one_access_an_act, one_event_an_act,
+    steps_stay_in_range,
 };
 pub use queue::Queue;
 pub use world::World;
