@@ -16,3 +16,6 @@ pub mod HoldsKept
 pub mod KeptTells
 pub mod BootLaws
 pub mod DownLaws
+pub mod Ended
+pub mod ToldForGood
+pub mod Turns

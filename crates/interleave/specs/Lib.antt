@@ -13,3 +13,5 @@ pub mod Recoveries
 pub mod OneEvent
 pub mod Booted
 pub mod Down
+pub mod Standing
+pub mod Turn
