@@ -18,4 +18,6 @@ pub mod BootLaws
 pub mod DownLaws
 pub mod Ended
 pub mod ToldForGood
+pub mod StandingLaws
 pub mod Turns
+pub mod TurnLaws

@@ -8,6 +8,10 @@ ghost use Rattle.interleave.specs.Calls.{is_no_memory, waiting_result};
 ghost use Rattle.interleave.specs.Down.{StaysDown, AreToldWhenReady, IsToldWhenReady};
 ghost use Rattle.protocol.specs.Acts.{HasNoCrash, recovery_step_of, recoveries};
 ghost use Rattle.interleave.specs.Holds.{IsExplained};
+ghost use Rattle.interleave.specs.Standing.{EndedCallsStay, IsBeginningOf, IsToldForGood, UnannouncedAreOut};
+ghost use Rattle.interleave.specs.Turn.{IsInTurn};
+ghost use Rattle.words.specs.PlainQueue.{reply_of, served};
+ghost use Rattle.words.specs.declared.call.Call.{Call as AnyCall};
 ghost use Rattle.protocol.specs.declared.acts.Act.{Act};
 ghost use Rattle.words.specs.declared.refusal.Refusal.{Refusal as AnyRefusal};
 ghost use Rattle.interleave.specs.Queue.{told_in, told_to};
@@ -140,6 +144,7 @@ impl<L: Layout + Drop> World<L> {
         ensures explained { IsExplained self.new.now }
         ensures sound { IsKeptSound self.new.now }
         ensures order { IsPartOf (order_in self.old.now) (order_in self.new.now) }
+        ensures ended { EndedCallsStay self.old.now self.new.now }
     {
         step_call(
             &self.layout,
@@ -160,6 +165,7 @@ impl<L: Layout + Drop> World<L> {
         ensures explained { IsExplained self.new.now }
         ensures sound { IsKeptSound self.new.now }
         ensures order { IsPartOf (order_in self.old.now) (order_in self.new.now) }
+        ensures ended { EndedCallsStay self.old.now self.new.now }
         ensures tells { is_down self.old.now ≡ true → kept_tells self.new.now ≡ kept_tells self.old.now }
         ensures holds { is_down self.old.now ≡ true → kept_content self.new.now ≡ kept_content self.old.now }
         ensures left { steps_to_ready self.new.now ≡ steps_to_ready self.old.now }
@@ -212,6 +218,8 @@ impl<L: Layout + Drop> World<L> {
         ensures holds { kept_content self.new.now ≡ kept_content self.old.now }
         ensures told { result ≡ Ok true → told_in self.new.now.queue ≡ kept_tells self.new.now }
         ensures announced { result ≡ Ok true → AreToldOfAnnounced self.new.now }
+        ensures unannounced { result ≡ Ok true → UnannouncedAreOut (order_in self.new.now) self.new.now }
+        ensures stands { result ≡ Ok true → IsToldForGood self.new.now }
         ensures mended { result ≡ Ok true → IsMended self.new.now }
         ensures few { steps_to_ready self.old.now ≤ most_to_ready (self.old.now.shape) }
         ensures falls { IfOk result (λ ready. steps_to_ready self.new.now < steps_to_ready self.old.now) }
@@ -282,6 +290,8 @@ impl<L: Layout + Drop> World<L> {
         ensures explained { IsExplained self.new.now }
         ensures sound { IsKeptSound self.new.now }
         ensures order { IsPartOf (order_in self.old.now) (order_in self.new.now) }
+        ensures ended { EndedCallsStay self.old.now self.new.now }
+        ensures grows { IsBeginningOf self.old.now.log.events self.new.now.log.events }
         ensures tells { is_down self.old.now ≡ true → kept_tells self.new.now ≡ kept_tells self.old.now }
         ensures announced { 0 < self.old.room → IsToldWhenReady self.old.now self.new.now }
         ensures left { 0 < self.old.room → act ≢ Act.Crash → is_down self.new.now ≡ true
@@ -319,6 +329,11 @@ impl<L: Layout + Drop> World<L> {
         ensures explained { IsExplained self.new.now }
         ensures sound { IsKeptSound self.new.now }
         ensures order { IsPartOf (order_in self.old.now) (order_in self.new.now) }
+        ensures ended { EndedCallsStay self.old.now self.new.now }
+        ensures reply { IfOk result (λ answer. (call : AnyCall) → IsInTurn self.old.now client call
+            → answer.0 ≡ reply_of (kept_content self.old.now) call) }
+        ensures content { IfOk result (λ answer. (call : AnyCall) → IsInTurn self.old.now client call
+            → kept_content self.new.now ≡ served (kept_content self.old.now) call) }
     {
         waiting(&self.calls, self.trace.is_down(), client)?;
         self.reserve(1)?;

@@ -6,6 +6,8 @@ use Rattle.events.proofs.Members.{part_same}
 use Rattle.events.specs.Parts.{IsPartOf}
 use Rattle.events.specs.declared.event.Entry.{Entry}
 use Rattle.interleave.specs.State.{State, is_down, kept_tells, steps_to_ready, order_in}
+use Rattle.interleave.specs.Standing.{IsBeginningOf}
+use Rattle.interleave.proofs.StandingLaws.{ended_by_order, grown_by_start, grown_by_step, grown_by_evict, grown_by_crash, grown_by_recover}
 use Rattle.interleave.proofs.world.World.act.Goals as goal
 
 pub returns-in-Start-clause-order : goal.returns-in-Start-clause-order
@@ -46,3 +48,45 @@ pub returns-in-Recover-clause-announced : goal.returns-in-Recover-clause-announc
 returns-in-Recover-clause-announced g c = λ room down up.
     let full = is_no_memory c.recover_step.result in
     c.recover_step.ensures.announced (c.recover_step.ensures.result ∙ became_ready full c.args.self.now.now down (sym (ap is_down c.recover_step.ensures.world) ∙ up))
+
+pub returns-in-Start-clause-ended : goal.returns-in-Start-clause-ended
+returns-in-Start-clause-ended g c =
+    ended_by_order c.args.self.now.now c.start.new.self.now c.start.ensures.order
+
+pub returns-in-Crash-clause-ended : goal.returns-in-Crash-clause-ended
+returns-in-Crash-clause-ended g c =
+    ended_by_order c.args.self.now.now c.crash.new.self.now c.crash.ensures.order
+
+pub returns-in-Recover-clause-ended : goal.returns-in-Recover-clause-ended
+returns-in-Recover-clause-ended g c =
+    ended_by_order c.args.self.now.now c.recover_step.new.self.now c.recover_step.ensures.order
+
+pub returns-in-Start-clause-grows : goal.returns-in-Start-clause-grows
+returns-in-Start-clause-grows g c =
+    let old : State = c.args.self.now.now in
+    subst (λ (w : State). IsBeginningOf old.log.events w.log.events) (sym c.start.ensures.world)
+    (grown_by_start (is_no_memory c.start.result) old c.in-Start.client c.in-Start.number c.in-Start.call)
+
+pub returns-in-Step-clause-grows : goal.returns-in-Step-clause-grows
+returns-in-Step-clause-grows g c =
+    let old : State = c.args.self.now.now in
+    subst (λ (w : State). IsBeginningOf old.log.events w.log.events) (sym c.step.ensures.world)
+    (grown_by_step (is_no_memory c.step.result) old c.in-Step.client)
+
+pub returns-in-Evict-clause-grows : goal.returns-in-Evict-clause-grows
+returns-in-Evict-clause-grows g c =
+    let old : State = c.args.self.now.now in
+    subst (λ (w : State). IsBeginningOf old.log.events w.log.events) (sym c.evict.ensures.world)
+    (grown_by_evict old c.in-Evict.at)
+
+pub returns-in-Crash-clause-grows : goal.returns-in-Crash-clause-grows
+returns-in-Crash-clause-grows g c =
+    let old : State = c.args.self.now.now in
+    subst (λ (w : State). IsBeginningOf old.log.events w.log.events) (sym c.crash.ensures.world)
+    (grown_by_crash (is_no_memory c.crash.result) old)
+
+pub returns-in-Recover-clause-grows : goal.returns-in-Recover-clause-grows
+returns-in-Recover-clause-grows g c =
+    let old : State = c.args.self.now.now in
+    subst (λ (w : State). IsBeginningOf old.log.events w.log.events) (sym c.recover_step.ensures.world)
+    (grown_by_recover (is_no_memory c.recover_step.result) old)
