@@ -27,7 +27,7 @@ use Rattle.interleave.specs.declared.queue.Queue.TheVariants.{Durable, Log}
 use Rattle.interleave.proofs.HoldsKept.{evicted_is, recovered_is}
 use Rattle.interleave.proofs.ValueLaws.{shown_at}
 
-told_again : (queue : Queue) (told : List Told) → told_in (queue_with_reports queue told) ≡ told
+pub told_again : (queue : Queue) (told : List Told) → told_in (queue_with_reports queue told) ≡ told
 told_again (Durable old) told = refl
 told_again (Log clients) told = refl
 

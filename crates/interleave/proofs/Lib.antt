@@ -18,3 +18,8 @@ pub mod HoldsKept
 pub mod KeptTells
 pub mod BootLaws
 pub mod DownLaws
+pub mod Ended
+pub mod ToldForGood
+pub mod StandingLaws
+pub mod Turns
+pub mod TurnLaws

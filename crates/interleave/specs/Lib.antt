@@ -14,3 +14,5 @@ pub mod OneEvent
 pub mod Booted
 pub mod Runs
 pub mod Premises
+pub mod Standing
+pub mod Turn

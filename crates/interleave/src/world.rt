@@ -6,6 +6,10 @@ ghost use Rattle.recover.specs.Sound.{AreSoundWords};
 ghost use Rattle.interleave.specs.Booted.{booted_world, MayRefuse};
 ghost use Rattle.interleave.specs.Calls.{is_no_memory, waiting_result};
 ghost use Rattle.interleave.specs.Holds.{Holds, IsExplained};
+ghost use Rattle.interleave.specs.Standing.{EndedCallsStay, IsBeginningOf, IsToldForGood, UnannouncedAreOut};
+ghost use Rattle.interleave.specs.Turn.{IsInTurn};
+ghost use Rattle.words.specs.PlainQueue.{reply_of, served};
+ghost use Rattle.words.specs.declared.call.Call.{Call as AnyCall};
 ghost use Rattle.protocol.specs.declared.acts.Act.{Act};
 ghost use Rattle.words.specs.declared.refusal.Refusal.{Refusal as AnyRefusal};
 ghost use Rattle.interleave.specs.Queue.{told_in, told_to};
@@ -141,6 +145,7 @@ impl<L: Layout + Drop> World<L> {
         ensures explained { IsExplained self.new.now }
         ensures sound { IsKeptSound self.new.now }
         ensures order { IsPartOf (order_in self.old.now) (order_in self.new.now) }
+        ensures ended { EndedCallsStay self.old.now self.new.now }
     {
         step_call(
             &self.layout,
@@ -161,6 +166,7 @@ impl<L: Layout + Drop> World<L> {
         ensures explained { IsExplained self.new.now }
         ensures sound { IsKeptSound self.new.now }
         ensures order { IsPartOf (order_in self.old.now) (order_in self.new.now) }
+        ensures ended { EndedCallsStay self.old.now self.new.now }
         ensures tells { is_down self.old.now ≡ true → kept_tells self.new.now ≡ kept_tells self.old.now }
         ensures holds { is_down self.old.now ≡ true → kept_content self.new.now ≡ kept_content self.old.now }
         ensures left { steps_to_ready self.new.now ≡ steps_to_ready self.old.now }
@@ -215,6 +221,8 @@ impl<L: Layout + Drop> World<L> {
         ensures holds { kept_content self.new.now ≡ kept_content self.old.now }
         ensures told { result ≡ Ok true → told_in self.new.now.queue ≡ kept_tells self.new.now }
         ensures announced { result ≡ Ok true → AreToldOfAnnounced self.new.now }
+        ensures unannounced { result ≡ Ok true → UnannouncedAreOut (order_in self.new.now) self.new.now }
+        ensures stands { result ≡ Ok true → IsToldForGood self.new.now }
         ensures mended { result ≡ Ok true → IsMended self.new.now }
         ensures few { steps_to_ready self.old.now ≤ most_to_ready (self.old.now.shape) }
         ensures falls { IfOk result (λ ready. steps_to_ready self.new.now < steps_to_ready self.old.now) }
@@ -312,6 +320,11 @@ impl<L: Layout + Drop> World<L> {
         ensures explained { IsExplained self.new.now }
         ensures sound { IsKeptSound self.new.now }
         ensures order { IsPartOf (order_in self.old.now) (order_in self.new.now) }
+        ensures ended { EndedCallsStay self.old.now self.new.now }
+        ensures reply { IfOk result (λ answer. (call : AnyCall) → IsInTurn self.old.now client call
+            → answer.0 ≡ reply_of (kept_content self.old.now) call) }
+        ensures content { IfOk result (λ answer. (call : AnyCall) → IsInTurn self.old.now client call
+            → kept_content self.new.now ≡ served (kept_content self.old.now) call) }
     {
         waiting(&self.calls, self.trace.is_down(), client)?;
         self.reserve(1)?;

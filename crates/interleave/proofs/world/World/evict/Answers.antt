@@ -6,6 +6,8 @@ use Rattle.interleave.proofs.KeptTells.{kept_sound, tells_evicted, left_evicted}
 use Rattle.interleave.specs.State.{IsKeptSound, kept_tells, kept_content, is_down, steps_to_ready, State, order_in}
 use Rattle.interleave.specs.Trace.{Roomy, state_with}
 use Rattle.interleave.proofs.HoldsKept.{holds_after_evict, part_after_evict, explained_world}
+use Rattle.interleave.specs.Standing.{EndedCallsStay}
+use Rattle.interleave.proofs.StandingLaws.{ended_after_evict}
 use Rattle.interleave.proofs.world.World.evict.Goals as goal
 
 pub invariant_of-self : goal.invariant_of-self
@@ -53,3 +55,11 @@ returns-clause-left g c =
     let holds = subst (λ (cs : List (Option UnderWay)). Holds (state_with (g.L.Layout.shape c.self.inside.layout) c.self.inside.memory c.self.inside.queue cs c.self.inside.trace)) (sym c.deref.ensures.value) c.self.invariant in
     let was : old ≡ c.args.self.now.now = ap (λ (cs : List (Option UnderWay)). state_with (g.L.Layout.shape c.self.inside.layout) c.self.inside.memory c.self.inside.queue cs c.self.inside.trace) c.deref.ensures.value ∙ ap (λ (r : Roomy). r.now) c.self.view_is in
     ap (steps_to_ready) c.evict_word.ensures.world ∙ left_evicted old c.args.word ∙ ap (steps_to_ready) was
+
+pub returns-clause-ended : goal.returns-clause-ended
+returns-clause-ended g c =
+    let old : State = state_with (g.L.Layout.shape c.self.inside.layout) c.self.inside.memory c.self.inside.queue c.deref.result.now c.self.inside.trace in
+    let holds = subst (λ (cs : List (Option UnderWay)). Holds (state_with (g.L.Layout.shape c.self.inside.layout) c.self.inside.memory c.self.inside.queue cs c.self.inside.trace)) (sym c.deref.ensures.value) c.self.invariant in
+    let was : old ≡ c.args.self.now.now = ap (λ (cs : List (Option UnderWay)). state_with (g.L.Layout.shape c.self.inside.layout) c.self.inside.memory c.self.inside.queue cs c.self.inside.trace) c.deref.ensures.value ∙ ap (λ (r : Roomy). r.now) c.self.view_is in
+    subst (λ (w : State). EndedCallsStay w (state_with (g.L.Layout.shape c.self.inside.layout) c.evict_word.new.memory c.self.inside.queue c.deref.result.now c.evict_word.new.trace)) was
+    (subst (λ (w : State). EndedCallsStay old w) (sym c.evict_word.ensures.world) (ended_after_evict old c.args.word holds))

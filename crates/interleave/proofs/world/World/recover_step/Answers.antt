@@ -8,6 +8,8 @@ use Rattle.interleave.proofs.KeptTells.{kept_sound, tells_on, told_by_kept, told
 use Rattle.interleave.specs.State.{IsKeptSound, AreToldOfAnnounced, IsMended, kept_tells, kept_content, steps_to_ready, most_to_ready, after_recover, State, order_in}
 use Rattle.interleave.specs.Trace.{Roomy, state_with}
 use Rattle.interleave.proofs.HoldsKept.{holds_after_recover, part_after_recover, explained_world}
+use Rattle.interleave.specs.Standing.{IsToldForGood, UnannouncedAreOut}
+use Rattle.interleave.proofs.StandingLaws.{told_stands, unannounced_are_out}
 use Rattle.interleave.proofs.world.World.recover_step.Goals as goal
 
 pub invariant_of-self : goal.invariant_of-self
@@ -93,3 +95,19 @@ returns-clause-announced g c = λ ready.
     let was : old ≡ c.args.self.now.now = ap (λ (cs : List (Option UnderWay)). state_with (g.L.Layout.shape c.self.inside.layout) c.self.inside.memory c.self.inside.queue cs c.self.inside.trace) c.deref.ensures.value ∙ ap (λ (r : Roomy). r.now) c.self.view_is in
     let full = is_no_memory c.recover_on.result in
     subst (AreToldOfAnnounced) (sym c.recover_on.ensures.world) (told_of_announced full old holds (sym c.recover_on.ensures.result ∙ ready))
+
+pub returns-clause-unannounced : goal.returns-clause-unannounced
+returns-clause-unannounced g c = λ ready.
+    let old : State = state_with (g.L.Layout.shape c.self.inside.layout) c.self.inside.memory c.self.inside.queue c.deref.result.now c.self.inside.trace in
+    let holds = subst (λ (cs : List (Option UnderWay)). Holds (state_with (g.L.Layout.shape c.self.inside.layout) c.self.inside.memory c.self.inside.queue cs c.self.inside.trace)) (sym c.deref.ensures.value) c.self.invariant in
+    let full = is_no_memory c.recover_on.result in
+    let out = unannounced_are_out full old holds (sym c.recover_on.ensures.result ∙ ready) in
+    subst (λ (w : State). UnannouncedAreOut (order_in w) w) (sym c.recover_on.ensures.world) out
+
+pub returns-clause-stands : goal.returns-clause-stands
+returns-clause-stands g c = λ ready.
+    let old : State = state_with (g.L.Layout.shape c.self.inside.layout) c.self.inside.memory c.self.inside.queue c.deref.result.now c.self.inside.trace in
+    let holds = subst (λ (cs : List (Option UnderWay)). Holds (state_with (g.L.Layout.shape c.self.inside.layout) c.self.inside.memory c.self.inside.queue cs c.self.inside.trace)) (sym c.deref.ensures.value) c.self.invariant in
+    let full = is_no_memory c.recover_on.result in
+    let stands = told_stands full old holds (sym c.recover_on.ensures.result ∙ ready) in
+    subst (IsToldForGood) (sym c.recover_on.ensures.world) stands

@@ -10,6 +10,8 @@ use Rattle.interleave.specs.State.{IsKeptSound, State, machine, after_one_access
 use Rattle.interleave.specs.Trace.{Roomy, state_with}
 use Rattle.interleave.proofs.AloneLaws.{left_in, left_few, step_is, answer_is, goes_on}
 use Rattle.interleave.proofs.HoldsKept.{explained_world, holds_gone_on, waiting_is}
+use Rattle.interleave.proofs.StandingLaws.{ended_by_order}
+use Rattle.interleave.proofs.TurnLaws.{went_nowhere, went_further, ended_on, answered_in_turn}
 use Rattle.interleave.proofs.world.World.run_alone.Goals as goal
 
 pub returns-in_err-waiting-clause-explained : goal.returns-in_err-waiting-clause-explained
@@ -59,6 +61,7 @@ loop-answer-init g c =
       room = search rules;
       at_first = c.reserve.ensures.kept;
       order = subst (λ (w : State). IsPartOf (order_in c.args.self.now.now) (order_in w)) (sym same) (part_same (order_in c.args.self.now.now));
+      went = went_nowhere c.args.self.now.now c.reserve.new.self.now same;
     }
 
 not_true : (b : Bool) → (b ≡ true → ⊥) → b ≡ false
@@ -121,6 +124,12 @@ loop-answer-preserved g c =
       room = omega (arith, stays, c.loop-answer.invariant.room);
       at_first = omega (arith, stays, c.loop-answer.invariant.at_first);
       order = part_of_part c.step.ensures.order c.loop-answer.invariant.order;
+      went =
+          let result : step_result false w c.args.client ≡ Ok None =
+          ap (λ (b : Bool). step_result b w c.args.client) (sym paid)
+          ∙ sym c.step.ensures.result ∙ c.in_ok-answer.was ∙ ap Ok c.in_default.is in
+          went_further c.args.self.now.now w c.step.new.self.now c.args.client c.loop-answer.invariant.went
+          (c.step.ensures.world ∙ ap (λ (b : Bool). after_step b w c.args.client) paid) result c.step.ensures.ended;
     }
 
 pub returns-in-Some-clause-answer : goal.returns-in-Some-clause-answer
@@ -133,3 +142,50 @@ returns-in-Some-clause-answer g c =
     ∙ ap (λ (b : Bool). step_result b w c.args.client) (sym paid)
     ∙ sym c.step.ensures.result ∙ c.in_ok-answer.was ∙ ap Ok c.in-Some.is in
     subst (λ (n : ℕ). IsAnsweredAlone c.args.self.now.now c.args.client n c.in-Some.reply) more result
+
+pub returns-in_err-waiting-clause-ended : goal.returns-in_err-waiting-clause-ended
+returns-in_err-waiting-clause-ended g c = λ p reply ended taken. taken
+
+pub returns-in_err-reserve-clause-ended : goal.returns-in_err-reserve-clause-ended
+returns-in_err-reserve-clause-ended g c =
+    ended_by_order c.args.self.now.now c.reserve.new.self.now (ap order_in c.reserve.ensures.same)
+
+pub returns-in_err-answer-clause-ended : goal.returns-in_err-answer-clause-ended
+returns-in_err-answer-clause-ended g c =
+    ended_on c.args.self.now.now c.loop-answer.self.now c.step.new.self.now c.loop-answer.invariant.went
+    c.step.ensures.ended
+
+pub returns-in-Some-clause-ended : goal.returns-in-Some-clause-ended
+returns-in-Some-clause-ended g c =
+    ended_on c.args.self.now.now c.loop-answer.self.now c.step.new.self.now c.loop-answer.invariant.went
+    c.step.ensures.ended
+
+pub returns-in-Some-clause-reply : goal.returns-in-Some-clause-reply
+returns-in-Some-clause-reply g c = λ call turn.
+    let inside : State = state_with (g.L.Layout.shape c.self.inside.layout) c.self.inside.memory c.self.inside.queue c.self.inside.calls.items c.self.inside.trace in
+    let was : inside ≡ c.args.self.now.now = ap (λ (r : Roomy). r.now) c.self.view_is in
+    let w : State = c.loop-answer.self.now in
+    let paid : is_no_memory c.step.result ≡ false = ap is_no_memory c.in_ok-answer.was in
+    let result : step_result false w c.args.client ≡ Ok (Some c.in-Some.reply) =
+    ap (λ (b : Bool). step_result b w c.args.client) (sym paid)
+    ∙ sym c.step.ensures.result ∙ c.in_ok-answer.was ∙ ap Ok c.in-Some.is in
+    (answered_in_turn c.args.self.now.now w c.step.new.self.now c.args.client call c.in-Some.reply turn
+    (subst (IsExplained) was (explained_world inside c.self.invariant)) c.step.ensures.explained
+    c.loop-answer.invariant.went
+    (c.step.ensures.world ∙ ap (λ (b : Bool). after_step b w c.args.client) paid) result
+    (part_of_part c.step.ensures.order c.loop-answer.invariant.order) c.step.ensures.ended).0
+
+pub returns-in-Some-clause-content : goal.returns-in-Some-clause-content
+returns-in-Some-clause-content g c = λ call turn.
+    let inside : State = state_with (g.L.Layout.shape c.self.inside.layout) c.self.inside.memory c.self.inside.queue c.self.inside.calls.items c.self.inside.trace in
+    let was : inside ≡ c.args.self.now.now = ap (λ (r : Roomy). r.now) c.self.view_is in
+    let w : State = c.loop-answer.self.now in
+    let paid : is_no_memory c.step.result ≡ false = ap is_no_memory c.in_ok-answer.was in
+    let result : step_result false w c.args.client ≡ Ok (Some c.in-Some.reply) =
+    ap (λ (b : Bool). step_result b w c.args.client) (sym paid)
+    ∙ sym c.step.ensures.result ∙ c.in_ok-answer.was ∙ ap Ok c.in-Some.is in
+    (answered_in_turn c.args.self.now.now w c.step.new.self.now c.args.client call c.in-Some.reply turn
+    (subst (IsExplained) was (explained_world inside c.self.invariant)) c.step.ensures.explained
+    c.loop-answer.invariant.went
+    (c.step.ensures.world ∙ ap (λ (b : Bool). after_step b w c.args.client) paid) result
+    (part_of_part c.step.ensures.order c.loop-answer.invariant.order) c.step.ensures.ended).1

@@ -4,9 +4,10 @@ use Rattle.protocol.specs.declared.UnderWay.{UnderWay}
 use Rattle.interleave.specs.Holds.{Holds}
 use Rattle.interleave.specs.State.{after_alone, order_in}
 use Rattle.interleave.proofs.AloneLaws.{left_in}
+use Rattle.interleave.proofs.TurnLaws.{WentOn}
 use Rattle.interleave.proofs.world.World.run_alone.Given as goal
 
--- the call goes on, with as many steps made and left as there are at most
+-- the call goes on, with as many steps made and left as there are at most, and did not answer yet
 abbrev pub invariant-loop-answer : goal.invariant-loop-answer
 invariant-loop-answer g l =
     record {
@@ -18,6 +19,7 @@ invariant-loop-answer g l =
       room : 0 < l.self.room;
       at_first : l.fn.self.room ≤ l.self.room;
       order : IsPartOf (order_in l.fn.self.now) (order_in l.self.now);
+      went : WentOn l.fn.self.now l.self.now;
     }
 
 abbrev pub decreases-loop-answer : goal.decreases-loop-answer

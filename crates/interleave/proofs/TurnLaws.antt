@@ -1,0 +1,102 @@
+-- A client in turn, whose call goes on alone, is answered as by the plain queue.
+use Rattle.std.proofs.Common.{◌≡◌, ℕ, false, List, [], ◌∷◌, ◌++◌, Option, Some, None, Result, Ok, Err, slice_get, refl, sym, ap, ◌∙◌, subst}
+use Rattle.std.proofs.lemmas.List.{append-nil}
+use Rattle.words.specs.PlainQueue.{reply_of, served}
+use Rattle.words.specs.declared.call.Call.{Call}
+use Rattle.words.specs.declared.call.Client.{Client}
+use Rattle.words.specs.declared.call.Reply.{Reply}
+use Rattle.words.specs.declared.refusal.Refusal.{Refusal}
+use Rattle.words.specs.declared.told.Told.{Told}
+use Rattle.events.specs.Explains.{Explains}
+use Rattle.events.specs.Parts.{IsPartOf}
+use Rattle.events.specs.Replay.{queue_after}
+use Rattle.events.specs.declared.event.Event.{Event}
+use Rattle.events.specs.declared.event.Event.TheVariants.{Return as return_event}
+use Rattle.protocol.specs.declared.acts.Act.TheVariants.{Step}
+use Rattle.protocol.specs.declared.UnderWay.{UnderWay}
+use Rattle.interleave.specs.Calls.{waiting_result}
+use Rattle.interleave.specs.Holds.{IsExplained}
+use Rattle.interleave.specs.OneEvent.{return_events}
+use Rattle.interleave.specs.Standing.{EndedCallsStay}
+use Rattle.interleave.specs.State.{State, is_down, step_with, after_step, step_result, kept_content, order_in}
+use Rattle.interleave.specs.Turn.{IsInTurn}
+use Rattle.interleave.proofs.EveryAct.{act_adds_one}
+use Rattle.interleave.proofs.Ended.{begins_as_it_is}
+use Rattle.interleave.proofs.StandingLaws.{ended_by_order, ended_then}
+use Rattle.interleave.proofs.Turns.{turn_served}
+
+-- a step adds the Return of what it answers
+pub step_adds : (w : State) (client : Client) (answer : Option Reply) → step_result false w client ≡ Ok answer
+    → (after_step false w client).log.events ≡ w.log.events ++ return_events (Ok answer) client
+step_adds w client answer is =
+    act_adds_one w (Step client) ∙ ap (λ r. w.log.events ++ return_events r client) is
+
+pub step_adds_none : (w : State) (client : Client) → step_result false w client ≡ Ok None
+    → (after_step false w client).log.events ≡ w.log.events
+step_adds_none w client is = step_adds w client None is ∙ append-nil w.log.events
+
+-- a step leaves what the history began with
+pub base_stepped : (w : State) (client : Client)
+    → ((after_step false w client).base ≡ w.base) × ((after_step false w client).told ≡ w.told)
+base_stepped w client = go (waiting_result (is_down w) (slice_get w.calls client.0))
+  where
+    go : (r : Result UnderWay Refusal)
+        → ((step_with false w client r).base ≡ w.base) × ((step_with false w client r).told ≡ w.told)
+    go (Err refusal) = (refl, refl)
+    go (Ok u) = (refl, refl)
+
+-- a call went on alone from the one world to the other, and did not answer yet
+pub record WentOn (old now : State) : Type 0 where
+  pub events : now.log.events ≡ old.log.events
+  pub base : now.base ≡ old.base
+  pub told : now.told ≡ old.told
+  pub ended : EndedCallsStay old now
+
+pub went_nowhere : (old now : State) → now ≡ old → WentOn old now
+went_nowhere old now same = record {
+  events = ap (λ (w : State). w.log.events) same;
+  base = ap (λ (w : State). w.base) same;
+  told = ap (λ (w : State). w.told) same;
+  ended = ended_by_order old now (ap order_in same);
+}
+
+-- one step more
+pub ended_on : (old now new : State) → WentOn old now → EndedCallsStay now new → EndedCallsStay old new
+ended_on old now new went ended =
+    ended_then old now new (begins_as_it_is old.log.events now.log.events went.events) went.ended ended
+
+pub went_further : (old now new : State) (client : Client) → WentOn old now → new ≡ after_step false now client
+    → step_result false now client ≡ Ok None → EndedCallsStay now new → WentOn old new
+went_further old now new client went is answers ended = record {
+  events = ap (λ (w : State). w.log.events) is ∙ step_adds_none now client answers ∙ went.events;
+  base = ap (λ (w : State). w.base) is ∙ (base_stepped now client).0 ∙ went.base;
+  told = ap (λ (w : State). w.told) is ∙ (base_stepped now client).1 ∙ went.told;
+  ended = ended_on old now new went ended;
+}
+
+-- in turn, and answered by the last step
+pub answered_in_turn : (old now new : State) (client : Client) (call : Call) (reply : Reply) → IsInTurn old client call
+    → IsExplained old → IsExplained new → WentOn old now → new ≡ after_step false now client
+    → step_result false now client ≡ Ok (Some reply) → IsPartOf (order_in old) (order_in new)
+    → EndedCallsStay now new
+    → (reply ≡ reply_of (kept_content old) call) × (kept_content new ≡ served (kept_content old) call)
+answered_in_turn old now new client call reply turn was is went left answers part ended =
+    let base : new.base ≡ old.base = ap (λ (w : State). w.base) left ∙ (base_stepped now client).0 ∙ went.base in
+    let told : new.told ≡ old.told = ap (λ (w : State). w.told) left ∙ (base_stepped now client).1 ∙ went.told in
+    let events : new.log.events ≡ old.log.events ++ return_event client reply ∷ [] =
+    ap (λ (w : State). w.log.events) left ∙ step_adds now client (Some reply) answers
+    ∙ ap (λ (es : List Event). es ++ return_event client reply ∷ []) went.events in
+    let explains : Explains old.base old.told (old.log.events ++ return_event client reply ∷ []) (order_in new) =
+    subst (λ (es : List Event). Explains old.base old.told es (order_in new)) events
+    (subst (λ (b : List ℕ). Explains b old.told new.log.events (order_in new)) base
+    (subst (λ (ts : List Told). Explains new.base ts new.log.events (order_in new)) told is.explains)) in
+    let both = turn_served old.base old.told old.log.events (order_in old) (order_in new) client reply was.history
+    was.explains explains part (ended_on old now new went ended) turn.place turn.number call turn.begins turn.last
+    turn.alone turn.fresh in
+    let holds : kept_content new
+    ≡ queue_after (old.log.events ++ return_event client reply ∷ []) old.base (order_in new) =
+    is.agrees ∙ ap (λ (b : List ℕ). queue_after new.log.events b (order_in new)) base
+    ∙ ap (λ (es : List Event). queue_after es old.base (order_in new)) events in (
+      both.0 ∙ ap (λ (q : List ℕ). reply_of q call) (sym was.agrees),
+      holds ∙ both.1 ∙ ap (λ (q : List ℕ). served q call) (sym was.agrees),
+    )
