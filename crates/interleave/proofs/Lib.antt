@@ -1,3 +1,4 @@
+pub mod Entering
 pub mod ValueLaws
 pub mod Unsettled
 pub mod Records
