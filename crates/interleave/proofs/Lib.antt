@@ -1,4 +1,5 @@
 pub mod Entering
+pub mod NumberLaws
 pub mod ValueLaws
 pub mod Unsettled
 pub mod Records
