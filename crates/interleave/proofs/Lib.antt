@@ -1,5 +1,6 @@
 pub mod Entering
 pub mod NumberLaws
+pub mod NumbersKept
 pub mod ValueLaws
 pub mod Unsettled
 pub mod Records

@@ -120,12 +120,12 @@ doubt_push events event places client p n has other doubt =
     (get_push_cases events event k _ at))
 
 -- a client accepted a number above its floor
-pub rise_called : (kind : Kind) (base : List ℕ) (told : List Told) (events : List Event) (effects : List Effect)
-    → (floors : List ℕ) (c : Client) (number : ℕ) (call : Call)
-    → (InOrder (order_of effects) (length events) → ⊥) → MayAllStand (events ++ call_event c number call ∷ [])
-    → c.0 < MAX_CLIENTS → slice_index floors c.0 < number → NumbersRise told events (order_of effects) floors
+pub rise_called : (told : List Told) (events : List Event) (effects : List Effect) (floors : List ℕ)
+    → (c : Client) (number : ℕ) (call : Call) → (InOrder (order_of effects) (length events) → ⊥)
+    → MayAllStand (events ++ call_event c number call ∷ []) → c.0 < MAX_CLIENTS → slice_index floors c.0 < number
+    → NumbersRise told events (order_of effects) floors
     → NumbersRise told (events ++ call_event c number call ∷ []) (order_of effects) floors
-rise_called kind base told events effects floors c number call none places few above v = record {
+rise_called told events effects floors c number call none places few above v = record {
   sixteen = v.sixteen;
   rise = λ p q m n client has_m has_n lt there. ⊎_elim
       (λ old. v.rise p q m n client

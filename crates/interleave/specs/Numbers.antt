@@ -86,9 +86,9 @@ pub record NumbersRise (told : List Told) (events : List Event) (order : List En
   pub base : (p number : ℕ) (client : Client) → HasNumber events client p number → told_floor told client < number
   pub base_floors : (client : Client) → client.0 < MAX_CLIENTS → told_floor told client ≤ slice_index floors client.0
 
-abbrev pub NumbersRiseIn : Queue → List Told → List Event → List Entry → Type 0
-NumbersRiseIn (Durable reports) told events order = Unit {0}
-NumbersRiseIn (Log clients) told events order = NumbersRise told events order clients.floors
+abbrev pub AreNumbersRisingIn : Queue → List Told → List Event → List Entry → Type 0
+AreNumbersRisingIn (Durable reports) told events order = Unit {0}
+AreNumbersRisingIn (Log clients) told events order = NumbersRise told events order clients.floors
 
-abbrev pub DoNumbersRise : State → Type 0
-DoNumbersRise w = NumbersRiseIn w.queue w.told w.log.events (order_in w)
+abbrev pub AreNumbersRising : State → Type 0
+AreNumbersRising w = AreNumbersRisingIn w.queue w.told w.log.events (order_in w)
