@@ -12,7 +12,7 @@ use Rattle.words.specs.declared.refusal.Refusal.{Refusal}
 use Rattle.words.specs.declared.refusal.Refusal.TheVariants.{StaleNumber}
 use Rattle.words.specs.declared.told.Told.{Told}
 use Rattle.words.specs.declared.told.Told.TheVariants.{None as told_none}
-use Rattle.logqueue.specs.Numbers.{floor_of, is_stale}
+use Rattle.logqueue.specs.Numbers.{floor_of, is_stale, told_queue}
 use Rattle.arena.specs.Layout.{place_at}
 use Rattle.arena.specs.declared.place.Place.{Place}
 use Rattle.stepper.specs.declared.resume.After.{After}
@@ -30,19 +30,19 @@ use Rattle.recover.specs.declared.recovery.Recovery.{Recovery}
 use Rattle.protocol.specs.Machine.{World, MayStep, events_after, next_of, next_recovery, recovery_events, with_step}
 use Rattle.protocol.specs.declared.UnderWay.{UnderWay}
 use Rattle.protocol.specs.invariants.Worlds.{Inv, IsCalling}
-use Rattle.protocol.proofs.worlds.Facts.{in_log, is_ready}
+use Rattle.protocol.proofs.worlds.Facts.{in_log, is_ready as ready_held}
 use Rattle.protocol.proofs.worlds.Moments.{calling}
 use Rattle.protocol.proofs.worlds.ReadyWorlds.{none_at_end}
 use Rattle.interleave.specs.Booted.{queue_at_boot}
 use Rattle.interleave.specs.Calls.{idle_result}
-use Rattle.interleave.specs.Numbers.{HasNumber, AreNumbersOnceIn, NumbersRise, AreNumbersRisingIn, AreNumbersRising}
+use Rattle.interleave.specs.Numbers.{HasNumber, AreNumbersOnceIn, AreWithinFloors, AreWithinFloorsIn, NumbersRise, AreNumbersRisingIn, AreNumbersRising}
 use Rattle.interleave.specs.Queue.{number_check, new_queue, told_in}
 use Rattle.interleave.specs.Ranges.{IsOfKind}
-use Rattle.interleave.specs.State.{State, machine, queue_left, after_one_access, after_call_began, number_of_idle, evict_with, after_stop, queue_at_ready, after_recovery_step, order_in}
+use Rattle.interleave.specs.State.{State, machine, is_ready, recover_with, recover_result_with, after_recover, recover_result, queue_left, after_one_access, after_call_began, number_of_idle, evict_with, after_stop, queue_at_ready, after_recovery_step, order_in}
 use Rattle.interleave.specs.declared.queue.Queue.{Queue}
 use Rattle.interleave.specs.declared.queue.Queue.TheVariants.{Durable, Log}
 use Rattle.interleave.proofs.Entering.{ComesInOpen, comes_stepped, comes_evicted}
-use Rattle.interleave.proofs.NumberLaws.{MayAllStand, numbers_once, rise_begun, rise_called, rise_comes, rise_crashed, rise_ready, rise_returned}
+use Rattle.interleave.proofs.NumberLaws.{MayAllStand, numbers_once, rise_begun, rise_called, rise_comes, rise_crashed, rise_ready, rise_returned, within_floors}
 
 -- a log queue accepts numbers above the client's floor alone
 abbrev pub IsAboveFloor : Queue → Client → ℕ → Type 0
@@ -112,7 +112,7 @@ pub numbers_gone_on : (w : State) (client : Client) (u : UnderWay) → Inv (mach
     → AreNumbersRising (after_one_access w client u)
 numbers_gone_on w client u inv after may v =
     answered w client u (order_of new) log
-    (calling (machine w) (is_ready (machine w) inv may.ready).working client.0 u may.waits).1
+    (calling (machine w) (ready_held (machine w) inv may.ready).working client.0 u may.waits).1
     (next_of (machine w) u) (in_log (with_step (machine w) client u) after).places w.queue (grown w.queue v)
   where
     new : List Effect
@@ -190,3 +190,24 @@ numbers_are_once w is_new = go w.queue
         → AreNumbersOnceIn queue w.told w.log.events (order_in w)
     go (Durable told) v = tt
     go (Log clients) v = numbers_once w.told w.log.events (order_in w) clients.floors is_new v
+
+-- and where a Ready came last each number in the order is at most its client's floor
+floors_readied : (w : State) (next : After Recovery (List Told)) (queue : Queue) → is_ready next ≡ true
+    → AreNumbersRisingIn (queue_at_ready queue next) w.told (recovery_events w.log.events next) (order_in w)
+    → AreWithinFloorsIn (queue_at_ready queue next) (recovery_events w.log.events next) (order_in w)
+floors_readied w (More p) queue ready v = cc
+floors_readied w (Done tells) (Durable reports) ready v = tt
+floors_readied w (Done tells) (Log clients) ready v =
+    within_floors w.told w.log.events (order_in w) (told_queue tells).floors tells v
+
+pub within_floors_ready : (full : Bool) (w : State) → AreNumbersRising (after_recover full w)
+    → recover_result full w ≡ Ok true → AreWithinFloors (after_recover full w)
+within_floors_ready full w v is = go w.recovery full v is
+  where
+    go : (o : Option Recovery) (f : Bool) → AreNumbersRising (recover_with f w o) → recover_result_with f w o ≡ Ok true
+        → AreWithinFloors (recover_with f w o)
+    go None f v is = cc
+    go (Some r) true v is = cc
+    go (Some r) false v is =
+        floors_readied w (next_recovery (machine w) r) w.queue
+        (let same : is_ready (next_recovery (machine w) r) ≡ true = cc in same) v

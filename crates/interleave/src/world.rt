@@ -10,6 +10,7 @@ ghost use Rattle.protocol.specs.Acts.{HasNoCrash, recovery_step_of, recoveries};
 ghost use Rattle.interleave.specs.Holds.{IsExplained};
 ghost use Rattle.protocol.specs.declared.acts.Act.{Act};
 ghost use Rattle.words.specs.declared.refusal.Refusal.{Refusal as AnyRefusal};
+ghost use Rattle.interleave.specs.Numbers.{AreWithinFloors};
 ghost use Rattle.interleave.specs.Queue.{told_in, told_to};
 ghost use Rattle.interleave.specs.State.{new_world, after_start, start_result, after_step, step_result, after_evict, evict_result, after_crash, crash_result, after_recover, recover_result, is_down, after_act, after_acts, after_alone, IsAnsweredAlone, is_accepted, taken_of, order_in, kept_content, kept_tells, IsKeptSound, AreToldOfAnnounced, IsMended, steps_to_ready, most_to_ready};
 
@@ -212,6 +213,7 @@ impl<L: Layout + Drop> World<L> {
         ensures holds { kept_content self.new.now ≡ kept_content self.old.now }
         ensures told { result ≡ Ok true → told_in self.new.now.queue ≡ kept_tells self.new.now }
         ensures announced { result ≡ Ok true → AreToldOfAnnounced self.new.now }
+        ensures floors { result ≡ Ok true → AreWithinFloors self.new.now }
         ensures mended { result ≡ Ok true → IsMended self.new.now }
         ensures few { steps_to_ready self.old.now ≤ most_to_ready (self.old.now.shape) }
         ensures falls { IfOk result (λ ready. steps_to_ready self.new.now < steps_to_ready self.old.now) }
