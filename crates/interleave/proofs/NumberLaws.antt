@@ -1,9 +1,10 @@
 -- How each act keeps what is so of the numbers of calls, and why none stands twice in the order.
-use Rattle.std.proofs.Common.{◌≡◌, ℕ, ◌<◌, ◌≤◌, ◌+◌, ◌⊎◌, inl, inr, List, [], ◌∷◌, ◌++◌, length, map, Some, slice_get, slice_index, slice_set, refl, sym, ap, ◌∙◌, subst, arith, ⊎_elim, get_or, replicate}
+use Rattle.std.proofs.Common.{◌≡◌, ◌≢◌, ℕ, ◌<◌, ◌≤◌, ◌+◌, ◌⊎◌, inl, inr, List, [], ◌∷◌, ◌++◌, length, map, Some, slice_get}
+use Rattle.std.proofs.Common.{slice_index, slice_set, refl, sym, ap, ◌∙◌, subst, arith, ⊎_elim, get_or}
 use Rattle.std.specs.Prelude.{⊤, EachIndex, take, unwrap_or}
 use Rattle.std.proofs.lemmas.Bool.{cases_eq, cases_lt}
 use Rattle.std.proofs.lemmas.Grind.{get_or-set_at}
-use Rattle.std.proofs.lemmas.List.{length-map, length-set, length-take, length_push, get_or-map, get_or-take, get_or-set_other}
+use Rattle.std.proofs.lemmas.List.{length-map, length-set, length-take, get_or-map, get_or-take, get_or-set_other}
 use Rattle.std.proofs.lemmas.Option.{slice_get_within, slice_get-get_or, get_or_from_slice_get, unwrap_or-slice_get}
 use Rattle.words.specs.declared.call.Call.{Call}
 use Rattle.words.specs.declared.call.Client.{Client}
@@ -28,7 +29,8 @@ use Rattle.events.specs.declared.event.Event.TheVariants.{Call as call_event, Re
 use Rattle.events.specs.declared.event.Event.TheVariants.{Crash as crash_event, Ready as ready_event}
 use Rattle.events.proofs.Growing.{begins_longer}
 use Rattle.events.proofs.Lists.{get_before, get_last, get_longer, get_push_cases}
-use Rattle.interleave.specs.Numbers.{HasNumber, IsEntryOf, IsInDoubt, told_floor, HasNoNumberTwice, IsWithinFloors, NumbersAreOnce, NumbersRise}
+use Rattle.interleave.specs.Numbers.{HasNumber, IsEntryOf, IsInDoubt, told_floor, IsWithinFloors}
+use Rattle.interleave.specs.Numbers.{NumbersAreOnce, NumbersRise}
 use Rattle.interleave.specs.Queue.{told_to}
 use Rattle.interleave.proofs.Entering.{ComesInOpen}
 
@@ -135,7 +137,8 @@ rise_called told events effects floors c number call none places few above v = r
       let same : c ≡ client = cc new.1 in
       let last : number ≡ n = cc new.1 in
       ⊎_elim
-      (λ le. let high : slice_index floors client.0 < number = subst (λ (d : Client). slice_index floors d.0 < number) same above in
+      (λ le.
+      let high = subst (λ (d : Client). slice_index floors d.0 < number) same above in
       omega (arith, le, high, last))
       (λ doubt. absurd ((still p m client old doubt).last q lt (n, has_n)))
       (v.within p m client old there))
@@ -152,8 +155,7 @@ rise_called told events effects floors c number call none places few above v = r
       (λ new.
       let same : c ≡ client = cc new.1 in
       let last : number ≡ n = cc new.1 in
-      let low = v.base_floors c few in
-      let least : told_floor told client ≤ slice_index floors c.0 = subst (λ (d : Client). told_floor told d ≤ slice_index floors c.0) same low in
+      let least = subst (λ (d : Client). told_floor told d ≤ slice_index floors c.0) same (v.base_floors c few) in
       omega (arith, least, above, last))
       (get_push_cases events event p _ has.1);
   base_floors = v.base_floors;
@@ -227,6 +229,15 @@ rise_returned kind base told events effects order floors c place number reply lo
     few : c.0 < length floors
     few = let client_few = (log.places place _ has_number.1).0 in omega (arith, client_few, v.sixteen)
 
+    floor_of_this : (client : Client) → client.0 ≡ c.0 → slice_index new client.0 ≡ number
+    floor_of_this client e = get_or-set_at floors c.0 client.0 number 0 e few
+
+    floor_of_other : (client : Client) → client.0 ≢ c.0 → slice_index new client.0 ≡ slice_index floors client.0
+    floor_of_other client ne = get_or-set_other floors c.0 client.0 number 0 ne
+
+    apart : (client : Client) → client.0 ≢ c.0 → Settles event client → ⊥
+    apart client ne same = ne (ap (λ (x : Client). x.0) (sym same))
+
     last : IsInDoubt events c place
     last = open_in_doubt kind base told events effects log c place open_from
 
@@ -250,13 +261,13 @@ rise_returned kind base told events effects order floors c place number reply lo
         (λ e.
         let same : client ≡ c = ap (λ (i : ℕ). let x : Client = record { 0 = i } in x) e in
         let le = greatest p n (subst (λ (x : Client). HasNumber events x p n) same has) there in
-        let at : slice_index new client.0 ≡ number = get_or-set_at floors c.0 client.0 number 0 e few in
+        let at = floor_of_this client e in
         inl (omega (arith, le, at)))
         (λ ne.
-        let at : slice_index new client.0 ≡ slice_index floors client.0 = get_or-set_other floors c.0 client.0 number 0 ne in
+        let at = floor_of_other client ne in
         ⊎_elim
         (λ le. inl (omega (arith, le, at)))
-        (λ doubt. inr (doubt_push events event places client p n has (λ same. ne (ap (λ (x : Client). x.0) (sym same))) doubt))
+        (λ doubt. inr (doubt_push events event places client p n has (apart client ne) doubt))
         (v.within p n client has there))
         (cases_eq client.0 c.0)
 
@@ -264,11 +275,12 @@ rise_returned kind base told events effects order floors c place number reply lo
     least client client_few = ⊎_elim
         (λ e.
         let same : c ≡ client = ap (λ (i : ℕ). let x : Client = record { 0 = i } in x) (sym e) in
-        let above : told_floor told client < number = v.base place number client (subst (λ (x : Client). HasNumber events x place number) same has_number) in
-        let at : slice_index new client.0 ≡ number = get_or-set_at floors c.0 client.0 number 0 e few in
+        let has = subst (λ (x : Client). HasNumber events x place number) same has_number in
+        let above = v.base place number client has in
+        let at = floor_of_this client e in
         omega (arith, above, at))
         (λ ne.
-        let at : slice_index new client.0 ≡ slice_index floors client.0 = get_or-set_other floors c.0 client.0 number 0 ne in
+        let at = floor_of_other client ne in
         let low = v.base_floors client client_few in
         omega (arith, low, at))
         (cases_eq client.0 c.0)
@@ -309,74 +321,91 @@ rise_ready base told events effects floors tells log v =
     new : List ℕ
     new = map floor_of tells
 
-    ready : ReadyAt (events ++ event ∷ []) (length events) tells
+    more : List Event
+    more = events ++ event ∷ []
+
+    order : List Entry
+    order = order_of effects
+
+    ready : ReadyAt more (length events) tells
     ready = get_last events event
 
     sixteen : length tells ≡ MAX_CLIENTS
     sixteen = log.sixteen (length events) tells ready
 
-    rightly : TellsRightly log_kind told (events ++ event ∷ []) (order_of effects) (length events) tells
-    rightly = (log.tells (length events) (slice_get_within (events ++ event ∷ []) (length events) _ ready)).told tells ready
+    rightly : TellsRightly log_kind told more order (length events) tells
+    rightly = (log.tells (length events) (slice_get_within more (length events) _ ready)).told tells ready
 
-    -- what the client is told
-    told_at : (client : Client) → client.0 < MAX_CLIENTS → slice_get tells client.0 ≡ Some (get_or tells client.0 told_none)
-    told_at client few = slice_get-get_or tells client.0 told_none (omega (arith, few, sixteen))
+    -- what the client is told, and its floor by that
+    told_at : Client → Told
+    told_at client = get_or tells client.0 told_none
 
-    floor_at : (client : Client) → client.0 < MAX_CLIENTS → slice_index new client.0 ≡ floor_of (get_or tells client.0 told_none)
+    is_told : (client : Client) → client.0 < MAX_CLIENTS → slice_get tells client.0 ≡ Some (told_at client)
+    is_told client few = slice_get-get_or tells client.0 told_none (omega (arith, few, sixteen))
+
+    floor_at : (client : Client) → client.0 < MAX_CLIENTS → slice_index new client.0 ≡ floor_of (told_at client)
     floor_at client few = get_or-map floor_of tells client.0 told_none 0 (omega (arith, few, sixteen))
 
-    taken : (p n : ℕ) (client : Client) → HasNumber events client p n → InOrder (order_of effects) p
-        → BeginsTaken log_kind (events ++ event ∷ []) (order_of effects) client p
+    taken : (p n : ℕ) (client : Client) → HasNumber events client p n → InOrder order p
+        → BeginsTaken log_kind more order client p
     taken p n client has there = record {
       number = n;
       begins = record { call = has.0; begins = get_longer events (event ∷ []) p _ has.1; told_of = tt };
       taken = there;
     }
 
-    by_call : (p n : ℕ) (client : Client) (x : Told) → HasNumber events client p n → InOrder (order_of effects) p
-        → IsToldSome log_kind (events ++ event ∷ []) (order_of effects) client (length events) x → n ≤ floor_of x
+    -- the call that it is told of, with its number
+    told_call : (client : Client) (x : Told) → (some : IsToldSome log_kind more order client (length events) x)
+        → HasNumber events client some.place some.tells.number
+    told_call client x some =
+        (some.tells.begins.call, get_before events (event ∷ []) some.place _ some.before some.tells.begins.begins)
+
+    by_call : (p n : ℕ) (client : Client) (x : Told) → HasNumber events client p n → InOrder order p
+        → IsToldSome log_kind more order client (length events) x → n ≤ floor_of x
     by_call p n client x has there some =
         let a = some.place in
         let m = some.tells.number in
-        let at_a : HasNumber events client a m = (some.tells.begins.call, get_before events (event ∷ []) a _ some.before some.tells.begins.begins) in
-        let high = floor_if_told (order_of effects) a m x some.tells.says in
+        let at_a = told_call client x some in
+        let high = floor_if_told order a m x some.tells.says in
+        let within = slice_get_within events p _ has.1 in
         ⊎_elim
         (λ lt. let less = v.rise p a n m client has at_a lt there in omega (arith, less, high))
         (λ ge. ⊎_elim
-        (λ lt. absurd (some.tells.last.none p (omega (arith, lt)) (slice_get_within events p _ has.1) (taken p n client has there)))
+        (λ lt. absurd (some.tells.last.none p (omega (arith, lt)) within (taken p n client has there)))
         (λ le.
         let same : p ≡ a = omega (arith, ge, le) in
         let at : CallAt events a client n has.0 = subst (λ (q : ℕ). CallAt events q client n has.0) same has.1 in
         let one : n ≡ m = cc (at, at_a.1) in
-        let floor = floor_if_taken (order_of effects) a m x some.tells.says (subst (InOrder (order_of effects)) same there) in
+        let floor = floor_if_taken order a m x some.tells.says (subst (InOrder order) same there) in
         omega (arith, one, floor))
         (cases_lt a p))
         (cases_lt p a)
 
-    within : (p n : ℕ) (client : Client) → HasNumber events client p n → InOrder (order_of effects) p
+    within : (p n : ℕ) (client : Client) → HasNumber events client p n → InOrder order p
         → n ≤ slice_index new client.0
     within p n client has there =
         let few = (log.places p _ (get_longer events (event ∷ []) p _ has.1)).0 in
-        let x = get_or tells client.0 told_none in
-        let low : n ≤ floor_of x = ⊎_elim
-        (λ some. by_call p n client x has there some)
-        (λ none. absurd (none.none.none p (omega arith) (slice_get_within events p _ has.1) (taken p n client has there)))
-        (rightly.each client x (told_at client few)) in
+        let before = slice_get_within events p _ has.1 in
+        let low : n ≤ floor_of (told_at client) = ⊎_elim
+        (λ some. by_call p n client (told_at client) has there some)
+        (λ none. absurd (none.none.none p (omega arith) before (taken p n client has there)))
+        (rightly.each client (told_at client) (is_told client few)) in
         let floor = floor_at client few in
         omega (arith, low, floor)
 
     least : (client : Client) → client.0 < MAX_CLIENTS → told_floor told client ≤ slice_index new client.0
     least client few =
-        let x = get_or tells client.0 told_none in
+        let x = told_at client in
         let low : told_floor told client ≤ floor_of x = ⊎_elim
         (λ some.
         let m = some.tells.number in
-        let above = v.base some.place m client (some.tells.begins.call, get_before events (event ∷ []) some.place _ some.before some.tells.begins.begins) in
-        let high = floor_if_told (order_of effects) some.place m x some.tells.says in
+        let above = v.base some.place m client (told_call client x some) in
+        let high = floor_if_told order some.place m x some.tells.says in
         omega (arith, above, high))
-        (λ none. let same : told_floor told client ≡ floor_of x = ap (λ o. floor_of (unwrap_or o told_none)) none.same in
+        (λ none.
+        let same : told_floor told client ≡ floor_of x = ap (λ o. floor_of (unwrap_or o told_none)) none.same in
         omega (arith, same))
-        (rightly.each client x (told_at client few)) in
+        (rightly.each client x (is_told client few)) in
         let floor = floor_at client few in
         omega (arith, low, floor)
 
@@ -432,11 +461,13 @@ numbers_once told events order floors once v = record {
         → IsEntryOf events order j client number → i < j → ⊥
     apart i j number client x y lt = ⊎_elim
         (λ before.
-        let less = v.rise x.entry.place y.entry.place number number client x.has_number y.has_number before (there_at order i x.entry x.at) in
+        let there = there_at order i x.entry x.at in
+        let less = v.rise x.entry.place y.entry.place number number client x.has_number y.has_number before there in
         omega (arith, less))
         (λ ge. ⊎_elim
         (λ before.
-        let less = v.rise y.entry.place x.entry.place number number client y.has_number x.has_number before (there_at order j y.entry y.at) in
+        let there = there_at order j y.entry y.at in
+        let less = v.rise y.entry.place x.entry.place number number client y.has_number x.has_number before there in
         omega (arith, less))
         (λ le. once_in order once i j x.entry y.entry lt x.at y.at (omega (arith, ge, le)))
         (cases_lt y.entry.place x.entry.place))

@@ -1,5 +1,6 @@
 -- Each act of a world keeps what is so of its numbers.
-use Rattle.std.proofs.Common.{◌≡◌, ℕ, ◌<◌, inr, Bool, true, false, if◌then◌else◌, List, [], ◌∷◌, ◌++◌, length, map, Option, Some, None, Result, Ok, Err, replicate, slice_get, slice_index, slice_set, refl, sym, ap, subst, arith}
+use Rattle.std.proofs.Common.{◌≡◌, ℕ, ◌<◌, Bool, true, false, if◌then◌else◌, List, [], length, Option, Some, None}
+use Rattle.std.proofs.Common.{Result, Ok, Err, replicate, slice_index, slice_set, refl, sym, ap, subst, arith}
 use Rattle.std.proofs.lemmas.Bool.Decides.{nat_tests}
 use Rattle.std.proofs.lemmas.List.{length-replicate}
 use Rattle.words.specs.declared.call.Call.{Call}
@@ -35,14 +36,18 @@ use Rattle.protocol.proofs.worlds.Moments.{calling}
 use Rattle.protocol.proofs.worlds.ReadyWorlds.{none_at_end}
 use Rattle.interleave.specs.Booted.{queue_at_boot}
 use Rattle.interleave.specs.Calls.{idle_result}
-use Rattle.interleave.specs.Numbers.{HasNumber, AreNumbersOnceIn, AreWithinFloors, AreWithinFloorsIn, NumbersRise, AreNumbersRisingIn, AreNumbersRising}
+use Rattle.interleave.specs.Numbers.{AreNumbersOnceIn, AreWithinFloors, AreWithinFloorsIn}
+use Rattle.interleave.specs.Numbers.{NumbersRise, AreNumbersRising, AreNumbersRisingIn}
 use Rattle.interleave.specs.Queue.{number_check, new_queue, told_in}
 use Rattle.interleave.specs.Ranges.{IsOfKind}
-use Rattle.interleave.specs.State.{State, machine, is_ready, recover_with, recover_result_with, after_recover, recover_result, queue_left, after_one_access, after_call_began, number_of_idle, evict_with, after_stop, queue_at_ready, after_recovery_step, order_in}
+use Rattle.interleave.specs.State.{State, machine, order_in, number_of_idle, after_call_began, queue_left}
+use Rattle.interleave.specs.State.{after_one_access, evict_with, after_stop, is_ready, queue_at_ready}
+use Rattle.interleave.specs.State.{after_recovery_step, recover_with, recover_result_with, after_recover, recover_result}
 use Rattle.interleave.specs.declared.queue.Queue.{Queue}
 use Rattle.interleave.specs.declared.queue.Queue.TheVariants.{Durable, Log}
 use Rattle.interleave.proofs.Entering.{ComesInOpen, comes_stepped, comes_evicted}
-use Rattle.interleave.proofs.NumberLaws.{MayAllStand, numbers_once, rise_begun, rise_called, rise_comes, rise_crashed, rise_ready, rise_returned, within_floors}
+use Rattle.interleave.proofs.NumberLaws.{MayAllStand, rise_begun, rise_called, rise_comes, rise_crashed}
+use Rattle.interleave.proofs.NumberLaws.{rise_returned, rise_ready, numbers_once, within_floors}
 
 -- a log queue accepts numbers above the client's floor alone
 abbrev pub IsAboveFloor : Queue → Client → ℕ → Type 0
@@ -98,13 +103,11 @@ answered w client u order log calls (Done reply) places (Durable told) v = tt
 answered w client u order log calls (Done reply) places (Log clients) v =
     let c : Client = u.begun.client in
     let same : client ≡ c = ap (λ (i : ℕ). let x : Client = record { 0 = i } in x) (sym calls.who) in
-    subst (λ (x : Client). NumbersRise w.told (events_after w.log.events x (Done reply)) order (queue_floors x)) (sym same)
-    (rise_returned w.shape.kind w.base w.told w.log.events w.log.effects order clients.floors c u.place u.begun.number reply log
-    (subst (λ (x : Client). MayAllStand (events_after w.log.events x (Done reply))) same places)
+    let floors : List ℕ = slice_set clients.floors c.0 u.begun.number in
+    subst (λ (x : Client). NumbersRise w.told (events_after w.log.events x (Done reply)) order floors) (sym same)
+    (rise_returned w.shape.kind w.base w.told w.log.events w.log.effects order clients.floors c u.place u.begun.number
+    reply log (subst (λ (x : Client). MayAllStand (events_after w.log.events x (Done reply))) same places)
     (u.begun.call, calls.stands) calls.open_from v)
-  where
-    queue_floors : Client → List ℕ
-    queue_floors x = slice_set clients.floors u.begun.client.0 u.begun.number
 
 -- a step
 pub numbers_gone_on : (w : State) (client : Client) (u : UnderWay) → Inv (machine w)
@@ -172,7 +175,8 @@ numbers_recovered w r after is v =
     (in_log (machine (after_recovery_step w r)) after) w.queue is v
 
 -- where the history begins: a new world, and one that is given kept words
-pub numbers_new : (kind : Kind) (clients : ℕ) → AreNumbersRisingIn (new_queue kind clients) (told_in (new_queue kind clients)) [] []
+pub numbers_new : (kind : Kind) (clients : ℕ)
+    → AreNumbersRisingIn (new_queue kind clients) (told_in (new_queue kind clients)) [] []
 numbers_new durable_kind clients = tt
 numbers_new log_kind clients = rise_begun (replicate MAX_CLIENTS told_none) (length-replicate MAX_CLIENTS told_none)
 

@@ -25,8 +25,7 @@ pub record IsEntryOf (events : List Event) (order : List Entry) (i : ℕ) (clien
   pub at : slice_get order i ≡ Some entry
   pub has_number : HasNumber events client entry.place number
 
--- what became of the client's call at p is not told yet: it is its client's last, and has neither returned nor been
--- followed by a Ready
+-- the client's call at p is its last, and neither a Return of the client nor a Ready came after it
 pub record IsInDoubt (events : List Event) (client : Client) (p : ℕ) : Type 0 where
   pub last : (k : ℕ) → p < k → BeginsAt events client k → ⊥
   pub no_return : (k : ℕ) (reply : Reply) → p < k → ReturnAt events k client reply → ⊥
@@ -48,7 +47,7 @@ IsWithinFloors events order floors =
     (i number : ℕ) (client : Client) → IsEntryOf events order i client number
     → number ≤ slice_index floors client.0
 
--- each number is at most once in the order, where clients have these floors and the base told this
+-- no number stands twice in the order, where clients have these floors and were told this by the base
 pub record NumbersAreOnce (told : List Told) (events : List Event) (order : List Entry) (floors : List ℕ) : Type 0 where
   pub once : HasNoNumberTwice events order
   -- each entry's number is at most the floor of its client, unless its call is in doubt
