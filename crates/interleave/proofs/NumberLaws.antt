@@ -1,7 +1,7 @@
 -- How each act keeps what is so of the numbers of calls, and why none stands twice in the order.
-use Rattle.std.proofs.Common.{◌≡◌, ◌≢◌, ℕ, ◌<◌, ◌≤◌, ◌+◌, ◌⊎◌, inl, inr, List, [], ◌∷◌, ◌++◌, length, map, Some, slice_get}
-use Rattle.std.proofs.Common.{slice_index, slice_set, refl, sym, ap, ◌∙◌, subst, arith, ⊎_elim, get_or}
-use Rattle.std.specs.Prelude.{⊤, EachIndex, take, unwrap_or}
+use Rattle.std.proofs.Common.{◌≡◌, ◌≢◌, ℕ, ◌<◌, ◌≤◌, ◌+◌, ◌⊎◌, inl, inr, List, [], ◌∷◌, ◌++◌, length, map, Some}
+use Rattle.std.proofs.Common.{slice_get, slice_index, slice_set, refl, sym, ap, ◌∙◌, subst, arith, ⊎_elim, get_or}
+use Rattle.std.specs.Prelude.{⊤, EachIndex, unwrap_or}
 use Rattle.std.proofs.lemmas.Bool.{cases_eq, cases_lt}
 use Rattle.std.proofs.lemmas.Grind.{get_or-set_at}
 use Rattle.std.proofs.lemmas.List.{length-map, length-set, length-take, get_or-map, get_or-take, get_or-set_other}
@@ -20,7 +20,7 @@ use Rattle.logqueue.specs.Numbers.{floor_of, floor_from}
 use Rattle.events.specs.Effects.{order_of}
 use Rattle.events.specs.History.{CallAt, ReturnAt, ReadyAt, BeginsAt, IsOpenFrom, MayStand}
 use Rattle.events.specs.Orders.{InOrder, IsNew}
-use Rattle.events.specs.Telling.{BeginsTaken, IsOutcome, IsToldBase, IsToldSome, Says, TellsRightly}
+use Rattle.events.specs.Telling.{BeginsTaken, IsOutcome, IsToldSome, Says, TellsRightly}
 use Rattle.events.specs.Trace.{IsTrace}
 use Rattle.events.specs.declared.event.Effect.{Effect}
 use Rattle.events.specs.declared.event.Entry.{Entry}
@@ -177,10 +177,13 @@ module _ (told : List Told) (events : List Event) (event : Event) (order : List 
     (no_call : (client : Client) (number : ℕ) (call : Call) → event ≡ call_event client number call → ⊥)
     (v : NumbersRise told events order floors) where
   old_number : (p n : ℕ) (client : Client) → HasNumber (events ++ event ∷ []) client p n → HasNumber events client p n
-  old_number p n client has = (has.0, ⊎_elim
-      (λ old. old)
-      (λ last. absurd (no_call client n has.0 last.1))
-      (get_push_cases events event p _ has.1))
+  old_number p n client has = (
+    has.0,
+    ⊎_elim
+        (λ old. old)
+        (λ last. absurd (no_call client n has.0 last.1))
+        (get_push_cases events event p _ has.1),
+  )
 
   -- so they rise still, where the floors fit
   rise_pushed : length new ≡ MAX_CLIENTS

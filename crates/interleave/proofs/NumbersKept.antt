@@ -13,14 +13,12 @@ use Rattle.words.specs.declared.refusal.Refusal.{Refusal}
 use Rattle.words.specs.declared.refusal.Refusal.TheVariants.{StaleNumber}
 use Rattle.words.specs.declared.told.Told.{Told}
 use Rattle.words.specs.declared.told.Told.TheVariants.{None as told_none}
-use Rattle.logqueue.specs.Numbers.{floor_of, is_stale, told_queue}
-use Rattle.arena.specs.Layout.{place_at}
+use Rattle.logqueue.specs.Numbers.{is_stale, told_queue}
 use Rattle.arena.specs.declared.place.Place.{Place}
 use Rattle.stepper.specs.declared.resume.After.{After}
 use Rattle.stepper.specs.declared.resume.After.TheVariants.{More, Done}
 use Rattle.helping.specs.declared.op.Op.{Op}
 use Rattle.events.specs.Effects.{order_of}
-use Rattle.events.specs.History.{IsOpenFrom}
 use Rattle.events.specs.Orders.{IsNew}
 use Rattle.events.specs.Trace.{IsTrace}
 use Rattle.events.specs.declared.event.Effect.{Effect}
@@ -28,7 +26,7 @@ use Rattle.events.specs.declared.event.Entry.{Entry}
 use Rattle.events.specs.declared.event.Event.{Event}
 use Rattle.events.proofs.EffectLists.{order_settled_effects}
 use Rattle.recover.specs.declared.recovery.Recovery.{Recovery}
-use Rattle.protocol.specs.Machine.{World, MayStep, events_after, next_of, next_recovery, recovery_events, with_step}
+use Rattle.protocol.specs.Machine.{MayStep, events_after, next_of, next_recovery, recovery_events, with_step}
 use Rattle.protocol.specs.declared.UnderWay.{UnderWay}
 use Rattle.protocol.specs.invariants.Worlds.{Inv, IsCalling}
 use Rattle.protocol.proofs.worlds.Facts.{in_log, is_ready as ready_held}
@@ -41,11 +39,11 @@ use Rattle.interleave.specs.Numbers.{NumbersRise, AreNumbersRising, AreNumbersRi
 use Rattle.interleave.specs.Queue.{number_check, new_queue, told_in}
 use Rattle.interleave.specs.Ranges.{IsOfKind}
 use Rattle.interleave.specs.State.{State, machine, order_in, number_of_idle, after_call_began, queue_left}
-use Rattle.interleave.specs.State.{after_one_access, evict_with, after_stop, is_ready, queue_at_ready}
-use Rattle.interleave.specs.State.{after_recovery_step, recover_with, recover_result_with, after_recover, recover_result}
+use Rattle.interleave.specs.State.{after_one_access, evict_with, after_stop, is_ready, queue_at_ready, recover_with}
+use Rattle.interleave.specs.State.{after_recovery_step, recover_result_with, after_recover, recover_result}
 use Rattle.interleave.specs.declared.queue.Queue.{Queue}
 use Rattle.interleave.specs.declared.queue.Queue.TheVariants.{Durable, Log}
-use Rattle.interleave.proofs.Entering.{ComesInOpen, comes_stepped, comes_evicted}
+use Rattle.interleave.proofs.Entering.{comes_stepped, comes_evicted}
 use Rattle.interleave.proofs.NumberLaws.{MayAllStand, rise_begun, rise_called, rise_comes, rise_crashed}
 use Rattle.interleave.proofs.NumberLaws.{rise_returned, rise_ready, numbers_once, within_floors}
 
