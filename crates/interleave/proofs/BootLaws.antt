@@ -1,6 +1,7 @@
 -- What holds of a world that begins on sound words.
 use Rattle.std.proofs.Common.{◌≡◌, ℕ, ◌≤◌, inl, inr, Bool, true, false, List, length, Option, None, replicate, slice_index, slice_index_or, if◌then◌else◌, refl, sym, ap, subst, arith}
 use Rattle.std.proofs.lemmas.List.{length-replicate}
+use Rattle.std.proofs.lemmas.List.FromFn.{length-map-range_with_len}
 use mathlib.Core.Path.{fun_ext}
 use Rattle.words.specs.declared.call.Kind.{Kind}
 use Rattle.words.specs.declared.call.Kind.TheVariants.{Durable as durable_kind, Log as log_kind}
@@ -13,7 +14,7 @@ use Rattle.arena.specs.Shape.{Shape}
 use Rattle.arena.specs.declared.place.Place.{Place}
 use Rattle.recover.specs.Sound.{AreSoundWords, SizeIsSound}
 use Rattle.recover.specs.Kept.{kept_in}
-use Rattle.recover.specs.Told.{tells_by}
+use Rattle.recover.specs.Told.{told_by, tells_by}
 use Rattle.recover.proofs.AlikeTold.{tells_like}
 use Rattle.protocol.specs.Booted.{MayBoot, world_at_boot}
 use Rattle.protocol.specs.Machine.{World}
@@ -26,6 +27,7 @@ use Rattle.interleave.specs.Ranges.{WordsFit, IfCall, IsOfKind}
 use Rattle.interleave.specs.Values.{value_of_place, is_place}
 use Rattle.interleave.specs.State.{machine}
 use Rattle.interleave.proofs.HoldsKept.{no_call}
+use Rattle.interleave.proofs.NumbersKept.{numbers_booted}
 use Rattle.interleave.proofs.ValueLaws.{shown_at, is_place-from}
 
 -- a place that the layout does not have is shown with 0
@@ -79,4 +81,5 @@ module _ (s : Shape) (ws : Words) (some : 1 ≤ s.clients) (few : s.clients ≤ 
         };
         kind = kind_told s.kind (tells_by s (value_of_place s ws.kept));
         inv = subst Invariant (sym booted_is) (to_invariant _ (boots s (value_of_place s ws.kept) (may s ws some few sound)));
+        numbers = numbers_booted s.kind (tells_by s (value_of_place s ws.kept)) (length-map-range_with_len (told_by s (value_of_place s ws.kept)) 0 16);
       }

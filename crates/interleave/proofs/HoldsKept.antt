@@ -53,6 +53,7 @@ use Rattle.protocol.proofs.worlds.Facts.{inv_new, inv_started, inv_stepped, inv_
 use Rattle.protocol.specs.Acts.{TellsNothing}
 use Rattle.interleave.proofs.MachineFacts.{agreement}
 use Rattle.interleave.proofs.NoteLaws.{place_of_word}
+use Rattle.interleave.proofs.NumbersKept.{IsAboveFloor, above_accepted, numbers_are_once, numbers_begun, numbers_crashed, numbers_evicted, numbers_gone_on, numbers_new, numbers_recovered}
 use Rattle.interleave.proofs.Safety.{call_fits as call_in_range, IsSafe-accessed, IsSafe-gone_on, IsSafe-begun, IsSafe-evicted}
 use Rattle.interleave.proofs.ValueLaws.{shown_accessed, shown_evicted, shown_at, shown_zero, zero_at}
 
@@ -199,11 +200,16 @@ gone_on_is w client u holds here =
     ∙ ap (λ (f : ℕ → Option UnderWay). let x : World = record (with_step (machine w) client u) { calls = f } in x) calls
 
 pub holds_gone_on : (w : State) (client : Client) (u : UnderWay) → Holds w → slice_get w.calls client.0 ≡ Some (Some u) → Holds (after_one_access w client u)
-holds_gone_on w client u holds here = record {
-  safe = IsSafe-gone_on w.shape w.words w.calls w.base w.told w.log client.0 u holds.safe here;
-  kind = kind_left w.shape.kind w.queue u (next_of (machine w) u) holds.kind;
-  inv = subst Invariant (sym (gone_on_is w client u holds here)) (to_invariant _ (inv_stepped (machine w) (from_invariant _ holds.inv) client u (may_step w client u holds here)));
-}
+holds_gone_on w client u holds here =
+    let may = may_step w client u holds here in
+    let inv = from_invariant _ holds.inv in
+    let after = inv_stepped (machine w) inv client u may in
+    record {
+      safe = IsSafe-gone_on w.shape w.words w.calls w.base w.told w.log client.0 u holds.safe here;
+      kind = kind_left w.shape.kind w.queue u (next_of (machine w) u) holds.kind;
+      inv = subst Invariant (sym (gone_on_is w client u holds here)) (to_invariant _ after);
+      numbers = numbers_gone_on w client u inv after may holds.numbers;
+    }
 
 -- a word that is counted is as it was
 holds_counted : (w : State) → Holds w → Holds (after_bump_load w)
@@ -216,6 +222,7 @@ holds_counted w holds = record {
   };
   kind = holds.kind;
   inv = holds.inv;
+  numbers = holds.numbers;
 }
 
 -- a start of a world is the machine's
@@ -240,12 +247,13 @@ may_start w client number call holds ready idle left number_fits call_fits =
       call_fits = call_fits;
     }
 
-holds_begun : (w : State) (client : Client) (number : ℕ) (call : Call) → Holds w → w.recovery ≡ None → slice_get w.calls client.0 ≡ Some None → used_by w client ≢ w.shape.records → FitsKind w.shape.kind number → FitsCall call → Holds (after_call_began w client number call)
-holds_begun w client number call holds ready idle left number_fits call_fits =
+holds_begun : (w : State) (client : Client) (number : ℕ) (call : Call) → Holds w → w.recovery ≡ None → slice_get w.calls client.0 ≡ Some None → used_by w client ≢ w.shape.records → FitsKind w.shape.kind number → IsAboveFloor w.queue client number → FitsCall call → Holds (after_call_began w client number call)
+holds_begun w client number call holds ready idle left number_fits above call_fits =
     let s = w.shape in
     let within = slice_get_within w.calls client.0 None idle in
     let may = may_start w client number call holds ready idle left number_fits call_fits in
     let safe = IsSafe-begun s w.words w.calls client (used_by w client) number (length w.log.events) call holds.safe within may.record_left (number_few s.kind number number_fits) (value_few call call_fits) in
+    let inv = subst Invariant (sym (begun_state_is w client number call idle)) (to_invariant _ (inv_started (machine w) (from_invariant _ holds.inv) client number call may)) in
     record {
       safe = record {
         words = record { room = safe.words.room; same = safe.words.same; cached_count = safe.words.cached_count; count = safe.words.count; cached = safe.words.cached; kept = safe.words.kept };
@@ -254,26 +262,27 @@ holds_begun w client number call holds ready idle left number_fits call_fits =
         calls_fit = safe.calls_fit;
       };
       kind = holds.kind;
-      inv = subst Invariant (sym (begun_state_is w client number call idle)) (to_invariant _ (inv_started (machine w) (from_invariant _ holds.inv) client number call may));
+      inv = inv;
+      numbers = numbers_begun w client number call (from_invariant _ holds.inv) (from_invariant _ inv) (omega (arith, within, holds.safe.clients, holds.safe.few)) above holds.numbers;
     }
 
 -- whatever a start answers
 pub holds_after_start : (full : Bool) (w : State) (client : Client) (number : ℕ) (call : Call) → Holds w → FitsCall call → Holds (after_start full w client number call)
 holds_after_start full w client number call holds fits = from_check (number_to_start w client number) refl
   where
-    started_if : (n : ℕ) → w.recovery ≡ None → slice_get w.calls client.0 ≡ Some None → FitsKind w.shape.kind n → (no_room : Bool) → (used_by w client == w.shape.records) ≡ no_room → Holds (if no_room then after_bump_load w else (if full then after_bump_load w else after_call_began w client n call))
-    started_if n ready idle number_fits true e = holds_counted w holds
-    started_if n ready idle number_fits false e = by_memory full
+    started_if : (n : ℕ) → w.recovery ≡ None → slice_get w.calls client.0 ≡ Some None → FitsKind w.shape.kind n → IsAboveFloor w.queue client n → (no_room : Bool) → (used_by w client == w.shape.records) ≡ no_room → Holds (if no_room then after_bump_load w else (if full then after_bump_load w else after_call_began w client n call))
+    started_if n ready idle number_fits above true e = holds_counted w holds
+    started_if n ready idle number_fits above false e = by_memory full
       where
         by_memory : (f : Bool) → Holds (if f then after_bump_load w else after_call_began w client n call)
         by_memory true = holds_counted w holds
-        by_memory false = holds_begun w client n call holds ready idle (eqb-false _ _ e) number_fits fits
+        by_memory false = holds_begun w client n call holds ready idle (eqb-false _ _ e) number_fits above fits
 
     from_check : (r : Result ℕ Refusal) → number_to_start w client number ≡ r → Holds (start_with full w client call r)
     from_check (Err refusal) e = holds
     from_check (Ok n) e =
         let found = number_fits_kind w.shape.kind w.queue client number n (is_down w) (slice_get w.calls client.0) holds.kind e in
-        started_if n (is_none w.recovery found.0) found.1 found.2 (used_by w client == w.shape.records) refl
+        started_if n (is_none w.recovery found.0) found.1 found.2 (above_accepted w.queue client number n (is_down w) (slice_get w.calls client.0) e) (used_by w client == w.shape.records) refl
 
 -- whatever a step answers
 pub holds_after_step : (full : Bool) (w : State) (client : Client) → Holds w → Holds (after_step full w client)
@@ -310,13 +319,19 @@ holds_after_evict w word holds = from_place (place_at w.shape word) refl
           safe = subst (λ v. IsSafe s (words_after_eviction v w.words) w.calls) at.1 safe;
           kind = holds.kind;
           inv = subst Invariant (sym (evicted_is w word p holds e)) (to_invariant _ (inv_evicted (machine w) (from_invariant _ holds.inv) p));
+          numbers = numbers_evicted w word p (from_invariant _ holds.inv) holds.numbers;
         }
 
 -- at every moment the order explains the history, and the kept words hold what its replay leaves
 pub explained_world : (w : State) → Holds w → IsExplained w
 explained_world w holds =
     let e = explained (machine w) (from_invariant _ holds.inv) in
-    record { history = e.0; explains = e.1; agrees = agreement (machine w) (from_invariant _ holds.inv) }
+    record {
+      history = e.0;
+      explains = e.1;
+      agrees = agreement (machine w) (from_invariant _ holds.inv);
+      numbers = numbers_are_once w e.1.is_order.once holds.numbers;
+    }
 
 -- nothing that stands in the order is taken back
 pub part_after_start : (full : Bool) (w : State) (client : Client) (number : ℕ) (call : Call) → order_in (after_start full w client number call) ≡ order_in w
@@ -356,16 +371,19 @@ crashed_is w =
     ap (λ (f : ℕ → Option UnderWay). let x : World = record (machine_crashed (machine w)) { calls = f } in x) calls
 
 holds_crashed : (w : State) → Holds w → Holds (after_stop w)
-holds_crashed w holds = record {
-  safe = record {
-    words = record { room = omega (arith, holds.safe.words.room, holds.safe.words.same); same = refl; cached_count = holds.safe.words.count; count = holds.safe.words.count; cached = holds.safe.words.kept; kept = holds.safe.words.kept };
-    clients = length-replicate (length w.calls) None ∙ holds.safe.clients;
-    few = holds.safe.few;
-    calls_fit = λ t. subst (IfCall w.shape) (sym (no_call (length w.calls) t)) tt;
-  };
-  kind = holds.kind;
-  inv = subst Invariant (sym (crashed_is w)) (to_invariant _ (inv_crashed (machine w) (from_invariant _ holds.inv)));
-}
+holds_crashed w holds =
+    let inv = subst Invariant (sym (crashed_is w)) (to_invariant _ (inv_crashed (machine w) (from_invariant _ holds.inv))) in
+    record {
+      safe = record {
+        words = record { room = omega (arith, holds.safe.words.room, holds.safe.words.same); same = refl; cached_count = holds.safe.words.count; count = holds.safe.words.count; cached = holds.safe.words.kept; kept = holds.safe.words.kept };
+        clients = length-replicate (length w.calls) None ∙ holds.safe.clients;
+        few = holds.safe.few;
+        calls_fit = λ t. subst (IfCall w.shape) (sym (no_call (length w.calls) t)) tt;
+      };
+      kind = holds.kind;
+      inv = inv;
+      numbers = numbers_crashed w (from_invariant _ inv) holds.numbers;
+    }
 
 pub holds_after_crash : (full : Bool) (w : State) → Holds w → Holds (after_crash full w)
 holds_after_crash true w holds = holds
@@ -417,10 +435,12 @@ holds_recovered : (w : State) (r : Recovery) → Holds w → w.recovery ≡ Some
 holds_recovered w r holds e =
     let s = w.shape in
     let safe = IsSafe-accessed s w.words w.calls (recovery_access s.kind r.at) (access_of_recovery w r holds e) holds.safe in
+    let inv = subst Invariant (sym (recovered_is w r holds e)) (to_invariant _ (inv_recovered (machine w) (from_invariant _ holds.inv) r e)) in
     record {
       safe = record { words = safe.words; clients = safe.clients; few = safe.few; calls_fit = safe.calls_fit };
       kind = kind_recovered s.kind w.queue (next_recovery (machine w) r) holds.kind;
-      inv = subst Invariant (sym (recovered_is w r holds e)) (to_invariant _ (inv_recovered (machine w) (from_invariant _ holds.inv) r e));
+      inv = inv;
+      numbers = numbers_recovered w r (from_invariant _ inv) holds.kind holds.numbers;
     }
 
 pub holds_after_recover : (full : Bool) (w : State) → Holds w → Holds (after_recover full w)
@@ -463,6 +483,7 @@ holds_new s some few kind =
       };
       kind = kind;
       inv = subst Invariant (sym (new_is s)) (to_invariant _ (inv_new s (new_world s).told some few (tells_nothing s some few)));
+      numbers = numbers_new s.kind s.clients;
     }
 
 pub new_kind : (kind : Kind) (clients : ℕ) → IsOfKind kind (new_queue kind clients)

@@ -1,6 +1,8 @@
 pub mod Entering
 pub mod RunLaws
 pub mod RunStates
+pub mod NumberLaws
+pub mod NumbersKept
 pub mod ValueLaws
 pub mod Unsettled
 pub mod Records

@@ -5,6 +5,7 @@ use Rattle.events.specs.History.{IsHistory}
 use Rattle.events.specs.Replay.{queue_after}
 use Rattle.protocol.specs.Machine.{World}
 use Rattle.protocol.specs.invariants.Worlds.{Inv}
+use Rattle.interleave.specs.Numbers.{AreNumbersOnce, AreNumbersRising}
 use Rattle.interleave.specs.Ranges.{IsSafe, IsOfKind}
 use Rattle.interleave.specs.State.{State, machine, order_in, kept_content}
 
@@ -20,14 +21,18 @@ pub to_invariant : (w : World) → Inv w → Invariant w
 unfolding Invariant
 to_invariant w inv = inv
 
--- its words and waiting points are in range, its queue is of the layout's kind, and the machine that it is keeps its invariants
+-- its words and waiting points are in range, its queue is of the layout's kind, the machine that it is keeps its
+-- invariants, and the numbers of a log queue's calls rise
 pub record Holds (w : State) : Type 0 where
   pub safe : IsSafe w.shape w.words w.calls
   pub kind : IsOfKind w.shape.kind w.queue
   pub inv : Invariant (machine w)
+  pub numbers : AreNumbersRising w
 
--- the history may arise, the order explains it, and the kept words hold what the replay of the order leaves
+-- the history may arise, the order explains it, the kept words hold what the replay of the order leaves, and no number
+-- of a log queue's call stands twice in the order
 pub record IsExplained (w : State) : Type 0 where
   pub history : IsHistory w.log.events
   pub explains : Explains w.base w.told w.log.events (order_in w)
   pub agrees : kept_content w ≡ queue_after w.log.events w.base (order_in w)
+  pub numbers : AreNumbersOnce w

@@ -5,6 +5,7 @@ pub mod Values
 pub mod Effects
 pub mod Trace
 pub mod State
+pub mod Numbers
 pub mod Holds
 pub mod Changes
 pub mod Ranges

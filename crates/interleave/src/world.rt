@@ -12,6 +12,7 @@ ghost use Rattle.words.specs.PlainQueue.{reply_of, served};
 ghost use Rattle.words.specs.declared.call.Call.{Call as AnyCall};
 ghost use Rattle.protocol.specs.declared.acts.Act.{Act};
 ghost use Rattle.words.specs.declared.refusal.Refusal.{Refusal as AnyRefusal};
+ghost use Rattle.interleave.specs.Numbers.{AreWithinFloors};
 ghost use Rattle.interleave.specs.Queue.{told_in, told_to};
 ghost use Rattle.interleave.specs.Runs.{IsAttempt, IsRun};
 ghost use Rattle.interleave.specs.State.{new_world, after_start, start_result, after_step, step_result, after_evict, evict_result, after_crash, crash_result, after_recover, recover_result, is_down, after_alone, count_of, IsAnsweredAlone, order_in, kept_content, kept_tells, IsKeptSound, AreToldOfAnnounced, IsMended, steps_to_ready, most_to_ready};
@@ -223,6 +224,7 @@ impl<L: Layout + Drop> World<L> {
         ensures announced { result ≡ Ok true → AreToldOfAnnounced self.new.now }
         ensures unannounced { result ≡ Ok true → UnannouncedAreOut (order_in self.new.now) self.new.now }
         ensures stands { result ≡ Ok true → IsToldForGood self.new.now }
+        ensures floors { result ≡ Ok true → AreWithinFloors self.new.now }
         ensures mended { result ≡ Ok true → IsMended self.new.now }
         ensures few { steps_to_ready self.old.now ≤ most_to_ready (self.old.now.shape) }
         ensures falls { IfOk result (λ ready. steps_to_ready self.new.now < steps_to_ready self.old.now) }

@@ -4,6 +4,8 @@ use Rattle.std.proofs.Common.{◌≡◌, ◌≤◌, ◌<◌, List, Option, sym, 
 use Rattle.protocol.specs.declared.UnderWay.{UnderWay}
 use Rattle.interleave.specs.Calls.{is_no_memory}
 use Rattle.interleave.specs.Holds.{Holds, IsExplained}
+use Rattle.interleave.specs.Numbers.{AreWithinFloors}
+use Rattle.interleave.proofs.NumbersKept.{within_floors_ready}
 use Rattle.interleave.proofs.KeptTells.{kept_sound, tells_on, told_by_kept, told_of_announced, mended, few_to_ready, falls_on}
 use Rattle.interleave.specs.State.{IsKeptSound, AreToldOfAnnounced, IsMended, kept_tells, kept_content, steps_to_ready, most_to_ready, after_recover, State, order_in}
 use Rattle.interleave.specs.Trace.{Roomy, state_with}
@@ -111,3 +113,11 @@ returns-clause-stands g c = λ ready.
     let full = is_no_memory c.recover_on.result in
     let stands = told_stands full old holds (sym c.recover_on.ensures.result ∙ ready) in
     subst (IsToldForGood) (sym c.recover_on.ensures.world) stands
+
+pub returns-clause-floors : goal.returns-clause-floors
+returns-clause-floors g c = λ ready.
+    let old : State = state_with (g.L.Layout.shape c.self.inside.layout) c.self.inside.memory c.self.inside.queue c.deref.result.now c.self.inside.trace in
+    let holds = subst (λ (cs : List (Option UnderWay)). Holds (state_with (g.L.Layout.shape c.self.inside.layout) c.self.inside.memory c.self.inside.queue cs c.self.inside.trace)) (sym c.deref.ensures.value) c.self.invariant in
+    let full = is_no_memory c.recover_on.result in
+    subst (AreWithinFloors) (sym c.recover_on.ensures.world)
+    (within_floors_ready full old (holds_after_recover full old holds).numbers (sym c.recover_on.ensures.result ∙ ready))
