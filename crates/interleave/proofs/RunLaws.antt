@@ -7,17 +7,21 @@ use Rattle.words.specs.declared.refusal.Refusal.{Refusal}
 use Rattle.words.specs.declared.told.Told.{Told}
 use Rattle.events.specs.declared.event.Entry.{Entry}
 use Rattle.events.specs.Parts.{IsPartOf}
-use Rattle.events.proofs.Members.{part_same}
+use Rattle.events.proofs.Members.{part_same, part_of_part}
 use Rattle.recover.specs.declared.recovery.Recovery.{Recovery}
 use Rattle.protocol.specs.Acts.{HasNoCrash, recovery_step_of}
 use Rattle.protocol.specs.declared.acts.Act.{Act}
 use Rattle.protocol.specs.declared.acts.Act.TheVariants.{Start, Step, Evict, Crash, Recover}
 use Rattle.interleave.specs.Holds.{Holds}
 use Rattle.interleave.specs.Queue.{told_in}
-use Rattle.interleave.specs.Runs.{IsAttempt, IsToldWhenReady, Went, nothing, next, StaysDown, AreToldWhenReady, recovery_steps}
-use Rattle.interleave.specs.State.{State, after_attempt, after_evict, after_crash, after_recover, recover_result, recover_with, recover_result_with, evict_with, is_down, kept_tells, kept_content, steps_to_ready, most_to_ready, count_of, order_in, AreToldOfAnnounced}
+use Rattle.interleave.specs.Runs.{IsAttempt, IsToldWhenReady, Went, nothing, next, StaysDown, AreToldWhenReady, AreToldForGood, recovery_steps}
+use Rattle.interleave.specs.Standing.{EndedCallsStay, IsBeginningOf, IsToldForGood}
+use Rattle.interleave.proofs.Ended.{begins_itself, begins_on}
+use Rattle.interleave.proofs.NumbersKept.{within_floors_ready}
+use Rattle.interleave.proofs.StandingLaws.{ended_by_order, ended_then, ended_after_step, ended_after_evict, grown_by_start, grown_by_step, grown_by_evict, grown_by_crash, grown_by_recover, told_stands}
+use Rattle.interleave.specs.State.{State, after_attempt, after_start, after_evict, after_crash, after_recover, recover_result, recover_with, recover_result_with, evict_with, is_down, kept_tells, kept_content, steps_to_ready, most_to_ready, count_of, order_in, AreToldOfAnnounced}
 use Rattle.interleave.proofs.DownLaws.{start_refused, step_refused, start_down, step_down, became_ready, some_left}
-use Rattle.interleave.proofs.HoldsKept.{part_after_start, part_after_step, part_after_evict, part_after_crash, part_after_recover}
+use Rattle.interleave.proofs.HoldsKept.{holds_after_recover, part_after_start, part_after_step, part_after_evict, part_after_crash, part_after_recover}
 use Rattle.interleave.proofs.KeptTells.{tells_on, tells_crashed, tells_evicted, told_by_kept, told_of_announced, falls_on, few_to_ready, left_evicted}
 use Rattle.arena.specs.Layout.{place_at}
 use Rattle.arena.specs.declared.place.Place.{Place}
@@ -74,6 +78,7 @@ told_recovered full w holds = record {
       let is : recover_result full w ≡ Ok true = became_ready full w down up in
       told_by_kept full w holds is ∙ sym (tells_on full w holds).0;
   announced = λ down up. told_of_announced full w holds (became_ready full w down up);
+  floors = λ down up. within_floors_ready full w (holds_after_recover full w holds).numbers (became_ready full w down up);
 }
 
 crash_down : (full : Bool) (w : State) → is_down w ≡ true → is_down (after_crash full w) ≡ true
@@ -81,7 +86,11 @@ crash_down true w down = down
 crash_down false w down = refl
 
 stays_down : (w v : State) → (is_down w ≡ true → is_down v ≡ true) → IsToldWhenReady w v
-stays_down w v still = record { tells = λ down up. absurd (cc (still down, up)); announced = λ down up. absurd (cc (still down, up)) }
+stays_down w v still = record {
+  tells = λ down up. absurd (cc (still down, up));
+  announced = λ down up. absurd (cc (still down, up));
+  floors = λ down up. absurd (cc (still down, up));
+}
 
 pub told_after_attempt : (full : Bool) (w : State) (act : Act ℕ) → Holds w → IsToldWhenReady w (after_attempt full w act)
 told_after_attempt full w (Start client number call) holds = stays_down w _ (λ down. start_down full w client number call ∙ down)
@@ -131,6 +140,33 @@ left_after_attempt true w Recover holds other down = go w.recovery
     go (Some r) = omega arith
 left_after_attempt false w Recover holds other down = left_recovered w holds down
 
+-- the history grows
+grown_by_attempt : (full : Bool) (w : State) (act : Act ℕ) → IsBeginningOf w.log.events (after_attempt full w act).log.events
+grown_by_attempt full w (Start client number call) = grown_by_start full w client number call
+grown_by_attempt full w (Step client) = grown_by_step full w client
+grown_by_attempt full w (Evict word) = grown_by_evict w word
+grown_by_attempt full w Crash = grown_by_crash full w
+grown_by_attempt full w Recover = grown_by_recover full w
+
+-- calls that had ended stay as they are
+ended_by_attempt : (full : Bool) (w : State) (act : Act ℕ) → Holds w → EndedCallsStay w (after_attempt full w act)
+ended_by_attempt full w (Start client number call) holds =
+    ended_by_order w (after_start full w client number call) (part_after_start full w client number call)
+ended_by_attempt full w (Step client) holds = ended_after_step full w client holds
+ended_by_attempt full w (Evict word) holds = ended_after_evict w word holds
+ended_by_attempt full w Crash holds = ended_by_order w (after_crash full w) (part_after_crash full w)
+ended_by_attempt full w Recover holds = ended_by_order w (after_recover full w) (part_after_recover full w)
+
+-- and where it ends recovery, what is told stands for good
+good_after_attempt : (full : Bool) (w : State) (act : Act ℕ) → Holds w → is_down w ≡ true
+    → is_down (after_attempt full w act) ≡ false → IsToldForGood (after_attempt full w act)
+good_after_attempt full w (Start client number call) holds down up =
+    absurd (cc (start_down full w client number call ∙ down, up))
+good_after_attempt full w (Step client) holds down up = absurd (cc (step_down full w client ∙ down, up))
+good_after_attempt full w (Evict word) holds down up = absurd (cc (down_evicted w word ∙ down, up))
+good_after_attempt full w Crash holds down up = absurd (cc (crash_down full w down, up))
+good_after_attempt full w Recover holds down up = told_stands full w holds (became_ready full w down up)
+
 -- so it is of an attempt
 pub part_attempt : {room : ℕ} {w v : State} {act : Act ℕ} {accepted : Bool} → Holds w → IsAttempt room w act accepted v
     → IsPartOf (order_in w) (order_in v)
@@ -158,6 +194,22 @@ left_attempt {w = w} {act = act} holds attempt other down =
     subst (λ (x : State). (if attempt.full then 0 else recovery_step_of act) + steps_to_ready x ≤ steps_to_ready w) (sym attempt.leaves)
     (left_after_attempt attempt.full w act holds other down)
 
+ended_attempt : {room : ℕ} {w v : State} {act : Act ℕ} {accepted : Bool} → Holds w → IsAttempt room w act accepted v
+    → EndedCallsStay w v
+ended_attempt {w = w} {act = act} holds attempt =
+    subst (EndedCallsStay w) (sym attempt.leaves) (ended_by_attempt attempt.full w act holds)
+
+grown_attempt : {room : ℕ} {w v : State} {act : Act ℕ} {accepted : Bool} → IsAttempt room w act accepted v
+    → IsBeginningOf w.log.events v.log.events
+grown_attempt {w = w} {act = act} attempt =
+    subst (λ (x : State). IsBeginningOf w.log.events x.log.events) (sym attempt.leaves) (grown_by_attempt attempt.full w act)
+
+good_attempt : {room : ℕ} {w v : State} {act : Act ℕ} {accepted : Bool} → Holds w → IsAttempt room w act accepted v
+    → is_down w ≡ true → is_down v ≡ false → IsToldForGood v
+good_attempt {w = w} {act = act} holds attempt down up =
+    subst IsToldForGood (sym attempt.leaves)
+    (good_after_attempt attempt.full w act holds down (sym (ap is_down attempt.leaves) ∙ up))
+
 -- where no act is a crash, the last is none, and none of those before
 pub no_crash_last : (acts : List (Act ℕ)) (act : Act ℕ) → HasNoCrash (acts ++ act ∷ []) → act ≢ Crash
 no_crash_last [] Crash h = absurd h
@@ -179,19 +231,68 @@ no_crash_before (Step client ∷ acts) act h = no_crash_before acts act h
 no_crash_before (Evict word ∷ acts) act h = no_crash_before acts act h
 no_crash_before (Recover ∷ acts) act h = no_crash_before acts act h
 
+-- an earlier world and what came of it: its history goes on, and its order stays
+pub record GoesOn (old new : State) : Type 0 where
+  pub grown : IsBeginningOf old.log.events new.log.events
+  pub part : IsPartOf (order_in old) (order_in new)
+  pub ended : EndedCallsStay old new
+
+goes_nowhere : (w : State) → GoesOn w w
+goes_nowhere w = record {
+  grown = begins_itself w.log.events;
+  part = part_same (order_in w);
+  ended = λ p reply ended taken. taken;
+}
+
+goes_further : {old now new : State} → GoesOn old now → GoesOn now new → GoesOn old new
+goes_further {old = old} {now = now} {new = new} one other = record {
+  grown = begins_on old.log.events now.log.events new.log.events one.grown other.grown;
+  part = part_of_part other.part one.part;
+  ended = ended_then old now new one.grown one.ended other.ended;
+}
+
+-- each world in which an act ended recovery told for good, and goes on to this one
+abbrev AllStand : {room : ℕ} {old : State} {acts : List (Act ℕ)} {taken : ℕ} {new : State}
+    → State → Went room old acts taken new → Type 0
+AllStand now nothing = Unit {0}
+AllStand now (next {w = w} {v = v} so_far act accepted attempt) =
+    AllStand now so_far × (is_down w ≡ true → is_down v ≡ false → IsToldForGood v × GoesOn v now)
+
+all_stand_on : (now later : State) {room : ℕ} {old : State} {acts : List (Act ℕ)} {taken : ℕ} {new : State}
+    (went : Went room old acts taken new) → GoesOn now later → AllStand now went → AllStand later went
+all_stand_on now later nothing on all = tt
+all_stand_on now later (next so_far act accepted attempt) on all =
+    (all_stand_on now later so_far on all.0, λ down up. let here = all.1 down up in (here.0, goes_further here.1 on))
+
+-- so what was told is right by the order of now
+told_by_now : (now : State) {room : ℕ} {old : State} {acts : List (Act ℕ)} {taken : ℕ} {new : State}
+    (went : Went room old acts taken new) → AllStand now went → AreToldForGood now went
+told_by_now now nothing all = tt
+told_by_now now (next so_far act accepted attempt) all =
+    (told_by_now now so_far all.0, λ down up. let here = all.1 down up in here.0 now here.1.part here.1.ended)
+
 -- how the acts so far went
 pub record SoFar (room : ℕ) (old : State) (acts : List (Act ℕ)) (taken : ℕ) (new : State) : Type 0 where
   pub went : Went room old acts taken new
+  pub on : GoesOn old new
   pub told : AreToldWhenReady went
+  pub all_stand : AllStand new went
   pub tells : StaysDown went → kept_tells new ≡ kept_tells old
   pub left : HasNoCrash acts → is_down new ≡ true → recovery_steps went + steps_to_ready new ≤ steps_to_ready old
 
 pub none_so_far : (room : ℕ) (w : State) → SoFar room w [] 0 w
-none_so_far room w = record { went = nothing; told = tt; tells = λ down. refl; left = λ free down. omega arith }
+none_so_far room w = record {
+  went = nothing;
+  on = goes_nowhere w;
+  told = tt;
+  all_stand = tt;
+  tells = λ down. refl;
+  left = λ free down. omega arith;
+}
 
 -- recovery that was under way all along is under way now
-pub down_last : {room : ℕ} {old : State} {acts : List (Act ℕ)} {taken : ℕ} {new : State} (went : Went room old acts taken new)
-    → StaysDown went → is_down new ≡ true
+pub down_last : {room : ℕ} {old : State} {acts : List (Act ℕ)} {taken : ℕ} {new : State}
+    (went : Went room old acts taken new) → StaysDown went → is_down new ≡ true
 down_last nothing down = down
 down_last (next so_far act accepted attempt) down = down.1
 
@@ -199,17 +300,32 @@ down_last (next so_far act accepted attempt) down = down.1
 pub one_more : {room : ℕ} {old : State} {acts : List (Act ℕ)} {taken : ℕ} {w v : State} {act : Act ℕ} {accepted : Bool}
     → SoFar room old acts taken w → Holds w → IsAttempt (room - taken) w act accepted v
     → SoFar room old (acts ++ act ∷ []) (taken + count_of accepted) v
-one_more {acts = acts} {act = act} {accepted = accepted} so_far holds attempt = record {
-  went = next so_far.went act accepted attempt;
-  told = (so_far.told, told_attempt holds attempt);
-  tells = λ down. tells_attempt holds attempt (down_last so_far.went down.0) ∙ so_far.tells down.0;
-  left = λ free down.
-      let other = no_crash_last acts act free in
-      let was = down_attempt attempt other down in
-      let fewer = left_attempt holds attempt other was in
-      let before = so_far.left (no_crash_before acts act free) was in
-      omega (arith, fewer, before);
-}
+one_more {acts = acts} {w = w} {v = v} {act = act} {accepted = accepted} so_far holds attempt =
+    let on : GoesOn w v = record {
+      grown = grown_attempt attempt;
+      part = part_attempt holds attempt;
+      ended = ended_attempt holds attempt;
+    } in
+    record {
+      went = next so_far.went act accepted attempt;
+      on = goes_further so_far.on on;
+      told = (so_far.told, told_attempt holds attempt);
+      all_stand = (
+        all_stand_on w v so_far.went on so_far.all_stand,
+        λ down up. (good_attempt holds attempt down up, goes_nowhere v),
+      );
+      tells = λ down. tells_attempt holds attempt (down_last so_far.went down.0) ∙ so_far.tells down.0;
+      left = λ free down.
+          let other = no_crash_last acts act free in
+          let was = down_attempt attempt other down in
+          let fewer = left_attempt holds attempt other was in
+          let before = so_far.left (no_crash_before acts act free) was in
+          omega (arith, fewer, before);
+    }
+
+pub stands : {room : ℕ} {old : State} {acts : List (Act ℕ)} {taken : ℕ} {new : State} (so_far : SoFar room old acts taken new)
+    → AreToldForGood new so_far.went
+stands {new = new} so_far = told_by_now new so_far.went so_far.all_stand
 
 not_down : (w : State) → (is_down w ≡ true → ⊥) → is_down w ≡ false
 not_down w h = go (is_down w) refl

@@ -13,7 +13,7 @@ pub mod OneAccess
 pub mod Recoveries
 pub mod OneEvent
 pub mod Booted
-pub mod Runs
-pub mod Premises
 pub mod Standing
 pub mod Turn
+pub mod Runs
+pub mod Premises

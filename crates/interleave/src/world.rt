@@ -6,7 +6,7 @@ ghost use Rattle.recover.specs.Sound.{AreSoundWords};
 ghost use Rattle.interleave.specs.Booted.{booted_world, MayRefuse};
 ghost use Rattle.interleave.specs.Calls.{is_no_memory, waiting_result};
 ghost use Rattle.interleave.specs.Holds.{Holds, IsExplained};
-ghost use Rattle.interleave.specs.Standing.{EndedCallsStay, IsBeginningOf, IsToldForGood, UnannouncedAreOut};
+ghost use Rattle.interleave.specs.Standing.{EndedCallsStay, IsToldForGood, UnannouncedAreOut};
 ghost use Rattle.interleave.specs.Turn.{IsInTurn};
 ghost use Rattle.words.specs.PlainQueue.{reply_of, served};
 ghost use Rattle.words.specs.declared.call.Call.{Call as AnyCall};
@@ -267,6 +267,7 @@ impl<L: Layout + Drop> World<L> {
         ensures explained { IsExplained self.new.now }
         ensures sound { IsKeptSound self.new.now }
         ensures order { IsPartOf (order_in self.old.now) (order_in self.new.now) }
+        ensures ended { EndedCallsStay self.old.now self.new.now }
     {
         let mut ran = Ran {
             taken: 0,

@@ -1,17 +1,15 @@
 use Rattle.std.proofs.Common.{◌≡◌, ◌+◌, ◌-◌, ◌≤◌, ◌<◌, ℕ, List, [], ◌∷◌, ◌++◌, get_or, Bool, true, false, take, length, refl, sym, ap, ◌∙◌, subst, arith}
 use Rattle.std.proofs.lemmas.List.{take_more, take_all}
-use Rattle.events.specs.Parts.{IsPartOf}
-use Rattle.events.proofs.Members.{part_same, part_of_part}
 use Rattle.protocol.specs.declared.acts.Act.{Act}
 use Rattle.protocol.specs.declared.acts.Act.TheVariants.{Start}
 use Rattle.words.specs.declared.call.Call.TheVariants.{Enq}
 use Rattle.interleave.specs.Holds.{Holds}
 use Rattle.interleave.specs.Runs.{IsAttempt}
-use Rattle.interleave.specs.State.{State, count_of, order_in}
+use Rattle.interleave.specs.State.{State, count_of}
 use Rattle.interleave.specs.Trace.{Roomy}
 use Rattle.interleave.proofs.HoldsKept.{explained_world}
 use Rattle.interleave.proofs.KeptTells.{kept_sound}
-use Rattle.interleave.proofs.RunLaws.{SoFar, none_so_far, one_more, ended, part_attempt}
+use Rattle.interleave.proofs.RunLaws.{SoFar, none_so_far, one_more, ended, stands}
 use mir.Val.{bool_byte}
 use Rattle.interleave.proofs.world.World.run.Goals as goal
 
@@ -30,7 +28,6 @@ loop-act-init g c =
       room = omega arith;
       all = refl;
       holds = subst Holds (ap (λ (r : Roomy). r.now) c.self.view_is) c.self.invariant;
-      order = part_same (order_in c.args.self.now.now);
     }
 
 pub loop-act-preserved : goal.loop-act-preserved
@@ -61,7 +58,6 @@ loop-act-preserved g c =
       room = omega (arith, c.loop-act.invariant.room, c.act.ensures.room, byte);
       all = omega (arith, byte, few, c.loop-act.invariant.all);
       holds = c.act.ensures.holds;
-      order = part_of_part (part_attempt c.loop-act.invariant.holds attempt) c.loop-act.invariant.order;
     }
 
 pub returns-clause-run : goal.returns-clause-run
@@ -74,6 +70,7 @@ returns-clause-run g c =
       went = run.went;
       room = c.loop-act.invariant.room;
       told = run.told;
+      stands = stands run;
       tells = run.tells;
       ready = ended run holds;
     }
@@ -83,3 +80,9 @@ returns-clause-explained g c = explained_world _ c.loop-act.invariant.holds
 
 pub returns-clause-sound : goal.returns-clause-sound
 returns-clause-sound g c = kept_sound _ c.loop-act.invariant.holds
+
+pub returns-clause-order : goal.returns-clause-order
+returns-clause-order g c = c.loop-act.invariant.so_far.on.part
+
+pub returns-clause-ended : goal.returns-clause-ended
+returns-clause-ended g c = c.loop-act.invariant.so_far.on.ended
