@@ -1,29 +1,37 @@
 -- A client in turn, whose call goes on alone, is answered as by the plain queue.
-use Rattle.std.proofs.Common.{◌≡◌, ℕ, false, List, [], ◌∷◌, ◌++◌, Option, Some, None, Result, Ok, Err, slice_get, refl, sym, ap, ◌∙◌, subst}
-use Rattle.std.proofs.lemmas.List.{append-nil}
+use Rattle.std.proofs.Common.{◌≡◌, ℕ, false, List, [], ◌∷◌, ◌++◌, Option, Some, None, Result, Ok, Err, slice_get, refl, sym, ap, ◌∙◌, subst, ◌<◌, ◌≤◌, ◌==◌, inl, inr, Bool, true, if◌then◌else◌, length, arith}
+use Rattle.std.specs.Prelude.{IsSome}
+use Rattle.std.proofs.lemmas.List.{append-nil, length_push}
+use Rattle.std.proofs.lemmas.Option.{slice_get_within}
 use Rattle.words.specs.PlainQueue.{reply_of, served}
 use Rattle.words.specs.declared.call.Call.{Call}
 use Rattle.words.specs.declared.call.Client.{Client}
 use Rattle.words.specs.declared.call.Reply.{Reply}
 use Rattle.words.specs.declared.refusal.Refusal.{Refusal}
+use Rattle.words.specs.declared.refusal.Refusal.TheVariants.{NoRoom, NoMemory}
 use Rattle.words.specs.declared.told.Told.{Told}
 use Rattle.events.specs.Explains.{Explains}
+use Rattle.events.specs.History.{BeginsAt}
+use Rattle.events.specs.Orders.{InOrder}
 use Rattle.events.specs.Parts.{IsPartOf}
-use Rattle.events.specs.Replay.{queue_after}
+use Rattle.events.specs.Replay.{call_at, queue_after}
+use Rattle.events.specs.declared.event.Entry.{Entry}
 use Rattle.events.specs.declared.event.Event.{Event}
-use Rattle.events.specs.declared.event.Event.TheVariants.{Return as return_event}
+use Rattle.events.specs.declared.event.Event.TheVariants.{Call as call_event, Return as return_event}
+use Rattle.events.proofs.Growing.{open_before, open_less}
+use Rattle.events.proofs.Lists.{get_push_cases, get_last}
 use Rattle.protocol.specs.declared.acts.Act.TheVariants.{Step}
 use Rattle.protocol.specs.declared.UnderWay.{UnderWay}
 use Rattle.interleave.specs.Calls.{waiting_result}
 use Rattle.interleave.specs.Holds.{IsExplained}
 use Rattle.interleave.specs.OneEvent.{return_events}
 use Rattle.interleave.specs.Standing.{EndedCallsStay}
-use Rattle.interleave.specs.State.{State, is_down, step_with, after_step, step_result, kept_content, order_in}
-use Rattle.interleave.specs.Turn.{IsInTurn}
+use Rattle.interleave.specs.State.{State, is_down, used_by, after_bump_load, after_call_began, number_to_start, start_with, start_result_with, after_start, start_result, step_with, after_step, step_result, kept_content, order_in}
+use Rattle.interleave.specs.Turn.{IsInTurn, NobodyCalls}
 use Rattle.interleave.proofs.EveryAct.{act_adds_one}
 use Rattle.interleave.proofs.Ended.{begins_as_it_is}
 use Rattle.interleave.proofs.StandingLaws.{ended_by_order, ended_then}
-use Rattle.interleave.proofs.Turns.{turn_served}
+use Rattle.interleave.proofs.Turns.{begins_if_call, turn_served}
 
 -- a step adds the Return of what it answers
 pub step_adds : (w : State) (client : Client) (answer : Option Reply) → step_result false w client ≡ Ok answer
@@ -100,3 +108,57 @@ answered_in_turn old now new client call reply turn was is went left answers par
       both.0 ∙ ap (λ (q : List ℕ). reply_of q call) (sym was.agrees),
       holds ∙ both.1 ∙ ap (λ (q : List ℕ). served q call) (sym was.agrees),
     )
+
+-- a call that begins while nobody has one is its client's in turn
+begun_in_turn : (w : State) (client : Client) (number : ℕ) (call : Call) → IsExplained w → NobodyCalls w
+    → IsInTurn (after_call_began w client number call) client call
+begun_in_turn w client number call explained nobody = record {
+  place = length w.log.events;
+  number = number;
+  begins = get_last w.log.events (call_event client number call);
+  last = omega (arith, length_push w.log.events (call_event client number call));
+  alone = λ other way. elim (get_push_cases w.log.events (call_event client number call) way.place _ way.open_from.begins.1.1) [
+    | inl old ↦
+        let within : way.place < length w.log.events = slice_get_within w.log.events way.place _ old in
+        let events : List Event = w.log.events ++ call_event client number call ∷ [] in
+        let longer : length w.log.events ≤ length events =
+        omega (arith, length_push w.log.events (call_event client number call)) in
+        absurd (nobody other (record {
+          place = way.place;
+          before = within;
+          open_from = open_before w.log.events (call_event client number call ∷ []) other (length w.log.events)
+              way.place within
+              (open_less events other (length events) (length w.log.events) way.place longer way.open_from);
+        }))
+    | inr new ↦ cc (new.1)
+  ];
+  fresh = λ there. new_place there;
+}
+  where
+    new_place : InOrder (order_in w) (length w.log.events) → ⊥
+    new_place (k, x, lt, is, place) =
+        let some : IsSome (call_at w.log.events (length w.log.events)) =
+        subst (λ (p : ℕ). IsSome (call_at w.log.events p)) place
+        (subst (λ (e : Entry). IsSome (call_at w.log.events e.place)) is (explained.explains.is_order.calls k x lt)) in
+        let b : (c : Client) × BeginsAt w.log.events c (length w.log.events) =
+        begins_if_call w.log.events (length w.log.events) some in
+        omega (arith, slice_get_within w.log.events (length w.log.events) _ b.1.1.1)
+
+-- so it is after a start that is accepted
+pub started_in_turn : (full : Bool) (w : State) (client : Client) (number : ℕ) (call : Call) → IsExplained w
+    → start_result full w client number ≡ Ok tt → NobodyCalls w
+    → IsInTurn (after_start full w client number call) client call
+started_in_turn full w client number call explained is nobody = from_check (number_to_start w client number) is
+  where
+    from_check : (r : Result ℕ Refusal) → start_result_with full w client r ≡ Ok tt
+        → IsInTurn (start_with full w client call r) client call
+    from_check (Err refusal) e = cc
+    from_check (Ok n) e = both (used_by w client == w.shape.records) full e
+      where
+        both : (a b : Bool)
+            → (let r : Result Unit Refusal = if a then Err NoRoom else (if b then Err NoMemory else Ok tt) in r) ≡ Ok tt
+            → IsInTurn (if a then after_bump_load w
+            else (if b then after_bump_load w else after_call_began w client n call)) client call
+        both true b e2 = cc
+        both false true e2 = cc
+        both false false e2 = begun_in_turn w client n call explained nobody

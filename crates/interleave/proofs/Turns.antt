@@ -85,7 +85,7 @@ apart_if_new order once i j x y lt at_i at_j same =
     )
 
 -- a call that an order may name begins at its place
-begins_if_call : (events : List Event) (p : ℕ) → IsSome (call_at events p)
+pub begins_if_call : (events : List Event) (p : ℕ) → IsSome (call_at events p)
     → (client : Client) × BeginsAt events client p
 begins_if_call events p some = go (slice_get events p) refl some
   where

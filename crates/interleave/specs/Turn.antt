@@ -14,3 +14,7 @@ pub record IsInTurn (w : State) (client : Client) (call : Call) : Type 0 where
   pub last : suc place ≡ length w.log.events
   pub alone : (other : Client) → IsUnderWay w.log.events other (length w.log.events) → other ≡ client
   pub fresh : ¬ (InOrder (order_in w) place)
+
+-- no client has a call under way
+abbrev pub NobodyCalls : State → Type 0
+NobodyCalls w = (client : Client) → ¬ (IsUnderWay w.log.events client (length w.log.events))

@@ -7,7 +7,7 @@ ghost use Rattle.interleave.specs.Booted.{booted_world, MayRefuse};
 ghost use Rattle.interleave.specs.Calls.{is_no_memory, waiting_result};
 ghost use Rattle.interleave.specs.Holds.{Holds, IsExplained};
 ghost use Rattle.interleave.specs.Standing.{EndedCallsStay, IsToldForGood, UnannouncedAreOut};
-ghost use Rattle.interleave.specs.Turn.{IsInTurn};
+ghost use Rattle.interleave.specs.Turn.{IsInTurn, NobodyCalls};
 ghost use Rattle.words.specs.PlainQueue.{reply_of, served};
 ghost use Rattle.words.specs.declared.call.Call.{Call as AnyCall};
 ghost use Rattle.protocol.specs.declared.acts.Act.{Act};
@@ -120,6 +120,7 @@ impl<L: Layout + Drop> World<L> {
         ensures explained { IsExplained self.new.now }
         ensures sound { IsKeptSound self.new.now }
         ensures order { order_in self.new.now ≡ order_in self.old.now }
+        ensures turn { result ≡ Ok tt → NobodyCalls self.old.now → IsInTurn self.new.now client call }
     {
         start_call(
             &self.layout,

@@ -7,6 +7,8 @@ use Rattle.interleave.specs.Trace.{Roomy, state_with}
 use Rattle.words.specs.declared.call.Call.TheVariants.{Enq}
 use Rattle.protocol.specs.Machine.{FitsCall}
 use Rattle.interleave.proofs.HoldsKept.{holds_after_start, part_after_start, call_fits, explained_world}
+use Rattle.interleave.specs.Turn.{IsInTurn, NobodyCalls}
+use Rattle.interleave.proofs.TurnLaws.{started_in_turn}
 use Rattle.interleave.proofs.world.World.start.Goals as goal
 
 pub invariant_of-self : goal.invariant_of-self
@@ -35,3 +37,12 @@ returns-clause-order g c =
     let old : State = state_with (g.L.Layout.shape c.self.inside.layout) c.self.inside.memory c.self.inside.queue c.self.inside.calls.items c.self.inside.trace in
     let was : old ≡ c.args.self.now.now = ap (λ (r : Roomy). r.now) c.self.view_is in
     ap order_in c.start_call.ensures.world ∙ part_after_start (is_no_memory c.start_call.result) old c.args.client c.args.number c.args.call ∙ ap order_in was
+
+pub returns-clause-turn : goal.returns-clause-turn
+returns-clause-turn g c = λ accepted nobody.
+    let old : State = state_with (g.L.Layout.shape c.self.inside.layout) c.self.inside.memory c.self.inside.queue c.self.inside.calls.items c.self.inside.trace in
+    let was : old ≡ c.args.self.now.now = ap (λ (r : Roomy). r.now) c.self.view_is in
+    subst (λ (w : State). IsInTurn w c.args.client c.args.call) (sym c.start_call.ensures.world)
+    (started_in_turn (is_no_memory c.start_call.result) old c.args.client c.args.number c.args.call
+    (explained_world old c.self.invariant) (sym c.start_call.ensures.result ∙ accepted)
+    (subst (λ (w : State). NobodyCalls w) (sym was) nobody))
