@@ -6,3 +6,4 @@ pub mod Unique
 pub mod Plays
 pub mod Alone
 pub mod Recoveries
+pub mod Runs
