@@ -1,5 +1,5 @@
 use Rattle.std.proofs.Common.{arith}
-use Rattle.devices.proofs.Transfers.{more_written}
+use Rattle.devices.proofs.Writes.{more_written}
 use Rattle.devices.proofs.transfer.write_all.Goals as goal
 
 pub loop-rest-preserved : goal.loop-rest-preserved

@@ -1,5 +1,5 @@
 use Rattle.std.proofs.Common.{◌≡◌, length}
-use Rattle.devices.proofs.Transfers.{HasWritten}
+use Rattle.devices.proofs.Writes.{HasWritten}
 use Rattle.devices.proofs.transfer.write_all.Given as goal
 
 -- no write failed so far, and the bytes before the rest were written
