@@ -1,8 +1,9 @@
 -- What was written so far.
-use Rattle.std.proofs.Common.{◌≡◌, ℕ, List, ◌++◌, Option, take, drop, sym, ap, ◌∙◌, append_assoc}
-use Rattle.std.proofs.lemmas.List.{take-append-drop}
-use Rattle.std.proofs.KnownBytes.{Appends-trans}
-use Rattle.std.specs.Io.KnownBytes.{Appends}
+use Rattle.std.proofs.Common.{◌≡◌, ℕ, List, [], ◌++◌, Option, take, drop, sym, ap, ◌∙◌, append_assoc}
+use Rattle.std.proofs.lemmas.List.{append-nil, take-append-drop}
+use Rattle.std.proofs.KnownBytes.{Appends-trans, Appends-kept}
+use Rattle.std.specs.Io.KnownBytes.{Appends, Keeps}
+use Rattle.devices.specs.Devices.{AppendsBeginning}
 
 -- some of the bytes were written, and these are left
 pub record HasWritten (bytes rest : List ℕ) (old new : Option (List ℕ)) : Type 0 where
@@ -21,3 +22,9 @@ more_written n bytes rest old mid new had more =
           ∙ sym (append_assoc had.sent (take n rest) (drop n rest));
       appends = Appends-trans old mid new had.sent (take n rest) had.appends more;
     }
+
+-- all of the bytes are a beginning of them
+pub all_is_beginning : (old mid new : Option (List ℕ)) (bytes : List ℕ)
+    → Appends old mid bytes → Keeps mid new → AppendsBeginning old new bytes
+all_is_beginning old mid new bytes all kept =
+    (bytes, [], sym (append-nil bytes), Appends-kept old mid new bytes all kept)

@@ -12,4 +12,4 @@ mod transfer;
 pub use counted::{CountedReader, CountedWriter};
 pub use device::{Failed, Reader, Writer};
 pub use faulty::{FaultyReader, FaultyWriter};
-pub use transfer::{Unread, next_byte, read_all, write_all};
+pub use transfer::{Unread, next_byte, read_all, send, write_all};

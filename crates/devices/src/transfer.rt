@@ -2,7 +2,7 @@
 
 ghost use Rattle.std.specs.Prelude.{◌≡◌, ◌<◌, ◌+◌, ◌-◌, ◌^◌, IfOk, IfSome, OnOk, OnErr};
 ghost use Rattle.std.specs.Io.KnownBytes.{Appends};
-ghost use Rattle.devices.specs.Devices.{failures_of, AppendsBeginning, GivesNext};
+ghost use Rattle.devices.specs.Devices.{failures_of, AppendsBeginning, GivesNext, IsFlushed};
 ghost use Rattle.devices.specs.Unread.{device_failures_of};
 
 use crate::device::{Failed, Reader, Writer};
@@ -70,4 +70,17 @@ pub fn write_all<W: Writer>(writer: &mut W, bytes: &[u8]) -> Result<(), Failed>
         rest = after;
     }
     Ok(())
+}
+
+/// Writes all the bytes, and flushes them.
+#[tactic(auto, using(crate::proofs::Writes::all_is_beginning))]
+pub fn send<W: Writer>(writer: &mut W, bytes: &[u8]) -> Result<(), Failed>
+    requires { W.failures writer.old < 2 ^ 64 - 1 }
+    ensures all { OnOk result (Appends (W.written writer.old) (W.written writer.new) bytes.now) }
+    ensures flushed { OnOk result (IsFlushed (W.written writer.new) (W.flushed writer.new)) }
+    ensures beginning { OnErr result (AppendsBeginning (W.written writer.old) (W.written writer.new) bytes.now) }
+    ensures failures { W.failures writer.new ≡ W.failures writer.old + failures_of result }
+{
+    write_all(writer, bytes)?;
+    writer.flush()
 }

@@ -6,4 +6,3 @@ pub mod Unique
 pub mod Plays
 pub mod Alone
 pub mod Recoveries
-pub mod Runs

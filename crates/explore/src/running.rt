@@ -6,7 +6,7 @@ ghost use Rattle.explore.specs.Run.{Prints, PrintsBeginning, IsRunRefusal, Names
 
 use crate::parse::parse_script;
 use crate::play::transcript;
-use devices::{Reader, Unread, Writer, read_all, write_all};
+use devices::{Reader, Unread, Writer, read_all, send};
 use std::alloc::Global;
 use words::Refusal;
 
@@ -42,11 +42,5 @@ pub fn run<R: Reader, W: Writer>(
     let text = read_all(alloc, reader).map_err(unread_refusal)?;
     let script = parse_script(alloc, &text)?;
     let printed = transcript(alloc, &script)?;
-    let Ok(()) = write_all(writer, &printed) else {
-        return Err(Refusal::WriteFailed);
-    };
-    let Ok(()) = writer.flush() else {
-        return Err(Refusal::WriteFailed);
-    };
-    Ok(())
+    send(writer, &printed).map_err(|_| Refusal::WriteFailed)
 }
