@@ -21,6 +21,7 @@ pub mod KeptTells
 pub mod BootLaws
 pub mod DownLaws
 pub mod Ended
+pub mod RecordsKept
 pub mod ToldForGood
 pub mod StandingLaws
 pub mod Turns
