@@ -22,6 +22,7 @@ pub mod BootLaws
 pub mod DownLaws
 pub mod Ended
 pub mod RecordsKept
+pub mod Reused
 pub mod ToldForGood
 pub mod StandingLaws
 pub mod Turns
