@@ -42,6 +42,7 @@ use Rattle.interleave.specs.Calls.{waiting_result, idle_result}
 use Rattle.interleave.specs.Holds.{Holds, IsExplained, Invariant, from_invariant, to_invariant}
 use Rattle.interleave.specs.Queue.{number_check, new_queue, told_in}
 use Rattle.interleave.specs.Ranges.{IsOfKind, IsSafe, IfCall}
+use Rattle.interleave.specs.Reuse.{AreAccountedFor}
 use Rattle.interleave.specs.Values.{value_of_place, memory_by_place}
 use Rattle.interleave.specs.State.{State, new_world, machine, is_down, queue_left, after_one_access, after_bump_load, after_call_began, used_by, number_of_idle, number_to_start, start_with, step_with, evict_with, after_start, after_step, after_evict, after_stop, after_crash, queue_at_ready, after_recovery_step, recover_with, after_recover, order_in}
 use Rattle.interleave.specs.declared.queue.Queue.{Queue}
@@ -54,8 +55,8 @@ use Rattle.protocol.specs.Acts.{TellsNothing}
 use Rattle.interleave.proofs.MachineFacts.{agreement}
 use Rattle.interleave.proofs.NoteLaws.{place_of_word}
 use Rattle.interleave.proofs.NumbersKept.{IsAboveFloor, above_accepted, numbers_are_once, numbers_begun, numbers_crashed, numbers_evicted, numbers_gone_on, numbers_new, numbers_recovered}
-use Rattle.interleave.specs.Reuse.{AreAccountedFor}
-use Rattle.interleave.proofs.RecordsKept.{accounted_crashed, accounted_evicted, accounted_none, accounted_recovered, accounted_started, accounted_stepped}
+use Rattle.interleave.proofs.RecordsKept.{accounted_crashed, accounted_evicted, accounted_none}
+use Rattle.interleave.proofs.RecordsKept.{accounted_recovered, accounted_started, accounted_stepped}
 use Rattle.interleave.proofs.Safety.{call_fits as call_in_range, IsSafe-accessed, IsSafe-gone_on, IsSafe-begun, IsSafe-evicted}
 use Rattle.interleave.proofs.ValueLaws.{shown_accessed, shown_evicted, shown_at, shown_zero, zero_at}
 

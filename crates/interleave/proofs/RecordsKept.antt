@@ -1,5 +1,5 @@
 -- Each act keeps account of the records that calls took.
-use Rattle.std.proofs.Common.{◌≡◌, ◌≢◌, ℕ, ◌+◌, ◌≤◌, ◌<◌, ◌⊎◌, inl, inr, List, [], ◌∷◌, length, Option, Some, None, slice_get}
+use Rattle.std.proofs.Common.{◌≡◌, ◌≢◌, ℕ, ◌≤◌, ◌⊎◌, inl, inr, List, [], ◌∷◌, length, Option, Some, None}
 use Rattle.std.proofs.Common.{refl, sym, ap, subst, ◌∙◌, arith}
 use Rattle.std.proofs.lemmas.Bool.{cases_eq}
 use Rattle.std.proofs.lemmas.Option.{slice_get_within}
@@ -8,7 +8,7 @@ use Rattle.words.specs.declared.call.Client.{Client}
 use Rattle.words.specs.declared.call.Reply.{Reply}
 use Rattle.words.specs.declared.told.Told.{Told}
 use Rattle.persist.specs.Memory.{Access}
-use Rattle.arena.specs.Shape.{Shape, owner, record_of}
+use Rattle.arena.specs.Shape.{Shape, owner}
 use Rattle.arena.specs.Words.{bumps}
 use Rattle.arena.specs.declared.place.Place.{Place}
 use Rattle.arena.specs.declared.place.Place.TheVariants.{Bump}
@@ -21,25 +21,26 @@ use Rattle.recover.specs.Sound.{IsIssued}
 use Rattle.recover.specs.Table.{access_of as recovery_access}
 use Rattle.recover.specs.declared.recovery.Recovery.{Recovery}
 use Rattle.events.specs.Effects.{order_of, settled_effects}
-use Rattle.events.specs.History.{IsEnd, IsOpenFrom}
+use Rattle.events.specs.History.{IsOpenFrom}
 use Rattle.events.specs.Orders.{InOrder}
 use Rattle.events.specs.Trace.{queue_of}
 use Rattle.events.specs.declared.event.Effect.{Effect}
 use Rattle.events.specs.declared.event.Event.{Event}
-use Rattle.events.specs.declared.event.Event.TheVariants.{Call as call_event, Return as return_event, Crash as crash_event, Ready as ready_event}
+use Rattle.events.specs.declared.event.Event.TheVariants.{Call as call_event, Return as return_event}
+use Rattle.events.specs.declared.event.Event.TheVariants.{Crash as crash_event, Ready as ready_event}
 use Rattle.events.proofs.EffectLists.{order_settled_effects}
 use Rattle.events.proofs.Growing.{begins_within, is_end_longer, no_end_longer}
 use Rattle.events.proofs.Lists.{get_last, get_longer, get_push_cases}
-use Rattle.protocol.specs.Machine.{Memory, World, MayStart, MayStep, put, with_access, with_next, next_of, events_after, begun_of, call_begun}
-use Rattle.protocol.specs.Machine.{effects_after, with_start, with_step, with_eviction, with_crash, with_recovery_step, next_recovery, recovery_events}
+use Rattle.protocol.specs.Machine.{Memory, World, MayStart, MayStep, put, with_access, with_next, next_of}
+use Rattle.protocol.specs.Machine.{begun_of, call_begun, events_after, next_recovery, recovery_events}
+use Rattle.protocol.specs.Machine.{with_start, with_step, with_eviction, with_crash, with_recovery_step}
 use Rattle.protocol.specs.declared.Issued.{Issued}
 use Rattle.protocol.specs.declared.UnderWay.{UnderWay}
 use Rattle.protocol.specs.invariants.Knows.{Acting}
 use Rattle.protocol.specs.invariants.Ledger.{Ledger, Stage, stage_at}
 use Rattle.protocol.specs.invariants.Ledger.Stage.{Unmoved, Seen, Took}
-use Rattle.protocol.specs.invariants.Worlds.{Inv, InvAt, IsCalling, Working, ledger_of, ledger_from, record_of_call, stage_of}
+use Rattle.protocol.specs.invariants.Worlds.{Inv, InvAt, Working, ledger_of, record_of_call, stage_of}
 use Rattle.protocol.proofs.calls.Preparations.{prepared_issued}
-use Rattle.protocol.proofs.calls.Rebegun.{next_unissued, record_owner}
 use Rattle.protocol.proofs.calls.Rows.{KnowsNext, ledger_after}
 use Rattle.protocol.proofs.changes.Puts.{issued_more, put_cases, put_same}
 use Rattle.protocol.proofs.records.RecordStores.{acting_or}
@@ -131,6 +132,7 @@ comes_same : (events : List Event) (effects after : List Effect) → order_of af
     → ComesInOpen events effects after
 comes_same events effects after same p there = inl (subst (λ order. InOrder order p) same there)
 
+-- the history only grows by a step, and by one of recovery
 grown_step : (events : List Event) (client : Client) (next : After Op Reply)
     → IsBeginningOf events (events_after events client next)
 grown_step events client (More op) = begins_itself events
@@ -313,8 +315,9 @@ accounted_crashed w inv kept k x at = record {
 
         lost : ((reply : Reply) → stage_at still.u.place w.log.effects ≢ Took reply) → Stands (issued_as still.u)
         lost untaken =
-            inr (inr (ended still.u (calling w v x.begun.client.0 still.u still.at).1.open_from (λ there.
-                let took = stage_in_order still.u.place w.log.effects there in untaken took.0 took.1)))
+            let out : ¬ (InOrder (order_of w.log.effects) still.u.place) = λ there.
+            let took = stage_in_order still.u.place w.log.effects there in untaken took.0 took.1 in
+            inr (inr (ended still.u (calling w v x.begun.client.0 still.u still.at).1.open_from out))
 
         by_stage : (st : Stage) → stage_at still.u.place w.log.effects ≡ st → Stands (issued_as still.u)
         by_stage Unmoved e = lost (λ reply f. cc)

@@ -1,6 +1,6 @@
 -- What became of the calls that took a record which is taken again.
-use Rattle.std.proofs.Common.{◌≡◌, ◌≢◌, ℕ, ◌+◌, ◌*◌, ◌≤◌, ◌<◌, ◌⊎◌, inl, inr, Bool, true, false, if◌then◌else◌, ◌==◌}
-use Rattle.std.proofs.Common.{Option, Some, None, Result, Ok, Err, slice_get, refl, sym, ap, subst, ◌∙◌, arith}
+use Rattle.std.proofs.Common.{◌≡◌, ℕ, ◌+◌, ◌*◌, ◌≤◌, ◌⊎◌, inl, inr, Bool, true, false, if◌then◌else◌, ◌==◌}
+use Rattle.std.proofs.Common.{Some, None, Result, Ok, Err, slice_get, refl, sym, ap, subst, ◌∙◌, arith}
 use Rattle.std.proofs.lemmas.Bool.{eqb-false}
 use Rattle.words.specs.declared.call.Call.{Call}
 use Rattle.words.specs.declared.call.Client.{Client}
@@ -9,13 +9,12 @@ use Rattle.words.specs.declared.refusal.Refusal.TheVariants.{NoMemory, NoRoom}
 use Rattle.arena.specs.Shape.{owner, record_of}
 use Rattle.arena.specs.Words.{bumps}
 use Rattle.recover.specs.Sound.{IsIssued}
-use Rattle.protocol.specs.Machine.{FitsCall, MayStart, World}
-use Rattle.protocol.specs.declared.Issued.{Issued}
-use Rattle.protocol.specs.invariants.Worlds.{Inv, Working, ledger_of}
+use Rattle.protocol.specs.Machine.{FitsCall, MayStart}
+use Rattle.protocol.specs.invariants.Worlds.{Working, ledger_of}
 use Rattle.protocol.proofs.calls.Rebegun.{next_unissued, record_owner}
 use Rattle.protocol.proofs.worlds.Facts.{is_ready}
 use Rattle.interleave.specs.Holds.{Holds, from_invariant}
-use Rattle.interleave.specs.Reuse.{AreAccountedFor, EarlierLeftNothing, IsAccountedFor, IsLost, IsStillCalled}
+use Rattle.interleave.specs.Reuse.{EarlierLeftNothing, IsAccountedFor, IsLost, IsStillCalled}
 use Rattle.interleave.specs.State.{State, machine, order_in, number_to_start, start_result, start_result_with, used_by}
 use Rattle.interleave.proofs.HoldsKept.{is_none, may_start, number_fits_kind}
 
@@ -58,8 +57,8 @@ earlier_left_nothing w client number call holds may k x at takes = record {
     lost (inr (inr gone)) = gone
 
 -- so it is where a start is accepted
-pub reused_left_nothing : (full : Bool) (w : State) (client : Client) (number : ℕ) (call : Call) → Holds w → FitsCall call
-    → start_result full w client number ≡ Ok tt → EarlierLeftNothing w client
+pub reused_left_nothing : (full : Bool) (w : State) (client : Client) (number : ℕ) (call : Call) → Holds w
+    → FitsCall call → start_result full w client number ≡ Ok tt → EarlierLeftNothing w client
 reused_left_nothing full w client number call holds fits = from_check (number_to_start w client number) refl
   where
     from_check : (r : Result ℕ Refusal) → number_to_start w client number ≡ r
@@ -73,6 +72,7 @@ reused_left_nothing full w client number call holds fits = from_check (number_to
         room true left b is2 = cc
         room false left true is2 = cc
         room false left false is2 =
-            let found = number_fits_kind w.shape.kind w.queue client number n _ (slice_get w.calls client.0) holds.kind e in
+            let found =
+            number_fits_kind w.shape.kind w.queue client number n _ (slice_get w.calls client.0) holds.kind e in
             earlier_left_nothing w client n call holds
             (may_start w client n call holds (is_none w.recovery found.0) found.1 (eqb-false _ _ left) found.2 fits)
