@@ -1,15 +1,22 @@
 -- What became of the calls that took a record which is taken again.
-use Rattle.std.proofs.Common.{◌≡◌, ℕ, ◌+◌, ◌*◌, ◌≤◌, ◌⊎◌, inl, inr, Bool, true, false, if◌then◌else◌, ◌==◌}
+use Rattle.std.proofs.Common.{◌≡◌, ◌≢◌, ℕ, ◌+◌, ◌*◌, ◌≤◌, ◌⊎◌, inl, inr, Bool, true, false, if◌then◌else◌, ◌==◌}
 use Rattle.std.proofs.Common.{Some, None, Result, Ok, Err, slice_get, refl, sym, ap, subst, ◌∙◌, arith}
 use Rattle.std.proofs.lemmas.Bool.{eqb-false}
 use Rattle.words.specs.declared.call.Call.{Call}
 use Rattle.words.specs.declared.call.Client.{Client}
+use Rattle.words.specs.declared.call.Kind.{Kind}
+use Rattle.words.specs.declared.call.Kind.TheVariants.{Durable, Log}
 use Rattle.words.specs.declared.refusal.Refusal.{Refusal}
 use Rattle.words.specs.declared.refusal.Refusal.TheVariants.{NoMemory, NoRoom}
-use Rattle.arena.specs.Shape.{owner, record_of}
+use Rattle.arena.specs.Shape.{Shape, owner, record_of}
 use Rattle.arena.specs.Words.{bumps}
-use Rattle.recover.specs.Sound.{IsIssued}
-use Rattle.protocol.specs.Machine.{FitsCall, MayStart}
+use Rattle.arena.specs.declared.place.Place.{Place}
+use Rattle.arena.specs.declared.place.Place.TheVariants.{Value, Next, Mark, Cell, Insert}
+use Rattle.arena.specs.declared.place.Place.TheVariants.{Number, EntryKind, Status, EntryNode}
+use Rattle.helping.specs.Table.{node_of, token_of}
+use Rattle.recover.specs.Sound.{IsBlank, IsBlankAnswer, IsIssued}
+use Rattle.protocol.specs.Machine.{FitsCall, MayStart, Memory}
+use Rattle.protocol.specs.invariants.Base.{Blank}
 use Rattle.protocol.specs.invariants.Worlds.{Working, ledger_of}
 use Rattle.protocol.proofs.calls.Rebegun.{next_unissued, record_owner}
 use Rattle.protocol.proofs.worlds.Facts.{is_ready}
@@ -22,13 +29,39 @@ use Rattle.interleave.proofs.HoldsKept.{is_none, may_start, number_fits_kind}
 same_used : (from used next : ℕ) → 1 + from + used ≡ 1 + from + next → used ≡ next
 same_used from used next e = omega (arith, e)
 
+-- the words of a record that is not issued are 0
+blank_record : (s : Shape) (kept f : Place → ℕ) (n : ℕ) → Blank s kept f → n ≢ 0 → (IsIssued s kept n → ⊥)
+    → IsBlank s f n
+blank_record s kept f n blank some free = record {
+  value = blank (Value (node_of n)) tt some free;
+  link = blank (Next (node_of n)) tt some free;
+  mark = blank (Mark (node_of n)) tt some free;
+  answer = by_kind s.kind;
+}
+  where
+    by_kind : (kind : Kind) → IsBlankAnswer kind f n
+    by_kind Durable = blank (Cell (token_of n)) tt some free
+    by_kind Log = record {
+      insert = blank (Insert (node_of n)) tt some free;
+      number = blank (Number (token_of n)) tt some free;
+      kind = blank (EntryKind (token_of n)) tt some free;
+      status = blank (Status (token_of n)) tt some free;
+      node = blank (EntryNode (token_of n)) tt some free;
+    }
+
+-- there is no record 0
+not_zero : (from used n : ℕ) → n ≡ 1 + from + used → n ≢ 0
+not_zero from used n e z = absurd (omega (arith, e, z))
+
 -- where a client may start a call, each earlier call with its next record left nothing
 earlier_left_nothing : (w : State) (client : Client) (number : ℕ) (call : Call) → Holds w
     → MayStart (machine w) client number call → EarlierLeftNothing w client
 earlier_left_nothing w client number call holds may k x at takes = record {
   own = ap (λ (t : ℕ). let c : Client = record { 0 = t } in c) own;
   lost = lost was.stands;
-  unkept = subst (λ n. bumps (machine w).memory.kept client.0 ≤ n) (sym used) (v.base.kept_bump client.0);
+  unkept = subst (λ n. bumps m.kept client.0 ≤ n) (sym used) (v.base.kept_bump client.0);
+  blank = blank_record w.shape m.kept m.cached x.begun.token.0 v.base.blank some free;
+  blank_kept = blank_record w.shape m.kept m.kept x.begun.token.0 v.base.blank_kept some free;
 }
   where
     was : IsAccountedFor (machine w) x
@@ -36,6 +69,17 @@ earlier_left_nothing w client number call holds may k x at takes = record {
 
     v : Working (machine w)
     v = (is_ready (machine w) (from_invariant _ holds.inv) may.ready).working
+
+    m : Memory
+    m = (machine w).memory
+
+    some : x.begun.token.0 ≢ 0
+    some = not_zero (client.0 * w.shape.records) (used_by w client) x.begun.token.0 takes
+
+    free : IsIssued w.shape m.kept x.begun.token.0 → ⊥
+    free issued =
+        next_unissued w.shape m (ledger_of (machine w)) v.claimed v.waiting v.base client.0 may.record_left
+        (subst (IsIssued w.shape m.kept) takes issued)
 
     own : x.begun.client.0 ≡ client.0
     own =
@@ -47,10 +91,9 @@ earlier_left_nothing w client number call holds may k x at takes = record {
         same_used (client.0 * w.shape.records) x.begun.used (used_by w client)
         (ap (λ (t : ℕ). record_of w.shape t x.begun.used) (sym own) ∙ sym was.token ∙ takes)
 
-    lost : (IsIssued w.shape (machine w).memory.kept x.begun.token.0
+    lost : (IsIssued w.shape m.kept x.begun.token.0
         ⊎ (IsStillCalled (machine w) x ⊎ IsLost w.log.events (order_in w) x)) → IsLost w.log.events (order_in w) x
-    lost (inl issued) = absurd (next_unissued w.shape (machine w).memory (ledger_of (machine w)) v.claimed v.waiting
-        v.base client.0 may.record_left (subst (IsIssued w.shape (machine w).memory.kept) takes issued))
+    lost (inl issued) = absurd (free issued)
     lost (inr (inl still)) =
         let none : None ≡ Some still.u = sym may.idle ∙ ap (machine w).calls (sym own) ∙ still.at in
         absurd (cc)

@@ -3,7 +3,7 @@ use Rattle.std.specs.Prelude.{◌≡◌, ℕ, ◌≤◌, ◌<◌, ◌⊎◌, Lis
 use Rattle.words.specs.declared.call.Client.{Client}
 use Rattle.arena.specs.Shape.{record_of}
 use Rattle.arena.specs.Words.{bumps}
-use Rattle.recover.specs.Sound.{IsIssued}
+use Rattle.recover.specs.Sound.{IsBlank, IsIssued}
 use Rattle.events.specs.Effects.{order_of}
 use Rattle.events.specs.History.{CrashAt, IsEnd}
 use Rattle.events.specs.Orders.{InOrder}
@@ -21,11 +21,13 @@ pub record IsLost (events : List Event) (order : List Entry) (call : Issued) : T
   pub by_crash : CrashAt events crash
   pub out : ¬ (InOrder order call.place)
 
--- the call was the client's and was lost, and it is not kept either that it took its record
+-- the call was the client's and was lost, it is not kept that it took its record, and each word of that is 0
 pub record LeftNothing (w : State) (client : Client) (call : Issued) : Type 0 where
   pub own : call.begun.client ≡ client
   pub lost : IsLost w.log.events (order_in w) call
   pub unkept : bumps (machine w).memory.kept client.0 ≤ call.begun.used
+  pub blank : IsBlank w.shape (machine w).memory.cached call.begun.token.0
+  pub blank_kept : IsBlank w.shape (machine w).memory.kept call.begun.token.0
 
 -- so it was with each earlier call that took the record which the client's next call takes
 abbrev pub EarlierLeftNothing : State → Client → Type 0
