@@ -1,6 +1,7 @@
 pub mod Lines
 pub mod Limits
 pub mod Grammar
+pub mod Scripted
 pub mod Rows
 pub mod Script
 pub mod Prints

@@ -1,8 +1,9 @@
 -- A script from a reader, followed to a writer.
-use Rattle.std.specs.Prelude.{◌≡◌, ◌≢◌, ℕ, List, Option, Some, None, IfSome}
+use Rattle.std.specs.Prelude.{◌≡◌, ◌≢◌, ◌⊎◌, ℕ, List, Option, Some, None, IfSome}
 use Rattle.std.specs.Io.KnownBytes.{Appends, Keeps}
+use Rattle.devices.specs.Devices.{AppendsBeginning}
 use Rattle.words.specs.declared.refusal.Refusal.{Refusal}
-use Rattle.words.specs.declared.refusal.Refusal.TheVariants.{BadLine, WriteFailed}
+use Rattle.words.specs.declared.refusal.Refusal.TheVariants.{BadLine, NoMemory, ReadFailed, WriteFailed}
 use Rattle.explore.specs.Lines.{lines_of}
 use Rattle.explore.specs.Script.{Says, IsFirstBad}
 use Rattle.explore.specs.Transcript.{script_text}
@@ -15,6 +16,19 @@ Prints None old new = Unit {0}
 Prints (Some text) old new =
     (queue : Option QueueLine) × (commands : List Command)
     × Says (lines_of text) queue commands × Appends old new (script_text queue commands)
+
+-- or only a beginning of what it prints
+abbrev pub PrintsBeginning : Option (List ℕ) → Option (List ℕ) → Option (List ℕ) → Type 0
+PrintsBeginning None old new = Unit {0}
+PrintsBeginning (Some text) old new =
+    (queue : Option QueueLine) × (commands : List Command)
+    × Says (lines_of text) queue commands × AppendsBeginning old new (script_text queue commands)
+
+-- a failed read, want of memory, a failed write, or a bad line
+abbrev pub IsRunRefusal : Refusal → Type 0
+IsRunRefusal refusal =
+    (refusal ≡ ReadFailed) ⊎ (refusal ≡ NoMemory) ⊎ (refusal ≡ WriteFailed)
+    ⊎ ((number : ℕ) × (refusal ≡ BadLine number))
 
 -- a line that is called bad is the first bad one of the bytes to read
 abbrev pub NamesBadLine : Option (List ℕ) → Refusal → Type 0

@@ -1,5 +1,5 @@
 -- The lines of a world that follows a script.
-use Rattle.std.specs.Prelude.{ℕ, Bool, false, true, zero, suc, List, [], ◌∷◌, ◌++◌, Option, Some, None, is_some, Result, Ok, Err, length, slice_get, slice_index}
+use Rattle.std.specs.Prelude.{ℕ, false, zero, suc, List, [], ◌∷◌, ◌++◌, Option, Some, None, is_some, Result, Ok, Err, length, slice_get, slice_index}
 use Rattle.std.specs.List.{flat_map}
 use Rattle.words.specs.declared.call.Client.{Client}
 use Rattle.words.specs.declared.call.Reply.{Reply}

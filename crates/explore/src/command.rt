@@ -89,10 +89,3 @@ impl fmt::Display for Command {
         }
     }
 }
-
-/// A script: no queue and nothing to do, or a queue and the commands on it, in order.
-#[derive(Debug, Drop)]
-pub struct Script {
-    pub queue: Option<QueueLine>,
-    pub commands: Vec<Command>,
-}

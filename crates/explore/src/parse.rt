@@ -6,9 +6,10 @@ ghost use Rattle.explore.specs.Grammar.{SaysCommand, is_on};
 ghost use Rattle.explore.specs.declared.command.Command.{Command};
 ghost use Rattle.explore.specs.Script.{Says, IsFirstBad, Continues, EndsBadly};
 
-use crate::command::{Command, QueueLine, Script};
+use crate::command::{Command, QueueLine};
 use crate::grammar::{command, is_on, queue_line};
 use crate::limits::MAX_LINES;
+use crate::script::Script;
 use std::alloc::Global;
 use words::{Kind, Refusal};
 
@@ -75,7 +76,7 @@ fn add_line(
 /// The script that a text says. It is refused where memory is (NoMemory), and else where a line is none that is
 /// served, or is past the [`MAX_LINES`]th: BadLine, with the number of the first such line.
 pub fn parse_script(alloc: Global, text: &[u8]) -> Result<Script, Refusal>
-    ensures script { IfOk result (λ script. Says (lines_of text.now) script.queue script.commands.items) }
+    ensures script { IfOk result (λ script. Says (lines_of text.now) script.queue script.commands) }
     ensures errors { IfErr result (λ e. (e ≡ Refusal.NoMemory)
         ⊎ ((number : ℕ) × (e ≡ Refusal.BadLine number) × IsFirstBad (lines_of text.now) number)) }
 {

@@ -1,13 +1,13 @@
 //! What a world prints that follows a script.
 
-ghost use Rattle.std.specs.Prelude.{◌≡◌, IfOk, IfErr, IfSome, string_bytes};
-ghost use Rattle.explore.specs.Grammar.{IsServedQueue};
+ghost use Rattle.std.specs.Prelude.{◌≡◌, IfOk, IfErr, string_bytes};
 ghost use Rattle.explore.specs.Prints.{text_of};
 ghost use Rattle.explore.specs.Transcript.{queue_lines, script_text};
 
-use crate::command::{Command, Script};
+use crate::command::Command;
 use crate::player::Player;
 use crate::printed::{Line, add};
+use crate::script::Script;
 use arena::{DurableLayout, Layout, LogLayout};
 use std::alloc::Global;
 use std::fmt::Write;
@@ -45,8 +45,7 @@ fn text(alloc: Global, lines: &[Line]) -> Result<Vec<u8>, Refusal>
 
 /// What a world prints that follows a script: the whole text, or NoMemory.
 pub fn transcript(alloc: Global, script: &Script) -> Result<Vec<u8>, Refusal>
-    requires { IfSome script.now.queue IsServedQueue }
-    ensures text { IfOk result (λ text. text.items ≡ script_text script.now.queue script.now.commands.items) }
+    ensures text { IfOk result (λ text. text.items ≡ script_text script.now.queue script.now.commands) }
     ensures errors { IfErr result (λ e. e ≡ Refusal.NoMemory) }
 {
     let Some(queue) = script.queue else {

@@ -1,43 +1,46 @@
 //! A script from a reader, followed to a writer.
 
-ghost use Rattle.std.specs.Prelude.{◌≡◌, ◌⊎◌, OnOk, IfErr};
-ghost use Rattle.explore.specs.Run.{Prints, NamesBadLine, WritesNothing};
+ghost use Rattle.std.specs.Prelude.{◌≡◌, ◌<◌, ◌-◌, ◌^◌, ◌↔◌, OnOk, IfErr, IsErrOf};
+ghost use Rattle.devices.specs.Devices.{IsFlushed};
+ghost use Rattle.explore.specs.Run.{Prints, PrintsBeginning, IsRunRefusal, NamesBadLine, WritesNothing};
 
 use crate::parse::parse_script;
 use crate::play::transcript;
+use devices::{Reader, Unread, Writer, read_all, send};
 use std::alloc::Global;
-use std::io::{self, ErrorKind, Read, Write};
 use words::Refusal;
 
-/// What a failed read is called. Want of memory is no fault of the device.
-fn read_refusal(error: io::Error) -> Refusal
-    ensures { (result ≡ Refusal.NoMemory) ⊎ (result ≡ Refusal.ReadFailed) }
+/// What an unread script is called.
+fn unread_refusal(unread: Unread) -> Refusal
+    ensures failed { unread ≡ Unread.Failed → result ≡ Refusal.ReadFailed }
+    ensures no_memory { unread ≡ Unread.NoMemory → result ≡ Refusal.NoMemory }
 {
-    match error.kind() {
-        ErrorKind::OutOfMemory => Refusal::NoMemory,
-        _ => Refusal::ReadFailed,
+    match unread {
+        Unread::Failed => Refusal::ReadFailed,
+        Unread::NoMemory => Refusal::NoMemory,
     }
 }
 
-/// Reads the whole script before anything runs, follows it, and writes what it prints. Where it is refused before
-/// the writing, nothing is written: ReadFailed, NoMemory, and BadLine of the first bad line. After WriteFailed what
-/// was written is a beginning of the text.
-pub fn run<R: Read, W: Write>(alloc: Global, reader: &mut R, writer: &mut W) -> Result<(), Refusal>
-    ensures printed { OnOk result (Prints (R.remaining reader.old) (W.contents writer.old) (W.contents writer.new)) }
-    ensures bad_line { IfErr result (NamesBadLine (R.remaining reader.old)) }
-    ensures unwritten { IfErr result (WritesNothing (W.contents writer.old) (W.contents writer.new)) }
+/// Reads the whole script before anything runs, follows it, and writes what it prints.
+pub fn run<R: Reader, W: Writer>(
+    alloc: Global,
+    reader: &mut R,
+    writer: &mut W,
+) -> Result<(), Refusal>
+    requires read_room { R.failures reader.old < 2 ^ 64 - 1 }
+    requires write_room { W.failures writer.old < 2 ^ 64 - 1 }
+    ensures printed { OnOk result (Prints (R.left reader.old) (W.written writer.old) (W.written writer.new)) }
+    ensures flushed { OnOk result (IsFlushed (W.written writer.new) (W.flushed writer.new)) }
+    ensures refusals { IfErr result IsRunRefusal }
+    ensures read_failed { IsErrOf result Refusal.ReadFailed ↔ (R.failures reader.old < R.failures reader.new) }
+    ensures write_failed { IsErrOf result Refusal.WriteFailed ↔ (W.failures writer.old < W.failures writer.new) }
+    ensures bad_line { IfErr result (NamesBadLine (R.left reader.old)) }
+    ensures unwritten { IfErr result (WritesNothing (W.written writer.old) (W.written writer.new)) }
+    ensures beginning { IsErrOf result Refusal.WriteFailed
+        → PrintsBeginning (R.left reader.old) (W.written writer.old) (W.written writer.new) }
 {
-    let mut text = Vec::new(alloc);
-    if let Err(error) = reader.read_to_end(&mut text) {
-        return Err(read_refusal(error));
-    }
+    let text = read_all(alloc, reader).map_err(unread_refusal)?;
     let script = parse_script(alloc, &text)?;
     let printed = transcript(alloc, &script)?;
-    if writer.write_all(&printed).is_err() {
-        return Err(Refusal::WriteFailed);
-    }
-    if writer.flush().is_err() {
-        return Err(Refusal::WriteFailed);
-    }
-    Ok(())
+    send(writer, &printed).map_err(|_| Refusal::WriteFailed)
 }

@@ -1,13 +1,12 @@
 -- A step of recovery, over words.
-use Rattle.std.specs.Prelude.{ℕ, ◌≤◌, List, length, Option, Some, None}
+use Rattle.std.specs.Prelude.{◌≡◌, ◌≤◌, Bool, List, length, Option, Some}
 use Rattle.words.specs.declared.told.Told.{Told}
 use Rattle.persist.specs.Memory.{Words}
 use Rattle.arena.specs.Layout.{size_of}
 use Rattle.arena.specs.Shape.{Shape}
 use Rattle.stepper.specs.Step.{value_found, IsReadInRange}
 use Rattle.stepper.specs.declared.resume.After.{After}
-use Rattle.stepper.specs.declared.resume.After.TheVariants.{More, Done}
-use Rattle.recover.specs.Table.{access_of, IsPoint}
+use Rattle.recover.specs.Table.{access_of, recovery_reached, IsPoint}
 use Rattle.recover.specs.declared.recovery.Recovery.{Recovery}
 
 -- the words have room, the point is in range, and so is what it is about to read
@@ -16,7 +15,8 @@ pub record MayRecover (s : Shape) (ws : Words) (r : Recovery) : Type 0 where
   pub point : IsPoint s r.at
   pub read : IsReadInRange s (access_of s.kind r.at) (value_found s (access_of s.kind r.at) ws)
 
--- what each client is told, once recovery is at its end
-abbrev pub reports_of : After Recovery (List Told) → Option (List Told)
-reports_of (More r) = None
-reports_of (Done told) = Some told
+-- a recovery goes on from here; or it has told every client, and this is what comes next
+pub record HasReached (done : Bool) (now : Option Recovery) (next : After Recovery (List Told)) : Type 0 where
+  pub recovery : Recovery
+  pub is : now ≡ Some recovery
+  pub goes_on : recovery_reached done recovery ≡ next

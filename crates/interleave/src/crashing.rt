@@ -1,12 +1,14 @@
 //! A crash of the whole system, and the steps of recovery.
 
-ghost use Rattle.std.specs.Prelude.{◌≡◌, ◌<◌, ◌≤◌, ◌+◌, true, false, is_some, IfSome, Some, Ok, IfErr};
+ghost use Rattle.std.specs.Prelude.{◌≡◌, ◌<◌, ◌≤◌, ◌+◌, ◌++◌, ◌∷◌, [], true, false, is_some, IfSome, Some, None, Ok, IfErr};
+ghost use Rattle.events.specs.declared.event.Event.TheVariants.{Ready as ready_event};
 ghost use Rattle.stepper.specs.Step.{after_one, value_found};
 ghost use Rattle.recover.specs.Table.{access_of, recovery_after};
 ghost use Rattle.recover.specs.declared.recovery.Recovery.{Recovery as AnyRecovery};
 ghost use Rattle.protocol.specs.Machine.{recovery_left, recovery_events};
 ghost use Rattle.interleave.specs.Calls.{is_no_memory};
 ghost use Rattle.interleave.specs.Holds.{Holds};
+ghost use Rattle.interleave.specs.Queue.{queue_with_reports};
 ghost use Rattle.interleave.specs.Recoveries.{MayRecover};
 ghost use Rattle.interleave.specs.State.{after_crash, crash_result, after_recover, recover_result, queue_at_ready, is_ready};
 ghost use Rattle.interleave.specs.Trace.{state_with};
@@ -46,6 +48,26 @@ pub(crate) fn crash_all<L: Layout>(
     Ok(())
 }
 
+/// Recovery ends, and the clients are told what it read. What they are told is large, and stands in a function of its
+/// own so that no other step pays for its room.
+fn end_recovery(queue: &mut Queue, trace: &mut Trace)
+    requires down { is_some trace.old.recovery ≡ true }
+    requires room { 0 < trace.old.room }
+    ensures base { trace.new.base ≡ trace.old.base }
+    ensures told { trace.new.told ≡ trace.old.told }
+    ensures issued { trace.new.log.issued ≡ trace.old.log.issued }
+    ensures effects { trace.new.log.effects ≡ trace.old.log.effects }
+    ensures events { (r : AnyRecovery) → trace.old.recovery ≡ Some r
+        → trace.new.log.events ≡ trace.old.log.events ++ ready_event r.told ∷ [] }
+    ensures recovery { trace.new.recovery ≡ None }
+    ensures queue { (r : AnyRecovery) → trace.old.recovery ≡ Some r
+        → queue.new ≡ queue_with_reports queue.old r.told }
+    ensures room { trace.old.room ≤ trace.new.room + 1 }
+{
+    let told = trace.end_recovery();
+    queue.recovered(told);
+}
+
 /// Recovery makes a step, and once it is at its end the clients are told what it read. It answers whether it is.
 fn recover_once<L: Layout>(
     layout: &L,
@@ -69,13 +91,11 @@ fn recover_once<L: Layout>(
     ensures room { trace.old.room ≤ trace.new.room + 1 }
     ensures stays { result ≡ false → trace.old.room ≤ trace.new.room }
 {
-    match trace.recover(layout, memory) {
-        Some(told) => {
-            queue.recovered(told);
-            true
-        }
-        None => false,
+    if !trace.recover(layout, memory) {
+        return false;
     }
+    end_recovery(queue, trace);
+    true
 }
 
 /// One step of recovery, unless none is under way or there is no memory. It answers whether the queue is ready now.

@@ -4,12 +4,11 @@
 ghost use Rattle.std.specs.Prelude.{◌≡◌, ◌<◌, ◌≤◌, ◌+◌, ◌++◌, [], ◌∷◌, length, Some, None, is_some, true, IfSome, OnOk, OnErr};
 ghost use Rattle.events.specs.Effects.{with_effect, without_pending, with_settled, settled_effects};
 ghost use Rattle.interleave.specs.Effects.{effects_with_look, AreInSequence};
-ghost use Rattle.events.specs.declared.event.Event.TheVariants.{Call as call_event, Return as return_event, Crash as crash_event};
+ghost use Rattle.events.specs.declared.event.Event.TheVariants.{Call as call_event, Return as return_event, Crash as crash_event, Ready as ready_event};
 ghost use Rattle.stepper.specs.Step.{after_one, value_found};
 ghost use Rattle.recover.specs.Table.{access_of, boot_recovery, recovery_after};
 ghost use Rattle.recover.specs.declared.recovery.Recovery.{Recovery as AnyRecovery};
-ghost use Rattle.interleave.specs.Recoveries.{MayRecover, reports_of};
-ghost use Rattle.protocol.specs.Machine.{recovery_events, recovery_left};
+ghost use Rattle.interleave.specs.Recoveries.{HasReached, MayRecover};
 ghost use Rattle.interleave.specs.Trace.{with_effects};
 
 use crate::effects::{forget, settle};
@@ -21,7 +20,7 @@ use recover::{Recovery, boot};
 use std::alloc::{AllocError, Global};
 use std::marker::Model;
 use stepper::Begun;
-use words::{Client, Reply, Reports};
+use words::{Client, MAX_CLIENTS, Reply, Reports, Told};
 
 /// What happened in a world. Contracts see the history's events, the records that calls took, when calls took
 /// effect, the recovery that is under way, and for how many acts more there is room.
@@ -191,31 +190,45 @@ impl Trace {
         self.recovery = Some(boot());
     }
 
-    /// Recovery makes a step. Once it is at its end it answers what each client is told.
-    pub(crate) fn recover<L: Layout>(&mut self, layout: &L, memory: &mut Memory) -> Option<Reports>
+    /// Recovery makes a step. It answers whether it has now told every client.
+    pub(crate) fn recover<L: Layout>(&mut self, layout: &L, memory: &mut Memory) -> bool
+        requires down { is_some self.old.recovery ≡ true }
+        requires may { IfSome self.old.recovery (λ r. MayRecover (L.shape layout.now) memory.old r) }
+        ensures base { self.new.base ≡ self.old.base }
+        ensures told { self.new.told ≡ self.old.told }
+        ensures log { self.new.log ≡ self.old.log }
+        ensures step { (r : AnyRecovery) → self.old.recovery ≡ Some r → let s = L.shape layout.now in
+            let access = access_of s.kind r.at in (memory.new ≡ after_one s access memory.old)
+            × HasReached result self.new.recovery (recovery_after s r (value_found s access memory.old)) }
+        ensures room { self.new.room ≡ self.old.room }
+    {
+        match self.recovery.as_mut() {
+            Some(recovery) => recovery.step(layout, memory),
+            None => false,
+        }
+    }
+
+    /// Recovery has told every client, and ends. It answers what it told.
+    pub(crate) fn end_recovery(&mut self) -> Reports
         requires down { is_some self.old.recovery ≡ true }
         requires room { 0 < self.old.room }
-        requires may { IfSome self.old.recovery (λ r. MayRecover (L.shape layout.now) memory.old r) }
         ensures base { self.new.base ≡ self.old.base }
         ensures told { self.new.told ≡ self.old.told }
         ensures issued { self.new.log.issued ≡ self.old.log.issued }
         ensures effects { self.new.log.effects ≡ self.old.log.effects }
-        ensures step { (r : AnyRecovery) → self.old.recovery ≡ Some r →
-            let s = L.shape layout.now in let access = access_of s.kind r.at in
-            let next = recovery_after s r (value_found s access memory.old) in
-            (memory.new ≡ after_one s access memory.old) × (self.new.recovery ≡ recovery_left next)
-            × (self.new.log.events ≡ recovery_events self.old.log.events next) × (result ≡ reports_of next) }
+        ensures events { (r : AnyRecovery) → self.old.recovery ≡ Some r
+            → self.new.log.events ≡ self.old.log.events ++ ready_event r.told ∷ [] }
+        ensures recovery { self.new.recovery ≡ None }
+        ensures answer { (r : AnyRecovery) → self.old.recovery ≡ Some r → result ≡ r.told }
         ensures room { self.old.room ≤ self.new.room + 1 }
-        ensures stays { result ≡ None → self.new.room ≡ self.old.room }
     {
-        let recovery = self.recovery.as_mut()?;
-        if !recovery.step(layout, memory) {
-            return None;
-        }
-        let told = *recovery.told();
+        let told = match &self.recovery {
+            Some(recovery) => *recovery.told(),
+            None => [Told::None; MAX_CLIENTS],
+        };
         self.history.events.push(Event::Ready { told });
         self.recovery = None;
-        Some(told)
+        told
     }
 
     /// The call at the place takes effect, with this reply.

@@ -8,6 +8,7 @@ ghost use Rattle.pqx.specs.Faults.{fault_of, fault_of_system};
 ghost use Rattle.pqx.specs.declared.Fault.TheVariants.{Refused};
 
 use clap::{ArgMatches, Command};
+use devices::{CountedReader, CountedWriter};
 use std::alloc::{AllocError, Global};
 use std::env;
 use std::io::{self, ErrorKind};
@@ -99,8 +100,8 @@ fn follow(rt: &HostRuntime) -> Result<ExitCode, Fault> {
         }
         return Ok(ExitCode::from(error.exit_code() as u8));
     }
-    let mut reader = rt.reader();
-    let mut writer = io::writer(rt);
+    let mut reader = CountedReader::new(rt.reader());
+    let mut writer = CountedWriter::new(io::writer(rt));
     explore::run(rt.alloc(), &mut reader, &mut writer)?;
     Ok(ExitCode::SUCCESS)
 }

@@ -1,46 +1,46 @@
-//! A script from a reader to a writer, which may fail.
+//! A script from a reader to a writer, either of which may fail in the middle.
 
+use devices::{FaultyReader, FaultyWriter};
 use explore::run;
-use std::io::{self, ErrorKind, Read, Write};
 use std::test::Fail;
 use words::Refusal;
 
-/// A reader of nothing, and a writer to nowhere, that fail.
-#[derive(Clone, Copy)]
-struct Broken;
+const SCRIPT: &[u8] = b"queue durable 1 1\ncontent\n";
 
-impl Read for Broken {
-    fn read(&mut self, buf: &mut [u8]) -> io::Result<usize> {
-        let _ = buf;
-        Err(ErrorKind::BrokenPipe.into())
-    }
-}
-
-impl Write for Broken {
-    fn write(&mut self, buf: &[u8]) -> io::Result<usize> {
-        let _ = buf;
-        Err(ErrorKind::BrokenPipe.into())
-    }
-
-    fn flush(&mut self) -> io::Result<()> {
-        Err(ErrorKind::BrokenPipe.into())
-    }
-}
+const TRANSCRIPT: &[u8] = b"size 11\ncontent -\n";
 
 #[test]
 fn runs_from_a_reader_to_a_writer(rt: HostRuntime) -> Result<(), Fail> {
-    let script = b"queue durable 1 1\ncontent\n".as_slice();
-    let mut written = Vec::new(rt.alloc());
-    let mut reader = script;
-    assert!(rt; run(rt.alloc(), &mut reader, &mut written).is_ok());
-    assert!(rt; written.as_slice() == b"size 11\ncontent -\n".as_slice());
-    let mut reader = b"queue durable 1 1\nstop".as_slice();
-    let refused = run(rt.alloc(), &mut reader, &mut written).err();
-    assert!(rt; refused == Some(Refusal::BadLine(2)) && written.len() == 18);
-    let refused = run(rt.alloc(), &mut Broken, &mut written).err();
-    assert!(rt; refused == Some(Refusal::ReadFailed) && written.len() == 18);
-    let mut reader = script;
-    let refused = run(rt.alloc(), &mut reader, &mut Broken).err();
-    assert!(rt; refused == Some(Refusal::WriteFailed));
+    let mut reader = FaultyReader::new(SCRIPT, usize::MAX);
+    let mut writer = FaultyWriter::new(rt.alloc(), usize::MAX);
+    assert!(rt; run(rt.alloc(), &mut reader, &mut writer).is_ok());
+    assert!(rt; writer.flushed() == TRANSCRIPT);
+    let mut reader = FaultyReader::new(b"queue durable 1 1\nstop", usize::MAX);
+    let refused = run(rt.alloc(), &mut reader, &mut writer).err();
+    assert!(rt; refused == Some(Refusal::BadLine(2)) && writer.written() == TRANSCRIPT);
+    Ok(())
+}
+
+#[test]
+fn prints_nothing_of_an_unread_script(rt: HostRuntime) -> Result<(), Fail> {
+    for until_failure in [0, 10, SCRIPT.len()] {
+        let mut reader = FaultyReader::new(SCRIPT, until_failure);
+        let mut writer = FaultyWriter::new(rt.alloc(), usize::MAX);
+        let refused = run(rt.alloc(), &mut reader, &mut writer).err();
+        assert!(rt; refused == Some(Refusal::ReadFailed) && writer.written().is_empty());
+    }
+    Ok(())
+}
+
+#[test]
+fn prints_a_beginning_where_a_write_fails(rt: HostRuntime) -> Result<(), Fail> {
+    for until_failure in [0, 5, TRANSCRIPT.len()] {
+        let mut reader = FaultyReader::new(SCRIPT, usize::MAX);
+        let mut writer = FaultyWriter::new(rt.alloc(), until_failure);
+        let refused = run(rt.alloc(), &mut reader, &mut writer).err();
+        assert!(rt; refused == Some(Refusal::WriteFailed));
+        assert!(rt; writer.written() == &TRANSCRIPT[..until_failure]);
+        assert!(rt; writer.flushed().is_empty());
+    }
     Ok(())
 }

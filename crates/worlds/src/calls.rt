@@ -3,6 +3,7 @@
 use arena::{DurableLayout, Layout, LogLayout};
 use history::check;
 use interleave::{Act, World};
+use persist::Memory;
 use std::alloc::Global;
 use std::test::Fail;
 use words::{Call, Client, Refusal, Reply, Row, Told};
@@ -145,9 +146,8 @@ static ACTS: [Act; 9] = [
     Act::Step { client: Client(2) },
 ];
 
-/// Runs the acts and ends both calls, the second first, and answers whether all went as it should.
+/// Runs the acts, with no room made for them, and ends both calls, the second first, and answers whether all went as it should.
 fn goes_right<L: Layout + Drop>(world: &mut World<L>) -> Result<bool, Refusal> {
-    world.reserve(ACTS.len())?;
     let ran = world.run(&ACTS);
     let counted = ran.taken == 5 && ran.refused == 4;
     let begun = world.history().events.len() == 2;
@@ -184,5 +184,24 @@ fn tells_what_the_base_tells(rt: HostRuntime) -> Result<(), Fail> {
     assert!(rt; told == Ok((Told::Row(Row::NoCall), Told::None)));
     let told = log(rt.alloc(), 2, 1).and_then(told_at_first);
     assert!(rt; told == Ok((Told::None, Told::None)));
+    Ok(())
+}
+
+/// What evictions of the last word of a layout and of a block answer, and of the word past that: a durable queue of one
+/// client with one record has 11 words, and 16 in a block.
+fn evicts_in_a_block(alloc: Global) -> Result<bool, Refusal> {
+    let layout = DurableLayout::make(1, 1)?;
+    let last = layout.size() - 1;
+    let memory = Memory::new(alloc, 16)?;
+    let mut world = World::boot(alloc, layout, memory)?;
+    let kept = world.evict(last) == Ok(None);
+    let rest = world.evict(last + 1) == Ok(None) && world.evict(15) == Ok(None);
+    let past = world.evict(16) == Err(Refusal::NoWord);
+    Ok(last == 10 && kept && rest && past)
+}
+
+#[test]
+fn evicts_the_rest_of_a_block(rt: HostRuntime) -> Result<(), Fail> {
+    assert!(rt; evicts_in_a_block(rt.alloc()) == Ok(true));
     Ok(())
 }
