@@ -42,6 +42,7 @@ use Rattle.interleave.specs.Calls.{waiting_result, idle_result}
 use Rattle.interleave.specs.Holds.{Holds, IsExplained, Invariant, from_invariant, to_invariant}
 use Rattle.interleave.specs.Queue.{number_check, new_queue, told_in}
 use Rattle.interleave.specs.Ranges.{IsOfKind, IsSafe, IfCall}
+use Rattle.interleave.specs.Reuse.{AreAccountedFor}
 use Rattle.interleave.specs.Values.{value_of_place, memory_by_place}
 use Rattle.interleave.specs.State.{State, new_world, machine, is_down, queue_left, after_one_access, after_bump_load, after_call_began, used_by, number_of_idle, number_to_start, start_with, step_with, evict_with, after_start, after_step, after_evict, after_stop, after_crash, queue_at_ready, after_recovery_step, recover_with, after_recover, order_in}
 use Rattle.interleave.specs.declared.queue.Queue.{Queue}
@@ -54,6 +55,8 @@ use Rattle.protocol.specs.Acts.{TellsNothing}
 use Rattle.interleave.proofs.MachineFacts.{agreement}
 use Rattle.interleave.proofs.NoteLaws.{place_of_word}
 use Rattle.interleave.proofs.NumbersKept.{IsAboveFloor, above_accepted, numbers_are_once, numbers_begun, numbers_crashed, numbers_evicted, numbers_gone_on, numbers_new, numbers_recovered}
+use Rattle.interleave.proofs.RecordsKept.{accounted_crashed, accounted_evicted, accounted_none}
+use Rattle.interleave.proofs.RecordsKept.{accounted_recovered, accounted_started, accounted_stepped}
 use Rattle.interleave.proofs.Safety.{call_fits as call_in_range, IsSafe-accessed, IsSafe-gone_on, IsSafe-begun, IsSafe-evicted}
 use Rattle.interleave.proofs.ValueLaws.{shown_accessed, shown_evicted, shown_at, shown_zero, zero_at}
 
@@ -110,7 +113,7 @@ number_of_queue log_kind (Log clients) client number n h e = go (is_stale (slice
 number_of_queue durable_kind (Log clients) client number n h e = absurd h
 number_of_queue log_kind (Durable told) client number n h e = absurd h
 
-number_fits_kind : (kind : Kind) (queue : Queue) (client : Client) (number n : ℕ) (down : Bool) (o : Option (Option UnderWay)) → IsOfKind kind queue → number_of_idle queue client number (idle_result down o) ≡ Ok n
+pub number_fits_kind : (kind : Kind) (queue : Queue) (client : Client) (number n : ℕ) (down : Bool) (o : Option (Option UnderWay)) → IsOfKind kind queue → number_of_idle queue client number (idle_result down o) ≡ Ok n
     → (down ≡ false) × (o ≡ Some None) × FitsKind kind n
 number_fits_kind kind queue client number n down None h e = cc
 number_fits_kind kind queue client number n true (Some call) h e = cc
@@ -209,6 +212,8 @@ holds_gone_on w client u holds here =
       kind = kind_left w.shape.kind w.queue u (next_of (machine w) u) holds.kind;
       inv = subst Invariant (sym (gone_on_is w client u holds here)) (to_invariant _ after);
       numbers = numbers_gone_on w client u inv after may holds.numbers;
+      records = subst AreAccountedFor (sym (gone_on_is w client u holds here))
+          (accounted_stepped (machine w) inv client u may holds.records);
     }
 
 -- a word that is counted is as it was
@@ -223,6 +228,7 @@ holds_counted w holds = record {
   kind = holds.kind;
   inv = holds.inv;
   numbers = holds.numbers;
+  records = holds.records;
 }
 
 -- a start of a world is the machine's
@@ -232,7 +238,7 @@ begun_state_is w client number call idle =
     ap (λ (f : ℕ → Option UnderWay). let x : World = record (with_start m client number call) { calls = f } in x)
     (calls_with w.calls client.0 (Some (call_begun m (begun_of m client number call))) (slice_get_within w.calls client.0 None idle))
 
-may_start : (w : State) (client : Client) (number : ℕ) (call : Call) → Holds w → w.recovery ≡ None → slice_get w.calls client.0 ≡ Some None → used_by w client ≢ w.shape.records → FitsKind w.shape.kind number → FitsCall call → MayStart (machine w) client number call
+pub may_start : (w : State) (client : Client) (number : ℕ) (call : Call) → Holds w → w.recovery ≡ None → slice_get w.calls client.0 ≡ Some None → used_by w client ≢ w.shape.records → FitsKind w.shape.kind number → FitsCall call → MayStart (machine w) client number call
 may_start w client number call holds ready idle left number_fits call_fits =
     let s = w.shape in
     let client_in : client.0 < s.clients = omega (arith, slice_get_within w.calls client.0 None idle, holds.safe.clients) in
@@ -264,6 +270,8 @@ holds_begun w client number call holds ready idle left number_fits above call_fi
       kind = holds.kind;
       inv = inv;
       numbers = numbers_begun w client number call (from_invariant _ holds.inv) (from_invariant _ inv) (omega (arith, within, holds.safe.clients, holds.safe.few)) above holds.numbers;
+      records = subst AreAccountedFor (sym (begun_state_is w client number call idle))
+          (accounted_started (machine w) client number call may holds.records);
     }
 
 -- whatever a start answers
@@ -320,6 +328,8 @@ holds_after_evict w word holds = from_place (place_at w.shape word) refl
           kind = holds.kind;
           inv = subst Invariant (sym (evicted_is w word p holds e)) (to_invariant _ (inv_evicted (machine w) (from_invariant _ holds.inv) p));
           numbers = numbers_evicted w word p (from_invariant _ holds.inv) holds.numbers;
+          records = subst AreAccountedFor (sym (evicted_is w word p holds e))
+              (accounted_evicted (machine w) (from_invariant _ holds.inv) p holds.records);
         }
 
 -- at every moment the order explains the history, and the kept words hold what its replay leaves
@@ -383,6 +393,8 @@ holds_crashed w holds =
       kind = holds.kind;
       inv = inv;
       numbers = numbers_crashed w (from_invariant _ inv) holds.numbers;
+      records = subst AreAccountedFor (sym (crashed_is w))
+          (accounted_crashed (machine w) (from_invariant _ holds.inv) holds.records);
     }
 
 pub holds_after_crash : (full : Bool) (w : State) → Holds w → Holds (after_crash full w)
@@ -441,6 +453,8 @@ holds_recovered w r holds e =
       kind = kind_recovered s.kind w.queue (next_recovery (machine w) r) holds.kind;
       inv = inv;
       numbers = numbers_recovered w r (from_invariant _ inv) holds.kind holds.numbers;
+      records = subst AreAccountedFor (sym (recovered_is w r holds e))
+          (accounted_recovered (machine w) (from_invariant _ holds.inv) r e holds.records);
     }
 
 pub holds_after_recover : (full : Bool) (w : State) → Holds w → Holds (after_recover full w)
@@ -484,6 +498,7 @@ holds_new s some few kind =
       kind = kind;
       inv = subst Invariant (sym (new_is s)) (to_invariant _ (inv_new s (new_world s).told some few (tells_nothing s some few)));
       numbers = numbers_new s.kind s.clients;
+      records = accounted_none (machine (new_world s)) refl;
     }
 
 pub new_kind : (kind : Kind) (clients : ℕ) → IsOfKind kind (new_queue kind clients)

@@ -21,6 +21,8 @@ pub mod KeptTells
 pub mod BootLaws
 pub mod DownLaws
 pub mod Ended
+pub mod RecordsKept
+pub mod Reused
 pub mod ToldForGood
 pub mod StandingLaws
 pub mod Turns

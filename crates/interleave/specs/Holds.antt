@@ -7,6 +7,7 @@ use Rattle.protocol.specs.Machine.{World}
 use Rattle.protocol.specs.invariants.Worlds.{Inv}
 use Rattle.interleave.specs.Numbers.{AreNumbersOnce, AreNumbersRising}
 use Rattle.interleave.specs.Ranges.{IsSafe, IsOfKind}
+use Rattle.interleave.specs.Reuse.{AreAccountedFor}
 use Rattle.interleave.specs.State.{State, machine, order_in, kept_content}
 
 -- the machine keeps its invariants
@@ -22,12 +23,13 @@ unfolding Invariant
 to_invariant w inv = inv
 
 -- its words and waiting points are in range, its queue is of the layout's kind, the machine that it is keeps its
--- invariants, and the numbers of a log queue's calls rise
+-- invariants, the numbers of a log queue's calls rise, and each record that a call took is accounted for
 pub record Holds (w : State) : Type 0 where
   pub safe : IsSafe w.shape w.words w.calls
   pub kind : IsOfKind w.shape.kind w.queue
   pub inv : Invariant (machine w)
   pub numbers : AreNumbersRising w
+  pub records : AreAccountedFor (machine w)
 
 -- the history may arise, the order explains it, the kept words hold what the replay of the order leaves, and no number
 -- of a log queue's call stands twice in the order

@@ -6,6 +6,7 @@ pub mod Effects
 pub mod Trace
 pub mod State
 pub mod Numbers
+pub mod Reuse
 pub mod Holds
 pub mod Changes
 pub mod Ranges

@@ -6,6 +6,7 @@ ghost use Rattle.recover.specs.Sound.{AreSoundWords};
 ghost use Rattle.interleave.specs.Booted.{booted_world, MayRefuse};
 ghost use Rattle.interleave.specs.Calls.{is_no_memory, waiting_result};
 ghost use Rattle.interleave.specs.Holds.{Holds, IsExplained};
+ghost use Rattle.interleave.specs.Reuse.{EarlierLeftNothing};
 ghost use Rattle.interleave.specs.Standing.{EndedCallsStay, IsToldForGood, UnannouncedAreOut};
 ghost use Rattle.interleave.specs.Turn.{IsInTurn, NobodyCalls};
 ghost use Rattle.words.specs.PlainQueue.{reply_of, served};
@@ -120,6 +121,7 @@ impl<L: Layout + Drop> World<L> {
         ensures explained { IsExplained self.new.now }
         ensures sound { IsKeptSound self.new.now }
         ensures order { order_in self.new.now ≡ order_in self.old.now }
+        ensures reused { result ≡ Ok tt → EarlierLeftNothing self.old.now client }
         ensures turn { result ≡ Ok tt → NobodyCalls self.old.now → IsInTurn self.new.now client call }
     {
         start_call(

@@ -8,6 +8,8 @@ use Rattle.words.specs.declared.call.Call.TheVariants.{Enq}
 use Rattle.protocol.specs.Machine.{FitsCall}
 use Rattle.interleave.proofs.HoldsKept.{holds_after_start, part_after_start, call_fits, explained_world}
 use Rattle.interleave.specs.Turn.{IsInTurn, NobodyCalls}
+use Rattle.interleave.specs.Reuse.{EarlierLeftNothing}
+use Rattle.interleave.proofs.Reused.{reused_left_nothing}
 use Rattle.interleave.proofs.TurnLaws.{started_in_turn}
 use Rattle.interleave.proofs.world.World.start.Goals as goal
 
@@ -37,6 +39,16 @@ returns-clause-order g c =
     let old : State = state_with (g.L.Layout.shape c.self.inside.layout) c.self.inside.memory c.self.inside.queue c.self.inside.calls.items c.self.inside.trace in
     let was : old ≡ c.args.self.now.now = ap (λ (r : Roomy). r.now) c.self.view_is in
     ap order_in c.start_call.ensures.world ∙ part_after_start (is_no_memory c.start_call.result) old c.args.client c.args.number c.args.call ∙ ap order_in was
+
+pub returns-clause-reused : goal.returns-clause-reused
+returns-clause-reused g c = λ accepted.
+    let value : (v : ℕ) → c.args.call ≡ Enq v → v ≤ 4294967295 = search rules in
+    let fits : FitsCall c.args.call = call_fits c.args.call value in
+    let old : State = state_with (g.L.Layout.shape c.self.inside.layout) c.self.inside.memory c.self.inside.queue c.self.inside.calls.items c.self.inside.trace in
+    let was : old ≡ c.args.self.now.now = ap (λ (r : Roomy). r.now) c.self.view_is in
+    subst (λ (w : State). EarlierLeftNothing w c.args.client) was
+    (reused_left_nothing (is_no_memory c.start_call.result) old c.args.client c.args.number c.args.call
+    c.self.invariant fits (sym c.start_call.ensures.result ∙ accepted))
 
 pub returns-clause-turn : goal.returns-clause-turn
 returns-clause-turn g c = λ accepted nobody.
