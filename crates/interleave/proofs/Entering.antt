@@ -1,5 +1,5 @@
 -- What comes into the order: calls that have no end yet.
-use Rattle.std.proofs.Common.{◌≡◌, ◌≢◌, ℕ, suc, arith, ◌⊎◌, inl, inr, List, length, Option, Some, None, refl, sym, ap, subst}
+use Rattle.std.proofs.Common.{ℕ, suc, arith, ◌⊎◌, inl, inr, List, length, Option, Some, None, sym, subst}
 use Rattle.std.proofs.lemmas.Bool.{cases_eq}
 use Rattle.words.specs.declared.call.Client.{Client}
 use Rattle.arena.specs.declared.place.Place.{Place}
@@ -12,7 +12,7 @@ use Rattle.events.specs.declared.event.Event.{Event}
 use Rattle.protocol.specs.Machine.{World, with_step, with_eviction, MayStep}
 use Rattle.protocol.specs.declared.UnderWay.{UnderWay}
 use Rattle.protocol.specs.invariants.Ledger.{Ledger}
-use Rattle.protocol.specs.invariants.Worlds.{Inv, InvAt, IsReady, Working}
+use Rattle.protocol.specs.invariants.Worlds.{Inv, InvAt, Working}
 use Rattle.protocol.proofs.told.Tells.{more_by_stage}
 use Rattle.protocol.proofs.worlds.Acts.{step_noted}
 use Rattle.protocol.proofs.worlds.Facts.{is_ready}

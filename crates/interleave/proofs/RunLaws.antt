@@ -1,10 +1,7 @@
 -- What an attempt at an act leaves, and a list of them.
-use Rattle.std.proofs.Common.{◌≡◌, ◌≢◌, ℕ, ◌+◌, ◌-◌, ◌≤◌, ◌<◌, Bool, true, false, if◌then◌else◌, List, [], ◌∷◌, ◌++◌, Option, Some, None, Result, Ok, Err, refl, sym, ap, subst, ◌∙◌, arith, slice_get}
+use Rattle.std.proofs.Common.{◌≡◌, ◌≢◌, ℕ, ◌+◌, ◌-◌, ◌≤◌, Bool, true, false, if◌then◌else◌, List, [], ◌∷◌, ◌++◌, Option, Some, None, Result, Ok, refl, sym, ap, subst, ◌∙◌, arith}
 use Rattle.std.specs.Prelude.{is_ok}
-use Rattle.words.specs.declared.call.Call.{Call}
-use Rattle.words.specs.declared.call.Client.{Client}
 use Rattle.words.specs.declared.refusal.Refusal.{Refusal}
-use Rattle.words.specs.declared.told.Told.{Told}
 use Rattle.events.specs.declared.event.Entry.{Entry}
 use Rattle.events.specs.Parts.{IsPartOf}
 use Rattle.events.proofs.Members.{part_same, part_of_part}
@@ -13,7 +10,6 @@ use Rattle.protocol.specs.Acts.{HasNoCrash, recovery_step_of}
 use Rattle.protocol.specs.declared.acts.Act.{Act}
 use Rattle.protocol.specs.declared.acts.Act.TheVariants.{Start, Step, Evict, Crash, Recover}
 use Rattle.interleave.specs.Holds.{Holds}
-use Rattle.interleave.specs.Queue.{told_in}
 use Rattle.interleave.specs.Runs.{IsAttempt, IsToldWhenReady, Went, nothing, next, StaysDown, AreToldWhenReady, AreToldForGood, recovery_steps}
 use Rattle.interleave.specs.Standing.{EndedCallsStay, IsBeginningOf, IsToldForGood}
 use Rattle.interleave.proofs.Ended.{begins_itself, begins_on}

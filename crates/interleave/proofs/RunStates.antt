@@ -1,5 +1,5 @@
 -- What a list of acts leaves where there was room for all of it, and what it tells while recovery is under way.
-use Rattle.std.proofs.Common.{◌≡◌, ℕ, ◌+◌, ◌-◌, ◌≤◌, Bool, true, false, List, [], ◌∷◌, ◌++◌, length, refl, sym, ap, subst, ◌∙◌, arith}
+use Rattle.std.proofs.Common.{◌≡◌, ℕ, ◌+◌, ◌≤◌, Bool, true, false, List, [], ◌∷◌, ◌++◌, length, refl, sym, ap, subst, ◌∙◌, arith}
 use Rattle.std.proofs.lemmas.List.{length_push}
 use Rattle.words.specs.declared.told.Told.{Told}
 use Rattle.arena.specs.Shape.{Shape}
@@ -7,7 +7,7 @@ use Rattle.recover.specs.Told.{tells_by}
 use Rattle.protocol.specs.declared.acts.Act.{Act}
 use Rattle.protocol.specs.declared.acts.Act.TheVariants.{Start, Step, Evict, Crash, Recover}
 use Rattle.interleave.specs.Holds.{Holds}
-use Rattle.interleave.specs.Runs.{IsAttempt, Went, nothing, next, StaysDown, TellsNext}
+use Rattle.interleave.specs.Runs.{Went, nothing, next, StaysDown, TellsNext}
 use Rattle.interleave.specs.State.{State, after_attempt, after_act, after_acts, is_accepted, is_accepted_with, taken_of, count_of, is_down, kept_tells}
 use Rattle.interleave.specs.Values.{value_of_place}
 use Rattle.interleave.proofs.DownLaws.{start_refused}

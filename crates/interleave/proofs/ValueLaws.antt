@@ -1,5 +1,5 @@
 -- What an access does to words, it does to them as they are shown by their places.
-use Rattle.std.proofs.Common.{◌≡◌, ℕ, zero, suc, ◌≤◌, Bool, true, false, Option, ◌==◌, List, length, replicate, slice_index, slice_set, if◌then◌else◌, refl, sym, ap, subst, ◌∙◌, arith, ◌&&◌, nat_le}
+use Rattle.std.proofs.Common.{◌≡◌, ℕ, zero, suc, ◌≤◌, Bool, true, false, ◌==◌, List, length, replicate, slice_index, slice_set, if◌then◌else◌, refl, sym, ap, subst, ◌∙◌, arith, ◌&&◌, nat_le}
 use Rattle.std.proofs.lemmas.Bool.{false≢true}
 use Rattle.std.proofs.lemmas.Bool.Decides.{nat_tests}
 use mathlib.Core.Path.{fun_ext}

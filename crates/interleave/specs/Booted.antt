@@ -9,7 +9,6 @@ use Rattle.logqueue.specs.Numbers.{told_queue}
 use Rattle.words.specs.declared.refusal.Refusal.{Refusal}
 use Rattle.words.specs.declared.refusal.Refusal.TheVariants.{NoMemory}
 use Rattle.arena.specs.Shape.{Shape}
-use Rattle.arena.specs.declared.place.Place.{Place}
 use Rattle.recover.specs.Sound.{AreSoundWords, IsDamaged}
 use Rattle.recover.specs.Table.{boot_recovery}
 use Rattle.recover.specs.Told.{tells_by}

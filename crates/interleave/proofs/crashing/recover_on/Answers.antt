@@ -1,10 +1,8 @@
-use Rattle.std.proofs.Common.{◌≡◌, refl, true, false, Bool, Option, Some, Result, Ok, List, subst, sym, ap, ◌∙◌}
-use Rattle.std.specs.Prelude.{IfSome, is_some}
+use Rattle.std.proofs.Common.{◌≡◌, refl, false, Bool, Option, Some, Result, Ok, subst, sym, ap, ◌∙◌}
+use Rattle.std.specs.Prelude.{IfSome}
 use Rattle.words.specs.declared.refusal.Refusal.{Refusal}
-use Rattle.words.specs.declared.told.Told.{Told}
 use Rattle.persist.specs.Memory.{Words}
 use Rattle.stepper.specs.Step.{after_one}
-use Rattle.stepper.specs.declared.resume.After.{After}
 use Rattle.recover.specs.Table.{access_of as recovery_access}
 use Rattle.recover.specs.declared.recovery.Recovery.{Recovery}
 use Rattle.protocol.specs.Machine.{Trace, next_recovery, recovery_left, recovery_events}

@@ -1,7 +1,5 @@
-use Rattle.std.proofs.Common.{◌≡◌, Bool, true, false, List, [], ◌∷◌, ◌++◌, Option, Some, None, sym, ap, ◌∙◌, subst}
-use Rattle.std.specs.Prelude.{is_some}
+use Rattle.std.proofs.Common.{◌≡◌, Bool, true, false, List, [], ◌∷◌, ◌++◌, Option, sym, ap, ◌∙◌}
 use Rattle.words.specs.declared.told.Told.{Told}
-use Rattle.events.specs.declared.event.Event.{Event}
 use Rattle.events.specs.declared.event.Event.TheVariants.{Ready as ready_event}
 use Rattle.stepper.specs.declared.resume.After.{After}
 use Rattle.recover.specs.Table.{recovery_reached}
@@ -9,7 +7,6 @@ use Rattle.recover.specs.declared.recovery.Recovery.{Recovery}
 use Rattle.protocol.specs.Machine.{Trace, recovery_left, recovery_events}
 use Rattle.interleave.specs.Recoveries.{HasReached}
 use Rattle.interleave.specs.State.{is_ready, queue_at_ready}
-use Rattle.interleave.specs.declared.queue.Queue.{Queue}
 use Rattle.interleave.proofs.crashing.recover_once.Goals as goal
 
 -- where it is not done, it goes on from where it is

@@ -1,4 +1,3 @@
-use Rattle.std.specs.Prelude.{ℕ}
 use Rattle.words.specs.declared.call.Reply.{Reply}
 use Rattle.arena.specs.Shape.{Shape}
 use Rattle.stepper.specs.declared.resume.After.{After}

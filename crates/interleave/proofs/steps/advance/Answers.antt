@@ -1,4 +1,4 @@
-use Rattle.std.proofs.Common.{◌≡◌, refl, ◌∙◌, arith}
+use Rattle.std.proofs.Common.{refl, ◌∙◌, arith}
 use Rattle.std.proofs.lemmas.Option.{slice_get_within}
 use Rattle.interleave.proofs.NoteLaws.{noted_is}
 use Rattle.interleave.proofs.Safety.{call_fits, read_fits, next_is, IsSafe-stepped}
