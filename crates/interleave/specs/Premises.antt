@@ -20,4 +20,5 @@ IsMoreInRange s (Done reply) = Unit {0}
 pub record MayGoOn (w : State) (call : UnderWay) : Type 0 where
   pub room : size_of w.shape ≤ length w.words.cached
   pub point : IsPoint w.shape call.op
-  pub read : IsReadInRange w.shape (access_of w.shape.kind call.op) (value_found w.shape (access_of w.shape.kind call.op) w.words)
+  pub read : IsReadInRange w.shape (access_of w.shape.kind call.op)
+      (value_found w.shape (access_of w.shape.kind call.op) w.words)

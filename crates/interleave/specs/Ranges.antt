@@ -19,7 +19,7 @@ use Rattle.interleave.specs.declared.queue.Queue.TheVariants.{Durable, Log}
 abbrev pub AllFit : Shape → List ℕ → Type 0
 AllFit s ws = (p : Place) → IsPlace s p → IsReadByCalls p → Fits s p (slice_index ws (word_at s p))
 
--- there are as many words as the layout has, or a block's, those past the layout 0; and each that calls read is in its range
+-- there are as many words as the layout has, or a block's, those past the layout 0; what calls read is in its range
 pub record WordsFit (s : Shape) (ws : Words) : Type 0 where
   pub room : size_of s ≤ length ws.cached
   pub same : length ws.kept ≡ length ws.cached

@@ -31,8 +31,8 @@ abbrev pub StaysDown : {room : ℕ} {old : State} {acts : List (Act ℕ)} {taken
 StaysDown {old = old} nothing = is_down old ≡ true
 StaysDown (next {v = v} so_far act accepted attempt) = StaysDown so_far × (is_down v ≡ true)
 
--- where an act ended recovery, each client was told what the kept words tell, which was right of its announced call, and
--- no number in the order was above its client's floor
+-- where an act ended recovery, each client was told what the kept words tell, which was right of its announced call,
+-- and no number in the order was above its client's floor
 pub record IsToldWhenReady (old new : State) : Type 0 where
   pub tells : is_down old ≡ true → is_down new ≡ false → told_in new.queue ≡ kept_tells new
   pub announced : is_down old ≡ true → is_down new ≡ false → AreToldOfAnnounced new
@@ -43,8 +43,8 @@ abbrev pub AreToldWhenReady : {room : ℕ} {old : State} {acts : List (Act ℕ)}
 AreToldWhenReady nothing = Unit {0}
 AreToldWhenReady (next {w = w} {v = v} so_far act accepted attempt) = AreToldWhenReady so_far × IsToldWhenReady w v
 
--- and by the order of the last world too: whenever an act ended recovery, what each client was told of its announced call
--- is right by this order, and calls that were cut off before and not announced are not in it
+-- and by the order of the last world too: whenever an act ended recovery, what each client was told of its announced
+-- call is right by this order, and calls that were cut off before and not announced are not in it
 abbrev pub AreToldForGood : {room : ℕ} {old : State} {acts : List (Act ℕ)} {taken : ℕ} {new : State}
     → State → Went room old acts taken new → Type 0
 AreToldForGood last nothing = Unit {0}
