@@ -11,7 +11,7 @@ use Rattle.protocol.specs.declared.acts.Act.{Act}
 use Rattle.protocol.specs.declared.acts.Act.TheVariants.{Start, Step, Evict, Crash, Recover}
 use Rattle.interleave.specs.Holds.{Holds}
 use Rattle.interleave.specs.Runs.{IsAttempt, IsToldWhenReady, Went, nothing, next, StaysDown, AreToldWhenReady, AreToldForGood, recovery_steps}
-use Rattle.interleave.specs.Standing.{EndedCallsStay, IsBeginningOf, IsToldForGood}
+use Rattle.interleave.specs.Standing.{EndedCallsStay, GoesOn, IsBeginningOf, IsToldForGood}
 use Rattle.interleave.proofs.Ended.{begins_itself, begins_on}
 use Rattle.interleave.proofs.NumbersKept.{within_floors_ready}
 use Rattle.interleave.proofs.StandingLaws.{ended_by_order, ended_then, ended_after_step, ended_after_evict, grown_by_start, grown_by_step, grown_by_evict, grown_by_crash, grown_by_recover, told_stands}
@@ -70,6 +70,7 @@ down_before full w Recover other down = down_recovered full w down
 -- where it ends recovery, it is a step of recovery that says so
 told_recovered : (full : Bool) (w : State) → Holds w → IsToldWhenReady w (after_recover full w)
 told_recovered full w holds = record {
+  words = λ down. tells_on full w holds;
   tells = λ down up.
       let is : recover_result full w ≡ Ok true = became_ready full w down up in
       told_by_kept full w holds is ∙ sym (tells_on full w holds).0;
@@ -81,18 +82,24 @@ crash_down : (full : Bool) (w : State) → is_down w ≡ true → is_down (after
 crash_down true w down = down
 crash_down false w down = refl
 
-stays_down : (w v : State) → (is_down w ≡ true → is_down v ≡ true) → IsToldWhenReady w v
-stays_down w v still = record {
+stays_down : (w v : State) → (is_down w ≡ true → (kept_tells v ≡ kept_tells w) × (kept_content v ≡ kept_content w))
+    → (is_down w ≡ true → is_down v ≡ true) → IsToldWhenReady w v
+stays_down w v same still = record {
+  words = same;
   tells = λ down up. absurd (cc (still down, up));
   announced = λ down up. absurd (cc (still down, up));
   floors = λ down up. absurd (cc (still down, up));
 }
 
 pub told_after_attempt : (full : Bool) (w : State) (act : Act ℕ) → Holds w → IsToldWhenReady w (after_attempt full w act)
-told_after_attempt full w (Start client number call) holds = stays_down w _ (λ down. start_down full w client number call ∙ down)
-told_after_attempt full w (Step client) holds = stays_down w _ (λ down. step_down full w client ∙ down)
-told_after_attempt full w (Evict word) holds = stays_down w _ (λ down. down_evicted w word ∙ down)
-told_after_attempt full w Crash holds = stays_down w _ (crash_down full w)
+told_after_attempt full w (Start client number call) holds =
+    stays_down w (after_attempt full w (Start client number call)) (tells_after_attempt full w (Start client number call) holds) (λ down. start_down full w client number call ∙ down)
+told_after_attempt full w (Step client) holds =
+    stays_down w (after_attempt full w (Step client)) (tells_after_attempt full w (Step client) holds) (λ down. step_down full w client ∙ down)
+told_after_attempt full w (Evict word) holds =
+    stays_down w (after_attempt full w (Evict word)) (tells_after_attempt full w (Evict word) holds) (λ down. down_evicted w word ∙ down)
+told_after_attempt full w Crash holds =
+    stays_down w (after_attempt full w Crash) (tells_after_attempt full w Crash holds) (crash_down full w)
 told_after_attempt full w Recover holds = told_recovered full w holds
 
 left_recovered : (w : State) → Holds w → is_down w ≡ true → 1 + steps_to_ready (after_recover false w) ≤ steps_to_ready w
@@ -137,7 +144,7 @@ left_after_attempt true w Recover holds other down = go w.recovery
 left_after_attempt false w Recover holds other down = left_recovered w holds down
 
 -- the history grows
-grown_by_attempt : (full : Bool) (w : State) (act : Act ℕ) → IsBeginningOf w.log.events (after_attempt full w act).log.events
+pub grown_by_attempt : (full : Bool) (w : State) (act : Act ℕ) → IsBeginningOf w.log.events (after_attempt full w act).log.events
 grown_by_attempt full w (Start client number call) = grown_by_start full w client number call
 grown_by_attempt full w (Step client) = grown_by_step full w client
 grown_by_attempt full w (Evict word) = grown_by_evict w word
@@ -227,12 +234,7 @@ no_crash_before (Step client ∷ acts) act h = no_crash_before acts act h
 no_crash_before (Evict word ∷ acts) act h = no_crash_before acts act h
 no_crash_before (Recover ∷ acts) act h = no_crash_before acts act h
 
--- an earlier world and what came of it: its history goes on, and its order stays
-pub record GoesOn (old new : State) : Type 0 where
-  pub grown : IsBeginningOf old.log.events new.log.events
-  pub part : IsPartOf (order_in old) (order_in new)
-  pub ended : EndedCallsStay old new
-
+-- a world came of itself, and what came of what came of it came of it
 goes_nowhere : (w : State) → GoesOn w w
 goes_nowhere w = record {
   grown = begins_itself w.log.events;
@@ -247,32 +249,26 @@ goes_further {old = old} {now = now} {new = new} one other = record {
   ended = ended_then old now new one.grown one.ended other.ended;
 }
 
--- each world in which an act ended recovery told for good, and goes on to this one
-abbrev AllStand : {room : ℕ} {old : State} {acts : List (Act ℕ)} {taken : ℕ} {new : State}
-    → State → Went room old acts taken new → Type 0
-AllStand now nothing = Unit {0}
-AllStand now (next {w = w} {v = v} so_far act accepted attempt) =
-    AllStand now so_far × (is_down w ≡ true → is_down v ≡ false → IsToldForGood v × GoesOn v now)
-
+-- what was told for good stays so in a world that comes of this one
 all_stand_on : (now later : State) {room : ℕ} {old : State} {acts : List (Act ℕ)} {taken : ℕ} {new : State}
-    (went : Went room old acts taken new) → GoesOn now later → AllStand now went → AllStand later went
+    (went : Went room old acts taken new) → GoesOn now later → AreToldForGood now went → AreToldForGood later went
 all_stand_on now later nothing on all = tt
 all_stand_on now later (next so_far act accepted attempt) on all =
     (all_stand_on now later so_far on all.0, λ down up. let here = all.1 down up in (here.0, goes_further here.1 on))
 
--- so what was told is right by the order of now
-told_by_now : (now : State) {room : ℕ} {old : State} {acts : List (Act ℕ)} {taken : ℕ} {new : State}
-    (went : Went room old acts taken new) → AllStand now went → AreToldForGood now went
-told_by_now now nothing all = tt
-told_by_now now (next so_far act accepted attempt) all =
-    (told_by_now now so_far all.0, λ down up. let here = all.1 down up in here.0 now here.1.part here.1.ended)
+-- a list of acts goes on with the history
+pub grown_by_acts : {room : ℕ} {old : State} {acts : List (Act ℕ)} {taken : ℕ} {new : State}
+    → Went room old acts taken new → IsBeginningOf old.log.events new.log.events
+grown_by_acts {old = old} nothing = begins_itself old.log.events
+grown_by_acts {old = old} (next {w = w} {v = v} so_far act accepted attempt) =
+    begins_on old.log.events w.log.events v.log.events (grown_by_acts so_far) (grown_attempt attempt)
 
 -- how the acts so far went
 pub record SoFar (room : ℕ) (old : State) (acts : List (Act ℕ)) (taken : ℕ) (new : State) : Type 0 where
   pub went : Went room old acts taken new
   pub on : GoesOn old new
   pub told : AreToldWhenReady went
-  pub all_stand : AllStand new went
+  pub stands : AreToldForGood new went
   pub tells : StaysDown went → kept_tells new ≡ kept_tells old
   pub left : HasNoCrash acts → is_down new ≡ true → recovery_steps went + steps_to_ready new ≤ steps_to_ready old
 
@@ -281,7 +277,7 @@ none_so_far room w = record {
   went = nothing;
   on = goes_nowhere w;
   told = tt;
-  all_stand = tt;
+  stands = tt;
   tells = λ down. refl;
   left = λ free down. omega arith;
 }
@@ -306,8 +302,8 @@ one_more {acts = acts} {w = w} {v = v} {act = act} {accepted = accepted} so_far 
       went = next so_far.went act accepted attempt;
       on = goes_further so_far.on on;
       told = (so_far.told, told_attempt holds attempt);
-      all_stand = (
-        all_stand_on w v so_far.went on so_far.all_stand,
+      stands = (
+        all_stand_on w v so_far.went on so_far.stands,
         λ down up. (good_attempt holds attempt down up, goes_nowhere v),
       );
       tells = λ down. tells_attempt holds attempt (down_last so_far.went down.0) ∙ so_far.tells down.0;
@@ -318,10 +314,6 @@ one_more {acts = acts} {w = w} {v = v} {act = act} {accepted = accepted} so_far 
           let before = so_far.left (no_crash_before acts act free) was in
           omega (arith, fewer, before);
     }
-
-pub stands : {room : ℕ} {old : State} {acts : List (Act ℕ)} {taken : ℕ} {new : State} (so_far : SoFar room old acts taken new)
-    → AreToldForGood new so_far.went
-stands {new = new} so_far = told_by_now new so_far.went so_far.all_stand
 
 not_down : (w : State) → (is_down w ≡ true → ⊥) → is_down w ≡ false
 not_down w h = go (is_down w) refl

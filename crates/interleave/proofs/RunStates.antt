@@ -1,13 +1,14 @@
 -- What a list of acts leaves where there was room for all of it, and what it tells while recovery is under way.
-use Rattle.std.proofs.Common.{◌≡◌, ℕ, ◌+◌, ◌≤◌, Bool, true, false, List, [], ◌∷◌, ◌++◌, length, refl, sym, ap, subst, ◌∙◌, arith}
+use Rattle.std.proofs.Common.{◌≡◌, ℕ, ◌+◌, ◌-◌, ◌≤◌, ◌<◌, if◌then◌else◌, Bool, true, false, List, [], ◌∷◌, ◌++◌, length, refl, sym, ap, subst, ◌∙◌, arith}
 use Rattle.std.proofs.lemmas.List.{length_push}
 use Rattle.words.specs.declared.told.Told.{Told}
 use Rattle.arena.specs.Shape.{Shape}
 use Rattle.recover.specs.Told.{tells_by}
+use Rattle.protocol.specs.Acts.{recovery_step_of, recoveries}
 use Rattle.protocol.specs.declared.acts.Act.{Act}
 use Rattle.protocol.specs.declared.acts.Act.TheVariants.{Start, Step, Evict, Crash, Recover}
 use Rattle.interleave.specs.Holds.{Holds}
-use Rattle.interleave.specs.Runs.{Went, nothing, next, StaysDown, TellsNext}
+use Rattle.interleave.specs.Runs.{IsAttempt, Went, nothing, next, StaysDown, recovery_steps, TellsNext}
 use Rattle.interleave.specs.State.{State, after_attempt, after_act, after_acts, is_accepted, is_accepted_with, taken_of, count_of, is_down, kept_tells}
 use Rattle.interleave.specs.Values.{value_of_place}
 use Rattle.interleave.proofs.DownLaws.{start_refused}
@@ -38,6 +39,15 @@ taken_more w [] act = omega arith
 taken_more w (first ∷ acts) act =
     let rest = taken_more (after_act w first) acts act in omega (arith, rest)
 
+-- an attempt for which there is room is not refused for want of memory
+paid : {room taken : ℕ} {w v : State} {act : Act ℕ} {accepted : Bool} (attempt : IsAttempt (room - taken) w act accepted v)
+    → taken < room → attempt.full ≡ false
+paid {room = room} {taken = taken} attempt left = go attempt.full attempt.short
+  where
+    go : (b : Bool) → (b ≡ true → room - taken ≡ 0) → b ≡ false
+    go true short = let none = short refl in absurd (omega (arith, none, left))
+    go false short = refl
+
 -- where there was room for all acts, none was refused for want of memory
 pub all_made : {room : ℕ} {old : State} {acts : List (Act ℕ)} {taken : ℕ} {new : State} → Went room old acts taken new
     → length acts ≤ room → (new ≡ after_acts old acts) × (taken ≡ taken_of old acts)
@@ -46,18 +56,31 @@ all_made {room = room} {old = old} (next {acts = acts} {taken = taken} {w = w} {
     let longer = length_push acts act in
     let before = all_made so_far (omega (arith, fits, longer)) in
     let few = taken_few so_far in
-    let paid : attempt.full ≡ false = not_full attempt.full (λ full. let short = attempt.short full in omega (arith, short, few, fits, longer)) in
+    let made : attempt.full ≡ false = paid attempt (omega (arith, few, fits, longer)) in
     let leaves : v ≡ after_act (after_acts old acts) act =
-    attempt.leaves ∙ ap (λ (b : Bool). after_attempt b w act) paid ∙ ap (λ (x : State). after_act x act) before.0 in
+    attempt.leaves ∙ ap (λ (b : Bool). after_attempt b w act) made ∙ ap (λ (x : State). after_act x act) before.0 in
     let accepts : accepted ≡ is_accepted (after_acts old acts) act =
-    attempt.accepts ∙ ap (λ (b : Bool). is_accepted_with b w act) paid ∙ ap (λ (x : State). is_accepted x act) before.0 in
+    attempt.accepts ∙ ap (λ (b : Bool). is_accepted_with b w act) made ∙ ap (λ (x : State). is_accepted x act) before.0 in
     let counted : count_of accepted ≡ count_of (is_accepted (after_acts old acts) act) = ap count_of accepts in
     let more = taken_more old acts act in
     (leaves ∙ sym (after_more old acts act), omega (arith, before.1, counted, more))
-  where
-    not_full : (b : Bool) → (b ≡ true → ⊥) → b ≡ false
-    not_full true h = absurd (h refl)
-    not_full false h = refl
+
+steps_more : (acts : List (Act ℕ)) (act : Act ℕ) → recoveries (acts ++ act ∷ []) ≡ recoveries acts + recovery_step_of act
+steps_more [] act = omega arith
+steps_more (first ∷ acts) act = let rest = steps_more acts act in omega (arith, rest)
+
+-- and each step of recovery was asked for with memory there
+pub all_steps : {room : ℕ} {old : State} {acts : List (Act ℕ)} {taken : ℕ} {new : State}
+    (went : Went room old acts taken new) → length acts ≤ room → recovery_steps went ≡ recoveries acts
+all_steps nothing fits = refl
+all_steps {room = room} (next {acts = acts} so_far act accepted attempt) fits =
+    let longer = length_push acts act in
+    let few = taken_few so_far in
+    let before = all_steps so_far (omega (arith, fits, longer)) in
+    let asked : (if attempt.full then 0 else recovery_step_of act) ≡ recovery_step_of act =
+    ap (λ (b : Bool). if b then 0 else recovery_step_of act) (paid attempt (omega (arith, few, fits, longer))) in
+    let more = steps_more acts act in
+    omega (arith, before, asked, more)
 
 -- while recovery is under way each attempt keeps what holds of a world: a start changes nothing
 holds_down : (full : Bool) (w : State) (act : Act ℕ) → Holds w → is_down w ≡ true → Holds (after_attempt full w act)

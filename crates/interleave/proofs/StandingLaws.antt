@@ -31,9 +31,10 @@ use Rattle.protocol.proofs.worlds.Facts.{explained, is_recovering, told_is, inv_
 use Rattle.interleave.specs.Calls.{waiting_result}
 use Rattle.interleave.specs.Holds.{Holds, from_invariant}
 use Rattle.interleave.specs.Queue.{told_in}
+use Rattle.interleave.specs.Turn.{NobodyCalls}
 use Rattle.interleave.specs.Standing.{HasEnded, IsBeginningOf, EndedCallsStay, AllHaveEnded, AreToldOfAnnouncedBy, UnannouncedAreOut, IsToldForGood}
 use Rattle.interleave.specs.State.{State, machine, order_in, is_down, is_ready, used_by, after_bump_load, after_call_began, after_one_access, number_to_start, start_with, step_with, evict_with, recover_with, recover_result_with, after_start, after_step, after_evict, after_crash, after_recover, recover_result, queue_at_ready, AreToldOfAnnounced}
-use Rattle.interleave.proofs.Ended.{ended_or_open, ended_longer, begins_itself, stood_before}
+use Rattle.interleave.proofs.Ended.{ended_closed, ended_or_open, ended_longer, begins_itself, stood_before}
 use Rattle.interleave.proofs.Entering.{comes_stepped, comes_evicted}
 use Rattle.interleave.proofs.HoldsKept.{may_step, waiting_is, explained_world, holds_after_recover}
 use Rattle.interleave.proofs.KeptTells.{told_again, told_of_announced}
@@ -252,8 +253,16 @@ unannounced_for_good w later stays out = λ client p number begins cut other the
 -- so what is told when recovery ends stands for good
 pub told_stands : (full : Bool) (w : State) → Holds w → recover_result full w ≡ Ok true
     → IsToldForGood (after_recover full w)
-told_stands full w holds is = λ later part stays.
+told_stands full w holds is = λ later on.
     let v : State = after_recover full w in (
-      told_for_good v later (all_have_ended full w holds is) part stays (told_of_announced full w holds is),
-      unannounced_for_good v later stays (unannounced_are_out full w holds is),
+      told_for_good v later (all_have_ended full w holds is) on.part on.ended (told_of_announced full w holds is),
+      unannounced_for_good v later on.ended (unannounced_are_out full w holds is),
     )
+
+-- and nobody calls then
+pub nobody_at_ready : (full : Bool) (w : State) → Holds w → recover_result full w ≡ Ok true
+    → NobodyCalls (after_recover full w)
+nobody_at_ready full w holds is = λ client way.
+    let v : State = after_recover full w in
+    ended_closed v.log.events client way.place
+    (all_have_ended full w holds is client way.place way.open_from.begins) way.open_from

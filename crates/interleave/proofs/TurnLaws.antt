@@ -11,7 +11,7 @@ use Rattle.words.specs.declared.refusal.Refusal.{Refusal}
 use Rattle.words.specs.declared.refusal.Refusal.TheVariants.{NoRoom, NoMemory}
 use Rattle.words.specs.declared.told.Told.{Told}
 use Rattle.events.specs.Explains.{Explains}
-use Rattle.events.specs.History.{BeginsAt}
+use Rattle.events.specs.History.{BeginsAt, IsUnderWay}
 use Rattle.events.specs.Orders.{InOrder}
 use Rattle.events.specs.Parts.{IsPartOf}
 use Rattle.events.specs.Replay.{call_at, queue_after}
@@ -27,7 +27,7 @@ use Rattle.interleave.specs.Holds.{IsExplained}
 use Rattle.interleave.specs.OneEvent.{return_events}
 use Rattle.interleave.specs.Standing.{EndedCallsStay}
 use Rattle.interleave.specs.State.{State, is_down, used_by, after_bump_load, after_call_began, number_to_start, start_with, start_result_with, after_start, start_result, step_with, after_step, step_result, kept_content, order_in}
-use Rattle.interleave.specs.Turn.{IsInTurn, NobodyCalls}
+use Rattle.interleave.specs.Turn.{IsInTurn, IsServedAlone, NobodyCalls}
 use Rattle.interleave.proofs.EveryAct.{act_adds_one}
 use Rattle.interleave.proofs.Ended.{begins_as_it_is}
 use Rattle.interleave.proofs.StandingLaws.{ended_by_order, ended_then}
@@ -82,12 +82,37 @@ went_further old now new client went is answers ended = record {
   ended = ended_on old now new went ended;
 }
 
+-- once the one call that was under way is answered, nobody calls
+nobody_after : (events : List Event) (client : Client) (reply : Reply)
+    → ((other : Client) → IsUnderWay events other (length events) → other ≡ client) → (other : Client)
+    → IsUnderWay (events ++ return_event client reply ∷ []) other (length (events ++ return_event client reply ∷ [])) → ⊥
+nobody_after events client reply alone other way =
+    elim (get_push_cases events (return_event client reply) way.place _ way.open_from.begins.1.1) [
+      | inl old ↦
+          let within : way.place < length events = slice_get_within events way.place _ old in
+          let longer = length_push events (return_event client reply) in
+          let less = open_less (events ++ return_event client reply ∷ []) other (length (events ++ return_event client reply ∷ []))
+          (length events) way.place (omega (arith, longer)) way.open_from in
+          let same : other ≡ client = alone other (record {
+            place = way.place;
+            before = within;
+            open_from = open_before events (return_event client reply ∷ []) other (length events) way.place within less;
+          }) in
+          way.open_from.no_end (length events) within (omega (arith, longer))
+          (inl (
+            reply,
+            subst (λ (x : Client). slice_get (events ++ return_event client reply ∷ []) (length events) ≡ Some (return_event x reply))
+                (sym same) (get_last events (return_event client reply)),
+          ))
+      | inr new ↦ absurd (cc (new.1))
+    ]
+
 -- in turn, and answered by the last step
 pub answered_in_turn : (old now new : State) (client : Client) (call : Call) (reply : Reply) → IsInTurn old client call
     → IsExplained old → IsExplained new → WentOn old now → new ≡ after_step false now client
     → step_result false now client ≡ Ok (Some reply) → IsPartOf (order_in old) (order_in new)
     → EndedCallsStay now new
-    → (reply ≡ reply_of (kept_content old) call) × (kept_content new ≡ served (kept_content old) call)
+    → IsServedAlone old call reply new
 answered_in_turn old now new client call reply turn was is went left answers part ended =
     let base : new.base ≡ old.base = ap (λ (w : State). w.base) left ∙ (base_stepped now client).0 ∙ went.base in
     let told : new.told ≡ old.told = ap (λ (w : State). w.told) left ∙ (base_stepped now client).1 ∙ went.told in
@@ -104,10 +129,13 @@ answered_in_turn old now new client call reply turn was is went left answers par
     let holds : kept_content new
     ≡ queue_after (old.log.events ++ return_event client reply ∷ []) old.base (order_in new) =
     is.agrees ∙ ap (λ (b : List ℕ). queue_after new.log.events b (order_in new)) base
-    ∙ ap (λ (es : List Event). queue_after es old.base (order_in new)) events in (
-      both.0 ∙ ap (λ (q : List ℕ). reply_of q call) (sym was.agrees),
-      holds ∙ both.1 ∙ ap (λ (q : List ℕ). served q call) (sym was.agrees),
-    )
+    ∙ ap (λ (es : List Event). queue_after es old.base (order_in new)) events in
+    record {
+      answer = both.0 ∙ ap (λ (q : List ℕ). reply_of q call) (sym was.agrees);
+      content = holds ∙ both.1 ∙ ap (λ (q : List ℕ). served q call) (sym was.agrees);
+      nobody = subst (λ (es : List Event). (other : Client) → IsUnderWay es other (length es) → ⊥) (sym events)
+          (nobody_after old.log.events client reply turn.alone);
+    }
 
 -- a call that begins while nobody has one is its client's in turn
 begun_in_turn : (w : State) (client : Client) (number : ℕ) (call : Call) → IsExplained w → NobodyCalls w

@@ -5,8 +5,8 @@ use Rattle.protocol.specs.Acts.{HasNoCrash, recovery_step_of}
 use Rattle.protocol.specs.declared.acts.Act.{Act}
 use Rattle.interleave.specs.Numbers.{AreWithinFloors}
 use Rattle.interleave.specs.Queue.{told_in}
-use Rattle.interleave.specs.Standing.{AreToldOfAnnouncedBy, UnannouncedAreOut}
-use Rattle.interleave.specs.State.{State, after_attempt, is_accepted_with, count_of, is_down, kept_tells, order_in, most_to_ready, after_recover, recover_result, AreToldOfAnnounced}
+use Rattle.interleave.specs.Standing.{GoesOn, IsToldForGood}
+use Rattle.interleave.specs.State.{State, after_attempt, is_accepted_with, count_of, is_down, kept_tells, kept_content, most_to_ready, after_recover, recover_result, AreToldOfAnnounced}
 use Rattle.interleave.specs.Trace.{Roomy}
 
 -- an attempt at an act, where there is room for so many accepted ones: it was made or refused by the rule, and for want
@@ -31,9 +31,11 @@ abbrev pub StaysDown : {room : ℕ} {old : State} {acts : List (Act ℕ)} {taken
 StaysDown {old = old} nothing = is_down old ≡ true
 StaysDown (next {v = v} so_far act accepted attempt) = StaysDown so_far × (is_down v ≡ true)
 
--- where an act ended recovery, each client was told what the kept words tell, which was right of its announced call,
--- and no number in the order was above its client's floor
+-- while recovery was under way an act changed nothing of what the kept words tell and hold; where it ended recovery, each
+-- client was told what they tell, which was right of its announced call, and no number in the order was above its
+-- client's floor
 pub record IsToldWhenReady (old new : State) : Type 0 where
+  pub words : is_down old ≡ true → (kept_tells new ≡ kept_tells old) × (kept_content new ≡ kept_content old)
   pub tells : is_down old ≡ true → is_down new ≡ false → told_in new.queue ≡ kept_tells new
   pub announced : is_down old ≡ true → is_down new ≡ false → AreToldOfAnnounced new
   pub floors : is_down old ≡ true → is_down new ≡ false → AreWithinFloors new
@@ -43,14 +45,13 @@ abbrev pub AreToldWhenReady : {room : ℕ} {old : State} {acts : List (Act ℕ)}
 AreToldWhenReady nothing = Unit {0}
 AreToldWhenReady (next {w = w} {v = v} so_far act accepted attempt) = AreToldWhenReady so_far × IsToldWhenReady w v
 
--- and by the order of the last world too: whenever an act ended recovery, what each client was told of its announced
--- call is right by this order, and calls that were cut off before and not announced are not in it
+-- and for good: so it is by the order of the last world, which came of the one where recovery ended, and of any other
+-- that comes of that
 abbrev pub AreToldForGood : {room : ℕ} {old : State} {acts : List (Act ℕ)} {taken : ℕ} {new : State}
     → State → Went room old acts taken new → Type 0
 AreToldForGood last nothing = Unit {0}
 AreToldForGood last (next {w = w} {v = v} so_far act accepted attempt) =
-    AreToldForGood last so_far
-    × (is_down w ≡ true → is_down v ≡ false → AreToldOfAnnouncedBy last v × UnannouncedAreOut (order_in last) v)
+    AreToldForGood last so_far × (is_down w ≡ true → is_down v ≡ false → IsToldForGood v × GoesOn v last)
 
 -- how many steps of recovery were asked for, memory being there
 abbrev pub recovery_steps : {room : ℕ} {old : State} {acts : List (Act ℕ)} {taken : ℕ} {new : State}
@@ -63,7 +64,8 @@ recovery_steps (next so_far act accepted attempt) =
 pub record IsRun (old : Roomy) (acts : List (Act ℕ)) (taken : ℕ) (new : Roomy) : Type 0 where
   pub went : Went old.room old.now acts taken new.now
   pub room : old.room ≤ new.room + taken
-  -- whenever recovery ended, each client was told rightly, by the last order too
+  pub goes_on : GoesOn old.now new.now
+  -- whenever recovery ended, each client was told rightly, and for good
   pub told : AreToldWhenReady went
   pub stands : AreToldForGood new.now went
   -- recovery that was under way all along changes nothing of what the kept words tell

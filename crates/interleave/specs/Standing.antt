@@ -67,8 +67,13 @@ UnannouncedAreOut order w =
     → WasCutOff w.log.events client p → ¬ (IsAnnounced (machine w).memory.kept w.log.issued client p)
     → ¬ (InOrder order p)
 
--- both hold by the order of each later world, that is where nothing is taken back and calls that had ended stay
+-- the one world came of the other: its history goes on from there, nothing is taken back, and ended calls stay
+pub record GoesOn (old new : State) : Type 0 where
+  pub grown : IsBeginningOf old.log.events new.log.events
+  pub part : IsPartOf (order_in old) (order_in new)
+  pub ended : EndedCallsStay old new
+
+-- both hold by the order of each world that comes of this one
 abbrev pub IsToldForGood : State → Type 0
 IsToldForGood w =
-    (later : State) → IsPartOf (order_in w) (order_in later) → EndedCallsStay w later
-    → AreToldOfAnnouncedBy later w × UnannouncedAreOut (order_in later) w
+    (later : State) → GoesOn w later → AreToldOfAnnouncedBy later w × UnannouncedAreOut (order_in later) w

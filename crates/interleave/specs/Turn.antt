@@ -2,9 +2,11 @@
 use Rattle.std.specs.Prelude.{◌≡◌, ℕ, suc, length}
 use Rattle.words.specs.declared.call.Call.{Call}
 use Rattle.words.specs.declared.call.Client.{Client}
+use Rattle.words.specs.declared.call.Reply.{Reply}
+use Rattle.words.specs.PlainQueue.{reply_of, served}
 use Rattle.events.specs.History.{CallAt, IsUnderWay}
 use Rattle.events.specs.Orders.{InOrder}
-use Rattle.interleave.specs.State.{State, order_in}
+use Rattle.interleave.specs.State.{State, kept_content, order_in}
 
 -- the last event is the client's Call, no other client has a call under way, and this one took no effect yet
 pub record IsInTurn (w : State) (client : Client) (call : Call) : Type 0 where
@@ -18,3 +20,10 @@ pub record IsInTurn (w : State) (client : Client) (call : Call) : Type 0 where
 -- no client has a call under way
 abbrev pub NobodyCalls : State → Type 0
 NobodyCalls w = (client : Client) → ¬ (IsUnderWay w.log.events client (length w.log.events))
+
+-- the call was answered as by the plain queue that held what the kept words held, they hold what it leaves, and nobody
+-- calls now
+pub record IsServedAlone (old : State) (call : Call) (reply : Reply) (new : State) : Type 0 where
+  pub answer : reply ≡ reply_of (kept_content old) call
+  pub content : kept_content new ≡ served (kept_content old) call
+  pub nobody : NobodyCalls new

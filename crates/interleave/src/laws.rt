@@ -1,6 +1,6 @@
 //! What holds of every act on a world.
 
-ghost use Rattle.std.specs.Prelude.{ℕ, List, length, slice_get, Some, ◌≡◌, ◌≢◌, ◌≤◌, ◌+◌, ◌++◌};
+ghost use Rattle.std.specs.Prelude.{ℕ, Bool, List, length, slice_get, Some, ◌≡◌, ◌≢◌, ◌≤◌, ◌+◌, ◌++◌};
 ghost use Rattle.words.specs.declared.call.Client.{Client};
 ghost use Rattle.words.specs.declared.told.Told.{Told};
 ghost use Rattle.arena.specs.Shape.{Shape};
@@ -12,8 +12,10 @@ ghost use Rattle.protocol.specs.declared.UnderWay.{UnderWay};
 ghost use Rattle.interleave.specs.Premises.{IsMoreInRange, MayGoOn};
 ghost use Rattle.interleave.specs.Recoveries.{MayRecover};
 ghost use Rattle.interleave.specs.Holds.{Holds};
-ghost use Rattle.interleave.specs.Runs.{Went, TellsNext};
-ghost use Rattle.interleave.specs.State.{State, after_act, after_acts, taken_of};
+ghost use Rattle.interleave.specs.Standing.{IsBeginningOf};
+ghost use Rattle.protocol.specs.Acts.{recoveries};
+ghost use Rattle.interleave.specs.Runs.{Went, recovery_steps, TellsNext};
+ghost use Rattle.interleave.specs.State.{State, after_attempt, after_act, after_acts, taken_of, kept_tells};
 ghost use Rattle.interleave.specs.OneAccess.{MakesOneAccess};
 ghost use Rattle.interleave.specs.OneEvent.{event_of};
 ghost use Rattle.protocol.specs.declared.acts.Act.{Act};
@@ -31,18 +33,30 @@ pub fn one_event_an_act()
     ensures { (w : State) (act : Act ℕ) → (after_act w act).log.events ≡ w.log.events ++ event_of w act }
 {}
 
+/// An attempt at an act, and a list of them, goes on with the history.
+pub fn histories_go_on()
+    ensures acts { (full : Bool) (w : State) (act : Act ℕ)
+        → IsBeginningOf w.log.events (after_attempt full w act).log.events }
+    ensures lists { (room taken : ℕ) (old new : State) (acts : List (Act ℕ))
+        → Went room old acts taken new → IsBeginningOf old.log.events new.log.events }
+{}
+
 /// Where there is room for all of a list of acts, none is refused for want of memory.
 pub fn acts_with_room_are_made()
     ensures leaves { (room taken : ℕ) (old new : State) (acts : List (Act ℕ))
         → Went room old acts taken new → length acts ≤ room → new ≡ after_acts old acts }
     ensures counts { (room taken : ℕ) (old new : State) (acts : List (Act ℕ))
         → Went room old acts taken new → length acts ≤ room → taken ≡ taken_of old acts }
+    ensures steps { (room taken : ℕ) (old new : State) (acts : List (Act ℕ))
+        → (went : Went room old acts taken new) → length acts ≤ room → recovery_steps went ≡ recoveries acts }
 {}
 
-/// Two worlds of one layout, just crashed or booted, whose kept words are equal, tell the same at their next Ready,
-/// whatever evictions, steps and further crashes come between.
-pub fn equal_words_tell_the_same()
-    ensures { (w v : State) (tells telling : List Told)
+/// What a world in which recovery is under way, as after a crash or where it was booted, tells at its next Ready is what
+/// its kept words tell, whatever evictions, steps and further crashes come between. So two of one layout whose kept
+/// words are equal tell the same.
+pub fn kept_words_tell()
+    ensures by_words { (w : State) (tells : List Told) → Holds w → TellsNext w tells → tells ≡ kept_tells w }
+    ensures same { (w v : State) (tells telling : List Told)
         → Holds w → Holds v → w.shape ≡ v.shape → w.words.kept ≡ v.words.kept
         → TellsNext w tells → TellsNext v telling → tells ≡ telling }
 {}

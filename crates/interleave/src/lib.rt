@@ -17,7 +17,7 @@ mod world;
 
 pub use acts::{Act, Ran};
 pub use laws::{
-    acts_with_room_are_made, equal_words_tell_the_same, one_access_an_act, one_event_an_act,
+    acts_with_room_are_made, histories_go_on, kept_words_tell, one_access_an_act, one_event_an_act,
     steps_stay_in_range,
 };
 pub use queue::Queue;

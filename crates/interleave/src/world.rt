@@ -8,8 +8,7 @@ ghost use Rattle.interleave.specs.Calls.{is_no_memory, waiting_result};
 ghost use Rattle.interleave.specs.Holds.{Holds, IsExplained};
 ghost use Rattle.interleave.specs.Reuse.{EarlierLeftNothing};
 ghost use Rattle.interleave.specs.Standing.{EndedCallsStay, IsToldForGood, UnannouncedAreOut};
-ghost use Rattle.interleave.specs.Turn.{IsInTurn, NobodyCalls};
-ghost use Rattle.words.specs.PlainQueue.{reply_of, served};
+ghost use Rattle.interleave.specs.Turn.{IsInTurn, IsServedAlone, NobodyCalls};
 ghost use Rattle.words.specs.declared.call.Call.{Call as AnyCall};
 ghost use Rattle.protocol.specs.declared.acts.Act.{Act};
 ghost use Rattle.words.specs.declared.refusal.Refusal.{Refusal as AnyRefusal};
@@ -227,6 +226,7 @@ impl<L: Layout + Drop> World<L> {
         ensures announced { result ≡ Ok true → AreToldOfAnnounced self.new.now }
         ensures unannounced { result ≡ Ok true → UnannouncedAreOut (order_in self.new.now) self.new.now }
         ensures stands { result ≡ Ok true → IsToldForGood self.new.now }
+        ensures nobody { result ≡ Ok true → NobodyCalls self.new.now }
         ensures floors { result ≡ Ok true → AreWithinFloors self.new.now }
         ensures mended { result ≡ Ok true → IsMended self.new.now }
         ensures few { steps_to_ready self.old.now ≤ most_to_ready (self.old.now.shape) }
@@ -327,10 +327,8 @@ impl<L: Layout + Drop> World<L> {
         ensures sound { IsKeptSound self.new.now }
         ensures order { IsPartOf (order_in self.old.now) (order_in self.new.now) }
         ensures ended { EndedCallsStay self.old.now self.new.now }
-        ensures reply { IfOk result (λ answer. (call : AnyCall) → IsInTurn self.old.now client call
-            → answer.0 ≡ reply_of (kept_content self.old.now) call) }
-        ensures content { IfOk result (λ answer. (call : AnyCall) → IsInTurn self.old.now client call
-            → kept_content self.new.now ≡ served (kept_content self.old.now) call) }
+        ensures turn { IfOk result (λ answer. (call : AnyCall) → IsInTurn self.old.now client call
+            → IsServedAlone self.old.now call answer.0 self.new.now) }
     {
         waiting(&self.calls, self.trace.is_down(), client)?;
         self.reserve(1)?;

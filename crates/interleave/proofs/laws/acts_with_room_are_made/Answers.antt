@@ -1,4 +1,4 @@
-use Rattle.interleave.proofs.RunStates.{all_made}
+use Rattle.interleave.proofs.RunStates.{all_made, all_steps}
 use Rattle.interleave.proofs.laws.acts_with_room_are_made.Goals as goal
 
 pub returns-clause-leaves : goal.returns-clause-leaves
@@ -6,3 +6,6 @@ returns-clause-leaves c = λ room taken old new acts went fits. (all_made went f
 
 pub returns-clause-counts : goal.returns-clause-counts
 returns-clause-counts c = λ room taken old new acts went fits. (all_made went fits).1
+
+pub returns-clause-steps : goal.returns-clause-steps
+returns-clause-steps c = λ room taken old new acts went fits. all_steps went fits

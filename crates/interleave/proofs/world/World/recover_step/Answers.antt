@@ -11,7 +11,8 @@ use Rattle.interleave.specs.State.{IsKeptSound, AreToldOfAnnounced, IsMended, ke
 use Rattle.interleave.specs.Trace.{Roomy, state_with}
 use Rattle.interleave.proofs.HoldsKept.{holds_after_recover, part_after_recover, explained_world}
 use Rattle.interleave.specs.Standing.{IsToldForGood, UnannouncedAreOut}
-use Rattle.interleave.proofs.StandingLaws.{told_stands, unannounced_are_out}
+use Rattle.interleave.proofs.StandingLaws.{told_stands, unannounced_are_out, nobody_at_ready}
+use Rattle.interleave.specs.Turn.{NobodyCalls}
 use Rattle.interleave.proofs.world.World.recover_step.Goals as goal
 
 pub invariant_of-self : goal.invariant_of-self
@@ -112,7 +113,7 @@ returns-clause-stands g c = λ ready.
     let holds = subst (λ (cs : List (Option UnderWay)). Holds (state_with (g.L.Layout.shape c.self.inside.layout) c.self.inside.memory c.self.inside.queue cs c.self.inside.trace)) (sym c.deref.ensures.value) c.self.invariant in
     let full = is_no_memory c.recover_on.result in
     let stands = told_stands full old holds (sym c.recover_on.ensures.result ∙ ready) in
-    subst (IsToldForGood) (sym c.recover_on.ensures.world) stands
+    subst (λ (cs : List (Option UnderWay)). IsToldForGood (state_with (g.L.Layout.shape c.self.inside.layout) c.recover_on.new.memory c.recover_on.new.queue cs c.recover_on.new.trace)) c.deref.ensures.value (subst (IsToldForGood) (sym c.recover_on.ensures.world) stands)
 
 pub returns-clause-floors : goal.returns-clause-floors
 returns-clause-floors g c = λ ready.
@@ -121,3 +122,10 @@ returns-clause-floors g c = λ ready.
     let full = is_no_memory c.recover_on.result in
     subst (AreWithinFloors) (sym c.recover_on.ensures.world)
     (within_floors_ready full old (holds_after_recover full old holds).numbers (sym c.recover_on.ensures.result ∙ ready))
+
+pub returns-clause-nobody : goal.returns-clause-nobody
+returns-clause-nobody g c = λ ready.
+    let old : State = state_with (g.L.Layout.shape c.self.inside.layout) c.self.inside.memory c.self.inside.queue c.deref.result.now c.self.inside.trace in
+    let holds = subst (λ (cs : List (Option UnderWay)). Holds (state_with (g.L.Layout.shape c.self.inside.layout) c.self.inside.memory c.self.inside.queue cs c.self.inside.trace)) (sym c.deref.ensures.value) c.self.invariant in
+    let full = is_no_memory c.recover_on.result in
+    subst (NobodyCalls) (sym c.recover_on.ensures.world) (nobody_at_ready full old holds (sym c.recover_on.ensures.result ∙ ready))

@@ -9,7 +9,7 @@ use Rattle.interleave.specs.State.{State, count_of}
 use Rattle.interleave.specs.Trace.{Roomy}
 use Rattle.interleave.proofs.HoldsKept.{explained_world}
 use Rattle.interleave.proofs.KeptTells.{kept_sound}
-use Rattle.interleave.proofs.RunLaws.{SoFar, none_so_far, one_more, ended, stands}
+use Rattle.interleave.proofs.RunLaws.{SoFar, none_so_far, one_more, ended}
 use mir.Val.{bool_byte}
 use Rattle.interleave.proofs.world.World.run.Goals as goal
 
@@ -70,7 +70,8 @@ returns-clause-run g c =
       went = run.went;
       room = c.loop-act.invariant.room;
       told = run.told;
-      stands = stands run;
+      goes_on = run.on;
+      stands = run.stands;
       tells = run.tells;
       ready = ended run holds;
     }

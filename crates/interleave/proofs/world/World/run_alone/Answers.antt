@@ -160,8 +160,8 @@ returns-in-Some-clause-ended g c =
     ended_on c.args.self.now.now c.loop-answer.self.now c.step.new.self.now c.loop-answer.invariant.went
     c.step.ensures.ended
 
-pub returns-in-Some-clause-reply : goal.returns-in-Some-clause-reply
-returns-in-Some-clause-reply g c = λ call turn.
+pub returns-in-Some-clause-turn : goal.returns-in-Some-clause-turn
+returns-in-Some-clause-turn g c = λ call turn.
     let inside : State = state_with (g.L.Layout.shape c.self.inside.layout) c.self.inside.memory c.self.inside.queue c.self.inside.calls.items c.self.inside.trace in
     let was : inside ≡ c.args.self.now.now = ap (λ (r : Roomy). r.now) c.self.view_is in
     let w : State = c.loop-answer.self.now in
@@ -169,23 +169,8 @@ returns-in-Some-clause-reply g c = λ call turn.
     let result : step_result false w c.args.client ≡ Ok (Some c.in-Some.reply) =
     ap (λ (b : Bool). step_result b w c.args.client) (sym paid)
     ∙ sym c.step.ensures.result ∙ c.in_ok-answer.was ∙ ap Ok c.in-Some.is in
-    (answered_in_turn c.args.self.now.now w c.step.new.self.now c.args.client call c.in-Some.reply turn
+    answered_in_turn c.args.self.now.now w c.step.new.self.now c.args.client call c.in-Some.reply turn
     (subst (IsExplained) was (explained_world inside c.self.invariant)) c.step.ensures.explained
     c.loop-answer.invariant.went
     (c.step.ensures.world ∙ ap (λ (b : Bool). after_step b w c.args.client) paid) result
-    (part_of_part c.step.ensures.order c.loop-answer.invariant.order) c.step.ensures.ended).0
-
-pub returns-in-Some-clause-content : goal.returns-in-Some-clause-content
-returns-in-Some-clause-content g c = λ call turn.
-    let inside : State = state_with (g.L.Layout.shape c.self.inside.layout) c.self.inside.memory c.self.inside.queue c.self.inside.calls.items c.self.inside.trace in
-    let was : inside ≡ c.args.self.now.now = ap (λ (r : Roomy). r.now) c.self.view_is in
-    let w : State = c.loop-answer.self.now in
-    let paid : is_no_memory c.step.result ≡ false = ap is_no_memory c.in_ok-answer.was in
-    let result : step_result false w c.args.client ≡ Ok (Some c.in-Some.reply) =
-    ap (λ (b : Bool). step_result b w c.args.client) (sym paid)
-    ∙ sym c.step.ensures.result ∙ c.in_ok-answer.was ∙ ap Ok c.in-Some.is in
-    (answered_in_turn c.args.self.now.now w c.step.new.self.now c.args.client call c.in-Some.reply turn
-    (subst (IsExplained) was (explained_world inside c.self.invariant)) c.step.ensures.explained
-    c.loop-answer.invariant.went
-    (c.step.ensures.world ∙ ap (λ (b : Bool). after_step b w c.args.client) paid) result
-    (part_of_part c.step.ensures.order c.loop-answer.invariant.order) c.step.ensures.ended).1
+    (part_of_part c.step.ensures.order c.loop-answer.invariant.order) c.step.ensures.ended

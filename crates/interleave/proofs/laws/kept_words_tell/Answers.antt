@@ -1,0 +1,8 @@
+use Rattle.interleave.proofs.RunStates.{next_tells, same_told}
+use Rattle.interleave.proofs.laws.kept_words_tell.Goals as goal
+
+pub returns-clause-by_words : goal.returns-clause-by_words
+returns-clause-by_words c = next_tells
+
+pub returns-clause-same : goal.returns-clause-same
+returns-clause-same c = same_told
