@@ -21,7 +21,7 @@ pub record IsLost (events : List Event) (order : List Entry) (call : Issued) : T
   pub by_crash : CrashAt events crash
   pub out : ¬ (InOrder order call.place)
 
--- the call was the client's and was lost, it is not kept that it took its record, and each word of that is 0
+-- the call was the client's and was lost, its bump word is not kept, and each word of its record is 0
 pub record LeftNothing (w : State) (client : Client) (call : Issued) : Type 0 where
   pub own : call.begun.client ≡ client
   pub lost : IsLost w.log.events (order_in w) call

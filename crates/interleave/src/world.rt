@@ -276,7 +276,7 @@ impl<L: Layout + Drop> World<L> {
             taken: 0,
             refused: 0,
         };
-        // What holds of the world at its beginning is known from here on.
+        // The borrow makes what holds of the world at its beginning known from here on.
         let _ = &self.layout;
         for act in acts {
             let taken = u64::from(self.act(*act));
@@ -292,7 +292,7 @@ impl<L: Layout + Drop> World<L> {
         ensures room { self.old.room ≤ self.new.room + count_of result }
         ensures holds { Holds self.new.now }
     {
-        // What holds of the world before the act is known from here on.
+        // The borrow makes what holds of the world before the act known from here on.
         let _ = &self.layout;
         match act {
             Act::Start {
@@ -377,7 +377,7 @@ impl<L: Layout + Drop> World<L> {
         })
     }
 
-    /// What happened since the history begins. It takes no memory. That `Holds` holds is what laws on states ask for.
+    /// What happened since the history begins. It takes no memory. Laws on states ask for `Holds`, as every world has it.
     pub fn history(&self) -> &History
         ensures base { result.now.base.items ≡ self.now.now.base }
         ensures told { result.now.told ≡ self.now.now.told }

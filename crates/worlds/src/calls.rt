@@ -168,6 +168,42 @@ fn runs_acts(rt: HostRuntime) -> Result<(), Fail> {
     Ok(())
 }
 
+/// A crash with a call under way, and then steps of recovery, more than it takes.
+static CRASH: [Act; 10] = [
+    Act::Start {
+        client: Client(0),
+        number: 1,
+        call: Call::Enq(7),
+    },
+    Act::Crash,
+    Act::Recover,
+    Act::Recover,
+    Act::Recover,
+    Act::Recover,
+    Act::Recover,
+    Act::Recover,
+    Act::Recover,
+    Act::Recover,
+];
+
+/// Runs the crash and the recovery, with no room made for them, and answers whether all went as it should.
+fn recovers_right<L: Layout + Drop>(world: &mut World<L>) -> Result<bool, Refusal> {
+    let ran = world.run(&CRASH);
+    let counted = ran.taken == 9 && ran.refused == 1;
+    let ready = !world.is_down() && world.history().events.len() == 3;
+    let empty = world.content()?.is_empty() && world.order()?.entries.len() == 0;
+    Ok(counted && ready && empty)
+}
+
+#[test]
+fn runs_crashes(rt: HostRuntime) -> Result<(), Fail> {
+    let right = durable(rt.alloc(), 1, 1).and_then(|mut world| recovers_right(&mut world));
+    assert!(rt; right == Ok(true));
+    let right = log(rt.alloc(), 1, 1).and_then(|mut world| recovers_right(&mut world));
+    assert!(rt; right == Ok(true));
+    Ok(())
+}
+
 /// What the clients 1 and 2 of a new world of two are told, and that neither has a call.
 fn told_at_first<L: Layout + Drop>(mut world: World<L>) -> Result<(Told, Told), Refusal> {
     let idle = world.run_alone(Client(1)).err() == Some(Refusal::Idle);
