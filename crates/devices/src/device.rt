@@ -1,9 +1,11 @@
 //! What is read from, and what is written to.
 
-ghost use Rattle.std.specs.Prelude.{◌≡◌, ◌<◌, ◌≤◌, ◌+◌, ◌-◌, ◌^◌, ℕ, List, Option, length, IfOk, OnOk};
+ghost use Rattle.std.specs.Prelude.{◌≡◌, ◌<◌, ◌≤◌, ◌+◌, ℕ, List, Option, length, IfOk, OnOk};
 ghost use Rattle.std.specs.Io.{ReadsAtMost};
 ghost use Rattle.std.specs.Io.KnownBytes.{Keeps, ReadConsumes, WriteAppends};
 ghost use Rattle.devices.specs.Devices.{failures_of, IsFlushed};
+
+use crate::limits::MAX_FAILURES;
 
 /// A device failed.
 #[derive(Clone, Copy, Debug, PartialEq, Eq)]
@@ -20,7 +22,7 @@ pub trait Reader {
     /// Reads some of the bytes to the front of the buffer, and answers how many: none only at the end, or where the
     /// buffer is empty.
     fn read(&mut self, buffer: &mut [u8]) -> Result<usize, Failed>
-        requires { failures self.old < 2 ^ 64 - 1 }
+        requires { failures self.old < MAX_FAILURES }
         ensures bound { ReadsAtMost result buffer.new }
         ensures bytes { ReadConsumes (left self.old) (left self.new) result buffer.new }
         ensures failures { failures self.new ≡ failures self.old + failures_of result };
@@ -39,7 +41,7 @@ pub trait Writer {
 
     /// Writes some of the bytes, from the first one on, and answers how many.
     fn write(&mut self, bytes: &[u8]) -> Result<usize, Failed>
-        requires room { failures self.old < 2 ^ 64 - 1 }
+        requires room { failures self.old < MAX_FAILURES }
         requires some { 0 < length bytes.now }
         ensures some { IfOk result (λ n. (0 < n) × (n ≤ length bytes.now)) }
         ensures bytes { WriteAppends (written self.old) (written self.new) result bytes.now }
@@ -47,7 +49,7 @@ pub trait Writer {
 
     /// Hands on all that was written.
     fn flush(&mut self) -> Result<(), Failed>
-        requires { failures self.old < 2 ^ 64 - 1 }
+        requires { failures self.old < MAX_FAILURES }
         ensures bytes { Keeps (written self.old) (written self.new) }
         ensures flushed { OnOk result (IsFlushed (written self.new) (flushed self.new)) }
         ensures failures { failures self.new ≡ failures self.old + failures_of result };

@@ -5,6 +5,7 @@
 mod counted;
 mod device;
 mod faulty;
+mod limits;
 #[cfg(test)]
 mod tests;
 mod transfer;
@@ -12,4 +13,5 @@ mod transfer;
 pub use counted::{CountedReader, CountedWriter};
 pub use device::{Failed, Reader, Writer};
 pub use faulty::{FaultyReader, FaultyWriter};
+pub use limits::MAX_FAILURES;
 pub use transfer::{Unread, next_byte, read_all, send, write_all};

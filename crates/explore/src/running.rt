@@ -1,12 +1,12 @@
 //! A script from a reader, followed to a writer.
 
-ghost use Rattle.std.specs.Prelude.{◌≡◌, ◌<◌, ◌-◌, ◌^◌, ◌↔◌, OnOk, IfErr, IsErrOf};
+ghost use Rattle.std.specs.Prelude.{◌≡◌, ◌<◌, ◌↔◌, OnOk, IfErr, IsErrOf};
 ghost use Rattle.devices.specs.Devices.{IsFlushed};
 ghost use Rattle.explore.specs.Run.{Prints, PrintsBeginning, IsRunRefusal, NamesBadLine, WritesNothing};
 
 use crate::parse::parse_script;
 use crate::play::transcript;
-use devices::{Reader, Unread, Writer, read_all, send};
+use devices::{MAX_FAILURES, Reader, Unread, Writer, read_all, send};
 use std::alloc::Global;
 use words::Refusal;
 
@@ -27,8 +27,8 @@ pub fn run<R: Reader, W: Writer>(
     reader: &mut R,
     writer: &mut W,
 ) -> Result<(), Refusal>
-    requires read_room { R.failures reader.old < 2 ^ 64 - 1 }
-    requires write_room { W.failures writer.old < 2 ^ 64 - 1 }
+    requires reads { R.failures reader.old < MAX_FAILURES }
+    requires writes { W.failures writer.old < MAX_FAILURES }
     ensures printed { OnOk result (Prints (R.left reader.old) (W.written writer.old) (W.written writer.new)) }
     ensures flushed { OnOk result (IsFlushed (W.written writer.new) (W.flushed writer.new)) }
     ensures refusals { IfErr result IsRunRefusal }
