@@ -30,6 +30,8 @@ try short-help 0 -h < /dev/null
 try help-command 0 help < /dev/null
 try run-help 0 run --help < /dev/null
 try help-run 0 help run < /dev/null
+try points-help 0 points --help < /dev/null
+try alone-help 0 alone --help < /dev/null
 try version 0 --version < /dev/null
 try short-version 0 -V < /dev/null
 try no-command 2 < /dev/null
@@ -53,6 +55,90 @@ for script in "$data"/*.script; do
         *) compare "script $name" 0 "$status" "$data/$name.out" /dev/null ;;
     esac
 done
+
+# Reports on those scripts that have one stored: a crash at each point, with no word kept, with every one and with drawn
+# ones, and each stopped call alone. Standard error is no terminal here, so nothing is written there.
+reports() {
+    local ending=$1 report name status
+    shift
+    for report in "$data"/*."$ending"; do
+        name=$(basename "$report" ".$ending")
+        status=0
+        "$pqx" "$@" < "$data/$name.script" > "$work/out" 2> "$work/err" || status=$?
+        compare "$* $name" 0 "$status" "$report" /dev/null
+    done
+}
+reports points points
+reports points points --evict none
+reports points-all points --evict all
+reports points-drawn points --evict drawn
+reports points-drawn points --draw 1 --evict drawn
+reports points-drawn-7 points --evict drawn --draw 7
+reports alone alone
+
+# Many points, in several batches: a line for each, none bad, and the same again.
+{
+    printf 'queue log 4 64\n'
+    for ((number = 1; number <= 30; number++)); do
+        for client in 0 1 2 3; do
+            printf 'enq %d %d %d\nend %d\n' "$client" "$number" "$((client + 4 * number))" "$client"
+        done
+    done
+} > "$work/in"
+"$pqx" points --evict drawn < "$work/in" > "$work/wanted"
+tail -n 1 "$work/wanted" > "$work/last"
+awk 'END { printf "points %d bad 0\n", NR - 1 }' "$work/wanted" > "$work/count"
+judge 'the last of many points' "$(difference 'standard output' "$work/count" "$work/last")"
+[ "$(wc -l < "$work/wanted")" -gt 2049 ] || judge 'many points' 'there are 2,048 points or fewer'
+status=0
+"$pqx" points --evict drawn < "$work/in" > "$work/out" 2> "$work/err" || status=$?
+compare 'many points again' 0 "$status" "$work/wanted" /dev/null
+
+# The page of a report: the same on standard output, and the stored page in its file. A file that cannot be written.
+status=0
+"$pqx" points --page "$work/page" < "$data/points-log-enqueue.script" > "$work/out" 2> "$work/err" || status=$?
+compare 'points --page' 0 "$status" "$data/points-log-enqueue.points" /dev/null
+judge 'the page' "$(difference 'the page' tests/pages/points-log-enqueue.html "$work/page")"
+status=0
+printf 'pqx: 27 WriteFailed\n' > "$work/wanted"
+"$pqx" points --page "$work/none/page" < "$data/points-log-enqueue.script" > "$work/out" 2> "$work/err" || status=$?
+compare 'a page without a folder' 1 "$status" "$data/points-log-enqueue.points" "$work/wanted"
+
+# What the reports say of bad scripts, options and devices.
+: > "$work/nothing"
+for command in points alone; do
+    printf 'queue durable 1 1\nstop\n' > "$work/in"
+    status=0
+    "$pqx" $command < "$work/in" > "$work/out" 2> "$work/err" || status=$?
+    printf 'pqx: line 2: 28 BadLine\n' > "$work/wanted"
+    compare "$command of a bad line" 1 "$status" /dev/null "$work/wanted"
+    status=0
+    printf '# no queue\n' | "$pqx" $command > "$work/out" 2> "$work/err" || status=$?
+    compare "$command of no queue" 0 "$status" /dev/null /dev/null
+    status=0
+    "$pqx" $command < tests > "$work/out" 2> "$work/err" || status=$?
+    printf 'pqx: 26 ReadFailed\n' > "$work/wanted"
+    compare "$command of a folder" 1 "$status" /dev/null "$work/wanted"
+    status=0
+    "$pqx" $command < examples/crash.script > /dev/full 2> "$work/err" || status=$?
+    printf 'pqx: 27 WriteFailed\n' > "$work/wanted"
+    : > "$work/out"
+    compare "$command to a full output" 1 "$status" /dev/null "$work/wanted"
+done
+bad_option() {
+    local status=0
+    "$pqx" "$@" < examples/crash.script > "$work/out" 2> "$work/err" || status=$?
+    [ -s "$work/err" ] || judge "$*" 'nothing on standard error'
+    compare "$*" 2 "$status" /dev/null "$work/err"
+}
+bad_option points --evict some
+bad_option points --evict
+bad_option points --draw x
+bad_option points --draw -1
+bad_option points --draw 18446744073709551616
+bad_option points crash.script
+bad_option alone --evict all
+bad_option run --evict all
 
 # Scripts that are no text: a byte 0, and bytes that no character has.
 printf 'queue durable 1 1\n\0\n' > "$work/in"

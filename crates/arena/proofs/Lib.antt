@@ -1,1 +1,2 @@
+pub mod BrokerWords
 pub mod Chains

@@ -1,5 +1,5 @@
 -- What follows of the words of a queue from their being laid out.
-use Rattle.std.specs.Prelude.{◌≡◌, ℕ, ◌<◌, ◌≤◌, Bool, true, false, List, length, Option, Some, ◌==◌, slice_index, slice_set, if◌then◌else◌, MatchOption, refl, ◌≢◌}
+use Rattle.std.specs.Prelude.{◌≡◌, ℕ, ◌≤◌, Bool, true, false, List, length, ◌==◌, slice_index, slice_set, if◌then◌else◌, refl, ◌≢◌}
 use Rattle.std.proofs.Common.{arith, inl, inr, sym, ap, get_or-set_other}
 use Rattle.std.proofs.lemmas.Bool.Decides.{eqb_tells}
 use Rattle.std.proofs.lemmas.Grind.{get_or-set_at}

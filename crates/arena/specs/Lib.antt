@@ -10,3 +10,4 @@ pub mod Answers
 pub mod Words
 pub mod Chain
 pub mod Content
+pub mod Broker

@@ -17,3 +17,15 @@ pub const TAKEN_STATUS: u64 = 1;
 
 /// The status of a dequeue's entry: it found the queue empty.
 pub const EMPTY_STATUS: u64 = 2;
+
+/// The kind of a slot: its queue is durable. A slot that never had a queue has 0 there.
+pub const DURABLE_QUEUE: u64 = 1;
+
+/// The kind of a slot: its queue is a log queue.
+pub const LOG_QUEUE: u64 = 2;
+
+/// The gate of a slot without a queue.
+pub const CLOSED_GATE: u64 = 0;
+
+/// The gate of a slot with a queue.
+pub const OPEN_GATE: u64 = 1;

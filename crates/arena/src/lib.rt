@@ -1,13 +1,21 @@
 //! Where things lie in a memory: the places of a queue, and the layouts that give each a word of its own.
 #![tactic(auto)]
 
+mod broker;
 mod codes;
 mod durable;
 mod layout;
 mod log;
 mod place;
 
-pub use codes::{DEQUEUE_KIND, EMPTY_CELL, EMPTY_STATUS, ENQUEUE_KIND, GOT_CELL, TAKEN_STATUS};
+pub use broker::{
+    BLOCKS_FROM, BrokerLayout, BrokerPlace, DIRECTORY_WORDS, HEAD_WORDS, MAX_BROKER_WORDS, SLOTS,
+    SlotId, block_size,
+};
+pub use codes::{
+    CLOSED_GATE, DEQUEUE_KIND, DURABLE_QUEUE, EMPTY_CELL, EMPTY_STATUS, ENQUEUE_KIND, GOT_CELL,
+    LOG_QUEUE, OPEN_GATE, TAKEN_STATUS,
+};
 pub use durable::DurableLayout;
 pub use layout::Layout;
 pub use log::LogLayout;

@@ -78,7 +78,7 @@ fn recoveries<L: Layout + Drop>(world: &World<L>) -> usize {
 
 /// So many drawn acts happen, whose calls have greater numbers than this, and it answers whether all is explained
 /// after every hundredth of them.
-fn happen<L: Layout + Drop>(
+pub(crate) fn happen<L: Layout + Drop>(
     alloc: Global,
     world: &mut World<L>,
     rng: &mut Pcg32,

@@ -6,4 +6,6 @@ mod beginnings;
 #[cfg(test)]
 mod drawn;
 #[cfg(test)]
+mod rotations;
+#[cfg(test)]
 mod sound;

@@ -77,3 +77,13 @@ impl<T> Sequence<T> {
         self.items.reserve(more)
     }
 }
+
+impl<T: Drop> Sequence<T> {
+    /// Drops the items, and keeps their room.
+    pub fn clear(&mut self)
+        ensures items { self.new.items ≡ [] }
+        ensures room { self.old.room ≤ self.new.room }
+    {
+        self.items.clear();
+    }
+}

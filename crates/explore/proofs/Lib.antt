@@ -4,5 +4,14 @@ pub mod Rows
 pub mod Scripts
 pub mod Unique
 pub mod Plays
-pub mod Alone
+pub mod GoingAlone
 pub mod Recoveries
+pub mod InOrder
+pub mod Draws
+pub mod Shapes
+pub mod Crashes
+pub mod Explained
+pub mod StoppedCalls
+pub mod Sweeps
+pub mod Written
+pub mod Printing

@@ -9,3 +9,7 @@ pub mod Steps
 pub mod Play
 pub mod Transcript
 pub mod Run
+pub mod Acts
+pub mod Points
+pub mod Stopped
+pub mod Reports

@@ -5,24 +5,36 @@ use Rattle.devices.specs.Devices.{AppendsBeginning}
 use Rattle.words.specs.declared.refusal.Refusal.{Refusal}
 use Rattle.words.specs.declared.refusal.Refusal.TheVariants.{BadLine, NoMemory, ReadFailed, WriteFailed}
 use Rattle.explore.specs.Lines.{lines_of}
+use Rattle.explore.specs.Scripted.{Scripted}
 use Rattle.explore.specs.Script.{Says, IsFirstBad}
-use Rattle.explore.specs.Transcript.{script_text}
 use Rattle.explore.specs.declared.command.Command.{Command}
 use Rattle.explore.specs.declared.command.QueueLine.{QueueLine}
 
--- where the bytes to read are known, they say a script, and what it prints was written
-abbrev pub Prints : Option (List ℕ) → Option (List ℕ) → Option (List ℕ) → Type 0
-Prints None old new = Unit {0}
-Prints (Some text) old new =
-    (queue : Option QueueLine) × (commands : List Command)
-    × Says (lines_of text) queue commands × Appends old new (script_text queue commands)
+-- where the bytes to read are known, they say this script
+abbrev pub SaysInput : Option (List ℕ) → Scripted → Type 0
+SaysInput None script = Unit {0}
+SaysInput (Some text) script = Says (lines_of text) script.queue script.commands
 
--- or only a beginning of what it prints
-abbrev pub PrintsBeginning : Option (List ℕ) → Option (List ℕ) → Option (List ℕ) → Type 0
-PrintsBeginning None old new = Unit {0}
-PrintsBeginning (Some text) old new =
+-- where the bytes to read are known, they say a script, and what is printed of it was written
+abbrev pub Prints : (Option QueueLine → List Command → List ℕ)
+    → Option (List ℕ) → Option (List ℕ) → Option (List ℕ) → Type 0
+Prints printed None old new = Unit {0}
+Prints printed (Some text) old new =
     (queue : Option QueueLine) × (commands : List Command)
-    × Says (lines_of text) queue commands × AppendsBeginning old new (script_text queue commands)
+    × Says (lines_of text) queue commands × Appends old new (printed queue commands)
+
+-- or only a beginning of that
+abbrev pub PrintsBeginning : (Option QueueLine → List Command → List ℕ)
+    → Option (List ℕ) → Option (List ℕ) → Option (List ℕ) → Type 0
+PrintsBeginning printed None old new = Unit {0}
+PrintsBeginning printed (Some text) old new =
+    (queue : Option QueueLine) × (commands : List Command)
+    × Says (lines_of text) queue commands × AppendsBeginning old new (printed queue commands)
+
+-- a failed read, want of memory, or a bad line
+abbrev pub IsReadRefusal : Refusal → Type 0
+IsReadRefusal refusal =
+    (refusal ≡ ReadFailed) ⊎ (refusal ≡ NoMemory) ⊎ ((number : ℕ) × (refusal ≡ BadLine number))
 
 -- a failed read, want of memory, a failed write, or a bad line
 abbrev pub IsRunRefusal : Refusal → Type 0

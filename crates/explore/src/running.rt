@@ -1,13 +1,21 @@
 //! A script from a reader, followed to a writer.
 
-ghost use Rattle.std.specs.Prelude.{◌≡◌, ◌<◌, ◌↔◌, OnOk, IfErr, IsErrOf};
-ghost use Rattle.devices.specs.Devices.{IsFlushed};
-ghost use Rattle.explore.specs.Run.{Prints, PrintsBeginning, IsRunRefusal, NamesBadLine, WritesNothing};
+ghost use Rattle.std.specs.Prelude.{◌≡◌, ◌<◌, ◌↔◌, OnOk, OnErr, IfOk, IfErr, IsErrOf};
+ghost use Rattle.std.specs.Io.KnownBytes.{Appends};
+ghost use Rattle.devices.specs.Devices.{AppendsBeginning, IsFlushed};
+ghost use Rattle.explore.specs.Reports.{points_text, stopped_text};
+ghost use Rattle.explore.specs.Run.{Prints, PrintsBeginning, IsReadRefusal, IsRunRefusal, NamesBadLine, SaysInput, WritesNothing};
+ghost use Rattle.explore.specs.Transcript.{script_text};
 
+use crate::evictions::Evictions;
 use crate::parse::parse_script;
 use crate::play::transcript;
+use crate::reports::{pictured_points, points_text, stopped_text};
+use crate::script::Script;
+use crate::watch::Watch;
 use devices::{MAX_FAILURES, Reader, Unread, Writer, read_all, send};
 use std::alloc::Global;
+use std::thread::Threads;
 use words::Refusal;
 
 /// What an unread script is called.
@@ -21,6 +29,30 @@ fn unread_refusal(unread: Unread) -> Refusal
     }
 }
 
+/// Reads a whole script.
+fn read_script<R: Reader>(alloc: Global, reader: &mut R) -> Result<Script, Refusal>
+    requires { R.failures reader.old < MAX_FAILURES }
+    ensures script { IfOk result (SaysInput (R.left reader.old)) }
+    ensures refusals { IfErr result IsReadRefusal }
+    ensures read_failed { IsErrOf result Refusal.ReadFailed ↔ (R.failures reader.old < R.failures reader.new) }
+    ensures bad_line { IfErr result (NamesBadLine (R.left reader.old)) }
+{
+    let text = read_all(alloc, reader).map_err(unread_refusal)?;
+    parse_script(alloc, &text)
+}
+
+/// Writes all that is printed.
+fn print<W: Writer>(writer: &mut W, printed: &[u8]) -> Result<(), Refusal>
+    requires { W.failures writer.old < MAX_FAILURES }
+    ensures printed { OnOk result (Appends (W.written writer.old) (W.written writer.new) printed.now) }
+    ensures flushed { OnOk result (IsFlushed (W.written writer.new) (W.flushed writer.new)) }
+    ensures refusals { IfErr result (λ e. e ≡ Refusal.WriteFailed) }
+    ensures write_failed { IsErrOf result Refusal.WriteFailed ↔ (W.failures writer.old < W.failures writer.new) }
+    ensures beginning { OnErr result (AppendsBeginning (W.written writer.old) (W.written writer.new) printed.now) }
+{
+    send(writer, printed).map_err(|_| Refusal::WriteFailed)
+}
+
 /// Reads the whole script before anything runs, follows it, and writes what it prints.
 pub fn run<R: Reader, W: Writer>(
     alloc: Global,
@@ -29,7 +61,7 @@ pub fn run<R: Reader, W: Writer>(
 ) -> Result<(), Refusal>
     requires reads { R.failures reader.old < MAX_FAILURES }
     requires writes { W.failures writer.old < MAX_FAILURES }
-    ensures printed { OnOk result (Prints (R.left reader.old) (W.written writer.old) (W.written writer.new)) }
+    ensures printed { OnOk result (Prints script_text (R.left reader.old) (W.written writer.old) (W.written writer.new)) }
     ensures flushed { OnOk result (IsFlushed (W.written writer.new) (W.flushed writer.new)) }
     ensures refusals { IfErr result IsRunRefusal }
     ensures read_failed { IsErrOf result Refusal.ReadFailed ↔ (R.failures reader.old < R.failures reader.new) }
@@ -37,10 +69,90 @@ pub fn run<R: Reader, W: Writer>(
     ensures bad_line { IfErr result (NamesBadLine (R.left reader.old)) }
     ensures unwritten { IfErr result (WritesNothing (W.written writer.old) (W.written writer.new)) }
     ensures beginning { IsErrOf result Refusal.WriteFailed
-        → PrintsBeginning (R.left reader.old) (W.written writer.old) (W.written writer.new) }
+        → PrintsBeginning script_text (R.left reader.old) (W.written writer.old) (W.written writer.new) }
 {
-    let text = read_all(alloc, reader).map_err(unread_refusal)?;
-    let script = parse_script(alloc, &text)?;
+    let script = read_script(alloc, reader)?;
     let printed = transcript(alloc, &script)?;
-    send(writer, &printed).map_err(|_| Refusal::WriteFailed)
+    print(writer, &printed)
+}
+
+/// Reads the whole script before anything runs, and writes what a crash at each of its points comes to. `watch` is told
+/// how many points are made.
+pub fn run_points<H: Threads + Sync, R: Reader, W: Writer, T: Watch>(
+    rt: &H,
+    alloc: Global,
+    reader: &mut R,
+    writer: &mut W,
+    evictions: Evictions,
+    watch: &mut T,
+) -> Result<(), Refusal>
+    requires reads { R.failures reader.old < MAX_FAILURES }
+    requires writes { W.failures writer.old < MAX_FAILURES }
+    ensures printed { OnOk result (Prints (points_text evictions) (R.left reader.old) (W.written writer.old) (W.written writer.new)) }
+    ensures flushed { OnOk result (IsFlushed (W.written writer.new) (W.flushed writer.new)) }
+    ensures refusals { IfErr result IsRunRefusal }
+    ensures read_failed { IsErrOf result Refusal.ReadFailed ↔ (R.failures reader.old < R.failures reader.new) }
+    ensures write_failed { IsErrOf result Refusal.WriteFailed ↔ (W.failures writer.old < W.failures writer.new) }
+    ensures bad_line { IfErr result (NamesBadLine (R.left reader.old)) }
+    ensures unwritten { IfErr result (WritesNothing (W.written writer.old) (W.written writer.new)) }
+    ensures beginning { IsErrOf result Refusal.WriteFailed
+        → PrintsBeginning (points_text evictions) (R.left reader.old) (W.written writer.old) (W.written writer.new) }
+{
+    let script = read_script(alloc, reader)?;
+    let printed = points_text(rt, alloc, &script, evictions, watch)?;
+    print(writer, &printed)
+}
+
+/// Reads the whole script before anything runs, and writes what a crash at each of its points comes to, as `run_points`
+/// does. It answers a page that shows the same: an HTML file, empty where the script has no queue.
+pub fn run_page<H: Threads + Sync, R: Reader, W: Writer, T: Watch>(
+    rt: &H,
+    alloc: Global,
+    reader: &mut R,
+    writer: &mut W,
+    evictions: Evictions,
+    watch: &mut T,
+) -> Result<Vec<u8>, Refusal>
+    requires reads { R.failures reader.old < MAX_FAILURES }
+    requires writes { W.failures writer.old < MAX_FAILURES }
+    ensures printed { OnOk result (Prints (points_text evictions) (R.left reader.old) (W.written writer.old) (W.written writer.new)) }
+    ensures flushed { OnOk result (IsFlushed (W.written writer.new) (W.flushed writer.new)) }
+    ensures refusals { IfErr result IsRunRefusal }
+    ensures read_failed { IsErrOf result Refusal.ReadFailed ↔ (R.failures reader.old < R.failures reader.new) }
+    ensures write_failed { IsErrOf result Refusal.WriteFailed ↔ (W.failures writer.old < W.failures writer.new) }
+    ensures bad_line { IfErr result (NamesBadLine (R.left reader.old)) }
+    ensures unwritten { IfErr result (WritesNothing (W.written writer.old) (W.written writer.new)) }
+    ensures beginning { IsErrOf result Refusal.WriteFailed
+        → PrintsBeginning (points_text evictions) (R.left reader.old) (W.written writer.old) (W.written writer.new) }
+{
+    let script = read_script(alloc, reader)?;
+    let found = pictured_points(rt, alloc, &script, evictions, watch)?;
+    match print(writer, &found.text) {
+        Ok(()) => Ok(found.page),
+        Err(refusal) => Err(refusal),
+    }
+}
+
+/// Reads the whole script before anything runs, and writes what becomes of each call that stopped at one of its points,
+/// where it goes on alone.
+pub fn run_alone<R: Reader, W: Writer>(
+    alloc: Global,
+    reader: &mut R,
+    writer: &mut W,
+) -> Result<(), Refusal>
+    requires reads { R.failures reader.old < MAX_FAILURES }
+    requires writes { W.failures writer.old < MAX_FAILURES }
+    ensures printed { OnOk result (Prints stopped_text (R.left reader.old) (W.written writer.old) (W.written writer.new)) }
+    ensures flushed { OnOk result (IsFlushed (W.written writer.new) (W.flushed writer.new)) }
+    ensures refusals { IfErr result IsRunRefusal }
+    ensures read_failed { IsErrOf result Refusal.ReadFailed ↔ (R.failures reader.old < R.failures reader.new) }
+    ensures write_failed { IsErrOf result Refusal.WriteFailed ↔ (W.failures writer.old < W.failures writer.new) }
+    ensures bad_line { IfErr result (NamesBadLine (R.left reader.old)) }
+    ensures unwritten { IfErr result (WritesNothing (W.written writer.old) (W.written writer.new)) }
+    ensures beginning { IsErrOf result Refusal.WriteFailed
+        → PrintsBeginning stopped_text (R.left reader.old) (W.written writer.old) (W.written writer.new) }
+{
+    let script = read_script(alloc, reader)?;
+    let printed = stopped_text(alloc, &script)?;
+    print(writer, &printed)
 }

@@ -28,6 +28,7 @@ use Rattle.interleave.specs.Values.{value_of_place, is_place}
 use Rattle.interleave.specs.State.{machine}
 use Rattle.interleave.proofs.HoldsKept.{no_call}
 use Rattle.interleave.proofs.NumbersKept.{numbers_booted}
+use Rattle.interleave.proofs.FloorsKept.{floors_none}
 use Rattle.interleave.proofs.RecordsKept.{accounted_none}
 use Rattle.interleave.proofs.ValueLaws.{shown_at, is_place-from}
 
@@ -83,5 +84,6 @@ module _ (s : Shape) (ws : Words) (some : 1 ≤ s.clients) (few : s.clients ≤ 
         kind = kind_told s.kind (tells_by s (value_of_place s ws.kept));
         inv = subst Invariant (sym booted_is) (to_invariant _ (boots s (value_of_place s ws.kept) (may s ws some few sound)));
         numbers = numbers_booted s.kind (tells_by s (value_of_place s ws.kept)) (length-map-range_with_len (told_by s (value_of_place s ws.kept)) 0 16);
+        floors = floors_none (machine (booted_world s ws)) refl (no_call s.clients) (booted_world s ws).queue;
         records = accounted_none (machine (booted_world s ws)) refl;
       }

@@ -39,6 +39,7 @@ use Rattle.events.specs.declared.event.Effect.{Effect}
 use Rattle.words.specs.declared.told.Told.{Told}
 use Rattle.words.specs.declared.told.Told.TheVariants.{None as told_none}
 use Rattle.interleave.specs.Calls.{waiting_result, idle_result}
+use Rattle.interleave.specs.Floors.{AreFloorsRightIn}
 use Rattle.interleave.specs.Holds.{Holds, IsExplained, Invariant, from_invariant, to_invariant}
 use Rattle.interleave.specs.Queue.{number_check, new_queue, told_in}
 use Rattle.interleave.specs.Ranges.{IsOfKind, IsSafe, IfCall}
@@ -55,6 +56,7 @@ use Rattle.protocol.specs.Acts.{TellsNothing}
 use Rattle.interleave.proofs.MachineFacts.{agreement}
 use Rattle.interleave.proofs.NoteLaws.{place_of_word}
 use Rattle.interleave.proofs.NumbersKept.{IsAboveFloor, above_accepted, numbers_are_once, numbers_begun, numbers_crashed, numbers_evicted, numbers_gone_on, numbers_new, numbers_recovered}
+use Rattle.interleave.proofs.FloorsKept.{floors_crashed, floors_evicted, floors_none, floors_recovered, floors_started, floors_stepped}
 use Rattle.interleave.proofs.RecordsKept.{accounted_crashed, accounted_evicted, accounted_none}
 use Rattle.interleave.proofs.RecordsKept.{accounted_recovered, accounted_started, accounted_stepped}
 use Rattle.interleave.proofs.Safety.{call_fits as call_in_range, IsSafe-accessed, IsSafe-gone_on, IsSafe-begun, IsSafe-evicted}
@@ -207,11 +209,14 @@ holds_gone_on w client u holds here =
     let may = may_step w client u holds here in
     let inv = from_invariant _ holds.inv in
     let after = inv_stepped (machine w) inv client u may in
+    let few : client.0 < 16 = omega (arith, slice_get_within w.calls client.0 (Some u) here, holds.safe.clients, holds.safe.few) in
     record {
       safe = IsSafe-gone_on w.shape w.words w.calls w.base w.told w.log client.0 u holds.safe here;
       kind = kind_left w.shape.kind w.queue u (next_of (machine w) u) holds.kind;
       inv = subst Invariant (sym (gone_on_is w client u holds here)) (to_invariant _ after);
       numbers = numbers_gone_on w client u inv after may holds.numbers;
+      floors = subst (AreFloorsRightIn (after_one_access w client u).queue) (sym (gone_on_is w client u holds here))
+          (floors_stepped (machine w) inv client u may w.queue holds.numbers few holds.floors);
       records = subst AreAccountedFor (sym (gone_on_is w client u holds here))
           (accounted_stepped (machine w) inv client u may holds.records);
     }
@@ -228,6 +233,7 @@ holds_counted w holds = record {
   kind = holds.kind;
   inv = holds.inv;
   numbers = holds.numbers;
+  floors = holds.floors;
   records = holds.records;
 }
 
@@ -270,6 +276,8 @@ holds_begun w client number call holds ready idle left number_fits above call_fi
       kind = holds.kind;
       inv = inv;
       numbers = numbers_begun w client number call (from_invariant _ holds.inv) (from_invariant _ inv) (omega (arith, within, holds.safe.clients, holds.safe.few)) above holds.numbers;
+      floors = subst (AreFloorsRightIn w.queue) (sym (begun_state_is w client number call idle))
+          (floors_started (machine w) client number call may w.queue above holds.floors);
       records = subst AreAccountedFor (sym (begun_state_is w client number call idle))
           (accounted_started (machine w) client number call may holds.records);
     }
@@ -328,6 +336,8 @@ holds_after_evict w word holds = from_place (place_at w.shape word) refl
           kind = holds.kind;
           inv = subst Invariant (sym (evicted_is w word p holds e)) (to_invariant _ (inv_evicted (machine w) (from_invariant _ holds.inv) p));
           numbers = numbers_evicted w word p (from_invariant _ holds.inv) holds.numbers;
+          floors = subst (AreFloorsRightIn w.queue) (sym (evicted_is w word p holds e))
+              (floors_evicted (machine w) (from_invariant _ holds.inv) p w.queue holds.floors);
           records = subst AreAccountedFor (sym (evicted_is w word p holds e))
               (accounted_evicted (machine w) (from_invariant _ holds.inv) p holds.records);
         }
@@ -393,6 +403,7 @@ holds_crashed w holds =
       kind = holds.kind;
       inv = inv;
       numbers = numbers_crashed w (from_invariant _ inv) holds.numbers;
+      floors = subst (AreFloorsRightIn w.queue) (sym (crashed_is w)) (floors_crashed (machine w) w.queue);
       records = subst AreAccountedFor (sym (crashed_is w))
           (accounted_crashed (machine w) (from_invariant _ holds.inv) holds.records);
     }
@@ -453,6 +464,8 @@ holds_recovered w r holds e =
       kind = kind_recovered s.kind w.queue (next_recovery (machine w) r) holds.kind;
       inv = inv;
       numbers = numbers_recovered w r (from_invariant _ inv) holds.kind holds.numbers;
+      floors = subst (AreFloorsRightIn (after_recovery_step w r).queue) (sym (recovered_is w r holds e))
+          (floors_recovered (machine w) (from_invariant _ holds.inv) r e w.queue holds.kind);
       records = subst AreAccountedFor (sym (recovered_is w r holds e))
           (accounted_recovered (machine w) (from_invariant _ holds.inv) r e holds.records);
     }
@@ -498,6 +511,7 @@ holds_new s some few kind =
       kind = kind;
       inv = subst Invariant (sym (new_is s)) (to_invariant _ (inv_new s (new_world s).told some few (tells_nothing s some few)));
       numbers = numbers_new s.kind s.clients;
+      floors = floors_none (machine (new_world s)) refl (no_call s.clients) (new_world s).queue;
       records = accounted_none (machine (new_world s)) refl;
     }
 

@@ -3,12 +3,15 @@ pub mod RunLaws
 pub mod RunStates
 pub mod NumberLaws
 pub mod NumbersKept
+pub mod FloorsKept
 pub mod ValueLaws
 pub mod Unsettled
+pub mod Prefixes
 pub mod Records
 pub mod Contents
 pub mod InRange
 pub mod NoteLaws
+pub mod OverLaws
 pub mod Safety
 pub mod MachineFacts
 pub mod EvictLaws
@@ -27,3 +30,4 @@ pub mod ToldForGood
 pub mod StandingLaws
 pub mod Turns
 pub mod TurnLaws
+pub mod Rotated

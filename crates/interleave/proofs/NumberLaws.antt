@@ -20,7 +20,7 @@ use Rattle.logqueue.specs.Numbers.{floor_of, floor_from}
 use Rattle.events.specs.Effects.{order_of}
 use Rattle.events.specs.History.{CallAt, ReturnAt, ReadyAt, BeginsAt, IsOpenFrom, MayStand}
 use Rattle.events.specs.Orders.{InOrder, IsNew}
-use Rattle.events.specs.Telling.{BeginsTaken, IsOutcome, IsToldSome, Says, TellsRightly}
+use Rattle.events.specs.Telling.{BeginsTaken, IsOutcome, IsToldBase, IsToldSome, Says, TellsRightly}
 use Rattle.events.specs.Trace.{IsTrace}
 use Rattle.events.specs.declared.event.Effect.{Effect}
 use Rattle.events.specs.declared.event.Entry.{Entry}
@@ -29,6 +29,7 @@ use Rattle.events.specs.declared.event.Event.TheVariants.{Call as call_event, Re
 use Rattle.events.specs.declared.event.Event.TheVariants.{Crash as crash_event, Ready as ready_event}
 use Rattle.events.proofs.Growing.{begins_longer}
 use Rattle.events.proofs.Lists.{get_before, get_last, get_longer, get_push_cases}
+use Rattle.events.proofs.Members.{in_order_from_taken}
 use Rattle.interleave.specs.Numbers.{HasNumber, IsEntryOf, IsInDoubt, told_floor, IsWithinFloors}
 use Rattle.interleave.specs.Numbers.{NumbersAreOnce, NumbersRise}
 use Rattle.interleave.specs.Queue.{told_to}
@@ -299,7 +300,7 @@ floor_if_taken order p number (told_verdict verdict) says there = go verdict.out
 floor_if_taken order p number (told_row row) says there = absurd says
 floor_if_taken order p number told_none says there = absurd says
 
-floor_if_told : (order : List Entry) (p number : ℕ) (told : Told) → Says log_kind order p number told
+pub floor_if_told : (order : List Entry) (p number : ℕ) (told : Told) → Says log_kind order p number told
     → number ≤ floor_of told + 1
 floor_if_told order p number (told_verdict verdict) says = go verdict.outcome
   where
@@ -412,6 +413,56 @@ rise_ready base told events effects floors tells log v =
         let floor = floor_at client few in
         omega (arith, low, floor)
 
+-- where a client is told rightly, its numbers in the order are at most the floor by what it is told
+pub told_covers : (told : List Told) (events : List Event) (order : List Entry) (floors : List ℕ)
+    → NumbersRise told events order floors → (client : Client) (x : Told)
+    → IsToldSome log_kind events order client (length events) x
+    ⊎ IsToldBase log_kind told events order client (length events) x
+    → (p n : ℕ) → HasNumber events client p n → InOrder order p → n ≤ floor_of x
+told_covers told events order floors v client x rightly p n has there = ⊎_elim
+    (λ some.
+    let a = some.place in
+    let m = some.tells.number in
+    let at_a : HasNumber events client a m = (some.tells.begins.call, some.tells.begins.begins) in
+    ⊎_elim
+    (λ lt.
+    let less = v.rise p a n m client has at_a lt there in
+    let high = floor_if_told order a m x some.tells.says in
+    omega (arith, less, high))
+    (λ ge. ⊎_elim
+    (λ lt. absurd (some.tells.last.none p (omega (arith, lt)) within taken))
+    (λ le.
+    let same : p ≡ a = omega (arith, ge, le) in
+    let at : CallAt events a client n has.0 = subst (λ (q : ℕ). CallAt events q client n has.0) same has.1 in
+    let one : n ≡ m = cc (at, at_a.1) in
+    let floor = floor_if_taken order a m x some.tells.says (subst (InOrder order) same there) in
+    omega (arith, one, floor))
+    (cases_lt a p))
+    (cases_lt p a))
+    (λ none. absurd (none.none.none p (omega arith) within taken))
+    rightly
+  where
+    within : p < length events
+    within = slice_get_within events p _ has.1
+
+    taken : BeginsTaken log_kind events order client p
+    taken = record {
+      number = n;
+      begins = record { call = has.0; begins = has.1; told_of = tt };
+      taken = there;
+    }
+
+-- the floor by what is told of a call is at most what its number is where it is in the order, and one less where not
+pub floor_at_most : (order : List Entry) (p number high : ℕ) (told : Told) → Says log_kind order p number told
+    → (InOrder order p → number ≤ high) → number ≤ high + 1 → floor_of told ≤ high
+floor_at_most order p number high (told_verdict verdict) says taken below = go verdict.outcome says.1
+  where
+    go : (outcome : Outcome) → IsOutcome order p outcome → floor_from verdict.number outcome ≤ high
+    go (Taken reply) is = let low = taken (in_order_from_taken order p reply is) in omega (arith, low, says.0)
+    go NotTaken is = omega (arith, below, says.0)
+floor_at_most order p number high (told_row row) says taken below = absurd says
+floor_at_most order p number high told_none says taken below = absurd says
+
 -- where the history begins, clients have their floors by what the base tells
 pub rise_begun : (told : List Told) → length told ≡ MAX_CLIENTS → NumbersRise told [] [] (map floor_of told)
 rise_begun told sixteen = record {
@@ -428,7 +479,7 @@ rise_begun told sixteen = record {
 }
 
 -- an entry's call is in the order
-there_at : (order : List Entry) (i : ℕ) (x : Entry) → slice_get order i ≡ Some x → InOrder order x.place
+pub there_at : (order : List Entry) (i : ℕ) (x : Entry) → slice_get order i ≡ Some x → InOrder order x.place
 there_at order i x at = (i, x, slice_get_within order i x at, get_or_from_slice_get order i x x at, refl)
 
 -- two entries have two places

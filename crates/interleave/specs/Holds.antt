@@ -5,6 +5,7 @@ use Rattle.events.specs.History.{IsHistory}
 use Rattle.events.specs.Replay.{queue_after}
 use Rattle.protocol.specs.Machine.{World}
 use Rattle.protocol.specs.invariants.Worlds.{Inv}
+use Rattle.interleave.specs.Floors.{AreFloorsRight}
 use Rattle.interleave.specs.Numbers.{AreNumbersOnce, AreNumbersRising}
 use Rattle.interleave.specs.Ranges.{IsSafe, IsOfKind}
 use Rattle.interleave.specs.Reuse.{AreAccountedFor}
@@ -23,12 +24,14 @@ unfolding Invariant
 to_invariant w inv = inv
 
 -- its words and waiting points are in range, its queue is of the layout's kind, the machine that it is keeps its
--- invariants, the numbers of a log queue's calls rise, and each record that a call took is accounted for
+-- invariants, the numbers of a log queue's calls rise and its floors fit them, and each record that a call took is
+-- accounted for
 pub record Holds (w : State) : Type 0 where
   pub safe : IsSafe w.shape w.words w.calls
   pub kind : IsOfKind w.shape.kind w.queue
   pub inv : Invariant (machine w)
   pub numbers : AreNumbersRising w
+  pub floors : AreFloorsRight w
   pub records : AreAccountedFor (machine w)
 
 -- the history may arise, the order explains it, the kept words hold what the replay of the order leaves, and no number

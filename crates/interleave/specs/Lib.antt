@@ -1,4 +1,5 @@
 pub mod Content
+pub mod Core
 pub mod Queue
 pub mod Calls
 pub mod Values
@@ -7,6 +8,7 @@ pub mod Trace
 pub mod State
 pub mod Numbers
 pub mod Reuse
+pub mod Floors
 pub mod Holds
 pub mod Changes
 pub mod Ranges
@@ -18,3 +20,4 @@ pub mod Standing
 pub mod Turn
 pub mod Runs
 pub mod Premises
+pub mod Rotation

@@ -1,5 +1,5 @@
 -- Every word that calls read, and every number of a waiting call, is in its range: so each step is safe, in every interleaving.
-use Rattle.std.specs.Prelude.{◌≡◌, ℕ, ◌≤◌, List, Option, Some, None, length, slice_index, slice_index_or}
+use Rattle.std.specs.Prelude.{◌≡◌, ℕ, ◌≤◌, List, Option, Some, None, length, replicate, slice_index, slice_index_or}
 use Rattle.persist.specs.Memory.{Words}
 use Rattle.words.specs.declared.limits.TheConstants.{MAX_CLIENTS}
 use Rattle.arena.specs.Layout.{size_of, word_at}
@@ -27,6 +27,17 @@ pub record WordsFit (s : Shape) (ws : Words) : Type 0 where
   pub count : SizeIsSound s ws.kept
   pub cached : AllFit s ws.cached
   pub kept : AllFit s ws.kept
+
+-- all words are 0, cached and kept, and they are as many as the layout has, or a block's
+pub record AreUnused (s : Shape) (ws : Words) : Type 0 where
+  pub count : SizeIsSound s ws.kept
+  pub cached : ws.cached ≡ replicate (length ws.kept) 0
+  pub kept : ws.kept ≡ replicate (length ws.kept) 0
+
+-- there are as many kept words as the layout has, and what calls read is in its range: of words to look at
+pub record KeptFit (s : Shape) (ws : List ℕ) : Type 0 where
+  pub room : size_of s ≤ length ws
+  pub fits : AllFit s ws
 
 -- what a call under way learnt is in range
 pub record CallFits (s : Shape) (u : UnderWay) : Type 0 where

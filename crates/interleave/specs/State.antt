@@ -82,6 +82,10 @@ new_world s = record {
   recovery = None;
 }
 
+-- the same over these words
+abbrev pub world_over : Shape → Words → State
+world_over s ws = record (new_world s) { words = ws }
+
 -- how many records a client has used
 abbrev pub used_by : State → Client → ℕ
 used_by w client = bumps (machine w).memory.cached client.0

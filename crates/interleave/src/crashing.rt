@@ -1,127 +1,112 @@
 //! A crash of the whole system, and the steps of recovery.
 
-ghost use Rattle.std.specs.Prelude.{◌≡◌, ◌<◌, ◌≤◌, ◌+◌, ◌++◌, ◌∷◌, [], true, false, is_some, IfSome, Some, None, Ok, IfErr};
+ghost use Rattle.std.specs.Prelude.{◌≡◌, ◌<◌, ◌≤◌, ◌+◌, ◌++◌, ◌∷◌, [], true, false, is_some, length, IfSome, Some, None, Ok, IfErr};
+ghost use Rattle.persist.specs.Memory.{Words, words_after_crash};
 ghost use Rattle.events.specs.declared.event.Event.TheVariants.{Ready as ready_event};
 ghost use Rattle.stepper.specs.Step.{after_one, value_found};
 ghost use Rattle.recover.specs.Table.{access_of, recovery_after};
 ghost use Rattle.recover.specs.declared.recovery.Recovery.{Recovery as AnyRecovery};
 ghost use Rattle.protocol.specs.Machine.{recovery_left, recovery_events};
 ghost use Rattle.interleave.specs.Calls.{is_no_memory};
+ghost use Rattle.interleave.specs.Core.{core_with_room, state_of};
 ghost use Rattle.interleave.specs.Holds.{Holds};
 ghost use Rattle.interleave.specs.Queue.{queue_with_reports};
 ghost use Rattle.interleave.specs.Recoveries.{MayRecover};
-ghost use Rattle.interleave.specs.State.{after_crash, crash_result, after_recover, recover_result, queue_at_ready, is_ready};
-ghost use Rattle.interleave.specs.Trace.{state_with};
+ghost use Rattle.interleave.specs.State.{after_stop, crash_result, after_recover, recover_result, queue_at_ready, is_ready};
 
-use crate::calls::end_all;
-use crate::queue::Queue;
-use crate::trace::Trace;
+use crate::lent::Core;
 use arena::Layout;
-use persist::Memory;
-use protocol::UnderWay;
+use persist::WordMemory;
 use words::Refusal;
 
-/// The whole system stops, if there is memory to note it: what is not kept is lost, calls under way end, and
-/// recovery begins anew.
-pub(crate) fn crash_all<L: Layout>(
-    layout: &L,
-    memory: &mut Memory,
-    queue: &Queue,
-    calls: &mut Vec<Option<UnderWay>>,
-    trace: &mut Trace,
-) -> Result<(), Refusal>
-    requires holds { Holds (state_with (L.shape layout.now) memory.old queue.now calls.old.items trace.old) }
-    ensures world { state_with (L.shape layout.now) memory.new queue.now calls.new.items trace.new
-        ≡ after_crash (is_no_memory result)
-        (state_with (L.shape layout.now) memory.old queue.now calls.old.items trace.old) }
-    ensures result { result ≡ crash_result (is_no_memory result) }
-    ensures full { is_no_memory result ≡ true → trace.old.room ≡ 0 }
-    ensures room { trace.old.room ≤ trace.new.room + 1 }
-    ensures spare { IfErr result (λ e. trace.old.room ≤ trace.new.room) }
-{
-    if trace.reserve(1).is_err() {
-        return Err(Refusal::NoMemory);
+impl<L: Layout + Drop> Core<L> {
+    /// The whole system stops: calls under way end without an answer, and recovery begins anew, also where it was under
+    /// way. The memory's own crash goes with it, and is the caller's: before the next act every cached value is the kept
+    /// one. It is refused for want of memory alone (NoMemory), and then nothing changed.
+    pub fn crash(&mut self) -> Result<(), Refusal>
+        requires { length self.old.trace.log.effects ≤ length self.old.trace.log.events }
+        ensures stopped { result ≡ Ok tt
+            → (ws : Words) → state_of self.new (words_after_crash ws) ≡ after_stop (state_of self.old ws) }
+        ensures same { IfErr result (λ e. self.new ≡ core_with_room self.old self.new.trace.room) }
+        ensures result { result ≡ crash_result (is_no_memory result) }
+        ensures full { is_no_memory result ≡ true → self.old.trace.room ≡ 0 }
+        ensures room { self.old.trace.room ≤ self.new.trace.room + 1 }
+        ensures spare { IfErr result (λ e. self.old.trace.room ≤ self.new.trace.room) }
+    {
+        self.reserve(1)?;
+        self.calls.end_all();
+        self.trace.crash();
+        Ok(())
     }
-    memory.crash();
-    end_all(calls);
-    trace.crash();
-    Ok(())
-}
 
-/// Recovery ends, and the clients are told what it read. What they are told is large, and stands in a function of its
-/// own so that no other step pays for its room.
-fn end_recovery(queue: &mut Queue, trace: &mut Trace)
-    requires down { is_some trace.old.recovery ≡ true }
-    requires room { 0 < trace.old.room }
-    ensures base { trace.new.base ≡ trace.old.base }
-    ensures told { trace.new.told ≡ trace.old.told }
-    ensures issued { trace.new.log.issued ≡ trace.old.log.issued }
-    ensures effects { trace.new.log.effects ≡ trace.old.log.effects }
-    ensures events { (r : AnyRecovery) → trace.old.recovery ≡ Some r
-        → trace.new.log.events ≡ trace.old.log.events ++ ready_event r.told ∷ [] }
-    ensures recovery { trace.new.recovery ≡ None }
-    ensures queue { (r : AnyRecovery) → trace.old.recovery ≡ Some r
-        → queue.new ≡ queue_with_reports queue.old r.told }
-    ensures room { trace.old.room ≤ trace.new.room + 1 }
-{
-    let told = trace.end_recovery();
-    queue.recovered(told);
-}
+    /// Recovery ends, and the clients are told what it read. What they are told is large, and stands in a function of its
+    /// own so that no other step pays for its room.
+    fn end_recovery(&mut self)
+        requires down { is_some self.old.trace.recovery ≡ true }
+        requires room { 0 < self.old.trace.room }
+        ensures shape { self.new.shape ≡ self.old.shape }
+        ensures calls { self.new.calls ≡ self.old.calls }
+        ensures base { self.new.trace.base ≡ self.old.trace.base }
+        ensures told { self.new.trace.told ≡ self.old.trace.told }
+        ensures issued { self.new.trace.log.issued ≡ self.old.trace.log.issued }
+        ensures effects { self.new.trace.log.effects ≡ self.old.trace.log.effects }
+        ensures events { (r : AnyRecovery) → self.old.trace.recovery ≡ Some r
+            → self.new.trace.log.events ≡ self.old.trace.log.events ++ ready_event r.told ∷ [] }
+        ensures recovery { self.new.trace.recovery ≡ None }
+        ensures queue { (r : AnyRecovery) → self.old.trace.recovery ≡ Some r
+            → self.new.queue ≡ queue_with_reports self.old.queue r.told }
+        ensures room { self.old.trace.room ≤ self.new.trace.room + 1 }
+    {
+        let told = self.trace.end_recovery();
+        self.queue.recovered(told);
+    }
 
-/// Recovery makes a step, and once it is at its end the clients are told what it read. It answers whether it is.
-fn recover_once<L: Layout>(
-    layout: &L,
-    memory: &mut Memory,
-    queue: &mut Queue,
-    trace: &mut Trace,
-) -> bool
-    requires down { is_some trace.old.recovery ≡ true }
-    requires room { 0 < trace.old.room }
-    requires may { IfSome trace.old.recovery (λ r. MayRecover (L.shape layout.now) memory.old r) }
-    ensures base { trace.new.base ≡ trace.old.base }
-    ensures told { trace.new.told ≡ trace.old.told }
-    ensures issued { trace.new.log.issued ≡ trace.old.log.issued }
-    ensures effects { trace.new.log.effects ≡ trace.old.log.effects }
-    ensures step { (r : AnyRecovery) → trace.old.recovery ≡ Some r →
-        let s = L.shape layout.now in let access = access_of s.kind r.at in
-        let next = recovery_after s r (value_found s access memory.old) in
-        (memory.new ≡ after_one s access memory.old) × (trace.new.recovery ≡ recovery_left next)
-        × (trace.new.log.events ≡ recovery_events trace.old.log.events next)
-        × (queue.new ≡ queue_at_ready queue.old next) × (result ≡ is_ready next) }
-    ensures room { trace.old.room ≤ trace.new.room + 1 }
-    ensures stays { result ≡ false → trace.old.room ≤ trace.new.room }
-{
-    if !trace.recover(layout, memory) {
-        return false;
+    /// Recovery makes a step, and once it is at its end the clients are told what it read. It answers whether it is.
+    fn recover_once<M: WordMemory>(&mut self, memory: &mut M) -> bool
+        requires down { is_some self.old.trace.recovery ≡ true }
+        requires room { 0 < self.old.trace.room }
+        requires may { IfSome self.old.trace.recovery (λ r. MayRecover self.old.shape (M.words memory.old) r) }
+        ensures shape { self.new.shape ≡ self.old.shape }
+        ensures calls { self.new.calls ≡ self.old.calls }
+        ensures base { self.new.trace.base ≡ self.old.trace.base }
+        ensures told { self.new.trace.told ≡ self.old.trace.told }
+        ensures issued { self.new.trace.log.issued ≡ self.old.trace.log.issued }
+        ensures effects { self.new.trace.log.effects ≡ self.old.trace.log.effects }
+        ensures step { (r : AnyRecovery) → self.old.trace.recovery ≡ Some r →
+            let s = self.old.shape in let access = access_of s.kind r.at in
+            let next = recovery_after s r (value_found s access (M.words memory.old)) in
+            (M.words memory.new ≡ after_one s access (M.words memory.old))
+            × (self.new.trace.recovery ≡ recovery_left next)
+            × (self.new.trace.log.events ≡ recovery_events self.old.trace.log.events next)
+            × (self.new.queue ≡ queue_at_ready self.old.queue next) × (result ≡ is_ready next) }
+        ensures room { self.old.trace.room ≤ self.new.trace.room + 1 }
+        ensures stays { result ≡ false → self.old.trace.room ≤ self.new.trace.room }
+    {
+        if !self.trace.recover(&self.layout, memory) {
+            return false;
+        }
+        self.end_recovery();
+        true
     }
-    end_recovery(queue, trace);
-    true
-}
 
-/// One step of recovery, unless none is under way or there is no memory. It answers whether the queue is ready now.
-pub(crate) fn recover_on<L: Layout>(
-    layout: &L,
-    memory: &mut Memory,
-    queue: &mut Queue,
-    calls: &[Option<UnderWay>],
-    trace: &mut Trace,
-) -> Result<bool, Refusal>
-    requires holds { Holds (state_with (L.shape layout.now) memory.old queue.old calls.now trace.old) }
-    ensures world { state_with (L.shape layout.now) memory.new queue.new calls.now trace.new
-        ≡ after_recover (is_no_memory result)
-        (state_with (L.shape layout.now) memory.old queue.old calls.now trace.old) }
-    ensures result { result ≡ recover_result (is_no_memory result)
-        (state_with (L.shape layout.now) memory.old queue.old calls.now trace.old) }
-    ensures full { is_no_memory result ≡ true → trace.old.room ≡ 0 }
-    ensures room { trace.old.room ≤ trace.new.room + 1 }
-    ensures spare { IfErr result (λ e. trace.old.room ≤ trace.new.room) }
-    ensures stays { result ≡ Ok false → trace.old.room ≤ trace.new.room }
-{
-    if !trace.is_down() {
-        return Err(Refusal::AlreadyReady);
+    /// One step of recovery: exactly one access. It answers whether the queue is ready now, and then each client is
+    /// told what became of its last call. It is refused, in this order, where no recovery is under way (AlreadyReady),
+    /// and for want of memory (NoMemory).
+    pub fn recover_step<M: WordMemory>(&mut self, memory: &mut M) -> Result<bool, Refusal>
+        requires holds { Holds (state_of self.old (M.words memory.old)) }
+        ensures world { state_of self.new (M.words memory.new)
+            ≡ after_recover (is_no_memory result) (state_of self.old (M.words memory.old)) }
+        ensures result { result ≡ recover_result (is_no_memory result) (state_of self.old (M.words memory.old)) }
+        ensures full { is_no_memory result ≡ true → self.old.trace.room ≡ 0 }
+        ensures room { self.old.trace.room ≤ self.new.trace.room + 1 }
+        ensures spare { IfErr result (λ e. self.old.trace.room ≤ self.new.trace.room) }
+        ensures stays { result ≡ Ok false → self.old.trace.room ≤ self.new.trace.room }
+        ensures holds { Holds (state_of self.new (M.words memory.new)) }
+    {
+        if !self.is_down() {
+            return Err(Refusal::AlreadyReady);
+        }
+        self.reserve(1)?;
+        Ok(self.recover_once(memory))
     }
-    if trace.reserve(1).is_err() {
-        return Err(Refusal::NoMemory);
-    }
-    Ok(recover_once(layout, memory, queue, trace))
 }

@@ -12,6 +12,8 @@ ghost use Rattle.protocol.specs.declared.UnderWay.{UnderWay};
 ghost use Rattle.interleave.specs.Premises.{IsMoreInRange, MayGoOn};
 ghost use Rattle.interleave.specs.Recoveries.{MayRecover};
 ghost use Rattle.interleave.specs.Holds.{Holds};
+ghost use Rattle.interleave.specs.Rotation.{IsQuiet, ShareNoNumber};
+ghost use Rattle.words.specs.declared.call.Kind.{Kind};
 ghost use Rattle.interleave.specs.Standing.{IsBeginningOf};
 ghost use Rattle.protocol.specs.Acts.{recoveries};
 ghost use Rattle.interleave.specs.Runs.{Went, recovery_steps, TellsNext};
@@ -69,4 +71,11 @@ pub fn steps_stay_in_range()
     ensures calls { (w : State) (client : Client) (call : UnderWay) → Holds w
         → slice_get w.calls client.0 ≡ Some (Some call) → MayGoOn w call }
     ensures recovery { (w : State) (r : Recovery) → Holds w → w.recovery ≡ Some r → MayRecover w.shape w.words r }
+{}
+
+/// Where a world's history ends at rest, and the next one's base tells what its kept words tell, as after a rotation, no
+/// client of a log queue has a call of one number in both orders: a number acts at most once over rotations too.
+pub fn numbers_are_new()
+    ensures { (old new : State) → Holds old → IsQuiet old → Holds new → new.shape.kind ≡ Kind.Log
+        → new.told ≡ kept_tells old → ShareNoNumber old new }
 {}

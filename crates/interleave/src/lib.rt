@@ -8,8 +8,10 @@ mod crashing;
 mod effects;
 mod evicting;
 mod laws;
+mod lent;
 mod notice;
 mod queue;
+mod rotating;
 mod starting;
 mod steps;
 mod trace;
@@ -17,8 +19,9 @@ mod world;
 
 pub use acts::{Act, Ran};
 pub use laws::{
-    acts_with_room_are_made, histories_go_on, kept_words_tell, one_access_an_act, one_event_an_act,
-    steps_stay_in_range,
+    acts_with_room_are_made, histories_go_on, kept_words_tell, numbers_are_new, one_access_an_act,
+    one_event_an_act, steps_stay_in_range,
 };
+pub use lent::Core;
 pub use queue::Queue;
 pub use world::World;

@@ -1,116 +1,103 @@
 //! What takes effect when a kept word changes.
 
 ghost use Rattle.std.specs.Prelude.{◌≡◌, ◌≤◌, length, slice_index_or, None};
+ghost use Rattle.arena.specs.Layout.{size_of};
 ghost use Rattle.arena.specs.Shape.{owner};
 ghost use Rattle.arena.specs.Place.{IsPlace};
 ghost use Rattle.protocol.specs.Machine.{effects_on_keep, effects_on_count};
+ghost use Rattle.interleave.specs.Core.{machine_over, core_with_effects};
 ghost use Rattle.interleave.specs.Effects.{AreInSequence};
-ghost use Rattle.interleave.specs.Trace.{machine_with, with_effects};
 ghost use Rattle.interleave.specs.Changes.{effects_on_change};
 ghost use Rattle.interleave.specs.Ranges.{WordsFit};
 ghost use Rattle.interleave.specs.Values.{value_of_place};
 
-use crate::trace::Trace;
+use crate::lent::Core;
 use arena::{EMPTY_CELL, EMPTY_STATUS, Layout, Place};
-use persist::{Change, KeptWords, Memory};
+use persist::{Change, EvictableWords, KeptWords};
 use protocol::UnderWay;
 use words::Reply;
 
 /// The kept value of a place. Looking at it is no access.
-pub(crate) fn kept_at<L: Layout>(layout: &L, memory: &Memory, place: Place) -> u64
+pub(crate) fn kept_at<L: Layout, K: KeptWords>(layout: &L, kept: &K, place: Place) -> u64
     requires place { IsPlace (L.shape layout.now) place }
-    requires fit { WordsFit (L.shape layout.now) memory.now }
-    ensures { result ≡ value_of_place (L.shape layout.now) memory.now.kept place }
+    requires room { size_of (L.shape layout.now) ≤ length (K.kept_words kept.now) }
+    ensures { result ≡ value_of_place (L.shape layout.now) (K.kept_words kept.now) place }
 {
     let word = layout.word(place);
-    memory.kept(word)
+    kept.kept(word)
 }
 
-/// The call whose record has this number, if it is under way.
-fn call_with<L: Layout>(layout: &L, calls: &[Option<UnderWay>], number: u64) -> Option<UnderWay>
-    ensures { result ≡ slice_index_or calls.now (owner (L.shape layout.now) number) None }
-{
-    let owner = number.saturating_sub(1) / layout.records() as u64;
-    match calls.get(owner as usize) {
-        Some(call) => *call,
-        None => None,
+impl<L: Layout + Drop> Core<L> {
+    /// The call whose record has this number, if it is under way.
+    fn call_with(&self, number: u64) -> Option<UnderWay>
+        ensures { result ≡ slice_index_or self.now.calls (owner self.now.shape number) None }
+    {
+        let owner = number.saturating_sub(1) / self.layout.records() as u64;
+        self.calls.under_way(owner as usize)
     }
-}
 
-/// The kept value of a place has become this: a call takes effect when its link or its claim is kept, and an empty
-/// dequeue counts when its answer is.
-fn notice<L: Layout>(
-    layout: &L,
-    memory: &Memory,
-    calls: &[Option<UnderWay>],
-    trace: &mut Trace,
-    place: Place,
-    new: u64,
-)
-    requires place { IsPlace (L.shape layout.now) place }
-    requires fit { WordsFit (L.shape layout.now) memory.now }
-    requires sequence { AreInSequence trace.old.log.effects }
-    requires room { length (effects_on_keep
-        (machine_with (L.shape layout.now) memory.now calls.now trace.old) place new) ≤ length trace.old.log.events }
-    ensures { trace.new ≡ with_effects trace.old
-        (effects_on_keep (machine_with (L.shape layout.now) memory.now calls.now trace.old) place new) }
-{
-    match place {
-        Place::Next(_) => {
-            if let Some(under_way) = call_with(layout, calls, new) {
-                trace.take(under_way.place, Reply::Done);
-            }
+    /// What the call with this record found counts.
+    fn settle_call(&mut self, number: u64)
+        requires sequence { AreInSequence self.old.trace.log.effects }
+        ensures { self.new ≡ core_with_effects self.old (effects_on_count
+            (slice_index_or self.old.calls (owner self.old.shape number) None) self.old.trace.log.effects) }
+    {
+        if let Some(under_way) = self.call_with(number) {
+            self.trace.settle(under_way.place);
         }
-        Place::Mark(node) => {
-            if let Some(under_way) = call_with(layout, calls, new) {
-                let value = kept_at(layout, memory, Place::Value(node)) as u32;
-                trace.take(under_way.place, Reply::Got(value));
-            }
-        }
-        Place::Cell(token) => {
-            if new == EMPTY_CELL {
-                settle_call(layout, calls, trace, token.0 as u64);
-            }
-        }
-        Place::Status(entry) => {
-            if new == EMPTY_STATUS {
-                settle_call(layout, calls, trace, entry.0 as u64);
-            }
-        }
-        _ => {}
     }
-}
 
-/// What takes effect by a change of a kept word, if there was one: by a step's flush, or by an eviction.
-pub(crate) fn note_change<L: Layout>(
-    layout: &L,
-    memory: &Memory,
-    calls: &[Option<UnderWay>],
-    trace: &mut Trace,
-    change: Option<Change>,
-)
-    requires fit { WordsFit (L.shape layout.now) memory.now }
-    requires sequence { AreInSequence trace.old.log.effects }
-    requires room { let w = machine_with (L.shape layout.now) memory.now calls.now trace.old in
-        length (effects_on_change w change) ≤ length trace.old.log.events }
-    ensures { let w = machine_with (L.shape layout.now) memory.now calls.now trace.old in
-        trace.new ≡ with_effects trace.old (effects_on_change w change) }
-{
-    let Some(change) = change else {
-        return;
-    };
-    if let Some(place) = layout.what_is(change.word) {
-        notice(layout, memory, calls, trace, place, change.new);
+    /// The kept value of a place has become this: a call takes effect when its link or its claim is kept, and an empty
+    /// dequeue counts when its answer is.
+    fn notice<M: EvictableWords>(&mut self, memory: &M, place: Place, new: u64)
+        requires place { IsPlace self.old.shape place }
+        requires fit { WordsFit self.old.shape (M.words memory.now) }
+        requires sequence { AreInSequence self.old.trace.log.effects }
+        requires room { length (effects_on_keep (machine_over self.old (M.words memory.now)) place new)
+            ≤ length self.old.trace.log.events }
+        ensures { self.new ≡ core_with_effects self.old
+            (effects_on_keep (machine_over self.old (M.words memory.now)) place new) }
+    {
+        match place {
+            Place::Next(_) => {
+                if let Some(under_way) = self.call_with(new) {
+                    self.trace.take(under_way.place, Reply::Done);
+                }
+            }
+            Place::Mark(node) => {
+                if let Some(under_way) = self.call_with(new) {
+                    let value = kept_at(&self.layout, memory, Place::Value(node)) as u32;
+                    self.trace.take(under_way.place, Reply::Got(value));
+                }
+            }
+            Place::Cell(token) => {
+                if new == EMPTY_CELL {
+                    self.settle_call(token.0 as u64);
+                }
+            }
+            Place::Status(entry) => {
+                if new == EMPTY_STATUS {
+                    self.settle_call(entry.0 as u64);
+                }
+            }
+            _ => {}
+        }
     }
-}
 
-/// What the call with this record found counts.
-fn settle_call<L: Layout>(layout: &L, calls: &[Option<UnderWay>], trace: &mut Trace, number: u64)
-    requires sequence { AreInSequence trace.old.log.effects }
-    ensures { trace.new ≡ with_effects trace.old
-        (effects_on_count (slice_index_or calls.now (owner (L.shape layout.now) number) None) trace.old.log.effects) }
-{
-    if let Some(under_way) = call_with(layout, calls, number) {
-        trace.settle(under_way.place);
+    /// What takes effect by a change of a kept word, if there was one: by a step's flush, or by an eviction.
+    pub(crate) fn note_change<M: EvictableWords>(&mut self, memory: &M, change: Option<Change>)
+        requires fit { WordsFit self.old.shape (M.words memory.now) }
+        requires sequence { AreInSequence self.old.trace.log.effects }
+        requires room { length (effects_on_change (machine_over self.old (M.words memory.now)) change)
+            ≤ length self.old.trace.log.events }
+        ensures { self.new ≡ core_with_effects self.old
+            (effects_on_change (machine_over self.old (M.words memory.now)) change) }
+    {
+        let Some(change) = change else {
+            return;
+        };
+        if let Some(place) = self.layout.what_is(change.word) {
+            self.notice(memory, place, change.new);
+        }
     }
 }

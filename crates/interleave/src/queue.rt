@@ -2,6 +2,7 @@
 
 ghost use Rattle.std.specs.Prelude.{◌≡◌, ◌<◌, ◌≤◌, Ok, Err};
 ghost use Rattle.interleave.specs.Booted.{queue_at_boot};
+ghost use Rattle.interleave.specs.Rotation.{queue_with_told};
 ghost use Rattle.interleave.specs.Queue.{new_queue, told_in, number_check, after_return, queue_with_reports};
 
 use durable::DurableQueue;
@@ -72,6 +73,16 @@ impl Queue {
             Queue::Durable(_) => Queue::Durable(DurableQueue::recovered(told)),
             Queue::Log(_) => Queue::Log(LogQueue::recovered(told)),
         };
+    }
+
+    /// Where a history begins anew its clients are told this, and the floors of their numbers stay.
+    pub(crate) fn tell(&mut self, told: Reports)
+        ensures { self.new ≡ queue_with_told self.old told }
+    {
+        match self {
+            Queue::Durable(queue) => *queue = DurableQueue::recovered(told),
+            Queue::Log(queue) => queue.tell(told),
+        }
     }
 
     /// Notes that a call of this number was answered.

@@ -1,92 +1,127 @@
 //! The start of a call.
 
-ghost use Rattle.std.specs.Prelude.{◌≡◌, ◌≤◌, ◌<◌, ◌+◌, ◌==◌, length, slice_get, Some, None, true, if◌then◌else◌, Ok, IfErr};
+ghost use Rattle.std.specs.Prelude.{◌≡◌, ◌≤◌, ◌<◌, ◌+◌, ◌++◌, ◌∷◌, [], ◌==◌, length, slice_get, slice_set, slice_index, Some, None, true, if◌then◌else◌, Ok, IfErr};
+ghost use Rattle.persist.specs.Memory.{Load};
+ghost use Rattle.arena.specs.Layout.{size_of, word_at};
+ghost use Rattle.arena.specs.Place.{IsPlace};
+ghost use Rattle.arena.specs.declared.place.Place.TheVariants.{Bump};
+ghost use Rattle.stepper.specs.Step.{after_one};
+ghost use Rattle.helping.specs.Table.{begun_at};
+ghost use Rattle.events.specs.declared.event.Event.TheVariants.{Call as call_event};
 ghost use Rattle.interleave.specs.Calls.{is_no_memory};
+ghost use Rattle.interleave.specs.Core.{state_of};
 ghost use Rattle.interleave.specs.Holds.{Holds};
 ghost use Rattle.interleave.specs.State.{after_start, start_result, start_with, start_result_with};
-ghost use Rattle.interleave.specs.Trace.{state_with};
 
-use crate::calls::{check_idle, record_number};
-use crate::queue::Queue;
-use crate::trace::Trace;
+use crate::calls::record_number;
+use crate::lent::Core;
 use arena::{Layout, Place};
 use helping::Op;
-use persist::Memory;
+use persist::WordMemory;
 use protocol::UnderWay;
 use stepper::{Begun, load_at};
 use words::{Call, Client, Refusal};
 
-/// Begins a call of a client that has none, with its next record. The load of the bump word comes first.
-fn begin<L: Layout>(
-    layout: &L,
-    memory: &mut Memory,
-    queue: &Queue,
-    calls: &mut [Option<UnderWay>],
-    trace: &mut Trace,
-    client: Client,
-    number: u64,
-    call: Call,
-) -> Result<(), Refusal>
-    requires holds { Holds (state_with (L.shape layout.now) memory.old queue.now calls.old trace.old) }
-    requires ready { trace.old.recovery ≡ None }
-    requires idle { slice_get calls.old client.0 ≡ Some None }
-    ensures world { state_with (L.shape layout.now) memory.new queue.now calls.new trace.new
-        ≡ start_with (is_no_memory result)
-        (state_with (L.shape layout.now) memory.old queue.now calls.old trace.old) client call (Ok number) }
-    ensures result { result ≡ start_result_with (is_no_memory result)
-        (state_with (L.shape layout.now) memory.old queue.now calls.old trace.old) client (Ok number) }
-    ensures full { is_no_memory result ≡ true → trace.old.room ≡ 0 }
-    ensures room { trace.old.room ≤ trace.new.room + 1 }
-    ensures spare { IfErr result (λ e. trace.old.room ≤ trace.new.room) }
-{
-    let records = layout.records();
-    let clients = layout.clients();
-    let used = load_at(layout, memory, Place::Bump(client));
-    if used == records as u64 {
-        return Err(Refusal::NoRoom);
+impl<L: Layout + Drop> Core<L> {
+    /// Loads the client's bump word: how many records it used.
+    fn load_bump<M: WordMemory>(&self, memory: &mut M, client: Client) -> u64
+        requires place { IsPlace self.now.shape (Bump client) }
+        requires room { size_of self.now.shape ≤ length (M.words memory.old).cached }
+        ensures value { result ≡ slice_index (M.words memory.old).cached (word_at self.now.shape (Bump client)) }
+        ensures one_access { M.words memory.new ≡ after_one self.now.shape (Load (Bump client)) (M.words memory.old) }
+    {
+        load_at(&self.layout, memory, Place::Bump(client))
     }
-    if trace.reserve(1).is_err() {
-        return Err(Refusal::NoMemory);
-    }
-    let used = used as u32;
-    let begun = Begun {
-        client,
-        used,
-        token: record_number(clients, records, client, used),
-        number,
-        call,
-    };
-    calls[client.0 as usize] = Some(UnderWay {
-        place: trace.moment(),
-        begun,
-        op: Op::begin(layout.kind(), begun),
-    });
-    trace.begin(begun);
-    Ok(())
-}
 
-/// Starts a call, unless it is refused.
-pub(crate) fn start_call<L: Layout>(
-    layout: &L,
-    memory: &mut Memory,
-    queue: &Queue,
-    calls: &mut Vec<Option<UnderWay>>,
-    trace: &mut Trace,
-    client: Client,
-    number: u64,
-    call: Call,
-) -> Result<(), Refusal>
-    requires holds { Holds (state_with (L.shape layout.now) memory.old queue.now calls.old.items trace.old) }
-    ensures world { state_with (L.shape layout.now) memory.new queue.now calls.new.items trace.new
-        ≡ after_start (is_no_memory result)
-        (state_with (L.shape layout.now) memory.old queue.now calls.old.items trace.old) client number call }
-    ensures result { result ≡ start_result (is_no_memory result)
-        (state_with (L.shape layout.now) memory.old queue.now calls.old.items trace.old) client number }
-    ensures full { is_no_memory result ≡ true → trace.old.room ≡ 0 }
-    ensures room { trace.old.room ≤ trace.new.room + 1 }
-    ensures spare { IfErr result (λ e. trace.old.room ≤ trace.new.room) }
-{
-    check_idle(calls, trace.is_down(), client)?;
-    let number = queue.number(client, number)?;
-    begin(layout, memory, queue, calls, trace, client, number, call)
+    /// A client that is there begins a call, with this record.
+    fn take_record(&mut self, begun: Begun)
+        requires client { begun.client.0 < length self.old.calls }
+        requires room { 0 < self.old.trace.room }
+        ensures shape { self.new.shape ≡ self.old.shape }
+        ensures queue { self.new.queue ≡ self.old.queue }
+        ensures calls { let place = length self.old.trace.log.events in
+            self.new.calls ≡ slice_set self.old.calls begun.client.0
+            (Some (record { place = place; begun = begun; op = begun_at self.old.shape.kind begun })) }
+        ensures base { self.new.trace.base ≡ self.old.trace.base }
+        ensures told { self.new.trace.told ≡ self.old.trace.told }
+        ensures events { self.new.trace.log.events
+            ≡ self.old.trace.log.events ++ call_event begun.client begun.number begun.call ∷ [] }
+        ensures issued { let place = length self.old.trace.log.events in
+            self.new.trace.log.issued ≡ self.old.trace.log.issued ++ record { place = place; begun = begun } ∷ [] }
+        ensures effects { self.new.trace.log.effects ≡ self.old.trace.log.effects }
+        ensures recovery { self.new.trace.recovery ≡ self.old.trace.recovery }
+        ensures room { self.old.trace.room ≤ self.new.trace.room + 1 }
+    {
+        let under_way = UnderWay {
+            place: self.trace.moment(),
+            begun,
+            op: Op::begin(self.layout.kind(), begun),
+        };
+        self.calls.begin(begun.client, under_way);
+        self.trace.begin(begun);
+    }
+
+    /// Begins a call of a client that has none, with its next record. The load of the bump word comes first.
+    fn begin<M: WordMemory>(
+        &mut self,
+        memory: &mut M,
+        client: Client,
+        number: u64,
+        call: Call,
+    ) -> Result<(), Refusal>
+        requires holds { Holds (state_of self.old (M.words memory.old)) }
+        requires ready { self.old.trace.recovery ≡ None }
+        requires idle { slice_get self.old.calls client.0 ≡ Some None }
+        ensures world { state_of self.new (M.words memory.new)
+            ≡ start_with (is_no_memory result) (state_of self.old (M.words memory.old)) client call (Ok number) }
+        ensures result { result
+            ≡ start_result_with (is_no_memory result) (state_of self.old (M.words memory.old)) client (Ok number) }
+        ensures full { is_no_memory result ≡ true → self.old.trace.room ≡ 0 }
+        ensures room { self.old.trace.room ≤ self.new.trace.room + 1 }
+        ensures spare { IfErr result (λ e. self.old.trace.room ≤ self.new.trace.room) }
+    {
+        let records = self.layout.records();
+        let clients = self.layout.clients();
+        let used = self.load_bump(memory, client);
+        if used == records as u64 {
+            return Err(Refusal::NoRoom);
+        }
+        self.reserve(1)?;
+        let used = used as u32;
+        let begun = Begun {
+            client,
+            used,
+            token: record_number(clients, records, client, used),
+            number,
+            call,
+        };
+        self.take_record(begun);
+        Ok(())
+    }
+
+    /// Starts a call. It is refused, in this order, where there is no such client (NoClient), where recovery is under
+    /// way (NotReady), where the client has a call under way (Busy), where a log queue finds its number stale
+    /// (StaleNumber), where the client's records are used up (NoRoom), and for want of memory (NoMemory); the last two
+    /// alone make an access. A durable queue ignores the number.
+    pub fn start<M: WordMemory>(
+        &mut self,
+        memory: &mut M,
+        client: Client,
+        number: u64,
+        call: Call,
+    ) -> Result<(), Refusal>
+        requires holds { Holds (state_of self.old (M.words memory.old)) }
+        ensures world { state_of self.new (M.words memory.new)
+            ≡ after_start (is_no_memory result) (state_of self.old (M.words memory.old)) client number call }
+        ensures result { result
+            ≡ start_result (is_no_memory result) (state_of self.old (M.words memory.old)) client number }
+        ensures full { is_no_memory result ≡ true → self.old.trace.room ≡ 0 }
+        ensures room { self.old.trace.room ≤ self.new.trace.room + 1 }
+        ensures spare { IfErr result (λ e. self.old.trace.room ≤ self.new.trace.room) }
+        ensures holds { Holds (state_of self.new (M.words memory.new)) }
+    {
+        self.calls.check_idle(self.trace.is_down(), client)?;
+        let number = self.queue.number(client, number)?;
+        self.begin(memory, client, number, call)
+    }
 }

@@ -1,25 +1,23 @@
 //! One step of a call.
 
-ghost use Rattle.std.specs.Prelude.{◌≡◌, ◌≤◌, ◌<◌, ◌+◌, length, slice_get, slice_set, Some, None, Ok, true, false, IfErr};
-ghost use Rattle.stepper.specs.Step.{after_one};
-ghost use Rattle.helping.specs.Table.{access_of};
+ghost use Rattle.std.specs.Prelude.{◌≡◌, ◌≤◌, ◌<◌, ◌+◌, length, is_some, slice_get, slice_set, Some, None, Ok, true, false, IfErr};
+ghost use Rattle.arena.specs.Layout.{size_of};
+ghost use Rattle.stepper.specs.Step.{after_one, change_by, value_found, IsReadInRange};
+ghost use Rattle.helping.specs.Table.{access_of, successor, IsPoint};
 ghost use Rattle.protocol.specs.declared.UnderWay.{UnderWay as AnyUnderWay};
 ghost use Rattle.protocol.specs.Machine.{effects_after, events_after, next_of, with_step, with_next};
-ghost use Rattle.interleave.specs.Calls.{answer_of, is_no_memory, went_on_to_nothing};
+ghost use Rattle.interleave.specs.Calls.{answer_of, is_no_memory, waiting_result, went_on_to_nothing};
+ghost use Rattle.interleave.specs.Core.{core_with_effects, machine_over, state_of};
 ghost use Rattle.interleave.specs.Effects.{AreInSequence};
 ghost use Rattle.interleave.specs.Holds.{Holds};
 ghost use Rattle.interleave.specs.Changes.{effects_on_step};
 ghost use Rattle.interleave.specs.Ranges.{WordsFit, IsSafe};
 ghost use Rattle.interleave.specs.State.{after_step, step_result};
-ghost use Rattle.interleave.specs.Trace.{state_with, machine_with, with_effects};
 
-use crate::calls::waiting;
-use crate::notice::note_change;
-use crate::queue::Queue;
-use crate::trace::Trace;
+use crate::lent::Core;
 use arena::Layout;
 use helping::Op;
-use persist::Memory;
+use persist::{EvictableWords, WordMemory};
 use protocol::UnderWay;
 use stepper::{After, Resume, Stepped};
 use words::{Client, Refusal, Reply};
@@ -34,125 +32,140 @@ fn found_nothing(after: After<Op, Reply>) -> bool
     }
 }
 
-/// Notes what a step did: a look, or a change of a kept word.
-fn note<L: Layout>(
-    layout: &L,
-    memory: &Memory,
-    calls: &[Option<UnderWay>],
-    trace: &mut Trace,
-    under_way: UnderWay,
-    stepped: Stepped<Op, Reply>,
-)
-    requires fit { WordsFit (L.shape layout.now) memory.now }
-    requires sequence { AreInSequence trace.old.log.effects }
-    requires room { let w = machine_with (L.shape layout.now) memory.now calls.now trace.old in
-        length (effects_on_step w under_way stepped.change stepped.after) ≤ length trace.old.log.events }
-    ensures { let w = machine_with (L.shape layout.now) memory.now calls.now trace.old in
-        trace.new ≡ with_effects trace.old (effects_on_step w under_way stepped.change stepped.after) }
-{
-    if under_way.op.looks() {
-        trace.look(under_way.place, found_nothing(stepped.after));
-        return;
+impl<L: Layout + Drop> Core<L> {
+    /// The call that a client has under way.
+    pub(crate) fn waiting(&self, client: Client) -> Result<UnderWay, Refusal>
+        ensures { result ≡ waiting_result (is_some self.now.trace.recovery) (slice_get self.now.calls client.0) }
+    {
+        self.calls.waiting(self.trace.is_down(), client)
     }
-    note_change(layout, memory, calls, trace, stepped.change);
-}
 
-/// What a step leads to takes the call's place, and an answer is noted.
-fn go_on(
-    calls: &mut [Option<UnderWay>],
-    trace: &mut Trace,
-    client: Client,
-    after: After<Op, Reply>,
-) -> Option<Reply>
-    requires client { client.0 < length calls.old }
-    requires room { 0 < trace.old.room }
-    ensures calls { (under_way : AnyUnderWay) → slice_get calls.old client.0 ≡ Some (Some under_way)
-        → calls.new ≡ slice_set calls.old client.0 (with_next under_way after) }
-    ensures answer { result ≡ answer_of after }
-    ensures base { trace.new.base ≡ trace.old.base }
-    ensures told { trace.new.told ≡ trace.old.told }
-    ensures log { trace.new.log ≡ record trace.old.log { events = events_after trace.old.log.events client after } }
-    ensures recovery { trace.new.recovery ≡ trace.old.recovery }
-    ensures room { trace.old.room ≤ trace.new.room + 1 }
-    ensures stays { result ≡ None → trace.new.room ≡ trace.old.room }
-{
-    let call = &mut calls[client.0 as usize];
-    match after {
-        After::More(op) => {
-            if let Some(under_way) = call {
-                under_way.op = op;
+    /// The one access of a waiting point.
+    fn step_at<M: WordMemory>(&self, memory: &mut M, op: Op) -> Stepped<Op, Reply>
+        requires room { size_of self.now.shape ≤ length (M.words memory.old).cached }
+        requires point { IsPoint self.now.shape op }
+        requires read { let s = self.now.shape in let access = access_of s.kind op in
+            IsReadInRange s access (value_found s access (M.words memory.old)) }
+        ensures one_access { let s = self.now.shape in
+            M.words memory.new ≡ after_one s (access_of s.kind op) (M.words memory.old) }
+        ensures next { let s = self.now.shape in let access = access_of s.kind op in
+            result.after ≡ successor s.kind op (value_found s access (M.words memory.old)) }
+        ensures change { let s = self.now.shape in
+            result.change ≡ change_by s (access_of s.kind op) (M.words memory.old) }
+    {
+        op.step(&self.layout, memory)
+    }
+
+    /// Notes what a step did: a look, or a change of a kept word.
+    fn note<M: EvictableWords>(
+        &mut self,
+        memory: &M,
+        under_way: UnderWay,
+        stepped: Stepped<Op, Reply>,
+    )
+        requires fit { WordsFit self.old.shape (M.words memory.now) }
+        requires sequence { AreInSequence self.old.trace.log.effects }
+        requires room { let w = machine_over self.old (M.words memory.now) in
+            length (effects_on_step w under_way stepped.change stepped.after) ≤ length self.old.trace.log.events }
+        ensures { let w = machine_over self.old (M.words memory.now) in
+            self.new ≡ core_with_effects self.old (effects_on_step w under_way stepped.change stepped.after) }
+    {
+        if under_way.op.looks() {
+            self.trace
+                .look(under_way.place, found_nothing(stepped.after));
+            return;
+        }
+        self.note_change(memory, stepped.change);
+    }
+
+    /// What a step leads to takes the call's place, and an answer is noted.
+    fn go_on(&mut self, client: Client, after: After<Op, Reply>) -> Option<Reply>
+        requires client { client.0 < length self.old.calls }
+        requires room { 0 < self.old.trace.room }
+        ensures shape { self.new.shape ≡ self.old.shape }
+        ensures queue { self.new.queue ≡ self.old.queue }
+        ensures calls { (under_way : AnyUnderWay) → slice_get self.old.calls client.0 ≡ Some (Some under_way)
+            → self.new.calls ≡ slice_set self.old.calls client.0 (with_next under_way after) }
+        ensures answer { result ≡ answer_of after }
+        ensures base { self.new.trace.base ≡ self.old.trace.base }
+        ensures told { self.new.trace.told ≡ self.old.trace.told }
+        ensures log { self.new.trace.log
+            ≡ record self.old.trace.log { events = events_after self.old.trace.log.events client after } }
+        ensures recovery { self.new.trace.recovery ≡ self.old.trace.recovery }
+        ensures room { self.old.trace.room ≤ self.new.trace.room + 1 }
+        ensures stays { result ≡ None → self.new.trace.room ≡ self.old.trace.room }
+    {
+        match after {
+            After::More(op) => {
+                self.calls.go_on(client, op);
+                None
             }
-            None
+            After::Done(reply) => {
+                self.calls.end(client);
+                self.trace.answer(client, reply);
+                Some(reply)
+            }
         }
-        After::Done(reply) => {
-            *call = None;
-            trace.answer(client, reply);
-            Some(reply)
+    }
+
+    /// One step of a client's call.
+    fn advance<M: EvictableWords>(
+        &mut self,
+        memory: &mut M,
+        client: Client,
+        under_way: UnderWay,
+    ) -> Option<Reply>
+        requires safe { IsSafe self.old.shape (M.words memory.old) self.old.calls }
+        requires waits { slice_get self.old.calls client.0 ≡ Some (Some under_way) }
+        requires sequence { AreInSequence self.old.trace.log.effects }
+        requires effects { length (effects_after (machine_over self.old (M.words memory.old)) under_way under_way.op)
+            ≤ length self.old.trace.log.events }
+        requires room { 0 < self.old.trace.room }
+        ensures words { M.words memory.new
+            ≡ after_one self.old.shape (access_of self.old.shape.kind under_way.op) (M.words memory.old) }
+        ensures shape { self.new.shape ≡ self.old.shape }
+        ensures queue { self.new.queue ≡ self.old.queue }
+        ensures calls { self.new.calls ≡ slice_set self.old.calls client.0
+            (with_next under_way (next_of (machine_over self.old (M.words memory.old)) under_way)) }
+        ensures base { self.new.trace.base ≡ self.old.trace.base }
+        ensures told { self.new.trace.told ≡ self.old.trace.told }
+        ensures log { self.new.trace.log
+            ≡ (with_step (machine_over self.old (M.words memory.old)) client under_way).log }
+        ensures answer { result ≡ answer_of (next_of (machine_over self.old (M.words memory.old)) under_way) }
+        ensures recovery { self.new.trace.recovery ≡ self.old.trace.recovery }
+        ensures room { self.old.trace.room ≤ self.new.trace.room + 1 }
+        ensures stays { result ≡ None → self.new.trace.room ≡ self.old.trace.room }
+    {
+        let stepped = self.step_at(memory, under_way.op);
+        self.note(memory, under_way, stepped);
+        self.go_on(client, stepped.after)
+    }
+
+    /// One step of a client's call: exactly one access. It answers the reply where that was the last. It is refused, in
+    /// this order, where there is no such client (NoClient), where recovery is under way (NotReady), where it has no call
+    /// (Idle), and for want of memory (NoMemory).
+    pub fn step<M: EvictableWords>(
+        &mut self,
+        memory: &mut M,
+        client: Client,
+    ) -> Result<Option<Reply>, Refusal>
+        requires holds { Holds (state_of self.old (M.words memory.old)) }
+        ensures world { state_of self.new (M.words memory.new)
+            ≡ after_step (is_no_memory result) (state_of self.old (M.words memory.old)) client }
+        ensures result { result ≡ step_result (is_no_memory result) (state_of self.old (M.words memory.old)) client }
+        ensures full { is_no_memory result ≡ true → self.old.trace.room ≡ 0 }
+        ensures room { self.old.trace.room ≤ self.new.trace.room + 1 }
+        ensures spare { IfErr result (λ e. self.old.trace.room ≤ self.new.trace.room) }
+        ensures stays { result ≡ Ok None → self.old.trace.room ≤ self.new.trace.room }
+        ensures holds { Holds (state_of self.new (M.words memory.new)) }
+    {
+        let under_way = self.waiting(client)?;
+        self.reserve(1)?;
+        let answer = self.advance(memory, client, under_way);
+        if answer.is_some() {
+            self.queue
+                .returned(under_way.begun.client, under_way.begun.number);
         }
+        Ok(answer)
     }
-}
-
-/// One step of a client's call.
-fn advance<L: Layout>(
-    layout: &L,
-    memory: &mut Memory,
-    calls: &mut [Option<UnderWay>],
-    trace: &mut Trace,
-    client: Client,
-    under_way: UnderWay,
-) -> Option<Reply>
-    requires safe { IsSafe (L.shape layout.now) memory.old calls.old }
-    requires waits { slice_get calls.old client.0 ≡ Some (Some under_way) }
-    requires sequence { AreInSequence trace.old.log.effects }
-    requires effects { length (effects_after (machine_with
-        (L.shape layout.now) memory.old calls.old trace.old) under_way under_way.op) ≤ length trace.old.log.events }
-    requires room { 0 < trace.old.room }
-    ensures words { memory.new
-        ≡ after_one (L.shape layout.now) (access_of (L.shape layout.now).kind under_way.op) memory.old }
-    ensures calls { calls.new ≡ slice_set calls.old client.0
-        (with_next under_way (next_of (machine_with (L.shape layout.now) memory.old calls.old trace.old) under_way)) }
-    ensures base { trace.new.base ≡ trace.old.base }
-    ensures told { trace.new.told ≡ trace.old.told }
-    ensures log { trace.new.log
-        ≡ (with_step (machine_with (L.shape layout.now) memory.old calls.old trace.old) client under_way).log }
-    ensures answer { result
-        ≡ answer_of (next_of (machine_with (L.shape layout.now) memory.old calls.old trace.old) under_way) }
-    ensures recovery { trace.new.recovery ≡ trace.old.recovery }
-    ensures room { trace.old.room ≤ trace.new.room + 1 }
-    ensures stays { result ≡ None → trace.new.room ≡ trace.old.room }
-{
-    let stepped = under_way.op.step(layout, memory);
-    note(layout, memory, calls, trace, under_way, stepped);
-    go_on(calls, trace, client, stepped.after)
-}
-
-/// One step of a client's call, unless it is refused.
-pub(crate) fn step_call<L: Layout>(
-    layout: &L,
-    memory: &mut Memory,
-    queue: &mut Queue,
-    calls: &mut Vec<Option<UnderWay>>,
-    trace: &mut Trace,
-    client: Client,
-) -> Result<Option<Reply>, Refusal>
-    requires holds { Holds (state_with (L.shape layout.now) memory.old queue.old calls.old.items trace.old) }
-    ensures world { state_with (L.shape layout.now) memory.new queue.new calls.new.items trace.new
-        ≡ after_step (is_no_memory result)
-        (state_with (L.shape layout.now) memory.old queue.old calls.old.items trace.old) client }
-    ensures result { result ≡ step_result (is_no_memory result)
-        (state_with (L.shape layout.now) memory.old queue.old calls.old.items trace.old) client }
-    ensures full { is_no_memory result ≡ true → trace.old.room ≡ 0 }
-    ensures room { trace.old.room ≤ trace.new.room + 1 }
-    ensures spare { IfErr result (λ e. trace.old.room ≤ trace.new.room) }
-    ensures stays { result ≡ Ok None → trace.old.room ≤ trace.new.room }
-{
-    let under_way = waiting(calls, trace.is_down(), client)?;
-    if trace.reserve(1).is_err() {
-        return Err(Refusal::NoMemory);
-    }
-    let answer = advance(layout, memory, calls, trace, client, under_way);
-    if answer.is_some() {
-        queue.returned(under_way.begun.client, under_way.begun.number);
-    }
-    Ok(answer)
 }

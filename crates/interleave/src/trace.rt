@@ -9,12 +9,13 @@ ghost use Rattle.stepper.specs.Step.{after_one, value_found};
 ghost use Rattle.recover.specs.Table.{access_of, boot_recovery, recovery_after};
 ghost use Rattle.recover.specs.declared.recovery.Recovery.{Recovery as AnyRecovery};
 ghost use Rattle.interleave.specs.Recoveries.{HasReached, MayRecover};
+ghost use Rattle.protocol.specs.Rotated.{empty_trace};
 ghost use Rattle.interleave.specs.Trace.{with_effects};
 
 use crate::effects::{forget, settle};
 use arena::Layout;
 use events::{Effect, Event, History, Sequence, keep_settled};
-use persist::Memory;
+use persist::WordMemory;
 use protocol::Issued;
 use recover::{Recovery, boot};
 use std::alloc::{AllocError, Global};
@@ -95,6 +96,11 @@ impl Trace {
         ensures events { result.now.events.items ≡ self.now.log.events }
     {
         &self.history
+    }
+
+    /// The allocator that it grows by.
+    pub(crate) fn allocator(&self) -> Global {
+        *self.effects.allocator()
     }
 
     /// When calls took effect.
@@ -191,15 +197,15 @@ impl Trace {
     }
 
     /// Recovery makes a step. It answers whether it has now told every client.
-    pub(crate) fn recover<L: Layout>(&mut self, layout: &L, memory: &mut Memory) -> bool
+    pub(crate) fn recover<L: Layout, M: WordMemory>(&mut self, layout: &L, memory: &mut M) -> bool
         requires down { is_some self.old.recovery ≡ true }
-        requires may { IfSome self.old.recovery (λ r. MayRecover (L.shape layout.now) memory.old r) }
+        requires may { IfSome self.old.recovery (λ r. MayRecover (L.shape layout.now) (M.words memory.old) r) }
         ensures base { self.new.base ≡ self.old.base }
         ensures told { self.new.told ≡ self.old.told }
         ensures log { self.new.log ≡ self.old.log }
         ensures step { (r : AnyRecovery) → self.old.recovery ≡ Some r → let s = L.shape layout.now in
-            let access = access_of s.kind r.at in (memory.new ≡ after_one s access memory.old)
-            × HasReached result self.new.recovery (recovery_after s r (value_found s access memory.old)) }
+            let access = access_of s.kind r.at in (M.words memory.new ≡ after_one s access (M.words memory.old))
+            × HasReached result self.new.recovery (recovery_after s r (value_found s access (M.words memory.old))) }
         ensures room { self.new.room ≡ self.old.room }
     {
         match self.recovery.as_mut() {
@@ -229,6 +235,21 @@ impl Trace {
         self.history.events.push(Event::Ready { told });
         self.recovery = None;
         told
+    }
+
+    /// The history ends, and another begins on this. The room that events had stays.
+    pub(crate) fn begin_anew(&mut self, base: Vec<u32>, told: Reports)
+        ensures base { self.new.base ≡ base.items }
+        ensures told { self.new.told ≡ told }
+        ensures log { self.new.log ≡ empty_trace }
+        ensures recovery { self.new.recovery ≡ self.old.recovery }
+        ensures room { self.old.room ≤ self.new.room }
+    {
+        self.history.base = Sequence::from_vec(base);
+        self.history.told = told;
+        self.history.events.clear();
+        self.issued.clear();
+        self.effects.clear();
     }
 
     /// The call at the place takes effect, with this reply.

@@ -14,23 +14,16 @@ ghost use Rattle.protocol.specs.declared.acts.Act.{Act};
 ghost use Rattle.words.specs.declared.refusal.Refusal.{Refusal as AnyRefusal};
 ghost use Rattle.interleave.specs.Numbers.{AreWithinFloors};
 ghost use Rattle.interleave.specs.Queue.{told_in, told_to};
+ghost use Rattle.interleave.specs.Ranges.{AreUnused};
+ghost use Rattle.interleave.specs.Rotation.{after_rotate, rotate_result, AreNumbersTold, IsBaseToldRightly};
 ghost use Rattle.interleave.specs.Runs.{IsAttempt, IsRun};
-ghost use Rattle.interleave.specs.State.{new_world, after_start, start_result, after_step, step_result, after_evict, evict_result, after_crash, crash_result, after_recover, recover_result, is_down, after_alone, count_of, IsAnsweredAlone, order_in, kept_content, kept_tells, IsKeptSound, AreToldOfAnnounced, IsMended, steps_to_ready, most_to_ready};
+ghost use Rattle.interleave.specs.State.{new_world, world_over, after_start, start_result, after_step, step_result, after_evict, evict_result, after_crash, crash_result, after_recover, recover_result, is_down, after_alone, count_of, IsAnsweredAlone, order_in, kept_content, kept_tells, IsKeptSound, AreToldOfAnnounced, IsMended, steps_to_ready, most_to_ready};
 
 use crate::acts::{Act, Ran};
-use crate::calls::{nobody, waiting};
-use crate::content::content;
-use crate::crashing::{crash_all, recover_on};
-use crate::evicting::evict_word;
-use crate::queue::Queue;
-use crate::starting::start_call;
-use crate::steps::step_call;
-use crate::trace::Trace;
+use crate::lent::Core;
 use arena::Layout;
-use events::{History, Order, Sequence};
+use events::{History, Order};
 use persist::{Change, Memory};
-use protocol::UnderWay;
-use recover::{sound, tells};
 use std::alloc::Global;
 use std::marker::Model;
 use words::{Call, Client, MAX_STEPS_ALONE, Refusal, Reply, Told};
@@ -40,22 +33,20 @@ use words::{Call, Client, MAX_STEPS_ALONE, Refusal, Reply, Told};
 /// moment the environment may keep a word, or the whole system may stop, and then recover by single steps.
 #[derive(Drop)]
 pub struct World<L: Layout + Drop> {
-    layout: L,
+    core: Core<L>,
     memory: Memory,
-    queue: Queue,
-    calls: Vec<Option<UnderWay>>,
-    trace: Trace,
 }
 
 impl<L: Layout + Drop> Model for World<L> {
     ghost use Rattle.interleave.specs.Holds.{Holds};
-    ghost use Rattle.interleave.specs.Trace.{Roomy, state_with};
+    ghost use Rattle.interleave.specs.Core.{state_of};
+    ghost use Rattle.interleave.specs.Trace.{Roomy};
 
     ghost Value = { Roomy };
 
-    ghost view = { λ w. record { now = state_with (L.shape w.layout) w.memory w.queue w.calls.items w.trace; room = w.trace.room } };
+    ghost view = { λ w. record { now = state_of w.core w.memory; room = w.core.trace.room } };
 
-    ghost invariant = { λ w. Holds (state_with (L.shape w.layout) w.memory w.queue w.calls.items w.trace) };
+    ghost invariant = { λ w. Holds (state_of w.core w.memory) };
 }
 
 impl<L: Layout + Drop> World<L> {
@@ -65,18 +56,19 @@ impl<L: Layout + Drop> World<L> {
         ensures errors { IfErr result (λ e. e ≡ Refusal.NoMemory) }
     {
         let memory = Memory::new(alloc, layout.size())?;
-        let Ok(calls) = nobody(alloc, layout.clients()) else {
-            return Err(Refusal::NoMemory);
-        };
-        let queue = Queue::new(layout.kind(), layout.clients());
-        let trace = Trace::new(alloc, queue.told());
-        Ok(World {
-            layout,
+        Ok(World::over(alloc, layout, memory))
+    }
+
+    /// A world of a new queue on a given memory, in which no client has called. It takes no memory. The caller's
+    /// condition is that all words are zero, cached and kept, and as many as the layout has, or a broker's block.
+    pub fn over(alloc: Global, layout: L, memory: Memory) -> Self
+        requires { AreUnused (L.shape layout) memory }
+        ensures { result.now ≡ world_over (L.shape layout) memory }
+    {
+        World {
+            core: Core::new(alloc, layout),
             memory,
-            queue,
-            calls,
-            trace,
-        })
+        }
     }
 
     /// A world that begins on what a memory keeps, as a crash left it: what is not kept is lost, and recovery begins.
@@ -87,24 +79,10 @@ impl<L: Layout + Drop> World<L> {
         ensures sound { IfOk result (λ w. AreSoundWords (L.shape layout) memory.kept) }
         ensures errors { IfErr result (λ e. MayRefuse (L.shape layout) memory.kept e) }
     {
-        let clients = layout.clients();
+        let core = Core::boot(alloc, layout, &memory)?;
         let mut memory = memory;
-        sound(&layout, &memory)?;
         memory.crash();
-        let base = content(alloc, &layout, &memory)?;
-        let Ok(calls) = nobody(alloc, clients) else {
-            return Err(Refusal::NoMemory);
-        };
-        let told = tells(&layout, &memory);
-        let queue = Queue::at_boot(layout.kind(), told);
-        let trace = Trace::booted(alloc, base, told);
-        Ok(World {
-            layout,
-            memory,
-            queue,
-            calls,
-            trace,
-        })
+        Ok(World { core, memory })
     }
 
     /// Starts a call. It is refused, in this order, where there is no such client (NoClient), where recovery is under
@@ -123,16 +101,7 @@ impl<L: Layout + Drop> World<L> {
         ensures reused { result ≡ Ok tt → EarlierLeftNothing self.old.now client }
         ensures turn { result ≡ Ok tt → NobodyCalls self.old.now → IsInTurn self.new.now client call }
     {
-        start_call(
-            &self.layout,
-            &mut self.memory,
-            &self.queue,
-            &mut self.calls,
-            &mut self.trace,
-            client,
-            number,
-            call,
-        )
+        self.core.start(&mut self.memory, client, number, call)
     }
 
     /// One step of a client's call: exactly one access. It answers the reply where that was the last. It is
@@ -150,14 +119,7 @@ impl<L: Layout + Drop> World<L> {
         ensures order { IsPartOf (order_in self.old.now) (order_in self.new.now) }
         ensures ended { EndedCallsStay self.old.now self.new.now }
     {
-        step_call(
-            &self.layout,
-            &mut self.memory,
-            &mut self.queue,
-            &mut self.calls,
-            &mut self.trace,
-            client,
-        )
+        self.core.step(&mut self.memory, client)
     }
 
     /// The environment keeps a word. It is no access, takes no memory, and may make a call take effect. It is refused
@@ -174,14 +136,7 @@ impl<L: Layout + Drop> World<L> {
         ensures holds { is_down self.old.now ≡ true → kept_content self.new.now ≡ kept_content self.old.now }
         ensures left { steps_to_ready self.new.now ≡ steps_to_ready self.old.now }
     {
-        evict_word(
-            &self.layout,
-            &mut self.memory,
-            &self.queue,
-            &self.calls,
-            &mut self.trace,
-            word,
-        )
+        self.core.evict(&mut self.memory, word)
     }
 
     /// The whole system stops: what is not kept is lost, calls under way end without an answer, and recovery begins
@@ -198,13 +153,9 @@ impl<L: Layout + Drop> World<L> {
         ensures tells { kept_tells self.new.now ≡ kept_tells self.old.now }
         ensures holds { kept_content self.new.now ≡ kept_content self.old.now }
     {
-        crash_all(
-            &self.layout,
-            &mut self.memory,
-            &self.queue,
-            &mut self.calls,
-            &mut self.trace,
-        )
+        self.core.crash()?;
+        self.memory.crash();
+        Ok(())
     }
 
     /// One step of recovery: exactly one access. It answers whether the queue is ready now, and then each client is
@@ -232,20 +183,34 @@ impl<L: Layout + Drop> World<L> {
         ensures few { steps_to_ready self.old.now ≤ most_to_ready (self.old.now.shape) }
         ensures falls { IfOk result (λ ready. steps_to_ready self.new.now < steps_to_ready self.old.now) }
     {
-        recover_on(
-            &self.layout,
-            &mut self.memory,
-            &mut self.queue,
-            &self.calls,
-            &mut self.trace,
-        )
+        self.core.recover_step(&mut self.memory)
+    }
+
+    /// The history ends, and another begins: its base is what the kept words hold and tell, so that a log queue's
+    /// clients are told of their last announced calls by the base, and it has no events yet. Words and floors of numbers
+    /// stay. It is refused, in this order, where recovery is under way (NotReady), where a call is (Busy), and for want of
+    /// memory (NoMemory), and then nothing changed.
+    pub fn rotate(&mut self) -> Result<(), Refusal>
+        ensures world { self.new.now ≡ after_rotate (is_no_memory result) self.old.now }
+        ensures result { result ≡ rotate_result (is_no_memory result) self.old.now }
+        ensures room { self.old.room ≤ self.new.room }
+        ensures explained { IsExplained self.new.now }
+        ensures sound { IsKeptSound self.new.now }
+        ensures tells { kept_tells self.new.now ≡ kept_tells self.old.now }
+        ensures holds { kept_content self.new.now ≡ kept_content self.old.now }
+        ensures told { result ≡ Ok tt → told_in self.new.now.queue ≡ kept_tells self.old.now }
+        ensures announced { result ≡ Ok tt → IsBaseToldRightly self.old.now }
+        ensures numbers { result ≡ Ok tt → AreNumbersTold self.old.now }
+        ensures nobody { result ≡ Ok tt → NobodyCalls self.new.now }
+    {
+        self.core.rotate(&self.memory)
     }
 
     /// The layout of its memory.
     pub fn layout(&self) -> &L
         ensures { L.shape result.now ≡ self.now.now.shape }
     {
-        &self.layout
+        self.core.layout()
     }
 
     /// Its memory, to look at what is kept.
@@ -259,7 +224,7 @@ impl<L: Layout + Drop> World<L> {
     pub fn is_down(&self) -> bool
         ensures { result ≡ is_down self.now.now }
     {
-        self.trace.is_down()
+        self.core.is_down()
     }
 
     /// The acts in order. One that its own call refuses is passed over, and counted. It asks for no room: an act for
@@ -277,7 +242,7 @@ impl<L: Layout + Drop> World<L> {
             refused: 0,
         };
         // The borrow makes what holds of the world at its beginning known from here on.
-        let _ = &self.layout;
+        let _ = &self.core;
         for act in acts {
             let taken = u64::from(self.act(*act));
             ran.taken += taken;
@@ -293,7 +258,7 @@ impl<L: Layout + Drop> World<L> {
         ensures holds { Holds self.new.now }
     {
         // The borrow makes what holds of the world before the act known from here on.
-        let _ = &self.layout;
+        let _ = &self.core;
         match act {
             Act::Start {
                 client,
@@ -330,7 +295,7 @@ impl<L: Layout + Drop> World<L> {
         ensures turn { IfOk result (λ answer. (call : AnyCall) → IsInTurn self.old.now client call
             → IsServedAlone self.old.now call answer.0 self.new.now) }
     {
-        waiting(&self.calls, self.trace.is_down(), client)?;
+        self.core.waiting(client)?;
         self.reserve(1)?;
         let mut steps = 0u32;
         loop {
@@ -350,10 +315,7 @@ impl<L: Layout + Drop> World<L> {
         ensures full { OnErr result (self.old.room < acts) }
         ensures errors { IfErr result (λ e. e ≡ Refusal.NoMemory) }
     {
-        match self.trace.reserve(acts) {
-            Ok(()) => Ok(()),
-            Err(_) => Err(Refusal::NoMemory),
-        }
+        self.core.reserve(acts)
     }
 
     /// What the queue holds by its kept words: the values of the nodes that kept links reach from the sentinel,
@@ -362,7 +324,7 @@ impl<L: Layout + Drop> World<L> {
         ensures content { IfOk result (λ values. values.items ≡ kept_content self.now.now) }
         ensures errors { IfErr result (λ e. e ≡ Refusal.NoMemory) }
     {
-        content(*self.calls.allocator(), &self.layout, &self.memory)
+        self.core.content(&self.memory)
     }
 
     /// The calls in the order in which they took effect.
@@ -371,10 +333,7 @@ impl<L: Layout + Drop> World<L> {
         ensures explained { IsExplained self.now.now }
         ensures errors { IfErr result (λ e. e ≡ Refusal.NoMemory) }
     {
-        let entries = events::order(*self.calls.allocator(), self.trace.effects())?;
-        Ok(Order {
-            entries: Sequence::from_vec(entries),
-        })
+        self.core.order()
     }
 
     /// What happened since the history begins. It takes no memory. Laws on states ask for `Holds`, as every world has it.
@@ -385,7 +344,7 @@ impl<L: Layout + Drop> World<L> {
         ensures holds { Holds self.now.now }
         ensures explained { IsExplained self.now.now }
     {
-        self.trace.history()
+        self.core.history()
     }
 
     /// What the client was last told: what the last recovery read, and at first what the base tells. A client that
@@ -393,10 +352,6 @@ impl<L: Layout + Drop> World<L> {
     pub fn told(&self, client: Client) -> Told
         ensures { result ≡ told_to (told_in self.now.now.queue) client }
     {
-        let told = self.queue.told();
-        match told.get(client.0 as usize) {
-            Some(told) => *told,
-            None => Told::None,
-        }
+        self.core.told(client)
     }
 }

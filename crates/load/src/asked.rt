@@ -52,6 +52,14 @@ fn recover<'a>(alloc: Global) -> Result<Command<'a>, AllocError> {
         .arg(turns(alloc))
 }
 
+/// `crash WORDS [TURNS]`
+fn crash<'a>(alloc: Global) -> Result<Command<'a>, AllocError> {
+    Command::new(alloc, "crash")
+        .about("Changes four words of a memory and crashes it, again and again")
+        .arg(number(alloc, "words"))?
+        .arg(turns(alloc))
+}
+
 /// `check CHECKER CLIENTS EVENTS TURNS`
 fn check<'a>(alloc: Global) -> Result<Command<'a>, AllocError> {
     Command::new(alloc, "check")
@@ -68,6 +76,7 @@ pub(crate) fn matches<'a>(alloc: Global, words: &'a [String]) -> Result<ArgMatch
         .about("Plays loads that are timed; without a command, a small one of each")
         .subcommand(acts(alloc)?)?
         .subcommand(recover(alloc)?)?
+        .subcommand(crash(alloc)?)?
         .subcommand(check(alloc)?)?
         .try_get_matches_from(words)
 }

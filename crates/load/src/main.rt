@@ -4,6 +4,7 @@
 
 mod acts;
 mod asked;
+mod crashes;
 mod histories;
 mod recovery;
 mod turns;
@@ -83,6 +84,7 @@ fn small_ones(rt: &HostRuntime) -> Result<()> {
         records: 16,
     };
     print_best(rt, queue, &Recovery { nodes: 4 }, None)?;
+    crashes::run(rt, 64, None)?;
     let load = CheckLoad {
         plain: false,
         clients: 4,
@@ -103,6 +105,9 @@ fn main(rt: HostRuntime) -> Result<ExitCode> {
     match asked.subcommand() {
         Some(("acts", words)) => play_acts(&rt, words)?,
         Some(("recover", words)) => play_recovery(&rt, words)?,
+        Some(("crash", words)) => {
+            crashes::run(&rt, count(words, "words") as usize, words.get_one("turns"))?;
+        }
         Some(("check", words)) => play_checks(&rt, words)?,
         _ => small_ones(&rt)?,
     }

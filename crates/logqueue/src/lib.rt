@@ -49,6 +49,13 @@ impl LogQueue {
         LogQueue { told, floors }
     }
 
+    /// Clients are told this from now on, and their floors stay: where a history begins anew.
+    pub fn tell(&mut self, told: Reports)
+        ensures { self.new ≡ record self.old { told = told } }
+    {
+        self.told = told;
+    }
+
     /// What each client is told.
     pub fn told(&self) -> &Reports
         ensures { result.now ≡ self.now.told }

@@ -1,6 +1,8 @@
--- What a flush, an eviction and a compare-and-swap answer.
-use Rattle.std.specs.Prelude.{ℕ, Option, Some, None, slice_index, if◌then◌else◌, ◌==◌}
+-- Which words are changed, and what a flush, an eviction and a compare-and-swap answer.
+use Rattle.std.specs.Prelude.{◌≡◌, ◌≢◌, ℕ, ◌<◌, ◌≤◌, List, length, Option, Some, None, filter, not, slice_index, if◌then◌else◌, ◌==◌}
+use Rattle.std.specs.List.{enumerate_from}
 use Rattle.persist.specs.Memory.{Words}
+use Rattle.persist.specs.ChangeList.{Entries, Listing, get, IsAscending}
 use Rattle.persist.specs.declared.access.Change.{Change}
 use Rattle.persist.specs.declared.access.Swap.{Swap}
 use Rattle.persist.specs.declared.access.Swap.TheVariants.{Done, Found}
@@ -16,3 +18,23 @@ change_of ws word =
 abbrev pub swap_of : Words → ℕ → ℕ → Swap
 swap_of ws word old =
     if slice_index ws.cached word == old then Done else Found (slice_index ws.cached word)
+
+-- the same change, of the word of this number
+abbrev pub change_at : ℕ → Option Change → Option Change
+change_at word None = None
+change_at word (Some change) = Some (record { word = word; old = change.old; new = change.new })
+
+-- the words that the lists have different values of, ascending, each with its value in the first list
+abbrev pub differences : List ℕ → List ℕ → List (ℕ × ℕ)
+differences xs ys = filter (λ (word : ℕ × ℕ). not (word.1 == slice_index ys word.0)) (enumerate_from 0 xs)
+
+-- each entry is of a word of the memory, and its value is not the kept one
+pub record IsExact (kept : List ℕ) (entries : Entries) : Type 0 where
+  pub within : (word value : ℕ) → get entries word ≡ Some value → word < length kept
+  pub other : (word value : ℕ) → get entries word ≡ Some value → value ≢ slice_index kept word
+
+-- what holds of the parts of a memory at every moment
+pub record IsSound (kept : List ℕ) (listing : Listing) : Type 0 where
+  pub exact : IsExact kept listing.entries
+  pub ascending : IsAscending listing.entries
+  pub room : length kept ≤ listing.room

@@ -1,7 +1,7 @@
 //! What a step machine sees of a memory, and what an inspector does.
 
 ghost use Rattle.std.specs.Prelude.{◌≡◌, ◌<◌, ◌≤◌, length, slice_index, Ok, Err, ℕ, List};
-ghost use Rattle.persist.specs.Memory.{Words, Load, Store, Cas, Flush, after};
+ghost use Rattle.persist.specs.Memory.{Words, Load, Store, Cas, Flush, after, words_after_eviction};
 ghost use Rattle.persist.specs.Changes.{change_of, swap_of};
 
 use words::Refusal;
@@ -74,4 +74,21 @@ pub trait KeptWords {
     fn kept(&self, word: usize) -> u64
         requires { word < length (kept_words self.now) }
         ensures { result ≡ slice_index (kept_words self.now) word };
+}
+
+/// Words that the environment may keep at any moment, and whose kept values may be inspected: what an owner of step
+/// machines sees of a memory, or of a window on one.
+pub trait EvictableWords: WordMemory + KeptWords {
+    /// Keeps a word's cached value by the environment's will. It is no access. It answers the change, where the kept
+    /// value changed, and is refused where there is no such word (NoWord).
+    fn evict(&mut self, word: usize) -> Result<Option<Change>, Refusal>
+        ensures change { word < length (Self.words self.old).cached
+            → result ≡ Ok (change_of (Self.words self.old) word) }
+        ensures done { word < length (Self.words self.old).cached
+            → Self.words self.new ≡ words_after_eviction word (Self.words self.old) }
+        ensures refused { length (Self.words self.old).cached ≤ word → result ≡ Err Refusal.NoWord }
+        ensures same { length (Self.words self.old).cached ≤ word → Self.words self.new ≡ Self.words self.old };
+
+    /// The kept values for inspection are those of the words.
+    ghost kept_is: { (m : Self) → Self.kept_words m ≡ (Self.words m).kept };
 }

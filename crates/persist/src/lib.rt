@@ -2,7 +2,10 @@
 #![tactic(auto)]
 
 mod access;
+mod changes;
 mod memory;
+mod window;
 
-pub use access::{Change, KeptWords, Swap, WordMemory};
+pub use access::{Change, EvictableWords, KeptWords, Swap, WordMemory};
 pub use memory::{MAX_WORDS, Memory};
+pub use window::{View, Window};

@@ -1,10 +1,15 @@
 //! A memory of the process's own, which simulates a non-volatile one.
 
-ghost use Rattle.std.specs.Prelude.{◌≡◌, ◌↔◌, ◌⊎◌, ◌+◌, ◌<◌, ◌≤◌, min, length, Ok, Err, IfOk, IfErr, slice_index, slice_set};
-ghost use Rattle.persist.specs.Memory.{words_after_eviction, words_after_crash, zero_words};
-ghost use Rattle.persist.specs.Changes.{change_of};
+ghost use Rattle.std.specs.Prelude.{◌≡◌, ◌↔◌, ◌⊎◌, ◌+◌, ◌<◌, ◌≤◌, min, length, take, drop, Ok, Err, IfOk, IfErr, slice_index, slice_set};
+ghost use Rattle.std.specs.Borrow.{sem, RestsIfErr};
+ghost use Rattle.persist.specs.Memory.{words_after_store, words_after_eviction, words_after_crash, zero_words, part};
+ghost use Rattle.persist.specs.contracts.memory.Memory.{the_row};
+ghost use Rattle.persist.specs.Changes.{change_of, differences};
+ghost use Rattle.persist.specs.Lent.{window_words, view_words};
 
-use crate::access::{Change, KeptWords, Swap, WordMemory};
+use crate::access::{Change, EvictableWords, KeptWords, Swap, WordMemory};
+use crate::changes::ChangeList;
+use crate::window::{View, Window};
 use std::alloc::Global;
 use std::marker::Model;
 use words::Refusal;
@@ -13,23 +18,30 @@ use words::Refusal;
 pub const MAX_WORDS: usize = 8_388_608;
 
 /// Words that a crash of the whole system sets back to what is kept, as in the model of Izraelevitz,
-/// Mendes and Scott (2016), but with flushes that complete at once.
+/// Mendes and Scott (2016), but with flushes that complete at once. Of the cached values it has those alone that are not
+/// the kept ones, in a list.
 #[derive(Drop)]
 pub struct Memory {
-    cached: Vec<u64>,
     kept: Vec<u64>,
+    changes: ChangeList,
     accesses: u64,
 }
 
 impl Model for Memory {
-    ghost use Rattle.std.specs.Prelude.{◌≡◌, length};
-    ghost use Rattle.persist.specs.Memory.{Words};
+    ghost use Rattle.persist.specs.Memory.{Words, nothing};
+    ghost use Rattle.persist.specs.ChangeList.{overlaid};
+    ghost use Rattle.persist.specs.Changes.{IsSound};
 
     ghost Value = { Words };
 
-    ghost view = { λ m. record { cached = m.cached.items; kept = m.kept.items; accesses = m.accesses } };
+    ghost view = { λ m. record {
+      cached = overlaid m.kept.items m.changes.entries;
+      kept = m.kept.items;
+      accesses = m.accesses;
+      around = nothing;
+    } };
 
-    ghost invariant = { λ m. length m.kept.items ≡ length m.cached.items };
+    ghost invariant = { λ m. IsSound m.kept.items m.changes };
 }
 
 /// Counts an access. The count stays at its greatest value.
@@ -41,25 +53,9 @@ fn count(accesses: &mut u64)
     }
 }
 
-/// Makes the kept value of a word its cached one.
-fn keep(cached: &[u64], kept: &mut [u64], word: usize) -> Option<Change>
-    requires below { word < length cached.now }
-    requires same { length kept.old ≡ length cached.now }
-    ensures kept { kept.new ≡ slice_set kept.old word (slice_index cached.now word) }
-    ensures change { result ≡ change_of (record { cached = cached.now; kept = kept.old; accesses = 0 }) word }
-{
-    let old = kept[word];
-    let new = cached[word];
-    kept[word] = new;
-    if old == new {
-        None
-    } else {
-        Some(Change { word, old, new })
-    }
-}
-
 impl Memory {
-    /// A memory of `n` words, all zero, cached and kept.
+    /// A memory of `n` words, all zero, cached and kept. It is refused where `n` is 0 or above [`MAX_WORDS`]
+    /// (BadCount), and where memory is refused (NoMemory). It has room for a change of each word.
     pub fn new(alloc: Global, n: usize) -> Result<Self, Refusal>
         ensures bad_count { result ≡ Err Refusal.BadCount ↔ (n ≡ 0) ⊎ (MAX_WORDS < n) }
         ensures errors { IfErr result (λ e. (e ≡ Refusal.BadCount) ⊎ (e ≡ Refusal.NoMemory)) }
@@ -68,17 +64,31 @@ impl Memory {
         if n == 0 || n > MAX_WORDS {
             return Err(Refusal::BadCount);
         }
-        let Ok(cached) = vec![in alloc; 0u64; n] else {
-            return Err(Refusal::NoMemory);
-        };
         let Ok(kept) = vec![in alloc; 0u64; n] else {
             return Err(Refusal::NoMemory);
         };
+        let Ok(changes) = ChangeList::new(alloc, n) else {
+            return Err(Refusal::NoMemory);
+        };
         Ok(Memory {
-            cached,
             kept,
+            changes,
             accesses: 0,
         })
+    }
+
+    /// The words whose cached value is not the kept one, ascending, each with its cached value.
+    pub fn changes(&self) -> &[(u64, u64)]
+        ensures { result.now ≡ differences self.now.cached self.now.kept }
+    {
+        self.changes.entries()
+    }
+
+    /// How many words have a cached value that is not the kept one.
+    pub fn changed(&self) -> usize
+        ensures { result ≡ length (differences self.now.cached self.now.kept) }
+    {
+        self.changes.len()
     }
 
     /// How many loads, stores, swaps and flushes were not refused. It stays at its greatest value.
@@ -88,71 +98,130 @@ impl Memory {
         self.accesses
     }
 
-    /// Keeps a word's cached value by the environment's will. It is no access.
-    pub fn evict(&mut self, word: usize) -> Result<Option<Change>, Refusal>
-        ensures change { word < length self.old.cached → result ≡ Ok (change_of self.old word) }
-        ensures done { word < length self.old.cached → self.new ≡ words_after_eviction word self.old }
-        ensures refused { length self.old.cached ≤ word → result ≡ Err Refusal.NoWord }
-        ensures same { length self.old.cached ≤ word → self.new ≡ self.old }
+    /// Lends a part of the memory: `len` words from the word `from` on, which the window numbers from 0. It copies
+    /// nothing, and while it is there nothing else reaches the memory. It is refused where `len` is 0 or the part is not
+    /// inside (NoWord).
+    #[tactic(auto, using(crate::proofs::Overlays::length_overlay))]
+    pub fn window(&mut self, from: usize, len: usize) -> Result<Window<'_>, Refusal>
+        ensures* rests { sem 𝓛 (RestsIfErr the_row self.entry (λ w. w.memory.ghost_name) result (λ m. m ≡ self.old)) }
+        ensures same_memory { IfOk result (λ w. w.memory.ghost_name ≡ self.entry.ghost_name) }
+        ensures words { IfOk result (λ w. window_words w ≡ part self.entry.ghost_name from len self.old) }
+        ensures refused { result ≡ Err Refusal.NoWord ↔ (len ≡ 0) ⊎ (length self.old.cached < from + len) }
+        ensures errors { IfErr result (λ e. e ≡ Refusal.NoWord) }
     {
-        if word >= self.cached.len() {
+        let size = self.kept.len();
+        if len == 0 || len > size || from > size - len {
             return Err(Refusal::NoWord);
         }
-        Ok(keep(&self.cached, &mut self.kept, word))
+        Ok(Window::new(self, from, len))
+    }
+
+    /// Lends the kept values of a part of the memory: of `len` words from the word `from` on, numbered from 0. It is
+    /// refused where `len` is 0 or the part is not inside (NoWord).
+    #[tactic(auto, using(crate::proofs::Overlays::length_overlay))]
+    pub fn view(&self, from: usize, len: usize) -> Result<View<'_>, Refusal>
+        ensures words { IfOk result (λ v. view_words v ≡ take len (drop from self.now.kept)) }
+        ensures refused { result ≡ Err Refusal.NoWord ↔ (len ≡ 0) ⊎ (length self.now.cached < from + len) }
+        ensures errors { IfErr result (λ e. e ≡ Refusal.NoWord) }
+    {
+        let size = self.kept.len();
+        if len == 0 || len > size || from > size - len {
+            return Err(Refusal::NoWord);
+        }
+        Ok(View::new(self, from, len))
     }
 
     /// Makes every cached value the kept one. It is no access.
     pub fn crash(&mut self)
         ensures { self.new ≡ words_after_crash self.old }
     {
-        self.cached.copy_from_slice(&self.kept);
+        self.changes.clear();
+    }
+
+    /// The cached value of a word.
+    #[tactic(auto, using(crate::proofs::Overlays::length_overlay))]
+    fn cached(&self, word: usize) -> u64
+        requires { word < length self.now.cached }
+        ensures { result ≡ slice_index self.now.cached word }
+    {
+        match self.changes.get(word as u64) {
+            Some(value) => value,
+            None => self.kept[word],
+        }
+    }
+
+    /// Makes this the cached value of a word.
+    #[tactic(auto, using(crate::proofs::Overlays::length_overlay))]
+    fn set_cached(&mut self, word: usize, value: u64)
+        requires { word < length self.old.cached }
+        ensures { self.new ≡ words_after_store word value self.old }
+    {
+        if value == self.kept[word] {
+            self.changes.remove(word as u64);
+        } else {
+            self.changes.set(word as u64, value);
+        }
+    }
+
+    /// Makes the kept value of a word its cached one.
+    #[tactic(auto, using(crate::proofs::Overlays::length_overlay))]
+    fn keep(&mut self, word: usize) -> Option<Change>
+        requires { word < length self.old.cached }
+        ensures kept { self.new ≡ words_after_eviction word self.old }
+        ensures change { result ≡ change_of self.old word }
+    {
+        let new = self.changes.get(word as u64)?;
+        let old = self.kept[word];
+        self.kept[word] = new;
+        self.changes.remove(word as u64);
+        Some(Change { word, old, new })
     }
 }
 
+#[tactic(auto, using(crate::proofs::Overlays::length_overlay))]
 impl WordMemory for Memory {
     ghost words = { λ m. m };
 
     fn size(&self) -> usize {
-        let _kept = self.kept.len();
-        self.cached.len()
+        self.kept.len()
     }
 
     fn load(&mut self, word: usize) -> Result<u64, Refusal> {
-        if word >= self.cached.len() {
+        if word >= self.kept.len() {
             return Err(Refusal::NoWord);
         }
         count(&mut self.accesses);
-        Ok(self.cached[word])
+        Ok(self.cached(word))
     }
 
     fn store(&mut self, word: usize, value: u64) -> Result<(), Refusal> {
-        if word >= self.cached.len() {
+        if word >= self.kept.len() {
             return Err(Refusal::NoWord);
         }
         count(&mut self.accesses);
-        self.cached[word] = value;
+        self.set_cached(word, value);
         Ok(())
     }
 
     fn cas(&mut self, word: usize, old: u64, new: u64) -> Result<Swap, Refusal> {
-        if word >= self.cached.len() {
+        if word >= self.kept.len() {
             return Err(Refusal::NoWord);
         }
         count(&mut self.accesses);
-        let found = self.cached[word];
+        let found = self.cached(word);
         if found != old {
             return Ok(Swap::Found(found));
         }
-        self.cached[word] = new;
+        self.set_cached(word, new);
         Ok(Swap::Done)
     }
 
     fn flush(&mut self, word: usize) -> Result<Option<Change>, Refusal> {
-        if word >= self.cached.len() {
+        if word >= self.kept.len() {
             return Err(Refusal::NoWord);
         }
         count(&mut self.accesses);
-        Ok(keep(&self.cached, &mut self.kept, word))
+        Ok(self.keep(word))
     }
 }
 
@@ -165,5 +234,19 @@ impl KeptWords for Memory {
 
     fn kept(&self, word: usize) -> u64 {
         self.kept[word]
+    }
+}
+
+#[tactic(auto, using(crate::proofs::Overlays::length_overlay))]
+impl EvictableWords for Memory {
+    ghost use Rattle.std.specs.Prelude.{refl};
+
+    ghost kept_is = { λ m. refl };
+
+    fn evict(&mut self, word: usize) -> Result<Option<Change>, Refusal> {
+        if word >= self.kept.len() {
+            return Err(Refusal::NoWord);
+        }
+        Ok(self.keep(word))
     }
 }

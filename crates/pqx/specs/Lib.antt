@@ -1,2 +1,3 @@
 -- What a fault says.
 pub mod Faults
+pub mod Options

@@ -1,4 +1,4 @@
-//! Follows scripts of single steps on a queue.
+//! Follows scripts of single steps on a queue, and crashes them everywhere.
 #![tactic(auto)]
 
 ghost use Rattle.std.specs.Prelude.{◌≡◌};
@@ -7,12 +7,18 @@ ghost use Rattle.words.specs.declared.refusal.Refusal.TheVariants.{NoMemory};
 ghost use Rattle.pqx.specs.Faults.{fault_of, fault_of_system};
 ghost use Rattle.pqx.specs.declared.Fault.TheVariants.{Refused};
 
-use clap::{ArgMatches, Command};
+mod options;
+mod progress;
+
+use crate::options::{Asked, options};
+use crate::progress::Progress;
 use devices::{CountedReader, CountedWriter};
-use std::alloc::{AllocError, Global};
-use std::env;
+use explore::Evictions;
+use std::alloc::AllocError;
 use std::io::{self, ErrorKind};
 use std::process::ExitCode;
+use std::thread::Threads;
+use std::{env, fs};
 use thiserror::Error;
 use words::Refusal;
 
@@ -56,58 +62,96 @@ impl From<AllocError> for Fault {
     }
 }
 
-/// What `--version` prints after the name.
-const VERSION: &str = "0.1.0";
+/// Prints what a crash at each point comes to.
+fn print_points<H: Threads + Sync>(
+    threads: &H,
+    rt: &HostRuntime,
+    evictions: Evictions,
+) -> Result<(), Refusal> {
+    let mut reader = CountedReader::new(rt.reader());
+    let mut writer = CountedWriter::new(io::writer(rt));
+    let mut progress = Progress::new(rt);
+    let printed = explore::run_points(
+        threads,
+        rt.alloc(),
+        &mut reader,
+        &mut writer,
+        evictions,
+        &mut progress,
+    );
+    progress.clear();
+    printed
+}
 
-/// What help says of scripts.
-const SCRIPTS: &str = "\
-A script names a queue and then acts on it, a line for each act. An empty line, and one that begins with #, says
-nothing. This one has a client call, stops everything before the call's effect is kept, and recovers:
+/// The same, and writes the page of it to a file.
+fn show_points<H: Threads + Sync>(
+    threads: &H,
+    rt: &HostRuntime,
+    evictions: Evictions,
+    path: &str,
+) -> Result<(), Refusal> {
+    let mut reader = CountedReader::new(rt.reader());
+    let mut writer = CountedWriter::new(io::writer(rt));
+    let mut progress = Progress::new(rt);
+    let shown = explore::run_page(
+        threads,
+        rt.alloc(),
+        &mut reader,
+        &mut writer,
+        evictions,
+        &mut progress,
+    );
+    progress.clear();
+    fs::write(rt, path, &shown?).map_err(|_| Refusal::WriteFailed)
+}
 
-  queue log 1 2    a log queue of 1 client, who can begin 2 calls
-  enq 0 1 9        client 0 calls: to enqueue 9, as its call number 1
-  step 0 18        the call goes on by 18 steps, and has then linked its node
-  crash            the whole system stops, and what is not kept is lost
-  recover          recovery goes on to its end, and client 0 is told that its call was not taken
-  content          prints what the queue holds: nothing
+/// Does what was asked for.
+fn answer<H: Threads + Sync>(
+    threads: &H,
+    rt: &HostRuntime,
+    asked: Asked<'_>,
+) -> Result<(), Refusal> {
+    let mut reader = CountedReader::new(rt.reader());
+    let mut writer = CountedWriter::new(io::writer(rt));
+    match asked {
+        Asked::Run => explore::run(rt.alloc(), &mut reader, &mut writer),
+        Asked::Alone => explore::run_alone(rt.alloc(), &mut reader, &mut writer),
+        Asked::Points {
+            evictions,
+            page: None,
+        } => print_points(threads, rt, evictions),
+        Asked::Points {
+            evictions,
+            page: Some(path),
+        } => show_points(threads, rt, evictions, path),
+    }
+}
 
-The other lines: queue durable T K, deq C N, end C, evict W, recover M, order; on a durable queue enq C V and deq C.
-docs/SCRIPT.md has all of them, and every line that is printed.";
-
-/// The command line: `pqx run`.
-fn matches<'a>(alloc: Global, words: &'a [String]) -> Result<ArgMatches<'a>, clap::Error> {
-    let run = Command::new(alloc, "run")
-        .about("Follows the script that standard input has, and prints what happens")
-        .after_help(SCRIPTS);
-    let pqx = Command::new(alloc, "pqx")
-        .version(VERSION)
-        .about("Follows scripts of single steps on a queue")
-        .after_help(SCRIPTS)
-        .subcommand_required(true)
-        .subcommand(run)?;
-    pqx.try_get_matches_from(words)
+/// Says what is wrong with a command line, or what it asks to know, and answers with which status to end.
+fn explained(rt: &HostRuntime, error: &clap::Error) -> Result<ExitCode, Fault> {
+    if let clap::error::ErrorKind::OutOfMemory = error.kind() {
+        return Err(Fault::Refused(Refusal::NoMemory));
+    }
+    if error.print(rt).is_err() {
+        return Err(Fault::Refused(Refusal::WriteFailed));
+    }
+    Ok(ExitCode::from(error.exit_code() as u8))
 }
 
 /// Does what the command line asks for, and answers with which status to end.
-fn follow(rt: &HostRuntime) -> Result<ExitCode, Fault> {
+fn follow<H: Threads + Sync>(threads: &H, rt: &HostRuntime) -> Result<ExitCode, Fault> {
     let words: Vec<String> = env::args(rt)?.collect(rt.alloc())?;
-    if let Err(error) = matches(rt.alloc(), &words) {
-        if let clap::error::ErrorKind::OutOfMemory = error.kind() {
-            return Err(Fault::Refused(Refusal::NoMemory));
+    match options(rt.alloc(), &words) {
+        Ok(asked) => {
+            answer(threads, rt, asked)?;
+            Ok(ExitCode::SUCCESS)
         }
-        if error.print(rt).is_err() {
-            return Err(Fault::Refused(Refusal::WriteFailed));
-        }
-        return Ok(ExitCode::from(error.exit_code() as u8));
+        Err(error) => explained(rt, &error),
     }
-    let mut reader = CountedReader::new(rt.reader());
-    let mut writer = CountedWriter::new(io::writer(rt));
-    explore::run(rt.alloc(), &mut reader, &mut writer)?;
-    Ok(ExitCode::SUCCESS)
 }
 
 fn main(rt: HostRuntime) -> io::Result<ExitCode> {
-    match follow(&rt) {
+    match follow(&rt, &rt) {
         Ok(status) => Ok(status),
         Err(fault) => {
             eprintln!(rt; "pqx: {fault}")?;

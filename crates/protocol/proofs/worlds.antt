@@ -4,3 +4,4 @@ pub mod Acts
 pub mod ReadyWorlds
 pub mod RecoveringWorlds
 pub mod Facts
+pub mod Rotated

@@ -7,3 +7,4 @@ pub mod Measure
 pub mod Recovered
 pub mod Announced
 pub mod invariants
+pub mod Rotated

@@ -1,5 +1,5 @@
 -- Which kept words are sound: what the words of a queue keep to at every moment, so that recovery can begin with them.
-use Rattle.std.specs.Prelude.{◌≡◌, ◌≢◌, ℕ, ◌+◌, ◌*◌, ◌≤◌, ◌<◌, ◌⊎◌, List, length, slice_index}
+use Rattle.std.specs.Prelude.{◌≡◌, ◌≢◌, ℕ, ◌+◌, ◌≤◌, ◌<◌, ◌⊎◌, List, length, slice_index}
 use Rattle.words.specs.Refusal.{number_of}
 use Rattle.words.specs.declared.call.Kind.{Kind}
 use Rattle.words.specs.declared.call.Kind.TheVariants.{Durable, Log}
@@ -9,6 +9,7 @@ use Rattle.words.specs.declared.refusal.Rule.{Rule}
 use Rattle.words.specs.declared.refusal.Rule.TheVariants.{Size, Records, Chain, Claims, Ends, Rows, Entries, Image, Directory}
 use Rattle.words.specs.declared.limits.TheConstants.{MAX_CALL_NUMBER, MAX_VALUE}
 use Rattle.arena.specs.declared.codes.TheConstants.{DEQUEUE_KIND, EMPTY_CELL, EMPTY_STATUS, ENQUEUE_KIND, GOT_CELL, TAKEN_STATUS}
+use Rattle.arena.specs.Broker.{block_size_of}
 use Rattle.arena.specs.Layout.{size_of}
 use Rattle.recover.specs.Kept.{kept_in}
 use Rattle.arena.specs.Shape.{Shape, greatest, record_of, owner}
@@ -19,12 +20,9 @@ use Rattle.arena.specs.Content.{chain_of}
 use Rattle.arena.specs.declared.place.Place.{Place}
 use Rattle.arena.specs.declared.place.Place.TheVariants.{Head, Tail, Insert, Number, EntryNode}
 
--- a block of a broker, in which a queue of either kind has room: past the queue's words it is all zero
-abbrev pub block_size : Shape → ℕ
-block_size s = 6 + 2 * s.clients + 8 * greatest s
-
+-- a block of a broker: past the queue's words it is all zero
 pub record IsBlock (s : Shape) (ws : List ℕ) : Type 0 where
-  pub count : length ws ≡ block_size s
+  pub count : length ws ≡ block_size_of s.clients s.records
   pub room : size_of s ≤ length ws
   pub rest : (w : ℕ) → size_of s ≤ w → w < length ws → slice_index ws w ≡ 0
 

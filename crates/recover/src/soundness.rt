@@ -6,7 +6,7 @@ ghost use Rattle.recover.specs.Kept.{kept_of};
 ghost use Rattle.recover.specs.Sound.{SizeIsSound, RecordsAreSound, AreSoundWords, IsFirstBroken, IsDamaged};
 
 use crate::kept::KeptQueue;
-use arena::Layout;
+use arena::{Layout, block_size};
 use persist::KeptWords;
 use words::{Kind, MAX_RECORD_NUMBER, Refusal, Rule};
 
@@ -32,8 +32,7 @@ fn is_size_sound<L: Layout, W: KeptWords>(layout: &L, words: &W) -> bool
     ensures few { greatest (L.shape layout.now) ≤ MAX_RECORD_NUMBER }
 {
     let size = layout.size();
-    let records = layout.clients() as usize * layout.records() as usize;
-    let block = 6 + 2 * layout.clients() as usize + 8 * records;
+    let block = block_size(layout.clients(), layout.records());
     let count = words.size();
     if count == size {
         return true;

@@ -11,7 +11,7 @@ use Rattle.interleave.proofs.content.content.Given as goal
 abbrev pub invariant-loop : goal.invariant-loop
 invariant-loop g l =
     let s = g.L.Layout.shape l.layout in
-    let word : Place → ℕ = value_of_place s l.memory.kept in
+    let word : Place → ℕ = value_of_place s (g.K.KeptWords.kept_words l.kept) in
     record {
       links : l.links ≡ greatest s;
       node : IsNode s l.node.0;

@@ -10,7 +10,7 @@ use Rattle.explore.specs.Transcript.{step_lines}
 use Rattle.explore.specs.declared.printed.Line.{Line}
 use Rattle.explore.specs.declared.printed.Line.TheVariants.{Return}
 use Rattle.explore.proofs.Plays.{always_ok, where_both, not_first}
-use Rattle.explore.proofs.Alone.{goes_alone, few_alone, refused_leads, refused_gives}
+use Rattle.explore.proofs.GoingAlone.{goes_alone, few_alone, refused_leads, refused_gives}
 use Rattle.explore.proofs.player.Player.end.Goals as goal
 
 pub returns-in-Ok-clause-play : goal.returns-in-Ok-clause-play

@@ -4,8 +4,8 @@ use Rattle.words.specs.declared.call.Call.TheVariants.{Enq}
 use Rattle.protocol.specs.Machine.{FitsCall}
 use Rattle.interleave.specs.Calls.{is_no_memory}
 use Rattle.interleave.specs.Holds.{Holds}
-use Rattle.interleave.specs.State.{State, after_attempt, is_accepted_with}
-use Rattle.interleave.specs.Trace.{Roomy, state_with}
+use Rattle.interleave.specs.State.{after_attempt, is_accepted_with}
+use Rattle.interleave.specs.Trace.{Roomy}
 use Rattle.interleave.proofs.HoldsKept.{call_fits, holds_after_start, holds_after_step, holds_after_evict, holds_after_crash, holds_after_recover}
 use Rattle.interleave.proofs.world.World.act.Goals as goal
 
@@ -17,6 +17,16 @@ returns-in-Start-clause-attempt g c =
       short = c.start.ensures.full;
       leaves = c.start.ensures.world ∙ ap (after_attempt full c.args.self.now.now) (sym c.in-Start.is);
       accepts = c.is_ok.ensures.value ∙ ap is_ok c.start.ensures.result ∙ ap (is_accepted_with full c.args.self.now.now) (sym c.in-Start.is);
+    }
+
+pub returns-in-Step-clause-attempt : goal.returns-in-Step-clause-attempt
+returns-in-Step-clause-attempt g c =
+    let full = is_no_memory c.step.result in
+    record {
+      full = full;
+      short = c.step.ensures.full;
+      leaves = c.step.ensures.world ∙ ap (after_attempt full c.args.self.now.now) (sym c.in-Step.is);
+      accepts = c.is_ok-in-Step.ensures.value ∙ ap is_ok c.step.ensures.result ∙ ap (is_accepted_with full c.args.self.now.now) (sym c.in-Step.is);
     }
 
 pub returns-in-Recover-clause-attempt : goal.returns-in-Recover-clause-attempt
@@ -31,7 +41,6 @@ returns-in-Recover-clause-attempt g c =
 
 pub returns-in-Start-clause-holds : goal.returns-in-Start-clause-holds
 returns-in-Start-clause-holds g c =
-    let old : State = state_with (g.L.Layout.shape c.self.inside.layout) c.self.inside.memory c.self.inside.queue c.self.inside.calls.items c.self.inside.trace in
     let holds : Holds c.args.self.now.now = subst Holds (ap (λ (r : Roomy). r.now) c.self.view_is) c.self.invariant in
     let value : (v : ℕ) → c.in-Start.call ≡ Enq v → v ≤ 4294967295 = search rules in
     let fits : FitsCall c.in-Start.call = call_fits c.in-Start.call value in

@@ -1,41 +1,79 @@
-use Rattle.std.proofs.Common.{◌≡◌, sym, subst, ap, ◌∙◌}
-use Rattle.interleave.specs.Calls.{is_no_memory}
+use Rattle.std.proofs.Common.{◌≡◌, false, refl, sym, subst, ap, ◌∙◌}
+use Rattle.persist.specs.Memory.{Words}
+use Rattle.interleave.specs.Core.{CoreState, state_of}
 use Rattle.interleave.specs.Holds.{Holds, IsExplained}
+use Rattle.interleave.specs.State.{IsKeptSound, State, after_stop, kept_content, kept_tells, order_in}
+use Rattle.interleave.specs.Trace.{Roomy}
+use Rattle.interleave.proofs.HoldsKept.{explained_world, holds_after_crash, part_after_crash}
 use Rattle.interleave.proofs.KeptTells.{kept_sound, tells_crashed}
-use Rattle.interleave.specs.State.{IsKeptSound, kept_tells, kept_content, State, order_in}
-use Rattle.interleave.specs.Trace.{Roomy, state_with}
-use Rattle.interleave.proofs.HoldsKept.{holds_after_crash, part_after_crash, explained_world}
+use Rattle.interleave.proofs.MachineFacts.{room_held}
 use Rattle.interleave.proofs.world.World.crash.Goals as goal
 
-pub invariant_of-self : goal.invariant_of-self
-invariant_of-self g c =
-    let old : State = state_with (g.L.Layout.shape c.self.inside.layout) c.self.inside.memory c.self.inside.queue c.self.inside.calls.items c.self.inside.trace in
-    subst (Holds) (sym c.crash_all.ensures.world) (holds_after_crash (is_no_memory c.crash_all.result) old c.self.invariant)
+pub crash-requires : goal.crash-requires
+crash-requires g c = room_held c.self.invariant
+
+pub returns-in_err-crash-clause-explained : goal.returns-in_err-crash-clause-explained
+returns-in_err-crash-clause-explained g c =
+    subst (λ (k : CoreState). IsExplained (state_of k c.self.inside.memory)) (sym c.in_err-crash.ensures.same)
+    (explained_world (state_of c.self.inside.core c.self.inside.memory) c.self.invariant)
+
+pub returns-in_err-crash-clause-sound : goal.returns-in_err-crash-clause-sound
+returns-in_err-crash-clause-sound g c =
+    subst (λ (k : CoreState). IsKeptSound (state_of k c.self.inside.memory)) (sym c.in_err-crash.ensures.same)
+    (kept_sound (state_of c.self.inside.core c.self.inside.memory) c.self.invariant)
+
+pub invariant_of-self-2 : goal.invariant_of-self-2
+invariant_of-self-2 g c =
+    let old : State = state_of c.self.inside.core c.self.inside.memory in
+    let was : old ≡ c.args.self.now.now = ap (λ (r : Roomy). r.now) c.self.view_is in
+    let left : state_of c.crash.new.self c.crash-2.new.self ≡ after_stop old =
+    ap (λ (m : Words). state_of c.crash.new.self m) c.crash-2.ensures ∙ c.in_ok-crash.ensures.stopped refl c.self.inside.memory in
+    subst Holds (sym left) (holds_after_crash false old c.self.invariant)
+
+pub returns-clause-world : goal.returns-clause-world
+returns-clause-world g c =
+    let old : State = state_of c.self.inside.core c.self.inside.memory in
+    let was : old ≡ c.args.self.now.now = ap (λ (r : Roomy). r.now) c.self.view_is in
+    let left : state_of c.crash.new.self c.crash-2.new.self ≡ after_stop old =
+    ap (λ (m : Words). state_of c.crash.new.self m) c.crash-2.ensures ∙ c.in_ok-crash.ensures.stopped refl c.self.inside.memory in
+    left ∙ ap after_stop was
 
 pub returns-clause-explained : goal.returns-clause-explained
 returns-clause-explained g c =
-    let old : State = state_with (g.L.Layout.shape c.self.inside.layout) c.self.inside.memory c.self.inside.queue c.self.inside.calls.items c.self.inside.trace in
-    subst (IsExplained) (sym c.crash_all.ensures.world) (explained_world _ (holds_after_crash (is_no_memory c.crash_all.result) old c.self.invariant))
+    let old : State = state_of c.self.inside.core c.self.inside.memory in
+    let was : old ≡ c.args.self.now.now = ap (λ (r : Roomy). r.now) c.self.view_is in
+    let left : state_of c.crash.new.self c.crash-2.new.self ≡ after_stop old =
+    ap (λ (m : Words). state_of c.crash.new.self m) c.crash-2.ensures ∙ c.in_ok-crash.ensures.stopped refl c.self.inside.memory in
+    subst IsExplained (sym left) (explained_world _ (holds_after_crash false old c.self.invariant))
 
 pub returns-clause-sound : goal.returns-clause-sound
 returns-clause-sound g c =
-    let old : State = state_with (g.L.Layout.shape c.self.inside.layout) c.self.inside.memory c.self.inside.queue c.self.inside.calls.items c.self.inside.trace in
-    subst (IsKeptSound) (sym c.crash_all.ensures.world) (kept_sound _ (holds_after_crash (is_no_memory c.crash_all.result) old c.self.invariant))
+    let old : State = state_of c.self.inside.core c.self.inside.memory in
+    let was : old ≡ c.args.self.now.now = ap (λ (r : Roomy). r.now) c.self.view_is in
+    let left : state_of c.crash.new.self c.crash-2.new.self ≡ after_stop old =
+    ap (λ (m : Words). state_of c.crash.new.self m) c.crash-2.ensures ∙ c.in_ok-crash.ensures.stopped refl c.self.inside.memory in
+    subst IsKeptSound (sym left) (kept_sound _ (holds_after_crash false old c.self.invariant))
 
 pub returns-clause-order : goal.returns-clause-order
 returns-clause-order g c =
-    let old : State = state_with (g.L.Layout.shape c.self.inside.layout) c.self.inside.memory c.self.inside.queue c.self.inside.calls.items c.self.inside.trace in
+    let old : State = state_of c.self.inside.core c.self.inside.memory in
     let was : old ≡ c.args.self.now.now = ap (λ (r : Roomy). r.now) c.self.view_is in
-    ap order_in c.crash_all.ensures.world ∙ part_after_crash (is_no_memory c.crash_all.result) old ∙ ap order_in was
+    let left : state_of c.crash.new.self c.crash-2.new.self ≡ after_stop old =
+    ap (λ (m : Words). state_of c.crash.new.self m) c.crash-2.ensures ∙ c.in_ok-crash.ensures.stopped refl c.self.inside.memory in
+    ap order_in left ∙ part_after_crash false old ∙ ap order_in was
 
 pub returns-clause-tells : goal.returns-clause-tells
 returns-clause-tells g c =
-    let old : State = state_with (g.L.Layout.shape c.self.inside.layout) c.self.inside.memory c.self.inside.queue c.self.inside.calls.items c.self.inside.trace in
+    let old : State = state_of c.self.inside.core c.self.inside.memory in
     let was : old ≡ c.args.self.now.now = ap (λ (r : Roomy). r.now) c.self.view_is in
-    ap (kept_tells) c.crash_all.ensures.world ∙ (tells_crashed (is_no_memory c.crash_all.result) old).0 ∙ ap (kept_tells) was
+    let left : state_of c.crash.new.self c.crash-2.new.self ≡ after_stop old =
+    ap (λ (m : Words). state_of c.crash.new.self m) c.crash-2.ensures ∙ c.in_ok-crash.ensures.stopped refl c.self.inside.memory in
+    ap kept_tells left ∙ (tells_crashed false old).0 ∙ ap kept_tells was
 
 pub returns-clause-holds : goal.returns-clause-holds
 returns-clause-holds g c =
-    let old : State = state_with (g.L.Layout.shape c.self.inside.layout) c.self.inside.memory c.self.inside.queue c.self.inside.calls.items c.self.inside.trace in
+    let old : State = state_of c.self.inside.core c.self.inside.memory in
     let was : old ≡ c.args.self.now.now = ap (λ (r : Roomy). r.now) c.self.view_is in
-    ap (kept_content) c.crash_all.ensures.world ∙ (tells_crashed (is_no_memory c.crash_all.result) old).1 ∙ ap (kept_content) was
+    let left : state_of c.crash.new.self c.crash-2.new.self ≡ after_stop old =
+    ap (λ (m : Words). state_of c.crash.new.self m) c.crash-2.ensures ∙ c.in_ok-crash.ensures.stopped refl c.self.inside.memory in
+    ap kept_content left ∙ (tells_crashed false old).1 ∙ ap kept_content was

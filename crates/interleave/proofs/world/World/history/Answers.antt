@@ -1,14 +1,16 @@
 use Rattle.std.proofs.Common.{subst, ap}
 use Rattle.interleave.specs.Holds.{Holds, IsExplained}
+use Rattle.interleave.specs.Core.{state_of}
 use Rattle.interleave.specs.State.{State}
-use Rattle.interleave.specs.Trace.{Roomy, state_with}
+use Rattle.interleave.specs.Trace.{Roomy}
 use Rattle.interleave.proofs.HoldsKept.{explained_world}
 use Rattle.interleave.proofs.world.World.history.Goals as goal
 
 pub returns-clause-explained : goal.returns-clause-explained
 returns-clause-explained g c =
-    let old : State = state_with (g.L.Layout.shape c.self.inside.layout) c.self.inside.memory c.self.inside.queue c.self.inside.calls.items c.self.inside.trace in
-    subst (IsExplained) (ap (λ (r : Roomy). r.now) c.self.view_is) (explained_world old c.self.invariant)
+    let old : State = state_of c.self.inside.core c.self.inside.memory in
+    subst IsExplained (ap (λ (r : Roomy). r.now) c.self.view_is) (explained_world old c.self.invariant)
 
 pub returns-clause-holds : goal.returns-clause-holds
-returns-clause-holds g c = subst Holds (ap (λ (r : Roomy). r.now) c.self.view_is) c.self.invariant
+returns-clause-holds g c =
+    subst Holds (ap (λ (r : Roomy). r.now) c.self.view_is) c.self.invariant

@@ -1,4 +1,4 @@
-use Rattle.std.proofs.Common.{◌≡◌, ℕ, suc, ◌+◌, ◌≤◌, ◌<◌, Bool, true, false, List, Option, Some, None, Ok, slice_get, refl, sym, ap, ◌∙◌, subst, arith, rules}
+use Rattle.std.proofs.Common.{◌≡◌, ℕ, suc, ◌+◌, ◌≤◌, ◌<◌, Bool, true, false, Some, None, Ok, slice_get, refl, sym, ap, ◌∙◌, subst, arith, rules}
 use Rattle.events.specs.Parts.{IsPartOf}
 use Rattle.events.proofs.Members.{part_same, part_of_part}
 use Rattle.protocol.specs.Machine.{next_of}
@@ -7,7 +7,8 @@ use Rattle.interleave.specs.Calls.{answer_of, is_no_memory}
 use Rattle.interleave.specs.Holds.{Holds, IsExplained}
 use Rattle.interleave.proofs.KeptTells.{kept_sound}
 use Rattle.interleave.specs.State.{IsKeptSound, State, machine, after_one_access, after_step, after_alone, IsAnsweredAlone, step_result, order_in}
-use Rattle.interleave.specs.Trace.{Roomy, state_with}
+use Rattle.interleave.specs.Core.{state_of}
+use Rattle.interleave.specs.Trace.{Roomy}
 use Rattle.interleave.proofs.AloneLaws.{left_in, left_few, step_is, answer_is, goes_on}
 use Rattle.interleave.proofs.HoldsKept.{explained_world, holds_gone_on, waiting_is}
 use Rattle.interleave.proofs.StandingLaws.{ended_by_order}
@@ -16,13 +17,13 @@ use Rattle.interleave.proofs.world.World.run_alone.Goals as goal
 
 pub returns-in_err-waiting-clause-explained : goal.returns-in_err-waiting-clause-explained
 returns-in_err-waiting-clause-explained g c =
-    let inside : State = state_with (g.L.Layout.shape c.self.inside.layout) c.self.inside.memory c.self.inside.queue c.self.inside.calls.items c.self.inside.trace in
+    let inside : State = state_of c.self.inside.core c.self.inside.memory in
     let was : inside ≡ c.args.self.now.now = ap (λ (r : Roomy). r.now) c.self.view_is in
     subst (IsExplained) was (explained_world inside c.self.invariant)
 
 pub returns-in_err-waiting-clause-sound : goal.returns-in_err-waiting-clause-sound
 returns-in_err-waiting-clause-sound g c =
-    let inside : State = state_with (g.L.Layout.shape c.self.inside.layout) c.self.inside.memory c.self.inside.queue c.self.inside.calls.items c.self.inside.trace in
+    let inside : State = state_of c.self.inside.core c.self.inside.memory in
     let was : inside ≡ c.args.self.now.now = ap (λ (r : Roomy). r.now) c.self.view_is in
     subst (IsKeptSound) was (kept_sound inside c.self.invariant)
 
@@ -31,13 +32,13 @@ returns-in_err-waiting-clause-order g c = part_same (order_in c.args.self.now.no
 
 pub returns-in_err-reserve-clause-explained : goal.returns-in_err-reserve-clause-explained
 returns-in_err-reserve-clause-explained g c =
-    let inside : State = state_with (g.L.Layout.shape c.self.inside.layout) c.self.inside.memory c.self.inside.queue c.self.inside.calls.items c.self.inside.trace in
+    let inside : State = state_of c.self.inside.core c.self.inside.memory in
     let was : inside ≡ c.args.self.now.now = ap (λ (r : Roomy). r.now) c.self.view_is in
     subst (IsExplained) (was ∙ sym c.reserve.ensures.same) (explained_world inside c.self.invariant)
 
 pub returns-in_err-reserve-clause-sound : goal.returns-in_err-reserve-clause-sound
 returns-in_err-reserve-clause-sound g c =
-    let inside : State = state_with (g.L.Layout.shape c.self.inside.layout) c.self.inside.memory c.self.inside.queue c.self.inside.calls.items c.self.inside.trace in
+    let inside : State = state_of c.self.inside.core c.self.inside.memory in
     let was : inside ≡ c.args.self.now.now = ap (λ (r : Roomy). r.now) c.self.view_is in
     subst (IsKeptSound) (was ∙ sym c.reserve.ensures.same) (kept_sound inside c.self.invariant)
 
@@ -47,11 +48,11 @@ returns-in_err-reserve-clause-order g c =
 
 pub loop-answer-init : goal.loop-answer-init
 loop-answer-init g c =
-    let inside : State = state_with (g.L.Layout.shape c.self.inside.layout) c.self.inside.memory c.self.inside.queue c.self.inside.calls.items c.self.inside.trace in
+    let inside : State = state_of c.self.inside.core c.self.inside.memory in
     let was : inside ≡ c.args.self.now.now = ap (λ (r : Roomy). r.now) c.self.view_is in
     let same : c.reserve.new.self.now ≡ c.args.self.now.now = c.reserve.ensures.same in
-    let waits : slice_get c.deref.result.now c.args.client.0 ≡ Some (Some c.in_ok-waiting.field-0) = waiting_is _ (slice_get c.deref.result.now c.args.client.0) c.in_ok-waiting.field-0 (sym c.waiting.ensures ∙ c.in_ok-waiting.was) in
-    let here : slice_get inside.calls c.args.client.0 ≡ Some (Some c.in_ok-waiting.field-0) = subst (λ (cs : List (Option UnderWay)). slice_get cs c.args.client.0 ≡ Some (Some c.in_ok-waiting.field-0)) c.deref.ensures.value waits in
+    let here : slice_get inside.calls c.args.client.0 ≡ Some (Some c.in_ok-waiting.field-0) =
+    waiting_is _ (slice_get inside.calls c.args.client.0) c.in_ok-waiting.field-0 (sym c.waiting.ensures ∙ c.in_ok-waiting.was) in
     record {
       world = same;
       client = refl;
@@ -162,7 +163,7 @@ returns-in-Some-clause-ended g c =
 
 pub returns-in-Some-clause-turn : goal.returns-in-Some-clause-turn
 returns-in-Some-clause-turn g c = λ call turn.
-    let inside : State = state_with (g.L.Layout.shape c.self.inside.layout) c.self.inside.memory c.self.inside.queue c.self.inside.calls.items c.self.inside.trace in
+    let inside : State = state_of c.self.inside.core c.self.inside.memory in
     let was : inside ≡ c.args.self.now.now = ap (λ (r : Roomy). r.now) c.self.view_is in
     let w : State = c.loop-answer.self.now in
     let paid : is_no_memory c.step.result ≡ false = ap is_no_memory c.in_ok-answer.was in

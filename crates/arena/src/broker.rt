@@ -1,0 +1,215 @@
+//! The words of a broker: a head, a directory of its slots, and a block of words for the queue of each slot.
+
+ghost use Rattle.std.specs.Prelude.{◌≡◌, ◌↔◌, ◌⊎◌, ℕ, ◌+◌, ◌<◌, ◌≤◌, IfOk, IfErr, IsOk, MatchOption, Err, Ok, Some};
+ghost use Rattle.words.specs.declared.call.Kind.TheVariants.{Durable, Log};
+ghost use Rattle.arena.specs.Shape.{shape_of};
+ghost use Rattle.arena.specs.Limits.{AreCounts};
+ghost use Rattle.arena.specs.Layout.{size_of};
+ghost use Rattle.arena.specs.Broker.{block_size_of, block_from, broker_size, broker_word, broker_place, directory_from, directory_place, IsBrokerPlace};
+
+use crate::durable::DurableLayout;
+use crate::layout::{MAX_LAYOUT_WORDS, check_counts};
+use crate::log::LogLayout;
+use std::marker::Model;
+use words::{MAX_CLIENTS, Refusal};
+
+/// How many slots a broker has, each for one queue.
+pub const SLOTS: usize = 8;
+
+/// How many words the head has, before the directory.
+pub const HEAD_WORDS: usize = 2;
+
+/// How many words the directory has for each slot.
+pub const DIRECTORY_WORDS: usize = 4;
+
+/// The word at which the first block begins: after the head and the directory.
+pub const BLOCKS_FROM: usize = HEAD_WORDS + SLOTS * DIRECTORY_WORDS;
+
+/// The most words of a broker's layout.
+pub const MAX_BROKER_WORDS: usize = BLOCKS_FROM + SLOTS * MAX_LAYOUT_WORDS;
+
+/// A slot of a broker, from 0 to 7.
+#[derive(Clone, Copy, Debug, PartialEq, Eq, PartialOrd, Ord, Hash)]
+pub struct SlotId(pub u8);
+
+/// A place of a broker's layout: one word, by what it is for.
+#[derive(Clone, Copy, Debug, PartialEq, Eq, Hash)]
+pub enum BrokerPlace {
+    /// How many clients each queue has. It never changes.
+    Clients,
+    /// How many records each client has in each queue. It never changes.
+    Records,
+    /// The first word of the name of the slot's queue.
+    FirstName(SlotId),
+    /// The second word of that name.
+    SecondName(SlotId),
+    /// The kind of the slot's queue: 1 durable, 2 log.
+    QueueKind(SlotId),
+    /// Whether the slot has a queue: 0 closed, 1 open.
+    Gate(SlotId),
+    /// A word of the slot's block, from 0.
+    Block { slot: SlotId, word: usize },
+}
+
+/// The words of a broker whose queues all have as many clients, and as many records of each. The words of a slot's
+/// block are the same whichever kind its queue is of.
+#[derive(Clone, Copy, Debug)]
+pub struct BrokerLayout {
+    clients: u32,
+    records: u32,
+}
+
+impl Model for BrokerLayout {
+    ghost use Rattle.arena.specs.Shape.{Counts};
+    ghost use Rattle.arena.specs.Limits.{AreCounts};
+
+    ghost Value = { Counts };
+
+    ghost view = { λ l. record { clients = l.clients; records = l.records } };
+
+    ghost invariant = { λ l. AreCounts l.clients l.records };
+
+    ghost inverse = { λ s. record { clients = s.clients; records = s.records } };
+}
+
+/// How many words a block has: as many as the longer of the two kinds of queue needs.
+pub fn block_size(clients: u32, records: u32) -> usize
+    requires { AreCounts clients records }
+    ensures value { result ≡ block_size_of clients records }
+    ensures some { 0 < result }
+    ensures small { result ≤ MAX_LAYOUT_WORDS }
+{
+    6 + 2 * clients as usize + 8 * (clients as usize * records as usize)
+}
+
+/// One of the four words of a slot in the directory.
+fn slot_place(slot: SlotId, field: usize) -> BrokerPlace
+    ensures { result ≡ directory_place slot.0 field }
+{
+    match field {
+        0 => BrokerPlace::FirstName(slot),
+        1 => BrokerPlace::SecondName(slot),
+        2 => BrokerPlace::QueueKind(slot),
+        _ => BrokerPlace::Gate(slot),
+    }
+}
+
+/// The first word of a slot in the directory.
+fn slot_from(slot: SlotId) -> usize
+    ensures { result ≡ directory_from slot.0 }
+{
+    HEAD_WORDS + DIRECTORY_WORDS * slot.0 as usize
+}
+
+impl BrokerLayout {
+    /// A layout of queues for 1 to [`MAX_CLIENTS`] clients with 1 to [`words::MAX_RECORDS`] records each. It is
+    /// refused, in this order, where the clients are none or more (BadClients), and where the records are (BadRecords).
+    pub fn make(clients: u32, records: u32) -> Result<Self, Refusal>
+        ensures ok { IsOk result ↔ AreCounts clients records }
+        ensures made { IfOk result (λ l. l ≡ record { clients = clients; records = records }) }
+        ensures bad_clients { result ≡ Err Refusal.BadClients ↔ ((clients ≡ 0) ⊎ (MAX_CLIENTS < clients)) }
+        ensures errors { IfErr result (λ e. (e ≡ Refusal.BadClients) ⊎ (e ≡ Refusal.BadRecords)) }
+    {
+        check_counts(clients, records)?;
+        Ok(BrokerLayout { clients, records })
+    }
+
+    /// How many words there are.
+    pub fn size(&self) -> usize
+        ensures value { result ≡ broker_size self.now }
+        ensures small { result ≤ MAX_BROKER_WORDS }
+    {
+        BLOCKS_FROM + SLOTS * self.block_size()
+    }
+
+    /// How many words each block has.
+    pub fn block_size(&self) -> usize
+        ensures value { result ≡ block_size_of self.now.clients self.now.records }
+        ensures some { 0 < result }
+        ensures small { result ≤ MAX_LAYOUT_WORDS }
+    {
+        block_size(self.clients, self.records)
+    }
+
+    /// The word at which a slot's block begins.
+    #[tactic(auto, using(crate::proofs::BrokerWords::block_ends))]
+    pub fn block(&self, slot: SlotId) -> usize
+        requires { slot.0 < SLOTS }
+        ensures from { result ≡ block_from self.now slot.0 }
+        ensures within { result + block_size_of self.now.clients self.now.records ≤ broker_size self.now }
+        ensures small { result + block_size_of self.now.clients self.now.records ≤ MAX_BROKER_WORDS }
+        ensures apart { (other : ℕ) → slot.0 < other
+            → result + block_size_of self.now.clients self.now.records ≤ block_from self.now other }
+    {
+        BLOCKS_FROM + slot.0 as usize * self.block_size()
+    }
+
+    /// The layout of a durable queue in a block. It has room there.
+    #[tactic(auto, unfolding(crate::specs::Layout::size_of))]
+    pub fn durable(&self) -> DurableLayout
+        ensures counts { result ≡ self.now }
+        ensures fits { size_of (shape_of Durable self.now) ≤ block_size_of self.now.clients self.now.records }
+    {
+        let Ok(layout) = DurableLayout::make(self.clients, self.records) else {
+            // The counts are those of this layout, which were tested.
+            unreachable!();
+        };
+        layout
+    }
+
+    /// The layout of a log queue in a block. It has room there.
+    #[tactic(auto, unfolding(crate::specs::Layout::size_of))]
+    pub fn log(&self) -> LogLayout
+        ensures counts { result ≡ self.now }
+        ensures fits { size_of (shape_of Log self.now) ≤ block_size_of self.now.clients self.now.records }
+    {
+        let Ok(layout) = LogLayout::make(self.clients, self.records) else {
+            // The counts are those of this layout, which were tested.
+            unreachable!();
+        };
+        layout
+    }
+
+    /// The word of a place.
+    #[tactic(auto, using(crate::proofs::BrokerWords::broker_below, crate::proofs::BrokerWords::broker_own))]
+    pub fn word(&self, place: BrokerPlace) -> usize
+        requires { IsBrokerPlace self.now place }
+        ensures word { result ≡ broker_word self.now place }
+        ensures below { result < broker_size self.now }
+        ensures own { broker_place self.now result ≡ Some place }
+    {
+        match place {
+            BrokerPlace::Clients => 0,
+            BrokerPlace::Records => 1,
+            BrokerPlace::FirstName(slot) => slot_from(slot),
+            BrokerPlace::SecondName(slot) => slot_from(slot) + 1,
+            BrokerPlace::QueueKind(slot) => slot_from(slot) + 2,
+            BrokerPlace::Gate(slot) => slot_from(slot) + 3,
+            BrokerPlace::Block { slot, word } => self.block(slot) + word,
+        }
+    }
+
+    /// The place of a word, where the word is below the size.
+    #[tactic(auto, using(crate::proofs::BrokerWords::broker_named))]
+    pub fn what_is(&self, word: usize) -> Option<BrokerPlace>
+        ensures place { result ≡ broker_place self.now word }
+        ensures named { MatchOption result (broker_size self.now ≤ word)
+            (λ place. IsBrokerPlace self.now place × (broker_word self.now place ≡ word)) }
+    {
+        if word == 0 {
+            Some(BrokerPlace::Clients)
+        } else if word == 1 {
+            Some(BrokerPlace::Records)
+        } else if word < BLOCKS_FROM {
+            let slot = SlotId(((word - HEAD_WORDS) / DIRECTORY_WORDS) as u8);
+            Some(slot_place(slot, (word - HEAD_WORDS) % DIRECTORY_WORDS))
+        } else if word < self.size() {
+            let block_size = self.block_size();
+            let slot = SlotId(((word - BLOCKS_FROM) / block_size) as u8);
+            let word = (word - BLOCKS_FROM) % block_size;
+            Some(BrokerPlace::Block { slot, word })
+        } else {
+            None
+        }
+    }
+}

@@ -1,0 +1,15 @@
+-- A beginning of what is printed.
+use Rattle.std.proofs.Common.{◌≡◌, subst, ℕ, List}
+use Rattle.std.specs.Prelude.{Option, Some, None}
+use Rattle.devices.specs.Devices.{AppendsBeginning}
+use Rattle.explore.specs.Run.{PrintsBeginning, SaysInput}
+use Rattle.explore.specs.Scripted.{Scripted}
+use Rattle.explore.specs.declared.command.Command.{Command}
+use Rattle.explore.specs.declared.command.QueueLine.{QueueLine}
+
+pub begins : (printed : Option QueueLine → List Command → List ℕ) (input old new : Option (List ℕ)) (script : Scripted)
+    (text : List ℕ) → SaysInput input script → AppendsBeginning old new text
+    → text ≡ printed script.queue script.commands → PrintsBeginning printed input old new
+begins printed None old new script text says sent is = tt
+begins printed (Some input) old new script text says sent is =
+    (script.queue, script.commands, says, subst (AppendsBeginning old new) is sent)

@@ -1,0 +1,19 @@
+use Rattle.std.proofs.Common.{◌≡◌, ◌≤◌, ◌+◌, ◌-◌, length, map}
+use Rattle.std.specs.List.{range_with_len}
+use Rattle.explore.specs.Acts.{shape_in}
+use Rattle.explore.specs.Points.{found_of, found_at}
+use Rattle.explore.proofs.sweep.all_points.Given as goal
+
+-- the points so far are made
+abbrev pub invariant-made : goal.invariant-made
+invariant-made g l =
+    record {
+      few : length l.points.items ≤ length l.schedule.acts.items + 1;
+      made :
+          map found_of l.points.items
+          ≡ map (found_at (shape_in l.schedule.laid) l.schedule.acts.items l.schedule.evictions)
+          (range_with_len 0 (length l.points.items));
+    }
+
+abbrev pub decreases-made : goal.decreases-made
+decreases-made g l = length l.schedule.acts.items + 1 - length l.points.items

@@ -1,0 +1,88 @@
+-- What a crash at each point of a script comes to.
+use Rattle.std.specs.Prelude.{ℕ, zero, suc, ◌+◌, ◌%◌, ◌==◌, Bool, true, false, List, [], ◌∷◌, Option, Some, None, length, map, take, replicate, if◌then◌else◌}
+use Rattle.std.specs.List.{range_with_len}
+use Rattle.rand_pcg.specs.Lcg.{Lcg, started, increment_of}
+use Rattle.rand_pcg.specs.Pcg.{pcg32, multiplier_64}
+use Rattle.words.specs.declared.limits.TheConstants.{MAX_CLIENTS}
+use Rattle.words.specs.declared.told.Told.{Told}
+use Rattle.arena.specs.Layout.{size_of}
+use Rattle.arena.specs.Shape.{Shape}
+use Rattle.protocol.specs.declared.acts.Act.{Act}
+use Rattle.protocol.specs.declared.acts.Act.TheVariants.{Evict, Recover}
+use Rattle.interleave.specs.State.{State, new_world, after_acts, taken_of, after_crash, kept_content, most_to_ready}
+use Rattle.explore.specs.Acts.{acts_of, shape_by}
+use Rattle.explore.specs.Transcript.{told_at}
+use Rattle.explore.specs.declared.command.Command.{Command}
+use Rattle.explore.specs.declared.command.QueueLine.{QueueLine}
+use Rattle.explore.specs.declared.crashing.Point.{Point}
+use Rattle.explore.specs.declared.evictions.Evictions.{Evictions}
+use Rattle.explore.specs.declared.evictions.Evictions.TheVariants.{None as no_word, All, Drawn}
+
+-- the words, so many from this one up, for which the next draws have lowest bit 1
+abbrev pub drawn_words : ℕ → ℕ → Lcg → List ℕ
+drawn_words zero word draws = []
+drawn_words (suc words) word draws =
+    if (pcg32 draws).0 % 2 == 1 then word ∷ drawn_words words (word + 1) (pcg32 draws).1
+    else drawn_words words (word + 1) (pcg32 draws).1
+
+-- which of so many words are evicted before the crash at a point
+abbrev pub evicted_words : Evictions → ℕ → ℕ → List ℕ
+evicted_words no_word words point = []
+evicted_words All words point = range_with_len 0 words
+evicted_words (Drawn state) words point =
+    drawn_words words 0 (started 64 multiplier_64 state (increment_of 64 point))
+
+-- everything stops after these acts and those evictions
+unfoldable pub crashed_world : Shape → List (Act ℕ) → Evictions → ℕ → State
+crashed_world s acts evictions point =
+    after_crash false (after_acts (after_acts (new_world s) acts) (map Evict (evicted_words evictions (size_of s) point)))
+
+-- all of recovery: its steps once the queue is ready are refused
+abbrev pub recovery_of : Shape → List (Act ℕ)
+recovery_of s = replicate (most_to_ready s) Recover
+
+-- what is found once the queue is ready: how many steps recovery had, what each client is told, what the queue holds,
+-- and whether the order explains all that happened and its replay leaves that content
+pub record Found : Type 0 where
+  pub steps : ℕ
+  pub told : List Told
+  pub content : List ℕ
+  pub ok : Bool
+
+abbrev pub found_of : Point → Found
+found_of point =
+    record { steps = point.steps; told = point.told; content = point.content.items; ok = point.ok }
+
+-- all are told who may have a number; in every world the order explains all that happened (`IsExplained`)
+unfoldable pub found_in : State → ℕ → Found
+found_in w steps = record {
+  steps = steps;
+  told = map (told_at w) (range_with_len 0 MAX_CLIENTS);
+  content = kept_content w;
+  ok = true;
+}
+
+-- what recovery makes of a world
+abbrev pub found_by_recovery : State → List (Act ℕ) → Found
+found_by_recovery w recovery = found_in (after_acts w recovery) (taken_of w recovery)
+
+-- what a crash after these acts comes to
+abbrev pub found_after : Shape → List (Act ℕ) → Evictions → ℕ → Found
+found_after s acts evictions point = found_by_recovery (crashed_world s acts evictions point) (recovery_of s)
+
+-- that of a crash after the first of these acts, so many of them
+abbrev pub found_at : Shape → List (Act ℕ) → Evictions → ℕ → Found
+found_at s acts evictions point = found_after s (take point acts) evictions point
+
+-- and that of a crash at a point of a script
+abbrev pub point_of : Shape → List Command → Evictions → ℕ → Found
+point_of s commands evictions point = found_at s (acts_of s commands) evictions point
+
+-- all points of a script: before its first act, and after each
+abbrev pub points_on : Shape → List Command → Evictions → List Found
+points_on s commands evictions =
+    map (point_of s commands evictions) (range_with_len 0 (length (acts_of s commands) + 1))
+
+abbrev pub points_of : Option QueueLine → List Command → Evictions → List Found
+points_of None commands evictions = []
+points_of (Some queue) commands evictions = points_on (shape_by queue) commands evictions

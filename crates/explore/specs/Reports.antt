@@ -1,0 +1,79 @@
+-- What the reports on a script say.
+use Rattle.std.specs.Prelude.{ℕ, ◌+◌, Bool, true, false, List, [], ◌∷◌, ◌++◌, Option, Some, None, length, take, fold, max, codes, decimal}
+use Rattle.std.specs.List.{flat_map}
+use Rattle.words.specs.Text.{reply_text, told_text}
+use Rattle.words.specs.declared.told.Told.{Told}
+use Rattle.explore.specs.Acts.{shape_by}
+use Rattle.explore.specs.Points.{Found, points_on}
+use Rattle.explore.specs.Prints.{values_text}
+use Rattle.explore.specs.Stopped.{alone_on}
+use Rattle.explore.specs.declared.answered.Alone.{Alone}
+use Rattle.explore.specs.declared.command.Command.{Command}
+use Rattle.explore.specs.declared.command.QueueLine.{QueueLine}
+use Rattle.explore.specs.declared.evictions.Evictions.{Evictions}
+
+-- what clients are told, parted by commas
+abbrev pub later_told_text : Told → List ℕ
+later_told_text told = codes ", " ++ told_text told
+
+abbrev pub told_all_text : List Told → List ℕ
+told_all_text [] = []
+told_all_text (first ∷ rest) = told_text first ++ flat_map later_told_text rest
+
+abbrev pub ok_text : Bool → List ℕ
+ok_text true = codes "ok"
+ok_text false = codes "bad"
+
+-- the line of a point of a queue of so many clients, in its parts
+abbrev pub steps_text : ℕ → ℕ → List ℕ
+steps_text number steps = codes "point " ++ decimal number ++ codes ": recovery " ++ decimal steps ++ codes "; told "
+
+abbrev pub content_text : List ℕ → List ℕ
+content_text content = codes "; content" ++ values_text content
+
+abbrev pub end_text : Bool → List ℕ
+end_text ok = codes "; " ++ ok_text ok ++ codes "\n"
+
+abbrev pub point_text : ℕ → ℕ → Found → List ℕ
+point_text clients number found =
+    steps_text number found.steps ++ told_all_text (take clients found.told)
+    ++ content_text found.content ++ end_text found.ok
+
+-- those of some points, numbered from here
+abbrev pub numbered_text : ℕ → ℕ → List Found → List ℕ
+numbered_text clients number [] = []
+numbered_text clients number (found ∷ rest) =
+    point_text clients number found ++ numbered_text clients (number + 1) rest
+
+-- a line for each point, and one that counts them, and those that are not ok
+abbrev pub report_text : ℕ → List Found → ℕ → List ℕ
+report_text clients points bad =
+    numbered_text clients 0 points ++ (codes "points " ++ decimal (length points) ++ codes " bad " ++ decimal bad ++ codes "\n")
+
+abbrev pub points_text : Evictions → Option QueueLine → List Command → List ℕ
+points_text evictions None commands = []
+points_text evictions (Some queue) commands =
+    report_text queue.clients (points_on (shape_by queue) commands evictions) 0
+
+-- a call that went on alone
+abbrev pub alone_text : Alone → List ℕ
+alone_text alone =
+    codes "point " ++ decimal alone.point ++ codes " client " ++ decimal alone.client.0 ++ codes ": "
+    ++ reply_text alone.reply ++ codes " steps " ++ decimal alone.steps
+
+abbrev pub ended_alone_text : Alone → List ℕ
+ended_alone_text alone = alone_text alone ++ codes "\n"
+
+-- the most steps that one of them took
+abbrev pub most_steps : List Alone → ℕ
+most_steps calls = fold (λ most alone. max most alone.steps) 0 calls
+
+-- a line for each of them, and one that counts them
+abbrev pub calls_text : List Alone → List ℕ
+calls_text calls =
+    flat_map ended_alone_text calls
+    ++ (codes "alone " ++ decimal (length calls) ++ codes " most " ++ decimal (most_steps calls) ++ codes "\n")
+
+abbrev pub stopped_text : Option QueueLine → List Command → List ℕ
+stopped_text None commands = []
+stopped_text (Some queue) commands = calls_text (alone_on (shape_by queue) commands)

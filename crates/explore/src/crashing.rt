@@ -1,0 +1,117 @@
+//! What a crash after some acts comes to.
+
+ghost use Rattle.std.specs.Prelude.{◌≡◌, ◌↔◌, IsTrue, IfOk, IfErr, length, map};
+ghost use Rattle.std.specs.List.{range_with_len};
+ghost use Rattle.events.specs.Explains.{IsExplained};
+ghost use Rattle.events.specs.Replay.{queue_after};
+ghost use Rattle.explore.specs.Points.{found_of, found_in, found_after};
+ghost use Rattle.explore.specs.Acts.{shape_in};
+ghost use Rattle.explore.specs.Transcript.{told_at};
+
+use crate::attempts::{attempt_all, most_to_ready, repeat};
+use crate::evictions::{Evictions, evict_words};
+use crate::laid::Laid;
+use arena::Layout;
+use history::{History, Order, check, replay};
+use interleave::{Act, World};
+use std::alloc::Global;
+use words::{Client, MAX_CLIENTS, Refusal, Reports, Told};
+
+/// What a crash at one point of a script comes to, once recovery has ended.
+#[derive(Debug, Drop)]
+pub struct Point {
+    /// How many steps recovery had.
+    pub steps: u64,
+    /// What each client is told, and None from the last client on.
+    pub told: Reports,
+    /// What the queue holds, the first value first.
+    pub content: Vec<u32>,
+    /// Whether the order in which calls took effect explains all that happened, and its replay leaves that content.
+    pub ok: bool,
+}
+
+/// Whether the order explains the history, and its replay leaves this content.
+fn is_right(
+    alloc: Global,
+    history: &History,
+    order: &Order,
+    content: &[u32],
+) -> Result<bool, Refusal>
+    ensures right { IfOk result (λ right. IsTrue right ↔ (IsExplained history.now order.now
+        × (content.now ≡ queue_after history.now.events.items history.now.base.items order.now.entries.items))) }
+    ensures errors { IfErr result (λ e. e ≡ Refusal.NoMemory) }
+{
+    if !check(history, order) {
+        return Ok(false);
+    }
+    match replay(alloc, history, order)? {
+        Ok(left) => Ok(left.as_slice() == content),
+        Err(_) => Ok(false),
+    }
+}
+
+/// What each client was told.
+fn reports<L: Layout + Drop>(world: &World<L>) -> Reports
+    ensures { result ≡ map (told_at world.now.now) (range_with_len 0 MAX_CLIENTS) }
+{
+    let mut told = [Told::None; MAX_CLIENTS];
+    for number in 0..MAX_CLIENTS {
+        told[number] = world.told(Client(number as u8));
+    }
+    told
+}
+
+/// What is found in a world, after so many steps of recovery.
+fn found<L: Layout + Drop>(alloc: Global, world: &World<L>, steps: u32) -> Result<Point, Refusal>
+    ensures found { IfOk result (λ point. found_of point ≡ found_in world.now.now steps) }
+    ensures errors { IfErr result (λ e. e ≡ Refusal.NoMemory) }
+{
+    let content = world.content()?;
+    let ok = is_right(alloc, world.history(), &world.order()?, &content)?;
+    Ok(Point {
+        steps: u64::from(steps),
+        told: reports(world),
+        content,
+        ok,
+    })
+}
+
+/// A new world makes these acts, then the environment evicts what it is to evict at this point, everything stops, and
+/// recovery goes on to its end.
+fn crash_on<L: Layout + Drop>(
+    alloc: Global,
+    layout: L,
+    acts: &[Act],
+    evictions: Evictions,
+    point: u64,
+) -> Result<Point, Refusal>
+    ensures found { IfOk result (λ found. found_of found
+        ≡ found_after (L.shape layout) acts.now evictions point) }
+    ensures errors { IfErr result (λ e. e ≡ Refusal.NoMemory) }
+{
+    let mut world = World::make(alloc, layout)?;
+    attempt_all(&mut world, acts)?;
+    evict_words(&mut world, evictions, point);
+    world.crash()?;
+    let most = most_to_ready(world.layout());
+    let steps = repeat(&mut world, Act::Recover, most)?;
+    found(alloc, &world, steps)
+}
+
+/// What a crash after these acts comes to.
+pub(crate) fn crash(
+    alloc: Global,
+    laid: &Laid,
+    acts: &[Act],
+    evictions: Evictions,
+) -> Result<Point, Refusal>
+    ensures found { IfOk result (λ found. found_of found
+        ≡ found_after (shape_in laid.now) acts.now evictions (length acts.now)) }
+    ensures errors { IfErr result (λ e. e ≡ Refusal.NoMemory) }
+{
+    let point = acts.len() as u64;
+    match laid {
+        Laid::Durable(layout) => crash_on(alloc, *layout, acts, evictions, point),
+        Laid::Log(layout) => crash_on(alloc, *layout, acts, evictions, point),
+    }
+}

@@ -1,0 +1,21 @@
+//! Lists that grow.
+
+ghost use Rattle.std.specs.Prelude.{◌≡◌, ◌++◌, ◌∷◌, [], OnOk, IfErr};
+
+use words::Refusal;
+
+/// Adds an item.
+pub(crate) fn push<T: Drop>(items: &mut Vec<T>, item: T) -> Result<(), Refusal>
+    ensures items { OnOk result (items.new.items ≡ items.old.items ++ item ∷ []) }
+    ensures errors { IfErr result (λ e. e ≡ Refusal.NoMemory) }
+{
+    items.push(item).map_err(|_| Refusal::NoMemory)
+}
+
+/// Adds items, in their order.
+pub(crate) fn append<T: Drop>(items: &mut Vec<T>, mut more: Vec<T>) -> Result<(), Refusal>
+    ensures items { OnOk result (items.new.items ≡ items.old.items ++ more.items) }
+    ensures errors { IfErr result (λ e. e ≡ Refusal.NoMemory) }
+{
+    items.append(&mut more).map_err(|_| Refusal::NoMemory)
+}

@@ -1,0 +1,356 @@
+//! A report as a page: one HTML file with a picture, a column for each point.
+
+ghost use Rattle.std.specs.Prelude.{◌≡◌, IfErr};
+
+use crate::command::QueueLine;
+use crate::crashing::Point;
+use crate::evictions::{Evictions, evicted_count};
+use crate::sweep::Report;
+use interleave::Act;
+use std::alloc::{AllocError, Global};
+use std::fmt::{self, Write};
+use words::{Call, Kind, Outcome, Refusal, Told};
+
+/// What the page says of itself, and how it is drawn: each kind of answer has a colour, in light and in dark.
+const HEAD: &str = "<!DOCTYPE html>
+<html lang=\"en\">
+<head>
+<meta charset=\"utf-8\">
+<title>A crash at every point</title>
+<style>
+:root { --paper: #fdfdfb; --ink: #22262b; --faint: #8a9099; --line: #e4e4de; --bar: #4a7ab5;
+  --none: #ecece6; --left: #f3cf8e; --done: #a9d8b0; --bad: #d64541 }
+@media (prefers-color-scheme: dark) { :root { --paper: #16191d; --ink: #e8e8e3; --faint: #8f959d; --line: #2b3036;
+  --bar: #6f9fd8; --none: #262b31; --left: #7a5a1c; --done: #2e6a3c; --bad: #ff6b66 } }
+body { background: var(--paper); color: var(--ink); font: 15px/1.5 system-ui, sans-serif; margin: 2em }
+h1 { font-size: 1.4em; margin: 0 0 .2em }
+p { margin: 0 0 1em; color: var(--faint) }
+figure { margin: 0; overflow-x: auto }
+svg text { fill: var(--ink); font: 11px ui-monospace, monospace }
+svg .label { font: 12px system-ui, sans-serif; fill: var(--faint) }
+svg .number { text-anchor: middle; font-size: 10px }
+svg .faint { fill: var(--faint) }
+svg .rule { stroke: var(--line) }
+svg .bar { fill: var(--bar) }
+.none { fill: var(--none); background: var(--none) }
+.left { fill: var(--left); background: var(--left) }
+.done, .ok { fill: var(--done); background: var(--done) }
+.bad { fill: var(--bad); background: var(--bad) }
+.key span { color: var(--ink); padding: .1em .6em; margin-right: .6em; border-radius: 4px }
+</style>
+</head>
+<body>
+<h1>A crash at every point</h1>
+";
+
+/// What the colours mean.
+const FOOT: &str = "</svg></figure>
+<p class=\"key\"><span class=\"none\">no call announced</span><span class=\"left\">took no effect</span>
+<span class=\"done\">took effect</span> Each column is a crash: the act that it came after, the words that were kept
+just before it, the steps of recovery, what each client is told then, and what the queue holds.</p>
+</body>
+</html>
+";
+
+/// How wide the labels are, and a column.
+const LABELS: u64 = 120;
+
+const COLUMN: u64 = 24;
+
+/// How far down the parts of a column end: the act, the evictions, the steps of recovery. The clients come next.
+const ACT: u64 = 150;
+
+const EVICTIONS: u64 = 172;
+
+const STEPS: u64 = 290;
+
+const CLIENT: u64 = 100;
+
+/// The most that a bar is high.
+const BAR: u64 = 90;
+
+/// How wide a character is.
+const CHARACTER: u64 = 7;
+
+/// An act as the page spells it.
+#[derive(Drop)]
+struct Spelt(Act);
+
+impl fmt::Display for Spelt {
+    fn fmt<W: fmt::Write>(&self, f: &mut fmt::Formatter<W>) -> fmt::Result {
+        match self.0 {
+            Act::Start {
+                client,
+                number,
+                call,
+            } => {
+                write!(f, "start {}", client.0)?;
+                if number > 0 {
+                    write!(f, " #{number}")?;
+                }
+                match call {
+                    Call::Enq(value) => write!(f, " enq {value}"),
+                    Call::Deq => write!(f, " deq"),
+                }
+            }
+            Act::Step { client } => write!(f, "step {}", client.0),
+            Act::Evict { at } => write!(f, "evict {at}"),
+            Act::Crash => write!(f, "crash"),
+            Act::Recover => write!(f, "recover"),
+        }
+    }
+}
+
+/// What a page shows beside the report.
+#[derive(Drop)]
+pub(crate) struct Setting {
+    pub(crate) queue: QueueLine,
+    pub(crate) acts: Vec<Act>,
+    pub(crate) evictions: Evictions,
+    /// How many words the memory has.
+    pub(crate) words: usize,
+}
+
+/// How large the parts of a picture are.
+#[derive(Clone, Copy)]
+struct Sizes {
+    clients: usize,
+    /// The most steps that a recovery had, or 1.
+    most_steps: u64,
+    /// How far down the contents begin, and end.
+    contents: u64,
+    end: u64,
+}
+
+/// The colour of what a client is told.
+fn colour(told: Told) -> &'static str {
+    match told {
+        Told::None => "none",
+        Told::Verdict(verdict) => match verdict.outcome {
+            Outcome::NotTaken => "left",
+            Outcome::Taken(_) => "done",
+        },
+        Told::Row(words::Row::NoCall) => "none",
+        Told::Row(words::Row::Open) => "left",
+        Told::Row(_) => "done",
+    }
+}
+
+/// The values that a queue holds, or a dash.
+fn values(alloc: Global, content: &[u32]) -> Result<String, AllocError> {
+    let mut text = String::new(alloc);
+    for value in content {
+        write!(text, " {value}")?;
+    }
+    if text.is_empty() {
+        write!(text, " -")?;
+    }
+    Ok(text)
+}
+
+/// How large the picture of a report is.
+fn sizes_of(alloc: Global, clients: usize, points: &[Point]) -> Result<Sizes, AllocError> {
+    let mut most_steps = 1;
+    let mut longest = 8u64;
+    for point in points {
+        most_steps = most_steps.max(point.steps);
+        longest = longest.max(values(alloc, &point.content)?.len() as u64);
+    }
+    let contents = STEPS.saturating_add(CLIENT.saturating_mul(clients as u64));
+    Ok(Sizes {
+        clients,
+        most_steps,
+        contents,
+        end: contents
+            .saturating_add(longest.saturating_mul(CHARACTER))
+            .saturating_add(20),
+    })
+}
+
+/// A text that is read from below, which begins at this height.
+fn upright(text: &mut String, from: u64, what: &str) -> Result<(), AllocError> {
+    writeln!(
+        text,
+        "<text transform=\"translate(16,{}) rotate(-90)\">{what}</text>",
+        from.saturating_sub(8)
+    )
+}
+
+/// A column: one point, after this act.
+fn column(
+    alloc: Global,
+    text: &mut String,
+    sizes: Sizes,
+    point: &Point,
+    act: &str,
+    evicted: usize,
+) -> Result<(), AllocError> {
+    upright(text, ACT, act)?;
+    writeln!(
+        text,
+        "<text class=\"number faint\" x=\"12\" y=\"{}\">{evicted}</text>",
+        EVICTIONS - 7
+    )?;
+    let height = point.steps.saturating_mul(BAR) / sizes.most_steps.max(1);
+    let top = STEPS.saturating_sub(8).saturating_sub(height);
+    writeln!(
+        text,
+        "<rect class=\"bar\" x=\"4\" y=\"{top}\" width=\"16\" height=\"{height}\"/>"
+    )?;
+    writeln!(
+        text,
+        "<text class=\"number\" x=\"12\" y=\"{}\">{}</text>",
+        top.saturating_sub(4),
+        point.steps
+    )?;
+    let mut end = STEPS;
+    for told in &point.told[..sizes.clients.min(point.told.len())] {
+        let from = end.saturating_add(2);
+        end = end.saturating_add(CLIENT);
+        writeln!(
+            text,
+            "<rect class=\"{}\" x=\"1\" y=\"{from}\" width=\"22\" height=\"{}\" rx=\"4\"/>",
+            colour(*told),
+            CLIENT - 4
+        )?;
+        let words = format!(in alloc; "{told}")?;
+        upright(text, end, words.as_str())?;
+    }
+    upright(
+        text,
+        sizes.end.saturating_sub(12),
+        values(alloc, &point.content)?.as_str(),
+    )?;
+    let ok = if point.ok { "ok" } else { "bad" };
+    writeln!(
+        text,
+        "<rect class=\"{ok}\" x=\"1\" y=\"{}\" width=\"22\" height=\"6\"/>",
+        sizes.end.saturating_sub(8)
+    )
+}
+
+/// A label at the left, and a rule above it.
+fn label(
+    text: &mut String,
+    width: u64,
+    rule: u64,
+    base: u64,
+    what: &str,
+) -> Result<(), AllocError> {
+    writeln!(
+        text,
+        "<line class=\"rule\" x1=\"0\" x2=\"{width}\" y1=\"{rule}\" y2=\"{rule}\"/>"
+    )?;
+    writeln!(
+        text,
+        "<text class=\"label\" x=\"0\" y=\"{base}\">{what}</text>"
+    )
+}
+
+/// The labels of all parts.
+fn labels(alloc: Global, text: &mut String, sizes: Sizes, width: u64) -> Result<(), AllocError> {
+    label(text, width, 18, ACT - 8, "crash after")?;
+    label(text, width, ACT, EVICTIONS - 7, "words kept")?;
+    label(text, width, EVICTIONS, STEPS - 8, "recovery steps")?;
+    let mut from = STEPS;
+    for client in 0..sizes.clients {
+        let end = from.saturating_add(CLIENT);
+        let what = format!(in alloc; "client {client} is told")?;
+        label(text, width, from, end.saturating_sub(8), what.as_str())?;
+        from = end;
+    }
+    label(
+        text,
+        width,
+        sizes.contents,
+        sizes.end.saturating_sub(12),
+        "content",
+    )
+}
+
+/// What the page says before its picture.
+fn heading(text: &mut String, setting: &Setting, report: &Report) -> Result<(), AllocError> {
+    let queue = setting.queue;
+    let kind = match queue.kind {
+        Kind::Durable => "durable",
+        Kind::Log => "log",
+    };
+    write!(
+        text,
+        "<p>queue {kind} {} {}; ",
+        queue.clients, queue.records
+    )?;
+    match setting.evictions {
+        Evictions::None => write!(text, "no word kept before a crash")?,
+        Evictions::All => write!(text, "every word kept before a crash")?,
+        Evictions::Drawn { state } => write!(text, "words drawn from {state} kept before a crash")?,
+    }
+    writeln!(
+        text,
+        "; points {} bad {}</p>",
+        report.points.len(),
+        report.bad
+    )
+}
+
+/// All columns.
+fn columns(
+    alloc: Global,
+    text: &mut String,
+    sizes: Sizes,
+    setting: &Setting,
+    report: &Report,
+) -> Result<(), AllocError> {
+    let mut left = LABELS;
+    let mut act = String::from_str(alloc, "at first")?;
+    for (number, point) in report.points.iter().enumerate() {
+        writeln!(text, "<g transform=\"translate({left},0)\">")?;
+        writeln!(
+            text,
+            "<text class=\"number\" x=\"12\" y=\"12\">{number}</text>"
+        )?;
+        let evicted = evicted_count(setting.evictions, setting.words, number as u64);
+        column(alloc, text, sizes, point, act.as_str(), evicted)?;
+        writeln!(text, "</g>")?;
+        left = left.saturating_add(COLUMN);
+        if let Some(next) = setting.acts.get(number) {
+            act = format!(in alloc; "{}", Spelt(*next))?;
+        }
+    }
+    Ok(())
+}
+
+/// The whole page.
+fn written(
+    alloc: Global,
+    text: &mut String,
+    setting: &Setting,
+    report: &Report,
+) -> Result<(), AllocError> {
+    let clients = setting.queue.clients as usize;
+    let sizes = sizes_of(alloc, clients, &report.points)?;
+    let width = COLUMN
+        .saturating_mul(report.points.len() as u64)
+        .saturating_add(LABELS);
+    write!(text, "{HEAD}")?;
+    heading(text, setting, report)?;
+    writeln!(
+        text,
+        "<figure><svg width=\"{width}\" height=\"{}\" viewBox=\"0 0 {width} {}\" role=\"img\">",
+        sizes.end, sizes.end
+    )?;
+    labels(alloc, text, sizes, width)?;
+    columns(alloc, text, sizes, setting, report)?;
+    write!(text, "{FOOT}")
+}
+
+/// The page of a report, or NoMemory.
+pub(crate) fn page(alloc: Global, setting: &Setting, report: &Report) -> Result<Vec<u8>, Refusal>
+    ensures errors { IfErr result (λ e. e ≡ Refusal.NoMemory) }
+{
+    let mut text = String::new(alloc);
+    match written(alloc, &mut text, setting, report) {
+        Ok(()) => Ok(text.into_bytes()),
+        Err(_) => Err(Refusal::NoMemory),
+    }
+}

@@ -1,0 +1,136 @@
+//! The acts of a script.
+
+ghost use Rattle.std.specs.Prelude.{◌≡◌, ◌++◌, ◌∷◌, [], OnOk, IfOk, IfErr, replicate};
+ghost use Rattle.interleave.specs.State.{after_acts};
+ghost use Rattle.protocol.specs.declared.acts.Act.TheVariants.{Start};
+ghost use Rattle.explore.specs.Acts.{accepted_of, acts_of, attempts_of, shape_in, IsSteady};
+
+use crate::attempts::{attempt, most_to_ready, repeat};
+use crate::command::Command;
+use crate::laid::Laid;
+use crate::lists::push;
+use arena::Layout;
+use interleave::{Act, World};
+use std::alloc::Global;
+use words::{Call, Client, MAX_STEPS_ALONE, Refusal};
+
+/// Adds an act so many times.
+fn push_all(acts: &mut Vec<Act>, act: Act, times: u32) -> Result<(), Refusal>
+    ensures acts { OnOk result (acts.new.items ≡ acts.old.items ++ replicate times act) }
+    ensures errors { IfErr result (λ e. e ≡ Refusal.NoMemory) }
+{
+    for _ in 0..times {
+        push(acts, act)?;
+    }
+    Ok(())
+}
+
+/// Attempts an act once, and adds it where it was accepted.
+fn once<L: Layout + Drop>(
+    world: &mut World<L>,
+    acts: &mut Vec<Act>,
+    act: Act,
+) -> Result<(), Refusal>
+    ensures world { OnOk result (world.new.now ≡ after_acts world.old.now (act ∷ [])) }
+    ensures acts { OnOk result (acts.new.items ≡ acts.old.items ++ accepted_of world.old.now (act ∷ [])) }
+    ensures errors { IfErr result (λ e. e ≡ Refusal.NoMemory) }
+{
+    if attempt(world, act)? {
+        push(acts, act)?;
+    }
+    Ok(())
+}
+
+/// Attempts an act at most so many times and until it is refused, and adds it as often as it was accepted.
+fn some<L: Layout + Drop>(
+    world: &mut World<L>,
+    acts: &mut Vec<Act>,
+    act: Act,
+    most: u32,
+) -> Result<(), Refusal>
+    requires { IsSteady act }
+    ensures world { OnOk result (world.new.now ≡ after_acts world.old.now (replicate most act)) }
+    ensures acts { OnOk result (acts.new.items ≡ acts.old.items ++ accepted_of world.old.now (replicate most act)) }
+    ensures errors { IfErr result (λ e. e ≡ Refusal.NoMemory) }
+{
+    let times = repeat(world, act, most)?;
+    push_all(acts, act, times)
+}
+
+/// A client's call begins.
+fn start(client: Client, number: u64, call: Call) -> Act
+    ensures { result ≡ Start client number call }
+{
+    Act::Start {
+        client,
+        number,
+        call,
+    }
+}
+
+/// Attempts what a command asks for, and adds the acts that were accepted.
+fn follow<L: Layout + Drop>(
+    world: &mut World<L>,
+    acts: &mut Vec<Act>,
+    command: Command,
+) -> Result<(), Refusal>
+    ensures world { OnOk result (world.new.now ≡ after_acts world.old.now (attempts_of world.old.now.shape command)) }
+    ensures acts { OnOk result (acts.new.items
+        ≡ acts.old.items ++ accepted_of world.old.now (attempts_of world.old.now.shape command)) }
+    ensures errors { IfErr result (λ e. e ≡ Refusal.NoMemory) }
+{
+    match command {
+        Command::Enq { client, value } => once(world, acts, start(client, 0, Call::Enq(value))),
+        Command::NumberedEnq {
+            client,
+            number,
+            value,
+        } => once(world, acts, start(client, number, Call::Enq(value))),
+        Command::Deq { client } => once(world, acts, start(client, 0, Call::Deq)),
+        Command::NumberedDeq { client, number } => {
+            once(world, acts, start(client, number, Call::Deq))
+        }
+        Command::Step { client, most } => some(world, acts, Act::Step { client }, most),
+        Command::End { client } => some(world, acts, Act::Step { client }, MAX_STEPS_ALONE),
+        Command::Evict { word } => once(world, acts, Act::Evict { at: word as usize }),
+        Command::Crash => once(world, acts, Act::Crash),
+        Command::Recover => {
+            let most = most_to_ready(world.layout());
+            some(world, acts, Act::Recover, most)
+        }
+        Command::RecoverBy { most } => some(world, acts, Act::Recover, most),
+        Command::Content | Command::Order => Ok(()),
+    }
+}
+
+/// The acts of commands on a new world that are accepted, in order.
+fn acts_on<L: Layout + Drop>(
+    alloc: Global,
+    layout: L,
+    commands: &[Command],
+) -> Result<Vec<Act>, Refusal>
+    ensures acts { IfOk result (λ acts. acts.items ≡ acts_of (L.shape layout) commands.now) }
+    ensures errors { IfErr result (λ e. e ≡ Refusal.NoMemory) }
+{
+    let mut world = World::make(alloc, layout)?;
+    let mut acts = Vec::new(alloc);
+    for command in commands {
+        follow(&mut world, &mut acts, *command)?;
+    }
+    Ok(acts)
+}
+
+/// The acts of commands on a new world that are accepted, in order.
+pub(crate) fn accepted_acts(
+    alloc: Global,
+    laid: &Laid,
+    commands: &[Command],
+) -> Result<Vec<Act>, Refusal>
+    ensures acts { IfOk result (λ acts. acts.items ≡ acts_of (shape_in laid.now) commands.now) }
+    ensures errors { IfErr result (λ e. e ≡ Refusal.NoMemory) }
+{
+    match laid {
+        Laid::Durable(layout) => acts_on(alloc, *layout, commands),
+        Laid::Log(layout) => acts_on(alloc, *layout, commands),
+    }
+}

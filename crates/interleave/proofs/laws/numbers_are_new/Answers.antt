@@ -1,0 +1,5 @@
+use Rattle.interleave.proofs.Rotated.{numbers_are_new}
+use Rattle.interleave.proofs.laws.numbers_are_new.Goals as goal
+
+pub returns : goal.returns
+returns c = numbers_are_new

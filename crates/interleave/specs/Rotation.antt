@@ -1,0 +1,63 @@
+-- A rotation: the history ends, and another begins on what the queue holds and tells.
+use Rattle.std.specs.Prelude.{◌≡◌, ◌≤◌, ℕ, Bool, List, Option, None, Result, Ok, Err, is_some, is_ok}
+use Rattle.std.specs.Prelude.{slice_index_or, if◌then◌else◌}
+use Rattle.std.specs.List.{list_any}
+use Rattle.words.specs.declared.call.Client.{Client}
+use Rattle.words.specs.declared.refusal.Refusal.{Refusal}
+use Rattle.words.specs.declared.refusal.Refusal.TheVariants.{NotReady, Busy, NoMemory}
+use Rattle.words.specs.declared.told.Told.{Told}
+use Rattle.protocol.specs.Rotated.{empty_trace}
+use Rattle.protocol.specs.declared.UnderWay.{UnderWay}
+use Rattle.interleave.specs.Numbers.{IsEntryOf, told_floor}
+use Rattle.interleave.specs.State.{State, is_down, kept_content, kept_tells, order_in, AreToldOfAnnounced}
+use Rattle.interleave.specs.declared.queue.Queue.{Queue}
+use Rattle.interleave.specs.declared.queue.Queue.TheVariants.{Durable, Log}
+
+-- the clients are told this, and the floors of a log queue stay
+abbrev pub queue_with_told : Queue → List Told → Queue
+queue_with_told (Durable old) told = Durable told
+queue_with_told (Log clients) told = Log (record clients { told = told })
+
+-- the world in which the next history begins: its base holds what the kept words hold, and tells what they tell
+abbrev pub after_rotation : State → State
+after_rotation w = record w {
+  queue = queue_with_told w.queue (kept_tells w);
+  base = kept_content w;
+  told = kept_tells w;
+  log = empty_trace;
+}
+
+-- recovery is not under way, and no call is
+pub record IsQuiet (w : State) : Type 0 where
+  pub ready : w.recovery ≡ None
+  pub nobody : (t : ℕ) → slice_index_or w.calls t None ≡ None
+
+-- whether any client has a call under way
+abbrev pub some_client_calls : List (Option UnderWay) → Bool
+some_client_calls calls = list_any (λ call. is_some call) calls
+
+-- why the history may not end now, the first reason that applies
+abbrev pub rotate_result : Bool → State → Result Unit Refusal
+rotate_result full w =
+    if is_down w then Err NotReady
+    else (if some_client_calls w.calls then Err Busy else (if full then Err NoMemory else Ok tt))
+
+-- what an attempt at a rotation leaves, where memory is refused to it (`full`) or not
+abbrev pub after_rotate : Bool → State → State
+after_rotate full w = if is_ok (rotate_result full w) then after_rotation w else w
+
+-- what the kept words tell each client, and so the next history's base, is right of its announced call in this one
+abbrev pub IsBaseToldRightly : State → Type 0
+IsBaseToldRightly w = AreToldOfAnnounced (record w { queue = queue_with_told w.queue (kept_tells w) })
+
+-- each number in the order is at most the floor by what the kept words tell its client
+abbrev pub AreNumbersTold : State → Type 0
+AreNumbersTold w =
+    (i number : ℕ) (client : Client) → IsEntryOf w.log.events (order_in w) i client number
+    → number ≤ told_floor (kept_tells w) client
+
+-- no client has calls of one number in both orders
+abbrev pub ShareNoNumber : State → State → Type 0
+ShareNoNumber old new =
+    (i j number : ℕ) (client : Client) → IsEntryOf old.log.events (order_in old) i client number
+    → IsEntryOf new.log.events (order_in new) j client number → ⊥

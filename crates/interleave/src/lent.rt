@@ -1,0 +1,161 @@
+//! A world whose memory is lent to each of its acts.
+
+ghost use Rattle.std.specs.Prelude.{◌≡◌, ◌≤◌, ◌<◌, length, is_some, IfOk, IfErr, OnOk, OnErr};
+ghost use Rattle.persist.specs.Memory.{Words, words_after_crash};
+ghost use Rattle.recover.specs.Sound.{AreSoundWords};
+ghost use Rattle.interleave.specs.Booted.{booted_world, MayRefuse};
+ghost use Rattle.interleave.specs.Core.{core_with_room, state_of};
+ghost use Rattle.interleave.specs.Queue.{told_in, told_to};
+ghost use Rattle.interleave.specs.Holds.{Holds};
+ghost use Rattle.interleave.specs.Ranges.{AreUnused, KeptFit};
+ghost use Rattle.interleave.specs.State.{world_over};
+ghost use Rattle.interleave.specs.Values.{value_of_place};
+ghost use Rattle.arena.specs.Content.{kept_content as content_of};
+ghost use Rattle.events.specs.Effects.{order_of};
+
+use crate::calls::Calls;
+use crate::content::content;
+use crate::queue::Queue;
+use crate::trace::Trace;
+use arena::Layout;
+use events::{History, Order, Sequence};
+use persist::KeptWords;
+use recover::{sound, tells};
+use std::alloc::Global;
+use std::marker::Model;
+use words::{Client, Refusal, Told};
+
+/// A world without its memory: what a queue keeps for its clients, the calls that they have under way, and what
+/// happened. Each act is lent the memory, or a window on it, and is the act of a [`World`](crate::World) on those words;
+/// the caller lends the same words each time.
+#[derive(Drop)]
+pub struct Core<L: Layout + Drop> {
+    pub(crate) layout: L,
+    pub(crate) queue: Queue,
+    pub(crate) calls: Calls,
+    pub(crate) trace: Trace,
+}
+
+impl<L: Layout + Drop> Model for Core<L> {
+    ghost use Rattle.interleave.specs.Core.{CoreState};
+
+    ghost Value = { CoreState };
+
+    ghost view = { λ c. record { shape = L.shape c.layout; queue = c.queue; calls = c.calls; trace = c.trace } };
+}
+
+impl<L: Layout + Drop> Core<L> {
+    /// A core of a new queue, for words that are all zero: no client has called. It takes no memory.
+    pub fn new(alloc: Global, layout: L) -> Self
+        ensures world { (ws : Words) → state_of result ws ≡ world_over (L.shape layout) ws }
+        ensures holds { (ws : Words) → AreUnused (L.shape layout) ws → Holds (state_of result ws) }
+    {
+        let queue = Queue::new(layout.kind(), layout.clients());
+        let calls = Calls::none(layout.clients());
+        let trace = Trace::new(alloc, queue.told());
+        Core {
+            layout,
+            queue,
+            calls,
+            trace,
+        }
+    }
+
+    /// A core that begins on kept words, as a crash left them: recovery begins, and the history begins with what they
+    /// hold and tell. The caller makes every cached value the kept one, as a crash does. It is refused, in this order,
+    /// where the words break a rule (Damaged, with the first such rule), and for want of memory (NoMemory).
+    pub fn boot<K: KeptWords>(alloc: Global, layout: L, kept: &K) -> Result<Self, Refusal>
+        ensures booted { IfOk result (λ c. (ws : Words) → ws.kept ≡ K.kept_words kept.now
+            → state_of c (words_after_crash ws) ≡ booted_world (L.shape layout) ws) }
+        ensures holds { IfOk result (λ c. (ws : Words) → ws.kept ≡ K.kept_words kept.now
+            → Holds (state_of c (words_after_crash ws))) }
+        ensures sound { IfOk result (λ c. AreSoundWords (L.shape layout) (K.kept_words kept.now)) }
+        ensures errors { IfErr result (λ e. MayRefuse (L.shape layout) (K.kept_words kept.now) e) }
+    {
+        let clients = layout.clients();
+        sound(&layout, kept)?;
+        let base = content(alloc, &layout, kept)?;
+        let told = tells(&layout, kept);
+        let queue = Queue::at_boot(layout.kind(), told);
+        let calls = Calls::none(clients);
+        let trace = Trace::booted(alloc, base, told);
+        Ok(Core {
+            layout,
+            queue,
+            calls,
+            trace,
+        })
+    }
+
+    /// The layout of its words.
+    pub fn layout(&self) -> &L
+        ensures { L.shape result.now ≡ self.now.shape }
+    {
+        &self.layout
+    }
+
+    /// Whether recovery is under way.
+    pub fn is_down(&self) -> bool
+        ensures { result ≡ is_some self.now.trace.recovery }
+    {
+        self.trace.is_down()
+    }
+
+    /// Makes room, so that the next acts, so many of them, are not refused for want of memory.
+    pub fn reserve(&mut self, acts: usize) -> Result<(), Refusal>
+        requires { length self.old.trace.log.effects ≤ length self.old.trace.log.events }
+        ensures same { self.new ≡ core_with_room self.old self.new.trace.room }
+        ensures room { OnOk result (acts ≤ self.new.trace.room) }
+        ensures kept { self.old.trace.room ≤ self.new.trace.room }
+        ensures full { OnErr result (self.old.trace.room < acts) }
+        ensures errors { IfErr result (λ e. e ≡ Refusal.NoMemory) }
+    {
+        match self.trace.reserve(acts) {
+            Ok(()) => Ok(()),
+            Err(_) => Err(Refusal::NoMemory),
+        }
+    }
+
+    /// What the queue holds by the kept words, which are lent: the values of the nodes that kept links reach from the
+    /// sentinel, the claimed ones left out.
+    pub fn content<K: KeptWords>(&self, kept: &K) -> Result<Vec<u32>, Refusal>
+        requires { KeptFit self.now.shape (K.kept_words kept.now) }
+        ensures content { IfOk result (λ values. values.items
+            ≡ content_of self.now.shape (value_of_place self.now.shape (K.kept_words kept.now))) }
+        ensures errors { IfErr result (λ e. e ≡ Refusal.NoMemory) }
+    {
+        content(self.trace.allocator(), &self.layout, kept)
+    }
+
+    /// The calls in the order in which they took effect.
+    pub fn order(&self) -> Result<Order, Refusal>
+        ensures order { IfOk result (λ order. order.entries.items ≡ order_of self.now.trace.log.effects) }
+        ensures errors { IfErr result (λ e. e ≡ Refusal.NoMemory) }
+    {
+        let entries = events::order(self.trace.allocator(), self.trace.effects())?;
+        Ok(Order {
+            entries: Sequence::from_vec(entries),
+        })
+    }
+
+    /// What happened since the history begins. It takes no memory.
+    pub fn history(&self) -> &History
+        ensures base { result.now.base.items ≡ self.now.trace.base }
+        ensures told { result.now.told ≡ self.now.trace.told }
+        ensures events { result.now.events.items ≡ self.now.trace.log.events }
+    {
+        self.trace.history()
+    }
+
+    /// What the client was last told: what the last recovery read, and at first what the base tells. A client that
+    /// there is not is told nothing.
+    pub fn told(&self, client: Client) -> Told
+        ensures { result ≡ told_to (told_in self.now.queue) client }
+    {
+        let told = self.queue.told();
+        match told.get(client.0 as usize) {
+            Some(told) => *told,
+            None => Told::None,
+        }
+    }
+}

@@ -1,0 +1,52 @@
+#!/usr/bin/env bash
+# What must not compile: each crates/NAME/refused/*.edit is a change of a file that the borrow checker has to refuse with
+# the error that the edit's first line names. Such a change reaches no prover, so it is no must-fail edit. Each is made
+# on a copy of the crate and of those below it. The last line is `N passed, M failed`.
+set -eu -o pipefail
+cd "$(dirname "$0")/.."
+room=$(mktemp -d)
+trap 'rm -r "$room"' EXIT
+passed=0
+failed=0
+
+# Copies a crate and those that it stands on, with what earlier checks built: CRATE FOLDER
+copy() {
+    local name
+    mkdir -p "$2/crates"
+    git init -q "$2"
+    for name in $1 $(sed -n "s/^$1: *//p" crates.txt); do
+        cp -r "crates/$name" "$2/crates"
+        grep "^$name:" crates.txt >> "$2/crates.txt"
+    done
+}
+
+# Makes the edit's change in the file that it names, in which the old text stands once.
+change() {
+    python3 - "$1" "$2" << 'PYTHON'
+import sys
+lines = dict(line.split(": ", 1) for line in open(sys.argv[1]).read().splitlines())
+path = sys.argv[2] + "/" + lines["file"]
+text = open(path).read()
+assert text.count(lines["old"]) == 1, sys.argv[1]
+open(path, "w").write(text.replace(lines["old"], lines["new"]))
+PYTHON
+}
+
+for edit in crates/*/refused/*.edit; do
+    crate=$(basename "$(dirname "$(dirname "$edit")")")
+    copy "$crate" "$room/copy"
+    folder=$room/copy/crates/$crate
+    change "$edit" "$folder"
+    error=$(sed -n 's/^error: //p' "$edit")
+    said=$(cd "$folder" && rt check 2>&1 || true)
+    if grep -q "error\[$error\]" <<< "$said"; then
+        passed=$((passed + 1))
+    else
+        failed=$((failed + 1))
+        printf 'FAILED: %s was not refused with %s\n%s\n' "$edit" "$error" "$(head -n 5 <<< "$said")"
+    fi
+    rm -r "$room/copy"
+done
+
+printf '%d passed, %d failed\n' "$passed" "$failed"
+[ "$failed" -eq 0 ]
