@@ -6,7 +6,9 @@ use Rattle.std.proofs.Math.ListN.{get_or-eq_default}
 use Rattle.persist.specs.ChangeList.{Entries, Listing, get, or_kept, overlaid}
 use Rattle.persist.specs.Changes.{differences, IsSound}
 use Rattle.persist.proofs.Differences.{difference_at, is_differences, fewer}
+use Rattle.persist.specs.Memory.{Words}
 use Rattle.persist.proofs.Overlays.{length_overlay, value_at}
+use Rattle.persist.proofs.Shown.{shown}
 
 module _ (kept : List ℕ) (listing : Listing) (sound : IsSound kept listing) where
   -- the entries are the differences of the cached and the kept words
@@ -34,6 +36,10 @@ module _ (kept : List ℕ) (listing : Listing) (sound : IsSound kept listing) wh
           let here : slice_index cached w ≡ 0 = get_or-eq_default cached 0 (omega (arith, length_overlay 0 kept es)) in
           let there : slice_index kept w ≡ 0 = get_or-eq_default kept 0 h in
           e ∙ rw (here, there) refl
+
+  -- so they are those of what is shown of them
+  pub shown_differences : (accesses : ℕ) (ws : Words) → shown kept listing.entries accesses ≡ ws → listing.entries ≡ differences ws.cached ws.kept
+  shown_differences accesses ws is = listed_differences ∙ ap (λ (ws : Words). differences ws.cached ws.kept) is
 
   -- there is room for a word that is not listed
   pub room_left : (w : ℕ) → w < length kept → get listing.entries w ≡ None → length listing.entries < listing.room

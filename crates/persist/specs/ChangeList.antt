@@ -33,6 +33,10 @@ overlaid kept entries = overlay 0 kept entries
 abbrev pub word_at : Entries → ℕ → ℕ
 word_at entries i = let entry = slice_index_or entries i (0, 0) in entry.0
 
+-- and its value
+abbrev pub value_of : Entries → ℕ → ℕ
+value_of entries i = let entry = slice_index_or entries i (0, 0) in entry.1
+
 -- the words ascend, so none comes twice
 abbrev pub IsAscending : Entries → Type 0
 IsAscending entries = (i j : ℕ) → i < j → j < length entries → word_at entries i < word_at entries j

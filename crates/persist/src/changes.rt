@@ -1,7 +1,7 @@
 //! The list of the words whose cached value is not the kept one.
 
 ghost use Rattle.std.specs.Prelude.{◌≡◌, ◌<◌, ◌≤◌, ◌++◌, ◌∷◌, [], length, insert, Ok, Err, IfOk, IfErr, None};
-ghost use Rattle.persist.specs.ChangeList.{get, IsAscending, IsEntryOf, IsGapFor, SetsOnly, RemovesOnly};
+ghost use Rattle.persist.specs.ChangeList.{value_of, word_at, IsAscending, IsEntryOf, IsGapFor, SetsOnly, RemovesOnly};
 
 use std::alloc::{AllocError, Global};
 use std::marker::Model;
@@ -98,24 +98,35 @@ impl ChangeList {
         self.entries.len()
     }
 
-    /// The word's value, if it has an entry.
-    pub(crate) fn get(&self, word: u64) -> Option<u64>
-        ensures { result ≡ get self.now.entries word }
+    /// Where the word's entry is, or where it would go.
+    pub(crate) fn search(&self, word: u64) -> Result<usize, usize>
+        ensures found { IfOk result (IsEntryOf self.now.entries word) }
+        ensures absent { IfErr result (IsGapFor self.now.entries word) }
     {
-        match self.search(word) {
-            Ok(at) => Some(self.entries[at].1),
-            Err(_) => None,
+        if self.entries.len() > FEW {
+            return self.entries.binary_search_by_key(&word, |&(w, _)| w);
         }
+        search_back(&self.entries, word)
     }
 
-    /// Gives the word this value. There is room for it.
-    pub(crate) fn set(&mut self, word: u64, value: u64)
-        requires { get self.old.entries word ≡ None → length self.old.entries < self.old.room }
+    /// The value of the entry at this place.
+    pub(crate) fn value(&self, at: usize) -> u64
+        requires { at < length self.now.entries }
+        ensures { result ≡ value_of self.now.entries at }
+    {
+        self.entries[at].1
+    }
+
+    /// Gives the word this value, at the place that a search for it found. There is room for it.
+    pub(crate) fn set(&mut self, place: Result<usize, usize>, word: u64, value: u64)
+        requires found { IfOk place (IsEntryOf self.old.entries word) }
+        requires absent { IfErr place (IsGapFor self.old.entries word) }
+        requires space { IfErr place (λ at. length self.old.entries < self.old.room) }
         ensures set { SetsOnly self.old.entries self.new.entries word value }
         ensures ascending { IsAscending self.new.entries }
         ensures room { self.old.room ≤ self.new.room }
     {
-        match self.search(word) {
+        match place {
             Ok(at) => self.entries[at] = (word, value),
             Err(at) => {
                 let last = carry_up(&mut self.entries, at, (word, value));
@@ -124,35 +135,25 @@ impl ChangeList {
         }
     }
 
-    /// Forgets the word, if it has an entry.
-    pub(crate) fn remove(&mut self, word: u64)
-        ensures removed { RemovesOnly self.old.entries self.new.entries word }
+    /// Forgets the word of the entry at this place. It answers its value.
+    pub(crate) fn remove(&mut self, at: usize) -> u64
+        requires { at < length self.old.entries }
+        ensures value { result ≡ value_of self.old.entries at }
+        ensures removed { RemovesOnly self.old.entries self.new.entries (word_at self.old.entries at) }
         ensures ascending { IsAscending self.new.entries }
         ensures room { self.old.room ≤ self.new.room }
     {
-        let Ok(at) = self.search(word) else {
-            return;
-        };
         let Some(last) = self.entries.pop() else {
-            return;
+            // There is an entry at the place.
+            unreachable!();
         };
-        let _removed = carry_down(&mut self.entries, at, last);
+        let (_, value) = carry_down(&mut self.entries, at, last);
+        value
     }
 
     pub(crate) fn clear(&mut self)
         ensures { self.new ≡ record { entries = []; room = self.old.room } }
     {
         self.entries.clear();
-    }
-
-    /// Where the word's entry is, or where it would go.
-    fn search(&self, word: u64) -> Result<usize, usize>
-        ensures found { IfOk result (IsEntryOf self.now.entries word) }
-        ensures absent { IfErr result (IsGapFor self.now.entries word) }
-    {
-        if self.entries.len() > FEW {
-            return self.entries.binary_search_by_key(&word, |&(w, _)| w);
-        }
-        search_back(&self.entries, word)
     }
 }

@@ -4,6 +4,7 @@ ghost use Rattle.std.specs.Prelude.{◌≡◌, ◌↔◌, ◌⊎◌, ◌+◌, �
 ghost use Rattle.std.specs.Borrow.{sem, RestsIfErr};
 ghost use Rattle.persist.specs.Memory.{words_after_store, words_after_eviction, words_after_crash, zero_words, part};
 ghost use Rattle.persist.specs.contracts.memory.Memory.{the_row};
+ghost use Rattle.persist.specs.ChangeList.{IsEntryOf, IsGapFor};
 ghost use Rattle.persist.specs.Changes.{change_of, differences};
 ghost use Rattle.persist.specs.Lent.{window_words, view_words};
 
@@ -138,28 +139,36 @@ impl Memory {
         self.changes.clear();
     }
 
-    /// The cached value of a word.
+    /// Where the list has a word, or would have it, and the word's cached value.
     #[tactic(auto, using(crate::proofs::Overlays::length_overlay))]
-    fn cached(&self, word: usize) -> u64
+    fn look_up(&self, word: usize) -> (Result<usize, usize>, u64)
         requires { word < length self.now.cached }
-        ensures { result ≡ slice_index self.now.cached word }
+        ensures found { IfOk result.0 (IsEntryOf (differences self.now.cached self.now.kept) word) }
+        ensures absent { IfErr result.0 (IsGapFor (differences self.now.cached self.now.kept) word) }
+        ensures value { result.1 ≡ slice_index self.now.cached word }
     {
-        match self.changes.get(word as u64) {
-            Some(value) => value,
-            None => self.kept[word],
-        }
+        let place = self.changes.search(word as u64);
+        let value = match place {
+            Ok(at) => self.changes.value(at),
+            Err(_) => self.kept[word],
+        };
+        (place, value)
     }
 
-    /// Makes this the cached value of a word.
+    /// Makes this the cached value of a word, which the list has at this place, or would have there.
     #[tactic(auto, using(crate::proofs::Overlays::length_overlay))]
-    fn set_cached(&mut self, word: usize, value: u64)
-        requires { word < length self.old.cached }
+    fn set_cached(&mut self, place: Result<usize, usize>, word: usize, value: u64)
+        requires inside { word < length self.old.cached }
+        requires found { IfOk place (IsEntryOf (differences self.old.cached self.old.kept) word) }
+        requires absent { IfErr place (IsGapFor (differences self.old.cached self.old.kept) word) }
         ensures { self.new ≡ words_after_store word value self.old }
     {
-        if value == self.kept[word] {
-            self.changes.remove(word as u64);
-        } else {
-            self.changes.set(word as u64, value);
+        if value != self.kept[word] {
+            self.changes.set(place, word as u64, value);
+            return;
+        }
+        if let Ok(at) = place {
+            self.changes.remove(at);
         }
     }
 
@@ -170,10 +179,12 @@ impl Memory {
         ensures kept { self.new ≡ words_after_eviction word self.old }
         ensures change { result ≡ change_of self.old word }
     {
-        let new = self.changes.get(word as u64)?;
+        let Ok(at) = self.changes.search(word as u64) else {
+            return None;
+        };
+        let new = self.changes.remove(at);
         let old = self.kept[word];
         self.kept[word] = new;
-        self.changes.remove(word as u64);
         Some(Change { word, old, new })
     }
 }
@@ -191,7 +202,8 @@ impl WordMemory for Memory {
             return Err(Refusal::NoWord);
         }
         count(&mut self.accesses);
-        Ok(self.cached(word))
+        let (_, value) = self.look_up(word);
+        Ok(value)
     }
 
     fn store(&mut self, word: usize, value: u64) -> Result<(), Refusal> {
@@ -199,7 +211,8 @@ impl WordMemory for Memory {
             return Err(Refusal::NoWord);
         }
         count(&mut self.accesses);
-        self.set_cached(word, value);
+        let (place, _) = self.look_up(word);
+        self.set_cached(place, word, value);
         Ok(())
     }
 
@@ -208,11 +221,11 @@ impl WordMemory for Memory {
             return Err(Refusal::NoWord);
         }
         count(&mut self.accesses);
-        let found = self.cached(word);
+        let (place, found) = self.look_up(word);
         if found != old {
             return Ok(Swap::Found(found));
         }
-        self.set_cached(word, new);
+        self.set_cached(place, word, new);
         Ok(Swap::Done)
     }
 
