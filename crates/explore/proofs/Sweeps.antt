@@ -24,6 +24,14 @@ use Rattle.explore.specs.declared.crashing.Point.{Point}
 abbrev pub Makes : (ℕ → Found) → ℕ → Result Point Refusal → Type 0
 Makes f n r = IfOk r (λ point. found_of point ≡ f n) × IfErr r (λ e. e ≡ NoMemory)
 
+-- what is made at any state is made
+pub made_at_any : (S : Type 0) (f : ℕ → Found) (ns : List ℕ) (rs : List (Result Point Refusal))
+    → AllZip (λ n r. (p q : S) × Makes f n r) ns rs → AllZip (Makes f) ns rs
+made_at_any S f [] [] each = tt
+made_at_any S f [] (r ∷ rs) each = absurd each
+made_at_any S f (n ∷ ns) [] each = absurd each
+made_at_any S f (n ∷ ns) (r ∷ rs) each = (each.0.2, made_at_any S f ns rs each.1)
+
 pub all_made : (f : ℕ → Found) (ns : List ℕ) (points : List Point) → AllZip (Makes f) ns (map Ok points)
     → map found_of points ≡ map f ns
 all_made f [] [] each = refl

@@ -11,6 +11,7 @@ ghost use Rattle.explore.specs.Transcript.{told_at};
 use crate::attempts::{attempt_all, most_to_ready, repeat};
 use crate::evictions::{Evictions, evict_words};
 use crate::laid::Laid;
+use crate::spare::Spare;
 use arena::Layout;
 use history::{History, Order, check, replay};
 use interleave::{Act, World};
@@ -80,6 +81,7 @@ fn found<L: Layout + Drop>(alloc: Global, world: &World<L>, steps: u32) -> Resul
 /// recovery goes on to its end.
 fn crash_on<L: Layout + Drop>(
     alloc: Global,
+    spare: &mut Spare,
     layout: L,
     acts: &[Act],
     evictions: Evictions,
@@ -89,18 +91,21 @@ fn crash_on<L: Layout + Drop>(
         ≡ found_after (L.shape layout) acts.now evictions point) }
     ensures errors { IfErr result (λ e. e ≡ Refusal.NoMemory) }
 {
-    let mut world = World::make(alloc, layout)?;
+    let mut world = spare.world(alloc, layout)?;
     attempt_all(&mut world, acts)?;
     evict_words(&mut world, evictions, point);
     world.crash()?;
     let most = most_to_ready(world.layout());
     let steps = repeat(&mut world, Act::Recover, most)?;
-    found(alloc, &world, steps)
+    let found = found(alloc, &world, steps);
+    spare.keep(world);
+    found
 }
 
 /// What a crash after these acts comes to.
 pub(crate) fn crash(
     alloc: Global,
+    spare: &mut Spare,
     laid: &Laid,
     acts: &[Act],
     evictions: Evictions,
@@ -111,7 +116,7 @@ pub(crate) fn crash(
 {
     let point = acts.len() as u64;
     match laid {
-        Laid::Durable(layout) => crash_on(alloc, *layout, acts, evictions, point),
-        Laid::Log(layout) => crash_on(alloc, *layout, acts, evictions, point),
+        Laid::Durable(layout) => crash_on(alloc, spare, *layout, acts, evictions, point),
+        Laid::Log(layout) => crash_on(alloc, spare, *layout, acts, evictions, point),
     }
 }

@@ -22,6 +22,7 @@ mod recording;
 mod reports;
 mod running;
 mod script;
+mod spare;
 mod steps;
 mod stopped;
 mod sweep;

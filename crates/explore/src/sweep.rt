@@ -11,6 +11,7 @@ use crate::laid::{Laid, layout_of};
 use crate::lists::append;
 use crate::recording::accepted_acts;
 use crate::script::Script;
+use crate::spare::Spare;
 use crate::watch::{Unwatched, Watch};
 use interleave::Act;
 use rayon::prelude::*;
@@ -68,8 +69,9 @@ fn some_points<R: Threads + Sync>(
     let made: Result<Result<Vec<Point>, Refusal>, _> = (from..to)
         .into_par_iter()
         .with_min_len(1)
-        .map(
-            |point: usize| -> Result<Point, Refusal>
+        .map_init(
+            || Spare::none(),
+            |spare: &mut Spare, point: usize| -> Result<Point, Refusal>
                 requires { point ≤ length schedule.now.acts.items }
                 ensures found { IfOk result (λ found. found_of found ≡ found_at (shape_in schedule.entry.now.laid)
                     schedule.entry.now.acts.items schedule.entry.now.evictions point) }
@@ -77,6 +79,7 @@ fn some_points<R: Threads + Sync>(
             {
                 crash(
                     alloc,
+                    spare,
                     &schedule.laid,
                     &schedule.acts[..point],
                     schedule.evictions,

@@ -31,3 +31,4 @@ pub mod StandingLaws
 pub mod Turns
 pub mod TurnLaws
 pub mod Rotated
+pub mod Unused

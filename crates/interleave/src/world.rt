@@ -220,6 +220,13 @@ impl<L: Layout + Drop> World<L> {
         &self.memory
     }
 
+    /// Ends the world, and hands back its memory.
+    pub fn into_memory(self) -> Memory
+        ensures { result ≡ self.now.words }
+    {
+        self.memory
+    }
+
     /// Whether recovery is under way.
     pub fn is_down(&self) -> bool
         ensures { result ≡ is_down self.now.now }

@@ -1,6 +1,6 @@
 //! A memory of the process's own, which simulates a non-volatile one.
 
-ghost use Rattle.std.specs.Prelude.{◌≡◌, ◌↔◌, ◌⊎◌, ◌+◌, ◌<◌, ◌≤◌, min, length, take, drop, Ok, Err, IfOk, IfErr, slice_index, slice_set};
+ghost use Rattle.std.specs.Prelude.{◌≡◌, ◌↔◌, ◌⊎◌, ◌+◌, ◌<◌, ◌≤◌, min, length, replicate, take, drop, Ok, Err, IfOk, IfErr, slice_index, slice_set};
 ghost use Rattle.std.specs.Borrow.{sem, RestsIfErr};
 ghost use Rattle.persist.specs.Memory.{words_after_store, words_after_eviction, words_after_crash, zero_words, part};
 ghost use Rattle.persist.specs.contracts.memory.Memory.{the_row};
@@ -52,6 +52,13 @@ fn count(accesses: &mut u64)
     if *accesses < u64::MAX {
         *accesses += 1;
     }
+}
+
+/// Makes all these words zero.
+fn set_to_zero(words: &mut [u64])
+    ensures { words.new ≡ replicate (length words.old) 0 }
+{
+    words.fill(0);
 }
 
 impl Memory {
@@ -130,6 +137,15 @@ impl Memory {
             return Err(Refusal::NoWord);
         }
         Ok(View::new(self, from, len))
+    }
+
+    /// Makes it a new memory again: all words zero, cached and kept, and no access counted. It takes no memory.
+    pub fn clear(&mut self)
+        ensures { self.new ≡ zero_words (length self.old.kept) }
+    {
+        set_to_zero(&mut self.kept);
+        self.changes.clear();
+        self.accesses = 0;
     }
 
     /// Makes every cached value the kept one. It is no access.

@@ -22,6 +22,6 @@ returns-clause-found g c =
     c.attempt_all.new.world.now c.evict_words.new.world.now c.crash.new.self.now c.repeat.new.world.now
     c.most_to_ready-most.result c.in_ok-steps.steps c.in_ok-world.ensures.made c.in_ok-attempt_all.ensures.world
     c.evict_words.ensures crashed many c.in_ok-steps.ensures.world c.in_ok-steps.ensures.accepted in
-    IfOk-weaker c.found.result (λ point. found_of point ≡ found_in c.repeat.new.world.now c.in_ok-steps.steps)
+    IfOk-weaker c.found-found.result (λ point. found_of point ≡ found_in c.repeat.new.world.now c.in_ok-steps.steps)
     (λ point. found_of point ≡ found_after s c.args.acts.now c.args.evictions c.args.point) (λ point is. is ∙ comes)
-    c.found.ensures.found
+    c.found-found.ensures.found
