@@ -23,7 +23,7 @@ AreBytes bytes = All (λ byte. byte < 2 ^ 8) bytes
 abbrev pub magic : List ℕ
 magic = codes "PQW1"
 
--- the one image of words: the magic, how many they are, and each of them, every number in eight bytes, the low one first
+-- the one image of words: the magic, how many words, and each word; every number in eight bytes, the low one first
 abbrev pub image_of : List ℕ → List ℕ
 image_of words = magic ++ to_le_bytes w64 (length words) ++ flat_map (to_le_bytes w64) words
 

@@ -72,10 +72,11 @@ fn words_of(bytes: &[u8]) -> Result<&[[u8; NUMBER_BYTES]], Refusal>
 fn numbers(alloc: Global, words: &[[u8; NUMBER_BYTES]]) -> Result<Vec<u64>, AllocError>
     ensures { IfOk result (λ numbers. numbers.items ≡ map (from_le_bytes w64) words.now) }
 {
-    words
-        .iter()
-        .map(|word| u64::from_le_bytes(*word))
-        .collect(alloc)
+    let mut numbers = Vec::with_capacity(alloc, words.len())?;
+    for word in words {
+        numbers.push(u64::from_le_bytes(*word))?;
+    }
+    Ok(numbers)
 }
 
 /// The image of these words.
