@@ -4,6 +4,8 @@
 #[cfg(test)]
 mod drawn;
 #[cfg(test)]
+mod images;
+#[cfg(test)]
 mod plain;
 #[cfg(test)]
 mod rows;

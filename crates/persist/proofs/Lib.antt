@@ -6,3 +6,4 @@ pub mod Differences
 pub mod Overlays
 pub mod Sound
 pub mod Shown
+pub mod Images

@@ -3,6 +3,7 @@ use Rattle.std.specs.Prelude.{◌≡◌, ◌≢◌, ℕ, ◌<◌, ◌≤◌, Lis
 use Rattle.std.specs.List.{enumerate_from}
 use Rattle.persist.specs.Memory.{Words}
 use Rattle.persist.specs.ChangeList.{Entries, Listing, get, IsAscending}
+use Rattle.persist.specs.declared.memory.TheConstants.{MAX_WORDS}
 use Rattle.persist.specs.declared.access.Change.{Change}
 use Rattle.persist.specs.declared.access.Swap.{Swap}
 use Rattle.persist.specs.declared.access.Swap.TheVariants.{Done, Found}
@@ -35,6 +36,8 @@ pub record IsExact (kept : List ℕ) (entries : Entries) : Type 0 where
 
 -- what holds of the parts of a memory at every moment
 pub record IsSound (kept : List ℕ) (listing : Listing) : Type 0 where
+  pub some : 0 < length kept
+  pub few : length kept ≤ MAX_WORDS
   pub exact : IsExact kept listing.entries
   pub ascending : IsAscending listing.entries
   pub room : length kept ≤ listing.room

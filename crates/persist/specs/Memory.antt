@@ -65,6 +65,10 @@ words_after_crash ws = record ws { cached = ws.kept }
 abbrev pub zero_words : ℕ → Words
 zero_words n = record { cached = replicate n 0; kept = replicate n 0; accesses = 0; around = nothing }
 
+-- words whose cached values are these kept ones, never accessed
+abbrev pub words_at_rest : List ℕ → Words
+words_at_rest kept = record { cached = kept; kept = kept; accesses = 0; around = nothing }
+
 -- the words of a part of a memory of this name, numbered from 0; the rest lies around them
 abbrev pub part : ℕ → ℕ → ℕ → Words → Words
 part lender from len ws = record {

@@ -3,9 +3,12 @@
 
 mod access;
 mod changes;
+mod image;
+mod laws;
 mod memory;
 mod window;
 
 pub use access::{Change, EvictableWords, KeptWords, Swap, WordMemory};
+pub use laws::words_have_one_image;
 pub use memory::{MAX_WORDS, Memory};
 pub use window::{View, Window};

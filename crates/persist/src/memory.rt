@@ -1,8 +1,8 @@
 //! A memory of the process's own, which simulates a non-volatile one.
 
-ghost use Rattle.std.specs.Prelude.{◌≡◌, ◌↔◌, ◌⊎◌, ◌+◌, ◌<◌, ◌≤◌, min, length, replicate, take, drop, Ok, Err, IfOk, IfErr, slice_index, slice_set};
+ghost use Rattle.std.specs.Prelude.{◌≡◌, ◌↔◌, ◌⊎◌, ◌+◌, ◌<◌, ◌≤◌, min, vec_len, length, replicate, take, drop, Ok, Err, IfOk, IfErr, slice_index, slice_set};
 ghost use Rattle.std.specs.Borrow.{sem, RestsIfErr};
-ghost use Rattle.persist.specs.Memory.{words_after_store, words_after_eviction, words_after_crash, zero_words, part};
+ghost use Rattle.persist.specs.Memory.{words_after_store, words_after_eviction, words_after_crash, zero_words, words_at_rest, part};
 ghost use Rattle.persist.specs.contracts.memory.Memory.{the_row};
 ghost use Rattle.persist.specs.ChangeList.{IsEntryOf, IsGapFor};
 ghost use Rattle.persist.specs.Changes.{change_of, differences};
@@ -11,7 +11,7 @@ ghost use Rattle.persist.specs.Lent.{window_words, view_words};
 use crate::access::{Change, EvictableWords, KeptWords, Swap, WordMemory};
 use crate::changes::ChangeList;
 use crate::window::{View, Window};
-use std::alloc::Global;
+use std::alloc::{AllocError, Global};
 use std::marker::Model;
 use words::Refusal;
 
@@ -83,6 +83,34 @@ impl Memory {
             changes,
             accesses: 0,
         })
+    }
+
+    /// A memory of these words, each cached and kept, with room for a change of each word.
+    pub(crate) fn keeping(alloc: Global, kept: Vec<u64>) -> Result<Self, AllocError>
+        requires some { 0 < vec_len kept }
+        requires few { vec_len kept ≤ MAX_WORDS }
+        ensures { IfOk result (λ m. m ≡ words_at_rest kept.items) }
+    {
+        let changes = ChangeList::new(alloc, kept.len())?;
+        Ok(Memory {
+            kept,
+            changes,
+            accesses: 0,
+        })
+    }
+
+    /// The kept value of each word.
+    pub(crate) fn kept_words(&self) -> &[u64]
+        ensures kept { result.now ≡ self.now.kept }
+        ensures some { 0 < length result.now }
+        ensures few { length result.now ≤ MAX_WORDS }
+    {
+        &self.kept
+    }
+
+    /// The allocator that it was made with.
+    pub(crate) fn allocator(&self) -> Global {
+        *self.kept.allocator()
     }
 
     /// The words whose cached value is not the kept one, ascending, each with its cached value.

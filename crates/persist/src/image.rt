@@ -1,0 +1,131 @@
+//! Images of a memory: its kept words as bytes.
+
+ghost use Rattle.std.specs.Prelude.{◌≡◌, ◌⊎◌, ◌^◌, ◌<◌, ◌≤◌, length, drop, map, All, Ok, Err, IsOk, IfOk, IfErr, IfSome, IfNone};
+ghost use Rattle.std.specs.Int.{w64, from_le_bytes};
+ghost use Rattle.persist.specs.Memory.{words_at_rest};
+ghost use Rattle.persist.specs.Image.{image_of, begins_as_image, count_in, reading};
+
+use crate::memory::{MAX_WORDS, Memory};
+use std::alloc::{AllocError, Global};
+use std::cmp::Ordering;
+use words::Refusal;
+
+/// What every image begins with.
+const MAGIC: [u8; MAGIC_BYTES] = *b"PQW1";
+
+const MAGIC_BYTES: usize = 4;
+
+/// How many bytes a number has, the count and each word.
+const NUMBER_BYTES: usize = 8;
+
+/// How many bytes stand before the words: the magic and the count.
+const HEADER_BYTES: usize = MAGIC_BYTES + NUMBER_BYTES;
+
+/// Whether what there is of the first four bytes is the magic's.
+fn begins_right(bytes: &[u8]) -> bool
+    ensures { result ≡ begins_as_image bytes.now }
+{
+    let there = bytes.len().min(MAGIC_BYTES);
+    bytes[..there] == MAGIC[..there]
+}
+
+/// The count, and the bytes after it, unless there are too few.
+fn split_header(bytes: &[u8]) -> Option<(u64, &[u8])>
+    ensures short { IfNone result (length bytes.now < HEADER_BYTES) }
+    ensures long { IfSome result (λ parts. HEADER_BYTES ≤ length bytes.now) }
+    ensures count { IfSome result (λ parts. parts.0 ≡ count_in bytes.now) }
+    ensures rest { IfSome result (λ parts. parts.1.now ≡ drop HEADER_BYTES bytes.now) }
+{
+    let (_, rest) = bytes.split_first_chunk::<MAGIC_BYTES>()?;
+    let (count, rest) = rest.split_first_chunk::<NUMBER_BYTES>()?;
+    Some((u64::from_le_bytes(*count), rest))
+}
+
+/// The bytes of each word, or the first that is wrong with an image.
+#[tactic(auto, unfolding(crate::specs::Image::reading))]
+fn words_of(bytes: &[u8]) -> Result<&[[u8; NUMBER_BYTES]], Refusal>
+    ensures ok { IfOk result (λ words. reading bytes.now ≡ Ok (map (from_le_bytes w64) words.now)) }
+    ensures some { IfOk result (λ words. 0 < length words.now) }
+    ensures few { IfOk result (λ words. length words.now ≤ MAX_WORDS) }
+    ensures err { IfErr result (λ e. reading bytes.now ≡ Err e) }
+{
+    if !begins_right(bytes) {
+        return Err(Refusal::BadMagic);
+    }
+    let Some((count, rest)) = split_header(bytes) else {
+        return Err(Refusal::Truncated);
+    };
+    if count == 0 || count > MAX_WORDS as u64 {
+        return Err(Refusal::BadCount);
+    }
+    match rest.len().cmp(&(NUMBER_BYTES * count as usize)) {
+        Ordering::Less => Err(Refusal::Truncated),
+        Ordering::Greater => Err(Refusal::TrailingBytes),
+        Ordering::Equal => {
+            let (words, _) = rest.as_chunks::<NUMBER_BYTES>();
+            Ok(words)
+        }
+    }
+}
+
+/// The words of these bytes.
+fn numbers(alloc: Global, words: &[[u8; NUMBER_BYTES]]) -> Result<Vec<u64>, AllocError>
+    ensures { IfOk result (λ numbers. numbers.items ≡ map (from_le_bytes w64) words.now) }
+{
+    let mut numbers = Vec::with_capacity(alloc, words.len())?;
+    for word in words {
+        numbers.push(u64::from_le_bytes(*word))?;
+    }
+    Ok(numbers)
+}
+
+/// The image of these words.
+fn image(alloc: Global, words: &[u64]) -> Result<Vec<u8>, AllocError>
+    ensures image { IfOk result (λ bytes. bytes.items ≡ image_of words.now) }
+    // A fact of the argument's type, which a caller has from here alone.
+    ensures fit { All (λ word. word < 2 ^ 64) words.now }
+{
+    let mut image = Vec::with_capacity(alloc, HEADER_BYTES + NUMBER_BYTES * words.len())?;
+    image.extend_from_slice(&MAGIC)?;
+    image.extend_from_slice(&(words.len() as u64).to_le_bytes())?;
+    for word in words {
+        image.extend_from_slice(&word.to_le_bytes())?;
+    }
+    Ok(image)
+}
+
+impl Memory {
+    /// The kept words as bytes. A value that is only cached is not in it. It is refused where memory is (NoMemory).
+    pub fn to_image(&self) -> Result<Vec<u8>, Refusal>
+        ensures image { IfOk result (λ bytes. bytes.items ≡ image_of self.now.kept) }
+        ensures read { IfOk result (λ bytes. reading bytes.items ≡ Ok self.now.kept) }
+        ensures errors { IfErr result (λ e. e ≡ Refusal.NoMemory) }
+    {
+        match image(self.allocator(), self.kept_words()) {
+            Ok(image) => Ok(image),
+            Err(_) => Err(Refusal::NoMemory),
+        }
+    }
+
+    /// The memory whose image the bytes are: it has the words cached and kept, no access counted, and room for a change of
+    /// each word. The bytes are refused in this order: where what there is of the first four differs from the magic
+    /// (BadMagic), where the count is cut off (Truncated), where it is 0 or above [`MAX_WORDS`] (BadCount), where words
+    /// are cut off (Truncated), where something stands after them (TrailingBytes), and where memory is refused
+    /// (NoMemory).
+    pub fn from_image(alloc: Global, bytes: &[u8]) -> Result<Self, Refusal>
+        ensures read { IfOk result (λ m. reading bytes.now ≡ Ok m.kept) }
+        ensures at_rest { IfOk result (λ m. m ≡ words_at_rest m.kept) }
+        ensures image { IfOk result (λ m. image_of m.kept ≡ bytes.now) }
+        ensures errors { IfErr result (λ e. (reading bytes.now ≡ Err e)
+            ⊎ (e ≡ Refusal.NoMemory) × IsOk (reading bytes.now)) }
+    {
+        let words = words_of(bytes)?;
+        let Ok(kept) = numbers(alloc, words) else {
+            return Err(Refusal::NoMemory);
+        };
+        match Memory::keeping(alloc, kept) {
+            Ok(memory) => Ok(memory),
+            Err(_) => Err(Refusal::NoMemory),
+        }
+    }
+}
