@@ -22,6 +22,7 @@ pub mod EveryAct
 pub mod HoldsKept
 pub mod KeptTells
 pub mod BootLaws
+pub mod UnusedLaws
 pub mod DownLaws
 pub mod Ended
 pub mod RecordsKept

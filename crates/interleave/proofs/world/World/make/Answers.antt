@@ -1,6 +1,6 @@
 use Rattle.std.proofs.Common.{◌≡◌, ℕ, inl, replicate, length, sym, subst, ap, ◌∙◌, rules}
 use Rattle.std.proofs.lemmas.List.{length-replicate}
-use Rattle.persist.specs.Memory.{Words, zero_words}
+use Rattle.persist.specs.Memory.{zero_words}
 use Rattle.arena.specs.Layout.{size_of}
 use Rattle.arena.specs.Shape.{Shape}
 use Rattle.interleave.specs.Ranges.{AreUnused}
