@@ -31,4 +31,5 @@ pub mod ToldForGood
 pub mod StandingLaws
 pub mod Turns
 pub mod TurnLaws
+pub mod AloneServed
 pub mod Rotated
