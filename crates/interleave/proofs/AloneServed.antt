@@ -14,12 +14,14 @@ use Rattle.protocol.specs.Machine.{next_of, with_next}
 use Rattle.protocol.specs.declared.UnderWay.{UnderWay}
 use Rattle.interleave.specs.Calls.{answer_of, waiting_result}
 use Rattle.interleave.specs.Holds.{Holds}
-use Rattle.interleave.specs.Standing.{EndedCallsStay}
+use Rattle.interleave.specs.Standing.{EndedCallsStay, GoesOn, IsBeginningOf}
 use Rattle.interleave.specs.State.{State, machine, is_down, order_in, after_alone, after_one_access, after_step, step_with, step_result, step_result_with, IsAnsweredAlone}
 use Rattle.interleave.specs.Turn.{IsInTurn, IsServedAlone}
 use Rattle.interleave.proofs.AloneLaws.{get_set}
 use Rattle.interleave.proofs.HoldsKept.{explained_world, holds_after_step, part_after_step, waiting_is}
-use Rattle.interleave.proofs.StandingLaws.{ended_after_step, ended_by_order}
+use Rattle.interleave.proofs.Ended.{begins_itself, begins_on}
+use Rattle.interleave.proofs.RunLaws.{goes_nowhere}
+use Rattle.interleave.proofs.StandingLaws.{ended_after_step, grown_by_step}
 use Rattle.interleave.proofs.TurnLaws.{WentOn, answered_in_turn, ended_on, went_further, went_nowhere}
 
 -- a client without a call makes no step
@@ -62,6 +64,12 @@ module _ (w : State) (client : Client) (holds : Holds w) where
   order_alone zero = part_same (order_in w)
   order_alone (suc n) = part_of_part (part_after_step false (after_alone n w client) client (holds_alone n)) (order_alone n)
 
+  grown_alone : (n : ℕ) → IsBeginningOf w.log.events (after_alone n w client).log.events
+  grown_alone zero = begins_itself w.log.events
+  grown_alone (suc n) =
+      let now : State = after_alone n w client in
+      begins_on w.log.events now.log.events (after_step false now client).log.events (grown_alone n) (grown_by_step false now client)
+
   -- as long as it has a call, it was not answered yet
   went_alone : (n : ℕ) (answer : Option Reply) → step_result false (after_alone n w client) client ≡ Ok answer
       → WentOn w (after_alone n w client)
@@ -92,20 +100,16 @@ module _ (w : State) (client : Client) (holds : Holds w) where
       (went_alone n (Some reply) answered) refl answered (order_alone (suc n))
       (ended_after_step false now client (holds_alone n))
 
-  -- whether it was answered or refused, which changes nothing
-  pub order_after_alone : (new : State) (result : Result (Reply × ℕ) Refusal) → IfErr result (λ e. new ≡ w)
-      → IfOk result (λ answer. new ≡ after_alone answer.1 w client) → IsPartOf (order_in w) (order_in new)
-  order_after_alone new (Err refusal) same is =
-      subst (λ (v : State). IsPartOf (order_in w) (order_in v)) (sym same) (part_same (order_in w))
-  order_after_alone new (Ok answer) same is =
-      subst (λ (v : State). IsPartOf (order_in w) (order_in v)) (sym is) (order_alone answer.1)
-
-  pub ended_after_alone : (new : State) (result : Result (Reply × ℕ) Refusal) → IfErr result (λ e. new ≡ w)
+  -- it goes on with the world, whether it was answered or refused, which changes nothing
+  pub goes_on_after_alone : (new : State) (result : Result (Reply × ℕ) Refusal) → IfErr result (λ e. new ≡ w)
       → IfOk result (λ answer. IsAnsweredAlone w client answer.1 answer.0)
-      → IfOk result (λ answer. new ≡ after_alone answer.1 w client) → EndedCallsStay w new
-  ended_after_alone new (Err refusal) same answered is = ended_by_order w new (ap order_in same)
-  ended_after_alone new (Ok answer) same answered is =
-      subst (EndedCallsStay w) (sym is) (ended_alone answer.1 answer.0 answered)
+      → IfOk result (λ answer. new ≡ after_alone answer.1 w client) → GoesOn w new
+  goes_on_after_alone new (Err refusal) same answered is = subst (GoesOn w) (sym same) (goes_nowhere w)
+  goes_on_after_alone new (Ok answer) same answered is = subst (GoesOn w) (sym is) (record {
+    grown = grown_alone answer.1;
+    part = order_alone answer.1;
+    ended = ended_alone answer.1 answer.0 answered;
+  })
 
   pub served_after_alone : (new : State) (result : Result (Reply × ℕ) Refusal)
       → IfOk result (λ answer. IsAnsweredAlone w client answer.1 answer.0)

@@ -1,5 +1,7 @@
 pub mod Entering
 pub mod RunLaws
+pub mod ActLaws
+pub mod PartLaws
 pub mod RunStates
 pub mod NumberLaws
 pub mod NumbersKept

@@ -7,7 +7,7 @@ use Rattle.interleave.specs.Standing.{EndedCallsStay}
 use Rattle.interleave.specs.State.{State, order_in}
 use Rattle.interleave.specs.Trace.{Roomy}
 use Rattle.interleave.specs.Turn.{IsInTurn, IsServedAlone}
-use Rattle.interleave.proofs.AloneServed.{ended_after_alone, order_after_alone, served_after_alone}
+use Rattle.interleave.proofs.AloneServed.{goes_on_after_alone, served_after_alone}
 use Rattle.interleave.proofs.HoldsKept.{explained_world}
 use Rattle.interleave.proofs.KeptTells.{kept_sound}
 use Rattle.interleave.proofs.world.World.run_alone.Goals as goal
@@ -23,16 +23,16 @@ returns-clause-order g c =
     let old : State = state_of c.self.inside.core c.self.inside.memory in
     let new : State = state_of c.run_alone.new.self c.run_alone.new.memory in
     let was : old ≡ c.args.self.now.now = ap (λ (r : Roomy). r.now) c.self.view_is in
-    subst (λ (w : State). IsPartOf (order_in w) (order_in new)) was
-    (order_after_alone old c.args.client c.self.invariant new c.run_alone.result c.run_alone.ensures.same c.run_alone.ensures.world)
+    let on = goes_on_after_alone old c.args.client c.self.invariant new c.run_alone.result c.run_alone.ensures.same c.run_alone.ensures.answer c.run_alone.ensures.world in
+    subst (λ (w : State). IsPartOf (order_in w) (order_in new)) was on.part
 
 pub returns-clause-ended : goal.returns-clause-ended
 returns-clause-ended g c =
     let old : State = state_of c.self.inside.core c.self.inside.memory in
     let new : State = state_of c.run_alone.new.self c.run_alone.new.memory in
     let was : old ≡ c.args.self.now.now = ap (λ (r : Roomy). r.now) c.self.view_is in
-    subst (λ (w : State). EndedCallsStay w new) was
-    (ended_after_alone old c.args.client c.self.invariant new c.run_alone.result c.run_alone.ensures.same c.run_alone.ensures.answer c.run_alone.ensures.world)
+    let on = goes_on_after_alone old c.args.client c.self.invariant new c.run_alone.result c.run_alone.ensures.same c.run_alone.ensures.answer c.run_alone.ensures.world in
+    subst (λ (w : State). EndedCallsStay w new) was on.ended
 
 pub returns-clause-turn : goal.returns-clause-turn
 returns-clause-turn g c =
