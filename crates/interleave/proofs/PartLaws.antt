@@ -1,8 +1,9 @@
 -- A world over a part of a memory: what lies around the part is neither read nor changed.
 use Rattle.std.proofs.Common.{◌≡◌, ℕ, zero, suc, Bool, true, false, if◌then◌else◌, List, Option, Some, None, Result, Ok, Err, slice_get, slice_index, refl, sym, ap, subst, ◌∙◌, ◌==◌}
-use Rattle.std.specs.Prelude.{is_ok}
+use Rattle.std.specs.Prelude.{is_ok, IfErr, IfOk}
 use Rattle.words.specs.declared.call.Call.{Call}
 use Rattle.words.specs.declared.call.Client.{Client}
+use Rattle.words.specs.declared.call.Reply.{Reply}
 use Rattle.words.specs.declared.refusal.Refusal.{Refusal}
 use Rattle.persist.specs.Memory.{Access, Around, Cas, Flush, Load, Store, Words, words_after_access, words_after_store}
 use Rattle.arena.specs.Layout.{place_at, word_at}
@@ -20,7 +21,7 @@ use Rattle.interleave.specs.Core.{CoreState, state_of}
 use Rattle.interleave.specs.Holds.{Holds}
 use Rattle.interleave.specs.Ranges.{WordsFit}
 use Rattle.interleave.specs.Rotation.{after_rotate, after_rotation, rotate_result}
-use Rattle.interleave.specs.State.{State, after_alone, after_attempt, after_bump_load, after_call_began, after_crash, after_evict, after_one_access, after_recover, after_recovery_step, after_start, after_step, evict_with, is_down, number_to_start, recover_with, start_with, step_with, used_by}
+use Rattle.interleave.specs.State.{State, IsAnsweredAlone, after_alone, after_attempt, after_bump_load, after_call_began, after_crash, after_evict, after_one_access, after_recover, after_recovery_step, after_start, after_step, evict_with, is_down, number_to_start, recover_with, start_with, step_result, step_with, used_by}
 
 -- what holds over words holds over any with the same values
 pub holds_alike : (c : CoreState) (u v : Words) → v.cached ≡ u.cached → v.kept ≡ u.kept → Holds (state_of c u) → Holds (state_of c v)
@@ -149,3 +150,29 @@ around_stays full w act = ap (λ (v : State). v.words.around) (attempt_placed w.
 
 pub around_stays_alone : (n : ℕ) (w : State) (client : Client) → (after_alone n w client).words.around ≡ w.words.around
 around_stays_alone n w client = ap (λ (v : State). v.words.around) (alone_placed w.words.around n w client)
+
+-- whether a call that goes on alone is answered or refused
+pub around_after_alone : (w new : State) (client : Client) (result : Result (Reply × ℕ) Refusal) → IfErr result (λ e. new ≡ w)
+    → IfOk result (λ answer. new ≡ after_alone answer.1 w client) → new.words.around ≡ w.words.around
+around_after_alone w new client (Err refusal) same is = ap (λ (v : State). v.words.around) same
+around_after_alone w new client (Ok answer) same is =
+    ap (λ (v : State). v.words.around) is ∙ around_stays_alone answer.1 w client
+
+-- and its answer is the same wherever the words lie
+pub answered_placed : (around : Around) (n : ℕ) (w : State) (client : Client) (reply : Reply) → IsAnsweredAlone w client n reply
+    → IsAnsweredAlone (placed around w) client n reply
+answered_placed around zero w client reply answered = absurd answered
+answered_placed around (suc n) w client reply answered =
+    ap (λ (v : State). step_result false v client) (alone_placed around n w client) ∙ answered
+
+pub answered_after_placed : (around : Around) (w : State) (client : Client) (result : Result (Reply × ℕ) Refusal)
+    → IfOk result (λ answer. IsAnsweredAlone w client answer.1 answer.0)
+    → IfOk result (λ answer. IsAnsweredAlone (placed around w) client answer.1 answer.0)
+answered_after_placed around w client (Err refusal) answered = tt
+answered_after_placed around w client (Ok answer) answered = answered_placed around answer.1 w client answer.0 answered
+
+pub left_after_placed : (around : Around) (w new : State) (client : Client) (result : Result (Reply × ℕ) Refusal)
+    → IfOk result (λ answer. new ≡ after_alone answer.1 w client)
+    → IfOk result (λ answer. placed around new ≡ after_alone answer.1 (placed around w) client)
+left_after_placed around w new client (Err refusal) is = tt
+left_after_placed around w new client (Ok answer) is = ap (placed around) is ∙ sym (alone_placed around answer.1 w client)
