@@ -20,13 +20,14 @@ use persist::WordMemory;
 use words::Refusal;
 
 impl<L: Layout + Drop> Core<L> {
-    /// The whole system stops, as in [`Core::crash`], where there is room for one event. So it is not refused: the owner of
-    /// several cores makes room in each ([`Core::reserve`]) before any of them stops.
+    /// The whole system stops, as in [`Core::crash`], where there is room for one event. So it is not refused: whoever
+    /// has several cores makes room in each ([`Core::reserve`]) before any of them stops.
     pub fn stop(&mut self)
         requires { 0 < self.old.trace.room }
         ensures stopped { (ws : Words) → state_of self.new (words_after_crash ws) ≡ after_stop (state_of self.old ws) }
         ensures room { self.old.trace.room ≤ self.new.trace.room + 1 }
-        ensures holds { (ws : Words) → Holds (state_of self.old ws) → Holds (state_of self.new (words_after_crash ws)) }
+        ensures holds { (ws : Words) → Holds (state_of self.old ws)
+            → Holds (state_of self.new (words_after_crash ws)) }
     {
         self.calls.end_all();
         self.trace.crash();

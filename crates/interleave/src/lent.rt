@@ -88,9 +88,9 @@ impl<L: Layout + Drop> Core<L> {
         })
     }
 
-    /// A core that begins on words that are all zero, as [`Core::boot`] does on such words, but without reading them: so
-    /// it takes no memory, and is not refused. It is for a queue whose creation was kept when a crash cut it off, so that
-    /// recovery is the first to find it: nobody has called yet.
+    /// A core that begins on words that are all zero, as [`Core::boot`] does on such words, but without reading them:
+    /// so it takes no memory, and is not refused. It is for a queue whose creation was kept when a crash cut it off, so
+    /// that recovery is the first to find it: nobody has called yet.
     pub fn boot_unused(alloc: Global, layout: L) -> Self
         ensures new { (ws : Words)
             → state_of result ws ≡ record (world_over (L.shape layout) ws) { recovery = Some boot_recovery } }

@@ -56,8 +56,8 @@ impl<L: Layout + Drop> Core<L> {
     }
 
     /// The history ends, and another begins: its base is what the kept words, which are lent, hold and tell. What they
-    /// hold was asked of [`Core::prepare_rotation`], and no act came between. Words and floors of numbers stay. It takes
-    /// no memory, and is not refused.
+    /// hold was asked of [`Core::prepare_rotation`], and no act came between. Words and floors of numbers stay. It
+    /// takes no memory, and is not refused.
     pub fn begin_anew<K: KeptWords>(&mut self, kept: &K, base: Vec<u32>)
         requires sound { AreSoundWords self.old.shape (K.kept_words kept.now) }
         requires quiet { (ws : Words) → rotate_result false (state_of self.old ws) ≡ Ok tt }
