@@ -34,7 +34,7 @@ left_few w client = go (slice_get w.calls client.0)
     go (Some None) = omega arith
     go None = omega arith
 
-get_set : {X : Type 0} (xs : List X) (i : ℕ) (x : X) → i < length xs → slice_get (slice_set xs i x) i ≡ Some x
+pub get_set : {X : Type 0} (xs : List X) (i : ℕ) (x : X) → i < length xs → slice_get (slice_set xs i x) i ≡ Some x
 get_set [] i x h = absurd (omega (arith, h))
 get_set (y ∷ xs) zero x h = refl
 get_set (y ∷ xs) (suc i) x h = get_set xs i x (omega (arith, h))

@@ -145,7 +145,7 @@ get_both n m t x y h = elim (cases_lt t n) [
 ]
 
 -- what a new queue tells
-tells_nothing : (s : Shape) → 1 ≤ s.clients → s.clients ≤ 16 → TellsNothing s (told_in (new_queue s.kind s.clients))
+pub tells_nothing : (s : Shape) → 1 ≤ s.clients → s.clients ≤ 16 → TellsNothing s (told_in (new_queue s.kind s.clients))
 tells_nothing s some few = go s.kind
   where
     go : (kind : Kind) (t : ℕ) → t < 16 → slice_get (told_in (new_queue kind s.clients)) t ≡ Some (if nat_lt t s.clients then no_call_told kind else told_none)

@@ -1,5 +1,7 @@
 pub mod Entering
 pub mod RunLaws
+pub mod ActLaws
+pub mod PartLaws
 pub mod RunStates
 pub mod NumberLaws
 pub mod NumbersKept
@@ -22,6 +24,7 @@ pub mod EveryAct
 pub mod HoldsKept
 pub mod KeptTells
 pub mod BootLaws
+pub mod UnusedLaws
 pub mod DownLaws
 pub mod Ended
 pub mod RecordsKept
@@ -30,5 +33,6 @@ pub mod ToldForGood
 pub mod StandingLaws
 pub mod Turns
 pub mod TurnLaws
+pub mod AloneServed
 pub mod Rotated
 pub mod Unused

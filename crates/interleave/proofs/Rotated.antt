@@ -27,6 +27,7 @@ use Rattle.protocol.specs.invariants.Worlds.{Inv, IsReady}
 use Rattle.protocol.proofs.boot.Booted.{told_at}
 use Rattle.protocol.proofs.worlds.Facts.{in_log, is_ready, told_by_rule}
 use Rattle.protocol.proofs.worlds.Rotated.{inv_rotated, tells_now}
+use Rattle.interleave.specs.Calls.{is_no_memory}
 use Rattle.interleave.specs.Floors.{AreFloorsRightIn, FloorsFit}
 use Rattle.interleave.specs.Holds.{Holds, from_invariant, to_invariant}
 use Rattle.interleave.specs.Numbers.{AreNumbersRisingIn, AreWithinFloors, AreWithinFloorsIn, HasNumber, IsInDoubt}
@@ -72,6 +73,17 @@ quiet_at full w is = go (is_down w) (some_client_calls w.calls) full refl refl i
     go false true f e g is = cc
     go false false true e g is = cc
     go false false false e g is = record { ready = is_none w.recovery e; nobody = nobody_in w.calls g }
+
+-- what is refused for want of memory too is refused so
+pub refused_so : (w : State) (refusal : Refusal) → rotate_result true w ≡ Err refusal
+    → Err refusal ≡ rotate_result (is_no_memory (let r : Result Unit Refusal = Err refusal in r)) w
+refused_so w refusal is = go (is_down w) (some_client_calls w.calls) is
+  where
+    go : (down called : Bool) → answer_by down called true ≡ Err refusal
+        → Err refusal ≡ answer_by down called (is_no_memory (let r : Result Unit Refusal = Err refusal in r))
+    go true called e = sym e
+    go false true e = sym e
+    go false false e = subst (λ (r : Result Unit Refusal). r ≡ answer_by false false (is_no_memory r)) e refl
 
 told_with : (queue : Queue) (told : List Told) → told_in (queue_with_told queue told) ≡ told
 told_with (Durable old) told = refl

@@ -152,7 +152,7 @@ grown_by_attempt full w Crash = grown_by_crash full w
 grown_by_attempt full w Recover = grown_by_recover full w
 
 -- calls that had ended stay as they are
-ended_by_attempt : (full : Bool) (w : State) (act : Act ℕ) → Holds w → EndedCallsStay w (after_attempt full w act)
+pub ended_by_attempt : (full : Bool) (w : State) (act : Act ℕ) → Holds w → EndedCallsStay w (after_attempt full w act)
 ended_by_attempt full w (Start client number call) holds =
     ended_by_order w (after_start full w client number call) (part_after_start full w client number call)
 ended_by_attempt full w (Step client) holds = ended_after_step full w client holds
@@ -235,7 +235,7 @@ no_crash_before (Evict word ∷ acts) act h = no_crash_before acts act h
 no_crash_before (Recover ∷ acts) act h = no_crash_before acts act h
 
 -- a world came of itself, and what came of what came of it came of it
-goes_nowhere : (w : State) → GoesOn w w
+pub goes_nowhere : (w : State) → GoesOn w w
 goes_nowhere w = record {
   grown = begins_itself w.log.events;
   part = part_same (order_in w);

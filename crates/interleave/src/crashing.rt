@@ -20,6 +20,19 @@ use persist::WordMemory;
 use words::Refusal;
 
 impl<L: Layout + Drop> Core<L> {
+    /// The whole system stops, as in [`Core::crash`], where there is room for one event. So it is not refused: whoever
+    /// has several cores makes room in each ([`Core::reserve`]) before any of them stops.
+    pub fn stop(&mut self)
+        requires { 0 < self.old.trace.room }
+        ensures stopped { (ws : Words) → state_of self.new (words_after_crash ws) ≡ after_stop (state_of self.old ws) }
+        ensures room { self.old.trace.room ≤ self.new.trace.room + 1 }
+        ensures holds { (ws : Words) → Holds (state_of self.old ws)
+            → Holds (state_of self.new (words_after_crash ws)) }
+    {
+        self.calls.end_all();
+        self.trace.crash();
+    }
+
     /// The whole system stops: calls under way end without an answer, and recovery begins anew, also where it was under
     /// way. The memory's own crash goes with it, and is the caller's: before the next act every cached value is the kept
     /// one. It is refused for want of memory alone (NoMemory), and then nothing changed.
@@ -34,8 +47,7 @@ impl<L: Layout + Drop> Core<L> {
         ensures spare { IfErr result (λ e. self.old.trace.room ≤ self.new.trace.room) }
     {
         self.reserve(1)?;
-        self.calls.end_all();
-        self.trace.crash();
+        self.stop();
         Ok(())
     }
 

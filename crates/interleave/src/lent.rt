@@ -1,8 +1,9 @@
 //! A world whose memory is lent to each of its acts.
 
-ghost use Rattle.std.specs.Prelude.{◌≡◌, ◌≤◌, ◌<◌, length, is_some, IfOk, IfErr, OnOk, OnErr};
+ghost use Rattle.std.specs.Prelude.{◌≡◌, ◌≤◌, ◌<◌, length, is_some, IfOk, IfErr, OnOk, OnErr, Some};
 ghost use Rattle.persist.specs.Memory.{Words, words_after_crash};
 ghost use Rattle.recover.specs.Sound.{AreSoundWords};
+ghost use Rattle.recover.specs.Table.{boot_recovery};
 ghost use Rattle.interleave.specs.Booted.{booted_world, MayRefuse};
 ghost use Rattle.interleave.specs.Core.{core_with_room, state_of};
 ghost use Rattle.interleave.specs.Queue.{told_in, told_to};
@@ -85,6 +86,27 @@ impl<L: Layout + Drop> Core<L> {
             calls,
             trace,
         })
+    }
+
+    /// A core that begins on words that are all zero, as [`Core::boot`] does on such words, but without reading them:
+    /// so it takes no memory, and is not refused. It is for a queue whose creation was kept when a crash cut it off, so
+    /// that recovery is the first to find it: nobody has called yet.
+    pub fn boot_unused(alloc: Global, layout: L) -> Self
+        ensures new { (ws : Words)
+            → state_of result ws ≡ record (world_over (L.shape layout) ws) { recovery = Some boot_recovery } }
+        ensures booted { (ws : Words) → AreUnused (L.shape layout) ws
+            → state_of result ws ≡ booted_world (L.shape layout) ws }
+        ensures holds { (ws : Words) → AreUnused (L.shape layout) ws → Holds (state_of result ws) }
+    {
+        let queue = Queue::new(layout.kind(), layout.clients());
+        let calls = Calls::none(layout.clients());
+        let trace = Trace::booted(alloc, Vec::new(alloc), queue.told());
+        Core {
+            layout,
+            queue,
+            calls,
+            trace,
+        }
     }
 
     /// The layout of its words.

@@ -2,6 +2,7 @@
 #![tactic(auto)]
 
 mod acts;
+mod alone;
 mod calls;
 mod content;
 mod crashing;

@@ -302,16 +302,7 @@ impl<L: Layout + Drop> World<L> {
         ensures turn { IfOk result (λ answer. (call : AnyCall) → IsInTurn self.old.now client call
             → IsServedAlone self.old.now call answer.0 self.new.now) }
     {
-        self.core.waiting(client)?;
-        self.reserve(1)?;
-        let mut steps = 0u32;
-        loop {
-            let answer = self.step(client)?;
-            steps += 1;
-            if let Some(reply) = answer {
-                return Ok((reply, steps));
-            }
-        }
+        self.core.run_alone(&mut self.memory, client)
     }
 
     /// Makes room, so that the next acts, so many of them, are not refused for want of memory.

@@ -1,37 +1,30 @@
-use Rattle.std.proofs.Common.{◌≡◌, ℕ, false, List, Result, Ok, sym, ap, ◌∙◌, if◌then◌else◌, rules}
-use Rattle.std.specs.Prelude.{is_ok}
+use Rattle.std.proofs.Common.{◌≡◌, Result, Err, is_ok, sym, ap, subst, ◌∙◌, if◌then◌else◌, rules}
 use Rattle.words.specs.declared.refusal.Refusal.{Refusal}
-use Rattle.arena.specs.Content.{kept_content}
-use Rattle.arena.specs.Shape.{Shape}
-use Rattle.recover.specs.Told.{tells_by}
-use Rattle.protocol.specs.Machine.{Trace}
-use Rattle.protocol.specs.Rotated.{empty_trace}
-use Rattle.interleave.specs.Core.{CoreState, state_of}
-use Rattle.interleave.specs.Rotation.{after_rotation, queue_with_told, rotate_result}
-use Rattle.interleave.specs.State.{State, kept_tells}
-use Rattle.interleave.specs.Trace.{state_with}
-use Rattle.interleave.specs.Values.{value_of_place}
-use Rattle.interleave.specs.declared.queue.Queue.{Queue}
-use Rattle.interleave.proofs.CrashLaws.{state_same}
+use Rattle.interleave.specs.Calls.{is_no_memory}
+use Rattle.interleave.specs.Core.{state_of}
+use Rattle.interleave.specs.Rotation.{after_rotation, rotate_result}
+use Rattle.interleave.specs.State.{State}
+use Rattle.interleave.proofs.Rotated.{refused_so}
 use Rattle.interleave.proofs.lent.Core.rotate.Goals as goal
+
+pub returns-in_err-base-clause-result : goal.returns-in_err-base-clause-result
+returns-in_err-base-clause-result g c = λ ws.
+    let w : State = state_of c.args.self.now ws in
+    let refused : c.from_residual.result ≡ Err c.in_err-base.field-0.0 = search rules in
+    subst (λ (r : Result Unit Refusal). r ≡ rotate_result (is_no_memory r) w) (sym refused)
+    (refused_so w c.in_err-base.field-0.0 (c.in_err-base.ensures.errors ws))
+
+pub returns-in_err-base-clause-world : goal.returns-in_err-base-clause-world
+returns-in_err-base-clause-world g c = λ ws is.
+    let w : State = state_of c.args.self.now ws in
+    let refused : c.from_residual.result ≡ Err c.in_err-base.field-0.0 = search rules in
+    ap (λ (r : Result Unit Refusal). if is_ok r then after_rotation w else w) (sym refused ∙ returns-in_err-base-clause-result g c ws)
 
 pub returns-clause-world : goal.returns-clause-world
 returns-clause-world g c = λ ws is.
-    let old : CoreState = c.args.self.now in
-    let inside : CoreState = record { shape = g.L.Layout.shape c.self.inside.layout; queue = c.self.inside.queue; calls = c.self.inside.calls; trace = c.self.inside.trace } in
-    let was : inside ≡ old = c.self.view_is in
-    let w : State = state_of old ws in
-    let s : Shape = old.shape in
-    let told : c.tells-told.result ≡ kept_tells w = c.tells-told.ensures ∙ ap (λ (k : List ℕ). tells_by s (value_of_place s k)) (sym is) in
-    let base : c.in_ok-base.base.items ≡ kept_content s (value_of_place s ws.kept) =
-    c.in_ok-base.ensures.content ∙ ap (λ (k : List ℕ). kept_content s (value_of_place s k)) (sym is) in
-    let queue : c.tell.new.self ≡ queue_with_told old.queue (kept_tells w) =
-    c.tell.ensures ∙ ap (λ (k : CoreState). queue_with_told k.queue c.tells-told.result) was ∙ ap (queue_with_told old.queue) told in
-    let log = c.begin_anew.ensures.log in
-    let quiet : rotate_result false w ≡ Ok tt = search rules in
-    ap (λ (k : CoreState). state_with k.shape ws c.tell.new.self k.calls c.begin_anew.new.self) was
-    ∙ ap (λ (q : Queue). state_with s ws q old.calls c.begin_anew.new.self) queue
-    ∙ state_same s ws (queue_with_told old.queue (kept_tells w)) old.calls c.begin_anew.new.self (kept_content s (value_of_place s ws.kept)) (kept_tells w) empty_trace.events empty_trace.issued empty_trace.effects old.trace.recovery
-    (c.begin_anew.ensures.base ∙ base) (c.begin_anew.ensures.told ∙ told) (ap (λ (l : Trace). l.events) log) (ap (λ (l : Trace). l.issued) log) (ap (λ (l : Trace). l.effects) log)
-    (c.begin_anew.ensures.recovery ∙ ap (λ (k : CoreState). k.trace.recovery) was)
-    ∙ ap (λ (r : Result Unit Refusal). if is_ok r then after_rotation w else w) (sym quiet)
+    let w : State = state_of c.args.self.now ws in
+    c.begin_anew.ensures.world ws is
+    ∙ sym (ap (λ (r : Result Unit Refusal). if is_ok r then after_rotation w else w) (c.in_ok-base.ensures.quiet ws))
+
+pub returns-clause-result : goal.returns-clause-result
+returns-clause-result g c = λ ws. sym (c.in_ok-base.ensures.quiet ws)

@@ -10,10 +10,9 @@ use Rattle.interleave.specs.Queue.{told_in}
 use Rattle.interleave.specs.Standing.{IsToldForGood, UnannouncedAreOut}
 use Rattle.interleave.specs.State.{State, AreToldOfAnnounced, IsMended, after_recover, kept_content, kept_tells, most_to_ready, order_in, steps_to_ready}
 use Rattle.interleave.specs.Turn.{NobodyCalls}
-use Rattle.interleave.proofs.HoldsKept.{holds_after_recover, part_after_recover}
-use Rattle.interleave.proofs.KeptTells.{falls_on, few_to_ready, mended, tells_on, told_by_kept, told_of_announced}
-use Rattle.interleave.proofs.NumbersKept.{within_floors_ready}
-use Rattle.interleave.proofs.StandingLaws.{nobody_at_ready, told_stands, unannounced_are_out}
+use Rattle.interleave.proofs.HoldsKept.{part_after_recover}
+use Rattle.interleave.proofs.ActLaws.{told_at_ready}
+use Rattle.interleave.proofs.KeptTells.{falls_on, few_to_ready, tells_on}
 use Rattle.interleave.proofs.world.World.recover_step.Goals as goal
 
 pub returns-clause-explained : goal.returns-clause-explained
@@ -45,40 +44,44 @@ returns-clause-holds g c =
 pub returns-clause-told : goal.returns-clause-told
 returns-clause-told g c = λ ready.
     let old : State = state_of c.self.inside.core c.self.inside.memory in
-    ap (λ (w : State). told_in w.queue) c.recover_step.ensures.world ∙ told_by_kept (is_no_memory c.recover_step.result) old c.self.invariant (sym c.recover_step.ensures.result ∙ ready)
-    ∙ sym (ap kept_tells c.recover_step.ensures.world ∙ (tells_on (is_no_memory c.recover_step.result) old c.self.invariant).0)
+    let at_ready = told_at_ready (is_no_memory c.recover_step.result) old c.self.invariant (sym c.recover_step.ensures.result ∙ ready) in
+    subst (λ (w : State). told_in w.queue ≡ kept_tells w) (sym c.recover_step.ensures.world) at_ready.told
 
 pub returns-clause-announced : goal.returns-clause-announced
 returns-clause-announced g c = λ ready.
     let old : State = state_of c.self.inside.core c.self.inside.memory in
-    subst AreToldOfAnnounced (sym c.recover_step.ensures.world) (told_of_announced (is_no_memory c.recover_step.result) old c.self.invariant (sym c.recover_step.ensures.result ∙ ready))
+    let at_ready = told_at_ready (is_no_memory c.recover_step.result) old c.self.invariant (sym c.recover_step.ensures.result ∙ ready) in
+    subst AreToldOfAnnounced (sym c.recover_step.ensures.world) at_ready.announced
 
 pub returns-clause-unannounced : goal.returns-clause-unannounced
 returns-clause-unannounced g c = λ ready.
     let old : State = state_of c.self.inside.core c.self.inside.memory in
-    subst (λ (w : State). UnannouncedAreOut (order_in w) w) (sym c.recover_step.ensures.world)
-    (unannounced_are_out (is_no_memory c.recover_step.result) old c.self.invariant (sym c.recover_step.ensures.result ∙ ready))
+    let at_ready = told_at_ready (is_no_memory c.recover_step.result) old c.self.invariant (sym c.recover_step.ensures.result ∙ ready) in
+    subst (λ (w : State). UnannouncedAreOut (order_in w) w) (sym c.recover_step.ensures.world) at_ready.unannounced
 
 pub returns-clause-stands : goal.returns-clause-stands
 returns-clause-stands g c = λ ready.
     let old : State = state_of c.self.inside.core c.self.inside.memory in
-    subst IsToldForGood (sym c.recover_step.ensures.world) (told_stands (is_no_memory c.recover_step.result) old c.self.invariant (sym c.recover_step.ensures.result ∙ ready))
+    let at_ready = told_at_ready (is_no_memory c.recover_step.result) old c.self.invariant (sym c.recover_step.ensures.result ∙ ready) in
+    subst IsToldForGood (sym c.recover_step.ensures.world) at_ready.stands
 
 pub returns-clause-nobody : goal.returns-clause-nobody
 returns-clause-nobody g c = λ ready.
     let old : State = state_of c.self.inside.core c.self.inside.memory in
-    subst NobodyCalls (sym c.recover_step.ensures.world) (nobody_at_ready (is_no_memory c.recover_step.result) old c.self.invariant (sym c.recover_step.ensures.result ∙ ready))
+    let at_ready = told_at_ready (is_no_memory c.recover_step.result) old c.self.invariant (sym c.recover_step.ensures.result ∙ ready) in
+    subst NobodyCalls (sym c.recover_step.ensures.world) at_ready.nobody
 
 pub returns-clause-floors : goal.returns-clause-floors
 returns-clause-floors g c = λ ready.
     let old : State = state_of c.self.inside.core c.self.inside.memory in
-    subst AreWithinFloors (sym c.recover_step.ensures.world)
-    (within_floors_ready (is_no_memory c.recover_step.result) old (holds_after_recover (is_no_memory c.recover_step.result) old c.self.invariant).numbers (sym c.recover_step.ensures.result ∙ ready))
+    let at_ready = told_at_ready (is_no_memory c.recover_step.result) old c.self.invariant (sym c.recover_step.ensures.result ∙ ready) in
+    subst AreWithinFloors (sym c.recover_step.ensures.world) at_ready.floors
 
 pub returns-clause-mended : goal.returns-clause-mended
 returns-clause-mended g c = λ ready.
     let old : State = state_of c.self.inside.core c.self.inside.memory in
-    subst IsMended (sym c.recover_step.ensures.world) (mended (is_no_memory c.recover_step.result) old c.self.invariant (sym c.recover_step.ensures.result ∙ ready))
+    let at_ready = told_at_ready (is_no_memory c.recover_step.result) old c.self.invariant (sym c.recover_step.ensures.result ∙ ready) in
+    subst IsMended (sym c.recover_step.ensures.world) at_ready.mended
 
 pub returns-clause-few : goal.returns-clause-few
 returns-clause-few g c =

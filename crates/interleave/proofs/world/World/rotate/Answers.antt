@@ -1,17 +1,16 @@
-use Rattle.std.proofs.Common.{◌≡◌, refl, sym, subst, ap, ◌∙◌, arith, Ok, Result, if◌then◌else◌}
-use Rattle.std.specs.Prelude.{is_ok}
-use Rattle.words.specs.declared.refusal.Refusal.{Refusal}
+use Rattle.std.proofs.Common.{◌≡◌, refl, sym, subst, ap, ◌∙◌, arith}
 use Rattle.interleave.specs.Calls.{is_no_memory}
 use Rattle.interleave.specs.Core.{state_of}
 use Rattle.interleave.specs.Holds.{Holds, IsExplained}
 use Rattle.interleave.specs.Queue.{told_in}
-use Rattle.interleave.specs.Rotation.{after_rotate, after_rotation, rotate_result, AreNumbersTold, IsBaseToldRightly, IsQuiet}
+use Rattle.interleave.specs.Rotation.{after_rotate, rotate_result, AreNumbersTold, IsBaseToldRightly}
 use Rattle.interleave.specs.State.{IsKeptSound, State, kept_content, kept_tells}
 use Rattle.interleave.specs.Trace.{Roomy}
 use Rattle.interleave.specs.Turn.{NobodyCalls}
 use Rattle.interleave.proofs.HoldsKept.{explained_world}
 use Rattle.interleave.proofs.KeptTells.{kept_sound}
-use Rattle.interleave.proofs.Rotated.{holds_after_rotate, nobody_calls, numbers_told, quiet_at, tells_rotated, told_rightly, told_rotated}
+use Rattle.interleave.proofs.ActLaws.{IsRotated, rotated}
+use Rattle.interleave.proofs.Rotated.{holds_after_rotate, tells_rotated}
 use Rattle.interleave.proofs.world.World.rotate.Goals as goal
 
 pub rotate-requires-clause-fit : goal.rotate-requires-clause-fit
@@ -82,33 +81,31 @@ pub returns-clause-told : goal.returns-clause-told
 returns-clause-told g c = λ ok.
     let old : State = state_of c.self.inside.core c.self.inside.memory in
     let was : old ≡ c.args.self.now.now = ap (λ (r : Roomy). r.now) c.self.view_is in
-    let left : state_of c.rotate.new.self c.self.inside.memory ≡ after_rotate (is_no_memory c.rotate.result) old = c.rotate.ensures.world c.self.inside.memory refl in
-    let answer : rotate_result (is_no_memory c.rotate.result) old ≡ c.rotate.result = sym (c.rotate.ensures.result c.self.inside.memory) in
-    ap (λ (w : State). told_in w.queue) left ∙ told_rotated (is_no_memory c.rotate.result) old (answer ∙ ok) ∙ ap kept_tells was
+    let full = is_no_memory c.rotate.result in
+    let left : state_of c.rotate.new.self c.self.inside.memory ≡ after_rotate full old = c.rotate.ensures.world c.self.inside.memory refl in
+    let made : IsRotated old (after_rotate full old) = rotated full old c.self.invariant (sym (c.rotate.ensures.result c.self.inside.memory) ∙ ok) in
+    ap (λ (w : State). told_in w.queue) left ∙ made.told ∙ ap kept_tells was
 
 pub returns-clause-announced : goal.returns-clause-announced
 returns-clause-announced g c = λ ok.
     let old : State = state_of c.self.inside.core c.self.inside.memory in
     let was : old ≡ c.args.self.now.now = ap (λ (r : Roomy). r.now) c.self.view_is in
-    let left : state_of c.rotate.new.self c.self.inside.memory ≡ after_rotate (is_no_memory c.rotate.result) old = c.rotate.ensures.world c.self.inside.memory refl in
-    let answer : rotate_result (is_no_memory c.rotate.result) old ≡ c.rotate.result = sym (c.rotate.ensures.result c.self.inside.memory) in
-    subst IsBaseToldRightly was (told_rightly old c.self.invariant)
+    let full = is_no_memory c.rotate.result in
+    let made : IsRotated old (after_rotate full old) = rotated full old c.self.invariant (sym (c.rotate.ensures.result c.self.inside.memory) ∙ ok) in
+    subst IsBaseToldRightly was made.announced
 
 pub returns-clause-numbers : goal.returns-clause-numbers
 returns-clause-numbers g c = λ ok.
     let old : State = state_of c.self.inside.core c.self.inside.memory in
     let was : old ≡ c.args.self.now.now = ap (λ (r : Roomy). r.now) c.self.view_is in
-    let left : state_of c.rotate.new.self c.self.inside.memory ≡ after_rotate (is_no_memory c.rotate.result) old = c.rotate.ensures.world c.self.inside.memory refl in
-    let answer : rotate_result (is_no_memory c.rotate.result) old ≡ c.rotate.result = sym (c.rotate.ensures.result c.self.inside.memory) in
-    subst AreNumbersTold was (numbers_told old c.self.invariant (quiet_at (is_no_memory c.rotate.result) old (answer ∙ ok)))
+    let full = is_no_memory c.rotate.result in
+    let made : IsRotated old (after_rotate full old) = rotated full old c.self.invariant (sym (c.rotate.ensures.result c.self.inside.memory) ∙ ok) in
+    subst AreNumbersTold was made.numbers
 
 pub returns-clause-nobody : goal.returns-clause-nobody
 returns-clause-nobody g c = λ ok.
     let old : State = state_of c.self.inside.core c.self.inside.memory in
     let full = is_no_memory c.rotate.result in
     let left : state_of c.rotate.new.self c.self.inside.memory ≡ after_rotate full old = c.rotate.ensures.world c.self.inside.memory refl in
-    let answer : rotate_result full old ≡ Ok tt = sym (c.rotate.ensures.result c.self.inside.memory) ∙ ok in
-    let made : after_rotate full old ≡ after_rotation old = ap (λ (r : Result Unit Refusal). if is_ok r then after_rotation old else old) answer in
-    let quiet : IsQuiet old = quiet_at full old answer in
-    subst NobodyCalls (sym (left ∙ made))
-    (nobody_calls (after_rotation old) (subst Holds made (holds_after_rotate full old c.self.invariant)) (record { ready = quiet.ready; nobody = quiet.nobody }))
+    let made : IsRotated old (after_rotate full old) = rotated full old c.self.invariant (sym (c.rotate.ensures.result c.self.inside.memory) ∙ ok) in
+    subst NobodyCalls (sym left) made.nobody

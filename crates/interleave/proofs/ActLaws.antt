@@ -1,0 +1,66 @@
+-- What an act leaves, by what holds of a world: for whoever lends a core its words.
+use Rattle.std.proofs.Common.{◌≡◌, ℕ, Bool, true, Result, Ok, is_ok, if◌then◌else◌, sym, ap, subst, ◌∙◌}
+use Rattle.words.specs.declared.refusal.Refusal.{Refusal}
+use Rattle.protocol.specs.declared.acts.Act.{Act}
+use Rattle.interleave.specs.Holds.{Holds}
+use Rattle.interleave.specs.Numbers.{AreWithinFloors}
+use Rattle.interleave.specs.Queue.{told_in}
+use Rattle.interleave.specs.Rotation.{AreNumbersTold, IsBaseToldRightly, IsQuiet, after_rotate, after_rotation, rotate_result}
+use Rattle.interleave.specs.Standing.{GoesOn, IsToldForGood, UnannouncedAreOut}
+use Rattle.interleave.specs.State.{State, AreToldOfAnnounced, IsMended, after_attempt, after_recover, kept_tells, order_in, recover_result}
+use Rattle.interleave.specs.Turn.{NobodyCalls}
+use Rattle.interleave.proofs.HoldsKept.{holds_after_recover}
+use Rattle.interleave.proofs.KeptTells.{mended, tells_on, told_by_kept, told_of_announced}
+use Rattle.interleave.proofs.NumbersKept.{within_floors_ready}
+use Rattle.interleave.proofs.Rotated.{holds_after_rotate, nobody_calls, numbers_told, quiet_at, told_rightly, told_rotated}
+use Rattle.interleave.proofs.RunLaws.{ended_by_attempt, grown_by_attempt, part_after_attempt}
+use Rattle.interleave.proofs.StandingLaws.{nobody_at_ready, told_stands, unannounced_are_out}
+
+-- an attempt at an act goes on with the world: nothing is taken back, and calls that had ended stay as they are
+pub goes_on_after : (full : Bool) (w : State) (act : Act ℕ) → Holds w → GoesOn w (after_attempt full w act)
+goes_on_after full w act holds = record {
+  grown = grown_by_attempt full w act;
+  part = part_after_attempt full w act holds;
+  ended = ended_by_attempt full w act holds;
+}
+
+-- recovery has just ended
+pub record IsToldAtReady (w : State) : Type 0 where
+  pub told : told_in w.queue ≡ kept_tells w
+  pub announced : AreToldOfAnnounced w
+  pub unannounced : UnannouncedAreOut (order_in w) w
+  pub stands : IsToldForGood w
+  pub nobody : NobodyCalls w
+  pub floors : AreWithinFloors w
+  pub mended : IsMended w
+
+pub told_at_ready : (full : Bool) (w : State) → Holds w → recover_result full w ≡ Ok true
+    → IsToldAtReady (after_recover full w)
+told_at_ready full w holds ready = record {
+  told = told_by_kept full w holds ready ∙ sym (tells_on full w holds).0;
+  announced = told_of_announced full w holds ready;
+  unannounced = unannounced_are_out full w holds ready;
+  stands = told_stands full w holds ready;
+  nobody = nobody_at_ready full w holds ready;
+  floors = within_floors_ready full w (holds_after_recover full w holds).numbers ready;
+  mended = mended full w holds ready;
+}
+
+-- a history has ended, and the next begins
+pub record IsRotated (old new : State) : Type 0 where
+  pub told : told_in new.queue ≡ kept_tells old
+  pub announced : IsBaseToldRightly old
+  pub numbers : AreNumbersTold old
+  pub nobody : NobodyCalls new
+
+pub rotated : (full : Bool) (w : State) → Holds w → rotate_result full w ≡ Ok tt → IsRotated w (after_rotate full w)
+rotated full w holds is =
+    let quiet : IsQuiet w = quiet_at full w is in
+    let made : after_rotate full w ≡ after_rotation w = ap (λ (r : Result Unit Refusal). if is_ok r then after_rotation w else w) is in
+    record {
+      told = told_rotated full w is;
+      announced = told_rightly w holds;
+      numbers = numbers_told w holds quiet;
+      nobody = subst NobodyCalls (sym made)
+          (nobody_calls (after_rotation w) (subst Holds made (holds_after_rotate full w holds)) (record { ready = quiet.ready; nobody = quiet.nobody }));
+    }

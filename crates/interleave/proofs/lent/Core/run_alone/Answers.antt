@@ -1,0 +1,110 @@
+use Rattle.std.proofs.Common.{◌≡◌, ℕ, suc, ◌+◌, ◌≤◌, ◌<◌, Bool, true, false, Some, None, Ok, slice_get, refl, sym, ap, ◌∙◌, subst, arith, rules}
+use Rattle.persist.specs.Memory.{Words}
+use Rattle.protocol.specs.Machine.{next_of}
+use Rattle.protocol.specs.declared.UnderWay.{UnderWay}
+use Rattle.interleave.specs.Calls.{answer_of, is_no_memory}
+use Rattle.interleave.specs.Core.{CoreState, state_of}
+use Rattle.interleave.specs.Holds.{Holds}
+use Rattle.interleave.specs.State.{State, machine, after_one_access, after_step, after_alone, IsAnsweredAlone, step_result}
+use Rattle.interleave.proofs.AloneLaws.{left_in, left_few, step_is, answer_is, goes_on}
+use Rattle.interleave.proofs.HoldsKept.{waiting_is}
+use Rattle.interleave.proofs.MachineFacts.{room_held}
+use Rattle.interleave.proofs.lent.Core.run_alone.Goals as goal
+
+pub reserve-requires : goal.reserve-requires
+reserve-requires g c = room_held c.requires.holds
+
+pub loop-answer-init : goal.loop-answer-init
+loop-answer-init g c =
+    let ws : Words = g.M.WordMemory.words c.args.memory.now in
+    let old : State = state_of c.args.self.now ws in
+    let same : state_of c.reserve.new.self ws ≡ old = ap (λ (k : CoreState). state_of k ws) c.reserve.ensures.same in
+    let u : UnderWay = c.in_ok-waiting.field-0 in
+    let here : slice_get old.calls c.args.client.0 ≡ Some (Some u) =
+    waiting_is _ (slice_get old.calls c.args.client.0) u (sym c.waiting.ensures ∙ c.in_ok-waiting.was) in
+    record {
+      world = same;
+      client = refl;
+      holds = subst Holds (sym same) c.requires.holds;
+      waits = record { call = u; is = subst (λ (w : State). slice_get w.calls c.args.client.0 ≡ Some (Some u)) (sym same) here };
+      left = omega (arith, left_few (state_of c.reserve.new.self ws) c.args.client);
+      room = search rules;
+      at_first = c.reserve.ensures.kept;
+    }
+
+pub step-requires : goal.step-requires
+step-requires g c = record { holds = c.loop-answer.invariant.holds }
+
+not_true : (b : Bool) → (b ≡ true → ⊥) → b ≡ false
+not_true true h = absurd (h refl)
+not_true false h = refl
+
+-- a step of a call that has room is not refused
+pub returns-in_err-answer-clause-errors : goal.returns-in_err-answer-clause-errors
+returns-in_err-answer-clause-errors g c =
+    let w : State = state_of c.loop-answer.self (g.M.WordMemory.words c.loop-answer.memory) in
+    let u : UnderWay = c.loop-answer.invariant.waits.call in
+    let paid : is_no_memory c.step.result ≡ false = not_true (is_no_memory c.step.result) (λ e. omega (arith, c.step.ensures.full e, c.loop-answer.invariant.room)) in
+    let answered : c.step.result ≡ Ok (answer_of (next_of (machine w) u)) = c.step.ensures.result ∙ ap (λ (b : Bool). step_result b w c.args.client) paid ∙ answer_is w c.args.client u c.loop-answer.invariant.waits.is c.loop-answer.invariant.holds in
+    absurd (cc (answered, c.in_err-answer.was))
+
+pub returns-in_err-answer-clause-same : goal.returns-in_err-answer-clause-same
+returns-in_err-answer-clause-same g c =
+    let w : State = state_of c.loop-answer.self (g.M.WordMemory.words c.loop-answer.memory) in
+    let u : UnderWay = c.loop-answer.invariant.waits.call in
+    let paid : is_no_memory c.step.result ≡ false = not_true (is_no_memory c.step.result) (λ e. omega (arith, c.step.ensures.full e, c.loop-answer.invariant.room)) in
+    let answered : c.step.result ≡ Ok (answer_of (next_of (machine w) u)) = c.step.ensures.result ∙ ap (λ (b : Bool). step_result b w c.args.client) paid ∙ answer_is w c.args.client u c.loop-answer.invariant.waits.is c.loop-answer.invariant.holds in
+    absurd (cc (answered, c.in_err-answer.was))
+
+pub loop-answer-smaller : goal.loop-answer-smaller
+loop-answer-smaller g c =
+    let w : State = state_of c.loop-answer.self (g.M.WordMemory.words c.loop-answer.memory) in
+    let v : State = state_of c.step.new.self (g.M.WordMemory.words c.step.new.memory) in
+    let u : UnderWay = c.loop-answer.invariant.waits.call in
+    let here : slice_get w.calls c.args.client.0 ≡ Some (Some u) = c.loop-answer.invariant.waits.is in
+    let paid : is_no_memory c.step.result ≡ false = ap is_no_memory c.in_ok-answer.was in
+    let stepped : v ≡ after_one_access w c.args.client u = c.step.ensures.world ∙ ap (λ (b : Bool). after_step b w c.args.client) paid ∙ step_is w c.args.client u here c.loop-answer.invariant.holds in
+    let answered : Ok c.in_ok-answer.answer ≡ Ok (answer_of (next_of (machine w) u)) = sym c.in_ok-answer.was ∙ c.step.ensures.result ∙ ap (λ (b : Bool). step_result b w c.args.client) paid ∙ answer_is w c.args.client u here c.loop-answer.invariant.holds in
+    let none : answer_of (next_of (machine w) u) ≡ None = cc (answered, c.in_default.is) in
+    let on = goes_on w c.args.client u here c.loop-answer.invariant.holds none in
+    subst (λ (x : State). left_in x c.args.client < left_in w c.args.client) (sym stepped) on.fewer
+
+pub loop-answer-preserved : goal.loop-answer-preserved
+loop-answer-preserved g c =
+    let old : State = state_of c.args.self.now (g.M.WordMemory.words c.args.memory.now) in
+    let w : State = state_of c.loop-answer.self (g.M.WordMemory.words c.loop-answer.memory) in
+    let v : State = state_of c.step.new.self (g.M.WordMemory.words c.step.new.memory) in
+    let u : UnderWay = c.loop-answer.invariant.waits.call in
+    let here : slice_get w.calls c.args.client.0 ≡ Some (Some u) = c.loop-answer.invariant.waits.is in
+    let paid : is_no_memory c.step.result ≡ false = ap is_no_memory c.in_ok-answer.was in
+    let stepped : v ≡ after_one_access w c.args.client u = c.step.ensures.world ∙ ap (λ (b : Bool). after_step b w c.args.client) paid ∙ step_is w c.args.client u here c.loop-answer.invariant.holds in
+    let answered : Ok c.in_ok-answer.answer ≡ Ok (answer_of (next_of (machine w) u)) = sym c.in_ok-answer.was ∙ c.step.ensures.result ∙ ap (λ (b : Bool). step_result b w c.args.client) paid ∙ answer_is w c.args.client u here c.loop-answer.invariant.holds in
+    let none : answer_of (next_of (machine w) u) ≡ None = cc (answered, c.in_default.is) in
+    let on = goes_on w c.args.client u here c.loop-answer.invariant.holds none in
+    let fewer : left_in v c.args.client < left_in w c.args.client = subst (λ (x : State). left_in x c.args.client < left_in w c.args.client) (sym stepped) on.fewer in
+    let stays : c.loop-answer.self.trace.room ≤ c.step.new.self.trace.room = c.step.ensures.stays (c.in_ok-answer.was ∙ ap Ok c.in_default.is) in
+    record {
+      world =
+          let more : suc c.loop-answer.steps ≡ c.loop-answer.steps + 1 = omega arith in
+          c.step.ensures.world ∙ ap (λ (b : Bool). after_step b w c.args.client) paid
+          ∙ ap (λ (x : State). after_step false x c.args.client) c.loop-answer.invariant.world
+          ∙ ap (λ (n : ℕ). after_alone n old c.args.client) more;
+      client = refl;
+      holds = c.step.ensures.holds;
+      waits = record { call = on.call; is = subst (λ (x : State). slice_get x.calls c.args.client.0 ≡ Some (Some on.call)) (sym stepped) on.is };
+      left = omega (arith, fewer, c.loop-answer.invariant.left);
+      room = omega (arith, stays, c.loop-answer.invariant.room);
+      at_first = omega (arith, stays, c.loop-answer.invariant.at_first);
+    }
+
+pub returns-in-Some-clause-answer : goal.returns-in-Some-clause-answer
+returns-in-Some-clause-answer g c =
+    let old : State = state_of c.args.self.now (g.M.WordMemory.words c.args.memory.now) in
+    let w : State = state_of c.loop-answer.self (g.M.WordMemory.words c.loop-answer.memory) in
+    let paid : is_no_memory c.step.result ≡ false = ap is_no_memory c.in_ok-answer.was in
+    let more : suc c.loop-answer.steps ≡ c.loop-answer.steps + 1 = omega arith in
+    let result : step_result false (after_alone c.loop-answer.steps old c.args.client) c.args.client ≡ Ok (Some c.in-Some.reply) =
+    ap (λ (x : State). step_result false x c.args.client) (sym c.loop-answer.invariant.world)
+    ∙ ap (λ (b : Bool). step_result b w c.args.client) (sym paid)
+    ∙ sym c.step.ensures.result ∙ c.in_ok-answer.was ∙ ap Ok c.in-Some.is in
+    subst (λ (n : ℕ). IsAnsweredAlone old c.args.client n c.in-Some.reply) more result

@@ -1,0 +1,53 @@
+//! A call that goes on alone.
+
+ghost use Rattle.std.specs.Prelude.{◌≡◌, ◌≤◌, ◌+◌, ◌⊎◌, is_some, slice_get, true, Err, IfOk, IfErr};
+ghost use Rattle.words.specs.declared.refusal.Refusal.{Refusal as AnyRefusal};
+ghost use Rattle.interleave.specs.Calls.{is_no_memory, waiting_result};
+ghost use Rattle.interleave.specs.Core.{state_of};
+ghost use Rattle.interleave.specs.Holds.{Holds};
+ghost use Rattle.interleave.specs.State.{after_alone, IsAnsweredAlone};
+
+use crate::lent::Core;
+use arena::Layout;
+use persist::EvictableWords;
+use words::{Client, MAX_STEPS_ALONE, Refusal, Reply};
+
+impl<L: Layout + Drop> Core<L> {
+    /// A client's call goes on alone until it answers: its reply, and how many steps that took, at most
+    /// [`MAX_STEPS_ALONE`] from wherever it waits. It is refused, in this order, where there is no such client
+    /// (NoClient), where recovery is under way (NotReady), where it has no call (Idle), and, before its first step, for
+    /// want of memory (NoMemory).
+    pub fn run_alone<M: EvictableWords>(
+        &mut self,
+        memory: &mut M,
+        client: Client,
+    ) -> Result<(Reply, u32), Refusal>
+        requires holds { Holds (state_of self.old (M.words memory.old)) }
+        ensures refused { (refusal : AnyRefusal) → waiting_result (is_some self.old.trace.recovery)
+            (slice_get self.old.calls client.0) ≡ Err refusal → result ≡ Err refusal }
+        ensures errors { IfErr result (λ e. (e ≡ Refusal.NoMemory)
+            ⊎ (waiting_result (is_some self.old.trace.recovery) (slice_get self.old.calls client.0) ≡ Err e)) }
+        ensures full { is_no_memory result ≡ true → self.old.trace.room ≡ 0 }
+        ensures same { IfErr result (λ e. state_of self.new (M.words memory.new)
+            ≡ state_of self.old (M.words memory.old)) }
+        ensures steps { IfOk result (λ answer. answer.1 ≤ MAX_STEPS_ALONE) }
+        ensures answer { IfOk result (λ answer.
+            IsAnsweredAlone (state_of self.old (M.words memory.old)) client answer.1 answer.0) }
+        ensures world { IfOk result (λ answer. state_of self.new (M.words memory.new)
+            ≡ after_alone answer.1 (state_of self.old (M.words memory.old)) client) }
+        ensures room { self.old.trace.room ≤ self.new.trace.room + 1 }
+        ensures spare { IfErr result (λ e. self.old.trace.room ≤ self.new.trace.room) }
+        ensures holds { Holds (state_of self.new (M.words memory.new)) }
+    {
+        self.waiting(client)?;
+        self.reserve(1)?;
+        let mut steps = 0u32;
+        loop {
+            let answer = self.step(memory, client)?;
+            steps += 1;
+            if let Some(reply) = answer {
+                return Ok((reply, steps));
+            }
+        }
+    }
+}
