@@ -1,0 +1,5 @@
+pub mod Name
+pub mod Queue
+pub mod Directory
+pub mod Step
+pub mod Creation

@@ -1,0 +1,12 @@
+//! The directory of a broker: which slots have a queue, of which name and kind; how a queue is created, and how the
+//! directory is read again after a crash.
+#![tactic(auto)]
+
+mod creation;
+mod name;
+mod places;
+mod queue;
+
+pub use creation::{Creation, CreationPoint};
+pub use name::{NAME_BYTES, Name, words_spell_names};
+pub use queue::{Places, Queue};
