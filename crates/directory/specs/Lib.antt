@@ -3,3 +3,4 @@ pub mod Queue
 pub mod Directory
 pub mod Step
 pub mod Creation
+pub mod UnderWay

@@ -1,11 +1,11 @@
 -- The queues that a directory lists, and the words that tell of them.
-use Rattle.std.specs.Prelude.{ℕ, ◌+◌, ◌==◌, if◌then◌else◌, List, Option, Some, None, map, slice_index}
+use Rattle.std.specs.Prelude.{◌≡◌, ◌⊎◌, IsSome, ℕ, ◌+◌, ◌==◌, if◌then◌else◌, List, Option, Some, None, map, slice_index}
 use Rattle.std.specs.List.{range_with_len}
 use Rattle.words.specs.declared.call.Kind.{Kind}
 use Rattle.words.specs.declared.call.Kind.TheVariants.{Durable, Log}
 use Rattle.arena.specs.Broker.{directory_from}
 use Rattle.arena.specs.declared.broker.TheConstants.{SLOTS}
-use Rattle.arena.specs.declared.codes.TheConstants.{DURABLE_QUEUE, LOG_QUEUE, OPEN_GATE}
+use Rattle.arena.specs.declared.codes.TheConstants.{DURABLE_QUEUE, LOG_QUEUE, CLOSED_GATE, OPEN_GATE}
 use Rattle.directory.specs.Name.{name_of}
 use Rattle.directory.specs.declared.queue.Queue.{Queue}
 
@@ -45,6 +45,14 @@ queue_in ws slot = queue_of (slice_index ws (first_name_at slot)) (slice_index w
 abbrev pub slot_in : List ℕ → ℕ → Option Queue
 slot_in ws slot = if slice_index ws (gate_at slot) == OPEN_GATE then queue_in ws slot else None
 
+-- a gate is closed, or it is open and the words tell of a queue
+pub record IsOpen (ws : List ℕ) (slot : ℕ) : Type 0 where
+  pub gate : slice_index ws (gate_at slot) ≡ OPEN_GATE
+  pub queue : IsSome (queue_in ws slot)
+
+abbrev pub IsSlotSound : List ℕ → ℕ → Type 0
+IsSlotSound ws slot = (slice_index ws (gate_at slot) ≡ CLOSED_GATE) ⊎ IsOpen ws slot
+
 -- the directory that these words have: what each of the eight slots has
-abbrev pub directory_of : List ℕ → List (Option Queue)
+unfoldable pub directory_of : List ℕ → List (Option Queue)
 directory_of ws = map (slot_in ws) (range_with_len 0 SLOTS)

@@ -3,10 +3,14 @@
 #![tactic(auto)]
 
 mod creation;
+mod laws;
 mod name;
 mod places;
 mod queue;
 
 pub use creation::{Creation, CreationPoint};
+pub use laws::{
+    creations_begin, creations_crash, creations_go_on, creations_stay, directories_stay,
+};
 pub use name::{NAME_BYTES, Name, words_spell_names};
 pub use queue::{Places, Queue};
