@@ -16,7 +16,7 @@ use Rattle.directory.specs.Name.{IsName, first_word, second_word, name_of}
 use Rattle.directory.specs.Queue.{kind_code, kind_of, first_name_at, second_name_at, kind_at, gate_at, queue_of, queue_with, queue_in, slot_in, IsOpen, IsSlotSound, directory_of}
 use Rattle.directory.specs.Directory.{Directory, IsFree}
 use Rattle.directory.specs.Step.{after_one}
-use Rattle.directory.specs.Creation.{access_at, access_of, next_of, after_point, successor, creation_at, new_creation}
+use Rattle.directory.specs.Creation.{access_at, access_of, next_of, after_point, successor, creation_at, new_creation, left_at, left_after}
 use Rattle.directory.specs.declared.queue.Queue.{Queue}
 use Rattle.directory.specs.declared.creation.Creation.{Creation}
 use Rattle.directory.specs.declared.creation.CreationPoint.{CreationPoint}
@@ -86,7 +86,7 @@ module _ (old new : Words) (same : HaveSameDirectory old new) where
   }
 
 -- an access is counted, and that changes no word
-counted : (ws : Words) → HasDirectory ws → HaveSameDirectory ws (words_after_access ws)
+pub counted : (ws : Words) → HasDirectory ws → HaveSameDirectory ws (words_after_access ws)
 counted ws room = record { room = record { cached = room.cached; kept = room.kept }; cached = λ word below. refl; kept = λ word below. refl }
 
 -- an eviction of any word leaves all that as it is
@@ -176,22 +176,22 @@ queue_again ws slot queue named first second kind =
     ∙ (ap (λ (n : Option (List ℕ)). queue_with n (kind_of (kind_code queue.kind))) (name_again queue.name named)
     ∙ ap (λ (k : Option Kind). queue_with (Some queue.name) k) (kind_again queue.kind))))
 
-slot_open : (ws : List ℕ) (slot : ℕ) → slice_index ws (gate_at slot) ≡ 1 → slot_in ws slot ≡ queue_in ws slot
+pub slot_open : (ws : List ℕ) (slot : ℕ) → slice_index ws (gate_at slot) ≡ 1 → slot_in ws slot ≡ queue_in ws slot
 slot_open ws slot opened = ap (λ (g : ℕ). if g == 1 then queue_in ws slot else None) opened
 
 slot_closed : (ws : List ℕ) (slot : ℕ) → slice_index ws (gate_at slot) ≡ 0 → slot_in ws slot ≡ None
 slot_closed ws slot closed = ap (λ (g : ℕ). if g == 1 then queue_in ws slot else None) closed
 
 -- the directory with a queue in a slot
-set_here : (directory : Directory) (slot : ℕ) (queue : Queue) → slot < length directory → slice_get (slice_set directory slot (Some queue)) slot ≡ Some (Some queue)
-set_here directory slot queue below =
-    slice_get-get_or (slice_set directory slot (Some queue)) slot None (let long = length-set directory slot (Some queue) in omega arith)
-    ∙ ap Some (get_or-set_at directory slot slot (Some queue) None refl below)
+pub set_here : (directory : Directory) (slot : ℕ) (value : Option Queue) → slot < length directory → slice_get (slice_set directory slot value) slot ≡ Some value
+set_here directory slot value below =
+    slice_get-get_or (slice_set directory slot value) slot None (let long = length-set directory slot value in omega arith)
+    ∙ ap Some (get_or-set_at directory slot slot value None refl below)
 
-set_there : (directory : Directory) (slot other : ℕ) (queue : Queue) → other < length directory → other ≢ slot → slice_get (slice_set directory slot (Some queue)) other ≡ slice_get directory other
-set_there directory slot other queue below apart =
-    slice_get-get_or (slice_set directory slot (Some queue)) other None (let long = length-set directory slot (Some queue) in omega arith)
-    ∙ (ap Some (get_or-set_other directory slot other (Some queue) None apart) ∙ sym (slice_get-get_or directory other None below))
+pub set_there : (directory : Directory) (slot other : ℕ) (value : Option Queue) → other < length directory → other ≢ slot → slice_get (slice_set directory slot value) other ≡ slice_get directory other
+set_there directory slot other value below apart =
+    slice_get-get_or (slice_set directory slot value) other None (let long = length-set directory slot value in omega arith)
+    ∙ (ap Some (get_or-set_other directory slot other value None apart) ∙ sym (slice_get-get_or directory other None below))
 
 -- the slot that is created is at rest, and all others are
 module _ (ws : Words) (slot : ℕ) (queue : Queue) (directory : Directory) (others : IsAtRestBut ws slot directory) where
@@ -206,7 +206,7 @@ module _ (ws : Words) (slot : ℕ) (queue : Queue) (directory : Directory) (othe
           record {
             settled = rest.settled;
             sound = rest.sound;
-            same = set_there directory slot other queue (omega (arith, others.count)) e.1 ∙ rest.same;
+            same = set_there directory slot other (Some queue) (omega (arith, others.count)) e.1 ∙ rest.same;
           }
     ];
   }
@@ -233,7 +233,7 @@ module _ (ws : Words) (slot : ℕ) (queue : Queue) (directory : Directory) (othe
           gate = gate.cached ∙ sym gate.kept;
         };
         sound = inr (record { gate = gate.kept; queue = subst (λ (q : Option Queue). IsSome q) (sym has) refl });
-        same = set_here directory slot queue (omega (arith, others.count, others.in_range)) ∙ ap Some (sym (slot_open ws.kept slot gate.kept ∙ has));
+        same = set_here directory slot (Some queue) (omega (arith, others.count, others.in_range)) ∙ ap Some (sym (slot_open ws.kept slot gate.kept ∙ has));
       })
 
 -- a step of a creation
@@ -393,3 +393,17 @@ cached_directory ws directory h = directory_is ws.cached directory h.count (λ s
     let own = h.slots slot below in
     let same : SameSlot ws.kept ws.cached slot = record { first = own.settled.first; second = own.settled.second; kind = own.settled.kind; gate = own.settled.gate } in
     own.same ∙ ap Some (sym (slot_in-same ws.kept ws.cached slot same)))
+
+-- a creation has one step less after each
+less_at : (slot : SlotId) (queue : Queue) (at : CreationPoint) → left_after (after_point slot queue (next_of at)) + 1 ≡ left_at at
+less_at slot queue StoreFirstName = refl
+less_at slot queue FlushFirstName = refl
+less_at slot queue StoreSecondName = refl
+less_at slot queue FlushSecondName = refl
+less_at slot queue StoreKind = refl
+less_at slot queue FlushKind = refl
+less_at slot queue StoreGate = refl
+less_at slot queue FlushGate = refl
+
+pub creation_less : (creation : Creation) → left_after (successor creation) + 1 ≡ left_at creation.at
+creation_less creation = less_at creation.slot creation.queue creation.at

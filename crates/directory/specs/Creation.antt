@@ -52,3 +52,18 @@ after_point slot queue None = Done slot
 
 abbrev pub successor : Creation → After Creation SlotId
 successor creation = after_point creation.slot creation.queue (next_of creation.at)
+
+-- how many steps a creation has left: eight at first, and one less after each
+abbrev pub left_at : CreationPoint → ℕ
+left_at StoreFirstName = 8
+left_at FlushFirstName = 7
+left_at StoreSecondName = 6
+left_at FlushSecondName = 5
+left_at StoreKind = 4
+left_at FlushKind = 3
+left_at StoreGate = 2
+left_at FlushGate = 1
+
+abbrev pub left_after : After Creation SlotId → ℕ
+left_after (More next) = left_at next.at
+left_after (Done slot) = 0

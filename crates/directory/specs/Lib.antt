@@ -4,3 +4,5 @@ pub mod Directory
 pub mod Step
 pub mod Creation
 pub mod UnderWay
+pub mod Recovery
+pub mod Recovering

@@ -2,6 +2,7 @@
 
 ghost use Rattle.std.specs.Prelude.{◌≡◌, ◌<◌, ◌≤◌, length};
 ghost use Rattle.arena.specs.Broker.{broker_size};
+ghost use Rattle.directory.specs.Name.{IsName};
 ghost use Rattle.directory.specs.Step.{after_one};
 ghost use Rattle.directory.specs.Creation.{new_creation, access_of, next_of, successor};
 
@@ -37,8 +38,10 @@ pub struct Creation {
 impl Creation {
     /// Where the creation of a queue in a closed slot begins.
     pub fn begin(slot: SlotId, queue: Queue) -> Self
-        ensures { result ≡ new_creation slot queue }
+        ensures made { result ≡ new_creation slot queue }
+        ensures named { IsName queue.name }
     {
+        let _name = queue.name.as_bytes();
         Creation {
             slot,
             queue,

@@ -1,17 +1,20 @@
 //! What holds of the words of a directory: at rest, and while a queue is created.
 
-ghost use Rattle.std.specs.Prelude.{◌≡◌, ℕ};
+ghost use Rattle.std.specs.Prelude.{◌≡◌, ℕ, ◌+◌, IfSome};
 ghost use Rattle.persist.specs.Memory.{Words, words_after_eviction, words_after_crash};
 ghost use Rattle.arena.specs.Shape.{Counts};
 ghost use Rattle.arena.specs.declared.broker.SlotId.{SlotId};
 ghost use Rattle.directory.specs.Name.{IsName};
-ghost use Rattle.directory.specs.Queue.{directory_of};
+ghost use Rattle.directory.specs.Queue.{directory_of, IsOpen};
 ghost use Rattle.directory.specs.Directory.{Directory, IsFree};
-ghost use Rattle.directory.specs.Step.{after_one};
-ghost use Rattle.directory.specs.Creation.{new_creation, access_of, successor};
+ghost use Rattle.directory.specs.Step.{after_one, value_found};
+ghost use Rattle.directory.specs.Creation.{new_creation, access_of as creation_access, successor, left_at, left_after};
 ghost use Rattle.directory.specs.UnderWay.{IsAtRest, IsCreationUnderWay, ComesTo, IsAsItWasOrWith, HaveSameDirectory};
+ghost use Rattle.directory.specs.Recovery.{boot_recovery, access_of, recovered};
+ghost use Rattle.directory.specs.Recovering.{IsRecovering, Finds, most_left, least_left, IsOneLess};
 ghost use Rattle.directory.specs.declared.creation.Creation.{Creation};
 ghost use Rattle.directory.specs.declared.queue.Queue.{Queue};
+ghost use Rattle.directory.specs.declared.recovery.DirectoryRecovery.{DirectoryRecovery};
 
 /// A directory at rest is what the kept words say, and what the cached ones do. It stays at rest where words are evicted,
 /// in a crash, and where its words stay.
@@ -39,7 +42,14 @@ pub fn creations_begin()
 pub fn creations_go_on()
     ensures { (counts : Counts) (ws : Words) (creation : Creation) (directory : Directory)
         → IsCreationUnderWay ws creation directory
-        → ComesTo (after_one counts (access_of creation) ws) creation.queue directory (successor creation) }
+        → ComesTo (after_one counts (creation_access creation) ws) creation.queue directory (successor creation) }
+{}
+
+/// A creation takes eight steps.
+#[tactic(auto, using(crate::proofs::Creations::creation_less))]
+pub fn creations_end()
+    ensures begin { (slot : SlotId) (queue : Queue) → left_at (new_creation slot queue).at ≡ 8 }
+    ensures step { (creation : Creation) → left_after (successor creation) + 1 ≡ left_at creation.at }
 {}
 
 /// Evictions leave a creation as it is, and so does all that leaves the words of the directory as they are.
@@ -59,4 +69,39 @@ pub fn creations_crash()
     ensures { (ws : Words) (creation : Creation) (directory : Directory)
         → IsCreationUnderWay ws creation directory
         → IsAsItWasOrWith (words_after_crash ws) creation directory }
+{}
+
+/// A recovery begins on a directory at rest, as a crash leaves it.
+#[tactic(auto, using(crate::proofs::Recoveries::recovery_begins))]
+pub fn recoveries_begin()
+    ensures { (ws : Words) (directory : Directory) → IsAtRest ws directory
+        → IsRecovering ws boot_recovery directory }
+{}
+
+/// A step of a recovery goes on with it; the last one answers the directory. A slot whose gate it finds open has a queue.
+pub fn recoveries_go_on()
+    ensures next { (counts : Counts) (ws : Words) (recovery : DirectoryRecovery) (directory : Directory)
+        → IsRecovering ws recovery directory → let access = access_of recovery in
+        Finds (after_one counts access ws) directory (recovered recovery (value_found counts access ws)).after }
+    ensures opened { (counts : Counts) (ws : Words) (recovery : DirectoryRecovery) (directory : Directory)
+        → IsRecovering ws recovery directory → let access = access_of recovery in
+        IfSome (recovered recovery (value_found counts access ws)).opened (λ slot. IsOpen ws.kept slot.0) }
+{}
+
+/// A recovery takes 32 steps at most, and 8 at least.
+pub fn recoveries_end()
+    ensures most { most_left boot_recovery ≡ 32 }
+    ensures least { least_left boot_recovery ≡ 8 }
+    ensures step { (recovery : DirectoryRecovery) (found : ℕ) → IsOneLess recovery (recovered recovery found).after }
+{}
+
+/// Evictions leave a recovery as it is, and so does all that leaves the words of the directory as they are.
+#[tactic(auto, using(crate::proofs::Recoveries::recovery_moves))]
+pub fn recoveries_stay()
+    ensures evicted { (ws : Words) (recovery : DirectoryRecovery) (directory : Directory)
+        → IsRecovering ws recovery directory
+        → (word : ℕ) → IsRecovering (words_after_eviction word ws) recovery directory }
+    ensures elsewhere { (old new : Words) (recovery : DirectoryRecovery) (directory : Directory)
+        → IsRecovering old recovery directory → HaveSameDirectory old new
+        → IsRecovering new recovery directory }
 {}

@@ -7,6 +7,7 @@ mod laws;
 mod name;
 mod places;
 mod queue;
+mod recovery;
 
 pub use creation::{Creation, CreationPoint};
 pub use laws::{
@@ -14,3 +15,4 @@ pub use laws::{
 };
 pub use name::{NAME_BYTES, Name, words_spell_names};
 pub use queue::{Places, Queue};
+pub use recovery::{DirectoryPoint, DirectoryRecovery, Recovered};
