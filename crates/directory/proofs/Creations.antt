@@ -24,7 +24,7 @@ use Rattle.directory.specs.declared.creation.CreationPoint.TheVariants.{StoreFir
 use Rattle.directory.specs.UnderWay.{HasDirectory, IsKept, IsStored, IsSettled, IsSlotAtRest, IsAtRest, IsAtRestBut, IsOpening, HasQueueWords, IsAsFarAs, IsCreationUnderWay, ComesTo, IsAsItWasOrWith, HaveSameDirectory}
 use Rattle.directory.proofs.Rows.{name_again}
 use Rattle.std.proofs.lemmas.List.FromFn.{fill_by_all}
-use Rattle.directory.proofs.Slots.{slot_in-same, written_here, written_there, evicted, evicted_both, SameSlot, same_slot, below_same, written_same, evicted_same, slot_moves, slot_crashes}
+use Rattle.directory.proofs.SlotWords.{slot_in-same, written_here, written_there, evicted, evicted_both, SameSlot, same_slot, below_same, written_same, evicted_same, slot_moves, slot_crashes}
 
 -- how far a creation has come stays where kept and stored words of the directory stay so
 own_map : (old new : Words) (slot : ℕ) (queue : Queue) → slot < 8

@@ -13,7 +13,7 @@ use Rattle.directory.specs.Directory.{Directory}
 use Rattle.directory.specs.UnderWay.{IsSettled, IsAtRest, HaveSameDirectory}
 use Rattle.directory.specs.Recovering.{AreFoundBefore, IsLoaded, IsRecovering, Finds, left_of_slot, due_of_slot, IsOneLess}
 use Rattle.directory.specs.declared.queue.Queue.{Queue}
-use Rattle.directory.proofs.Slots.{evicted_same}
+use Rattle.directory.proofs.SlotWords.{evicted_same}
 use Rattle.directory.proofs.Creations.{rest_moves, counted, rest_evicted, slot_open, set_here, set_there, directory_is, kept_directory}
 use Rattle.directory.specs.Step.{after_one, value_found}
 use Rattle.directory.specs.Recovery.{access_of, load_of, slot_at, recovery_at, boot_recovery, past_slot, queue_found, recovered, recovered_at}

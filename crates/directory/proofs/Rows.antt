@@ -1,6 +1,7 @@
 -- The row of a name, and its words.
 use Rattle.std.proofs.Common.{◌≡◌, ◌≢◌, ℕ, ◌+◌, ◌-◌, ◌<◌, ◌≤◌, Bool, true, false, List, [], ◌∷◌, ◌++◌, get_or-drop, length, take, drop, get_or, suc, zero, Option, Some, None, IsTrue, if◌then◌else◌, refl, sym, ◌∙◌, ap, subst, arith, length-append, length-take, length-drop, inl, inr, ◌⊎◌}
-use Rattle.std.specs.Prelude.{◌==◌, replicate, IfSome}
+use Rattle.std.specs.Prelude.{◌==◌, ◌&&◌, ◌↔◌, nat_eq, replicate, IfSome}
+use Rattle.std.specs.Cmp.Lexicographic.{pointwise, same_text, other_text}
 use Rattle.std.specs.List.{position, position_or_len, list_all, AllPass}
 use Rattle.std.specs.Int.{w64, to_le_bytes, from_le_bytes}
 use Rattle.std.proofs.lemmas.Bool.{eqb-true, cases_lt}
@@ -140,3 +141,33 @@ name_text name h = IsUtf8-from_ascii name ascii
         go : (i < length name) ⊎ (length name ≤ i) → get_or name i 0 < 128
         go (inl below) = let range = byte_range (get_or name i 0) (byte_at name i h below) in omega arith
         go (inr past) = let none : get_or name i 0 ≡ 0 = get_or_past name i 0 past in omega arith
+
+-- two names are equal exactly where their rows and their lengths are
+equal_rows : (xs ys : List ℕ) → xs ≡ ys → pointwise nat_eq xs ys ≡ true
+equal_rows xs ys same = go (pointwise nat_eq xs ys) refl
+  where
+    go : (b : Bool) → pointwise nat_eq xs ys ≡ b → pointwise nat_eq xs ys ≡ true
+    go true e = e
+    go false e = absurd (other_text xs ys (sym e) same)
+
+pub names_equal : (a b : List ℕ) (r : Bool) → r ≡ (pointwise nat_eq (name_row a) (name_row b) && (length a == length b)) → IsTrue r ↔ (a ≡ b)
+names_equal a b r is = (equal, same)
+  where
+    rows_of : (p q : Bool) → (p && q) ≡ true → (p ≡ true) × (q ≡ true)
+    rows_of true true h = (refl, refl)
+    rows_of true false h = (refl, h)
+    rows_of false q h = (h, absurd (cc))
+
+    equal : IsTrue r → a ≡ b
+    equal h =
+        let both = rows_of (pointwise nat_eq (name_row a) (name_row b)) (length a == length b) (sym is ∙ h) in
+        let rows : name_row a ≡ name_row b = same_text (name_row a) (name_row b) (sym both.0) in
+        let long : length a ≡ length b = eqb-true (length a) (length b) both.1 in
+        sym (take-append_seam a (replicate (16 - length a) 0))
+        ∙ (ap (λ (n : ℕ). take n (name_row a)) long ∙ (ap (λ (row : List ℕ). take (length b) row) rows ∙ take-append_seam b (replicate (16 - length b) 0)))
+
+    same : a ≡ b → IsTrue r
+    same e =
+        let rows : pointwise nat_eq (name_row a) (name_row b) ≡ true = equal_rows (name_row a) (name_row b) (ap name_row e) in
+        let long : length a ≡ length b = ap length e in
+        is ∙ rw rows (grind (arith, nat_tests))

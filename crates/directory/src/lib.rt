@@ -8,6 +8,7 @@ mod name;
 mod places;
 mod queue;
 mod recovery;
+mod slots;
 
 pub use creation::{Creation, CreationPoint};
 pub use laws::{
@@ -16,3 +17,4 @@ pub use laws::{
 pub use name::{NAME_BYTES, Name, words_spell_names};
 pub use queue::{Places, Queue};
 pub use recovery::{DirectoryPoint, DirectoryRecovery, Recovered};
+pub use slots::Directory;
