@@ -45,3 +45,10 @@ module _ (places : Directory) (slot : ℕ) (queue : Queue) (h : IsDirectory plac
 
   pub opened : IsDirectory (slice_set places slot (Some queue))
   opened = record { count = length-set places slot (Some queue) ∙ h.count; once = once }
+
+-- the same, where the directory is known to be these places
+pub opened_in : (places directory : Directory) → places ≡ directory → (slot : ℕ) (queue : Queue) → IsDirectory places → IsFree directory slot → (HasName directory queue.name → ⊥) → IsDirectory (slice_set places slot (Some queue))
+opened_in places directory same slot queue h free fresh =
+    opened places slot queue h
+    (subst (λ (d : Directory). IsFree d slot) (sym same) free)
+    (subst (λ (d : Directory). HasName d queue.name → ⊥) (sym same) fresh)

@@ -38,31 +38,31 @@ lt_tells a b = elim (leb_tells (suc a) b) [ inl e ↦ inl (e.0, omega arith) | i
 slot_shut : (ws : List ℕ) (slot : ℕ) → (slice_index ws (gate_at slot) == 1) ≡ false → slot_in ws slot ≡ None
 slot_shut ws slot shut = ap (λ (b : Bool). if b then queue_in ws slot else None) shut
 
+-- one slot more was read
+pub found_more : (directory places : Directory) (slot : ℕ) → slot < 8 → AreFoundBefore places directory slot → slice_get directory slot ≡ Some None → AreFoundBefore places directory (slot + 1)
+found_more directory places slot below h free = record {
+  count = h.count;
+  before = λ other small. elim (eqb_tells other slot) [
+    | inl e ↦ ap (λ (s : ℕ). slice_get places s) e.1 ∙ (h.from slot (omega arith) below ∙ (sym free ∙ ap (λ (s : ℕ). slice_get directory s) (sym e.1)))
+    | inr e ↦ h.before other (omega (arith, e.1))
+  ];
+  from = λ other large small. h.from other (omega arith) small;
+}
+
+pub found_queue : (directory places : Directory) (slot : ℕ) (value : Option Queue) → slot < 8 → AreFoundBefore places directory slot → slice_get directory slot ≡ Some value → AreFoundBefore (slice_set places slot value) directory (slot + 1)
+found_queue directory places slot value below h is = record {
+  count = length-set places slot value ∙ h.count;
+  before = λ other small. elim (eqb_tells other slot) [
+    | inl e ↦ ap (λ (s : ℕ). slice_get (slice_set places slot value) s) e.1 ∙ (set_here places slot value (omega (arith, h.count)) ∙ (sym is ∙ ap (λ (s : ℕ). slice_get directory s) (sym e.1)))
+    | inr e ↦ set_there places slot other value (omega (arith, h.count)) e.1 ∙ h.before other (omega (arith, e.1))
+  ];
+  from = λ other large small. set_there places slot other value (omega (arith, h.count)) (λ e. omega arith) ∙ h.from other (omega arith) small;
+}
+
 module _ (c : Counts) (ws : Words) (directory : Directory) (rest : IsAtRest ws directory) where
   -- a load leaves the directory at rest
   loaded : IsAtRest (words_after_access ws) directory
   loaded = rest_moves ws (words_after_access ws) (counted ws rest.room) directory rest
-
-  -- one slot more was read
-  found_more : (places : Directory) (slot : ℕ) → slot < 8 → AreFoundBefore places directory slot → slice_get directory slot ≡ Some None → AreFoundBefore places directory (slot + 1)
-  found_more places slot below h free = record {
-    count = h.count;
-    before = λ other small. elim (eqb_tells other slot) [
-      | inl e ↦ ap (λ (s : ℕ). slice_get places s) e.1 ∙ (h.from slot (omega arith) below ∙ (sym free ∙ ap (λ (s : ℕ). slice_get directory s) (sym e.1)))
-      | inr e ↦ h.before other (omega (arith, e.1))
-    ];
-    from = λ other large small. h.from other (omega arith) small;
-  }
-
-  found_queue : (places : Directory) (slot : ℕ) (value : Option Queue) → slot < 8 → AreFoundBefore places directory slot → slice_get directory slot ≡ Some value → AreFoundBefore (slice_set places slot value) directory (slot + 1)
-  found_queue places slot value below h is = record {
-    count = length-set places slot value ∙ h.count;
-    before = λ other small. elim (eqb_tells other slot) [
-      | inl e ↦ ap (λ (s : ℕ). slice_get (slice_set places slot value) s) e.1 ∙ (set_here places slot value (omega (arith, h.count)) ∙ (sym is ∙ ap (λ (s : ℕ). slice_get directory s) (sym e.1)))
-      | inr e ↦ set_there places slot other value (omega (arith, h.count)) e.1 ∙ h.before other (omega (arith, e.1))
-    ];
-    from = λ other large small. set_there places slot other value (omega (arith, h.count)) (λ e. omega arith) ∙ h.from other (omega arith) small;
-  }
 
   -- all slots were read
   found_all : (places : Directory) (slot : ℕ) → 8 ≤ slot → AreFoundBefore places directory slot → places ≡ directory
@@ -88,7 +88,7 @@ module _ (c : Counts) (ws : Words) (directory : Directory) (rest : IsAtRest ws d
         | inl e ↦ rw e.0 (record { rest = loaded; in_range = below; found = h; loaded = sym gate ∙ e.1 })
         | inr e ↦
             let shut : (slice_index ws.kept (gate_at slot.0) == 1) ≡ false = ap (λ (g : ℕ). g == 1) (sym gate) ∙ e.0 in
-            rw e.0 (past places slot below (found_more places slot.0 below h (own ∙ ap Some (slot_shut ws.kept slot.0 shut))))
+            rw e.0 (past places slot below (found_more directory places slot.0 below h (own ∙ ap Some (slot_shut ws.kept slot.0 shut))))
       ]
   finds places (LoadFirstName slot) below h known =
       record { rest = loaded; in_range = below; found = h; loaded = (known, sym (settled slot.0 below).first) }
@@ -102,7 +102,7 @@ module _ (c : Counts) (ws : Words) (directory : Directory) (rest : IsAtRest ws d
       ∙ (ap (λ (w : ℕ). queue_of first w (slice_index ws.kept (kind_at slot.0))) known.2
       ∙ ap (λ (w : ℕ). queue_of first second w) (sym (settled slot.0 below).kind))) in
       past (slice_set places slot.0 (queue_of first second found)) slot below
-      (found_queue places slot.0 (queue_of first second found) below h ((rest.slots slot.0 below).same ∙ ap Some has))
+      (found_queue directory places slot.0 (queue_of first second found) below h ((rest.slots slot.0 below).same ∙ ap Some has))
 
 pub recovery_finds : (c : Counts) (ws : Words) (recovery : DirectoryRecovery) (directory : Directory) → IsRecovering ws recovery directory
     → Finds (after_one c (access_of recovery) ws) directory (recovered recovery (value_found c (access_of recovery) ws)).after

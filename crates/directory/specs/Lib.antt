@@ -6,3 +6,4 @@ pub mod Creation
 pub mod UnderWay
 pub mod Recovery
 pub mod Recovering
+pub mod Sound

@@ -9,6 +9,7 @@ mod places;
 mod queue;
 mod recovery;
 mod slots;
+mod soundness;
 
 pub use creation::{Creation, CreationPoint};
 pub use laws::{
@@ -18,3 +19,4 @@ pub use name::{NAME_BYTES, Name, words_spell_names};
 pub use queue::{Places, Queue};
 pub use recovery::{DirectoryPoint, DirectoryRecovery, Recovered};
 pub use slots::Directory;
+pub use soundness::{KeptBroker, sound};

@@ -41,7 +41,8 @@ fn is_named(queue: &Option<Queue>, name: &Name) -> bool
 impl Directory {
     /// A directory with no queue.
     pub fn new() -> Self
-        ensures { result ≡ replicate SLOTS None }
+        ensures free { result ≡ replicate SLOTS None }
+        ensures directory { IsDirectory result }
     {
         Directory {
             places: [None; SLOTS],
@@ -101,7 +102,8 @@ impl Directory {
     pub fn open(&mut self, slot: SlotId, queue: Queue)
         requires free { IsFree self.old slot.0 }
         requires new_name { HasName self.old queue.name → ⊥ }
-        ensures { self.new ≡ slice_set self.old slot.0 (Some queue) }
+        ensures opened { self.new ≡ slice_set self.old slot.0 (Some queue) }
+        ensures directory { IsDirectory self.new }
     {
         self.places[slot.0 as usize] = Some(queue);
     }
