@@ -1,5 +1,5 @@
 -- What holds of the words while a queue is created, and in the end.
-use Rattle.std.proofs.Common.{◌≡◌, ◌≢◌, ℕ, ◌+◌, ◌*◌, ◌<◌, ◌≤◌, Bool, true, false, List, length, Option, Some, None, refl, sym, ◌∙◌, ap, subst, arith, inl, inr, ◌⊎◌, length-set, slice_index, slice_set}
+use Rattle.std.proofs.Common.{◌≡◌, ◌≢◌, ℕ, ◌+◌, ◌*◌, ◌<◌, List, length, Option, Some, None, refl, sym, ◌∙◌, ap, subst, arith, inl, inr, ◌⊎◌, length-set, slice_index, slice_set}
 use Rattle.std.specs.Prelude.{◌==◌, IsSome, slice_get, if◌then◌else◌}
 use Rattle.std.proofs.lemmas.Bool.Decides.{eqb_tells}
 use Rattle.std.proofs.lemmas.Option.{slice_get-get_or, get_or_from_slice_get, slice_get_within}
@@ -10,10 +10,8 @@ use Rattle.words.specs.declared.call.Kind.TheVariants.{Durable, Log}
 use Rattle.persist.specs.Memory.{Words, words_after_store, words_after_eviction, words_after_access, words_after_crash}
 use Rattle.arena.specs.Shape.{Counts}
 use Rattle.arena.specs.declared.broker.SlotId.{SlotId}
-use Rattle.stepper.specs.declared.resume.After.{After}
-use Rattle.stepper.specs.declared.resume.After.TheVariants.{More, Done}
-use Rattle.directory.specs.Name.{IsName, first_word, second_word, name_of}
-use Rattle.directory.specs.Queue.{kind_code, kind_of, first_name_at, second_name_at, kind_at, gate_at, queue_of, queue_with, queue_in, slot_in, IsOpen, IsSlotSound, directory_of}
+use Rattle.directory.specs.Name.{IsName, first_word, second_word}
+use Rattle.directory.specs.Queue.{kind_code, kind_of, first_name_at, second_name_at, kind_at, gate_at, queue_of, queue_with, queue_in, slot_in, IsSlotSound, directory_of}
 use Rattle.directory.specs.Directory.{Directory, IsFree}
 use Rattle.directory.specs.Step.{after_one}
 use Rattle.directory.specs.Creation.{access_at, access_of, next_of, after_point, successor, creation_at, new_creation, left_at, left_after}
@@ -21,7 +19,7 @@ use Rattle.directory.specs.declared.queue.Queue.{Queue}
 use Rattle.directory.specs.declared.creation.Creation.{Creation}
 use Rattle.directory.specs.declared.creation.CreationPoint.{CreationPoint}
 use Rattle.directory.specs.declared.creation.CreationPoint.TheVariants.{StoreFirstName, FlushFirstName, StoreSecondName, FlushSecondName, StoreKind, FlushKind, StoreGate, FlushGate}
-use Rattle.directory.specs.UnderWay.{HasDirectory, IsKept, IsStored, IsSettled, IsSlotAtRest, IsAtRest, IsAtRestBut, IsOpening, HasQueueWords, IsAsFarAs, IsCreationUnderWay, ComesTo, IsAsItWasOrWith, HaveSameDirectory}
+use Rattle.directory.specs.UnderWay.{HasDirectory, IsKept, IsStored, IsSlotAtRest, IsAtRest, IsAtRestBut, IsOpening, HasQueueWords, IsAsFarAs, IsCreationUnderWay, ComesTo, IsAsItWasOrWith, HaveSameDirectory}
 use Rattle.directory.proofs.Rows.{name_again}
 use Rattle.std.proofs.lemmas.List.FromFn.{fill_by_all}
 use Rattle.directory.proofs.SlotWords.{slot_in-same, written_here, written_there, evicted, evicted_both, SameSlot, same_slot, below_same, written_same, evicted_same, slot_moves, slot_crashes}
@@ -179,7 +177,7 @@ queue_again ws slot queue named first second kind =
 pub slot_open : (ws : List ℕ) (slot : ℕ) → slice_index ws (gate_at slot) ≡ 1 → slot_in ws slot ≡ queue_in ws slot
 slot_open ws slot opened = ap (λ (g : ℕ). if g == 1 then queue_in ws slot else None) opened
 
-slot_closed : (ws : List ℕ) (slot : ℕ) → slice_index ws (gate_at slot) ≡ 0 → slot_in ws slot ≡ None
+pub slot_closed : (ws : List ℕ) (slot : ℕ) → slice_index ws (gate_at slot) ≡ 0 → slot_in ws slot ≡ None
 slot_closed ws slot closed = ap (λ (g : ℕ). if g == 1 then queue_in ws slot else None) closed
 
 -- the directory with a queue in a slot

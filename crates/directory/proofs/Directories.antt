@@ -1,9 +1,8 @@
 -- A directory with one queue more.
-use Rattle.std.proofs.Common.{◌≡◌, ◌≢◌, ℕ, ◌<◌, ◌≤◌, List, length, Option, Some, None, refl, sym, ◌∙◌, ap, subst, arith, inl, inr, length-set, slice_set}
-use Rattle.std.specs.Prelude.{slice_get}
+use Rattle.std.proofs.Common.{◌≡◌, ◌≢◌, ℕ, ◌<◌, length, Some, None, sym, ◌∙◌, ap, subst, arith, inl, inr, length-set, slice_set}
 use Rattle.std.proofs.lemmas.Bool.Decides.{eqb_tells}
 use Rattle.std.proofs.lemmas.Option.{slice_get_within}
-use Rattle.directory.specs.Directory.{Directory, IsDirectory, IsFree, HasQueue, HasName, IsNamed}
+use Rattle.directory.specs.Directory.{Directory, IsDirectory, IsFree, HasQueue, HasName}
 use Rattle.directory.specs.declared.queue.Queue.{Queue}
 use Rattle.directory.proofs.Creations.{set_here, set_there}
 

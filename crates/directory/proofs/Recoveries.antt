@@ -1,5 +1,5 @@
 -- The recovery of a directory: what a step comes to, and what holds of the words while it is under way.
-use Rattle.std.proofs.Common.{◌≡◌, ◌≢◌, ℕ, suc, ◌+◌, ◌*◌, ◌-◌, ◌<◌, ◌≤◌, Bool, true, false, List, length, Option, Some, None, refl, sym, ◌∙◌, ap, subst, arith, inl, inr, ◌⊎◌, length-set, slice_index, slice_set}
+use Rattle.std.proofs.Common.{◌≡◌, ℕ, suc, ◌+◌, ◌<◌, ◌≤◌, Bool, true, false, List, Option, Some, None, refl, sym, ◌∙◌, ap, arith, inl, inr, ◌⊎◌, length-set, slice_index, slice_set}
 use Rattle.std.specs.Prelude.{◌==◌, nat_lt, slice_get, replicate, IfSome, if◌then◌else◌}
 use Rattle.std.proofs.lemmas.Bool.Decides.{eqb_tells, leb_tells}
 use Rattle.std.proofs.lemmas.List.{get_or-replicate}
@@ -20,7 +20,6 @@ use Rattle.directory.specs.Recovery.{access_of, load_of, slot_at, recovery_at, b
 use Rattle.directory.specs.declared.recovery.DirectoryPoint.{DirectoryPoint}
 use Rattle.directory.specs.declared.recovery.DirectoryPoint.TheVariants.{LoadGate, LoadFirstName, LoadSecondName, LoadKind}
 use Rattle.directory.specs.declared.recovery.DirectoryRecovery.{DirectoryRecovery}
-use Rattle.directory.specs.declared.recovery.Recovered.{Recovered}
 
 -- a step that loads the kind
 pub kind_step : (c : Counts) (ws : Words) (recovery : DirectoryRecovery) (slot : SlotId) (first second found : ℕ)

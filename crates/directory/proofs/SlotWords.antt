@@ -1,10 +1,10 @@
 -- What becomes of the words of a slot: where they stay, where one is written, evicted or lost.
-use Rattle.std.proofs.Common.{◌≡◌, ◌≢◌, ℕ, ◌+◌, ◌*◌, ◌<◌, ◌≤◌, Bool, true, false, List, length, Option, Some, None, refl, sym, ◌∙◌, ap, subst, arith, inl, inr, ◌⊎◌, get_or-set_other, slice_index, slice_set}
+use Rattle.std.proofs.Common.{◌≡◌, ◌≢◌, ℕ, ◌+◌, ◌*◌, ◌<◌, ◌≤◌, List, length, Option, Some, None, refl, sym, ◌∙◌, ap, subst, arith, inl, inr, ◌⊎◌, get_or-set_other, slice_index, slice_set}
 use Rattle.std.specs.Prelude.{◌==◌, IsSome, slice_get, if◌then◌else◌}
 use Rattle.std.proofs.lemmas.Bool.Decides.{eqb_tells}
 use Rattle.std.proofs.lemmas.Grind.{get_or-set_at}
-use Rattle.persist.specs.Memory.{Words, words_after_store, words_after_eviction, words_after_access, words_after_crash}
-use Rattle.directory.specs.Queue.{first_name_at, second_name_at, kind_at, gate_at, queue_of, queue_in, slot_in, IsOpen, IsSlotSound}
+use Rattle.persist.specs.Memory.{Words, words_after_eviction, words_after_crash}
+use Rattle.directory.specs.Queue.{first_name_at, second_name_at, kind_at, gate_at, queue_of, queue_in, slot_in, IsSlotSound}
 use Rattle.directory.specs.Directory.{Directory}
 use Rattle.directory.specs.declared.queue.Queue.{Queue}
 use Rattle.directory.specs.UnderWay.{IsSettled, IsSlotAtRest}

@@ -1,11 +1,11 @@
 -- What holds while a directory is recovered, and how many steps that takes.
-use Rattle.std.specs.Prelude.{◌≡◌, ℕ, ◌+◌, ◌*◌, ◌-◌, ◌<◌, ◌≤◌, Some, None, length, slice_index, slice_get}
+use Rattle.std.specs.Prelude.{◌≡◌, ℕ, ◌+◌, ◌*◌, ◌-◌, ◌<◌, ◌≤◌, length, slice_index, slice_get}
 use Rattle.persist.specs.Memory.{Words}
 use Rattle.arena.specs.declared.broker.TheConstants.{SLOTS}
 use Rattle.arena.specs.declared.codes.TheConstants.{OPEN_GATE}
 use Rattle.stepper.specs.declared.resume.After.{After}
 use Rattle.stepper.specs.declared.resume.After.TheVariants.{More, Done}
-use Rattle.directory.specs.Queue.{first_name_at, second_name_at, gate_at, slot_in}
+use Rattle.directory.specs.Queue.{first_name_at, second_name_at, gate_at}
 use Rattle.directory.specs.Directory.{Directory, IsFree}
 use Rattle.directory.specs.Recovery.{slot_at}
 use Rattle.directory.specs.UnderWay.{IsAtRest}
@@ -60,7 +60,8 @@ most_left recovery = left_of_slot recovery.at + 4 * (SLOTS - (slot_at recovery.a
 abbrev pub least_left : DirectoryRecovery → ℕ
 least_left recovery = due_of_slot recovery.at + (SLOTS - (slot_at recovery.at + 1))
 
--- after a step there is at least one step less at the most, and at most one less at the least; the end comes with the last
+-- a step takes at least one off the most that are left, and at most one off the least
 abbrev pub IsOneLess : DirectoryRecovery → After DirectoryRecovery Directory → Type 0
-IsOneLess recovery (More next) = (most_left next + 1 ≤ most_left recovery) × (least_left recovery ≤ least_left next + 1)
+IsOneLess recovery (More next) =
+    (most_left next + 1 ≤ most_left recovery) × (least_left recovery ≤ least_left next + 1)
 IsOneLess recovery (Done places) = (1 ≤ most_left recovery) × (least_left recovery ≤ 1)

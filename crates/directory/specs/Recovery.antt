@@ -1,5 +1,5 @@
 -- The steps of a directory's recovery: one load each, and what comes then.
-use Rattle.std.specs.Prelude.{ℕ, ◌+◌, ◌==◌, nat_lt, if◌then◌else◌, List, Option, Some, None, replicate, slice_set}
+use Rattle.std.specs.Prelude.{ℕ, ◌+◌, ◌==◌, nat_lt, if◌then◌else◌, Option, Some, None, replicate, slice_set}
 use Rattle.persist.specs.Memory.{Access, Load}
 use Rattle.arena.specs.declared.broker.TheConstants.{SLOTS}
 use Rattle.arena.specs.declared.broker.SlotId.{SlotId}

@@ -1,7 +1,7 @@
 -- What the words of the directory are at rest, and while a queue is created.
-use Rattle.std.specs.Prelude.{◌≡◌, ◌≢◌, ℕ, ◌<◌, ◌≤◌, ◌⊎◌, Some, length, slice_index, slice_get, slice_set}
+use Rattle.std.specs.Prelude.{◌≡◌, ◌≢◌, ℕ, ◌<◌, ◌≤◌, ◌⊎◌, Some, drop, length, slice_index, slice_get, slice_set}
 use Rattle.persist.specs.Memory.{Words}
-use Rattle.arena.specs.declared.broker.TheConstants.{BLOCKS_FROM, SLOTS}
+use Rattle.arena.specs.declared.broker.TheConstants.{BLOCKS_FROM, HEAD_WORDS, SLOTS}
 use Rattle.arena.specs.declared.codes.TheConstants.{CLOSED_GATE, OPEN_GATE}
 use Rattle.stepper.specs.declared.resume.After.{After}
 use Rattle.stepper.specs.declared.resume.After.TheVariants.{More, Done}
@@ -63,7 +63,17 @@ pub record IsOpening (ws : Words) (slot : ℕ) : Type 0 where
   pub cached : slice_index ws.cached (gate_at slot) ≡ OPEN_GATE
   pub kept : (slice_index ws.kept (gate_at slot) ≡ CLOSED_GATE) ⊎ (slice_index ws.kept (gate_at slot) ≡ OPEN_GATE)
 
--- the words of the queue are kept
+-- a word of the queue is stored, and may be kept
+abbrev pub StoresFirstName : Words → ℕ → Queue → Type 0
+StoresFirstName ws slot queue = IsStored ws (first_name_at slot) (first_word queue.name)
+
+abbrev pub StoresSecondName : Words → ℕ → Queue → Type 0
+StoresSecondName ws slot queue = IsStored ws (second_name_at slot) (second_word queue.name)
+
+abbrev pub StoresKind : Words → ℕ → Queue → Type 0
+StoresKind ws slot queue = IsStored ws (kind_at slot) (kind_code queue.kind)
+
+-- words of the queue are kept
 abbrev pub HasFirstName : Words → ℕ → Queue → Type 0
 HasFirstName ws slot queue = IsKept ws (first_name_at slot) (first_word queue.name)
 
@@ -82,11 +92,12 @@ HasQueueWords ws slot queue = HasName ws slot queue × HasKind ws slot queue
 -- how far a creation has come with the words of its slot
 abbrev pub IsAsFarAs : Words → ℕ → Queue → CreationPoint → Type 0
 IsAsFarAs ws slot queue StoreFirstName = IsClosed ws slot
-IsAsFarAs ws slot queue FlushFirstName = IsClosed ws slot × IsStored ws (first_name_at slot) (first_word queue.name)
+IsAsFarAs ws slot queue FlushFirstName = IsClosed ws slot × StoresFirstName ws slot queue
 IsAsFarAs ws slot queue StoreSecondName = IsClosed ws slot × HasFirstName ws slot queue
-IsAsFarAs ws slot queue FlushSecondName = IsClosed ws slot × HasFirstName ws slot queue × IsStored ws (second_name_at slot) (second_word queue.name)
+IsAsFarAs ws slot queue FlushSecondName =
+    IsClosed ws slot × HasFirstName ws slot queue × StoresSecondName ws slot queue
 IsAsFarAs ws slot queue StoreKind = IsClosed ws slot × HasName ws slot queue
-IsAsFarAs ws slot queue FlushKind = IsClosed ws slot × HasName ws slot queue × IsStored ws (kind_at slot) (kind_code queue.kind)
+IsAsFarAs ws slot queue FlushKind = IsClosed ws slot × HasName ws slot queue × StoresKind ws slot queue
 IsAsFarAs ws slot queue StoreGate = IsClosed ws slot × HasQueueWords ws slot queue
 IsAsFarAs ws slot queue FlushGate = IsOpening ws slot × HasQueueWords ws slot queue
 
@@ -111,3 +122,12 @@ pub record HaveSameDirectory (old new : Words) : Type 0 where
   pub room : HasDirectory new
   pub cached : (word : ℕ) → word < BLOCKS_FROM → slice_index new.cached word ≡ slice_index old.cached word
   pub kept : (word : ℕ) → word < BLOCKS_FROM → slice_index new.kept word ≡ slice_index old.kept word
+
+-- the words of the directory are 0, cached and kept
+abbrev pub IsBlank : Words → Type 0
+IsBlank ws = (word : ℕ) → HEAD_WORDS ≤ word → word < BLOCKS_FROM → IsKept ws word 0
+
+-- the words of the blocks are as they were
+pub record HaveSameBlocks (old new : Words) : Type 0 where
+  pub cached : drop BLOCKS_FROM new.cached ≡ drop BLOCKS_FROM old.cached
+  pub kept : drop BLOCKS_FROM new.kept ≡ drop BLOCKS_FROM old.kept

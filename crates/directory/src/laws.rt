@@ -1,33 +1,65 @@
-//! What holds of the words of a directory: at rest, and while a queue is created.
+//! What holds of the words of a directory: at rest, while a queue is created, and while it is recovered.
 
-ghost use Rattle.std.specs.Prelude.{◌≡◌, ℕ, ◌+◌, IfSome};
+ghost use Rattle.std.specs.Prelude.{◌≡◌, ℕ, ◌+◌, ◌<◌, IfSome, Some, None, replicate, slice_set};
 ghost use Rattle.persist.specs.Memory.{Words, words_after_eviction, words_after_crash};
 ghost use Rattle.arena.specs.Shape.{Counts};
 ghost use Rattle.arena.specs.declared.broker.SlotId.{SlotId};
 ghost use Rattle.directory.specs.Name.{IsName};
 ghost use Rattle.directory.specs.Queue.{directory_of, IsOpen};
-ghost use Rattle.directory.specs.Directory.{Directory, IsFree};
+ghost use Rattle.directory.specs.Directory.{Directory, IsDirectory, IsFree, HasName};
+ghost use Rattle.directory.specs.Sound.{AreBrokerWords, AreFreeBlocksZero, DirectoryIsSound};
 ghost use Rattle.directory.specs.Step.{after_one, value_found};
 ghost use Rattle.directory.specs.Creation.{new_creation, access_of as creation_access, successor, left_at, left_after};
-ghost use Rattle.directory.specs.UnderWay.{IsAtRest, IsCreationUnderWay, ComesTo, IsAsItWasOrWith, HaveSameDirectory};
+ghost use Rattle.directory.specs.UnderWay.{HasDirectory, IsAtRest, IsBlank, IsCreationUnderWay, ComesTo, IsAsItWasOrWith, HaveSameDirectory, HaveSameBlocks};
 ghost use Rattle.directory.specs.Recovery.{boot_recovery, access_of, recovered};
 ghost use Rattle.directory.specs.Recovering.{IsRecovering, Finds, most_left, least_left, IsOneLess};
 ghost use Rattle.directory.specs.declared.creation.Creation.{Creation};
 ghost use Rattle.directory.specs.declared.queue.Queue.{Queue};
 ghost use Rattle.directory.specs.declared.recovery.DirectoryRecovery.{DirectoryRecovery};
 
-/// A directory at rest is what the kept words say, and what the cached ones do. It stays at rest where words are evicted,
-/// in a crash, and where its words stay.
+use arena::SLOTS;
+
+/// A directory at rest is what the kept words say, and what the cached ones do. It stays at rest where words are
+/// evicted, in a crash, and where its words stay.
 #[tactic(auto, using(crate::proofs::Creations::rest_crashed, crate::proofs::Creations::rest_moves))]
 pub fn directories_stay()
-    ensures kept { (ws : Words) (directory : Directory) → IsAtRest ws directory → directory_of ws.kept ≡ directory }
-    ensures cached { (ws : Words) (directory : Directory) → IsAtRest ws directory → directory_of ws.cached ≡ directory }
+    ensures kept { (ws : Words) (directory : Directory) → IsAtRest ws directory
+        → directory_of ws.kept ≡ directory }
+    ensures cached { (ws : Words) (directory : Directory) → IsAtRest ws directory
+        → directory_of ws.cached ≡ directory }
     ensures evicted { (ws : Words) (directory : Directory) → IsAtRest ws directory
         → (word : ℕ) → IsAtRest (words_after_eviction word ws) directory }
     ensures crashed { (ws : Words) (directory : Directory) → IsAtRest ws directory
         → IsAtRest (words_after_crash ws) directory }
     ensures elsewhere { (old new : Words) (directory : Directory) → IsAtRest old directory
         → HaveSameDirectory old new → IsAtRest new directory }
+{}
+
+/// A directory is at rest after a crash that leaves sound words, and where all its words are 0: it has no queue then.
+#[tactic(auto, using(crate::proofs::Sounds::sound_rest, crate::proofs::Sounds::blank_rest))]
+pub fn directories_begin()
+    ensures sound { (ws : Words) → AreBrokerWords ws.kept
+        → IsAtRest (words_after_crash ws) (directory_of ws.kept) }
+    ensures blank { (ws : Words) → HasDirectory ws → IsBlank ws → IsAtRest ws (replicate SLOTS None) }
+{}
+
+/// A directory at rest is sound, where it has no name twice and the blocks of its free slots are kept all 0. With a queue
+/// of a new name in a free slot it has no name twice either.
+pub fn directories_are_sound()
+    ensures rest { (counts : Counts) (ws : Words) (directory : Directory) → IsAtRest ws directory
+        → IsDirectory directory → AreFreeBlocksZero counts ws.kept directory → DirectoryIsSound counts ws.kept }
+    ensures more { (directory : Directory) (slot : ℕ) (queue : Queue) → IsDirectory directory
+        → IsFree directory slot → (HasName directory queue.name → ⊥)
+        → IsDirectory (slice_set directory slot (Some queue)) }
+{}
+
+/// A step of a creation, or of a recovery, leaves the words of the blocks as they are.
+#[tactic(auto, using(crate::proofs::Sounds::creation_blocks))]
+pub fn blocks_stay()
+    ensures created { (counts : Counts) (ws : Words) (creation : Creation) → creation.slot.0 < SLOTS
+        → HaveSameBlocks ws (after_one counts (creation_access creation) ws) }
+    ensures recovered { (counts : Counts) (ws : Words) (recovery : DirectoryRecovery)
+        → HaveSameBlocks ws (after_one counts (access_of recovery) ws) }
 {}
 
 /// A creation may begin in a free slot of a directory at rest.
@@ -78,7 +110,8 @@ pub fn recoveries_begin()
         → IsRecovering ws boot_recovery directory }
 {}
 
-/// A step of a recovery goes on with it; the last one answers the directory. A slot whose gate it finds open has a queue.
+/// A step of a recovery goes on with it; the last one answers the directory. A slot whose gate it finds open has a
+/// queue.
 pub fn recoveries_go_on()
     ensures next { (counts : Counts) (ws : Words) (recovery : DirectoryRecovery) (directory : Directory)
         → IsRecovering ws recovery directory → let access = access_of recovery in

@@ -13,7 +13,8 @@ mod soundness;
 
 pub use creation::{Creation, CreationPoint};
 pub use laws::{
-    creations_begin, creations_crash, creations_go_on, creations_stay, directories_stay,
+    creations_begin, creations_crash, creations_go_on, creations_stay, directories_are_sound,
+    directories_begin, directories_stay,
 };
 pub use name::{NAME_BYTES, Name, words_spell_names};
 pub use queue::{Places, Queue};

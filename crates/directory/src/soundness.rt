@@ -1,10 +1,10 @@
 //! Whether kept words are those of a broker.
 
 ghost use Rattle.std.specs.Prelude.{◌≡◌, ◌↔◌, ℕ, ◌+◌, ◌<◌, ◌≤◌, length, slice_index, IsTrue, IsOk, IfOk, IfErr, MatchOption};
-ghost use Rattle.arena.specs.Broker.{broker_size, broker_word, block_size_of, block_from, IsBrokerPlace};
-ghost use Rattle.directory.specs.Queue.{gate_at, queue_in, slot_in, directory_of, IsOpen};
+ghost use Rattle.arena.specs.Broker.{broker_size, broker_word, IsBrokerPlace};
+ghost use Rattle.directory.specs.Queue.{queue_in, slot_in, directory_of};
 ghost use Rattle.directory.specs.Directory.{IsDirectory};
-ghost use Rattle.directory.specs.Sound.{counts_in, HeadIsSound, IsShut, SlotIsSound, AreBrokerWords, IsBrokerDamaged};
+ghost use Rattle.directory.specs.Sound.{counts_in, HeadIsSound, IsBlockZero, SlotIsSound, AreBrokerWords, IsBrokerDamaged};
 
 use crate::queue::{Queue, queue_of};
 use crate::slots::Directory;
@@ -81,8 +81,7 @@ fn slot_in<W: KeptWords>(layout: &BrokerLayout, words: &W, slot: SlotId) -> Opti
 fn is_block_zero<W: KeptWords>(layout: &BrokerLayout, words: &W, slot: SlotId) -> bool
     requires slot { slot.0 < SLOTS }
     requires room { broker_size layout.now ≤ length (W.kept_words words.now) }
-    ensures { IsTrue result ↔ ((word : ℕ) → word < block_size_of layout.now.clients layout.now.records →
-        slice_index (W.kept_words words.now) (block_from layout.now slot.0 + word) ≡ 0) }
+    ensures { IsTrue result ↔ IsBlockZero layout.now (W.kept_words words.now) slot.0 }
 {
     let from = layout.block(slot);
     for word in 0..layout.block_size() {

@@ -1,5 +1,5 @@
-use Rattle.std.proofs.Common.{◌≡◌, ◌∙◌, ℕ, ◌+◌, sym, ap, subst, arith, Some, None}
-use Rattle.directory.specs.Queue.{slot_in, directory_of}
+use Rattle.std.proofs.Common.{◌∙◌, ◌+◌, sym, ap, subst, arith, Some}
+use Rattle.directory.specs.Queue.{directory_of}
 use Rattle.directory.specs.Directory.{Directory}
 use Rattle.directory.specs.Recovering.{AreFoundBefore}
 use Rattle.directory.proofs.Kept.{directory_at, all_found, twice}

@@ -1,4 +1,3 @@
-use Rattle.std.proofs.Common.{ℕ, ◌<◌}
 use Rattle.directory.specs.Queue.{directory_of}
 use Rattle.directory.specs.Directory.{IsDirectory}
 use Rattle.directory.specs.Recovering.{AreFoundBefore}

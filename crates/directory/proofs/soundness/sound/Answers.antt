@@ -1,6 +1,6 @@
 use Rattle.std.proofs.Common.{◌≡◌, ℕ, ◌<◌, ◌∙◌, sym, subst, refl, true, false}
 use Rattle.arena.specs.Shape.{Counts}
-use Rattle.directory.specs.Directory.{Directory, IsDirectory}
+use Rattle.directory.specs.Directory.{IsDirectory}
 use Rattle.directory.specs.Sound.{SlotIsSound}
 use Rattle.directory.proofs.soundness.sound.Goals as goal
 

@@ -1,4 +1,4 @@
-use Rattle.std.proofs.Common.{subst, ◌<◌, arith, ℕ, Some}
+use Rattle.std.proofs.Common.{subst, arith, Some}
 use Rattle.std.proofs.lemmas.Option.{slice_get_within}
 use Rattle.directory.specs.Directory.{Directory, HasName}
 use Rattle.directory.proofs.slots.Directory.find.Goals as goal

@@ -1,4 +1,4 @@
-use Rattle.std.proofs.Common.{◌≡◌, ℕ, ◌<◌}
+use Rattle.std.proofs.Common.{ℕ, ◌<◌}
 use Rattle.directory.specs.Directory.{IsNamed}
 use Rattle.directory.proofs.slots.Directory.find.Given as goal
 

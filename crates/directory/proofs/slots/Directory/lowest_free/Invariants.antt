@@ -1,4 +1,4 @@
-use Rattle.std.proofs.Common.{◌≡◌, ℕ, ◌<◌}
+use Rattle.std.proofs.Common.{ℕ, ◌<◌}
 use Rattle.directory.specs.Directory.{IsFree}
 use Rattle.directory.proofs.slots.Directory.lowest_free.Given as goal
 
