@@ -1,9 +1,9 @@
 -- Sound words and directories at rest; what a step leaves as it is.
-use Rattle.std.proofs.Common.{◌≡◌, ℕ, ◌<◌, List, Some, None, refl, sym, ◌∙◌, ap, subst, arith, inl, inr, slice_index, slice_set}
-use Rattle.std.specs.Prelude.{replicate, drop}
-use Rattle.std.proofs.lemmas.List.{get_or-replicate, drop-set-lt}
+use Rattle.std.proofs.Common.{◌≤◌, ◌≡◌, ℕ, ◌<◌, List, Some, None, refl, sym, ◌∙◌, ap, subst, arith, inl, inr, slice_index, slice_set}
+use Rattle.std.specs.Prelude.{replicate, drop, take}
+use Rattle.std.proofs.lemmas.List.{get_or-replicate, get_or-take, drop-set-lt}
 use Rattle.std.proofs.lemmas.Option.{slice_get-get_or}
-use Rattle.persist.specs.Memory.{Words, words_after_crash}
+use Rattle.persist.specs.Memory.{Words, words_after_access, words_after_store, words_after_eviction, words_after_crash, IsSameOutside}
 use Rattle.arena.specs.Shape.{Counts}
 use Rattle.arena.specs.declared.broker.SlotId.{SlotId}
 use Rattle.directory.specs.Name.{first_word, second_word}
@@ -11,13 +11,15 @@ use Rattle.directory.specs.Queue.{kind_code, first_name_at, second_name_at, kind
 use Rattle.directory.specs.Directory.{Directory, IsDirectory}
 use Rattle.directory.specs.Step.{after_one}
 use Rattle.directory.specs.Creation.{access_at, access_of}
+use Rattle.directory.specs.Recovery.{access_of as recovery_access}
+use Rattle.directory.specs.declared.recovery.DirectoryRecovery.{DirectoryRecovery}
 use Rattle.directory.specs.Sound.{SlotIsSound, DirectoryIsSound, AreBrokerWords, AreFreeBlocksZero}
-use Rattle.directory.specs.UnderWay.{HasDirectory, IsKept, IsAtRest, IsBlank, HaveSameBlocks}
+use Rattle.directory.specs.UnderWay.{HasDirectory, HasHead, HaveSameDirectory, IsKept, IsAtRest, IsBlank, HaveSameBlocks}
 use Rattle.directory.specs.declared.queue.Queue.{Queue}
 use Rattle.directory.specs.declared.creation.Creation.{Creation}
 use Rattle.directory.specs.declared.creation.CreationPoint.{CreationPoint}
 use Rattle.directory.specs.declared.creation.CreationPoint.TheVariants.{StoreFirstName, FlushFirstName, StoreSecondName, FlushSecondName, StoreKind, FlushKind, StoreGate, FlushGate}
-use Rattle.directory.proofs.SlotWords.{slot_crashes}
+use Rattle.directory.proofs.SlotWords.{slot_crashes, written_there, evicted_both}
 use Rattle.directory.proofs.Creations.{slot_closed, kept_directory}
 use Rattle.directory.proofs.Kept.{directory_at}
 
@@ -92,3 +94,69 @@ module _ (c : Counts) (ws : Words) (slot : SlotId) (queue : Queue) (below : slot
 
 pub creation_blocks : (c : Counts) (ws : Words) (creation : Creation) → creation.slot.0 < 8 → HaveSameBlocks ws (after_one c (access_of creation) ws)
 creation_blocks c ws creation below = blocks_at c ws creation.slot creation.queue below creation.at
+
+-- the head stays where the words of the directory stay, in evictions and in a crash
+pub head_moves : (old new : Words) (c : Counts) → HaveSameDirectory old new → HasHead old c → HasHead new c
+head_moves old new c same h = record {
+  clients = record { cached = same.cached 0 (omega arith) ∙ h.clients.cached; kept = same.kept 0 (omega arith) ∙ h.clients.kept };
+  records = record { cached = same.cached 1 (omega arith) ∙ h.records.cached; kept = same.kept 1 (omega arith) ∙ h.records.kept };
+}
+
+pub head_evicted : (ws : Words) (word : ℕ) (c : Counts) → HasDirectory ws → HasHead ws c → HasHead (words_after_eviction word ws) c
+head_evicted ws word c room h = record {
+  clients = record { cached = h.clients.cached; kept = evicted_both ws.cached ws.kept word 0 c.clients (omega (arith, room.kept)) h.clients.cached h.clients.kept };
+  records = record { cached = h.records.cached; kept = evicted_both ws.cached ws.kept word 1 c.records (omega (arith, room.kept)) h.records.cached h.records.kept };
+}
+
+pub head_crashed : (ws : Words) (c : Counts) → HasHead ws c → HasHead (words_after_crash ws) c
+head_crashed ws c h = record {
+  clients = record { cached = h.clients.kept; kept = h.clients.kept };
+  records = record { cached = h.records.kept; kept = h.records.kept };
+}
+
+-- and in a step of a creation
+module _ (c : Counts) (ws : Words) (slot : SlotId) (queue : Queue) (room : HasDirectory ws) (h : HasHead ws c) where
+  head_stored : (w v : ℕ) → 2 ≤ w → HasHead (words_after_access (words_after_store w v ws)) c
+  head_stored w v past = record {
+    clients = record { cached = written_there ws.cached w v 0 (λ e. omega arith) ∙ h.clients.cached; kept = h.clients.kept };
+    records = record { cached = written_there ws.cached w v 1 (λ e. omega arith) ∙ h.records.cached; kept = h.records.kept };
+  }
+
+  head_flushed : (w : ℕ) → HasHead (words_after_access (words_after_eviction w ws)) c
+  head_flushed w =
+      let kept = head_evicted ws w c room h in
+      record {
+        clients = record { cached = kept.clients.cached; kept = kept.clients.kept };
+        records = record { cached = kept.records.cached; kept = kept.records.kept };
+      }
+
+  head_at : (k : Counts) (at : CreationPoint) → HasHead (after_one k (access_at slot queue at) ws) c
+  head_at k StoreFirstName = head_stored (first_name_at slot.0) (first_word queue.name) (omega arith)
+  head_at k FlushFirstName = head_flushed (first_name_at slot.0)
+  head_at k StoreSecondName = head_stored (second_name_at slot.0) (second_word queue.name) (omega arith)
+  head_at k FlushSecondName = head_flushed (second_name_at slot.0)
+  head_at k StoreKind = head_stored (kind_at slot.0) (kind_code queue.kind) (omega arith)
+  head_at k FlushKind = head_flushed (kind_at slot.0)
+  head_at k StoreGate = head_stored (gate_at slot.0) 1 (omega arith)
+  head_at k FlushGate = head_flushed (gate_at slot.0)
+
+pub creation_head : (k c : Counts) (ws : Words) (creation : Creation) → HasDirectory ws → HasHead ws c → HasHead (after_one k (access_of creation) ws) c
+creation_head k c ws creation room h = head_at c ws creation.slot creation.queue room h k creation.at
+
+-- what lies past the directory changes nothing before it
+pub outside_same : (old new : Words) (from len : ℕ) → 34 ≤ from → HasDirectory new → IsSameOutside from len old new → HaveSameDirectory old new
+outside_same old new from len past room same = record {
+  room = room;
+  cached = λ word below. before old.cached new.cached word below same.cached_before;
+  kept = λ word below. before old.kept new.kept word below same.kept_before;
+}
+  where
+    before : (xs ys : List ℕ) (word : ℕ) → word < 34 → take from ys ≡ take from xs → slice_index ys word ≡ slice_index xs word
+    before xs ys word below e =
+        sym (get_or-take from ys word 0 (omega arith)) ∙ (ap (λ (zs : List ℕ). slice_index zs word) e ∙ get_or-take from xs word 0 (omega arith))
+
+pub recovery_head : (k c : Counts) (ws : Words) (recovery : DirectoryRecovery) → HasHead ws c → HasHead (after_one k (recovery_access recovery) ws) c
+recovery_head k c ws recovery h = record {
+  clients = record { cached = h.clients.cached; kept = h.clients.kept };
+  records = record { cached = h.records.cached; kept = h.records.kept };
+}

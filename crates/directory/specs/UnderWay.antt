@@ -1,6 +1,7 @@
 -- What the words of the directory are at rest, and while a queue is created.
 use Rattle.std.specs.Prelude.{◌≡◌, ◌≢◌, ℕ, ◌<◌, ◌≤◌, ◌⊎◌, Some, drop, length, slice_index, slice_get, slice_set}
 use Rattle.persist.specs.Memory.{Words}
+use Rattle.arena.specs.Shape.{Counts}
 use Rattle.arena.specs.declared.broker.TheConstants.{BLOCKS_FROM, HEAD_WORDS, SLOTS}
 use Rattle.arena.specs.declared.codes.TheConstants.{CLOSED_GATE, OPEN_GATE}
 use Rattle.stepper.specs.declared.resume.After.{After}
@@ -122,6 +123,11 @@ pub record HaveSameDirectory (old new : Words) : Type 0 where
   pub room : HasDirectory new
   pub cached : (word : ℕ) → word < BLOCKS_FROM → slice_index new.cached word ≡ slice_index old.cached word
   pub kept : (word : ℕ) → word < BLOCKS_FROM → slice_index new.kept word ≡ slice_index old.kept word
+
+-- the head's two words, cached and kept
+pub record HasHead (ws : Words) (c : Counts) : Type 0 where
+  pub clients : IsKept ws 0 c.clients
+  pub records : IsKept ws 1 c.records
 
 -- the words of the directory are 0, cached and kept
 abbrev pub IsBlank : Words → Type 0

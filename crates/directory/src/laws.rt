@@ -1,7 +1,7 @@
 //! What holds of the words of a directory: at rest, while a queue is created, and while it is recovered.
 
-ghost use Rattle.std.specs.Prelude.{◌≡◌, ℕ, ◌+◌, ◌<◌, IfSome, Some, None, replicate, slice_set};
-ghost use Rattle.persist.specs.Memory.{Words, words_after_eviction, words_after_crash};
+ghost use Rattle.std.specs.Prelude.{◌≡◌, ℕ, ◌+◌, ◌<◌, ◌≤◌, IfSome, Some, None, replicate, slice_set};
+ghost use Rattle.persist.specs.Memory.{Words, words_after_eviction, words_after_crash, IsSameOutside};
 ghost use Rattle.arena.specs.Shape.{Counts};
 ghost use Rattle.arena.specs.declared.broker.SlotId.{SlotId};
 ghost use Rattle.directory.specs.Name.{IsName};
@@ -10,14 +10,14 @@ ghost use Rattle.directory.specs.Directory.{Directory, IsDirectory, IsFree, HasN
 ghost use Rattle.directory.specs.Sound.{AreBrokerWords, AreFreeBlocksZero, DirectoryIsSound};
 ghost use Rattle.directory.specs.Step.{after_one, value_found};
 ghost use Rattle.directory.specs.Creation.{new_creation, access_of as creation_access, successor, left_at, left_after};
-ghost use Rattle.directory.specs.UnderWay.{HasDirectory, IsAtRest, IsBlank, IsCreationUnderWay, ComesTo, IsAsItWasOrWith, HaveSameDirectory, HaveSameBlocks};
+ghost use Rattle.directory.specs.UnderWay.{HasDirectory, HasHead, IsAtRest, IsBlank, IsCreationUnderWay, ComesTo, IsAsItWasOrWith, HaveSameDirectory, HaveSameBlocks};
 ghost use Rattle.directory.specs.Recovery.{boot_recovery, access_of, recovered};
 ghost use Rattle.directory.specs.Recovering.{IsRecovering, Finds, most_left, least_left, IsOneLess};
 ghost use Rattle.directory.specs.declared.creation.Creation.{Creation};
 ghost use Rattle.directory.specs.declared.queue.Queue.{Queue};
 ghost use Rattle.directory.specs.declared.recovery.DirectoryRecovery.{DirectoryRecovery};
 
-use arena::SLOTS;
+use arena::{BLOCKS_FROM, SLOTS};
 
 /// A directory at rest is what the kept words say, and what the cached ones do. It stays at rest where words are
 /// evicted, in a crash, and where its words stay.
@@ -43,14 +43,35 @@ pub fn directories_begin()
     ensures blank { (ws : Words) → HasDirectory ws → IsBlank ws → IsAtRest ws (replicate SLOTS None) }
 {}
 
-/// A directory at rest is sound, where it has no name twice and the blocks of its free slots are kept all 0. With a queue
-/// of a new name in a free slot it has no name twice either.
+/// A directory at rest is sound, where it has no name twice and the blocks of its free slots are kept all 0. With a
+/// queue of a new name in a free slot it has no name twice either.
 pub fn directories_are_sound()
     ensures rest { (counts : Counts) (ws : Words) (directory : Directory) → IsAtRest ws directory
         → IsDirectory directory → AreFreeBlocksZero counts ws.kept directory → DirectoryIsSound counts ws.kept }
     ensures more { (directory : Directory) (slot : ℕ) (queue : Queue) → IsDirectory directory
         → IsFree directory slot → (HasName directory queue.name → ⊥)
         → IsDirectory (slice_set directory slot (Some queue)) }
+{}
+
+/// What changes nothing but words past the directory leaves the directory as it is.
+pub fn directories_stay_before_blocks()
+    ensures { (old new : Words) (from len : ℕ) → BLOCKS_FROM ≤ from → HasDirectory new
+        → IsSameOutside from len old new → HaveSameDirectory old new }
+{}
+
+/// The head stays as it is: where the words of the directory stay, in evictions, in a crash, and in the steps of a
+/// creation and of a recovery.
+#[tactic(auto, using(crate::proofs::Sounds::head_moves, crate::proofs::Sounds::head_crashed))]
+pub fn heads_stay()
+    ensures elsewhere { (old new : Words) (counts : Counts) → HaveSameDirectory old new
+        → HasHead old counts → HasHead new counts }
+    ensures evicted { (ws : Words) (word : ℕ) (counts : Counts) → HasDirectory ws
+        → HasHead ws counts → HasHead (words_after_eviction word ws) counts }
+    ensures crashed { (ws : Words) (counts : Counts) → HasHead ws counts → HasHead (words_after_crash ws) counts }
+    ensures created { (layout counts : Counts) (ws : Words) (creation : Creation) → HasDirectory ws
+        → HasHead ws counts → HasHead (after_one layout (creation_access creation) ws) counts }
+    ensures recovered { (layout counts : Counts) (ws : Words) (recovery : DirectoryRecovery)
+        → HasHead ws counts → HasHead (after_one layout (access_of recovery) ws) counts }
 {}
 
 /// A step of a creation, or of a recovery, leaves the words of the blocks as they are.

@@ -13,8 +13,9 @@ mod soundness;
 
 pub use creation::{Creation, CreationPoint};
 pub use laws::{
-    creations_begin, creations_crash, creations_go_on, creations_stay, directories_are_sound,
-    directories_begin, directories_stay,
+    blocks_stay, creations_begin, creations_crash, creations_end, creations_go_on, creations_stay,
+    directories_are_sound, directories_begin, directories_stay, directories_stay_before_blocks,
+    heads_stay, recoveries_begin, recoveries_end, recoveries_go_on, recoveries_stay,
 };
 pub use name::{NAME_BYTES, Name, words_spell_names};
 pub use queue::{Places, Queue};

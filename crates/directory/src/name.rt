@@ -31,7 +31,7 @@ impl Model for Name {
 
     ghost inverse = { λ name. record { row = name_row name; len = length name } };
 
-    ghost inverse_ok = { λ n h. let row = row_again n.row n.len h in let len = length_again n.row n.len h in Prim.rw (row, len) refl };
+    ghost inverse_ok = { λ n h. Prim.rw (row_again n.row n.len h, length_again n.row n.len h) refl };
 }
 
 /// Whether a name may have the byte.
