@@ -1,5 +1,5 @@
 -- What a search finds among ascending entries, and what an edit at that place does.
-use Rattle.std.proofs.Common.{◌≡◌, ℕ, ◌+◌, ◌-◌, ◌<◌, ◌≤◌, length, get_or, set, Some, None, Result, Ok, Err, IfOk, IfErr, refl, sym, ap, subst, arith}
+use Rattle.std.proofs.Common.{◌≡◌, ℕ, zero, suc, ◌+◌, ◌-◌, ◌<◌, ◌≤◌, length, get_or, set, Some, None, Result, Ok, Err, IfOk, IfErr, refl, sym, ap, subst, arith}
 use Rattle.std.specs.List.{insert, remove}
 use Rattle.std.specs.List.Sorted.{IsSearchInRange, IsBinarySearchResult, IsNonDecreasingBy}
 use Rattle.std.specs.Ordering.{nat_cmp, ordering_index}
@@ -33,6 +33,11 @@ module _ (l : Entries) (up : IsAscending l) (k : ℕ) where
       higher_after = λ j le lt. ranked _ k _ (sym ((parted comparisons_rise).1 j (0, 0) le lt));
     };
   }
+
+-- each of the entries before a place has a lower word of its own
+pub place_is_below_word : (l : Entries) → IsAscending l → (i : ℕ) → i < length l → i ≤ word_at l i
+place_is_below_word l up zero h = omega arith
+place_is_below_word l up (suc i) h = omega (arith, place_is_below_word l up i (omega (arith, h)), up i (suc i) (omega arith) h)
 
 module _ (l : Entries) (up : IsAscending l) (k at : ℕ) (is_at : IsEntryOf l k at) where
   -- the words before the place are lower, so none is k

@@ -38,13 +38,17 @@ fn carry_down(entries: &mut [(u64, u64)], at: usize, entry: (u64, u64)) -> (u64,
     carried
 }
 
-/// Where the word's entry is, or where it would go. It looks at the last entries first.
+/// Where the word's entry is, or where it would go. It looks at the last entries first, but at none that has more entries
+/// before it than there are lower words: each of these has a word of its own.
 fn search_back(entries: &[(u64, u64)], word: u64) -> Result<usize, usize>
     requires { IsAscending entries.now }
     ensures found { IfOk result (IsEntryOf entries.now word) }
     ensures absent { IfErr result (IsGapFor entries.now word) }
 {
     let mut at = entries.len();
+    if word < at as u64 {
+        at = word as usize + 1;
+    }
     while at > 0 {
         let listed = entries[at - 1].0;
         if listed == word {
@@ -98,13 +102,23 @@ impl ChangeList {
         self.entries.len()
     }
 
+    /// Where the word's entry is among many, or where it would go.
+    #[cold]
+    #[inline(never)]
+    fn search_many(&self, word: u64) -> Result<usize, usize>
+        ensures found { IfOk result (IsEntryOf self.now.entries word) }
+        ensures absent { IfErr result (IsGapFor self.now.entries word) }
+    {
+        self.entries.binary_search_by_key(&word, |&(w, _)| w)
+    }
+
     /// Where the word's entry is, or where it would go.
     pub(crate) fn search(&self, word: u64) -> Result<usize, usize>
         ensures found { IfOk result (IsEntryOf self.now.entries word) }
         ensures absent { IfErr result (IsGapFor self.now.entries word) }
     {
         if self.entries.len() > FEW {
-            return self.entries.binary_search_by_key(&word, |&(w, _)| w);
+            return self.search_many(word);
         }
         search_back(&self.entries, word)
     }

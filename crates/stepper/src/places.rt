@@ -12,7 +12,10 @@ use arena::{Layout, Place, Write};
 use persist::{Change, Swap, WordMemory};
 use words::MAX_RECORD_NUMBER;
 
+// The accesses stand in their callers' code, where the place is known, and with it most of the way to its word.
+
 /// Loads the word of a place.
+#[inline(always)]
 pub fn load_at<L: Layout, M: WordMemory>(layout: &L, memory: &mut M, place: Place) -> u64
     requires place { IsPlace (L.shape layout.now) place }
     requires room { size_of (L.shape layout.now) ≤ length (M.words memory.old).cached }
@@ -25,6 +28,7 @@ pub fn load_at<L: Layout, M: WordMemory>(layout: &L, memory: &mut M, place: Plac
 }
 
 /// Makes a write.
+#[inline(always)]
 pub fn store_at<L: Layout, M: WordMemory>(layout: &L, memory: &mut M, write: Write)
     requires place { IsPlace (L.shape layout.now) write.place }
     requires room { size_of (L.shape layout.now) ≤ length (M.words memory.old).cached }
@@ -35,6 +39,7 @@ pub fn store_at<L: Layout, M: WordMemory>(layout: &L, memory: &mut M, write: Wri
 }
 
 /// Makes a write where the place has this old value.
+#[inline(always)]
 pub fn cas_at<L: Layout, M: WordMemory>(layout: &L, memory: &mut M, old: u64, write: Write) -> Swap
     requires place { IsPlace (L.shape layout.now) write.place }
     requires room { size_of (L.shape layout.now) ≤ length (M.words memory.old).cached }
@@ -48,6 +53,7 @@ pub fn cas_at<L: Layout, M: WordMemory>(layout: &L, memory: &mut M, old: u64, wr
 }
 
 /// Keeps the cached value of a place's word. It answers the change, where the kept value changed.
+#[inline(always)]
 pub fn flush_at<L: Layout, M: WordMemory>(
     layout: &L,
     memory: &mut M,

@@ -1,16 +1,16 @@
 use Rattle.std.proofs.Common.{rules}
 use Rattle.std.proofs.lemmas.List.Sorted.{answers_always}
 use Rattle.persist.proofs.Places.{searched}
-use Rattle.persist.proofs.changes.ChangeList.search.Goals as goal
+use Rattle.persist.proofs.changes.ChangeList.search_many.Goals as goal
 
-pub returns-then-len-gt-FEW-clause-found : goal.returns-then-len-gt-FEW-clause-found
-returns-then-len-gt-FEW-clause-found c =
+pub returns-clause-found : goal.returns-clause-found
+returns-clause-found c =
     let facts = c.binary_search_by_key.ensures in
     let by_key = facts.position (λ entry. entry.0) (answers_always _ _ _ (λ f a r g called. search rules)) in
     rw (← c.self.view_is, ← c.deref.ensures.value) (searched _ (rw c.deref.ensures.value c.self.invariant) c.args.word _ facts.bound by_key).found
 
-pub returns-then-len-gt-FEW-clause-absent : goal.returns-then-len-gt-FEW-clause-absent
-returns-then-len-gt-FEW-clause-absent c =
+pub returns-clause-absent : goal.returns-clause-absent
+returns-clause-absent c =
     let facts = c.binary_search_by_key.ensures in
     let by_key = facts.position (λ entry. entry.0) (answers_always _ _ _ (λ f a r g called. search rules)) in
     rw (← c.self.view_is, ← c.deref.ensures.value) (searched _ (rw c.deref.ensures.value c.self.invariant) c.args.word _ facts.bound by_key).absent
