@@ -1,0 +1,27 @@
+-- One access to a place of a broker, and what it leaves.
+use Rattle.std.specs.Prelude.{ℕ, slice_index}
+use Rattle.persist.specs.Memory.{Words, Access, Load, Store, Cas, Flush, after}
+use Rattle.arena.specs.Broker.{broker_word}
+use Rattle.arena.specs.Shape.{Counts}
+use Rattle.arena.specs.declared.broker.BrokerPlace.{BrokerPlace}
+
+abbrev pub place_of : Access BrokerPlace → BrokerPlace
+place_of (Load place) = place
+place_of (Store place value) = place
+place_of (Cas place old new) = place
+place_of (Flush place) = place
+
+-- the access to the place's word
+abbrev pub at_word : Counts → Access BrokerPlace → Access ℕ
+at_word c (Load place) = Load (broker_word c place)
+at_word c (Store place value) = Store (broker_word c place) value
+at_word c (Cas place old new) = Cas (broker_word c place) old new
+at_word c (Flush place) = Flush (broker_word c place)
+
+-- the words after exactly one access, this one
+abbrev pub after_one : Counts → Access BrokerPlace → Words → Words
+after_one c access ws = after (at_word c access) ws
+
+-- the cached value that the access finds
+abbrev pub value_found : Counts → Access BrokerPlace → Words → ℕ
+value_found c access ws = slice_index ws.cached (broker_word c (place_of access))

@@ -1,0 +1,161 @@
+//! What holds of the words of a directory: at rest, while a queue is created, and while it is recovered.
+
+ghost use Rattle.std.specs.Prelude.{◌≡◌, ℕ, ◌+◌, ◌<◌, ◌≤◌, IfSome, Some, None, replicate, slice_set};
+ghost use Rattle.persist.specs.Memory.{Words, words_after_eviction, words_after_crash, IsSameOutside};
+ghost use Rattle.arena.specs.Shape.{Counts};
+ghost use Rattle.arena.specs.declared.broker.SlotId.{SlotId};
+ghost use Rattle.directory.specs.Name.{IsName};
+ghost use Rattle.directory.specs.Queue.{directory_of, IsOpen};
+ghost use Rattle.directory.specs.Directory.{Directory, IsDirectory, IsFree, HasName};
+ghost use Rattle.directory.specs.Sound.{AreBrokerWords, AreFreeBlocksZero, DirectoryIsSound};
+ghost use Rattle.directory.specs.Step.{after_one, value_found};
+ghost use Rattle.directory.specs.Creation.{new_creation, access_of as creation_access, successor, left_at, left_after};
+ghost use Rattle.directory.specs.UnderWay.{HasDirectory, HasHead, IsAtRest, IsBlank, IsCreationUnderWay, ComesTo, IsAsItWasOrWith, HaveSameDirectory, HaveSameBlocks};
+ghost use Rattle.directory.specs.Recovery.{boot_recovery, access_of, recovered};
+ghost use Rattle.directory.specs.Recovering.{IsRecovering, Finds, most_left, least_left, IsOneLess};
+ghost use Rattle.directory.specs.declared.creation.Creation.{Creation};
+ghost use Rattle.directory.specs.declared.queue.Queue.{Queue};
+ghost use Rattle.directory.specs.declared.recovery.DirectoryRecovery.{DirectoryRecovery};
+
+use arena::{BLOCKS_FROM, SLOTS};
+
+/// A directory at rest is what the kept words say, and what the cached ones do. It stays at rest where words are
+/// evicted, in a crash, and where its words stay.
+#[tactic(auto, using(crate::proofs::Creations::rest_crashed, crate::proofs::Creations::rest_moves))]
+pub fn directories_stay()
+    ensures kept { (ws : Words) (directory : Directory) → IsAtRest ws directory
+        → directory_of ws.kept ≡ directory }
+    ensures cached { (ws : Words) (directory : Directory) → IsAtRest ws directory
+        → directory_of ws.cached ≡ directory }
+    ensures evicted { (ws : Words) (directory : Directory) → IsAtRest ws directory
+        → (word : ℕ) → IsAtRest (words_after_eviction word ws) directory }
+    ensures crashed { (ws : Words) (directory : Directory) → IsAtRest ws directory
+        → IsAtRest (words_after_crash ws) directory }
+    ensures elsewhere { (old new : Words) (directory : Directory) → IsAtRest old directory
+        → HaveSameDirectory old new → IsAtRest new directory }
+{}
+
+/// A directory is at rest after a crash that leaves sound words, and where all its words are 0: it has no queue then.
+#[tactic(auto, using(crate::proofs::Sounds::sound_rest, crate::proofs::Sounds::blank_rest))]
+pub fn directories_begin()
+    ensures sound { (ws : Words) → AreBrokerWords ws.kept
+        → IsAtRest (words_after_crash ws) (directory_of ws.kept) }
+    ensures blank { (ws : Words) → HasDirectory ws → IsBlank ws → IsAtRest ws (replicate SLOTS None) }
+{}
+
+/// A directory at rest is sound, where it has no name twice and the blocks of its free slots are kept all 0. With a
+/// queue of a new name in a free slot it has no name twice either.
+pub fn directories_are_sound()
+    ensures rest { (counts : Counts) (ws : Words) (directory : Directory) → IsAtRest ws directory
+        → IsDirectory directory → AreFreeBlocksZero counts ws.kept directory → DirectoryIsSound counts ws.kept }
+    ensures more { (directory : Directory) (slot : ℕ) (queue : Queue) → IsDirectory directory
+        → IsFree directory slot → (HasName directory queue.name → ⊥)
+        → IsDirectory (slice_set directory slot (Some queue)) }
+{}
+
+/// What changes nothing but words past the directory leaves the directory as it is.
+pub fn directories_stay_before_blocks()
+    ensures { (old new : Words) (from len : ℕ) → BLOCKS_FROM ≤ from → HasDirectory new
+        → IsSameOutside from len old new → HaveSameDirectory old new }
+{}
+
+/// The head stays as it is: where the words of the directory stay, in evictions, in a crash, and in the steps of a
+/// creation and of a recovery.
+#[tactic(auto, using(crate::proofs::Sounds::head_moves, crate::proofs::Sounds::head_crashed))]
+pub fn heads_stay()
+    ensures elsewhere { (old new : Words) (counts : Counts) → HaveSameDirectory old new
+        → HasHead old counts → HasHead new counts }
+    ensures evicted { (ws : Words) (word : ℕ) (counts : Counts) → HasDirectory ws
+        → HasHead ws counts → HasHead (words_after_eviction word ws) counts }
+    ensures crashed { (ws : Words) (counts : Counts) → HasHead ws counts → HasHead (words_after_crash ws) counts }
+    ensures created { (layout counts : Counts) (ws : Words) (creation : Creation) → HasDirectory ws
+        → HasHead ws counts → HasHead (after_one layout (creation_access creation) ws) counts }
+    ensures recovered { (layout counts : Counts) (ws : Words) (recovery : DirectoryRecovery)
+        → HasHead ws counts → HasHead (after_one layout (access_of recovery) ws) counts }
+{}
+
+/// A step of a creation, or of a recovery, leaves the words of the blocks as they are.
+#[tactic(auto, using(crate::proofs::Sounds::creation_blocks))]
+pub fn blocks_stay()
+    ensures created { (counts : Counts) (ws : Words) (creation : Creation) → creation.slot.0 < SLOTS
+        → HaveSameBlocks ws (after_one counts (creation_access creation) ws) }
+    ensures recovered { (counts : Counts) (ws : Words) (recovery : DirectoryRecovery)
+        → HaveSameBlocks ws (after_one counts (access_of recovery) ws) }
+{}
+
+/// A creation may begin in a free slot of a directory at rest.
+#[tactic(auto, using(crate::proofs::Creations::creation_begins))]
+pub fn creations_begin()
+    ensures { (ws : Words) (slot : SlotId) (queue : Queue) (directory : Directory)
+        → IsAtRest ws directory → IsFree directory slot.0 → IsName queue.name
+        → IsCreationUnderWay ws (new_creation slot queue) directory }
+{}
+
+/// A step of a creation goes on with it; the last one leaves a directory at rest, with the queue in the slot.
+pub fn creations_go_on()
+    ensures { (counts : Counts) (ws : Words) (creation : Creation) (directory : Directory)
+        → IsCreationUnderWay ws creation directory
+        → ComesTo (after_one counts (creation_access creation) ws) creation.queue directory (successor creation) }
+{}
+
+/// A creation takes eight steps.
+#[tactic(auto, using(crate::proofs::Creations::creation_less))]
+pub fn creations_end()
+    ensures begin { (slot : SlotId) (queue : Queue) → left_at (new_creation slot queue).at ≡ 8 }
+    ensures step { (creation : Creation) → left_after (successor creation) + 1 ≡ left_at creation.at }
+{}
+
+/// Evictions leave a creation as it is, and so does all that leaves the words of the directory as they are.
+#[tactic(auto, using(crate::proofs::Creations::creation_moves))]
+pub fn creations_stay()
+    ensures evicted { (ws : Words) (creation : Creation) (directory : Directory)
+        → IsCreationUnderWay ws creation directory
+        → (word : ℕ) → IsCreationUnderWay (words_after_eviction word ws) creation directory }
+    ensures elsewhere { (old new : Words) (creation : Creation) (directory : Directory)
+        → IsCreationUnderWay old creation directory → HaveSameDirectory old new
+        → IsCreationUnderWay new creation directory }
+{}
+
+/// A crash at any moment of a creation leaves the directory as it was before it, or with the whole queue in it.
+#[tactic(auto, using(crate::proofs::Creations::creation_crashed))]
+pub fn creations_crash()
+    ensures { (ws : Words) (creation : Creation) (directory : Directory)
+        → IsCreationUnderWay ws creation directory
+        → IsAsItWasOrWith (words_after_crash ws) creation directory }
+{}
+
+/// A recovery begins on a directory at rest, as a crash leaves it.
+#[tactic(auto, using(crate::proofs::Recoveries::recovery_begins))]
+pub fn recoveries_begin()
+    ensures { (ws : Words) (directory : Directory) → IsAtRest ws directory
+        → IsRecovering ws boot_recovery directory }
+{}
+
+/// A step of a recovery goes on with it; the last one answers the directory. A slot whose gate it finds open has a
+/// queue.
+pub fn recoveries_go_on()
+    ensures next { (counts : Counts) (ws : Words) (recovery : DirectoryRecovery) (directory : Directory)
+        → IsRecovering ws recovery directory → let access = access_of recovery in
+        Finds (after_one counts access ws) directory (recovered recovery (value_found counts access ws)).after }
+    ensures opened { (counts : Counts) (ws : Words) (recovery : DirectoryRecovery) (directory : Directory)
+        → IsRecovering ws recovery directory → let access = access_of recovery in
+        IfSome (recovered recovery (value_found counts access ws)).opened (λ slot. IsOpen ws.kept slot.0) }
+{}
+
+/// A recovery takes 32 steps at most, and 8 at least.
+pub fn recoveries_end()
+    ensures most { most_left boot_recovery ≡ 32 }
+    ensures least { least_left boot_recovery ≡ 8 }
+    ensures step { (recovery : DirectoryRecovery) (found : ℕ) → IsOneLess recovery (recovered recovery found).after }
+{}
+
+/// Evictions leave a recovery as it is, and so does all that leaves the words of the directory as they are.
+#[tactic(auto, using(crate::proofs::Recoveries::recovery_moves))]
+pub fn recoveries_stay()
+    ensures evicted { (ws : Words) (recovery : DirectoryRecovery) (directory : Directory)
+        → IsRecovering ws recovery directory
+        → (word : ℕ) → IsRecovering (words_after_eviction word ws) recovery directory }
+    ensures elsewhere { (old new : Words) (recovery : DirectoryRecovery) (directory : Directory)
+        → IsRecovering old recovery directory → HaveSameDirectory old new
+        → IsRecovering new recovery directory }
+{}

@@ -1,0 +1,46 @@
+//! One access, at a place of a broker.
+
+ghost use Rattle.std.specs.Prelude.{◌≡◌, ◌≤◌, length};
+ghost use Rattle.arena.specs.Broker.{broker_size, IsBrokerPlace};
+ghost use Rattle.persist.specs.Memory.{Load, Store, Flush};
+ghost use Rattle.directory.specs.Step.{after_one, value_found};
+
+use arena::{BrokerLayout, BrokerPlace};
+use persist::WordMemory;
+
+/// Loads the word of a place.
+pub(crate) fn load_at<M: WordMemory>(
+    layout: &BrokerLayout,
+    memory: &mut M,
+    place: BrokerPlace,
+) -> u64
+    requires place { IsBrokerPlace layout.now place }
+    requires room { broker_size layout.now ≤ length (M.words memory.old).cached }
+    ensures value { result ≡ value_found layout.now (Load place) (M.words memory.old) }
+    ensures one_access { M.words memory.new ≡ after_one layout.now (Load place) (M.words memory.old) }
+{
+    memory.load(layout.word(place)).unwrap()
+}
+
+/// Stores a value in the word of a place.
+pub(crate) fn store_at<M: WordMemory>(
+    layout: &BrokerLayout,
+    memory: &mut M,
+    place: BrokerPlace,
+    value: u64,
+)
+    requires place { IsBrokerPlace layout.now place }
+    requires room { broker_size layout.now ≤ length (M.words memory.old).cached }
+    ensures { M.words memory.new ≡ after_one layout.now (Store place value) (M.words memory.old) }
+{
+    memory.store(layout.word(place), value).unwrap()
+}
+
+/// Keeps the cached value of a place's word.
+pub(crate) fn flush_at<M: WordMemory>(layout: &BrokerLayout, memory: &mut M, place: BrokerPlace)
+    requires place { IsBrokerPlace layout.now place }
+    requires room { broker_size layout.now ≤ length (M.words memory.old).cached }
+    ensures { M.words memory.new ≡ after_one layout.now (Flush place) (M.words memory.old) }
+{
+    let _change = memory.flush(layout.word(place)).unwrap();
+}
