@@ -8,7 +8,7 @@ use Rattle.persist.specs.Memory.{Words, Load, words_after_access, words_after_ev
 use Rattle.arena.specs.Shape.{Counts}
 use Rattle.arena.specs.declared.broker.SlotId.{SlotId}
 use Rattle.arena.specs.declared.broker.BrokerPlace.TheVariants.{QueueKind}
-use Rattle.directory.specs.Queue.{first_name_at, second_name_at, kind_at, gate_at, queue_of, queue_in, slot_in, IsOpen}
+use Rattle.directory.specs.Queue.{first_name_at, second_name_at, kind_at, gate_at, queue_of, queue_in, slot_in, IsOpenSlot}
 use Rattle.directory.specs.Directory.{Directory}
 use Rattle.directory.specs.UnderWay.{IsSettled, IsAtRest, HaveSameDirectory}
 use Rattle.directory.specs.Recovering.{AreFoundBefore, IsLoaded, IsRecovering, Finds, left_of_slot, due_of_slot, IsOneLess}
@@ -172,11 +172,11 @@ one_less recovery found = less recovery.places recovery.places recovery.at found
 
 -- a slot whose gate it found open is open, and has a queue
 opened_at : (c : Counts) (ws : Words) (places directory : Directory) (at : DirectoryPoint) → IsAtRest ws directory → slot_at at < 8
-    → IfSome (recovered_at places at (value_found c (Load (load_of at)) ws)).opened (λ slot. IsOpen ws.kept slot.0)
+    → IfSome (recovered_at places at (value_found c (Load (load_of at)) ws)).opened (λ slot. IsOpenSlot ws.kept slot.0)
 opened_at c ws places directory (LoadGate slot) rest below =
     let own = rest.slots slot.0 below in
     elim (eqb_tells (slice_index ws.cached (gate_at slot.0)) 1) [
-      | inl e ↦ rw e.0 (elim own.sound [ inl shut ↦ absurd (let one : 0 ≡ 1 = sym shut ∙ (sym own.settled.gate ∙ e.1) in omega arith) | inr opened ↦ opened ])
+      | inl e ↦ rw e.0 (elim own.sound [ inl shut ↦ absurd (let one : 0 ≡ 1 = sym shut ∙ (sym own.settled.gate ∙ e.1) in omega arith) | inr opened ↦ record { in_range = below; opened = opened } ])
       | inr e ↦ rw e.0 tt
     ]
 opened_at c ws places directory (LoadFirstName slot) rest below = tt
@@ -184,5 +184,5 @@ opened_at c ws places directory (LoadSecondName slot first) rest below = tt
 opened_at c ws places directory (LoadKind slot first second) rest below = tt
 
 pub recovery_opens : (c : Counts) (ws : Words) (recovery : DirectoryRecovery) (directory : Directory) → IsRecovering ws recovery directory
-    → IfSome (recovered recovery (value_found c (access_of recovery) ws)).opened (λ slot. IsOpen ws.kept slot.0)
+    → IfSome (recovered recovery (value_found c (access_of recovery) ws)).opened (λ slot. IsOpenSlot ws.kept slot.0)
 recovery_opens c ws recovery directory h = opened_at c ws recovery.places directory recovery.at h.rest h.in_range

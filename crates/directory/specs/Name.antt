@@ -3,7 +3,7 @@ use Rattle.std.specs.Prelude.{◌≡◌, ℕ, ◌-◌, ◌≤◌, Bool, ◌&&◌
 use Rattle.std.specs.List.{list_all, before_first}
 use Rattle.std.specs.Int.{w64, from_le_bytes, to_le_bytes}
 use Rattle.std.proofs.Common.{sym, arith, length-take}
-use Rattle.directory.specs.declared.name.TheConstants.{NAME_BYTES}
+use Rattle.directory.specs.declared.name.TheConstants.{NAME_BYTES, WORD_BYTES}
 
 -- a letter from a to z, a digit, an underscore or a dash
 abbrev pub is_name_byte : ℕ → Bool
@@ -22,10 +22,10 @@ name_row name = name ++ replicate (NAME_BYTES - length name) 0
 
 -- the row as two little-endian words
 abbrev pub first_word : List ℕ → ℕ
-first_word name = from_le_bytes w64 (take 8 (name_row name))
+first_word name = from_le_bytes w64 (take WORD_BYTES (name_row name))
 
 abbrev pub second_word : List ℕ → ℕ
-second_word name = from_le_bytes w64 (drop 8 (name_row name))
+second_word name = from_le_bytes w64 (drop WORD_BYTES (name_row name))
 
 -- the sixteen bytes of two words, and those of them before the first zero
 abbrev pub row_of : ℕ → ℕ → List ℕ

@@ -1,5 +1,5 @@
 -- The queues that a directory lists, and the words that tell of them.
-use Rattle.std.specs.Prelude.{◌≡◌, ◌⊎◌, IsSome, ℕ, ◌+◌, ◌==◌, if◌then◌else◌, List, Option, Some, None, map, slice_index}
+use Rattle.std.specs.Prelude.{◌≡◌, ◌⊎◌, IsSome, ℕ, ◌+◌, ◌<◌, ◌==◌, if◌then◌else◌, List, Option, Some, None, map, slice_index}
 use Rattle.std.specs.List.{range_with_len}
 use Rattle.words.specs.declared.call.Kind.{Kind}
 use Rattle.words.specs.declared.call.Kind.TheVariants.{Durable, Log}
@@ -46,10 +46,14 @@ queue_in ws slot =
 abbrev pub slot_in : List ℕ → ℕ → Option Queue
 slot_in ws slot = if slice_index ws (gate_at slot) == OPEN_GATE then queue_in ws slot else None
 
--- a gate is closed, or it is open and the words tell of a queue
+-- the gate is open and the words tell of a queue; so it is of a slot of the directory; or the gate is closed
 pub record IsOpen (ws : List ℕ) (slot : ℕ) : Type 0 where
   pub gate : slice_index ws (gate_at slot) ≡ OPEN_GATE
   pub queue : IsSome (queue_in ws slot)
+
+pub record IsOpenSlot (ws : List ℕ) (slot : ℕ) : Type 0 where
+  pub in_range : slot < SLOTS
+  pub opened : IsOpen ws slot
 
 abbrev pub IsSlotSound : List ℕ → ℕ → Type 0
 IsSlotSound ws slot = (slice_index ws (gate_at slot) ≡ CLOSED_GATE) ⊎ IsOpen ws slot

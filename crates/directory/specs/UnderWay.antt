@@ -84,11 +84,11 @@ HasSecondName ws slot queue = IsKept ws (second_name_at slot) (second_word queue
 abbrev pub HasKind : Words → ℕ → Queue → Type 0
 HasKind ws slot queue = IsKept ws (kind_at slot) (kind_code queue.kind)
 
-abbrev pub HasName : Words → ℕ → Queue → Type 0
-HasName ws slot queue = HasFirstName ws slot queue × HasSecondName ws slot queue
+abbrev pub HasNameWords : Words → ℕ → Queue → Type 0
+HasNameWords ws slot queue = HasFirstName ws slot queue × HasSecondName ws slot queue
 
 abbrev pub HasQueueWords : Words → ℕ → Queue → Type 0
-HasQueueWords ws slot queue = HasName ws slot queue × HasKind ws slot queue
+HasQueueWords ws slot queue = HasNameWords ws slot queue × HasKind ws slot queue
 
 -- how far a creation has come with the words of its slot
 abbrev pub IsAsFarAs : Words → ℕ → Queue → CreationPoint → Type 0
@@ -97,8 +97,8 @@ IsAsFarAs ws slot queue FlushFirstName = IsClosed ws slot × StoresFirstName ws 
 IsAsFarAs ws slot queue StoreSecondName = IsClosed ws slot × HasFirstName ws slot queue
 IsAsFarAs ws slot queue FlushSecondName =
     IsClosed ws slot × HasFirstName ws slot queue × StoresSecondName ws slot queue
-IsAsFarAs ws slot queue StoreKind = IsClosed ws slot × HasName ws slot queue
-IsAsFarAs ws slot queue FlushKind = IsClosed ws slot × HasName ws slot queue × StoresKind ws slot queue
+IsAsFarAs ws slot queue StoreKind = IsClosed ws slot × HasNameWords ws slot queue
+IsAsFarAs ws slot queue FlushKind = IsClosed ws slot × HasNameWords ws slot queue × StoresKind ws slot queue
 IsAsFarAs ws slot queue StoreGate = IsClosed ws slot × HasQueueWords ws slot queue
 IsAsFarAs ws slot queue FlushGate = IsOpening ws slot × HasQueueWords ws slot queue
 

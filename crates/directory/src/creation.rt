@@ -8,7 +8,8 @@ ghost use Rattle.directory.specs.Creation.{new_creation, access_of, next_of, suc
 
 use crate::places::{flush_at, store_at};
 use crate::queue::{Queue, kind_code};
-use arena::{BrokerLayout, BrokerPlace, OPEN_GATE, SLOTS, SlotId};
+use arena::BrokerPlace::{FirstName, Gate, QueueKind, SecondName};
+use arena::{BrokerLayout, OPEN_GATE, SLOTS, SlotId};
 use persist::WordMemory;
 use stepper::After;
 
@@ -41,6 +42,7 @@ impl Creation {
         ensures made { result ≡ new_creation slot queue }
         ensures named { IsName queue.name }
     {
+        // A name's bytes are a name, and callers are told so.
         let _name = queue.name.as_bytes();
         Creation {
             slot,
@@ -77,38 +79,14 @@ impl Creation {
         let [first, second] = self.queue.name.words();
         let kind = kind_code(self.queue.kind);
         match self.at {
-            CreationPoint::StoreFirstName => store_at(
-                layout,
-                memory,
-                BrokerPlace::FirstName(slot),
-                first,
-            ),
-            CreationPoint::FlushFirstName => flush_at(layout, memory, BrokerPlace::FirstName(slot)),
-            CreationPoint::StoreSecondName => store_at(
-                layout,
-                memory,
-                BrokerPlace::SecondName(slot),
-                second,
-            ),
-            CreationPoint::FlushSecondName => flush_at(
-                layout,
-                memory,
-                BrokerPlace::SecondName(slot),
-            ),
-            CreationPoint::StoreKind => store_at(
-                layout,
-                memory,
-                BrokerPlace::QueueKind(slot),
-                kind,
-            ),
-            CreationPoint::FlushKind => flush_at(layout, memory, BrokerPlace::QueueKind(slot)),
-            CreationPoint::StoreGate => store_at(
-                layout,
-                memory,
-                BrokerPlace::Gate(slot),
-                OPEN_GATE,
-            ),
-            CreationPoint::FlushGate => flush_at(layout, memory, BrokerPlace::Gate(slot)),
+            CreationPoint::StoreFirstName => store_at(layout, memory, FirstName(slot), first),
+            CreationPoint::FlushFirstName => flush_at(layout, memory, FirstName(slot)),
+            CreationPoint::StoreSecondName => store_at(layout, memory, SecondName(slot), second),
+            CreationPoint::FlushSecondName => flush_at(layout, memory, SecondName(slot)),
+            CreationPoint::StoreKind => store_at(layout, memory, QueueKind(slot), kind),
+            CreationPoint::FlushKind => flush_at(layout, memory, QueueKind(slot)),
+            CreationPoint::StoreGate => store_at(layout, memory, Gate(slot), OPEN_GATE),
+            CreationPoint::FlushGate => flush_at(layout, memory, Gate(slot)),
         }
     }
 }

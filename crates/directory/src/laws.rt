@@ -5,7 +5,7 @@ ghost use Rattle.persist.specs.Memory.{Words, words_after_eviction, words_after_
 ghost use Rattle.arena.specs.Shape.{Counts};
 ghost use Rattle.arena.specs.declared.broker.SlotId.{SlotId};
 ghost use Rattle.directory.specs.Name.{IsName};
-ghost use Rattle.directory.specs.Queue.{directory_of, IsOpen};
+ghost use Rattle.directory.specs.Queue.{directory_of, IsOpenSlot};
 ghost use Rattle.directory.specs.Directory.{Directory, IsDirectory, IsFree, HasName};
 ghost use Rattle.directory.specs.Sound.{AreBrokerWords, AreFreeBlocksZero, DirectoryIsSound};
 ghost use Rattle.directory.specs.Step.{after_one, value_found};
@@ -139,7 +139,7 @@ pub fn recoveries_go_on()
         Finds (after_one counts access ws) directory (recovered recovery (value_found counts access ws)).after }
     ensures opened { (counts : Counts) (ws : Words) (recovery : DirectoryRecovery) (directory : Directory)
         → IsRecovering ws recovery directory → let access = access_of recovery in
-        IfSome (recovered recovery (value_found counts access ws)).opened (λ slot. IsOpen ws.kept slot.0) }
+        IfSome (recovered recovery (value_found counts access ws)).opened (λ slot. IsOpenSlot ws.kept slot.0) }
 {}
 
 /// A recovery takes 32 steps at most, and 8 at least.

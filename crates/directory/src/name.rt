@@ -11,6 +11,9 @@ use words::Refusal;
 /// The most bytes of a name.
 pub const NAME_BYTES: usize = 16;
 
+/// The bytes of a word.
+const WORD_BYTES: usize = 8;
+
 /// The name of a queue: 1 to 16 bytes of `a-z`, `0-9`, `_` and `-`.
 #[derive(Clone, Copy, Debug, PartialEq, Eq, Hash)]
 pub struct Name {
@@ -70,8 +73,8 @@ fn row_of(first: u64, second: u64) -> [u8; NAME_BYTES]
     ensures { result ≡ row_of first second }
 {
     let mut row = [0; NAME_BYTES];
-    row[..8].copy_from_slice(&first.to_le_bytes());
-    row[8..].copy_from_slice(&second.to_le_bytes());
+    row[..WORD_BYTES].copy_from_slice(&first.to_le_bytes());
+    row[WORD_BYTES..].copy_from_slice(&second.to_le_bytes());
     row
 }
 
@@ -94,7 +97,7 @@ fn text_len(row: &[u8]) -> usize
 }
 
 impl Name {
-    /// The name of these bytes. It is refused where they are none (BadName).
+    /// The name of these bytes. It is refused where they are no name (BadName).
     pub fn make(bytes: &[u8]) -> Result<Self, Refusal>
         ensures ok { IsOk result ↔ IsName bytes.now }
         ensures made { IfOk result (λ name. name ≡ bytes.now) }
@@ -150,8 +153,8 @@ impl Name {
     pub fn words(&self) -> [u64; 2]
         ensures { result ≡ first_word self.now ∷ second_word self.now ∷ [] }
     {
-        let (first, rest) = self.row.split_first_chunk::<8>().unwrap();
-        let second = rest.first_chunk::<8>().unwrap();
+        let (first, rest) = self.row.split_first_chunk::<WORD_BYTES>().unwrap();
+        let second = rest.first_chunk::<WORD_BYTES>().unwrap();
         [u64::from_le_bytes(*first), u64::from_le_bytes(*second)]
     }
 

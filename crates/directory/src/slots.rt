@@ -65,7 +65,7 @@ impl Directory {
         &self.places
     }
 
-    /// The slot with the queue of this name.
+    /// The slot with the queue of this name, if there is one.
     pub fn find(&self, name: &Name) -> Option<SlotId>
         ensures found { IfSome result (λ slot. IsNamed self.now slot.0 name.now) }
         ensures none { IfNone result (HasName self.now name.now → ⊥) }
@@ -85,7 +85,7 @@ impl Directory {
         self.find(name).is_some()
     }
 
-    /// The lowest slot that has no queue.
+    /// The lowest slot that has no queue, if there is one.
     pub fn lowest_free(&self) -> Option<SlotId>
         ensures found { IfSome result (λ slot. IsLowestFree self.now slot.0) }
         ensures none { IfNone result ((slot : ℕ) → IsFree self.now slot → ⊥) }
