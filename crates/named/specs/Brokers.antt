@@ -1,0 +1,160 @@
+-- A broker: one memory, and eight slots in it.
+use Rattle.std.specs.Prelude.{◌≡◌, ℕ, Bool, IsSome, List, Ok, Option, Some, None, Result, Err, length, replicate, slice_get, slice_set, nat_lt, if◌then◌else◌}
+use Rattle.std.specs.Option.{option_map}
+use Rattle.words.specs.declared.call.Client.{Client}
+use Rattle.words.specs.declared.call.Kind.{Kind}
+use Rattle.words.specs.declared.refusal.Refusal.{Refusal}
+use Rattle.words.specs.declared.refusal.Refusal.TheVariants.{NoClient, BadName, Busy, Exists, DirectoryFull}
+use Rattle.persist.specs.Memory.{Words, words_in}
+use Rattle.arena.specs.Broker.{block_from, block_size_of, broker_size}
+use Rattle.arena.specs.Limits.{AreCounts}
+use Rattle.arena.specs.Shape.{Counts, shape_of}
+use Rattle.arena.specs.declared.broker.SlotId.{SlotId}
+use Rattle.stepper.specs.declared.resume.After.{After}
+use Rattle.stepper.specs.declared.resume.After.TheVariants.{More, Done}
+use Rattle.arena.specs.declared.broker.TheConstants.{SLOTS}
+use Rattle.directory.specs.Creation.{access_of, new_creation}
+use Rattle.directory.specs.Directory.{Directory, IsDirectory, HasName, IsFree, IsLowestFree}
+use Rattle.directory.specs.Name.{IsName}
+use Rattle.directory.specs.Step.{after_one}
+use Rattle.directory.specs.UnderWay.{HasHead, IsAtRest, IsCreationUnderWay}
+use Rattle.directory.specs.declared.creation.Creation.{Creation}
+use Rattle.directory.specs.declared.queue.Queue.{Queue}
+use Rattle.interleave.specs.State.{State, world_over}
+use Rattle.named.specs.Blocks.{BlockState, IsWellIn}
+use Rattle.named.specs.Slots.{kind_in, world_in, acted, answered}
+use Rattle.named.specs.declared.slot.Slot.{Slot}
+use Rattle.named.specs.declared.slot.Slot.TheVariants.{Closed, Durable, Log}
+
+-- how many clients and records each queue has, the memory, what each slot has, by its worlds and by the directory, and
+-- the creation that is under way
+pub record Brokered : Type 0 where
+  pub counts : Counts
+  pub words : Words
+  pub slots : List Slot
+  pub directory : Directory
+  pub creation : Option Creation
+
+-- the world in a slot, where it is open
+abbrev pub world_of : Words → Option Slot → Option State
+world_of ws (Some slot) = world_in ws slot
+world_of ws None = None
+
+abbrev pub world_at : Brokered → ℕ → Option State
+world_at b slot = world_of b.words (slice_get b.slots slot)
+
+-- the world, but for how many accesses the whole memory had
+abbrev pub quiet : Option State → Option State
+quiet (Some w) = Some (record w { words = record w.words { accesses = 0 } })
+quiet None = None
+
+-- the broker has the client
+abbrev pub has_client : Brokered → Client → Bool
+has_client b client = nat_lt client.0 b.counts.clients
+
+-- what a client's act makes of the world in a slot, and what it is answered
+abbrev pub world_after : (State → State) → Brokered → ℕ → Client → Option State
+world_after f b slot client = if has_client b client then acted f (world_at b slot) else world_at b slot
+
+abbrev pub answer_at : {T : Type 0} → (State → Result T Refusal) → Brokered → ℕ → Client → Result T Refusal
+answer_at f b slot client = if has_client b client then answered f (world_at b slot) else Err NoClient
+
+-- the words of a slot's block, and they are all 0
+abbrev pub block_words : Counts → ℕ → Words → Words
+block_words c slot ws = words_in (block_from c slot) (block_size_of c.clients c.records) ws
+
+pub record IsUnusedBlock (c : Counts) (ws : Words) (slot : ℕ) : Type 0 where
+  pub cached : (block_words c slot ws).cached ≡ replicate (block_size_of c.clients c.records) 0
+  pub kept : (block_words c slot ws).kept ≡ replicate (block_size_of c.clients c.records) 0
+
+-- the queue lies in the slot's block, and its world holds there
+pub record IsInBlock (c : Counts) (ws : Words) (slot : ℕ) (block : BlockState) : Type 0 where
+  pub from : block.from ≡ block_from c slot
+  pub len : block.len ≡ block_size_of c.clients c.records
+  pub well : IsWellIn ws block
+
+-- a closed slot has nothing in its block
+abbrev pub IsSlotAt : Counts → Words → ℕ → Slot → Type 0
+IsSlotAt c ws at Closed = IsUnusedBlock c ws at
+IsSlotAt c ws at (Durable block) = IsInBlock c ws at block
+IsSlotAt c ws at (Log block) = IsInBlock c ws at block
+
+-- the memory's directory is this one, or a creation is under way that will bring a queue of a new name into it
+pub record IsCreating (ws : Words) (creation : Creation) (directory : Directory) : Type 0 where
+  pub under_way : IsCreationUnderWay ws creation directory
+  pub is_new : HasName directory creation.queue.name → ⊥
+
+abbrev pub IsDirectoryIn : Words → Option Creation → Directory → Type 0
+IsDirectoryIn ws None directory = IsAtRest ws directory
+IsDirectoryIn ws (Some creation) directory = IsCreating ws creation directory
+
+-- the memory is as large as the broker's layout
+pub record HasRoom (c : Counts) (ws : Words) : Type 0 where
+  pub cached : length ws.cached ≡ broker_size c
+  pub kept : length ws.kept ≡ broker_size c
+
+-- what holds of a broker at every moment
+pub record IsWell (b : Brokered) : Type 0 where
+  pub counts : AreCounts b.counts.clients b.counts.records
+  pub room : HasRoom b.counts b.words
+  pub head : HasHead b.words b.counts
+  pub count : length b.slots ≡ SLOTS
+  pub slots : (at : ℕ) (slot : Slot) → slice_get b.slots at ≡ Some slot → IsSlotAt b.counts b.words at slot
+  pub listed : IsDirectory b.directory
+  pub kinds : (at : ℕ) (slot : Slot) (queue : Option Queue) → slice_get b.slots at ≡ Some slot
+      → slice_get b.directory at ≡ Some queue → kind_in slot ≡ option_map (λ (q : Queue). q.kind) queue
+  pub directory : IsDirectoryIn b.words b.creation b.directory
+
+-- the broker with this in a slot, over these words
+abbrev pub with_slot : Brokered → ℕ → Slot → Words → Brokered
+with_slot b at slot ws = record b { words = ws; slots = slice_set b.slots at slot }
+
+-- a creation of a queue of this name may begin
+pub record MayCreate (b : Brokered) (name : List ℕ) : Type 0 where
+  pub named : IsName name
+  pub idle : b.creation ≡ None
+  pub is_new : HasName b.directory name → ⊥
+
+-- why it may not, in this order
+abbrev pub IsNotCreated : Brokered → List ℕ → Refusal → Type 0
+IsNotCreated b name BadName = IsName name → ⊥
+IsNotCreated b name Busy = IsName name × IsSome b.creation
+IsNotCreated b name Exists = IsName name × (b.creation ≡ None) × HasName b.directory name
+IsNotCreated b name DirectoryFull = MayCreate b name × ((slot : ℕ) → IsFree b.directory slot → ⊥)
+IsNotCreated b name _ = ⊥
+
+-- it begins in the lowest free slot
+pub record IsBegun (b : Brokered) (name : List ℕ) (kind : Kind) (creation : Creation) : Type 0 where
+  pub free : IsLowestFree b.directory creation.slot.0
+  pub begun : creation ≡ new_creation creation.slot (record { name = name; kind = kind })
+
+-- the broker's words after a step of the creation
+abbrev pub words_created : Brokered → Creation → Words
+words_created b creation = after_one b.counts (access_of creation) b.words
+
+-- its last step opens the slot: a new world, on words that are all 0
+pub record IsOpened (old new : Brokered) (creation : Creation) (slot : SlotId) : Type 0 where
+  pub words : new.words ≡ words_created old creation
+  pub ended : new.creation ≡ None
+  pub directory : new.directory ≡ slice_set old.directory slot.0 (Some creation.queue)
+  pub world : world_at new slot.0
+      ≡ Some (world_over (shape_of creation.queue.kind old.counts) (block_words old.counts slot.0 new.words))
+
+-- what a step of a creation comes to, and what it answers
+abbrev pub IsStepCreated : Brokered → Brokered → Creation → Result (Option SlotId) Refusal → After Creation SlotId → Type 0
+IsStepCreated old new creation result (More next) =
+    (result ≡ Ok None) × (new ≡ record old { words = words_created old creation; creation = Some next })
+IsStepCreated old new creation result (Done slot) = (result ≡ Ok (Some slot)) × IsOpened old new creation slot
+
+-- the words of a new broker: the head's two, and zeros behind them
+abbrev pub new_words : Counts → List ℕ
+new_words c = slice_set (slice_set (replicate (broker_size c) 0) 0 c.clients) 1 c.records
+
+-- a broker with no queue
+pub record IsNew (c : Counts) (b : Brokered) : Type 0 where
+  pub counts : b.counts ≡ c
+  pub cached : b.words.cached ≡ new_words c
+  pub kept : b.words.kept ≡ new_words c
+  pub slots : b.slots ≡ replicate SLOTS Closed
+  pub directory : b.directory ≡ replicate SLOTS None
+  pub creation : b.creation ≡ None

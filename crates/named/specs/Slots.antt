@@ -1,0 +1,61 @@
+-- The slots of a broker: each closed, or open with a queue of either kind in its block.
+use Rattle.std.specs.Prelude.{◌≡◌, Option, Some, None, Result, Err}
+use Rattle.words.specs.declared.call.Kind.{Kind}
+use Rattle.words.specs.declared.call.Kind.TheVariants.{Durable as durable_kind, Log as log_kind}
+use Rattle.words.specs.declared.refusal.Refusal.{Refusal}
+use Rattle.words.specs.declared.refusal.Refusal.TheVariants.{NoQueue}
+use Rattle.persist.specs.Memory.{Words, IsSameOutside}
+use Rattle.interleave.specs.State.{State}
+use Rattle.named.specs.Blocks.{BlockState, state_in, IsWellIn}
+use Rattle.named.specs.declared.slot.Slot.{Slot}
+use Rattle.named.specs.declared.slot.Slot.TheVariants.{Closed, Durable, Log}
+
+-- the kind of a slot's queue, where it is open
+abbrev pub kind_in : Slot → Option Kind
+kind_in Closed = None
+kind_in (Durable block) = Some durable_kind
+kind_in (Log block) = Some log_kind
+
+-- the world in a slot, where it is open
+abbrev pub world_in : Words → Slot → Option State
+world_in ws Closed = None
+world_in ws (Durable block) = Some (state_in ws block)
+world_in ws (Log block) = Some (state_in ws block)
+
+-- an act makes this of the world, where there is one
+abbrev pub acted : (State → State) → Option State → Option State
+acted f (Some w) = Some (f w)
+acted f None = None
+
+-- it is answered this; a closed slot has no queue
+abbrev pub answered : {T : Type 0} → (State → Result T Refusal) → Option State → Result T Refusal
+answered f (Some w) = f w
+answered f None = Err NoQueue
+
+-- this holds of the world, where there is one
+abbrev pub IfWorld : Option State → (State → Type 0) → Type 0
+IfWorld (Some w) p = p w
+IfWorld None p = Unit {0}
+
+-- the block of an open slot is inside the memory, and its world holds there
+abbrev pub IsSlotWell : Words → Slot → Type 0
+IsSlotWell ws Closed = Unit {0}
+IsSlotWell ws (Durable block) = IsWellIn ws block
+IsSlotWell ws (Log block) = IsWellIn ws block
+
+-- two memories differ within the slot's block at most
+abbrev pub IsSameOutsideSlot : Slot → Words → Words → Type 0
+IsSameOutsideSlot Closed old new = new ≡ old
+IsSameOutsideSlot (Durable block) old new = IsSameOutside block.from block.len old new
+IsSameOutsideSlot (Log block) old new = IsSameOutside block.from block.len old new
+
+-- two blocks lie in the same place
+abbrev pub LieInOnePlace : BlockState → BlockState → Type 0
+LieInOnePlace old new = (new.from ≡ old.from) × (new.len ≡ old.len)
+
+-- the slot is closed, or open with a queue of the same kind in the same place
+abbrev pub IsSameSlot : Slot → Slot → Type 0
+IsSameSlot Closed Closed = Unit {0}
+IsSameSlot (Durable old) (Durable new) = LieInOnePlace old new
+IsSameSlot (Log old) (Log new) = LieInOnePlace old new
+IsSameSlot _ _ = ⊥

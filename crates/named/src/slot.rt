@@ -1,0 +1,119 @@
+//! A slot of a broker: closed, or open with a queue.
+
+ghost use Rattle.std.specs.Prelude.{◌≡◌, ◌⊎◌, ◌<◌, ◌≤◌, length, IfOk, IfErr, Err, Some, None};
+ghost use Rattle.words.specs.declared.refusal.Refusal.{Refusal as AnyRefusal};
+ghost use Rattle.interleave.specs.Calls.{is_no_memory};
+ghost use Rattle.interleave.specs.State.{after_step, step_result, after_start, start_result, after_alone, IsAnsweredAlone, world_over};
+ghost use Rattle.named.specs.Blocks.{waiting_in};
+ghost use Rattle.named.specs.Slots.{world_in, acted, answered, IfWorld, IsSlotWell, IsSameOutsideSlot, IsSameSlot, kind_in};
+ghost use Rattle.named.specs.Brokers.{IsSlotAt, IsUnusedBlock, block_words};
+ghost use Rattle.arena.specs.Broker.{broker_size};
+ghost use Rattle.arena.specs.Shape.{shape_of};
+ghost use Rattle.persist.specs.Memory.{Words};
+
+use crate::block::Block;
+use arena::{BrokerLayout, DurableLayout, LogLayout, SLOTS, SlotId};
+use persist::Memory;
+use std::alloc::Global;
+use words::{Call, Client, Kind, Refusal, Reply};
+
+/// A slot: nobody has created a queue in it, or it has one of either kind.
+#[derive(Drop)]
+pub(crate) enum Slot {
+    Closed,
+    Durable(Block<DurableLayout>),
+    Log(Block<LogLayout>),
+}
+
+impl Slot {
+    /// Starts a call in its queue.
+    pub(crate) fn start(
+        &mut self,
+        memory: &mut Memory,
+        client: Client,
+        number: u64,
+        call: Call,
+    ) -> Result<(), Refusal>
+        requires { IsSlotWell memory.old self.old }
+        ensures world { world_in memory.new self.new
+            ≡ acted (λ w. after_start (is_no_memory result) w client number call) (world_in memory.old self.old) }
+        ensures result { result
+            ≡ answered (λ w. start_result (is_no_memory result) w client number) (world_in memory.old self.old) }
+        ensures well { IsSlotWell memory.new self.new }
+        ensures outside { IsSameOutsideSlot self.old memory.old memory.new }
+        ensures same { IsSameSlot self.old self.new }
+    {
+        match self {
+            Slot::Closed => Err(Refusal::NoQueue),
+            Slot::Durable(block) => block.start(memory, client, number, call),
+            Slot::Log(block) => block.start(memory, client, number, call),
+        }
+    }
+
+    /// One step of a call in its queue.
+    pub(crate) fn step(
+        &mut self,
+        memory: &mut Memory,
+        client: Client,
+    ) -> Result<Option<Reply>, Refusal>
+        requires { IsSlotWell memory.old self.old }
+        ensures world { world_in memory.new self.new
+            ≡ acted (λ w. after_step (is_no_memory result) w client) (world_in memory.old self.old) }
+        ensures result { result
+            ≡ answered (λ w. step_result (is_no_memory result) w client) (world_in memory.old self.old) }
+        ensures well { IsSlotWell memory.new self.new }
+        ensures outside { IsSameOutsideSlot self.old memory.old memory.new }
+        ensures same { IsSameSlot self.old self.new }
+    {
+        match self {
+            Slot::Closed => Err(Refusal::NoQueue),
+            Slot::Durable(block) => block.step(memory, client),
+            Slot::Log(block) => block.step(memory, client),
+        }
+    }
+
+    /// A call in its queue goes on alone until it answers.
+    pub(crate) fn run_alone(
+        &mut self,
+        memory: &mut Memory,
+        client: Client,
+    ) -> Result<(Reply, u32), Refusal>
+        requires { IsSlotWell memory.old self.old }
+        ensures closed { world_in memory.old self.old ≡ None → result ≡ Err Refusal.NoQueue }
+        ensures refused { IfWorld (world_in memory.old self.old) (λ w. (refusal : AnyRefusal)
+            → waiting_in w client ≡ Err refusal → result ≡ Err refusal) }
+        ensures errors { IfErr result (λ e. IfWorld (world_in memory.old self.old)
+            (λ w. (e ≡ Refusal.NoMemory) ⊎ (waiting_in w client ≡ Err e))) }
+        ensures same_world { IfErr result (λ e. world_in memory.new self.new ≡ world_in memory.old self.old) }
+        ensures answer { IfOk result (λ answer. IfWorld (world_in memory.old self.old)
+            (λ w. IsAnsweredAlone w client answer.1 answer.0)) }
+        ensures world { IfOk result (λ answer. world_in memory.new self.new
+            ≡ acted (λ w. after_alone answer.1 w client) (world_in memory.old self.old)) }
+        ensures well { IsSlotWell memory.new self.new }
+        ensures outside { IsSameOutsideSlot self.old memory.old memory.new }
+        ensures same { IsSameSlot self.old self.new }
+    {
+        match self {
+            Slot::Closed => Err(Refusal::NoQueue),
+            Slot::Durable(block) => block.run_alone(memory, client),
+            Slot::Log(block) => block.run_alone(memory, client),
+        }
+    }
+
+    /// A new queue of this kind, in the slot's block, which is all zero. It takes no memory.
+    pub(crate) fn open(alloc: Global, layout: &BrokerLayout, slot: SlotId, kind: Kind) -> Self
+        requires { slot.0 < SLOTS }
+        ensures kind { kind_in result ≡ Some kind }
+        ensures world { (ws : Words) → world_in ws result
+            ≡ Some (world_over (shape_of kind layout.now) (block_words layout.now slot.0 ws)) }
+        ensures at { (ws : Words) → broker_size layout.now ≤ length ws.cached
+            → IsUnusedBlock layout.now ws slot.0 → IsSlotAt layout.now ws slot.0 result }
+    {
+        let from = layout.block(slot);
+        let len = layout.block_size();
+        match kind {
+            Kind::Durable => Slot::Durable(Block::new(alloc, layout.durable(), from, len)),
+            Kind::Log => Slot::Log(Block::new(alloc, layout.log(), from, len)),
+        }
+    }
+}
