@@ -99,7 +99,8 @@ impl<L: Layout + Drop> Block<L> {
         ensures errors { IfErr result (λ e. (e ≡ Refusal.NoMemory)
             ⊎ (waiting_in (state_in memory.old self.old) client ≡ Err e)) }
         ensures same { IfErr result (λ e. state_in memory.new self.new ≡ state_in memory.old self.old) }
-        ensures answer { IfOk result (λ answer. IsAnsweredAlone (state_in memory.old self.old) client answer.1 answer.0) }
+        ensures answer { IfOk result (λ answer.
+            IsAnsweredAlone (state_in memory.old self.old) client answer.1 answer.0) }
         ensures world { IfOk result (λ answer. state_in memory.new self.new
             ≡ after_alone answer.1 (state_in memory.old self.old) client) }
         ensures well { IsWellIn memory.new self.new }
