@@ -35,7 +35,7 @@ begun_well b slot queue holds idle free named is_new =
       directory = record { under_way = creation_begins b.words slot queue b.directory rest free named; is_new = is_new };
     }
 
-get_there : {X : Type 0} (xs : List X) (i : ℕ) → i < length xs → slice_get xs i ≡ None → ⊥
+pub get_there : {X : Type 0} (xs : List X) (i : ℕ) → i < length xs → slice_get xs i ≡ None → ⊥
 get_there [] i h e = absurd (omega (arith, h))
 get_there (x ∷ xs) zero h e = absurd (cc)
 get_there (x ∷ xs) (suc i) h e = get_there xs i (omega (arith, h)) e

@@ -1,7 +1,7 @@
 -- An act on one slot keeps what holds of the broker, and leaves the other slots as they were.
 use Rattle.std.proofs.Common.{◌≡◌, ◌≢◌, ℕ, zero, suc, ◌+◌, ◌<◌, ◌≤◌, ◌⊎◌, inl, inr, List, [], ◌∷◌, length, take, drop, slice_get, slice_set, Option, Some, None, Result, Ok, Err, Bool, true, false, if◌then◌else◌, refl, sym, ap, ◌∙◌, subst, arith, length-drop, length-take}
 use Rattle.std.proofs.lemmas.Bool.{cases_eq, cases_lt}
-use Rattle.std.proofs.lemmas.Option.{slice_get_within}
+use Rattle.std.proofs.lemmas.Option.{slice_get_within, slice_get_past}
 use Rattle.std.specs.Option.{option_map}
 use Rattle.persist.specs.Memory.{Words, words_in, IsSameOutside}
 use Rattle.persist.proofs.Parts.{elsewhere}
@@ -20,7 +20,7 @@ use Rattle.interleave.proofs.PartLaws.{holds_alike}
 use Rattle.named.specs.Blocks.{BlockState, IsWellIn, state_in}
 use Rattle.words.specs.declared.call.Client.{Client}
 use Rattle.words.specs.declared.refusal.Refusal.{Refusal}
-use Rattle.words.specs.declared.refusal.Refusal.TheVariants.{NoClient}
+use Rattle.words.specs.declared.refusal.Refusal.TheVariants.{NoClient, NoQueue}
 use Rattle.named.specs.Slots.{acted, answered, IsSameOutsideSlot, IsSameSlot, IsSlotWell, kind_in, world_in}
 use Rattle.named.specs.Brokers.{Brokered, HasRoom, IsDirectoryIn, IsInBlock, IsSlotAt, IsUnusedBlock, IsWell, block_words, quiet, with_slot, world_at, world_of, world_after, answer_at, has_client}
 use Rattle.named.specs.declared.slot.Slot.{Slot}
@@ -34,7 +34,7 @@ get_set_other (y ∷ ys) (suc i) v zero ne = refl
 get_set_other (y ∷ ys) (suc i) v (suc t) ne = get_set_other ys i v t (λ e. ne (ap suc e))
 
 -- as long as the part is inside both, what lies after it tells how long they are
-size_same : (n : ℕ) (c d : List ℕ) → drop n c ≡ drop n d → n ≤ length c → n ≤ length d → length c ≡ length d
+pub size_same : (n : ℕ) (c d : List ℕ) → drop n c ≡ drop n d → n ≤ length c → n ≤ length d → length c ≡ length d
 size_same n c d e hc hd = omega (arith, sym (length-drop n c) ∙ ap length e ∙ length-drop n d)
 
 -- where a part is as long as it should be, so much of the list is there
@@ -183,13 +183,20 @@ length_set [] i x = refl
 length_set (y ∷ xs) zero x = refl
 length_set (y ∷ xs) (suc i) x = ap suc (length_set xs i x)
 
-some_is : {X : Type 0} (o : Option X) (x y : X) → o ≡ Some x → o ≡ Some y → x ≡ y
+pub some_is : {X : Type 0} (o : Option X) (x y : X) → o ≡ Some x → o ≡ Some y → x ≡ y
 some_is o x y e f = cc
 
 -- a client that was not refused is there
 pub is_here : (here : Bool) (r : Result Unit Refusal) → r ≡ (if here then Ok tt else Err NoClient) → (r ≡ Ok tt) → here ≡ true
 is_here true r is ok = refl
 is_here false r is ok = absurd (cc)
+
+-- past the eight slots there is no queue
+pub no_queue : {T : Type 0} (g : State → Result T Refusal) (b : Brokered) (i : ℕ) (client : Client) → IsWell b → 8 ≤ i → has_client b client ≡ true
+    → answer_at g b i client ≡ Err NoQueue
+no_queue g b i client holds past there =
+    let none : slice_get b.slots i ≡ None = slice_get_past b.slots i (omega (arith, past, holds.count)) in
+    ap (λ (x : Bool). if x then answered g (world_at b i) else Err NoClient) there ∙ ap (λ (o : Option Slot). answered g (world_of b.words o)) none
 
 -- an open slot's world holds
 pub slot_is_well : (c : Counts) (ws : Words) (i : ℕ) (slot : Slot) → IsSlotAt c ws i slot → IsSlotWell ws slot

@@ -1,3 +1,4 @@
 pub mod Kept
 pub mod Begun
 pub mod Made
+pub mod Opened

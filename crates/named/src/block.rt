@@ -5,12 +5,12 @@ ghost use Rattle.words.specs.declared.refusal.Refusal.{Refusal as AnyRefusal};
 ghost use Rattle.persist.specs.Memory.{IsSameOutside, Words, words_in};
 ghost use Rattle.interleave.specs.Ranges.{AreUnused};
 ghost use Rattle.interleave.specs.Calls.{is_no_memory};
-ghost use Rattle.interleave.specs.State.{world_over, after_step, step_result, after_start, start_result, after_evict, evict_result, after_alone, IsAnsweredAlone};
+ghost use Rattle.interleave.specs.State.{world_over, after_step, step_result, after_start, start_result, after_alone, IsAnsweredAlone};
 ghost use Rattle.named.specs.Blocks.{state_in, waiting_in, IsWellIn};
 
 use arena::Layout;
 use interleave::Core;
-use persist::{Change, Memory};
+use persist::Memory;
 use std::alloc::Global;
 use std::marker::Model;
 use words::{Call, Client, Refusal, Reply};
@@ -87,24 +87,6 @@ impl<L: Layout + Drop> Block<L> {
         self.core.start(&mut window, client, number, call)
     }
 
-    /// The environment keeps a word of the block, which is numbered from 0.
-    pub(crate) fn evict(
-        &mut self,
-        memory: &mut Memory,
-        word: usize,
-    ) -> Result<Option<Change>, Refusal>
-        requires { IsWellIn memory.old self.old }
-        ensures state { state_in memory.new self.new ≡ after_evict (state_in memory.old self.old) word }
-        ensures result { result ≡ evict_result (state_in memory.old self.old) word }
-        ensures well { IsWellIn memory.new self.new }
-        ensures outside { IsSameOutside self.old.from self.old.len memory.old memory.new }
-        ensures from { self.new.from ≡ self.old.from }
-        ensures len { self.new.len ≡ self.old.len }
-    {
-        let mut window = memory.window(self.from, self.len)?;
-        self.core.evict(&mut window, word)
-    }
-
     /// The client's call goes on alone until it answers.
     pub(crate) fn run_alone(
         &mut self,
@@ -117,7 +99,8 @@ impl<L: Layout + Drop> Block<L> {
         ensures errors { IfErr result (λ e. (e ≡ Refusal.NoMemory)
             ⊎ (waiting_in (state_in memory.old self.old) client ≡ Err e)) }
         ensures same { IfErr result (λ e. state_in memory.new self.new ≡ state_in memory.old self.old) }
-        ensures answer { IfOk result (λ answer. IsAnsweredAlone (state_in memory.old self.old) client answer.1 answer.0) }
+        ensures answer { IfOk result (λ answer.
+            IsAnsweredAlone (state_in memory.old self.old) client answer.1 answer.0) }
         ensures world { IfOk result (λ answer. state_in memory.new self.new
             ≡ after_alone answer.1 (state_in memory.old self.old) client) }
         ensures well { IsWellIn memory.new self.new }

@@ -1,11 +1,15 @@
 //! A broker of named queues.
 
-ghost use Rattle.std.specs.Prelude.{◌≡◌, ◌≢◌, ◌↔◌, ◌⊎◌, ◌<◌, ℕ, length, replicate, slice_set, Ok, Err, IfOk, IfErr, OnOk, OnErr, IfSome, IfNone, IsSome, if◌then◌else◌};
+ghost use Rattle.std.specs.Prelude.{◌≡◌, ◌≢◌, ◌↔◌, ◌⊎◌, ◌<◌, ℕ, length, replicate, slice_set, Ok, Err, IfOk, IfErr, OnOk, OnErr, IfSome, IfNone, IsSome, None, if◌then◌else◌};
 ghost use Rattle.arena.specs.Limits.{AreCounts};
 ghost use Rattle.directory.specs.Directory.{IsDirectory, IsNamed, HasName};
 ghost use Rattle.interleave.specs.Calls.{is_no_memory};
-ghost use Rattle.interleave.specs.State.{after_step, step_result, after_start, start_result};
-ghost use Rattle.named.specs.Brokers.{has_client, world_at, quiet, world_after, answer_at, new_words, IsNew, IsBegun, IsNotCreated, MayCreate};
+ghost use Rattle.interleave.specs.State.{after_step, step_result, after_start, start_result, after_alone, IsAnsweredAlone};
+ghost use Rattle.words.specs.declared.refusal.Refusal.{Refusal as AnyRefusal};
+ghost use Rattle.directory.specs.Creation.{successor};
+ghost use Rattle.named.specs.Blocks.{waiting_in};
+ghost use Rattle.named.specs.Slots.{acted, IfWorld};
+ghost use Rattle.named.specs.Brokers.{has_client, world_at, quiet, world_after, answer_at, new_words, IsNew, IsBegun, IsNotCreated, MayCreate, IsStepCreated};
 ghost use Rattle.named.specs.declared.slot.Slot.TheVariants.{Closed};
 
 use crate::slot::Slot;
@@ -14,6 +18,7 @@ use directory::{Creation, Directory, Name, Places, Queue};
 use persist::{Memory, WordMemory};
 use std::alloc::Global;
 use std::marker::Model;
+use stepper::After;
 use words::{Call, Client, Kind, MAX_CLIENTS, Refusal, Reply};
 
 /// A broker: one memory, and up to eight queues in it, each of which has a name, a kind and a slot.
@@ -24,7 +29,6 @@ pub struct Broker {
     slots: Vec<Slot>,
     directory: Directory,
     creation: Option<Creation>,
-    alloc: Global,
 }
 
 impl Model for Broker {
@@ -119,7 +123,6 @@ impl Broker {
             slots,
             directory: Directory::new(),
             creation: None,
-            alloc,
         })
     }
 
@@ -163,6 +166,38 @@ impl Broker {
         };
         self.creation = Some(Creation::begin(slot, Queue { name, kind }));
         Ok(())
+    }
+
+    /// One step of the creation: exactly one access. The eighth opens the slot, and answers it. It is refused where no
+    /// creation is under way (Idle).
+    pub fn create_step(&mut self) -> Result<Option<SlotId>, Refusal>
+        ensures idle { self.old.creation ≡ None → result ≡ Err Refusal.Idle }
+        ensures same { OnErr result (self.new ≡ self.old) }
+        ensures step { IfSome self.old.creation
+            (λ creation. IsStepCreated self.old self.new creation result (successor creation)) }
+        ensures others { (other : ℕ) → IfOk result (λ opened. IfSome opened (λ slot. other ≢ slot.0))
+            → quiet (world_at self.new other) ≡ quiet (world_at self.old other) }
+    {
+        let under_way = self.creation;
+        let Some(creation) = under_way else {
+            return Err(Refusal::Idle);
+        };
+        let queue = creation.queue;
+        let after = creation.step(&self.layout, &mut self.memory);
+        match after {
+            After::More(next) => {
+                self.creation = Some(next);
+                Ok(None)
+            }
+            After::Done(slot) => {
+                let alloc = *self.slots.allocator();
+                let opened = Slot::open(alloc, &self.layout, slot, queue.kind);
+                self.creation = None;
+                self.directory.open(slot, queue);
+                self.slots[slot.0 as usize] = opened;
+                Ok(Some(slot))
+            }
+        }
     }
 
     /// Refuses a client that there is not.
@@ -214,5 +249,28 @@ impl Broker {
             return Err(Refusal::NoQueue);
         }
         self.slots[slot.0 as usize].step(&mut self.memory, client)
+    }
+
+    /// A call in the queue of a slot goes on alone until it answers: its reply, and how many steps that took.
+    pub fn run_alone(&mut self, slot: SlotId, client: Client) -> Result<(Reply, u32), Refusal>
+        ensures refused { (refusal : AnyRefusal)
+            → answer_at (λ w. waiting_in w client) self.old slot.0 client ≡ Err refusal → result ≡ Err refusal }
+        ensures errors { IfErr result (λ e. (e ≡ Refusal.NoMemory)
+            ⊎ (answer_at (λ w. waiting_in w client) self.old slot.0 client ≡ Err e)) }
+        ensures same { IfErr result (λ e. world_at self.new slot.0 ≡ world_at self.old slot.0) }
+        ensures answer { IfOk result (λ answer. IfWorld (world_at self.old slot.0)
+            (λ w. IsAnsweredAlone w client answer.1 answer.0)) }
+        ensures world { IfOk result (λ answer. world_at self.new slot.0
+            ≡ acted (λ w. after_alone answer.1 w client) (world_at self.old slot.0)) }
+        ensures others { (other : ℕ) → other ≢ slot.0
+            → quiet (world_at self.new other) ≡ quiet (world_at self.old other) }
+        ensures directory { self.new.directory ≡ self.old.directory }
+        ensures creation { self.new.creation ≡ self.old.creation }
+    {
+        self.check_client(client)?;
+        if slot.0 as usize >= SLOTS {
+            return Err(Refusal::NoQueue);
+        }
+        self.slots[slot.0 as usize].run_alone(&mut self.memory, client)
     }
 }

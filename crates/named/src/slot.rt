@@ -79,11 +79,10 @@ impl Slot {
         client: Client,
     ) -> Result<(Reply, u32), Refusal>
         requires { IsSlotWell memory.old self.old }
-        ensures closed { world_in memory.old self.old ≡ None → result ≡ Err Refusal.NoQueue }
-        ensures refused { IfWorld (world_in memory.old self.old) (λ w. (refusal : AnyRefusal)
-            → waiting_in w client ≡ Err refusal → result ≡ Err refusal) }
-        ensures errors { IfErr result (λ e. IfWorld (world_in memory.old self.old)
-            (λ w. (e ≡ Refusal.NoMemory) ⊎ (waiting_in w client ≡ Err e))) }
+        ensures refused { (refusal : AnyRefusal)
+            → answered (λ w. waiting_in w client) (world_in memory.old self.old) ≡ Err refusal → result ≡ Err refusal }
+        ensures errors { IfErr result (λ e. (e ≡ Refusal.NoMemory)
+            ⊎ (answered (λ w. waiting_in w client) (world_in memory.old self.old) ≡ Err e)) }
         ensures same_world { IfErr result (λ e. world_in memory.new self.new ≡ world_in memory.old self.old) }
         ensures answer { IfOk result (λ answer. IfWorld (world_in memory.old self.old)
             (λ w. IsAnsweredAlone w client answer.1 answer.0)) }
