@@ -3,7 +3,7 @@ use Rattle.std.specs.Prelude.{◌≡◌, Option, Some, None, Result, Err}
 use Rattle.words.specs.declared.call.Kind.{Kind}
 use Rattle.words.specs.declared.call.Kind.TheVariants.{Durable as durable_kind, Log as log_kind}
 use Rattle.words.specs.declared.refusal.Refusal.{Refusal}
-use Rattle.words.specs.declared.refusal.Refusal.TheVariants.{NoQueue}
+use Rattle.words.specs.declared.refusal.Refusal.TheVariants.{NoMemory, NoQueue}
 use Rattle.persist.specs.Memory.{Words, IsSameOutside}
 use Rattle.interleave.specs.State.{State}
 use Rattle.named.specs.Blocks.{BlockState, state_in, IsWellIn}
@@ -36,6 +36,11 @@ answered f None = Err NoQueue
 abbrev pub IfWorld : Option State → (State → Type 0) → Type 0
 IfWorld (Some w) p = p w
 IfWorld None p = Unit {0}
+
+-- why what a slot's queue has is not given out: there is no queue, or, where there is one, no memory
+abbrev pub IsWhyUnread : Option State → Refusal → Type 0
+IsWhyUnread (Some w) refusal = refusal ≡ NoMemory
+IsWhyUnread None refusal = refusal ≡ NoQueue
 
 -- the block of an open slot is inside the memory, and its world holds there
 abbrev pub IsSlotWell : Words → Slot → Type 0

@@ -1,19 +1,22 @@
 //! A queue in its block of the memory of a broker.
 
 ghost use Rattle.std.specs.Prelude.{◌≡◌, ◌+◌, ◌≤◌, ◌⊎◌, length, IfOk, IfErr, Err};
+ghost use Rattle.events.specs.Effects.{order_of};
+ghost use Rattle.interleave.specs.Queue.{told_in, told_to};
 ghost use Rattle.words.specs.declared.refusal.Refusal.{Refusal as AnyRefusal};
 ghost use Rattle.persist.specs.Memory.{IsSameOutside, Words, words_in};
 ghost use Rattle.interleave.specs.Ranges.{AreUnused};
 ghost use Rattle.interleave.specs.Calls.{is_no_memory};
-ghost use Rattle.interleave.specs.State.{world_over, after_step, step_result, after_start, start_result, after_alone, IsAnsweredAlone};
+ghost use Rattle.interleave.specs.State.{world_over, after_step, step_result, after_start, start_result, after_alone, kept_content, IsAnsweredAlone};
 ghost use Rattle.named.specs.Blocks.{state_in, waiting_in, IsWellIn};
 
 use arena::Layout;
+use events::{History, Order};
 use interleave::Core;
 use persist::Memory;
 use std::alloc::Global;
 use std::marker::Model;
-use words::{Call, Client, Refusal, Reply};
+use words::{Call, Client, Refusal, Reply, Told};
 
 /// A queue's core, and where its words lie: in the block of a slot.
 #[derive(Drop)]
@@ -110,5 +113,39 @@ impl<L: Layout + Drop> Block<L> {
     {
         let mut window = memory.window(self.from, self.len)?;
         self.core.run_alone(&mut window, client)
+    }
+
+    /// What the client was last told.
+    pub(crate) fn told(&self, client: Client) -> Told
+        ensures { result ≡ told_to (told_in self.now.core.queue) client }
+    {
+        self.core.told(client)
+    }
+
+    /// What happened since the history begins.
+    pub(crate) fn history(&self) -> &History
+        ensures base { result.now.base.items ≡ self.now.core.trace.base }
+        ensures told { result.now.told ≡ self.now.core.trace.told }
+        ensures events { result.now.events.items ≡ self.now.core.trace.log.events }
+    {
+        self.core.history()
+    }
+
+    /// The calls in the order in which they took effect.
+    pub(crate) fn order(&self) -> Result<Order, Refusal>
+        ensures order { IfOk result (λ order. order.entries.items ≡ order_of self.now.core.trace.log.effects) }
+        ensures errors { IfErr result (λ e. e ≡ Refusal.NoMemory) }
+    {
+        self.core.order()
+    }
+
+    /// What the queue holds by the kept words of its block.
+    pub(crate) fn content(&self, memory: &Memory) -> Result<Vec<u32>, Refusal>
+        requires { IsWellIn memory.now self.now }
+        ensures content { IfOk result (λ values. values.items ≡ kept_content (state_in memory.now self.now)) }
+        ensures errors { IfErr result (λ e. e ≡ Refusal.NoMemory) }
+    {
+        let view = memory.view(self.from, self.len)?;
+        self.core.content(&view)
     }
 }

@@ -4,22 +4,24 @@ ghost use Rattle.std.specs.Prelude.{◌≡◌, ◌≢◌, ◌↔◌, ◌⊎◌, 
 ghost use Rattle.arena.specs.Limits.{AreCounts};
 ghost use Rattle.directory.specs.Directory.{IsDirectory, IsNamed, HasName};
 ghost use Rattle.interleave.specs.Calls.{is_no_memory};
-ghost use Rattle.interleave.specs.State.{after_step, step_result, after_start, start_result, after_alone, IsAnsweredAlone};
+ghost use Rattle.interleave.specs.State.{after_step, step_result, after_start, start_result, after_alone, kept_content, order_in, IsAnsweredAlone};
 ghost use Rattle.words.specs.declared.refusal.Refusal.{Refusal as AnyRefusal};
 ghost use Rattle.directory.specs.Creation.{successor};
 ghost use Rattle.named.specs.Blocks.{waiting_in};
-ghost use Rattle.named.specs.Slots.{acted, IfWorld};
+ghost use Rattle.named.specs.Slots.{acted, world_in, IfWorld, IsSlotWell, IsWhyUnread};
+ghost use Rattle.interleave.specs.Queue.{told_in, told_to};
 ghost use Rattle.named.specs.Brokers.{has_client, world_at, quiet, world_after, answer_at, new_words, IsNew, IsBegun, IsNotCreated, MayCreate, IsStepCreated};
 ghost use Rattle.named.specs.declared.slot.Slot.TheVariants.{Closed};
 
 use crate::slot::Slot;
 use arena::{BrokerLayout, Layout, SLOTS, SlotId};
 use directory::{Creation, Directory, Name, Places, Queue};
+use events::{History, Order};
 use persist::{Memory, WordMemory};
 use std::alloc::Global;
 use std::marker::Model;
 use stepper::After;
-use words::{Call, Client, Kind, MAX_CLIENTS, Refusal, Reply};
+use words::{Call, Client, Kind, MAX_CLIENTS, Refusal, Reply, Told};
 
 /// A broker: one memory, and up to eight queues in it, each of which has a name, a kind and a slot.
 #[derive(Drop)]
@@ -272,5 +274,61 @@ impl Broker {
             return Err(Refusal::NoQueue);
         }
         self.slots[slot.0 as usize].run_alone(&mut self.memory, client)
+    }
+
+    /// A slot, where there is one.
+    fn slot(&self, slot: SlotId) -> Result<&Slot, Refusal>
+        ensures world { IfOk result (λ s. world_in self.now.words s.now ≡ world_at self.now slot.0) }
+        ensures well { IfOk result (λ s. IsSlotWell self.now.words s.now) }
+        ensures errors { IfErr result (λ e. (e ≡ Refusal.NoQueue) × (world_at self.now slot.0 ≡ None)) }
+    {
+        match self.slots.get(slot.0 as usize) {
+            Some(slot) => Ok(slot),
+            None => Err(Refusal::NoQueue),
+        }
+    }
+
+    /// What the client was last told in the queue of a slot: what the last recovery read, and at first what the base
+    /// tells. It is refused, in this order, where there is no such client (NoClient), and where the slot is closed
+    /// (NoQueue).
+    pub fn told(&self, slot: SlotId, client: Client) -> Result<Told, Refusal>
+        ensures { result ≡ answer_at (λ w. Ok (told_to (told_in w.queue) client)) self.now slot.0 client }
+    {
+        self.check_client(client)?;
+        self.slot(slot)?.told(client)
+    }
+
+    /// What happened in the queue of a slot since the history begins. It takes no memory, and is refused where the slot
+    /// is closed (NoQueue).
+    pub fn history(&self, slot: SlotId) -> Result<&History, Refusal>
+        ensures base { IfOk result (λ h. IfWorld (world_at self.now slot.0) (λ w. h.now.base.items ≡ w.base)) }
+        ensures told { IfOk result (λ h. IfWorld (world_at self.now slot.0) (λ w. h.now.told ≡ w.told)) }
+        ensures events { IfOk result (λ h. IfWorld (world_at self.now slot.0) (λ w. h.now.events.items ≡ w.log.events)) }
+        ensures open { OnOk result (IsSome (world_at self.now slot.0)) }
+        ensures errors { IfErr result (λ e. (e ≡ Refusal.NoQueue) × (world_at self.now slot.0 ≡ None)) }
+    {
+        self.slot(slot)?.history()
+    }
+
+    /// The calls of the queue of a slot in the order in which they took effect. It is refused, in this order, where the
+    /// slot is closed (NoQueue), and for want of memory (NoMemory).
+    pub fn order(&self, slot: SlotId) -> Result<Order, Refusal>
+        ensures order { IfOk result (λ order. IfWorld (world_at self.now slot.0)
+            (λ w. order.entries.items ≡ order_in w)) }
+        ensures open { OnOk result (IsSome (world_at self.now slot.0)) }
+        ensures errors { IfErr result (IsWhyUnread (world_at self.now slot.0)) }
+    {
+        self.slot(slot)?.order()
+    }
+
+    /// What the queue of a slot holds by its kept words. It is refused, in this order, where the slot is closed (NoQueue),
+    /// and for want of memory (NoMemory).
+    pub fn content(&self, slot: SlotId) -> Result<Vec<u32>, Refusal>
+        ensures content { IfOk result (λ values. IfWorld (world_at self.now slot.0)
+            (λ w. values.items ≡ kept_content w)) }
+        ensures open { OnOk result (IsSome (world_at self.now slot.0)) }
+        ensures errors { IfErr result (IsWhyUnread (world_at self.now slot.0)) }
+    {
+        self.slot(slot)?.content(&self.memory)
     }
 }

@@ -1,11 +1,12 @@
 //! A slot of a broker: closed, or open with a queue.
 
-ghost use Rattle.std.specs.Prelude.{◌≡◌, ◌⊎◌, ◌<◌, ◌≤◌, length, IfOk, IfErr, Err, Some, None};
+ghost use Rattle.std.specs.Prelude.{◌≡◌, ◌⊎◌, ◌<◌, ◌≤◌, length, IfOk, IfErr, OnOk, IsSome, Ok, Err, Some, None};
+ghost use Rattle.interleave.specs.Queue.{told_in, told_to};
 ghost use Rattle.words.specs.declared.refusal.Refusal.{Refusal as AnyRefusal};
 ghost use Rattle.interleave.specs.Calls.{is_no_memory};
-ghost use Rattle.interleave.specs.State.{after_step, step_result, after_start, start_result, after_alone, IsAnsweredAlone, world_over};
+ghost use Rattle.interleave.specs.State.{after_step, step_result, after_start, start_result, after_alone, kept_content, order_in, IsAnsweredAlone, world_over};
 ghost use Rattle.named.specs.Blocks.{waiting_in};
-ghost use Rattle.named.specs.Slots.{world_in, acted, answered, IfWorld, IsSlotWell, IsSameOutsideSlot, IsSameSlot, kind_in};
+ghost use Rattle.named.specs.Slots.{world_in, acted, answered, IfWorld, IsWhyUnread, IsSlotWell, IsSameOutsideSlot, IsSameSlot, kind_in};
 ghost use Rattle.named.specs.Brokers.{IsSlotAt, IsUnusedBlock, block_words};
 ghost use Rattle.arena.specs.Broker.{broker_size};
 ghost use Rattle.arena.specs.Shape.{shape_of};
@@ -13,9 +14,10 @@ ghost use Rattle.persist.specs.Memory.{Words};
 
 use crate::block::Block;
 use arena::{BrokerLayout, DurableLayout, LogLayout, SLOTS, SlotId};
+use events::{History, Order};
 use persist::Memory;
 use std::alloc::Global;
-use words::{Call, Client, Kind, Refusal, Reply};
+use words::{Call, Client, Kind, Refusal, Reply, Told};
 
 /// A slot: nobody has created a queue in it, or it has one of either kind.
 #[derive(Drop)]
@@ -96,6 +98,63 @@ impl Slot {
             Slot::Closed => Err(Refusal::NoQueue),
             Slot::Durable(block) => block.run_alone(memory, client),
             Slot::Log(block) => block.run_alone(memory, client),
+        }
+    }
+
+    /// What the client was last told by its queue.
+    pub(crate) fn told(&self, client: Client) -> Result<Told, Refusal>
+        ensures { (ws : Words) → result
+            ≡ answered (λ w. Ok (told_to (told_in w.queue) client)) (world_in ws self.now) }
+    {
+        match self {
+            Slot::Closed => Err(Refusal::NoQueue),
+            Slot::Durable(block) => Ok(block.told(client)),
+            Slot::Log(block) => Ok(block.told(client)),
+        }
+    }
+
+    /// What happened in its queue since the history begins.
+    pub(crate) fn history(&self) -> Result<&History, Refusal>
+        ensures base { (ws : Words) → IfOk result (λ h. IfWorld (world_in ws self.now) (λ w. h.now.base.items ≡ w.base)) }
+        ensures told { (ws : Words) → IfOk result (λ h. IfWorld (world_in ws self.now) (λ w. h.now.told ≡ w.told)) }
+        ensures events { (ws : Words)
+            → IfOk result (λ h. IfWorld (world_in ws self.now) (λ w. h.now.events.items ≡ w.log.events)) }
+        ensures open { (ws : Words) → OnOk result (IsSome (world_in ws self.now)) }
+        ensures errors { (ws : Words) → IfErr result (λ e. (e ≡ Refusal.NoQueue) × (world_in ws self.now ≡ None)) }
+    {
+        match self {
+            Slot::Closed => Err(Refusal::NoQueue),
+            Slot::Durable(block) => Ok(block.history()),
+            Slot::Log(block) => Ok(block.history()),
+        }
+    }
+
+    /// The calls of its queue in the order in which they took effect.
+    pub(crate) fn order(&self) -> Result<Order, Refusal>
+        ensures order { (ws : Words)
+            → IfOk result (λ order. IfWorld (world_in ws self.now) (λ w. order.entries.items ≡ order_in w)) }
+        ensures open { (ws : Words) → OnOk result (IsSome (world_in ws self.now)) }
+        ensures errors { (ws : Words) → IfErr result (IsWhyUnread (world_in ws self.now)) }
+    {
+        match self {
+            Slot::Closed => Err(Refusal::NoQueue),
+            Slot::Durable(block) => block.order(),
+            Slot::Log(block) => block.order(),
+        }
+    }
+
+    /// What its queue holds by the kept words.
+    pub(crate) fn content(&self, memory: &Memory) -> Result<Vec<u32>, Refusal>
+        requires { IsSlotWell memory.now self.now }
+        ensures content { IfOk result (λ values. IfWorld (world_in memory.now self.now)
+            (λ w. values.items ≡ kept_content w)) }
+        ensures open { OnOk result (IsSome (world_in memory.now self.now)) }
+        ensures errors { IfErr result (IsWhyUnread (world_in memory.now self.now)) }
+    {
+        match self {
+            Slot::Closed => Err(Refusal::NoQueue),
+            Slot::Durable(block) => block.content(memory),
+            Slot::Log(block) => block.content(memory),
         }
     }
 
