@@ -1,4 +1,5 @@
 pub mod Kept
+pub mod Reserved
 pub mod Begun
 pub mod Made
 pub mod Opened

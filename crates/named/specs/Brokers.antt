@@ -22,7 +22,7 @@ use Rattle.directory.specs.declared.creation.Creation.{Creation}
 use Rattle.directory.specs.declared.queue.Queue.{Queue}
 use Rattle.interleave.specs.State.{State, world_over}
 use Rattle.named.specs.Blocks.{BlockState, IsWellIn}
-use Rattle.named.specs.Slots.{kind_in, world_in, acted, answered}
+use Rattle.named.specs.Slots.{kind_in, room_in, world_in, acted, answered}
 use Rattle.named.specs.declared.slot.Slot.{Slot}
 use Rattle.named.specs.declared.slot.Slot.TheVariants.{Closed, Durable, Log}
 
@@ -47,6 +47,14 @@ world_at b slot = world_of b.words (slice_get b.slots slot)
 abbrev pub quiet : Option State → Option State
 quiet (Some w) = Some (record w { words = record w.words { accesses = 0 } })
 quiet None = None
+
+-- how many further acts the history of a slot's queue has memory for
+abbrev pub room_of : Option Slot → ℕ
+room_of (Some slot) = room_in slot
+room_of None = 0
+
+abbrev pub room_at : Brokered → ℕ → ℕ
+room_at b slot = room_of (slice_get b.slots slot)
 
 -- the broker has the client
 abbrev pub has_client : Brokered → Client → Bool

@@ -1,5 +1,5 @@
 -- The slots of a broker: each closed, or open with a queue of either kind in its block.
-use Rattle.std.specs.Prelude.{◌≡◌, Option, Some, None, Result, Err}
+use Rattle.std.specs.Prelude.{◌≡◌, ℕ, ◌≤◌, length, Option, Some, None, Result, Err}
 use Rattle.words.specs.declared.call.Kind.{Kind}
 use Rattle.words.specs.declared.call.Kind.TheVariants.{Durable as durable_kind, Log as log_kind}
 use Rattle.words.specs.declared.refusal.Refusal.{Refusal}
@@ -21,6 +21,18 @@ abbrev pub world_in : Words → Slot → Option State
 world_in ws Closed = None
 world_in ws (Durable block) = Some (state_in ws block)
 world_in ws (Log block) = Some (state_in ws block)
+
+-- the room in the history of a slot's queue: how many further acts it has memory for
+abbrev pub room_in : Slot → ℕ
+room_in Closed = 0
+room_in (Durable block) = block.core.trace.room
+room_in (Log block) = block.core.trace.room
+
+-- no more calls of the queue took effect than there are events
+abbrev pub AreEffectsFew : Slot → Type 0
+AreEffectsFew Closed = Unit {0}
+AreEffectsFew (Durable block) = length block.core.trace.log.effects ≤ length block.core.trace.log.events
+AreEffectsFew (Log block) = length block.core.trace.log.effects ≤ length block.core.trace.log.events
 
 -- an act makes this of the world, where there is one
 abbrev pub acted : (State → State) → Option State → Option State

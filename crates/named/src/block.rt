@@ -1,6 +1,6 @@
 //! A queue in its block of the memory of a broker.
 
-ghost use Rattle.std.specs.Prelude.{◌≡◌, ◌+◌, ◌≤◌, ◌⊎◌, length, IfOk, IfErr, Err};
+ghost use Rattle.std.specs.Prelude.{◌≡◌, ◌+◌, ◌≤◌, ◌⊎◌, ◌<◌, length, IfOk, IfErr, OnOk, OnErr, Err, true};
 ghost use Rattle.events.specs.Effects.{order_of};
 ghost use Rattle.interleave.specs.Queue.{told_in, told_to};
 ghost use Rattle.words.specs.declared.refusal.Refusal.{Refusal as AnyRefusal};
@@ -60,6 +60,8 @@ impl<L: Layout + Drop> Block<L> {
         ensures state { state_in memory.new self.new
             ≡ after_step (is_no_memory result) (state_in memory.old self.old) client }
         ensures result { result ≡ step_result (is_no_memory result) (state_in memory.old self.old) client }
+        ensures full { is_no_memory result ≡ true → self.old.core.trace.room ≡ 0 }
+        ensures room { self.old.core.trace.room ≤ self.new.core.trace.room + 1 }
         ensures well { IsWellIn memory.new self.new }
         ensures outside { IsSameOutside self.old.from self.old.len memory.old memory.new }
         ensures from { self.new.from ≡ self.old.from }
@@ -81,6 +83,8 @@ impl<L: Layout + Drop> Block<L> {
         ensures state { state_in memory.new self.new
             ≡ after_start (is_no_memory result) (state_in memory.old self.old) client number call }
         ensures result { result ≡ start_result (is_no_memory result) (state_in memory.old self.old) client number }
+        ensures full { is_no_memory result ≡ true → self.old.core.trace.room ≡ 0 }
+        ensures room { self.old.core.trace.room ≤ self.new.core.trace.room + 1 }
         ensures well { IsWellIn memory.new self.new }
         ensures outside { IsSameOutside self.old.from self.old.len memory.old memory.new }
         ensures from { self.new.from ≡ self.old.from }
@@ -147,5 +151,18 @@ impl<L: Layout + Drop> Block<L> {
     {
         let view = memory.view(self.from, self.len)?;
         self.core.content(&view)
+    }
+
+    /// Makes room, so that the next acts, so many of them, are not refused for want of memory.
+    pub(crate) fn reserve(&mut self, acts: usize) -> Result<(), Refusal>
+        requires { length self.old.core.trace.log.effects ≤ length self.old.core.trace.log.events }
+        ensures world { (ws : Words) → state_in ws self.new ≡ state_in ws self.old }
+        ensures room { OnOk result (acts ≤ self.new.core.trace.room) }
+        ensures kept { self.old.core.trace.room ≤ self.new.core.trace.room }
+        ensures errors { IfErr result (λ e. e ≡ Refusal.NoMemory) }
+        ensures from { self.new.from ≡ self.old.from }
+        ensures len { self.new.len ≡ self.old.len }
+    {
+        self.core.reserve(acts)
     }
 }

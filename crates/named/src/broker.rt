@@ -1,6 +1,6 @@
 //! A broker of named queues.
 
-ghost use Rattle.std.specs.Prelude.{◌≡◌, ◌≢◌, ◌↔◌, ◌⊎◌, ◌<◌, ℕ, length, replicate, slice_set, Ok, Err, IfOk, IfErr, OnOk, OnErr, IfSome, IfNone, IsSome, None, if◌then◌else◌};
+ghost use Rattle.std.specs.Prelude.{◌≡◌, ◌≢◌, ◌↔◌, ◌⊎◌, ◌<◌, ◌≤◌, ◌+◌, ℕ, true, length, replicate, slice_set, Ok, Err, IfOk, IfErr, OnOk, OnErr, IfSome, IfNone, IsSome, None, if◌then◌else◌};
 ghost use Rattle.arena.specs.Limits.{AreCounts};
 ghost use Rattle.directory.specs.Directory.{IsDirectory, IsNamed, HasName};
 ghost use Rattle.interleave.specs.Calls.{is_no_memory};
@@ -10,7 +10,7 @@ ghost use Rattle.directory.specs.Creation.{successor};
 ghost use Rattle.named.specs.Blocks.{waiting_in};
 ghost use Rattle.named.specs.Slots.{acted, world_in, IfWorld, IsSlotWell, IsWhyUnread};
 ghost use Rattle.interleave.specs.Queue.{told_in, told_to};
-ghost use Rattle.named.specs.Brokers.{has_client, world_at, quiet, world_after, answer_at, new_words, IsNew, IsBegun, IsNotCreated, MayCreate, IsStepCreated};
+ghost use Rattle.named.specs.Brokers.{has_client, world_at, room_at, quiet, world_after, answer_at, new_words, IsNew, IsBegun, IsNotCreated, MayCreate, IsStepCreated};
 ghost use Rattle.named.specs.declared.slot.Slot.TheVariants.{Closed};
 
 use crate::slot::Slot;
@@ -224,6 +224,8 @@ impl Broker {
             ≡ world_after (λ w. after_start (is_no_memory result) w client number call) self.old slot.0 client }
         ensures result { result
             ≡ answer_at (λ w. start_result (is_no_memory result) w client number) self.old slot.0 client }
+        ensures full { is_no_memory result ≡ true → room_at self.old slot.0 ≡ 0 }
+        ensures room { room_at self.old slot.0 ≤ room_at self.new slot.0 + 1 }
         ensures others { (other : ℕ) → other ≢ slot.0
             → quiet (world_at self.new other) ≡ quiet (world_at self.old other) }
         ensures directory { self.new.directory ≡ self.old.directory }
@@ -241,6 +243,8 @@ impl Broker {
         ensures world { world_at self.new slot.0
             ≡ world_after (λ w. after_step (is_no_memory result) w client) self.old slot.0 client }
         ensures result { result ≡ answer_at (λ w. step_result (is_no_memory result) w client) self.old slot.0 client }
+        ensures full { is_no_memory result ≡ true → room_at self.old slot.0 ≡ 0 }
+        ensures room { room_at self.old slot.0 ≤ room_at self.new slot.0 + 1 }
         ensures others { (other : ℕ) → other ≢ slot.0
             → quiet (world_at self.new other) ≡ quiet (world_at self.old other) }
         ensures directory { self.new.directory ≡ self.old.directory }
@@ -303,7 +307,8 @@ impl Broker {
     pub fn history(&self, slot: SlotId) -> Result<&History, Refusal>
         ensures base { IfOk result (λ h. IfWorld (world_at self.now slot.0) (λ w. h.now.base.items ≡ w.base)) }
         ensures told { IfOk result (λ h. IfWorld (world_at self.now slot.0) (λ w. h.now.told ≡ w.told)) }
-        ensures events { IfOk result (λ h. IfWorld (world_at self.now slot.0) (λ w. h.now.events.items ≡ w.log.events)) }
+        ensures events { IfOk result (λ h. IfWorld (world_at self.now slot.0)
+            (λ w. h.now.events.items ≡ w.log.events)) }
         ensures open { OnOk result (IsSome (world_at self.now slot.0)) }
         ensures errors { IfErr result (λ e. (e ≡ Refusal.NoQueue) × (world_at self.now slot.0 ≡ None)) }
     {
@@ -321,8 +326,8 @@ impl Broker {
         self.slot(slot)?.order()
     }
 
-    /// What the queue of a slot holds by its kept words. It is refused, in this order, where the slot is closed (NoQueue),
-    /// and for want of memory (NoMemory).
+    /// What the queue of a slot holds by its kept words. It is refused, in this order, where the slot is closed
+    /// (NoQueue), and for want of memory (NoMemory).
     pub fn content(&self, slot: SlotId) -> Result<Vec<u32>, Refusal>
         ensures content { IfOk result (λ values. IfWorld (world_at self.now slot.0)
             (λ w. values.items ≡ kept_content w)) }
@@ -330,5 +335,23 @@ impl Broker {
         ensures errors { IfErr result (IsWhyUnread (world_at self.now slot.0)) }
     {
         self.slot(slot)?.content(&self.memory)
+    }
+
+    /// Makes room in the history of the queue of a slot, so that its next acts, so many of them, are not refused for
+    /// want of memory. It is refused, in this order, where the slot is closed (NoQueue), and for want of memory
+    /// (NoMemory).
+    pub fn reserve(&mut self, slot: SlotId, acts: usize) -> Result<(), Refusal>
+        ensures worlds { (at : ℕ) → world_at self.new at ≡ world_at self.old at }
+        ensures room { OnOk result (acts ≤ room_at self.new slot.0) }
+        ensures kept { (at : ℕ) → room_at self.old at ≤ room_at self.new at }
+        ensures open { OnOk result (IsSome (world_at self.old slot.0)) }
+        ensures errors { IfErr result (IsWhyUnread (world_at self.old slot.0)) }
+        ensures directory { self.new.directory ≡ self.old.directory }
+        ensures creation { self.new.creation ≡ self.old.creation }
+    {
+        if slot.0 as usize >= self.slots.len() {
+            return Err(Refusal::NoQueue);
+        }
+        self.slots[slot.0 as usize].reserve(acts)
     }
 }

@@ -1,12 +1,12 @@
 //! A slot of a broker: closed, or open with a queue.
 
-ghost use Rattle.std.specs.Prelude.{◌≡◌, ◌⊎◌, ◌<◌, ◌≤◌, length, IfOk, IfErr, OnOk, IsSome, Ok, Err, Some, None};
+ghost use Rattle.std.specs.Prelude.{◌≡◌, ◌⊎◌, ◌<◌, ◌≤◌, ◌+◌, true, length, IfOk, IfErr, OnOk, IsSome, Ok, Err, Some, None};
 ghost use Rattle.interleave.specs.Queue.{told_in, told_to};
 ghost use Rattle.words.specs.declared.refusal.Refusal.{Refusal as AnyRefusal};
 ghost use Rattle.interleave.specs.Calls.{is_no_memory};
 ghost use Rattle.interleave.specs.State.{after_step, step_result, after_start, start_result, after_alone, kept_content, order_in, IsAnsweredAlone, world_over};
 ghost use Rattle.named.specs.Blocks.{waiting_in};
-ghost use Rattle.named.specs.Slots.{world_in, acted, answered, IfWorld, IsWhyUnread, IsSlotWell, IsSameOutsideSlot, IsSameSlot, kind_in};
+ghost use Rattle.named.specs.Slots.{world_in, acted, answered, IfWorld, IsWhyUnread, IsSlotWell, IsSameOutsideSlot, IsSameSlot, kind_in, room_in, AreEffectsFew};
 ghost use Rattle.named.specs.Brokers.{IsSlotAt, IsUnusedBlock, block_words};
 ghost use Rattle.arena.specs.Broker.{broker_size};
 ghost use Rattle.arena.specs.Shape.{shape_of};
@@ -41,6 +41,8 @@ impl Slot {
             ≡ acted (λ w. after_start (is_no_memory result) w client number call) (world_in memory.old self.old) }
         ensures result { result
             ≡ answered (λ w. start_result (is_no_memory result) w client number) (world_in memory.old self.old) }
+        ensures full { is_no_memory result ≡ true → room_in self.old ≡ 0 }
+        ensures room { room_in self.old ≤ room_in self.new + 1 }
         ensures well { IsSlotWell memory.new self.new }
         ensures outside { IsSameOutsideSlot self.old memory.old memory.new }
         ensures same { IsSameSlot self.old self.new }
@@ -63,6 +65,8 @@ impl Slot {
             ≡ acted (λ w. after_step (is_no_memory result) w client) (world_in memory.old self.old) }
         ensures result { result
             ≡ answered (λ w. step_result (is_no_memory result) w client) (world_in memory.old self.old) }
+        ensures full { is_no_memory result ≡ true → room_in self.old ≡ 0 }
+        ensures room { room_in self.old ≤ room_in self.new + 1 }
         ensures well { IsSlotWell memory.new self.new }
         ensures outside { IsSameOutsideSlot self.old memory.old memory.new }
         ensures same { IsSameSlot self.old self.new }
@@ -115,7 +119,8 @@ impl Slot {
 
     /// What happened in its queue since the history begins.
     pub(crate) fn history(&self) -> Result<&History, Refusal>
-        ensures base { (ws : Words) → IfOk result (λ h. IfWorld (world_in ws self.now) (λ w. h.now.base.items ≡ w.base)) }
+        ensures base { (ws : Words)
+            → IfOk result (λ h. IfWorld (world_in ws self.now) (λ w. h.now.base.items ≡ w.base)) }
         ensures told { (ws : Words) → IfOk result (λ h. IfWorld (world_in ws self.now) (λ w. h.now.told ≡ w.told)) }
         ensures events { (ws : Words)
             → IfOk result (λ h. IfWorld (world_in ws self.now) (λ w. h.now.events.items ≡ w.log.events)) }
@@ -155,6 +160,23 @@ impl Slot {
             Slot::Closed => Err(Refusal::NoQueue),
             Slot::Durable(block) => block.content(memory),
             Slot::Log(block) => block.content(memory),
+        }
+    }
+
+    /// Makes room in its history, so that the next acts, so many of them, are not refused for want of memory.
+    pub(crate) fn reserve(&mut self, acts: usize) -> Result<(), Refusal>
+        requires { AreEffectsFew self.old }
+        ensures world { (ws : Words) → world_in ws self.new ≡ world_in ws self.old }
+        ensures room { OnOk result (acts ≤ room_in self.new) }
+        ensures kept { room_in self.old ≤ room_in self.new }
+        ensures open { (ws : Words) → OnOk result (IsSome (world_in ws self.old)) }
+        ensures errors { (ws : Words) → IfErr result (IsWhyUnread (world_in ws self.old)) }
+        ensures same { IsSameSlot self.old self.new }
+    {
+        match self {
+            Slot::Closed => Err(Refusal::NoQueue),
+            Slot::Durable(block) => block.reserve(acts),
+            Slot::Log(block) => block.reserve(acts),
         }
     }
 

@@ -1,9 +1,11 @@
-use Rattle.std.proofs.Common.{◌≡◌, ap, sym, ◌∙◌, Ok, Err, true, if◌then◌else◌}
-use Rattle.std.proofs.lemmas.Option.{slice_get_read}
+use Rattle.std.proofs.Common.{arith, slice_get, slice_set, ◌≡◌, ap, sym, ◌∙◌, Ok, Err, true, if◌then◌else◌}
+use Rattle.std.proofs.lemmas.Option.{slice_get_read, slice_get_within}
 use Rattle.words.specs.declared.refusal.Refusal.{Refusal}
 use Rattle.interleave.specs.Calls.{is_no_memory}
 use Rattle.interleave.specs.State.{State, after_step, step_result}
-use Rattle.named.specs.Brokers.{Brokered, has_client, world_at, quiet, world_after, answer_at}
+use Rattle.interleave.proofs.AloneLaws.{get_set}
+use Rattle.named.specs.Slots.{room_in}
+use Rattle.named.specs.Brokers.{Brokered, has_client, room_at, room_of, world_at, quiet, world_after, answer_at}
 use Rattle.named.proofs.Kept.{is_here, slot_is_well, still_well, others_stay, world_done, answer_done}
 use Rattle.named.proofs.broker.Broker.step.Goals as goal
 
@@ -40,3 +42,16 @@ returns-clause-result c =
     let there : has_client b c.args.client ≡ true = is_here _ c.check_client.result (c.check_client.ensures ∙ ap (λ (x : Brokered). if has_client x c.args.client then Ok tt else Err Refusal.NoClient) (sym c.self.view_is)) c.in_ok-check_client.was in
     let g = λ (w : State). step_result (is_no_memory c.step.result) w c.args.client in
     answer_done b c.args.slot.0 c.index_mut.result.now c.step.new.self c.step.new.memory c.self.invariant here c.step.ensures.well c.step.ensures.outside c.step.ensures.same g c.args.client c.step.result there c.step.ensures.result ∙ ap (λ (x : Brokered). answer_at g x c.args.slot.0 c.args.client) c.self.view_is
+
+pub returns-clause-full : goal.returns-clause-full
+returns-clause-full c = λ e.
+    let here = slice_get_read c.self.inside.slots.items 8 c.args.slot.0 c.index_mut.result.now (sym c.self.invariant.count) c.if-slot-ge-SLOTS.false c.index_mut.ensures.value in
+    sym (ap (λ (x : Brokered). room_at x c.args.slot.0) c.self.view_is) ∙ ap room_of here ∙ c.step.ensures.full e
+
+pub returns-clause-room : goal.returns-clause-room
+returns-clause-room c =
+    let here = slice_get_read c.self.inside.slots.items 8 c.args.slot.0 c.index_mut.result.now (sym c.self.invariant.count) c.if-slot-ge-SLOTS.false c.index_mut.ensures.value in
+    let was : room_at c.args.self.now c.args.slot.0 ≡ room_in c.index_mut.result.now = sym (ap (λ (x : Brokered). room_at x c.args.slot.0) c.self.view_is) ∙ ap room_of here in
+    let now : room_of (slice_get (slice_set c.self.inside.slots.items c.args.slot.0 c.step.new.self) c.args.slot.0) ≡ room_in c.step.new.self =
+    ap room_of (get_set c.self.inside.slots.items c.args.slot.0 c.step.new.self (slice_get_within c.self.inside.slots.items c.args.slot.0 c.index_mut.result.now here)) in
+    omega (arith, was, now, c.step.ensures.room)
