@@ -2,6 +2,7 @@
 
 ghost use Rattle.std.specs.Prelude.{◌≡◌, ◌≢◌, ◌↔◌, ◌⊎◌, ◌<◌, ◌≤◌, ◌+◌, ℕ, true, length, replicate, slice_set, Ok, Err, IfOk, IfErr, OnOk, OnErr, IfSome, IfNone, IsSome, None, if◌then◌else◌};
 ghost use Rattle.arena.specs.Limits.{AreCounts};
+ghost use Rattle.persist.specs.Image.{image_of, reading};
 ghost use Rattle.directory.specs.Directory.{IsDirectory, IsNamed, HasName};
 ghost use Rattle.interleave.specs.Calls.{is_no_memory};
 ghost use Rattle.interleave.specs.State.{after_step, step_result, after_start, start_result, after_alone, kept_content, order_in, IsAnsweredAlone};
@@ -353,5 +354,15 @@ impl Broker {
             return Err(Refusal::NoQueue);
         }
         self.slots[slot.0 as usize].reserve(acts)
+    }
+
+    /// The kept words as bytes: the image of the broker's memory. A value that is only cached is not in it. It is refused
+    /// for want of memory (NoMemory).
+    pub fn to_image(&self) -> Result<Vec<u8>, Refusal>
+        ensures image { IfOk result (λ bytes. bytes.items ≡ image_of self.now.words.kept) }
+        ensures read { IfOk result (λ bytes. reading bytes.items ≡ Ok self.now.words.kept) }
+        ensures errors { IfErr result (λ e. e ≡ Refusal.NoMemory) }
+    {
+        self.memory.to_image()
     }
 }
