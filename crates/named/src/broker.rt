@@ -227,6 +227,7 @@ impl Broker {
             ≡ answer_at (λ w. start_result (is_no_memory result) w client number) self.old slot.0 client }
         ensures full { is_no_memory result ≡ true → room_at self.old slot.0 ≡ 0 }
         ensures room { room_at self.old slot.0 ≤ room_at self.new slot.0 + 1 }
+        ensures other_rooms { (other : ℕ) → other ≢ slot.0 → room_at self.new other ≡ room_at self.old other }
         ensures others { (other : ℕ) → other ≢ slot.0
             → quiet (world_at self.new other) ≡ quiet (world_at self.old other) }
         ensures directory { self.new.directory ≡ self.old.directory }
@@ -246,6 +247,7 @@ impl Broker {
         ensures result { result ≡ answer_at (λ w. step_result (is_no_memory result) w client) self.old slot.0 client }
         ensures full { is_no_memory result ≡ true → room_at self.old slot.0 ≡ 0 }
         ensures room { room_at self.old slot.0 ≤ room_at self.new slot.0 + 1 }
+        ensures other_rooms { (other : ℕ) → other ≢ slot.0 → room_at self.new other ≡ room_at self.old other }
         ensures others { (other : ℕ) → other ≢ slot.0
             → quiet (world_at self.new other) ≡ quiet (world_at self.old other) }
         ensures directory { self.new.directory ≡ self.old.directory }

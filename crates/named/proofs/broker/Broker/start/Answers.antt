@@ -6,7 +6,7 @@ use Rattle.interleave.specs.State.{State, after_start, start_result}
 use Rattle.interleave.proofs.AloneLaws.{get_set}
 use Rattle.named.specs.Slots.{room_in}
 use Rattle.named.specs.Brokers.{Brokered, has_client, room_at, room_of, world_at, quiet, world_after, answer_at}
-use Rattle.named.proofs.Kept.{is_here, slot_is_well, still_well, others_stay, world_done, answer_done}
+use Rattle.named.proofs.Kept.{get_set_other, is_here, slot_is_well, still_well, others_stay, world_done, answer_done}
 use Rattle.named.proofs.broker.Broker.start.Goals as goal
 
 pub start-requires : goal.start-requires
@@ -55,3 +55,7 @@ returns-clause-room c =
     let now : room_of (slice_get (slice_set c.self.inside.slots.items c.args.slot.0 c.start.new.self) c.args.slot.0) ≡ room_in c.start.new.self =
     ap room_of (get_set c.self.inside.slots.items c.args.slot.0 c.start.new.self (slice_get_within c.self.inside.slots.items c.args.slot.0 c.index_mut.result.now here)) in
     omega (arith, was, now, c.start.ensures.room)
+
+pub returns-clause-other_rooms : goal.returns-clause-other_rooms
+returns-clause-other_rooms c = λ other ne.
+    ap room_of (get_set_other c.self.inside.slots.items c.args.slot.0 c.start.new.self other ne) ∙ ap (λ (x : Brokered). room_at x other) c.self.view_is
