@@ -358,8 +358,8 @@ impl Broker {
         self.slots[slot.0 as usize].reserve(acts)
     }
 
-    /// The kept words as bytes: the image of the broker's memory. A value that is only cached is not in it. It is refused
-    /// for want of memory (NoMemory).
+    /// The kept words as bytes: the image of the broker's memory. A value that is only cached is not in it. It is
+    /// refused for want of memory (NoMemory).
     pub fn to_image(&self) -> Result<Vec<u8>, Refusal>
         ensures image { IfOk result (λ bytes. bytes.items ≡ image_of self.now.words.kept) }
         ensures read { IfOk result (λ bytes. reading bytes.items ≡ Ok self.now.words.kept) }
