@@ -1,11 +1,11 @@
 -- The slots of a broker: each closed, or open with a queue of either kind in its block.
-use Rattle.std.specs.Prelude.{◌≡◌, ℕ, ◌≤◌, length, Option, Some, None, Result, Err}
+use Rattle.std.specs.Prelude.{◌≡◌, ℕ, ◌+◌, ◌-◌, ◌<◌, ◌≤◌, Bool, not, is_some, length, Option, Some, None, Result, Err}
 use Rattle.words.specs.declared.call.Kind.{Kind}
 use Rattle.words.specs.declared.call.Kind.TheVariants.{Durable as durable_kind, Log as log_kind}
 use Rattle.words.specs.declared.refusal.Refusal.{Refusal}
 use Rattle.words.specs.declared.refusal.Refusal.TheVariants.{NoMemory, NoQueue}
 use Rattle.persist.specs.Memory.{Words, IsSameOutside}
-use Rattle.interleave.specs.State.{State}
+use Rattle.interleave.specs.State.{State, after_evict}
 use Rattle.named.specs.Blocks.{BlockState, state_in, IsWellIn}
 use Rattle.named.specs.declared.slot.Slot.{Slot}
 use Rattle.named.specs.declared.slot.Slot.TheVariants.{Closed, Durable, Log}
@@ -66,9 +66,9 @@ IsSameOutsideSlot Closed old new = new ≡ old
 IsSameOutsideSlot (Durable block) old new = IsSameOutside block.from block.len old new
 IsSameOutsideSlot (Log block) old new = IsSameOutside block.from block.len old new
 
--- two blocks lie in the same place
+-- two blocks lie in the same place, and are laid out in the same way
 abbrev pub LieInOnePlace : BlockState → BlockState → Type 0
-LieInOnePlace old new = (new.from ≡ old.from) × (new.len ≡ old.len)
+LieInOnePlace old new = (new.from ≡ old.from) × (new.len ≡ old.len) × (new.core.shape ≡ old.core.shape)
 
 -- the slot is closed, or open with a queue of the same kind in the same place
 abbrev pub IsSameSlot : Slot → Slot → Type 0
@@ -76,3 +76,36 @@ IsSameSlot Closed Closed = Unit {0}
 IsSameSlot (Durable old) (Durable new) = LieInOnePlace old new
 IsSameSlot (Log old) (Log new) = LieInOnePlace old new
 IsSameSlot _ _ = ⊥
+
+-- the recovery of the slot's queue is as far as it was
+abbrev pub IsAsReady : Slot → Slot → Type 0
+IsAsReady (Durable old) (Durable new) = new.core.trace.recovery ≡ old.core.trace.recovery
+IsAsReady (Log old) (Log new) = new.core.trace.recovery ≡ old.core.trace.recovery
+IsAsReady _ _ = Unit {0}
+
+-- the slot's queue is ready, or recovers; a closed slot has none
+abbrev pub IsReadyIn : Bool → Slot → Type 0
+IsReadyIn ready Closed = Unit {0}
+IsReadyIn ready (Durable block) = is_some block.core.trace.recovery ≡ not ready
+IsReadyIn ready (Log block) = is_some block.core.trace.recovery ≡ not ready
+
+-- the word is one of the queue's block
+abbrev pub IsWordIn : BlockState → ℕ → Type 0
+IsWordIn block word = (block.from ≤ word) × (word < block.from + block.len)
+
+abbrev pub IsWordOf : Slot → ℕ → Type 0
+IsWordOf Closed word = Unit {0}
+IsWordOf (Durable block) word = IsWordIn block word
+IsWordOf (Log block) word = IsWordIn block word
+
+-- what an eviction of a word of its block makes of the slot's world
+abbrev pub world_evicted_in : Slot → ℕ → Words → Option State
+world_evicted_in Closed word ws = None
+world_evicted_in (Durable block) word ws = Some (after_evict (state_in ws block) (word - block.from))
+world_evicted_in (Log block) word ws = Some (after_evict (state_in ws block) (word - block.from))
+
+-- the history of the slot's queue has room for one event
+abbrev pub HasRoomToStop : Slot → Type 0
+HasRoomToStop Closed = Unit {0}
+HasRoomToStop (Durable block) = 0 < block.core.trace.room
+HasRoomToStop (Log block) = 0 < block.core.trace.room

@@ -1,22 +1,27 @@
 //! A queue in its block of the memory of a broker.
 
-ghost use Rattle.std.specs.Prelude.{◌≡◌, ◌+◌, ◌≤◌, ◌⊎◌, ◌<◌, length, IfOk, IfErr, OnOk, OnErr, Err, true};
+ghost use Rattle.std.specs.Prelude.{◌≡◌, ◌+◌, ◌-◌, ◌≤◌, ◌⊎◌, ◌<◌, length, IfOk, IfErr, OnOk, OnErr, Ok, Err, Some, true, false};
 ghost use Rattle.events.specs.Effects.{order_of};
 ghost use Rattle.interleave.specs.Queue.{told_in, told_to};
 ghost use Rattle.words.specs.declared.refusal.Refusal.{Refusal as AnyRefusal};
-ghost use Rattle.persist.specs.Memory.{IsSameOutside, Words, words_in};
+ghost use Rattle.persist.specs.Changes.{change_of};
+ghost use Rattle.persist.specs.Memory.{IsSameOutside, Words, words_in, words_after_crash, words_after_eviction};
+ghost use Rattle.recover.specs.Table.{boot_recovery};
+ghost use Rattle.interleave.specs.Booted.{booted_world, MayRefuse};
+ghost use Rattle.interleave.specs.Rotation.{after_rotation, rotate_result, some_client_calls};
 ghost use Rattle.interleave.specs.Ranges.{AreUnused};
 ghost use Rattle.interleave.specs.Calls.{is_no_memory};
-ghost use Rattle.interleave.specs.State.{world_over, after_step, step_result, after_start, start_result, after_alone, kept_content, IsAnsweredAlone};
+ghost use Rattle.interleave.specs.State.{world_over, after_step, step_result, after_start, start_result, after_alone, after_evict, after_stop, after_recover, recover_result, kept_content, IsAnsweredAlone};
 ghost use Rattle.named.specs.Blocks.{state_in, waiting_in, IsWellIn};
+ghost use Rattle.named.specs.Slots.{LieInOnePlace};
 
 use arena::Layout;
 use events::{History, Order};
 use interleave::Core;
-use persist::Memory;
+use persist::{Change, Memory};
 use std::alloc::Global;
 use std::marker::Model;
-use words::{Call, Client, Refusal, Reply, Told};
+use words::{Call, Client, MAX_STEPS_ALONE, Refusal, Reply, Told};
 
 /// A queue's core, and where its words lie: in the block of a slot.
 #[derive(Drop)]
@@ -50,6 +55,45 @@ impl<L: Layout + Drop> Block<L> {
         }
     }
 
+    /// A queue that begins on the kept words of its block, as a crash left them: recovery is to come.
+    pub(crate) fn boot(
+        alloc: Global,
+        layout: L,
+        memory: &Memory,
+        from: usize,
+        len: usize,
+    ) -> Result<Self, Refusal>
+        requires some { 1 ≤ len }
+        requires inside { from + len ≤ length memory.now.cached }
+        ensures booted { IfOk result (λ b. state_in (words_after_crash memory.now) b
+            ≡ booted_world (L.shape layout) (words_in from len memory.now)) }
+        ensures well { IfOk result (IsWellIn (words_after_crash memory.now)) }
+        ensures from { IfOk result (λ b. b.from ≡ from) }
+        ensures len { IfOk result (λ b. b.len ≡ len) }
+        ensures errors { IfErr result (MayRefuse (L.shape layout) (words_in from len memory.now).kept) }
+    {
+        let view = memory.view(from, len)?;
+        let core = Core::boot(alloc, layout, &view)?;
+        Ok(Block { core, from, len })
+    }
+
+    /// A queue in a block that is all zero, which recovery is the first to find: its recovery is to come. It takes no
+    /// memory.
+    pub(crate) fn boot_unused(alloc: Global, layout: L, from: usize, len: usize) -> Self
+        ensures state { (ws : Words) → state_in ws result
+            ≡ record (world_over (L.shape layout) (words_in from len ws)) { recovery = Some boot_recovery } }
+        ensures well { (ws : Words) → 1 ≤ len → from + len ≤ length ws.cached
+            → AreUnused (L.shape layout) (words_in from len ws) → IsWellIn ws result }
+        ensures from { result.from ≡ from }
+        ensures len { result.len ≡ len }
+    {
+        Block {
+            core: Core::boot_unused(alloc, layout),
+            from,
+            len,
+        }
+    }
+
     /// One step of the client's call, through a window on the block.
     pub(crate) fn step(
         &mut self,
@@ -64,8 +108,8 @@ impl<L: Layout + Drop> Block<L> {
         ensures room { self.old.core.trace.room ≤ self.new.core.trace.room + 1 }
         ensures well { IsWellIn memory.new self.new }
         ensures outside { IsSameOutside self.old.from self.old.len memory.old memory.new }
-        ensures from { self.new.from ≡ self.old.from }
-        ensures len { self.new.len ≡ self.old.len }
+        ensures recovery { self.new.core.trace.recovery ≡ self.old.core.trace.recovery }
+        ensures place { LieInOnePlace self.old self.new }
     {
         let mut window = memory.window(self.from, self.len)?;
         self.core.step(&mut window, client)
@@ -87,8 +131,8 @@ impl<L: Layout + Drop> Block<L> {
         ensures room { self.old.core.trace.room ≤ self.new.core.trace.room + 1 }
         ensures well { IsWellIn memory.new self.new }
         ensures outside { IsSameOutside self.old.from self.old.len memory.old memory.new }
-        ensures from { self.new.from ≡ self.old.from }
-        ensures len { self.new.len ≡ self.old.len }
+        ensures recovery { self.new.core.trace.recovery ≡ self.old.core.trace.recovery }
+        ensures place { LieInOnePlace self.old self.new }
     {
         let mut window = memory.window(self.from, self.len)?;
         self.core.start(&mut window, client, number, call)
@@ -106,14 +150,17 @@ impl<L: Layout + Drop> Block<L> {
         ensures errors { IfErr result (λ e. (e ≡ Refusal.NoMemory)
             ⊎ (waiting_in (state_in memory.old self.old) client ≡ Err e)) }
         ensures same { IfErr result (λ e. state_in memory.new self.new ≡ state_in memory.old self.old) }
+        ensures full { is_no_memory result ≡ true → self.old.core.trace.room ≡ 0 }
+        ensures room { self.old.core.trace.room ≤ self.new.core.trace.room + 1 }
+        ensures steps { IfOk result (λ answer. answer.1 ≤ MAX_STEPS_ALONE) }
         ensures answer { IfOk result (λ answer.
             IsAnsweredAlone (state_in memory.old self.old) client answer.1 answer.0) }
         ensures world { IfOk result (λ answer. state_in memory.new self.new
             ≡ after_alone answer.1 (state_in memory.old self.old) client) }
         ensures well { IsWellIn memory.new self.new }
         ensures outside { IsSameOutside self.old.from self.old.len memory.old memory.new }
-        ensures from { self.new.from ≡ self.old.from }
-        ensures len { self.new.len ≡ self.old.len }
+        ensures recovery { self.new.core.trace.recovery ≡ self.old.core.trace.recovery }
+        ensures place { LieInOnePlace self.old self.new }
     {
         let mut window = memory.window(self.from, self.len)?;
         self.core.run_alone(&mut window, client)
@@ -159,10 +206,98 @@ impl<L: Layout + Drop> Block<L> {
         ensures world { (ws : Words) → state_in ws self.new ≡ state_in ws self.old }
         ensures room { OnOk result (acts ≤ self.new.core.trace.room) }
         ensures kept { self.old.core.trace.room ≤ self.new.core.trace.room }
+        ensures full { OnErr result (self.old.core.trace.room < acts) }
         ensures errors { IfErr result (λ e. e ≡ Refusal.NoMemory) }
-        ensures from { self.new.from ≡ self.old.from }
-        ensures len { self.new.len ≡ self.old.len }
+        ensures recovery { self.new.core.trace.recovery ≡ self.old.core.trace.recovery }
+        ensures place { LieInOnePlace self.old self.new }
     {
         self.core.reserve(acts)
+    }
+
+    /// The environment keeps a word of the block, by its number in the whole memory.
+    pub(crate) fn evict(
+        &mut self,
+        memory: &mut Memory,
+        word: usize,
+    ) -> Result<Option<Change>, Refusal>
+        requires well { IsWellIn memory.old self.old }
+        requires from { self.old.from ≤ word }
+        requires len { word < self.old.from + self.old.len }
+        ensures state { state_in memory.new self.new
+            ≡ after_evict (state_in memory.old self.old) (word - self.old.from) }
+        ensures words { memory.new ≡ words_after_eviction word memory.old }
+        ensures result { result ≡ Ok (change_of memory.old word) }
+        ensures well { IsWellIn memory.new self.new }
+        ensures outside { IsSameOutside self.old.from self.old.len memory.old memory.new }
+        ensures room { self.new.core.trace.room ≡ self.old.core.trace.room }
+        ensures recovery { self.new.core.trace.recovery ≡ self.old.core.trace.recovery }
+        ensures place { LieInOnePlace self.old self.new }
+    {
+        let mut window = memory.window(self.from, self.len)?;
+        let change = self.core.evict(&mut window, word - self.from)?;
+        Ok(change.map(|change| Change { word, ..change }))
+    }
+
+    /// The whole system stops, where the history has room for one event.
+    pub(crate) fn stop(&mut self)
+        requires { 0 < self.old.core.trace.room }
+        ensures state { (ws : Words) → state_in (words_after_crash ws) self.new ≡ after_stop (state_in ws self.old) }
+        ensures well { (ws : Words) → IsWellIn ws self.old → IsWellIn (words_after_crash ws) self.new }
+        ensures room { self.old.core.trace.room ≤ self.new.core.trace.room + 1 }
+        ensures place { LieInOnePlace self.old self.new }
+    {
+        self.core.stop();
+    }
+
+    /// One step of the queue's recovery, through a window on the block. It answers whether the queue is ready now.
+    pub(crate) fn recover_step(&mut self, memory: &mut Memory) -> Result<bool, Refusal>
+        requires { IsWellIn memory.old self.old }
+        ensures state { state_in memory.new self.new
+            ≡ after_recover (is_no_memory result) (state_in memory.old self.old) }
+        ensures result { result ≡ recover_result (is_no_memory result) (state_in memory.old self.old) }
+        ensures full { is_no_memory result ≡ true → self.old.core.trace.room ≡ 0 }
+        ensures room { self.old.core.trace.room ≤ self.new.core.trace.room + 1 }
+        ensures well { IsWellIn memory.new self.new }
+        ensures outside { IsSameOutside self.old.from self.old.len memory.old memory.new }
+        ensures place { LieInOnePlace self.old self.new }
+    {
+        let mut window = memory.window(self.from, self.len)?;
+        self.core.recover_step(&mut window)
+    }
+
+    /// Whether a client has a call under way.
+    pub(crate) fn has_calls(&self) -> bool
+        ensures { result ≡ some_client_calls self.now.core.calls }
+    {
+        self.core.has_calls()
+    }
+
+    /// What another history would begin with, were this one to end now.
+    pub(crate) fn prepare_rotation(&self, memory: &Memory) -> Result<Vec<u32>, Refusal>
+        requires { IsWellIn memory.now self.now }
+        ensures base { IfOk result (λ base. base.items ≡ kept_content (state_in memory.now self.now)) }
+        ensures quiet { (ws : Words) → OnOk result (rotate_result false (state_in ws self.now) ≡ Ok tt) }
+        ensures errors { (ws : Words) → IfErr result (λ e. rotate_result true (state_in ws self.now) ≡ Err e) }
+    {
+        let view = memory.view(self.from, self.len)?;
+        self.core.prepare_rotation(&view)
+    }
+
+    /// The history ends, and another begins with this base.
+    pub(crate) fn begin_anew(&mut self, memory: &Memory, base: Vec<u32>)
+        requires well { IsWellIn memory.now self.old }
+        requires quiet { (ws : Words) → rotate_result false (state_in ws self.old) ≡ Ok tt }
+        requires base { base.items ≡ kept_content (state_in memory.now self.old) }
+        ensures state { state_in memory.now self.new ≡ after_rotation (state_in memory.now self.old) }
+        ensures well { IsWellIn memory.now self.new }
+        ensures room { self.old.core.trace.room ≤ self.new.core.trace.room }
+        ensures recovery { self.new.core.trace.recovery ≡ self.old.core.trace.recovery }
+        ensures place { LieInOnePlace self.old self.new }
+    {
+        // Block and view are inside the memory.
+        let Ok(view) = memory.view(self.from, self.len) else {
+            unreachable!();
+        };
+        self.core.begin_anew(&view, base);
     }
 }

@@ -2,7 +2,17 @@
 #![tactic(auto)]
 
 mod block;
+mod booting;
 mod broker;
+mod calls;
+mod evicting;
+mod looks;
+mod names;
+mod recovery;
+mod rotating;
 mod slot;
+mod slots;
+mod stopping;
 
 pub use broker::Broker;
+pub use recovery::BrokerRecovery;

@@ -1,23 +1,28 @@
 //! A slot of a broker: closed, or open with a queue.
 
 ghost use Rattle.std.specs.Prelude.{◌≡◌, ◌⊎◌, ◌<◌, ◌≤◌, ◌+◌, true, length, IfOk, IfErr, OnOk, IsSome, Ok, Err, Some, None};
+ghost use Rattle.persist.specs.Changes.{change_of};
+ghost use Rattle.recover.specs.Table.{boot_recovery};
+ghost use Rattle.interleave.specs.Booted.{booted_world, MayRefuse};
+ghost use Rattle.named.specs.Rotating.{has_calls_in};
+ghost use Rattle.named.specs.Slots.{IsAsReady, IsWordOf, world_evicted_in, HasRoomToStop};
 ghost use Rattle.interleave.specs.Queue.{told_in, told_to};
 ghost use Rattle.words.specs.declared.refusal.Refusal.{Refusal as AnyRefusal};
 ghost use Rattle.interleave.specs.Calls.{is_no_memory};
-ghost use Rattle.interleave.specs.State.{after_step, step_result, after_start, start_result, after_alone, kept_content, order_in, IsAnsweredAlone, world_over};
+ghost use Rattle.interleave.specs.State.{after_step, step_result, after_start, start_result, after_alone, after_stop, after_recover, recover_result, kept_content, order_in, IsAnsweredAlone, world_over};
 ghost use Rattle.named.specs.Blocks.{waiting_in};
 ghost use Rattle.named.specs.Slots.{world_in, acted, answered, IfWorld, IsWhyUnread, IsSlotWell, IsSameOutsideSlot, IsSameSlot, kind_in, room_in, AreEffectsFew};
 ghost use Rattle.named.specs.Brokers.{IsSlotAt, IsUnusedBlock, block_words};
 ghost use Rattle.arena.specs.Broker.{broker_size};
 ghost use Rattle.arena.specs.Shape.{shape_of};
-ghost use Rattle.persist.specs.Memory.{Words};
+ghost use Rattle.persist.specs.Memory.{Words, words_after_crash, words_after_eviction};
 
 use crate::block::Block;
 use arena::{BrokerLayout, DurableLayout, LogLayout, SLOTS, SlotId};
 use events::{History, Order};
-use persist::Memory;
+use persist::{Change, EvictableWords, Memory};
 use std::alloc::Global;
-use words::{Call, Client, Kind, Refusal, Reply, Told};
+use words::{Call, Client, Kind, MAX_STEPS_ALONE, Refusal, Reply, Told};
 
 /// A slot: nobody has created a queue in it, or it has one of either kind.
 #[derive(Drop)]
@@ -46,6 +51,7 @@ impl Slot {
         ensures well { IsSlotWell memory.new self.new }
         ensures outside { IsSameOutsideSlot self.old memory.old memory.new }
         ensures same { IsSameSlot self.old self.new }
+        ensures as_ready { IsAsReady self.old self.new }
     {
         match self {
             Slot::Closed => Err(Refusal::NoQueue),
@@ -70,6 +76,7 @@ impl Slot {
         ensures well { IsSlotWell memory.new self.new }
         ensures outside { IsSameOutsideSlot self.old memory.old memory.new }
         ensures same { IsSameSlot self.old self.new }
+        ensures as_ready { IsAsReady self.old self.new }
     {
         match self {
             Slot::Closed => Err(Refusal::NoQueue),
@@ -90,6 +97,9 @@ impl Slot {
         ensures errors { IfErr result (λ e. (e ≡ Refusal.NoMemory)
             ⊎ (answered (λ w. waiting_in w client) (world_in memory.old self.old) ≡ Err e)) }
         ensures same_world { IfErr result (λ e. world_in memory.new self.new ≡ world_in memory.old self.old) }
+        ensures full { is_no_memory result ≡ true → room_in self.old ≡ 0 }
+        ensures room { room_in self.old ≤ room_in self.new + 1 }
+        ensures steps { IfOk result (λ answer. answer.1 ≤ MAX_STEPS_ALONE) }
         ensures answer { IfOk result (λ answer. IfWorld (world_in memory.old self.old)
             (λ w. IsAnsweredAlone w client answer.1 answer.0)) }
         ensures world { IfOk result (λ answer. world_in memory.new self.new
@@ -97,6 +107,7 @@ impl Slot {
         ensures well { IsSlotWell memory.new self.new }
         ensures outside { IsSameOutsideSlot self.old memory.old memory.new }
         ensures same { IsSameSlot self.old self.new }
+        ensures as_ready { IsAsReady self.old self.new }
     {
         match self {
             Slot::Closed => Err(Refusal::NoQueue),
@@ -169,9 +180,11 @@ impl Slot {
         ensures world { (ws : Words) → world_in ws self.new ≡ world_in ws self.old }
         ensures room { OnOk result (acts ≤ room_in self.new) }
         ensures kept { room_in self.old ≤ room_in self.new }
+        ensures full { result ≡ Err Refusal.NoMemory → room_in self.old < acts }
         ensures open { (ws : Words) → OnOk result (IsSome (world_in ws self.old)) }
         ensures errors { (ws : Words) → IfErr result (IsWhyUnread (world_in ws self.old)) }
         ensures same { IsSameSlot self.old self.new }
+        ensures as_ready { IsAsReady self.old self.new }
     {
         match self {
             Slot::Closed => Err(Refusal::NoQueue),
@@ -194,6 +207,164 @@ impl Slot {
         match kind {
             Kind::Durable => Slot::Durable(Block::new(alloc, layout.durable(), from, len)),
             Kind::Log => Slot::Log(Block::new(alloc, layout.log(), from, len)),
+        }
+    }
+
+    /// A queue of this kind in the slot's block, which is all zero: recovery is the first to find it. It takes no memory.
+    pub(crate) fn open_found(alloc: Global, layout: &BrokerLayout, slot: SlotId, kind: Kind) -> Self
+        requires { slot.0 < SLOTS }
+        ensures kind { kind_in result ≡ Some kind }
+        ensures world { (ws : Words) → world_in ws result ≡ Some (record (world_over (shape_of kind layout.now)
+            (block_words layout.now slot.0 ws)) { recovery = Some boot_recovery }) }
+        ensures at { (ws : Words) → broker_size layout.now ≤ length ws.cached
+            → IsUnusedBlock layout.now ws slot.0 → IsSlotAt layout.now ws slot.0 result }
+    {
+        let from = layout.block(slot);
+        let len = layout.block_size();
+        match kind {
+            Kind::Durable => Slot::Durable(Block::boot_unused(alloc, layout.durable(), from, len)),
+            Kind::Log => Slot::Log(Block::boot_unused(alloc, layout.log(), from, len)),
+        }
+    }
+
+    /// A queue of this kind that begins on the kept words of the slot's block, as a crash left them.
+    pub(crate) fn boot(
+        alloc: Global,
+        layout: &BrokerLayout,
+        slot: SlotId,
+        kind: Kind,
+        memory: &Memory,
+    ) -> Result<Self, Refusal>
+        requires slot { slot.0 < SLOTS }
+        requires room { broker_size layout.now ≤ length memory.now.cached }
+        ensures kind { IfOk result (λ s. kind_in s ≡ Some kind) }
+        ensures world { IfOk result (λ s. world_in (words_after_crash memory.now) s
+            ≡ Some (booted_world (shape_of kind layout.now) (block_words layout.now slot.0 memory.now))) }
+        ensures at { IfOk result (IsSlotAt layout.now (words_after_crash memory.now) slot.0) }
+        ensures errors { IfErr result
+            (MayRefuse (shape_of kind layout.now) (block_words layout.now slot.0 memory.now).kept) }
+    {
+        let from = layout.block(slot);
+        let len = layout.block_size();
+        match kind {
+            Kind::Durable => Ok(Slot::Durable(Block::boot(
+                alloc,
+                layout.durable(),
+                memory,
+                from,
+                len,
+            )?)),
+            Kind::Log => Ok(Slot::Log(Block::boot(alloc, layout.log(), memory, from, len)?)),
+        }
+    }
+
+    /// The environment keeps a word of the slot's block, by its number in the whole memory.
+    pub(crate) fn evict(
+        &mut self,
+        memory: &mut Memory,
+        word: usize,
+    ) -> Result<Option<Change>, Refusal>
+        requires well { IsSlotWell memory.old self.old }
+        requires block { IsWordOf self.old word }
+        requires word { word < length memory.old.cached }
+        ensures world { world_in memory.new self.new ≡ world_evicted_in self.old word memory.old }
+        ensures words { memory.new ≡ words_after_eviction word memory.old }
+        ensures result { result ≡ Ok (change_of memory.old word) }
+        ensures well { IsSlotWell memory.new self.new }
+        ensures room { room_in self.new ≡ room_in self.old }
+        ensures same { IsSameSlot self.old self.new }
+        ensures as_ready { IsAsReady self.old self.new }
+    {
+        match self {
+            Slot::Closed => memory.evict(word),
+            Slot::Durable(block) => block.evict(memory, word),
+            Slot::Log(block) => block.evict(memory, word),
+        }
+    }
+
+    /// The whole system stops, where the history of the slot's queue has room for one event.
+    pub(crate) fn stop(&mut self)
+        requires { HasRoomToStop self.old }
+        ensures world { (ws : Words) → world_in (words_after_crash ws) self.new
+            ≡ acted after_stop (world_in ws self.old) }
+        ensures well { (ws : Words) → IsSlotWell ws self.old → IsSlotWell (words_after_crash ws) self.new }
+        ensures room { room_in self.old ≤ room_in self.new + 1 }
+        ensures same { IsSameSlot self.old self.new }
+    {
+        match self {
+            Slot::Closed => {}
+            Slot::Durable(block) => block.stop(),
+            Slot::Log(block) => block.stop(),
+        }
+    }
+
+    /// One step of recovery of the slot's queue. It answers whether that is ready now.
+    pub(crate) fn recover_step(&mut self, memory: &mut Memory) -> Result<bool, Refusal>
+        requires { IsSlotWell memory.old self.old }
+        ensures world { world_in memory.new self.new
+            ≡ acted (after_recover (is_no_memory result)) (world_in memory.old self.old) }
+        ensures result { result
+            ≡ answered (recover_result (is_no_memory result)) (world_in memory.old self.old) }
+        ensures full { is_no_memory result ≡ true → room_in self.old ≡ 0 }
+        ensures room { room_in self.old ≤ room_in self.new + 1 }
+        ensures well { IsSlotWell memory.new self.new }
+        ensures outside { IsSameOutsideSlot self.old memory.old memory.new }
+        ensures same { IsSameSlot self.old self.new }
+    {
+        match self {
+            Slot::Closed => Err(Refusal::NoQueue),
+            Slot::Durable(block) => block.recover_step(memory),
+            Slot::Log(block) => block.recover_step(memory),
+        }
+    }
+
+    /// Whether a client of its queue has a call under way.
+    pub(crate) fn has_calls(&self) -> bool
+        ensures { result ≡ has_calls_in self.now }
+    {
+        match self {
+            Slot::Closed => false,
+            Slot::Durable(block) => block.has_calls(),
+            Slot::Log(block) => block.has_calls(),
+        }
+    }
+
+    /// Whether nobody has created a queue in it.
+    pub(crate) fn is_closed(&self) -> bool {
+        match self {
+            Slot::Closed => true,
+            Slot::Durable(_) | Slot::Log(_) => false,
+        }
+    }
+
+    /// Makes room for so many acts in the history of its queue, if it has one.
+    pub(crate) fn make_room(&mut self, acts: usize) -> Result<(), Refusal> {
+        match self {
+            Slot::Closed => Ok(()),
+            Slot::Durable(block) => block.reserve(acts),
+            Slot::Log(block) => block.reserve(acts),
+        }
+    }
+
+    /// What the next history of its queue would begin with; of a closed slot, nothing.
+    pub(crate) fn prepare_rotation(
+        &self,
+        alloc: Global,
+        memory: &Memory,
+    ) -> Result<Vec<u32>, Refusal> {
+        match self {
+            Slot::Closed => Ok(Vec::new(alloc)),
+            Slot::Durable(block) => block.prepare_rotation(memory),
+            Slot::Log(block) => block.prepare_rotation(memory),
+        }
+    }
+
+    /// The history of its queue ends, and another begins with this base.
+    pub(crate) fn begin_anew(&mut self, memory: &Memory, base: Vec<u32>) {
+        match self {
+            Slot::Closed => {}
+            Slot::Durable(block) => block.begin_anew(memory, base),
+            Slot::Log(block) => block.begin_anew(memory, base),
         }
     }
 }

@@ -1,0 +1,59 @@
+-- A broker that begins on kept words: which words those may be, and what it is then.
+use Rattle.std.specs.Prelude.{◌≡◌, ℕ, ◌<◌, ◌⊎◌, List, Option, Some, None, take, drop}
+use Rattle.words.specs.declared.call.Kind.{Kind}
+use Rattle.words.specs.declared.refusal.Refusal.{Refusal}
+use Rattle.words.specs.declared.refusal.Refusal.TheVariants.{NoMemory}
+use Rattle.persist.specs.Memory.{Words, words_after_crash}
+use Rattle.arena.specs.Broker.{block_from, block_size_of}
+use Rattle.arena.specs.Shape.{Counts, shape_of}
+use Rattle.arena.specs.declared.broker.TheConstants.{SLOTS}
+use Rattle.directory.specs.Directory.{Directory, HasQueue}
+use Rattle.directory.specs.Queue.{directory_of, slot_in}
+use Rattle.directory.specs.Sound.{AreBrokerWords, IsBrokerDamaged, counts_in}
+use Rattle.directory.specs.declared.queue.Queue.{Queue}
+use Rattle.interleave.specs.Booted.{booted_world}
+use Rattle.interleave.specs.State.{State}
+use Rattle.recover.specs.Sound.{AreSoundWords, IsDamaged}
+use Rattle.named.specs.Brokers.{Brokered, block_words, world_at}
+use Rattle.named.specs.Stopping.{booting}
+
+-- the kept words of a slot's block
+abbrev pub kept_block : Counts → ℕ → List ℕ → List ℕ
+kept_block c slot ws = take (block_size_of c.clients c.records) (drop (block_from c slot) ws)
+
+-- the words of the block of an open slot are those that a queue of its kind may begin on
+abbrev pub IsBlockSound : List ℕ → ℕ → Queue → Type 0
+IsBlockSound ws slot queue = AreSoundWords (shape_of queue.kind (counts_in ws)) (kept_block (counts_in ws) slot ws)
+
+-- words that a broker may begin on
+pub record AreBootWords (ws : List ℕ) : Type 0 where
+  pub broker : AreBrokerWords ws
+  pub blocks : (slot : ℕ) (queue : Queue) → HasQueue (directory_of ws) slot queue → IsBlockSound ws slot queue
+
+-- the lowest open slot whose block breaks a rule, and the first rule that it breaks
+pub record IsBlockDamaged (ws : List ℕ) (refusal : Refusal) : Type 0 where
+  pub broker : AreBrokerWords ws
+  pub slot : ℕ
+  pub queue : Queue
+  pub has : HasQueue (directory_of ws) slot queue
+  pub below : (other : ℕ) (q : Queue) → other < slot → HasQueue (directory_of ws) other q → IsBlockSound ws other q
+  pub damaged : IsDamaged (shape_of queue.kind (counts_in ws)) (kept_block (counts_in ws) slot ws) refusal
+
+-- why it may not begin: the words break a rule, the first of them this; or they are sound, and there is no memory
+abbrev pub MayRefuse : List ℕ → Refusal → Type 0
+MayRefuse ws NoMemory = AreBootWords ws
+MayRefuse ws refusal = IsBrokerDamaged ws refusal ⊎ IsBlockDamaged ws refusal
+
+-- the world of an open slot begins on the words of its block
+abbrev pub world_booted : Counts → ℕ → Words → Option Queue → Option State
+world_booted c slot ws None = None
+world_booted c slot ws (Some queue) = Some (booted_world (shape_of queue.kind c) (block_words c slot ws))
+
+-- the broker that begins on these words, as a crash left them
+pub record IsBooted (ws : Words) (b : Brokered) : Type 0 where
+  pub counts : b.counts ≡ counts_in ws.kept
+  pub words : b.words ≡ words_after_crash ws
+  pub directory : b.directory ≡ directory_of ws.kept
+  pub worlds : (slot : ℕ) → slot < SLOTS → world_at b slot ≡ world_booted b.counts slot ws (slot_in ws.kept slot)
+  pub creation : b.creation ≡ None
+  pub recovery : b.recovery ≡ booting

@@ -1,0 +1,68 @@
+//! A broker that begins on what a memory keeps.
+
+ghost use Rattle.std.specs.Prelude.{◌≡◌, ◌≢◌, ◌↔◌, ◌⊎◌, ◌<◌, ◌≤◌, ◌+◌, ℕ, true, length, replicate, slice_set, Ok, Err, IfOk, IfErr, OnOk, OnErr, IfSome, IfNone, IsSome, None, if◌then◌else◌};
+ghost use Rattle.named.specs.Booting.{AreBootWords, IsBooted, MayRefuse};
+
+use crate::broker::Broker;
+use crate::recovery::BrokerRecovery;
+use crate::slots::boot_each;
+use arena::{BrokerLayout, SLOTS, SlotId};
+use directory::{DirectoryRecovery, KeptBroker, sound as sound_directory};
+use persist::Memory;
+use recover::sound as sound_queue;
+use std::alloc::Global;
+use words::{Kind, Refusal};
+
+/// Whether a queue of this kind may begin on the kept words of a slot's block. It is refused where they break a rule
+/// (Damaged, with the first such rule).
+fn check_block(
+    layout: &BrokerLayout,
+    memory: &Memory,
+    slot: SlotId,
+    kind: Kind,
+) -> Result<(), Refusal> {
+    let block = memory.view(layout.block(slot), layout.block_size())?;
+    match kind {
+        Kind::Durable => sound_queue(&layout.durable(), &block),
+        Kind::Log => sound_queue(&layout.log(), &block),
+    }
+}
+
+/// Whether so it is of each open slot, in slot order.
+fn check_blocks(kept: &KeptBroker, memory: &Memory) -> Result<(), Refusal> {
+    let places = kept.directory.queues();
+    for slot in 0..SLOTS {
+        if let Some(queue) = &places[slot] {
+            check_block(&kept.layout, memory, SlotId(slot as u8), queue.kind)?;
+        }
+    }
+    Ok(())
+}
+
+impl Broker {
+    /// A broker that begins on what a memory keeps, as a crash left it: what is not kept is lost, and recovery begins. How
+    /// many clients and records there are, the memory's head says. Each open queue's history begins with what its kept
+    /// words hold and tell. It is refused, in this order, where the words break a rule (Damaged, with the first such
+    /// rule: of the head, of the directory, of the open blocks in slot order), and for want of memory (NoMemory).
+    pub fn boot(alloc: Global, memory: Memory) -> Result<Self, Refusal>
+        ensures booted { IfOk result (IsBooted memory) }
+        ensures sound { OnOk result (AreBootWords memory.kept) }
+        ensures errors { IfErr result (MayRefuse memory.kept) }
+    {
+        let kept = sound_directory(&memory)?;
+        check_blocks(&kept, &memory)?;
+        let slots = boot_each(alloc, &kept, &memory)?;
+        let mut memory = memory;
+        memory.crash();
+        Ok(Broker {
+            layout: kept.layout,
+            memory,
+            slots,
+            directory: kept.directory,
+            creation: None,
+            recovery: Some(BrokerRecovery::ReadDirectory {
+                at: DirectoryRecovery::boot(),
+            }),
+        })
+    }
+}

@@ -1,0 +1,102 @@
+//! What the queues of a broker have: what happened, what they hold, and what their clients were told.
+
+ghost use Rattle.std.specs.Prelude.{◌≡◌, ◌≢◌, ◌↔◌, ◌⊎◌, ◌<◌, ◌≤◌, ◌+◌, ℕ, true, length, replicate, slice_set, Ok, Err, IfOk, IfErr, OnOk, OnErr, IfSome, IfNone, IsSome, None, if◌then◌else◌};
+ghost use Rattle.persist.specs.Image.{image_of, reading};
+ghost use Rattle.interleave.specs.Queue.{told_in, told_to};
+ghost use Rattle.interleave.specs.State.{kept_content, order_in};
+ghost use Rattle.named.specs.Slots.{world_in, IfWorld, IsSlotWell, IsWhyUnread};
+ghost use Rattle.named.specs.Brokers.{world_at, room_at, answer_at};
+
+use crate::broker::Broker;
+use crate::slot::Slot;
+use arena::SlotId;
+use events::{History, Order};
+use words::{Client, Refusal, Told};
+
+impl Broker {
+    /// A slot, where there is one.
+    fn slot(&self, slot: SlotId) -> Result<&Slot, Refusal>
+        ensures world { IfOk result (λ s. world_in self.now.words s.now ≡ world_at self.now slot.0) }
+        ensures well { IfOk result (λ s. IsSlotWell self.now.words s.now) }
+        ensures errors { IfErr result (λ e. (e ≡ Refusal.NoQueue) × (world_at self.now slot.0 ≡ None)) }
+    {
+        match self.slots.get(slot.0 as usize) {
+            Some(slot) => Ok(slot),
+            None => Err(Refusal::NoQueue),
+        }
+    }
+
+    /// What the client was last told in the queue of a slot: what the last recovery read, and at first what the base
+    /// tells. It is refused, in this order, where there is no such client (NoClient), while the broker recovers
+    /// (NotReady), and where the slot is closed (NoQueue).
+    pub fn told(&self, slot: SlotId, client: Client) -> Result<Told, Refusal>
+        ensures { result ≡ answer_at (λ w. Ok (told_to (told_in w.queue) client)) self.now slot.0 client }
+    {
+        self.admit(client)?;
+        self.slot(slot)?.told(client)
+    }
+
+    /// What happened in the queue of a slot since the history begins. It takes no memory, and is refused where the slot
+    /// is closed (NoQueue).
+    pub fn history(&self, slot: SlotId) -> Result<&History, Refusal>
+        ensures base { IfOk result (λ h. IfWorld (world_at self.now slot.0) (λ w. h.now.base.items ≡ w.base)) }
+        ensures told { IfOk result (λ h. IfWorld (world_at self.now slot.0) (λ w. h.now.told ≡ w.told)) }
+        ensures events { IfOk result (λ h. IfWorld (world_at self.now slot.0)
+            (λ w. h.now.events.items ≡ w.log.events)) }
+        ensures open { OnOk result (IsSome (world_at self.now slot.0)) }
+        ensures errors { IfErr result (λ e. (e ≡ Refusal.NoQueue) × (world_at self.now slot.0 ≡ None)) }
+    {
+        self.slot(slot)?.history()
+    }
+
+    /// The calls of the queue of a slot in the order in which they took effect. It is refused, in this order, where the
+    /// slot is closed (NoQueue), and for want of memory (NoMemory).
+    pub fn order(&self, slot: SlotId) -> Result<Order, Refusal>
+        ensures order { IfOk result (λ order. IfWorld (world_at self.now slot.0)
+            (λ w. order.entries.items ≡ order_in w)) }
+        ensures open { OnOk result (IsSome (world_at self.now slot.0)) }
+        ensures errors { IfErr result (IsWhyUnread (world_at self.now slot.0)) }
+    {
+        self.slot(slot)?.order()
+    }
+
+    /// What the queue of a slot holds by its kept words. It is refused, in this order, where the slot is closed
+    /// (NoQueue), and for want of memory (NoMemory).
+    pub fn content(&self, slot: SlotId) -> Result<Vec<u32>, Refusal>
+        ensures content { IfOk result (λ values. IfWorld (world_at self.now slot.0)
+            (λ w. values.items ≡ kept_content w)) }
+        ensures open { OnOk result (IsSome (world_at self.now slot.0)) }
+        ensures errors { IfErr result (IsWhyUnread (world_at self.now slot.0)) }
+    {
+        self.slot(slot)?.content(&self.memory)
+    }
+
+    /// Makes room in the history of the queue of a slot, so that its next acts, so many of them, are not refused for
+    /// want of memory. It is refused, in this order, where the slot is closed (NoQueue), and for want of memory
+    /// (NoMemory).
+    pub fn reserve(&mut self, slot: SlotId, acts: usize) -> Result<(), Refusal>
+        ensures worlds { (at : ℕ) → world_at self.new at ≡ world_at self.old at }
+        ensures room { OnOk result (acts ≤ room_at self.new slot.0) }
+        ensures kept { (at : ℕ) → room_at self.old at ≤ room_at self.new at }
+        ensures open { OnOk result (IsSome (world_at self.old slot.0)) }
+        ensures errors { IfErr result (IsWhyUnread (world_at self.old slot.0)) }
+        ensures directory { self.new.directory ≡ self.old.directory }
+        ensures creation { self.new.creation ≡ self.old.creation }
+        ensures recovery { self.new.recovery ≡ self.old.recovery }
+    {
+        if slot.0 as usize >= self.slots.len() {
+            return Err(Refusal::NoQueue);
+        }
+        self.slots[slot.0 as usize].reserve(acts)
+    }
+
+    /// The kept words as bytes: the image of the broker's memory. A value that is only cached is not in it. It is
+    /// refused for want of memory (NoMemory).
+    pub fn to_image(&self) -> Result<Vec<u8>, Refusal>
+        ensures image { IfOk result (λ bytes. bytes.items ≡ image_of self.now.words.kept) }
+        ensures read { IfOk result (λ bytes. reading bytes.items ≡ Ok self.now.words.kept) }
+        ensures errors { IfErr result (λ e. e ≡ Refusal.NoMemory) }
+    {
+        self.memory.to_image()
+    }
+}

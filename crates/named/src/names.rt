@@ -1,0 +1,109 @@
+//! The names of a broker's queues, and how a queue comes to be.
+
+ghost use Rattle.std.specs.Prelude.{◌≡◌, ◌≢◌, ◌↔◌, ◌⊎◌, ◌<◌, ◌≤◌, ◌+◌, ℕ, true, length, replicate, slice_set, Ok, Err, IfOk, IfErr, OnOk, OnErr, IfSome, IfNone, IsSome, None, if◌then◌else◌};
+ghost use Rattle.directory.specs.Directory.{IsDirectory, IsNamed, HasName};
+ghost use Rattle.directory.specs.Creation.{successor};
+ghost use Rattle.named.specs.Brokers.{is_down, world_at, quiet, IsBegun, IsNotCreated, MayCreate, IsStepCreated};
+
+use crate::broker::Broker;
+use crate::slot::Slot;
+use arena::SlotId;
+use directory::{Creation, Name, Places, Queue};
+use stepper::After;
+use words::{Kind, Refusal};
+
+impl Broker {
+    /// Refuses while recovery is under way.
+    pub(crate) fn check_ready(&self) -> Result<(), Refusal>
+        ensures { result ≡ (if is_down self.now then Err Refusal.NotReady else Ok tt) }
+    {
+        if self.recovery.is_some() {
+            return Err(Refusal::NotReady);
+        }
+        Ok(())
+    }
+
+    /// What each slot has: the names and kinds of the queues, in slot order. It is refused while recovery is under way
+    /// (NotReady).
+    pub fn list(&self) -> Result<&Places, Refusal>
+        ensures places { IfOk result (λ places. places.now ≡ self.now.directory) }
+        ensures directory { IfOk result (λ places. IsDirectory places.now) }
+        ensures ready { OnOk result (self.now.recovery ≡ None) }
+        ensures errors { IfErr result (λ e. (e ≡ Refusal.NotReady) × IsSome self.now.recovery) }
+    {
+        self.check_ready()?;
+        Ok(self.directory.queues())
+    }
+
+    /// The slot with the queue of this name, if there is one. It is refused while recovery is under way (NotReady).
+    pub fn find(&self, name: &Name) -> Result<Option<SlotId>, Refusal>
+        ensures found { IfOk result (λ r. IfSome r (λ slot. IsNamed self.now.directory slot.0 name.now)) }
+        ensures open { IfOk result (λ r. IfSome r (λ slot. IsSome (world_at self.now slot.0))) }
+        ensures none { IfOk result (λ r. IfNone r (HasName self.now.directory name.now → ⊥)) }
+        ensures ready { OnOk result (self.now.recovery ≡ None) }
+        ensures errors { IfErr result (λ e. (e ≡ Refusal.NotReady) × IsSome self.now.recovery) }
+    {
+        self.check_ready()?;
+        Ok(self.directory.find(name))
+    }
+
+    /// Begins to create a queue of this name, in the lowest free slot. It is refused, in this order, where these bytes
+    /// are no name (BadName), while recovery is under way (NotReady), where another creation is (Busy), where there is a
+    /// queue of this name (Exists), and where there are eight queues (DirectoryFull).
+    pub fn create(&mut self, name: &[u8], kind: Kind) -> Result<(), Refusal>
+        ensures may { OnOk result (MayCreate self.old name.now) }
+        ensures begun { OnOk result (IfSome self.new.creation (IsBegun self.old name.now kind)) }
+        ensures under_way { OnOk result (IsSome self.new.creation) }
+        ensures others { self.new ≡ record self.old { creation = self.new.creation } }
+        ensures errors { IfErr result (IsNotCreated self.old name.now) }
+        ensures same { OnErr result (self.new ≡ self.old) }
+    {
+        let name = Name::make(name)?;
+        self.check_ready()?;
+        if self.creation.is_some() {
+            return Err(Refusal::Busy);
+        }
+        if self.directory.has(&name) {
+            return Err(Refusal::Exists);
+        }
+        let Some(slot) = self.directory.lowest_free() else {
+            return Err(Refusal::DirectoryFull);
+        };
+        self.creation = Some(Creation::begin(slot, Queue { name, kind }));
+        Ok(())
+    }
+
+    /// One step of the creation: exactly one access. The eighth opens the slot, and answers it. It is refused, in this
+    /// order, while recovery is under way (NotReady), and where no creation is (Idle).
+    pub fn create_step(&mut self) -> Result<Option<SlotId>, Refusal>
+        ensures down { is_down self.old ≡ true → result ≡ Err Refusal.NotReady }
+        ensures idle { self.old.recovery ≡ None → self.old.creation ≡ None → result ≡ Err Refusal.Idle }
+        ensures same { OnErr result (self.new ≡ self.old) }
+        ensures step { self.old.recovery ≡ None → IfSome self.old.creation
+            (λ creation. IsStepCreated self.old self.new creation result (successor creation)) }
+        ensures others { (other : ℕ) → IfOk result (λ opened. IfSome opened (λ slot. other ≢ slot.0))
+            → quiet (world_at self.new other) ≡ quiet (world_at self.old other) }
+    {
+        self.check_ready()?;
+        let under_way = self.creation;
+        let Some(creation) = under_way else {
+            return Err(Refusal::Idle);
+        };
+        let queue = creation.queue;
+        let after = creation.step(&self.layout, &mut self.memory);
+        match after {
+            After::More(next) => {
+                self.creation = Some(next);
+                Ok(None)
+            }
+            After::Done(slot) => {
+                let alloc = *self.slots.allocator();
+                let opened = Slot::open(alloc, &self.layout, slot, queue.kind);
+                self.creation = None;
+                self.directory.open(slot, queue);
+                self.slots[slot.0 as usize] = opened;
+                Ok(Some(slot))
+            }
+        }
+    }
+}

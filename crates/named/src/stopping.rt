@@ -1,0 +1,129 @@
+//! A crash of a broker, and the steps of its recovery.
+
+ghost use Rattle.std.specs.Prelude.{◌≡◌, ◌≢◌, ◌↔◌, ◌⊎◌, ◌<◌, ◌≤◌, ◌+◌, ℕ, true, length, replicate, slice_set, Ok, Err, IfOk, IfErr, OnOk, OnErr, IfSome, IfNone, IsSome, None, if◌then◌else◌};
+ghost use Rattle.interleave.specs.Calls.{is_no_memory};
+ghost use Rattle.interleave.specs.State.{crash_result};
+ghost use Rattle.directory.specs.Directory.{Directory as AnyDirectory, HasQueue};
+ghost use Rattle.named.specs.Brokers.{world_at, room_at};
+ghost use Rattle.named.specs.Stopping.{HasFullQueue, IsDirectoryRead, IsNext, IsQueueRecovered, IsRecoveryStep, IsSameButRoom, IsStopped};
+
+use crate::broker::Broker;
+use crate::recovery::BrokerRecovery;
+use crate::slot::Slot;
+use crate::slots::{reserve_each, stop_each};
+use arena::{SLOTS, SlotId};
+use directory::{Directory, DirectoryRecovery, Places};
+use stepper::After;
+use words::Refusal;
+
+/// What recovery is about to do once the queues of the slots below this one are ready: the next queue, if there is one.
+fn recovery_from(directory: &Directory, from: usize) -> Option<BrokerRecovery>
+    ensures { IsNext directory.now from result }
+{
+    let places = directory.queues();
+    for slot in from..SLOTS {
+        if places[slot].is_some() {
+            let slot = SlotId(slot as u8);
+            return Some(BrokerRecovery::RecoverQueue { slot });
+        }
+    }
+    None
+}
+
+impl Broker {
+    /// The whole system stops: what is not kept is lost, calls and a creation under way end, and recovery begins anew,
+    /// also where it was under way. It makes room in every queue's history before anything changes. It is refused for
+    /// want of memory alone (NoMemory), and then nothing changed.
+    pub fn crash(&mut self) -> Result<(), Refusal>
+        ensures stopped { result ≡ Ok tt → IsStopped self.old self.new }
+        ensures same { OnErr result (IsSameButRoom self.old self.new) }
+        ensures result { result ≡ crash_result (is_no_memory result) }
+        ensures full { is_no_memory result ≡ true → HasFullQueue self.old }
+        ensures room { (slot : ℕ) → room_at self.old slot ≤ room_at self.new slot + 1 }
+    {
+        // A queue that had stopped while another's room is refused would have a crash that the other had not.
+        reserve_each(&mut self.slots, 1)?;
+        stop_each(&mut self.slots);
+        self.memory.crash();
+        self.recovery = Some(BrokerRecovery::ReadDirectory {
+            at: DirectoryRecovery::boot(),
+        });
+        Ok(())
+    }
+
+    /// Recovery found the gate of a slot open. Where it is the first to find that, the queue is the one whose creation a
+    /// crash dropped, and begins here.
+    fn open_found(&mut self, slot: SlotId) {
+        if !self.slots[slot.0 as usize].is_closed() {
+            return;
+        }
+        let dropped = self.creation;
+        let Some(creation) = dropped else {
+            // A slot that was closed, and whose gate is kept open, is that of the creation which a crash dropped.
+            unreachable!();
+        };
+        let alloc = *self.slots.allocator();
+        let opened = Slot::open_found(alloc, &self.layout, slot, creation.queue.kind);
+        self.directory.open(slot, creation.queue);
+        self.slots[slot.0 as usize] = opened;
+    }
+
+    /// The directory's recovery goes on, or has read the whole directory. It answers whether the broker is ready now.
+    fn read_on(&mut self, after: After<DirectoryRecovery, Places>) -> bool {
+        match after {
+            After::More(next) => {
+                self.recovery = Some(BrokerRecovery::ReadDirectory { at: next });
+            }
+            After::Done(places) => {
+                self.directory = Directory::of(places);
+                self.recovery = recovery_from(&self.directory, 0);
+                if self.recovery.is_none() {
+                    self.creation = None;
+                }
+            }
+        }
+        self.recovery.is_none()
+    }
+
+    /// A load of the directory's recovery. It answers whether the broker is ready now.
+    fn read_directory(&mut self, at: DirectoryRecovery) -> bool
+        requires { self.old.recovery ≡ Some (BrokerRecovery.ReadDirectory at) }
+        ensures { IsDirectoryRead self.old self.new at (Ok result) }
+    {
+        let recovered = at.step(&self.layout, &mut self.memory);
+        if let Some(slot) = recovered.opened {
+            self.open_found(slot);
+        }
+        self.read_on(recovered.after)
+    }
+
+    /// A step of recovery of the queue in a slot. It answers whether the broker is ready now.
+    fn recover_queue(&mut self, slot: SlotId) -> Result<bool, Refusal>
+        requires { self.old.recovery ≡ Some (BrokerRecovery.RecoverQueue slot) }
+        ensures { IsQueueRecovered self.old self.new slot.0 result }
+    {
+        let ready = self.slots[slot.0 as usize].recover_step(&mut self.memory)?;
+        if !ready {
+            return Ok(false);
+        }
+        self.recovery = recovery_from(&self.directory, slot.0 as usize + 1);
+        if self.recovery.is_none() {
+            self.creation = None;
+        }
+        Ok(self.recovery.is_none())
+    }
+
+    /// One step of recovery: exactly one access. The directory is read first, in 8 to 32 steps; then the open queues
+    /// recover, in slot order. It answers whether the broker is ready now, and then each client of each queue is told
+    /// what became of its last call. It is refused, in this order, where no recovery is under way (AlreadyReady), and
+    /// for want of memory (NoMemory).
+    pub fn recover_step(&mut self) -> Result<bool, Refusal>
+        ensures step { IsRecoveryStep self.old self.new result self.old.recovery }
+    {
+        match self.recovery {
+            None => Err(Refusal::AlreadyReady),
+            Some(BrokerRecovery::ReadDirectory { at }) => Ok(self.read_directory(at)),
+            Some(BrokerRecovery::RecoverQueue { slot }) => self.recover_queue(slot),
+        }
+    }
+}
