@@ -1,5 +1,5 @@
 -- A creation that begins keeps what holds of the broker, and a queue that is found has a world.
-use Rattle.std.proofs.Common.{◌≡◌, ℕ, zero, suc, ◌<◌, List, [], ◌∷◌, length, slice_get, Option, Some, None, refl, subst, arith}
+use Rattle.std.proofs.Common.{◌≡◌, ℕ, zero, suc, ◌<◌, List, [], ◌∷◌, length, slice_get, Option, Some, None, refl, sym, subst, arith}
 use Rattle.std.specs.Prelude.{IfSome, IsSome}
 use Rattle.std.proofs.lemmas.Option.{slice_get_within}
 use Rattle.words.specs.declared.call.Kind.{Kind}
@@ -12,7 +12,8 @@ use Rattle.directory.specs.UnderWay.{IsAtRest}
 use Rattle.directory.specs.declared.creation.Creation.{Creation}
 use Rattle.directory.specs.declared.queue.Queue.{Queue}
 use Rattle.directory.proofs.Creations.{creation_begins}
-use Rattle.named.specs.Brokers.{Brokered, IsDirectoryIn, IsWell, world_at, world_of}
+use Rattle.named.specs.Brokers.{Brokered, IsDirectoryAt, IsDirectoryIn, IsWell, world_at, world_of}
+use Rattle.named.specs.declared.recovery.BrokerRecovery.{BrokerRecovery}
 use Rattle.named.specs.Slots.{kind_in, world_in}
 use Rattle.named.specs.declared.slot.Slot.{Slot}
 use Rattle.named.specs.declared.slot.Slot.TheVariants.{Closed, Durable, Log}
@@ -20,10 +21,12 @@ use Rattle.named.specs.declared.slot.Slot.TheVariants.{Closed, Durable, Log}
 abbrev pub begun : Brokered → SlotId → Queue → Brokered
 begun b slot queue = record b { creation = Some (new_creation slot queue) }
 
-pub begun_well : (b : Brokered) (slot : SlotId) (queue : Queue) → IsWell b → b.creation ≡ None → IsFree b.directory slot.0
+pub begun_well : (b : Brokered) (slot : SlotId) (queue : Queue) → IsWell b → b.recovery ≡ None → b.creation ≡ None → IsFree b.directory slot.0
     → IsName queue.name → (HasName b.directory queue.name → ⊥) → IsWell (begun b slot queue)
-begun_well b slot queue holds idle free named is_new =
-    let rest : IsAtRest b.words b.directory = subst (λ (o : Option Creation). IsDirectoryIn b.words o b.directory) idle holds.directory in
+begun_well b slot queue holds ready idle free named is_new =
+    let at_ready : IsDirectoryIn b.words b.creation b.directory = subst (λ (o : Option BrokerRecovery). IsDirectoryAt b.words o b.creation b.directory) ready holds.directory in
+    let rest : IsAtRest b.words b.directory = subst (λ (o : Option Creation). IsDirectoryIn b.words o b.directory) idle at_ready in
+    let creating : IsDirectoryIn b.words (Some (new_creation slot queue)) b.directory = record { under_way = creation_begins b.words slot queue b.directory rest free named; is_new = is_new } in
     record {
       counts = holds.counts;
       room = holds.room;
@@ -32,7 +35,8 @@ begun_well b slot queue holds idle free named is_new =
       slots = holds.slots;
       listed = holds.listed;
       kinds = holds.kinds;
-      directory = record { under_way = creation_begins b.words slot queue b.directory rest free named; is_new = is_new };
+      directory = subst (λ (o : Option BrokerRecovery). IsDirectoryAt b.words o (Some (new_creation slot queue)) b.directory) (sym ready) creating;
+      readiness = holds.readiness;
     }
 
 pub get_there : {X : Type 0} (xs : List X) (i : ℕ) → i < length xs → slice_get xs i ≡ None → ⊥

@@ -1,5 +1,5 @@
 -- An act on one slot keeps what holds of the broker, and leaves the other slots as they were.
-use Rattle.std.proofs.Common.{◌≡◌, ◌≢◌, ℕ, zero, suc, ◌+◌, ◌<◌, ◌≤◌, ◌⊎◌, inl, inr, List, [], ◌∷◌, length, take, drop, slice_get, slice_set, Option, Some, None, Result, Ok, Err, Bool, true, false, if◌then◌else◌, refl, sym, ap, ◌∙◌, subst, arith, length-drop, length-take}
+use Rattle.std.proofs.Common.{◌≡◌, ◌≢◌, ℕ, zero, suc, ◌+◌, ◌<◌, ◌≤◌, ◌⊎◌, inl, inr, List, [], ◌∷◌, length, take, drop, slice_get, slice_set, Option, Some, None, Result, Ok, Err, Bool, true, false, if◌then◌else◌, is_some, is_ok, refl, sym, ap, ◌∙◌, subst, arith, length-drop, length-take}
 use Rattle.std.proofs.lemmas.Bool.{cases_eq, cases_lt}
 use Rattle.std.proofs.lemmas.Option.{slice_get_within, slice_get_past}
 use Rattle.std.specs.Option.{option_map}
@@ -13,16 +13,21 @@ use Rattle.directory.specs.UnderWay.{HasDirectory, HaveSameDirectory}
 use Rattle.directory.specs.declared.creation.Creation.{Creation}
 use Rattle.directory.specs.declared.queue.Queue.{Queue}
 use Rattle.directory.proofs.Creations.{creation_moves, rest_moves}
+use Rattle.directory.proofs.Recoveries.{recovery_moves}
 use Rattle.directory.proofs.Sounds.{head_moves, outside_same}
 use Rattle.interleave.specs.State.{State}
 use Rattle.interleave.proofs.AloneLaws.{get_set}
 use Rattle.interleave.proofs.PartLaws.{holds_alike}
 use Rattle.named.specs.Blocks.{BlockState, IsWellIn, state_in}
 use Rattle.words.specs.declared.call.Client.{Client}
+use Rattle.words.specs.declared.call.Kind.{Kind}
+use Rattle.words.specs.declared.call.Kind.TheVariants.{Durable as durable_kind, Log as log_kind}
 use Rattle.words.specs.declared.refusal.Refusal.{Refusal}
-use Rattle.words.specs.declared.refusal.Refusal.TheVariants.{NoClient, NoQueue}
-use Rattle.named.specs.Slots.{acted, answered, IsSameOutsideSlot, IsSameSlot, IsSlotWell, kind_in, world_in}
-use Rattle.named.specs.Brokers.{Brokered, HasRoom, IsDirectoryIn, IsInBlock, IsSlotAt, IsUnusedBlock, IsWell, block_words, quiet, with_slot, world_at, world_of, world_after, answer_at, has_client}
+use Rattle.words.specs.declared.refusal.Refusal.TheVariants.{NoQueue}
+use Rattle.named.specs.Slots.{acted, answered, IsAsReady, IsReadyIn, IsSameOutsideSlot, IsSameSlot, IsSlotWell, LieInOnePlace, kind_in, world_in}
+use Rattle.named.specs.Brokers.{Brokered, HasRoom, IsDirectoryAt, IsDirectoryDown, IsDirectoryIn, IsInBlock, IsSlotAt, IsUnusedBlock, IsWell, block_words, quiet, with_slot, world_at, world_of, world_after, answer_at, answer_if, admission, is_ready_at}
+use Rattle.named.specs.declared.recovery.BrokerRecovery.{BrokerRecovery}
+use Rattle.named.specs.declared.recovery.BrokerRecovery.TheVariants.{ReadDirectory, RecoverQueue}
 use Rattle.named.specs.declared.slot.Slot.{Slot}
 use Rattle.named.specs.declared.slot.Slot.TheVariants.{Closed, Durable, Log}
 
@@ -58,9 +63,10 @@ HaveSameBlock c j old new =
     ((block_words c j new).cached ≡ (block_words c j old).cached) × ((block_words c j new).kept ≡ (block_words c j old).kept)
 
 -- a queue whose block is as it was stays in it
-pub block_stays : (c : Counts) (j : ℕ) (block : BlockState) (old new : Words) → HaveSameBlock c j old new → length new.cached ≡ length old.cached
-    → IsInBlock c old j block → IsInBlock c new j block
-block_stays c j block old new same long here = record {
+pub block_stays : (c : Counts) (j : ℕ) (kind : Kind) (block : BlockState) (old new : Words) → HaveSameBlock c j old new → length new.cached ≡ length old.cached
+    → IsInBlock c old j kind block → IsInBlock c new j kind block
+block_stays c j kind block old new same long here = record {
+  shape = here.shape;
   from = here.from;
   len = here.len;
   well = record {
@@ -74,13 +80,13 @@ block_stays c j block old new same long here = record {
 pub slot_stays : (c : Counts) (j : ℕ) (slot : Slot) (old new : Words) → HaveSameBlock c j old new → length new.cached ≡ length old.cached
     → IsSlotAt c old j slot → IsSlotAt c new j slot
 slot_stays c j Closed old new same long here = record { cached = same.0 ∙ here.cached; kept = same.1 ∙ here.kept }
-slot_stays c j (Durable block) old new same long here = block_stays c j block old new same long here
-slot_stays c j (Log block) old new same long here = block_stays c j block old new same long here
+slot_stays c j (Durable block) old new same long here = block_stays c j durable_kind block old new same long here
+slot_stays c j (Log block) old new same long here = block_stays c j log_kind block old new same long here
 
 -- and its world is the same, but for the count of accesses
-block_quiet : (c : Counts) (j : ℕ) (block : BlockState) (old new : Words) → HaveSameBlock c j old new → IsInBlock c old j block
+block_quiet : (c : Counts) (j : ℕ) (kind : Kind) (block : BlockState) (old new : Words) → HaveSameBlock c j old new → IsInBlock c old j kind block
     → quiet (Some (state_in new block)) ≡ quiet (Some (state_in old block))
-block_quiet c j block old new same here =
+block_quiet c j kind block old new same here =
     let cached : (words_in block.from block.len new).cached ≡ (words_in block.from block.len old).cached = rw (here.from, here.len) same.0 in
     let kept : (words_in block.from block.len new).kept ≡ (words_in block.from block.len old).kept = rw (here.from, here.len) same.1 in
     cc
@@ -88,13 +94,13 @@ block_quiet c j block old new same here =
 pub world_stays : (c : Counts) (j : ℕ) (slot : Slot) (old new : Words) → HaveSameBlock c j old new → IsSlotAt c old j slot
     → quiet (world_in new slot) ≡ quiet (world_in old slot)
 world_stays c j Closed old new same here = refl
-world_stays c j (Durable block) old new same here = block_quiet c j block old new same here
-world_stays c j (Log block) old new same here = block_quiet c j block old new same here
+world_stays c j (Durable block) old new same here = block_quiet c j durable_kind block old new same here
+world_stays c j (Log block) old new same here = block_quiet c j log_kind block old new same here
 
 -- what lies outside a block of the broker's
-outside_room : (c : Counts) (old new : Words) (i : ℕ) (was is : BlockState) → HasRoom c old → IsInBlock c old i was → IsWellIn new is
-    → (is.from ≡ was.from) × (is.len ≡ was.len) → IsSameOutside was.from was.len old new → HasRoom c new
-outside_room c old new i was is room here well place outside =
+outside_room : (c : Counts) (old new : Words) (i : ℕ) (kind : Kind) (was is : BlockState) → HasRoom c old → IsInBlock c old i kind was → IsWellIn new is
+    → LieInOnePlace was is → IsSameOutside was.from was.len old new → HasRoom c new
+outside_room c old new i kind was is room here well place outside =
     let inside : was.from + was.len ≤ length new.cached = omega (arith, well.inside, place.0, place.1) in
     let part : length (take is.len (drop is.from new.kept)) ≡ length (take is.len (drop is.from new.cached)) = well.holds.safe.words.same in
     let part_len : length (take is.len (drop is.from new.cached)) ≡ is.len = omega (arith, length-take is.len (drop is.from new.cached), length-drop is.from new.cached, well.inside) in
@@ -107,33 +113,33 @@ outside_room c old new i was is room here well place outside =
 slot_room : (c : Counts) (old new : Words) (i : ℕ) (was is : Slot) → HasRoom c old → IsSlotAt c old i was → IsSlotWell new is
     → IsSameSlot was is → IsSameOutsideSlot was old new → HasRoom c new
 slot_room c old new i Closed is room here well place outside = subst (HasRoom c) (sym outside) room
-slot_room c old new i (Durable was) (Durable is) room here well place outside = outside_room c old new i was is room here well place outside
-slot_room c old new i (Log was) (Log is) room here well place outside = outside_room c old new i was is room here well place outside
+slot_room c old new i (Durable was) (Durable is) room here well place outside = outside_room c old new i durable_kind was is room here well place outside
+slot_room c old new i (Log was) (Log is) room here well place outside = outside_room c old new i log_kind was is room here well place outside
 slot_room c old new i (Durable was) Closed room here well place outside = absurd place
 slot_room c old new i (Durable was) (Log is) room here well place outside = absurd place
 slot_room c old new i (Log was) Closed room here well place outside = absurd place
 slot_room c old new i (Log was) (Durable is) room here well place outside = absurd place
 
 -- the blocks of other slots
-block_elsewhere : (c : Counts) (old new : Words) (i j : ℕ) (was : BlockState) → j ≢ i → IsInBlock c old i was
+block_elsewhere : (c : Counts) (old new : Words) (i j : ℕ) (kind : Kind) (was : BlockState) → j ≢ i → IsInBlock c old i kind was
     → IsSameOutside was.from was.len old new → HaveSameBlock c j old new
-block_elsewhere c old new i j was ne here outside =
+block_elsewhere c old new i j kind was ne here outside =
     elsewhere was.from was.len (block_from c j) (block_size_of c.clients c.records) old new outside
     (rw (here.from, here.len) (blocks_apart c i j ne))
 
 slot_elsewhere : (c : Counts) (old new : Words) (i j : ℕ) (was : Slot) → j ≢ i → IsSlotAt c old i was
     → IsSameOutsideSlot was old new → HaveSameBlock c j old new
 slot_elsewhere c old new i j Closed ne here outside = (ap (λ (ws : Words). (block_words c j ws).cached) outside, ap (λ (ws : Words). (block_words c j ws).kept) outside)
-slot_elsewhere c old new i j (Durable was) ne here outside = block_elsewhere c old new i j was ne here outside
-slot_elsewhere c old new i j (Log was) ne here outside = block_elsewhere c old new i j was ne here outside
+slot_elsewhere c old new i j (Durable was) ne here outside = block_elsewhere c old new i j durable_kind was ne here outside
+slot_elsewhere c old new i j (Log was) ne here outside = block_elsewhere c old new i j log_kind was ne here outside
 
 -- the directory's words
 has_directory : (c : Counts) (ws : Words) → HasRoom c ws → HasDirectory ws
 has_directory c ws room = record { cached = omega (arith, room.cached); kept = omega (arith, room.kept) }
 
-block_past : (c : Counts) (old new : Words) (i : ℕ) (was : BlockState) → HasRoom c new → IsInBlock c old i was
+block_past : (c : Counts) (old new : Words) (i : ℕ) (kind : Kind) (was : BlockState) → HasRoom c new → IsInBlock c old i kind was
     → IsSameOutside was.from was.len old new → HaveSameDirectory old new
-block_past c old new i was room here outside =
+block_past c old new i kind was room here outside =
     outside_same old new was.from was.len (omega (arith, here.from)) (has_directory c new room) outside
 
 slot_past : (c : Counts) (old new : Words) (i : ℕ) (was : Slot) → HasRoom c new → IsSlotAt c old i was
@@ -143,23 +149,42 @@ slot_past c old new i Closed room here outside = record {
   cached = λ word below. rw outside refl;
   kept = λ word below. rw outside refl;
 }
-slot_past c old new i (Durable was) room here outside = block_past c old new i was room here outside
-slot_past c old new i (Log was) room here outside = block_past c old new i was room here outside
+slot_past c old new i (Durable was) room here outside = block_past c old new i durable_kind was room here outside
+slot_past c old new i (Log was) room here outside = block_past c old new i log_kind was room here outside
 
-pub directory_stays : (old new : Words) (creation : Option Creation) (directory : Directory) → HaveSameDirectory old new
+creating_stays : (old new : Words) (creation : Option Creation) (directory : Directory) → HaveSameDirectory old new
     → IsDirectoryIn old creation directory → IsDirectoryIn new creation directory
-directory_stays old new None directory same here = rest_moves old new same directory here
-directory_stays old new (Some creation) directory same here = record {
+creating_stays old new None directory same here = rest_moves old new same directory here
+creating_stays old new (Some creation) directory same here = record {
   under_way = creation_moves old new same creation directory here.under_way;
   is_new = here.is_new;
 }
+
+down_stays : (old new : Words) (recovery : BrokerRecovery) (creation : Option Creation) (directory : Directory) → HaveSameDirectory old new
+    → IsDirectoryDown old recovery creation directory → IsDirectoryDown new recovery creation directory
+down_stays old new (ReadDirectory at) creation directory same here = record {
+  whole = here.whole;
+  recovering = recovery_moves old new at here.whole here.recovering same;
+  more = here.more;
+  loaded = here.loaded;
+}
+down_stays old new (RecoverQueue slot) creation directory same here = record {
+  rest = rest_moves old new same directory here.rest;
+  queue = here.queue;
+  has = here.has;
+}
+
+pub directory_stays : (old new : Words) (recovery : Option BrokerRecovery) (creation : Option Creation) (directory : Directory) → HaveSameDirectory old new
+    → IsDirectoryAt old recovery creation directory → IsDirectoryAt new recovery creation directory
+directory_stays old new None creation directory same here = creating_stays old new creation directory same here
+directory_stays old new (Some recovery) creation directory same here = down_stays old new recovery creation directory same here
 
 -- the slot that acted
 slot_now : (c : Counts) (old new : Words) (i : ℕ) (was is : Slot) → IsSlotAt c old i was → IsSlotWell new is → IsSameSlot was is
     → IsSameOutsideSlot was old new → IsSlotAt c new i is
 slot_now c old new i Closed Closed here well place outside = subst (λ (ws : Words). IsUnusedBlock c ws i) (sym outside) here
-slot_now c old new i (Durable was) (Durable is) here well place outside = record { from = place.0 ∙ here.from; len = place.1 ∙ here.len; well = well }
-slot_now c old new i (Log was) (Log is) here well place outside = record { from = place.0 ∙ here.from; len = place.1 ∙ here.len; well = well }
+slot_now c old new i (Durable was) (Durable is) here well place outside = record { shape = place.2 ∙ here.shape; from = place.0 ∙ here.from; len = place.1 ∙ here.len; well = well }
+slot_now c old new i (Log was) (Log is) here well place outside = record { shape = place.2 ∙ here.shape; from = place.0 ∙ here.from; len = place.1 ∙ here.len; well = well }
 slot_now c old new i Closed (Durable is) here well place outside = absurd place
 slot_now c old new i Closed (Log is) here well place outside = absurd place
 slot_now c old new i (Durable was) Closed here well place outside = absurd place
@@ -186,17 +211,24 @@ length_set (y ∷ xs) (suc i) x = ap suc (length_set xs i x)
 pub some_is : {X : Type 0} (o : Option X) (x y : X) → o ≡ Some x → o ≡ Some y → x ≡ y
 some_is o x y e f = cc
 
--- a client that was not refused is there
-pub is_here : (here : Bool) (r : Result Unit Refusal) → r ≡ (if here then Ok tt else Err NoClient) → (r ≡ Ok tt) → here ≡ true
-is_here true r is ok = refl
-is_here false r is ok = absurd (cc)
-
 -- past the eight slots there is no queue
-pub no_queue : {T : Type 0} (g : State → Result T Refusal) (b : Brokered) (i : ℕ) (client : Client) → IsWell b → 8 ≤ i → has_client b client ≡ true
+pub no_queue : {T : Type 0} (g : State → Result T Refusal) (b : Brokered) (i : ℕ) (client : Client) → IsWell b → 8 ≤ i → admission b client ≡ Ok tt
     → answer_at g b i client ≡ Err NoQueue
-no_queue g b i client holds past there =
+no_queue g b i client holds past admitted =
     let none : slice_get b.slots i ≡ None = slice_get_past b.slots i (omega (arith, past, holds.count)) in
-    ap (λ (x : Bool). if x then answered g (world_at b i) else Err NoClient) there ∙ ap (λ (o : Option Slot). answered g (world_of b.words o)) none
+    ap (λ (r : Result Unit Refusal). answer_if r (answered g (world_at b i))) admitted ∙ ap (λ (o : Option Slot). answered g (world_of b.words o)) none
+
+-- a queue is as ready as it was
+ready_stays : (ready : Bool) (was is : Slot) → IsSameSlot was is → IsAsReady was is → IsReadyIn ready was → IsReadyIn ready is
+ready_stays ready Closed Closed place alike here = tt
+ready_stays ready (Durable was) (Durable is) place alike here = ap is_some alike ∙ here
+ready_stays ready (Log was) (Log is) place alike here = ap is_some alike ∙ here
+ready_stays ready Closed (Durable is) place alike here = absurd place
+ready_stays ready Closed (Log is) place alike here = absurd place
+ready_stays ready (Durable was) Closed place alike here = absurd place
+ready_stays ready (Durable was) (Log is) place alike here = absurd place
+ready_stays ready (Log was) Closed place alike here = absurd place
+ready_stays ready (Log was) (Durable is) place alike here = absurd place
 
 -- an open slot's world holds
 pub slot_is_well : (c : Counts) (ws : Words) (i : ℕ) (slot : Slot) → IsSlotAt c ws i slot → IsSlotWell ws slot
@@ -239,8 +271,20 @@ module _ (b : Brokered) (i : ℕ) (was is : Slot) (ws : Words) (holds : IsWell b
           ap kind_in (sym (some_is _ is s at_is e2)) ∙ kind_stays was is place ∙ holds.kinds j was queue here2 listed
       go (inr ne) = holds.kinds j s queue (sym (get_set_other b.slots i is j ne) ∙ e) listed
 
-  pub still_well : IsWell (with_slot b i is ws)
-  still_well = record {
+  -- each slot is as ready as these say, where the one that acted is
+  pub readiness_now : (recovery : Option BrokerRecovery) → IsReadyIn (is_ready_at recovery i) is
+      → ((j : ℕ) (s : Slot) → j ≢ i → slice_get b.slots j ≡ Some s → IsReadyIn (is_ready_at recovery j) s)
+      → (j : ℕ) (s : Slot) → slice_get (slice_set b.slots i is) j ≡ Some s → IsReadyIn (is_ready_at recovery j) s
+  readiness_now recovery own others j s e = go (cases_eq j i)
+    where
+      go : (j ≡ i) ⊎ (j ≡ i → ⊥) → IsReadyIn (is_ready_at recovery j) s
+      go (inl same) =
+          let e2 : slice_get (slice_set b.slots i is) i ≡ Some s = subst (λ n. slice_get (slice_set b.slots i is) n ≡ Some s) same e in
+          subst (λ n. IsReadyIn (is_ready_at recovery n) s) (sym same) (subst (IsReadyIn (is_ready_at recovery i)) (some_is _ is s at_is e2) own)
+      go (inr ne) = others j s ne (sym (get_set_other b.slots i is j ne) ∙ e)
+
+  pub still_well : IsAsReady was is → IsWell (with_slot b i is ws)
+  still_well alike = record {
     counts = holds.counts;
     room = room_now;
     head = head_moves b.words ws b.counts same_directory holds.head;
@@ -248,7 +292,8 @@ module _ (b : Brokered) (i : ℕ) (was is : Slot) (ws : Words) (holds : IsWell b
     slots = slots_now;
     listed = holds.listed;
     kinds = kinds_now;
-    directory = directory_stays b.words ws b.creation b.directory same_directory holds.directory;
+    directory = directory_stays b.words ws b.recovery b.creation b.directory same_directory holds.directory;
+    readiness = readiness_now b.recovery (ready_stays (is_ready_at b.recovery i) was is place alike (holds.readiness i was here)) (λ j s ne e. holds.readiness j s e);
   }
 
   -- the other slots are as they were
@@ -265,13 +310,13 @@ module _ (b : Brokered) (i : ℕ) (was is : Slot) (ws : Words) (holds : IsWell b
   pub world_was : world_at b i ≡ world_in b.words was
   world_was = ap (world_of b.words) here
 
-  -- an act of a client that there is
-  pub world_done : (f : State → State) (client : Client) → has_client b client ≡ true → world_in ws is ≡ acted f (world_in b.words was)
+  -- an act of a client that is admitted
+  pub world_done : (f : State → State) (client : Client) → admission b client ≡ Ok tt → world_in ws is ≡ acted f (world_in b.words was)
       → world_at (with_slot b i is ws) i ≡ world_after f b i client
-  world_done f client there act =
-      world_now ∙ act ∙ ap (acted f) (sym world_was) ∙ sym (ap (λ (x : Bool). if x then acted f (world_at b i) else world_at b i) there)
+  world_done f client admitted act =
+      world_now ∙ act ∙ ap (acted f) (sym world_was) ∙ sym (ap (λ (r : Result Unit Refusal). if is_ok r then acted f (world_at b i) else world_at b i) admitted)
 
-  pub answer_done : {T : Type 0} (g : State → Result T Refusal) (client : Client) (r : Result T Refusal) → has_client b client ≡ true
+  pub answer_done : {T : Type 0} (g : State → Result T Refusal) (client : Client) (r : Result T Refusal) → admission b client ≡ Ok tt
       → r ≡ answered g (world_in b.words was) → r ≡ answer_at g b i client
-  answer_done g client r there is_it =
-      is_it ∙ ap (answered g) (sym world_was) ∙ sym (ap (λ (x : Bool). if x then answered g (world_at b i) else Err NoClient) there)
+  answer_done g client r admitted is_it =
+      is_it ∙ ap (answered g) (sym world_was) ∙ sym (ap (λ (a : Result Unit Refusal). answer_if a (answered g (world_at b i))) admitted)

@@ -1,5 +1,5 @@
 -- What holds of a new broker.
-use Rattle.std.proofs.Common.{◌≡◌, ℕ, zero, suc, ◌-◌, ◌<◌, ◌≤◌, List, length, take, drop, replicate, slice_get, slice_set, slice_index, Some, None, sym, ap, ◌∙◌, subst, arith, get_or-set_other}
+use Rattle.std.proofs.Common.{◌≡◌, ℕ, zero, suc, ◌-◌, ◌<◌, ◌≤◌, List, length, take, drop, replicate, slice_get, slice_set, slice_index, Some, None, true, sym, ap, ◌∙◌, subst, arith, get_or-set_other}
 use Rattle.std.proofs.lemmas.List.{drop-replicate, take-replicate, get_or-replicate, get_or-set_same, length-replicate, drop-set-lt}
 use Rattle.std.proofs.lemmas.Option.{slice_get_within}
 use Rattle.persist.specs.Memory.{Words}
@@ -13,6 +13,7 @@ use Rattle.directory.proofs.Sounds.{blank_rest}
 use Rattle.named.specs.Brokers.{HasRoom, IsSlotAt, IsUnusedBlock, IsWell, new_words}
 use Rattle.named.specs.declared.slot.Slot.{Slot}
 use Rattle.named.specs.declared.slot.Slot.TheVariants.{Closed}
+use Rattle.named.specs.Slots.{IsReadyIn}
 use Rattle.named.proofs.Kept.{length_set}
 
 get_replicate : {X : Type 0} (n : ℕ) (x : X) (i : ℕ) (y : X) → slice_get (replicate n x) i ≡ Some y → y ≡ x
@@ -51,7 +52,7 @@ module _ (c : Counts) where
 
 pub new_well : (c : Counts) (ws : Words) (slots : List Slot) (directory : Directory) → AreCounts c.clients c.records
     → ws.cached ≡ new_words c → ws.kept ≡ new_words c → slots ≡ replicate 8 Closed → directory ≡ replicate 8 None → IsDirectory directory
-    → IsWell (record { counts = c; words = ws; slots = slots; directory = directory; creation = None })
+    → IsWell (record { counts = c; words = ws; slots = slots; directory = directory; creation = None; recovery = None })
 new_well c ws slots directory counts cached kept closed free listed = record {
   counts = counts;
   room = room;
@@ -67,6 +68,8 @@ new_well c ws slots directory counts cached kept closed free listed = record {
     get_replicate 8 None at queue (subst (λ (l : Directory). slice_get l at ≡ Some queue) free there),
   );
   directory = subst (IsAtRest ws) (sym free) (blank_rest ws has blank);
+  readiness = λ at slot here.
+    subst (IsReadyIn true) (sym (get_replicate 8 Closed at slot (subst (λ (l : List Slot). slice_get l at ≡ Some slot) closed here))) tt;
 }
   where
     room : HasRoom c ws

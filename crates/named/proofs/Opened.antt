@@ -1,5 +1,5 @@
 -- A step of a creation keeps what holds of the broker, and leaves its queues as they were.
-use Rattle.std.proofs.Common.{◌≡◌, ◌≢◌, ℕ, ◌+◌, ◌*◌, ◌<◌, ◌⊎◌, inl, inr, List, take, drop, slice_get, slice_set, Option, Some, None, refl, sym, ap, ◌∙◌, subst, arith}
+use Rattle.std.proofs.Common.{◌≡◌, ◌≢◌, ℕ, ◌+◌, ◌*◌, ◌<◌, ◌⊎◌, inl, inr, List, take, drop, slice_get, slice_set, Option, Some, None, true, refl, sym, ap, ◌∙◌, subst, arith}
 use Rattle.std.proofs.lemmas.Bool.{cases_eq}
 use Rattle.std.proofs.lemmas.List.{drop-drop}
 use Rattle.std.specs.Option.{option_map}
@@ -16,8 +16,9 @@ use Rattle.directory.specs.declared.queue.Queue.{Queue}
 use Rattle.directory.proofs.Creations.{creation_goes_on, set_here}
 use Rattle.directory.proofs.Sounds.{creation_blocks, creation_head}
 use Rattle.interleave.proofs.AloneLaws.{get_set}
-use Rattle.named.specs.Brokers.{Brokered, HasRoom, IsCreating, IsDirectoryIn, IsSlotAt, IsUnusedBlock, IsWell, block_words, quiet, words_created, world_at, world_of}
-use Rattle.named.specs.Slots.{kind_in, world_in}
+use Rattle.named.specs.Brokers.{Brokered, HasRoom, IsCreating, IsDirectoryAt, IsDirectoryIn, IsSlotAt, IsUnusedBlock, IsWell, block_words, is_ready_at, quiet, words_created, world_at, world_of}
+use Rattle.named.specs.Slots.{kind_in, world_in, IsReadyIn}
+use Rattle.named.specs.declared.recovery.BrokerRecovery.{BrokerRecovery}
 use Rattle.named.specs.declared.slot.Slot.{Slot}
 use Rattle.named.specs.declared.slot.Slot.TheVariants.{Closed, Durable, Log}
 use Rattle.named.proofs.Begun.{get_there}
@@ -44,9 +45,12 @@ closed_where_free Closed e = refl
 closed_where_free (Durable block) e = absurd (cc)
 closed_where_free (Log block) e = absurd (cc)
 
-module _ (b : Brokered) (creation : Creation) (holds : IsWell b) (is : b.creation ≡ Some creation) where
+module _ (b : Brokered) (creation : Creation) (holds : IsWell b) (ready : b.recovery ≡ None) (is : b.creation ≡ Some creation) where
+  at_ready : IsDirectoryIn b.words b.creation b.directory
+  at_ready = subst (λ (o : Option BrokerRecovery). IsDirectoryAt b.words o b.creation b.directory) ready holds.directory
+
   pub creating : IsCreating b.words creation b.directory
-  creating = subst (λ (o : Option Creation). IsDirectoryIn b.words o b.directory) is holds.directory
+  creating = subst (λ (o : Option Creation). IsDirectoryIn b.words o b.directory) is at_ready
 
   ws : Words
   ws = words_created b creation
@@ -98,11 +102,15 @@ module _ (b : Brokered) (creation : Creation) (holds : IsWell b) (is : b.creatio
       slots = slots_now going.others.room;
       listed = holds.listed;
       kinds = holds.kinds;
-      directory = record {
-        under_way = going;
-        is_new = subst (λ (q : Queue). HasName b.directory q.name → ⊥) (sym (more_queue creation.slot creation.queue (next_of creation.at) next went).0) creating.is_new;
-      };
+      directory = subst (λ (o : Option BrokerRecovery). IsDirectoryAt (words_created b creation) o (Some next) b.directory) (sym ready) still;
+      readiness = holds.readiness;
     }
+      where
+        still : IsDirectoryIn (words_created b creation) (Some next) b.directory
+        still = record {
+          under_way = going;
+          is_new = subst (λ (q : Queue). HasName b.directory q.name → ⊥) (sym (more_queue creation.slot creation.queue (next_of creation.at) next went).0) creating.is_new;
+        }
 
   -- it is done: this slot is opened
   module _ (slot : SlotId) (went : successor creation ≡ Done slot) where
@@ -127,7 +135,7 @@ module _ (b : Brokered) (creation : Creation) (holds : IsWell b) (is : b.creatio
             subst (IsSlotAt b.counts (words_created b creation) slot.0) closed (slots_now rest.room slot.0 s e)
         go None e = absurd (get_there b.slots slot.0 (omega (arith, in_range, holds.count)) e)
 
-    module _ (opened : Slot) (kind : kind_in opened ≡ Some creation.queue.kind) (at : IsSlotAt b.counts (words_created b creation) slot.0 opened)
+    module _ (opened : Slot) (kind : kind_in opened ≡ Some creation.queue.kind) (is_ready : IsReadyIn true opened) (at : IsSlotAt b.counts (words_created b creation) slot.0 opened)
         (directory : Directory) (listed : directory ≡ slice_set b.directory slot.0 (Some creation.queue)) (once : IsDirectory directory) where
       slots_done : (j : ℕ) (s : Slot) → slice_get (slice_set b.slots slot.0 opened) j ≡ Some s → IsSlotAt b.counts (words_created b creation) j s
       slots_done j s e = go (cases_eq j slot.0)
@@ -152,7 +160,18 @@ module _ (b : Brokered) (creation : Creation) (holds : IsWell b) (is : b.creatio
               ap kind_in (sym slot_is) ∙ kind ∙ ap (option_map (λ (q : Queue). q.kind)) queue_is
           go (inr ne) = holds.kinds j s queue (sym (get_set_other b.slots slot.0 opened j ne) ∙ e) (sym (get_set_other b.directory slot.0 (Some creation.queue) j ne) ∙ there)
 
-      pub well_done : IsWell (record { counts = b.counts; words = words_created b creation; slots = slice_set b.slots slot.0 opened; directory = directory; creation = None })
+      ready_done : (j : ℕ) (s : Slot) → slice_get (slice_set b.slots slot.0 opened) j ≡ Some s → IsReadyIn true s
+      ready_done j s e = go (cases_eq j slot.0)
+        where
+          go : (j ≡ slot.0) ⊎ (j ≡ slot.0 → ⊥) → IsReadyIn true s
+          go (inl same) =
+              let e2 : slice_get (slice_set b.slots slot.0 opened) slot.0 ≡ Some s = subst (λ n. slice_get (slice_set b.slots slot.0 opened) n ≡ Some s) same e in
+              subst (IsReadyIn true) (some_is _ opened s (get_set b.slots slot.0 opened (omega (arith, in_range, holds.count))) e2) is_ready
+          go (inr ne) =
+              subst (λ (o : Option BrokerRecovery). IsReadyIn (is_ready_at o j) s) ready
+              (holds.readiness j s (sym (get_set_other b.slots slot.0 opened j ne) ∙ e))
+
+      pub well_done : IsWell (record { counts = b.counts; words = words_created b creation; slots = slice_set b.slots slot.0 opened; directory = directory; creation = None; recovery = None })
       well_done = record {
         counts = holds.counts;
         room = room_now rest.room;
@@ -162,6 +181,7 @@ module _ (b : Brokered) (creation : Creation) (holds : IsWell b) (is : b.creatio
         listed = once;
         kinds = λ j s queue e there. kinds_done j s queue e (subst (λ (d : Directory). slice_get d j ≡ Some queue) listed there);
         directory = subst (IsAtRest (words_created b creation)) (sym listed) rest;
+        readiness = ready_done;
       }
 
       pub world_opened : world_of (words_created b creation) (slice_get (slice_set b.slots slot.0 opened) slot.0) ≡ world_in (words_created b creation) opened

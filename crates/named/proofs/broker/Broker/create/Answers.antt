@@ -8,7 +8,7 @@ use Rattle.named.proofs.broker.Broker.create.Goals as goal
 
 pub invariant_of-self : goal.invariant_of-self
 invariant_of-self c =
-    let b : Brokered = record { counts = c.self.inside.layout; words = c.self.inside.memory; slots = c.self.inside.slots.items; directory = c.self.inside.directory; creation = c.self.inside.creation } in
+    let b : Brokered = record { counts = c.self.inside.layout; words = c.self.inside.memory; slots = c.self.inside.slots.items; directory = c.self.inside.directory; creation = c.self.inside.creation; recovery = c.self.inside.recovery } in
     let idle : c.self.inside.creation ≡ None = search rules in
     let is_new : HasName c.self.inside.directory c.in_ok-name.name → ⊥ = search rules in
     let queue : Queue = record { name = c.in_ok-name.name; kind = c.args.kind } in

@@ -14,7 +14,7 @@ use Rattle.named.proofs.broker.Broker.create_step.Goals as goal
 
 pub invariant_of-self : goal.invariant_of-self
 invariant_of-self c =
-    let b : Brokered = record { counts = c.self.inside.layout; words = c.self.inside.memory; slots = c.self.inside.slots.items; directory = c.self.inside.directory; creation = c.self.inside.creation } in
+    let b : Brokered = record { counts = c.self.inside.layout; words = c.self.inside.memory; slots = c.self.inside.slots.items; directory = c.self.inside.directory; creation = c.self.inside.creation; recovery = c.self.inside.recovery } in
     let k : Creation = c.in-Some.creation in
     let is : c.self.inside.creation ≡ Some c.in-Some.creation = cc (c.in-Some.is) in
     let went : successor c.in-Some.creation ≡ More c.in-More.next = cc (c.step-after.ensures.next, c.in-More.is) in
@@ -23,7 +23,7 @@ invariant_of-self c =
 
 pub returns-in-More-clause-others : goal.returns-in-More-clause-others
 returns-in-More-clause-others c = λ other yes.
-    let b : Brokered = record { counts = c.self.inside.layout; words = c.self.inside.memory; slots = c.self.inside.slots.items; directory = c.self.inside.directory; creation = c.self.inside.creation } in
+    let b : Brokered = record { counts = c.self.inside.layout; words = c.self.inside.memory; slots = c.self.inside.slots.items; directory = c.self.inside.directory; creation = c.self.inside.creation; recovery = c.self.inside.recovery } in
     let k : Creation = c.in-Some.creation in
     let is : c.self.inside.creation ≡ Some c.in-Some.creation = cc (c.in-Some.is) in
     subst (λ (w : Words). quiet (world_of w (slice_get c.self.inside.slots.items other)) ≡ quiet (world_at b other)) (sym c.step-after.ensures.one_access)
@@ -31,7 +31,7 @@ returns-in-More-clause-others c = λ other yes.
 
 pub invariant_of-self-in-Done : goal.invariant_of-self-in-Done
 invariant_of-self-in-Done c =
-    let b : Brokered = record { counts = c.self.inside.layout; words = c.self.inside.memory; slots = c.self.inside.slots.items; directory = c.self.inside.directory; creation = c.self.inside.creation } in
+    let b : Brokered = record { counts = c.self.inside.layout; words = c.self.inside.memory; slots = c.self.inside.slots.items; directory = c.self.inside.directory; creation = c.self.inside.creation; recovery = c.self.inside.recovery } in
     let k : Creation = c.in-Some.creation in
     let is : c.self.inside.creation ≡ Some c.in-Some.creation = cc (c.in-Some.is) in
     let went : successor c.in-Some.creation ≡ Done c.in-Done.slot = cc (c.step-after.ensures.next, c.in-Done.is) in
@@ -43,7 +43,7 @@ invariant_of-self-in-Done c =
 
 pub returns-in-Done-clause-others : goal.returns-in-Done-clause-others
 returns-in-Done-clause-others c = λ other ne.
-    let b : Brokered = record { counts = c.self.inside.layout; words = c.self.inside.memory; slots = c.self.inside.slots.items; directory = c.self.inside.directory; creation = c.self.inside.creation } in
+    let b : Brokered = record { counts = c.self.inside.layout; words = c.self.inside.memory; slots = c.self.inside.slots.items; directory = c.self.inside.directory; creation = c.self.inside.creation; recovery = c.self.inside.recovery } in
     let k : Creation = c.in-Some.creation in
     let is : c.self.inside.creation ≡ Some c.in-Some.creation = cc (c.in-Some.is) in
     let went : successor c.in-Some.creation ≡ Done c.in-Done.slot = cc (c.step-after.ensures.next, c.in-Done.is) in
@@ -55,7 +55,7 @@ returns-in-Done-clause-others c = λ other ne.
 
 pub returns-in-Done-clause-step : goal.returns-in-Done-clause-step
 returns-in-Done-clause-step c =
-    let b : Brokered = record { counts = c.self.inside.layout; words = c.self.inside.memory; slots = c.self.inside.slots.items; directory = c.self.inside.directory; creation = c.self.inside.creation } in
+    let b : Brokered = record { counts = c.self.inside.layout; words = c.self.inside.memory; slots = c.self.inside.slots.items; directory = c.self.inside.directory; creation = c.self.inside.creation; recovery = c.self.inside.recovery } in
     let k : Creation = c.in-Some.creation in
     let is : c.self.inside.creation ≡ Some c.in-Some.creation = cc (c.in-Some.is) in
     let went : successor c.in-Some.creation ≡ Done c.in-Done.slot = cc (c.step-after.ensures.next, c.in-Done.is) in

@@ -18,7 +18,7 @@ pub invariant_of-self : goal.invariant_of-self
 invariant_of-self c =
     let below : c.args.slot.0 < length c.self.inside.slots.items = search rules in
     let here : slice_get c.self.inside.slots.items c.args.slot.0 ≡ Some c.index_mut.result.now = slice_get_read c.self.inside.slots.items (length c.self.inside.slots.items) c.args.slot.0 c.index_mut.result.now refl below c.index_mut.ensures.value in
-    let b : Brokered = record { counts = c.self.inside.layout; words = c.self.inside.memory; slots = c.self.inside.slots.items; directory = c.self.inside.directory; creation = c.self.inside.creation } in
+    let b : Brokered = record { counts = c.self.inside.layout; words = c.self.inside.memory; slots = c.self.inside.slots.items; directory = c.self.inside.directory; creation = c.self.inside.creation; recovery = c.self.inside.recovery } in
     let well = slot_reserved c.self.inside.memory c.index_mut.result.now c.reserve.new.self (slot_is_well c.self.inside.layout c.self.inside.memory c.args.slot.0 c.index_mut.result.now (c.self.invariant.slots c.args.slot.0 c.index_mut.result.now here)) c.reserve.ensures.same (c.reserve.ensures.world c.self.inside.memory) in
     still_well b c.args.slot.0 c.index_mut.result.now c.reserve.new.self c.self.inside.memory c.self.invariant here well (same_outside c.self.inside.memory c.index_mut.result.now) c.reserve.ensures.same
 
@@ -26,21 +26,21 @@ pub returns-clause-worlds : goal.returns-clause-worlds
 returns-clause-worlds c = λ at.
     let below : c.args.slot.0 < length c.self.inside.slots.items = search rules in
     let here : slice_get c.self.inside.slots.items c.args.slot.0 ≡ Some c.index_mut.result.now = slice_get_read c.self.inside.slots.items (length c.self.inside.slots.items) c.args.slot.0 c.index_mut.result.now refl below c.index_mut.ensures.value in
-    let b : Brokered = record { counts = c.self.inside.layout; words = c.self.inside.memory; slots = c.self.inside.slots.items; directory = c.self.inside.directory; creation = c.self.inside.creation } in
+    let b : Brokered = record { counts = c.self.inside.layout; words = c.self.inside.memory; slots = c.self.inside.slots.items; directory = c.self.inside.directory; creation = c.self.inside.creation; recovery = c.self.inside.recovery } in
     worlds_same b c.args.slot.0 c.index_mut.result.now c.reserve.new.self here (c.reserve.ensures.world c.self.inside.memory) at ∙ ap (λ (x : Brokered). world_at x at) c.self.view_is
 
 pub returns-clause-room : goal.returns-clause-room
 returns-clause-room c =
     let below : c.args.slot.0 < length c.self.inside.slots.items = search rules in
     let here : slice_get c.self.inside.slots.items c.args.slot.0 ≡ Some c.index_mut.result.now = slice_get_read c.self.inside.slots.items (length c.self.inside.slots.items) c.args.slot.0 c.index_mut.result.now refl below c.index_mut.ensures.value in
-    let b : Brokered = record { counts = c.self.inside.layout; words = c.self.inside.memory; slots = c.self.inside.slots.items; directory = c.self.inside.directory; creation = c.self.inside.creation } in
+    let b : Brokered = record { counts = c.self.inside.layout; words = c.self.inside.memory; slots = c.self.inside.slots.items; directory = c.self.inside.directory; creation = c.self.inside.creation; recovery = c.self.inside.recovery } in
     subst (λ n. OnOk c.reserve.result (c.args.acts ≤ n)) (sym (room_here b c.args.slot.0 c.index_mut.result.now c.reserve.new.self here)) c.reserve.ensures.room
 
 pub returns-clause-kept : goal.returns-clause-kept
 returns-clause-kept c = λ at.
     let below : c.args.slot.0 < length c.self.inside.slots.items = search rules in
     let here : slice_get c.self.inside.slots.items c.args.slot.0 ≡ Some c.index_mut.result.now = slice_get_read c.self.inside.slots.items (length c.self.inside.slots.items) c.args.slot.0 c.index_mut.result.now refl below c.index_mut.ensures.value in
-    let b : Brokered = record { counts = c.self.inside.layout; words = c.self.inside.memory; slots = c.self.inside.slots.items; directory = c.self.inside.directory; creation = c.self.inside.creation } in
+    let b : Brokered = record { counts = c.self.inside.layout; words = c.self.inside.memory; slots = c.self.inside.slots.items; directory = c.self.inside.directory; creation = c.self.inside.creation; recovery = c.self.inside.recovery } in
     subst (λ n. n ≤ room_of (slice_get (slice_set c.self.inside.slots.items c.args.slot.0 c.reserve.new.self) at)) (ap (λ (x : Brokered). room_at x at) c.self.view_is)
     (rooms_kept b c.args.slot.0 c.index_mut.result.now c.reserve.new.self here c.reserve.ensures.kept at)
 

@@ -6,32 +6,32 @@ use Rattle.words.specs.declared.refusal.Refusal.TheVariants.{NoMemory, NoQueue}
 use Rattle.protocol.specs.declared.UnderWay.{UnderWay}
 use Rattle.named.specs.Blocks.{waiting_in}
 use Rattle.named.specs.Slots.{acted, IfWorld, world_in}
-use Rattle.named.specs.Brokers.{Brokered, has_client, world_at, quiet, answer_at}
-use Rattle.named.proofs.Kept.{no_queue, world_now, world_was, is_here, slot_is_well, still_well, others_stay, answer_done}
+use Rattle.named.specs.Brokers.{Brokered, admission, world_at, quiet, answer_at}
+use Rattle.named.proofs.Kept.{no_queue, world_now, world_was, slot_is_well, still_well, others_stay, answer_done}
 use Rattle.named.proofs.broker.Broker.run_alone.Goals as goal
 
 pub run_alone-requires : goal.run_alone-requires
 run_alone-requires c =
     let here = slice_get_read c.self.inside.slots.items 8 c.args.slot.0 c.index_mut.result.now (sym c.self.invariant.count) c.if-slot-ge-SLOTS.false c.index_mut.ensures.value in
-    let b : Brokered = record { counts = c.self.inside.layout; words = c.self.inside.memory; slots = c.self.inside.slots.items; directory = c.self.inside.directory; creation = c.self.inside.creation } in
+    let b : Brokered = record { counts = c.self.inside.layout; words = c.self.inside.memory; slots = c.self.inside.slots.items; directory = c.self.inside.directory; creation = c.self.inside.creation; recovery = c.self.inside.recovery } in
     slot_is_well c.self.inside.layout c.self.inside.memory c.args.slot.0 c.index_mut.result.now (c.self.invariant.slots c.args.slot.0 c.index_mut.result.now here)
 
 pub invariant_of-self : goal.invariant_of-self
 invariant_of-self c =
     let here = slice_get_read c.self.inside.slots.items 8 c.args.slot.0 c.index_mut.result.now (sym c.self.invariant.count) c.if-slot-ge-SLOTS.false c.index_mut.ensures.value in
-    let b : Brokered = record { counts = c.self.inside.layout; words = c.self.inside.memory; slots = c.self.inside.slots.items; directory = c.self.inside.directory; creation = c.self.inside.creation } in
-    still_well b c.args.slot.0 c.index_mut.result.now c.run_alone.new.self c.run_alone.new.memory c.self.invariant here c.run_alone.ensures.well c.run_alone.ensures.outside c.run_alone.ensures.same
+    let b : Brokered = record { counts = c.self.inside.layout; words = c.self.inside.memory; slots = c.self.inside.slots.items; directory = c.self.inside.directory; creation = c.self.inside.creation; recovery = c.self.inside.recovery } in
+    still_well b c.args.slot.0 c.index_mut.result.now c.run_alone.new.self c.run_alone.new.memory c.self.invariant here c.run_alone.ensures.well c.run_alone.ensures.outside c.run_alone.ensures.same c.run_alone.ensures.as_ready
 
 pub returns-clause-others : goal.returns-clause-others
 returns-clause-others c = λ i ne.
     let here = slice_get_read c.self.inside.slots.items 8 c.args.slot.0 c.index_mut.result.now (sym c.self.invariant.count) c.if-slot-ge-SLOTS.false c.index_mut.ensures.value in
-    let b : Brokered = record { counts = c.self.inside.layout; words = c.self.inside.memory; slots = c.self.inside.slots.items; directory = c.self.inside.directory; creation = c.self.inside.creation } in
+    let b : Brokered = record { counts = c.self.inside.layout; words = c.self.inside.memory; slots = c.self.inside.slots.items; directory = c.self.inside.directory; creation = c.self.inside.creation; recovery = c.self.inside.recovery } in
     others_stay b c.args.slot.0 c.index_mut.result.now c.run_alone.new.self c.run_alone.new.memory c.self.invariant here c.run_alone.ensures.well c.run_alone.ensures.outside c.run_alone.ensures.same i ne ∙ ap (λ (x : Brokered). quiet (world_at x i)) c.self.view_is
 
 pub returns-then-slot-ge-SLOTS-clause-refused : goal.returns-then-slot-ge-SLOTS-clause-refused
 returns-then-slot-ge-SLOTS-clause-refused c = λ refusal e.
-    let b : Brokered = record { counts = c.self.inside.layout; words = c.self.inside.memory; slots = c.self.inside.slots.items; directory = c.self.inside.directory; creation = c.self.inside.creation } in
-    let there : has_client b c.args.client ≡ true = is_here _ c.check_client.result (c.check_client.ensures ∙ ap (λ (x : Brokered). if has_client x c.args.client then Ok tt else Err Refusal.NoClient) (sym c.self.view_is)) c.in_ok-check_client.was in
+    let b : Brokered = record { counts = c.self.inside.layout; words = c.self.inside.memory; slots = c.self.inside.slots.items; directory = c.self.inside.directory; creation = c.self.inside.creation; recovery = c.self.inside.recovery } in
+    let there : admission b c.args.client ≡ Ok tt = ap (λ (x : Brokered). admission x c.args.client) c.self.view_is ∙ sym c.admit.ensures ∙ c.in_ok-admit.was in
     let g = λ (w : State). waiting_in w c.args.client in
     let none : answer_at g c.args.self.now c.args.slot.0 c.args.client ≡ Err NoQueue = sym (ap (λ (x : Brokered). answer_at g x c.args.slot.0 c.args.client) c.self.view_is) ∙ no_queue g b c.args.slot.0 c.args.client c.self.invariant (omega (arith, c.if-slot-ge-SLOTS.true)) there in
     let h = sym none ∙ e in
@@ -40,8 +40,8 @@ returns-then-slot-ge-SLOTS-clause-refused c = λ refusal e.
 
 pub returns-then-slot-ge-SLOTS-clause-errors : goal.returns-then-slot-ge-SLOTS-clause-errors
 returns-then-slot-ge-SLOTS-clause-errors c =
-    let b : Brokered = record { counts = c.self.inside.layout; words = c.self.inside.memory; slots = c.self.inside.slots.items; directory = c.self.inside.directory; creation = c.self.inside.creation } in
-    let there : has_client b c.args.client ≡ true = is_here _ c.check_client.result (c.check_client.ensures ∙ ap (λ (x : Brokered). if has_client x c.args.client then Ok tt else Err Refusal.NoClient) (sym c.self.view_is)) c.in_ok-check_client.was in
+    let b : Brokered = record { counts = c.self.inside.layout; words = c.self.inside.memory; slots = c.self.inside.slots.items; directory = c.self.inside.directory; creation = c.self.inside.creation; recovery = c.self.inside.recovery } in
+    let there : admission b c.args.client ≡ Ok tt = ap (λ (x : Brokered). admission x c.args.client) c.self.view_is ∙ sym c.admit.ensures ∙ c.in_ok-admit.was in
     let g = λ (w : State). waiting_in w c.args.client in
     let none : answer_at g c.args.self.now c.args.slot.0 c.args.client ≡ Err NoQueue = sym (ap (λ (x : Brokered). answer_at g x c.args.slot.0 c.args.client) c.self.view_is) ∙ no_queue g b c.args.slot.0 c.args.client c.self.invariant (omega (arith, c.if-slot-ge-SLOTS.true)) there in
     inr none
@@ -49,8 +49,8 @@ returns-then-slot-ge-SLOTS-clause-errors c =
 pub returns-clause-refused : goal.returns-clause-refused
 returns-clause-refused c = λ refusal e.
     let here = slice_get_read c.self.inside.slots.items 8 c.args.slot.0 c.index_mut.result.now (sym c.self.invariant.count) c.if-slot-ge-SLOTS.false c.index_mut.ensures.value in
-    let b : Brokered = record { counts = c.self.inside.layout; words = c.self.inside.memory; slots = c.self.inside.slots.items; directory = c.self.inside.directory; creation = c.self.inside.creation } in
-    let there : has_client b c.args.client ≡ true = is_here _ c.check_client.result (c.check_client.ensures ∙ ap (λ (x : Brokered). if has_client x c.args.client then Ok tt else Err Refusal.NoClient) (sym c.self.view_is)) c.in_ok-check_client.was in
+    let b : Brokered = record { counts = c.self.inside.layout; words = c.self.inside.memory; slots = c.self.inside.slots.items; directory = c.self.inside.directory; creation = c.self.inside.creation; recovery = c.self.inside.recovery } in
+    let there : admission b c.args.client ≡ Ok tt = ap (λ (x : Brokered). admission x c.args.client) c.self.view_is ∙ sym c.admit.ensures ∙ c.in_ok-admit.was in
     let g = λ (w : State). waiting_in w c.args.client in
     let link = answer_done b c.args.slot.0 c.index_mut.result.now c.run_alone.new.self c.run_alone.new.memory c.self.invariant here c.run_alone.ensures.well c.run_alone.ensures.outside c.run_alone.ensures.same g c.args.client _ there refl ∙ ap (λ (x : Brokered). answer_at g x c.args.slot.0 c.args.client) c.self.view_is in
     c.run_alone.ensures.refused refusal (link ∙ e)
@@ -58,8 +58,8 @@ returns-clause-refused c = λ refusal e.
 pub returns-clause-errors : goal.returns-clause-errors
 returns-clause-errors c =
     let here = slice_get_read c.self.inside.slots.items 8 c.args.slot.0 c.index_mut.result.now (sym c.self.invariant.count) c.if-slot-ge-SLOTS.false c.index_mut.ensures.value in
-    let b : Brokered = record { counts = c.self.inside.layout; words = c.self.inside.memory; slots = c.self.inside.slots.items; directory = c.self.inside.directory; creation = c.self.inside.creation } in
-    let there : has_client b c.args.client ≡ true = is_here _ c.check_client.result (c.check_client.ensures ∙ ap (λ (x : Brokered). if has_client x c.args.client then Ok tt else Err Refusal.NoClient) (sym c.self.view_is)) c.in_ok-check_client.was in
+    let b : Brokered = record { counts = c.self.inside.layout; words = c.self.inside.memory; slots = c.self.inside.slots.items; directory = c.self.inside.directory; creation = c.self.inside.creation; recovery = c.self.inside.recovery } in
+    let there : admission b c.args.client ≡ Ok tt = ap (λ (x : Brokered). admission x c.args.client) c.self.view_is ∙ sym c.admit.ensures ∙ c.in_ok-admit.was in
     let g = λ (w : State). waiting_in w c.args.client in
     let link = answer_done b c.args.slot.0 c.index_mut.result.now c.run_alone.new.self c.run_alone.new.memory c.self.invariant here c.run_alone.ensures.well c.run_alone.ensures.outside c.run_alone.ensures.same g c.args.client _ there refl ∙ ap (λ (x : Brokered). answer_at g x c.args.slot.0 c.args.client) c.self.view_is in
     subst (λ (r : Result UnderWay Refusal). IfErr c.run_alone.result (λ e. (e ≡ NoMemory) ⊎ (r ≡ Err e))) link c.run_alone.ensures.errors
@@ -67,7 +67,7 @@ returns-clause-errors c =
 pub returns-clause-same : goal.returns-clause-same
 returns-clause-same c =
     let here = slice_get_read c.self.inside.slots.items 8 c.args.slot.0 c.index_mut.result.now (sym c.self.invariant.count) c.if-slot-ge-SLOTS.false c.index_mut.ensures.value in
-    let b : Brokered = record { counts = c.self.inside.layout; words = c.self.inside.memory; slots = c.self.inside.slots.items; directory = c.self.inside.directory; creation = c.self.inside.creation } in
+    let b : Brokered = record { counts = c.self.inside.layout; words = c.self.inside.memory; slots = c.self.inside.slots.items; directory = c.self.inside.directory; creation = c.self.inside.creation; recovery = c.self.inside.recovery } in
     let was : world_in c.self.inside.memory c.index_mut.result.now ≡ world_at c.args.self.now c.args.slot.0 = sym (world_was b c.args.slot.0 c.index_mut.result.now c.run_alone.new.self c.run_alone.new.memory c.self.invariant here c.run_alone.ensures.well c.run_alone.ensures.outside c.run_alone.ensures.same) ∙ ap (λ (x : Brokered). world_at x c.args.slot.0) c.self.view_is in
     let now = sym (world_now b c.args.slot.0 c.index_mut.result.now c.run_alone.new.self c.run_alone.new.memory c.self.invariant here c.run_alone.ensures.well c.run_alone.ensures.outside c.run_alone.ensures.same) in
     subst (λ (o : Option State). IfErr c.run_alone.result (λ e. o ≡ world_at c.args.self.now c.args.slot.0)) now
@@ -76,7 +76,7 @@ returns-clause-same c =
 pub returns-clause-answer : goal.returns-clause-answer
 returns-clause-answer c =
     let here = slice_get_read c.self.inside.slots.items 8 c.args.slot.0 c.index_mut.result.now (sym c.self.invariant.count) c.if-slot-ge-SLOTS.false c.index_mut.ensures.value in
-    let b : Brokered = record { counts = c.self.inside.layout; words = c.self.inside.memory; slots = c.self.inside.slots.items; directory = c.self.inside.directory; creation = c.self.inside.creation } in
+    let b : Brokered = record { counts = c.self.inside.layout; words = c.self.inside.memory; slots = c.self.inside.slots.items; directory = c.self.inside.directory; creation = c.self.inside.creation; recovery = c.self.inside.recovery } in
     let was : world_in c.self.inside.memory c.index_mut.result.now ≡ world_at c.args.self.now c.args.slot.0 = sym (world_was b c.args.slot.0 c.index_mut.result.now c.run_alone.new.self c.run_alone.new.memory c.self.invariant here c.run_alone.ensures.well c.run_alone.ensures.outside c.run_alone.ensures.same) ∙ ap (λ (x : Brokered). world_at x c.args.slot.0) c.self.view_is in
     let now = sym (world_now b c.args.slot.0 c.index_mut.result.now c.run_alone.new.self c.run_alone.new.memory c.self.invariant here c.run_alone.ensures.well c.run_alone.ensures.outside c.run_alone.ensures.same) in
     subst (λ (o : Option State). IfOk c.run_alone.result (λ answer. IfWorld o (λ w. IsAnsweredAlone w c.args.client answer.1 answer.0))) was c.run_alone.ensures.answer
@@ -84,7 +84,7 @@ returns-clause-answer c =
 pub returns-clause-world : goal.returns-clause-world
 returns-clause-world c =
     let here = slice_get_read c.self.inside.slots.items 8 c.args.slot.0 c.index_mut.result.now (sym c.self.invariant.count) c.if-slot-ge-SLOTS.false c.index_mut.ensures.value in
-    let b : Brokered = record { counts = c.self.inside.layout; words = c.self.inside.memory; slots = c.self.inside.slots.items; directory = c.self.inside.directory; creation = c.self.inside.creation } in
+    let b : Brokered = record { counts = c.self.inside.layout; words = c.self.inside.memory; slots = c.self.inside.slots.items; directory = c.self.inside.directory; creation = c.self.inside.creation; recovery = c.self.inside.recovery } in
     let was : world_in c.self.inside.memory c.index_mut.result.now ≡ world_at c.args.self.now c.args.slot.0 = sym (world_was b c.args.slot.0 c.index_mut.result.now c.run_alone.new.self c.run_alone.new.memory c.self.invariant here c.run_alone.ensures.well c.run_alone.ensures.outside c.run_alone.ensures.same) ∙ ap (λ (x : Brokered). world_at x c.args.slot.0) c.self.view_is in
     let now = sym (world_now b c.args.slot.0 c.index_mut.result.now c.run_alone.new.self c.run_alone.new.memory c.self.invariant here c.run_alone.ensures.well c.run_alone.ensures.outside c.run_alone.ensures.same) in
     subst (λ (o : Option State). IfOk c.run_alone.result (λ answer. o ≡ acted (λ w. after_alone answer.1 w c.args.client) (world_at c.args.self.now c.args.slot.0))) now
