@@ -1,3 +1,4 @@
+pub mod Stays
 pub mod Kept
 pub mod Reserved
 pub mod Begun

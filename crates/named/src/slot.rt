@@ -1,11 +1,11 @@
 //! A slot of a broker: closed, or open with a queue.
 
-ghost use Rattle.std.specs.Prelude.{◌≡◌, ◌⊎◌, ◌<◌, ◌≤◌, ◌+◌, true, length, IfOk, IfErr, OnOk, IsSome, Ok, Err, Some, None};
+ghost use Rattle.std.specs.Prelude.{◌≡◌, ◌⊎◌, ◌<◌, ◌≤◌, ◌+◌, length, IfOk, IfErr, OnOk, IsSome, true, false, Ok, Err, Some, None};
 ghost use Rattle.persist.specs.Changes.{change_of};
 ghost use Rattle.recover.specs.Table.{boot_recovery};
 ghost use Rattle.interleave.specs.Booted.{booted_world, MayRefuse};
 ghost use Rattle.named.specs.Rotating.{has_calls_in};
-ghost use Rattle.named.specs.Slots.{IsAsReady, IsWordOf, world_evicted_in, HasRoomToStop};
+ghost use Rattle.named.specs.Slots.{IsAsReady, IsReadyIn, IsWordOf, world_evicted_in, HasRoomToStop};
 ghost use Rattle.interleave.specs.Queue.{told_in, told_to};
 ghost use Rattle.words.specs.declared.refusal.Refusal.{Refusal as AnyRefusal};
 ghost use Rattle.interleave.specs.Calls.{is_no_memory};
@@ -197,6 +197,7 @@ impl Slot {
     pub(crate) fn open(alloc: Global, layout: &BrokerLayout, slot: SlotId, kind: Kind) -> Self
         requires { slot.0 < SLOTS }
         ensures kind { kind_in result ≡ Some kind }
+        ensures ready { IsReadyIn true result }
         ensures world { (ws : Words) → world_in ws result
             ≡ Some (world_over (shape_of kind layout.now) (block_words layout.now slot.0 ws)) }
         ensures at { (ws : Words) → broker_size layout.now ≤ length ws.cached
@@ -214,6 +215,7 @@ impl Slot {
     pub(crate) fn open_found(alloc: Global, layout: &BrokerLayout, slot: SlotId, kind: Kind) -> Self
         requires { slot.0 < SLOTS }
         ensures kind { kind_in result ≡ Some kind }
+        ensures down { IsReadyIn false result }
         ensures world { (ws : Words) → world_in ws result ≡ Some (record (world_over (shape_of kind layout.now)
             (block_words layout.now slot.0 ws)) { recovery = Some boot_recovery }) }
         ensures at { (ws : Words) → broker_size layout.now ≤ length ws.cached
