@@ -78,6 +78,7 @@ impl Broker {
         ensures worlds { (at : ℕ) → world_at self.new at ≡ world_at self.old at }
         ensures room { OnOk result (acts ≤ room_at self.new slot.0) }
         ensures kept { (at : ℕ) → room_at self.old at ≤ room_at self.new at }
+        ensures full { result ≡ Err Refusal.NoMemory → room_at self.old slot.0 < acts }
         ensures open { OnOk result (IsSome (world_at self.old slot.0)) }
         ensures errors { IfErr result (IsWhyUnread (world_at self.old slot.0)) }
         ensures directory { self.new.directory ≡ self.old.directory }
