@@ -1,3 +1,4 @@
+pub mod Evicted
 pub mod Stays
 pub mod Kept
 pub mod Reserved

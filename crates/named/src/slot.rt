@@ -10,7 +10,7 @@ ghost use Rattle.interleave.specs.Queue.{told_in, told_to};
 ghost use Rattle.words.specs.declared.refusal.Refusal.{Refusal as AnyRefusal};
 ghost use Rattle.interleave.specs.Calls.{is_no_memory};
 ghost use Rattle.interleave.specs.State.{after_step, step_result, after_start, start_result, after_alone, after_stop, after_recover, recover_result, kept_content, order_in, IsAnsweredAlone, world_over};
-ghost use Rattle.named.specs.Blocks.{waiting_in};
+ghost use Rattle.named.specs.Blocks.{waiting_in, IsSameWords};
 ghost use Rattle.named.specs.Slots.{world_in, acted, answered, IfWorld, IsWhyUnread, IsSlotWell, IsSameOutsideSlot, IsSameSlot, kind_in, room_in, AreEffectsFew};
 ghost use Rattle.named.specs.Brokers.{IsSlotAt, IsUnusedBlock, block_words};
 ghost use Rattle.arena.specs.Broker.{broker_size};
@@ -270,7 +270,7 @@ impl Slot {
         requires block { IsWordOf self.old word }
         requires word { word < length memory.old.cached }
         ensures world { world_in memory.new self.new ≡ world_evicted_in self.old word memory.old }
-        ensures words { memory.new ≡ words_after_eviction word memory.old }
+        ensures words { IsSameWords (words_after_eviction word memory.old) memory.new }
         ensures result { result ≡ Ok (change_of memory.old word) }
         ensures well { IsSlotWell memory.new self.new }
         ensures room { room_in self.new ≡ room_in self.old }
