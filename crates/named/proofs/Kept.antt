@@ -134,7 +134,7 @@ slot_elsewhere c old new i j (Durable was) ne here outside = block_elsewhere c o
 slot_elsewhere c old new i j (Log was) ne here outside = block_elsewhere c old new i j log_kind was ne here outside
 
 -- the directory's words
-has_directory : (c : Counts) (ws : Words) → HasRoom c ws → HasDirectory ws
+pub has_directory : (c : Counts) (ws : Words) → HasRoom c ws → HasDirectory ws
 has_directory c ws room = record { cached = omega (arith, room.cached); kept = omega (arith, room.kept) }
 
 block_past : (c : Counts) (old new : Words) (i : ℕ) (kind : Kind) (was : BlockState) → HasRoom c new → IsInBlock c old i kind was

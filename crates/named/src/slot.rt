@@ -5,7 +5,7 @@ ghost use Rattle.persist.specs.Changes.{change_of};
 ghost use Rattle.recover.specs.Table.{boot_recovery};
 ghost use Rattle.interleave.specs.Booted.{booted_world, MayRefuse};
 ghost use Rattle.named.specs.Rotating.{has_calls_in};
-ghost use Rattle.named.specs.Slots.{IsAsReady, IsReadyIn, IsWordOf, world_evicted_in, HasRoomToStop};
+ghost use Rattle.named.specs.Slots.{IsAsReady, IsReadyIn, IsEvictedOutside, IsWordOf, world_evicted_in, HasRoomToStop};
 ghost use Rattle.interleave.specs.Queue.{told_in, told_to};
 ghost use Rattle.words.specs.declared.refusal.Refusal.{Refusal as AnyRefusal};
 ghost use Rattle.interleave.specs.Calls.{is_no_memory};
@@ -271,6 +271,7 @@ impl Slot {
         requires word { word < length memory.old.cached }
         ensures world { world_in memory.new self.new ≡ world_evicted_in self.old word memory.old }
         ensures words { IsSameWords (words_after_eviction word memory.old) memory.new }
+        ensures outside { IsEvictedOutside self.old word memory.old memory.new }
         ensures result { result ≡ Ok (change_of memory.old word) }
         ensures well { IsSlotWell memory.new self.new }
         ensures room { room_in self.new ≡ room_in self.old }
