@@ -1,3 +1,4 @@
+pub mod GoingOn
 pub mod EvictedWell
 pub mod Evicted
 pub mod Stays
