@@ -4,3 +4,4 @@ pub mod Begun
 pub mod Made
 pub mod Opened
 pub mod Crashed
+pub mod Eaches
