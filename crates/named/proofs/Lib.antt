@@ -5,3 +5,4 @@ pub mod Made
 pub mod Opened
 pub mod Crashed
 pub mod Eaches
+pub mod Stopped
