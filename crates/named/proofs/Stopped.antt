@@ -1,7 +1,7 @@
 -- A crash of a broker: room is made in each queue's history, each queue stops, and recovery begins anew.
 use Rattle.std.proofs.Common.{◌≡◌, ℕ, ◌+◌, ◌<◌, ◌≤◌, ◌⊎◌, inl, inr, Bool, true, false, List, Option, Some, None, length, take, drop, slice_get, slice_set, refl, sym, ap, ◌∙◌, subst, arith}
 use Rattle.std.specs.Option.{option_map}
-use Rattle.std.specs.Prelude.{IsSome, is_some}
+use Rattle.std.specs.Prelude.{is_some}
 use Rattle.std.proofs.lemmas.Option.{slice_get_within}
 use Rattle.persist.specs.Memory.{Words, words_after_crash}
 use Rattle.arena.specs.Shape.{Counts}
@@ -16,9 +16,9 @@ use Rattle.directory.proofs.Sounds.{head_crashed}
 use Rattle.interleave.specs.State.{State, after_stop}
 use Rattle.named.specs.Blocks.{BlockState, state_in}
 use Rattle.named.specs.Brokers.{Brokered, IsCreating, IsDirectoryAt, IsDirectoryDown, IsDirectoryIn, IsInBlock, IsMaybeWith, IsReading, IsSlotAt, IsUnusedBlock, IsWell, IsWith, is_ready_at, room_at, room_of, world_at, world_of}
-use Rattle.named.specs.Each.{EachBecame, HasFullSlot, HasMoreRoom, HasStopped}
+use Rattle.named.specs.Each.{EachBecame, HasMoreRoom, HasStopped}
 use Rattle.named.specs.Slots.{AreEffectsFew, IsReadyIn, IsSameSlot, IsSlotWell, acted, kind_in, room_in, world_in}
-use Rattle.named.specs.Stopping.{HasFullQueue, booting}
+use Rattle.named.specs.Stopping.{booting}
 use Rattle.named.specs.declared.recovery.BrokerRecovery.{BrokerRecovery}
 use Rattle.named.specs.declared.recovery.BrokerRecovery.TheVariants.{ReadDirectory, RecoverQueue}
 use Rattle.named.specs.declared.slot.Slot.{Slot}
@@ -103,19 +103,6 @@ module _ (b : Brokered) (slots : List Slot) (holds : IsWell b) (each : EachBecam
 -- each queue's history has room for as many events as calls took effect
 pub few_in_each : (b : Brokered) → IsWell b → (at : ℕ) (slot : Slot) → slice_get b.slots at ≡ Some slot → AreEffectsFew slot
 few_in_each b holds at slot e = few b.words slot (slot_is_well b.counts b.words at slot (holds.slots at slot e))
-
--- where a slot's history has no room for one more act, its queue's has none
-open_world : (ws : Words) (slot : Slot) → IsSome (kind_in slot) → IsSome (world_in ws slot)
-open_world ws Closed is_open = absurd (cc)
-open_world ws (Durable block) is_open = refl
-open_world ws (Log block) is_open = refl
-
-pub full_queue : (b : Brokered) → HasFullSlot b.slots 1 → HasFullQueue b
-full_queue b full = record {
-  slot = full.at;
-  is_open = subst (λ (o : Option Slot). IsSome (world_of b.words o)) (sym full.here) (open_world b.words full.slot full.is_open);
-  full = ap room_of full.here ∙ omega (arith, full.full);
-}
 
 -- a queue that stopped is in its block as it was
 block_stopped : (c : Counts) (old new : Words) (at : ℕ) (was is : Slot) → (IsUnusedBlock c old at → IsUnusedBlock c new at) → IsSlotAt c old at was

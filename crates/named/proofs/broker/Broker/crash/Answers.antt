@@ -2,15 +2,15 @@ use Rattle.std.proofs.Common.{rules, ◌≡◌, ◌∙◌, ◌+◌, ◌≤◌, �
 use Rattle.std.proofs.lemmas.List.{with_items_is}
 use Rattle.std.specs.Vec.{with_items}
 use Rattle.persist.specs.Memory.{Words, words_after_crash}
-use Rattle.interleave.specs.State.{State, after_stop}
-use Rattle.named.specs.Slots.{HasRoomFor, acted}
-use Rattle.named.specs.Each.{EachBecame, EachSlot, HasFullSlot, HasMoreRoom, HasStopped}
+use Rattle.interleave.specs.State.{after_stop}
+use Rattle.named.specs.Slots.{acted}
+use Rattle.named.specs.Each.{EachBecame, HasMoreRoom, HasStopped}
 use Rattle.named.specs.Brokers.{Brokered, IsWell, room_at, room_of, world_at, world_of}
-use Rattle.named.specs.Stopping.{HasFullQueue, IsSameButRoom, IsStopped, booting}
+use Rattle.named.specs.Stopping.{IsSameButRoom, IsStopped, booting}
 use Rattle.named.specs.declared.recovery.BrokerRecovery.{BrokerRecovery}
 use Rattle.named.specs.declared.recovery.BrokerRecovery.TheVariants.{ReadDirectory}
 use Rattle.named.specs.declared.slot.Slot.{Slot}
-use Rattle.named.proofs.Stopped.{few_in_each, full_queue, rooms_roomier, rooms_stopped, well_roomier, well_stopped, worlds_roomier, worlds_stopped}
+use Rattle.named.proofs.Stopped.{few_in_each, rooms_roomier, rooms_stopped, well_roomier, well_stopped, worlds_roomier, worlds_stopped}
 use Rattle.named.proofs.broker.Broker.crash.Goals as goal
 
 pub reserve_each-requires : goal.reserve_each-requires
