@@ -6,3 +6,5 @@ pub mod Opened
 pub mod Crashed
 pub mod Eaches
 pub mod Stopped
+pub mod Nexts
+pub mod Recovers
