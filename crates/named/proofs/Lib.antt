@@ -8,3 +8,4 @@ pub mod Eaches
 pub mod Stopped
 pub mod Nexts
 pub mod Recovers
+pub mod Founds

@@ -24,7 +24,7 @@ none_ready (Some (ReadDirectory d)) at reading = refl
 none_ready (Some (RecoverQueue slot)) at reading = absurd reading
 
 module _ (b : Brokered) (holds : IsWell b) (down : IsReadingDirectory b.recovery) where
-  not_ready : (at : ℕ) (slot : Slot) → slice_get b.slots at ≡ Some slot → IsReadyIn false slot
+  pub not_ready : (at : ℕ) (slot : Slot) → slice_get b.slots at ≡ Some slot → IsReadyIn false slot
   not_ready at slot here = subst (λ (r : Bool). IsReadyIn r slot) (none_ready b.recovery at down) (holds.readiness at slot here)
 
   -- it is read on
