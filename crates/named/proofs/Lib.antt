@@ -7,3 +7,9 @@ pub mod Reserved
 pub mod Begun
 pub mod Made
 pub mod Opened
+pub mod Crashed
+pub mod Eaches
+pub mod Stopped
+pub mod Nexts
+pub mod Recovers
+pub mod Founds

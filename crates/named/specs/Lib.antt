@@ -1,5 +1,6 @@
 pub mod Blocks
 pub mod Slots
+pub mod Each
 pub mod Brokers
 pub mod Stopping
 pub mod Evicting

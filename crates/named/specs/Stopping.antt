@@ -1,5 +1,5 @@
 -- A crash of a broker, and the steps of its recovery.
-use Rattle.std.specs.Prelude.{◌≡◌, ◌≢◌, ℕ, ◌+◌, ◌<◌, ◌≤◌, Bool, true, false, is_none, List, Option, Some, None, Result, Ok, Err, IsSome, slice_set, ⊥}
+use Rattle.std.specs.Prelude.{◌≡◌, ◌≢◌, ℕ, ◌+◌, ◌<◌, ◌≤◌, Bool, true, false, is_none, List, Option, Some, None, Result, Ok, Err, IsSome, slice_set}
 use Rattle.words.specs.declared.call.Kind.{Kind}
 use Rattle.words.specs.declared.refusal.Refusal.{Refusal}
 use Rattle.words.specs.declared.refusal.Refusal.TheVariants.{AlreadyReady}
@@ -19,7 +19,8 @@ use Rattle.interleave.specs.Calls.{is_no_memory}
 use Rattle.interleave.specs.State.{State, after_stop, after_recover, recover_result, world_over}
 use Rattle.recover.specs.Table.{boot_recovery as queue_recovery}
 use Rattle.named.specs.Slots.{acted, answered}
-use Rattle.named.specs.Brokers.{Brokered, block_words, quiet, room_at, world_at}
+use Rattle.directory.specs.UnderWay.{IsAtRest}
+use Rattle.named.specs.Brokers.{Brokered, IsReading, block_words, quiet, room_at, world_at}
 use Rattle.named.specs.declared.recovery.BrokerRecovery.{BrokerRecovery}
 use Rattle.named.specs.declared.recovery.BrokerRecovery.TheVariants.{ReadDirectory, RecoverQueue}
 
@@ -46,7 +47,7 @@ pub record HasFullQueue (b : Brokered) : Type 0 where
 
 -- the lowest slot from this one on that has a queue
 pub record IsNextQueue (directory : Directory) (from slot : ℕ) : Type 0 where
-  pub from : from ≤ slot
+  pub past : from ≤ slot
   pub queue : Queue
   pub has : HasQueue directory slot queue
   pub none_before : (other : ℕ) (q : Queue) → from ≤ other → other < slot → HasQueue directory other q → ⊥
@@ -134,3 +135,14 @@ abbrev pub IsRecoveryStep : Brokered → Brokered → Result Bool Refusal → Op
 IsRecoveryStep old new result None = (result ≡ Err AlreadyReady) × (new ≡ old)
 IsRecoveryStep old new result (Some (ReadDirectory at)) = IsDirectoryRead old new at result
 IsRecoveryStep old new result (Some (RecoverQueue slot)) = IsQueueRecovered old new slot.0 result
+
+-- the directory is being read
+abbrev pub IsReadingDirectory : Option BrokerRecovery → Type 0
+IsReadingDirectory None = ⊥
+IsReadingDirectory (Some (ReadDirectory at)) = Unit {0}
+IsReadingDirectory (Some (RecoverQueue slot)) = ⊥
+
+-- it may be read on from here; or it was read, and what is known of it is what it is
+abbrev pub MayReadOn : Brokered → After DirectoryRecovery Directory → Type 0
+MayReadOn b (More next) = IsReading b.words next b.creation b.directory
+MayReadOn b (Done places) = (places ≡ b.directory) × IsAtRest b.words b.directory
