@@ -1,3 +1,4 @@
+pub mod Downtimes
 pub mod GoingOn
 pub mod EvictedWell
 pub mod Evicted
