@@ -5,3 +5,4 @@ pub mod Reserved
 pub mod Begun
 pub mod Made
 pub mod Opened
+pub mod Rotated

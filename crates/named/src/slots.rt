@@ -1,9 +1,9 @@
 //! The slots of a broker, one after the other.
 
-ghost use Rattle.std.specs.Prelude.{◌≡◌, ◌<◌, ◌≤◌, ◌+◌, ℕ, length, replicate, slice_get, IfOk, IfErr, OnOk, OnErr, Some};
+ghost use Rattle.std.specs.Prelude.{◌≡◌, ◌<◌, ◌≤◌, ◌+◌, ℕ, length, map, replicate, slice_get, IfOk, IfErr, OnOk, OnErr, Some};
 ghost use Rattle.std.specs.List.{list_any};
 ghost use Rattle.persist.specs.Memory.{Words, words_after_crash};
-ghost use Rattle.named.specs.Rotating.{has_calls_in};
+ghost use Rattle.named.specs.Rotating.{has_calls_in, AreBases, AreBegunAnew, AreQuiet};
 ghost use Rattle.named.specs.declared.slot.Slot.TheVariants.{Closed};
 
 use crate::slot::Slot;
@@ -73,7 +73,11 @@ pub(crate) fn have_calls(slots: &[Slot]) -> bool
 }
 
 /// What the next history of each slot's queue would begin with; of a closed one, nothing.
-pub(crate) fn prepare_each(slots: &Vec<Slot>, memory: &Memory) -> Result<Vec<Vec<u32>>, Refusal> {
+pub(crate) fn prepare_each(slots: &Vec<Slot>, memory: &Memory) -> Result<Vec<Vec<u32>>, Refusal>
+    requires { AreQuiet memory.now slots.now.items }
+    ensures bases { IfOk result (λ bases. AreBases memory.now slots.now.items (map (λ base. base.items) bases.items)) }
+    ensures errors { IfErr result (λ e. e ≡ Refusal.NoMemory) }
+{
     let alloc = *slots.allocator();
     let Ok(mut bases) = Vec::with_capacity(alloc, slots.len()) else {
         return Err(Refusal::NoMemory);
@@ -88,8 +92,12 @@ pub(crate) fn prepare_each(slots: &Vec<Slot>, memory: &Memory) -> Result<Vec<Vec
 }
 
 /// The history of each open slot's queue ends, and another begins with its base.
-pub(crate) fn begin_each(slots: &mut [Slot], memory: &Memory, bases: Vec<Vec<u32>>) {
-    for (slot, base) in slots.iter_mut().zip(bases) {
-        slot.begin_anew(memory, base);
+pub(crate) fn begin_each(slots: &mut [Slot], memory: &Memory, mut bases: Vec<Vec<u32>>)
+    requires quiet { AreQuiet memory.now slots.old }
+    requires bases { AreBases memory.now slots.old (map (λ base. base.items) bases.items) }
+    ensures { AreBegunAnew memory.now slots.old slots.new }
+{
+    while let Some(base) = bases.pop() {
+        slots[bases.len()].begin_anew(memory, base);
     }
 }

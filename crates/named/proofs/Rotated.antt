@@ -1,0 +1,132 @@
+-- A rotation of a broker.
+use Rattle.std.proofs.Common.{◌≡◌, ℕ, zero, suc, ◌⊎◌, inl, inr, List, [], ◌∷◌, ◌++◌, length, slice_get, slice_index_or, slice_set, ◌+◌, ◌<◌, ◌≤◌, ◌≢◌, Option, Some, Bool, true, false, Result, Ok, Err, if◌then◌else◌, refl, sym, ap, subst, ◌∙◌, arith}
+use Rattle.std.specs.Prelude.{IfErr, is_some}
+use Rattle.std.proofs.lemmas.Bool.{cases_eq}
+use Rattle.std.proofs.lemmas.List.{length_push, length-set}
+use Rattle.std.proofs.lemmas.Option.{slice_get-get_or, slice_get_within}
+use Rattle.words.specs.declared.refusal.Refusal.{Refusal}
+use Rattle.words.specs.declared.refusal.Refusal.TheVariants.{NotReady, Busy, NoMemory}
+use Rattle.persist.specs.Memory.{Words}
+use Rattle.interleave.specs.Rotation.{rotate_result, some_client_calls}
+use Rattle.named.specs.Blocks.{BlockState, state_in}
+use Rattle.named.specs.Rotating.{AreBegunAnew, IsBaseIn, IsBegunAnew}
+use Rattle.named.specs.declared.slot.Slot.{Slot}
+
+pub some_is : {X : Type 0} (o : Option X) (x y : X) → o ≡ Some x → o ≡ Some y → x ≡ y
+some_is o x y e f = cc
+
+-- a queue that is ready, and that nobody calls, may end its history
+pub may_rotate : (full : Bool) (ws : Words) (block : BlockState) → is_some block.core.trace.recovery ≡ false → some_client_calls block.core.calls ≡ false
+    → rotate_result full (state_in ws block) ≡ (if full then Err NoMemory else Ok tt)
+may_rotate full ws block ready nobody =
+    ap (λ (x : Bool). if x then Err NotReady else (if some_client_calls block.core.calls then Err Busy else (if full then Err NoMemory else Ok tt))) ready
+    ∙ ap (λ (x : Bool). if x then Err Busy else (if full then Err NoMemory else Ok tt)) nobody
+
+-- so it is refused for want of memory alone
+pub for_memory : {T : Type 0} (r : Result T Refusal) (ws : Words) (block : BlockState) → is_some block.core.trace.recovery ≡ false → some_client_calls block.core.calls ≡ false
+    → IfErr r (λ e. rotate_result true (state_in ws block) ≡ Err e) → IfErr r (λ e. e ≡ NoMemory)
+for_memory (Ok x) ws block ready nobody refused = tt
+for_memory (Err e) ws block ready nobody refused =
+    let same : Err NoMemory ≡ (let r : Result Unit Refusal = Err e in r) = sym (may_rotate true ws block ready nobody) ∙ refused in
+    cc
+
+set_here : {X : Type 0} (xs : List X) (i : ℕ) (v : X) → i < length xs → slice_get (slice_set xs i v) i ≡ Some v
+set_here [] i v h = absurd (omega (arith, h))
+set_here (y ∷ ys) zero v h = refl
+set_here (y ∷ ys) (suc i) v h = set_here ys i v (omega (arith, h))
+
+set_there : {X : Type 0} (xs : List X) (i : ℕ) (v : X) (t : ℕ) → t ≢ i → slice_get (slice_set xs i v) t ≡ slice_get xs t
+set_there [] i v t ne = refl
+set_there (y ∷ ys) zero v zero ne = absurd (ne refl)
+set_there (y ∷ ys) zero v (suc t) ne = refl
+set_there (y ∷ ys) (suc i) v zero ne = refl
+set_there (y ∷ ys) (suc i) v (suc t) ne = set_there ys i v t (λ e. ne (ap suc e))
+
+pub get_push : {X : Type 0} (xs : List X) (x : X) (at : ℕ) (y : X) → slice_get (xs ++ x ∷ []) at ≡ Some y
+    → (slice_get xs at ≡ Some y) ⊎ ((at ≡ length xs) × (y ≡ x))
+get_push [] x zero y e = inr (refl, cc)
+get_push [] x (suc at) y e = absurd (cc)
+get_push (z ∷ xs) x zero y e = inl e
+get_push (z ∷ xs) x (suc at) y e = elim (get_push xs x at y e) [ inl there ↦ inl there | inr last ↦ inr (ap suc last.0, last.1) ]
+
+pub get_last : {X : Type 0} (xs : List X) (x : X) → slice_get (xs ++ x ∷ []) (length xs) ≡ Some x
+get_last [] x = refl
+get_last (z ∷ xs) x = get_last xs x
+
+pub get_left : {X : Type 0} (xs : List X) (x : X) (at : ℕ) (y : X) → slice_get xs at ≡ Some y → slice_get (xs ++ x ∷ []) at ≡ Some y
+get_left [] x at y e = absurd (cc)
+get_left (z ∷ xs) x zero y e = e
+get_left (z ∷ xs) x (suc at) y e = get_left xs x at y e
+
+-- a base more
+pub bases_more : (ws : Words) (slots : List Slot) (bases : List (List ℕ)) (slot : Slot) (base : List ℕ)
+    → ((at : ℕ) (s : Slot) (b : List ℕ) → slice_get slots at ≡ Some s → slice_get bases at ≡ Some b → IsBaseIn ws s b)
+    → slice_get slots (length bases) ≡ Some slot → IsBaseIn ws slot base
+    → (at : ℕ) (s : Slot) (b : List ℕ) → slice_get slots at ≡ Some s → slice_get (bases ++ base ∷ []) at ≡ Some b → IsBaseIn ws s b
+bases_more ws slots bases slot base each here own at s b there more = elim (get_push bases base at b more) [
+  | inl before ↦ each at s b there before
+  | inr last ↦
+      let same : slot ≡ s = some_is _ slot s here (subst (λ (n : ℕ). slice_get slots n ≡ Some s) last.0 there) in
+      subst (IsBaseIn ws s) (sym last.1) (subst (λ (x : Slot). IsBaseIn ws x base) same own)
+]
+
+-- the histories that end while there is a base left for each of the others: those of the slots past them ended
+pub record AreBegunFrom (ws : Words) (old : List Slot) (bases : List (List ℕ)) (new : List Slot) (left : List (List ℕ)) : Type 0 where
+  pub count : length new ≡ length old
+  pub few : length left ≤ length old
+  pub bases_left : (at : ℕ) (base : List ℕ) → slice_get left at ≡ Some base → slice_get bases at ≡ Some base
+  pub still : (at : ℕ) → at < length left → slice_get new at ≡ slice_get old at
+  pub begun : (at : ℕ) (was is : Slot) → length left ≤ at → slice_get old at ≡ Some was → slice_get new at ≡ Some is → IsBegunAnew ws was is
+
+pub begun_none : (ws : Words) (old : List Slot) (bases : List (List ℕ)) → length bases ≡ length old → AreBegunFrom ws old bases old bases
+begun_none ws old bases long = record {
+  count = refl;
+  few = omega (arith, long);
+  bases_left = λ at base e. e;
+  still = λ at below. refl;
+  begun = λ at was is past here there. absurd (omega (arith, past, long, slice_get_within old at was here));
+}
+
+pub begun_more : (ws : Words) (old : List Slot) (bases : List (List ℕ)) (new : List Slot) (left : List (List ℕ)) (base : List ℕ) (was is : Slot)
+    → AreBegunFrom ws old bases new (left ++ base ∷ []) → slice_get new (length left) ≡ Some was → IsBegunAnew ws was is
+    → AreBegunFrom ws old bases (slice_set new (length left) is) left
+begun_more ws old bases new left base was is h here begun =
+    let long : length (left ++ base ∷ []) ≡ length left + 1 = length_push left base in
+    let set_long : length (slice_set new (length left) is) ≡ length new = length-set new (length left) is in
+    record {
+      count = set_long ∙ h.count;
+      few = omega (arith, h.few, long);
+      bases_left = λ at b e. h.bases_left at b (get_left left base at b e);
+      still = λ at below. set_there new (length left) is at (λ e. absurd (omega (arith, e, below))) ∙ h.still at (omega (arith, below, long));
+      begun = λ at w i past there now. elim (cases_eq at (length left)) [
+        | inl same ↦
+            let is_it : i ≡ is = some_is _ i is now (ap (slice_get (slice_set new (length left) is)) same ∙ set_here new (length left) is (slice_get_within new (length left) was here)) in
+            let was_it : w ≡ was = some_is _ w was there (ap (slice_get old) same ∙ sym (h.still (length left) (omega (arith, long))) ∙ here) in
+            subst (IsBegunAnew ws w) (sym is_it) (subst (λ (x : Slot). IsBegunAnew ws x is) (sym was_it) begun)
+        | inr apart ↦ h.begun at w i (omega (arith, past, apart, long)) there (sym (set_there new (length left) is at apart) ∙ now)
+      ];
+    }
+
+-- the slot whose history ends next is as it was, and there is its base
+pub record IsNext (old new : List Slot) (bases : List (List ℕ)) (base : List ℕ) (at : ℕ) (slot : Slot) : Type 0 where
+  pub now : slice_get new at ≡ Some slot
+  pub was : slice_get old at ≡ Some slot
+  pub its_base : slice_get bases at ≡ Some base
+
+pub next_slot : (ws : Words) (old : List Slot) (bases : List (List ℕ)) (new : List Slot) (left : List (List ℕ)) (base : List ℕ) (at : ℕ) (d : Slot)
+    → AreBegunFrom ws old bases new (left ++ base ∷ []) → at ≡ length left → IsNext old new bases base at (slice_index_or new at d)
+next_slot ws old bases new left base at d h last =
+    let long : length (left ++ base ∷ []) ≡ length left + 1 = length_push left base in
+    let now : slice_get new at ≡ Some (slice_index_or new at d) = slice_get-get_or new at d (omega (arith, h.count, h.few, long, last)) in
+    record {
+      now = now;
+      was = sym (h.still at (omega (arith, last, long))) ∙ now;
+      its_base = h.bases_left at base (ap (slice_get (left ++ base ∷ [])) last ∙ get_last left base);
+    }
+
+pub begun_all : (ws : Words) (old : List Slot) (bases : List (List ℕ)) (new : List Slot) (left : List (List ℕ)) → AreBegunFrom ws old bases new left
+    → length left ≡ 0 → AreBegunAnew ws old new
+begun_all ws old bases new left h none = record {
+  count = h.count;
+  each = λ at was is there here. h.begun at was is (omega (arith, none)) there here;
+}
