@@ -1,8 +1,10 @@
 //! The slots of a broker, one after the other.
 
-ghost use Rattle.std.specs.Prelude.{◌≡◌, ◌<◌, ◌≤◌, ◌+◌, ℕ, length, map, replicate, slice_get, IfOk, IfErr, OnOk, OnErr, Some};
+ghost use Rattle.std.specs.Prelude.{◌≡◌, ◌<◌, ◌≤◌, ◌+◌, ℕ, length, map, replicate, slice_get, Option, IfOk, IfErr, OnOk, OnErr, Some};
 ghost use Rattle.std.specs.List.{list_any};
 ghost use Rattle.persist.specs.Memory.{Words, words_after_crash};
+ghost use Rattle.directory.specs.declared.queue.Queue.{Queue as Place};
+ghost use Rattle.named.specs.Booting.{AreBootWords, AreRead, AreSlotsBooted, IsSlotBooted};
 ghost use Rattle.named.specs.Rotating.{has_calls_in, AreBases, AreBegunAnew, AreQuiet};
 ghost use Rattle.named.specs.declared.slot.Slot.TheVariants.{Closed};
 
@@ -34,18 +36,41 @@ pub(crate) fn closed_slots(alloc: Global) -> Result<Vec<Slot>, Refusal>
     Ok(slots)
 }
 
-/// The slots of a memory that a broker begins on: each open one begins on the kept words of its block.
+/// A slot of a memory that a broker begins on: if it is open, its queue begins on the kept words of its block.
+fn boot_slot(
+    alloc: Global,
+    kept: &KeptBroker,
+    slot: SlotId,
+    memory: &Memory,
+) -> Result<Slot, Refusal>
+    requires slot { slot.0 < SLOTS }
+    requires read { AreRead memory.now kept.now.layout kept.now.directory }
+    requires sound { AreBootWords memory.now.kept }
+    ensures booted { IfOk result (λ s. (place : Option Place) → slice_get kept.now.directory slot.0 ≡ Some place
+        → IsSlotBooted kept.now.layout memory.now slot.0 place s) }
+    ensures errors { IfErr result (λ e. e ≡ Refusal.NoMemory) }
+{
+    match &kept.directory.queues()[slot.0 as usize] {
+        None => Ok(Slot::Closed),
+        Some(queue) => Slot::boot(alloc, &kept.layout, slot, queue.kind, memory),
+    }
+}
+
+/// The slots of a memory that a broker begins on.
 pub(crate) fn boot_each(
     alloc: Global,
     kept: &KeptBroker,
     memory: &Memory,
-) -> Result<Vec<Slot>, Refusal> {
+) -> Result<Vec<Slot>, Refusal>
+    requires read { AreRead memory.now kept.now.layout kept.now.directory }
+    requires sound { AreBootWords memory.now.kept }
+    ensures booted { IfOk result (λ slots.
+        AreSlotsBooted kept.now.layout memory.now kept.now.directory slots.items) }
+    ensures errors { IfErr result (λ e. e ≡ Refusal.NoMemory) }
+{
     let mut slots = closed_slots(alloc)?;
-    let places = kept.directory.queues();
     for slot in 0..SLOTS {
-        if let Some(queue) = &places[slot] {
-            slots[slot] = Slot::boot(alloc, &kept.layout, SlotId(slot as u8), queue.kind, memory)?;
-        }
+        slots[slot] = boot_slot(alloc, kept, SlotId(slot as u8), memory)?;
     }
     Ok(slots)
 }
