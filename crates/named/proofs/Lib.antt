@@ -6,3 +6,4 @@ pub mod Begun
 pub mod Made
 pub mod Opened
 pub mod Rotated
+pub mod Booted

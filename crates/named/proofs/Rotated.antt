@@ -8,12 +8,11 @@ use Rattle.words.specs.declared.refusal.Refusal.{Refusal}
 use Rattle.words.specs.declared.refusal.Refusal.TheVariants.{NotReady, Busy, NoMemory}
 use Rattle.persist.specs.Memory.{Words}
 use Rattle.interleave.specs.Rotation.{rotate_result, some_client_calls}
+use Rattle.interleave.proofs.AloneLaws.{get_set}
 use Rattle.named.specs.Blocks.{BlockState, state_in}
 use Rattle.named.specs.Rotating.{AreBegunAnew, IsBaseIn, IsBegunAnew}
 use Rattle.named.specs.declared.slot.Slot.{Slot}
-
-pub some_is : {X : Type 0} (o : Option X) (x y : X) → o ≡ Some x → o ≡ Some y → x ≡ y
-some_is o x y e f = cc
+use Rattle.named.proofs.Kept.{get_set_other, some_is}
 
 -- a queue that is ready, and that nobody calls, may end its history
 pub may_rotate : (full : Bool) (ws : Words) (block : BlockState) → is_some block.core.trace.recovery ≡ false → some_client_calls block.core.calls ≡ false
@@ -29,18 +28,6 @@ for_memory (Ok x) ws block ready nobody refused = tt
 for_memory (Err e) ws block ready nobody refused =
     let same : Err NoMemory ≡ (let r : Result Unit Refusal = Err e in r) = sym (may_rotate true ws block ready nobody) ∙ refused in
     cc
-
-set_here : {X : Type 0} (xs : List X) (i : ℕ) (v : X) → i < length xs → slice_get (slice_set xs i v) i ≡ Some v
-set_here [] i v h = absurd (omega (arith, h))
-set_here (y ∷ ys) zero v h = refl
-set_here (y ∷ ys) (suc i) v h = set_here ys i v (omega (arith, h))
-
-set_there : {X : Type 0} (xs : List X) (i : ℕ) (v : X) (t : ℕ) → t ≢ i → slice_get (slice_set xs i v) t ≡ slice_get xs t
-set_there [] i v t ne = refl
-set_there (y ∷ ys) zero v zero ne = absurd (ne refl)
-set_there (y ∷ ys) zero v (suc t) ne = refl
-set_there (y ∷ ys) (suc i) v zero ne = refl
-set_there (y ∷ ys) (suc i) v (suc t) ne = set_there ys i v t (λ e. ne (ap suc e))
 
 pub get_push : {X : Type 0} (xs : List X) (x : X) (at : ℕ) (y : X) → slice_get (xs ++ x ∷ []) at ≡ Some y
     → (slice_get xs at ≡ Some y) ⊎ ((at ≡ length xs) × (y ≡ x))
@@ -97,13 +84,13 @@ begun_more ws old bases new left base was is h here begun =
       count = set_long ∙ h.count;
       few = omega (arith, h.few, long);
       bases_left = λ at b e. h.bases_left at b (get_left left base at b e);
-      still = λ at below. set_there new (length left) is at (λ e. absurd (omega (arith, e, below))) ∙ h.still at (omega (arith, below, long));
+      still = λ at below. get_set_other new (length left) is at (λ e. absurd (omega (arith, e, below))) ∙ h.still at (omega (arith, below, long));
       begun = λ at w i past there now. elim (cases_eq at (length left)) [
         | inl same ↦
-            let is_it : i ≡ is = some_is _ i is now (ap (slice_get (slice_set new (length left) is)) same ∙ set_here new (length left) is (slice_get_within new (length left) was here)) in
+            let is_it : i ≡ is = some_is _ i is now (ap (slice_get (slice_set new (length left) is)) same ∙ get_set new (length left) is (slice_get_within new (length left) was here)) in
             let was_it : w ≡ was = some_is _ w was there (ap (slice_get old) same ∙ sym (h.still (length left) (omega (arith, long))) ∙ here) in
             subst (IsBegunAnew ws w) (sym is_it) (subst (λ (x : Slot). IsBegunAnew ws x is) (sym was_it) begun)
-        | inr apart ↦ h.begun at w i (omega (arith, past, apart, long)) there (sym (set_there new (length left) is at apart) ∙ now)
+        | inr apart ↦ h.begun at w i (omega (arith, past, apart, long)) there (sym (get_set_other new (length left) is at apart) ∙ now)
       ];
     }
 

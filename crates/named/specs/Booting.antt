@@ -56,12 +56,12 @@ world_booted c slot ws (Some queue) = Some (booted_world (shape_of queue.kind c)
 pub record AreRead (ws : Words) (counts : Counts) (directory : Directory) : Type 0 where
   pub crashed : ws.cached ≡ ws.kept
   pub broker : AreBrokerWords ws.kept
-  pub counts : counts ≡ counts_in ws.kept
-  pub directory : directory ≡ directory_of ws.kept
+  pub counts_are : counts ≡ counts_in ws.kept
+  pub directory_is : directory ≡ directory_of ws.kept
 
 -- the slot has a queue of this kind that begins on the words of its block
 pub record IsQueueBooted (c : Counts) (ws : Words) (at : ℕ) (kind : Kind) (slot : Slot) : Type 0 where
-  pub kind : kind_in slot ≡ Some kind
+  pub kind_is : kind_in slot ≡ Some kind
   pub world : world_in (words_after_crash ws) slot ≡ Some (booted_world (shape_of kind c) (block_words c at ws))
   pub here : IsSlotAt c (words_after_crash ws) at slot
 

@@ -1,5 +1,5 @@
 -- A crash of a broker, and the steps of its recovery.
-use Rattle.std.specs.Prelude.{◌≡◌, ◌≢◌, ℕ, ◌+◌, ◌<◌, ◌≤◌, Bool, true, false, is_none, List, Option, Some, None, Result, Ok, Err, IsSome, slice_set, ⊥}
+use Rattle.std.specs.Prelude.{◌≡◌, ◌≢◌, ℕ, ◌+◌, ◌<◌, ◌≤◌, Bool, true, false, is_none, List, Option, Some, None, Result, Ok, Err, IsSome, slice_set}
 use Rattle.words.specs.declared.call.Kind.{Kind}
 use Rattle.words.specs.declared.refusal.Refusal.{Refusal}
 use Rattle.words.specs.declared.refusal.Refusal.TheVariants.{AlreadyReady}
@@ -46,7 +46,7 @@ pub record HasFullQueue (b : Brokered) : Type 0 where
 
 -- the lowest slot from this one on that has a queue
 pub record IsNextQueue (directory : Directory) (from slot : ℕ) : Type 0 where
-  pub from : from ≤ slot
+  pub past : from ≤ slot
   pub queue : Queue
   pub has : HasQueue directory slot queue
   pub none_before : (other : ℕ) (q : Queue) → from ≤ other → other < slot → HasQueue directory other q → ⊥
