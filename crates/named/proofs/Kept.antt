@@ -192,7 +192,7 @@ slot_now c old new i (Durable was) (Log is) here well place outside = absurd pla
 slot_now c old new i (Log was) Closed here well place outside = absurd place
 slot_now c old new i (Log was) (Durable is) here well place outside = absurd place
 
-kind_stays : (was is : Slot) → IsSameSlot was is → kind_in is ≡ kind_in was
+pub kind_stays : (was is : Slot) → IsSameSlot was is → kind_in is ≡ kind_in was
 kind_stays Closed Closed place = refl
 kind_stays (Durable was) (Durable is) place = refl
 kind_stays (Log was) (Log is) place = refl
@@ -224,7 +224,7 @@ no_queue g b i client holds past admitted =
     ap (λ (r : Result Unit Refusal). answer_if r (answered g (world_at b i))) admitted ∙ ap (λ (o : Option Slot). answered g (world_of b.words o)) none
 
 -- a queue is as ready as it was
-ready_stays : (ready : Bool) (was is : Slot) → IsSameSlot was is → IsAsReady was is → IsReadyIn ready was → IsReadyIn ready is
+pub ready_stays : (ready : Bool) (was is : Slot) → IsSameSlot was is → IsAsReady was is → IsReadyIn ready was → IsReadyIn ready is
 ready_stays ready Closed Closed place alike here = tt
 ready_stays ready (Durable was) (Durable is) place alike here = ap is_some alike ∙ here
 ready_stays ready (Log was) (Log is) place alike here = ap is_some alike ∙ here

@@ -1,18 +1,24 @@
 -- A rotation of a broker.
-use Rattle.std.proofs.Common.{◌≡◌, ℕ, zero, suc, ◌⊎◌, inl, inr, List, [], ◌∷◌, ◌++◌, length, slice_get, slice_index_or, slice_set, ◌+◌, ◌<◌, ◌≤◌, ◌≢◌, Option, Some, Bool, true, false, Result, Ok, Err, if◌then◌else◌, refl, sym, ap, subst, ◌∙◌, arith}
-use Rattle.std.specs.Prelude.{IfErr, is_some}
-use Rattle.std.proofs.lemmas.Bool.{cases_eq}
+use Rattle.std.proofs.Common.{◌≡◌, ℕ, zero, suc, ◌⊎◌, inl, inr, List, [], ◌∷◌, ◌++◌, length, slice_get, slice_index_or, slice_set, ◌+◌, ◌<◌, ◌≤◌, ◌≢◌, Option, None, Some, Bool, true, false, Result, Ok, Err, if◌then◌else◌, refl, sym, ap, subst, ◌∙◌, arith}
+use Rattle.std.specs.Prelude.{IfErr, is_some, ◌||◌}
+use Rattle.std.specs.List.{list_any}
+use Rattle.std.proofs.lemmas.Bool.{cases_eq, cases_lt}
 use Rattle.std.proofs.lemmas.List.{length_push, length-set}
-use Rattle.std.proofs.lemmas.Option.{slice_get-get_or, slice_get_within}
+use Rattle.std.proofs.lemmas.Option.{slice_get-get_or, slice_get_past, slice_get_within}
 use Rattle.words.specs.declared.refusal.Refusal.{Refusal}
 use Rattle.words.specs.declared.refusal.Refusal.TheVariants.{NotReady, Busy, NoMemory}
 use Rattle.persist.specs.Memory.{Words}
-use Rattle.interleave.specs.Rotation.{rotate_result, some_client_calls}
+use Rattle.arena.specs.Shape.{Counts}
+use Rattle.interleave.specs.Rotation.{after_rotation, rotate_result, some_client_calls}
 use Rattle.interleave.proofs.AloneLaws.{get_set}
 use Rattle.named.specs.Blocks.{BlockState, state_in}
-use Rattle.named.specs.Rotating.{AreBegunAnew, IsBaseIn, IsBegunAnew}
+use Rattle.named.specs.Brokers.{Brokered, IsSlotAt, IsWell, is_ready_at, room_of, world_of}
+use Rattle.named.specs.Rotating.{AreBegunAnew, AreQuiet, IsBaseIn, IsBegunAnew, has_calls_in}
+use Rattle.named.specs.Slots.{IsReadyIn, IsSameSlot, IsSlotWell, acted}
+use Rattle.named.specs.declared.recovery.BrokerRecovery.{BrokerRecovery}
 use Rattle.named.specs.declared.slot.Slot.{Slot}
-use Rattle.named.proofs.Kept.{get_set_other, some_is}
+use Rattle.named.specs.declared.slot.Slot.TheVariants.{Closed, Durable, Log}
+use Rattle.named.proofs.Kept.{get_set_other, kind_stays, ready_stays, slot_is_well, some_is}
 
 -- a queue that is ready, and that nobody calls, may end its history
 pub may_rotate : (full : Bool) (ws : Words) (block : BlockState) → is_some block.core.trace.recovery ≡ false → some_client_calls block.core.calls ≡ false
@@ -117,3 +123,88 @@ begun_all ws old bases new left h none = record {
   count = h.count;
   each = λ at was is there here. h.begun at was is (omega (arith, none)) there here;
 }
+
+-- where no element passes the test, this one does not
+pub none_of : {X : Type 0} (p : X → Bool) (xs : List X) (at : ℕ) (x : X) → list_any p xs ≡ false → slice_get xs at ≡ Some x → p x ≡ false
+none_of p [] at x none here = absurd (cc)
+none_of p (y ∷ ys) zero x none here =
+    let same : y ≡ x = cc in
+    subst (λ z. p z ≡ false) same (first (p y) (list_any p ys) none)
+  where
+    first : (a b : Bool) → (a || b) ≡ false → a ≡ false
+    first true b e = cc
+    first false b e = refl
+none_of p (y ∷ ys) (suc at) x none here = none_of p ys at x (rest (p y) (list_any p ys) none) here
+  where
+    rest : (a b : Bool) → (a || b) ≡ false → b ≡ false
+    rest true b e = cc
+    rest false b e = e
+
+-- where neither stands in the way
+pub neither : (a b : Bool) → (a || b) ≡ false → b ≡ false
+neither true b e = cc
+neither false b e = e
+
+-- each queue of a ready broker that no client calls may end its history
+pub all_quiet : (b : Brokered) → IsWell b → b.recovery ≡ None → list_any has_calls_in b.slots ≡ false → AreQuiet b.words b.slots
+all_quiet b holds ready nobody at slot here = (
+  slot_is_well b.counts b.words at slot (holds.slots at slot here),
+  (subst (λ (o : Option BrokerRecovery). IsReadyIn (is_ready_at o at) slot) ready (holds.readiness at slot here), none_of has_calls_in b.slots at slot nobody here),
+)
+
+anew_at : (c : Counts) (ws : Words) (at : ℕ) (was is : Slot) → IsSlotAt c ws at was → IsSlotWell ws is → IsSameSlot was is → IsSlotAt c ws at is
+anew_at c ws at Closed Closed here well place = here
+anew_at c ws at (Durable was) (Durable is) here well place = record { shape = place.2 ∙ here.shape; from = place.0 ∙ here.from; len = place.1 ∙ here.len; well = well }
+anew_at c ws at (Log was) (Log is) here well place = record { shape = place.2 ∙ here.shape; from = place.0 ∙ here.from; len = place.1 ∙ here.len; well = well }
+anew_at c ws at Closed (Durable is) here well place = absurd place
+anew_at c ws at Closed (Log is) here well place = absurd place
+anew_at c ws at (Durable was) Closed here well place = absurd place
+anew_at c ws at (Durable was) (Log is) here well place = absurd place
+anew_at c ws at (Log was) Closed here well place = absurd place
+anew_at c ws at (Log was) (Durable is) here well place = absurd place
+
+module _ (b : Brokered) (slots : List Slot) (holds : IsWell b) (begun : AreBegunAnew b.words b.slots slots) where
+  -- the slot as it was
+  pub was_at : (at : ℕ) (is : Slot) → slice_get slots at ≡ Some is → slice_get b.slots at ≡ Some (slice_index_or b.slots at is)
+  was_at at is here = slice_get-get_or b.slots at is (omega (arith, slice_get_within slots at is here, begun.count))
+
+  began : (at : ℕ) (is : Slot) → slice_get slots at ≡ Some is → IsBegunAnew b.words (slice_index_or b.slots at is) is
+  began at is here = begun.each at (slice_index_or b.slots at is) is (was_at at is here) here
+
+  pub rotated_well : IsWell (record b { slots = slots })
+  rotated_well = record {
+    counts = holds.counts;
+    room = holds.room;
+    head = holds.head;
+    count = begun.count ∙ holds.count;
+    slots = λ at is here.
+        let h = began at is here in
+        anew_at b.counts b.words at (slice_index_or b.slots at is) is (holds.slots at (slice_index_or b.slots at is) (was_at at is here)) h.well h.same;
+    listed = holds.listed;
+    kinds = λ at is queue here listed.
+        kind_stays (slice_index_or b.slots at is) is (began at is here).same ∙ holds.kinds at (slice_index_or b.slots at is) queue (was_at at is here) listed;
+    directory = holds.directory;
+    readiness = λ at is here.
+        let h = began at is here in
+        ready_stays (is_ready_at b.recovery at) (slice_index_or b.slots at is) is h.same h.as_ready (holds.readiness at (slice_index_or b.slots at is) (was_at at is here));
+  }
+
+  -- what holds of each slot as it was and as it is, and where there is none
+  each_or_none : (p : Option Slot → Option Slot → Type 0) → p None None → ((was is : Slot) → IsBegunAnew b.words was is → p (Some was) (Some is))
+      → (at : ℕ) → p (slice_get b.slots at) (slice_get slots at)
+  each_or_none p none some at = elim (cases_lt at (length slots)) [
+    | inl below ↦
+        let is : Slot = slice_index_or slots at Closed in
+        let here : slice_get slots at ≡ Some is = slice_get-get_or slots at Closed below in
+        subst (p (slice_get b.slots at)) (sym here)
+        (subst (λ (o : Option Slot). p o (Some is)) (sym (was_at at is here)) (some (slice_index_or b.slots at is) is (began at is here)))
+    | inr past ↦
+        subst (p (slice_get b.slots at)) (sym (slice_get_past slots at past))
+        (subst (λ (o : Option Slot). p o None) (sym (slice_get_past b.slots at (omega (arith, past, begun.count)))) none)
+  ]
+
+  pub rotated_worlds : (at : ℕ) → world_of b.words (slice_get slots at) ≡ acted after_rotation (world_of b.words (slice_get b.slots at))
+  rotated_worlds = each_or_none (λ was is. world_of b.words is ≡ acted after_rotation (world_of b.words was)) refl (λ was is h. h.world)
+
+  pub rotated_rooms : (at : ℕ) → room_of (slice_get b.slots at) ≤ room_of (slice_get slots at)
+  rotated_rooms = each_or_none (λ was is. room_of was ≤ room_of is) (omega arith) (λ was is h. h.room)
