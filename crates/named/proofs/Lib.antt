@@ -7,3 +7,4 @@ pub mod Made
 pub mod Opened
 pub mod Rotated
 pub mod Booted
+pub mod Promises

@@ -5,3 +5,4 @@ pub mod Stopping
 pub mod Evicting
 pub mod Rotating
 pub mod Booting
+pub mod Promises
