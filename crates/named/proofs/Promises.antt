@@ -33,7 +33,7 @@ use Rattle.interleave.proofs.ValueLaws.{zero_at}
 use Rattle.named.specs.Blocks.{BlockState, state_in}
 use Rattle.named.specs.Booting.{AreBootWords, kept_block}
 use Rattle.named.specs.Brokers.{Brokered, IsCreating, IsDirectoryAt, IsInBlock, IsMaybeWith, IsReading, IsSlotAt, IsUnusedBlock, IsWell, IsWith, block_words, world_at, world_of}
-use Rattle.named.specs.Promises.{AreExplained}
+use Rattle.named.specs.Promises.{AreExplained, KeepsPromises}
 use Rattle.named.specs.Slots.{kind_in, world_in}
 use Rattle.named.specs.declared.recovery.BrokerRecovery.{BrokerRecovery}
 use Rattle.named.specs.declared.recovery.BrokerRecovery.TheVariants.{ReadDirectory, RecoverQueue}
@@ -208,3 +208,10 @@ module _ (b : Brokered) (holds : IsWell b) where
 
   pub boots_well : AreBootWords b.words.kept
   boots_well = at_boots b.recovery b.creation holds.directory
+
+pub promises_well : (b : Brokered) → IsWell b → KeepsPromises b
+promises_well b holds = record { explained = explained_well b holds; boots = boots_well b holds }
+
+-- by the fields that the broker is shown by
+pub promises_kept : (b shown : Brokered) → IsWell b → b ≡ shown → KeepsPromises shown
+promises_kept b shown holds same = subst KeepsPromises same (promises_well b holds)

@@ -3,6 +3,7 @@
 ghost use Rattle.std.specs.Prelude.{◌≡◌, ◌≢◌, ◌↔◌, ◌⊎◌, ◌<◌, ◌≤◌, ◌+◌, ℕ, true, length, replicate, slice_set, Ok, Err, IfOk, IfErr, OnOk, OnErr, IfSome, IfNone, IsSome, None, if◌then◌else◌};
 ghost use Rattle.interleave.specs.Calls.{is_no_memory};
 ghost use Rattle.named.specs.Brokers.{room_at};
+ghost use Rattle.named.specs.Promises.{KeepsPromises};
 ghost use Rattle.named.specs.Rotating.{IsRotated, rotate_result};
 
 use crate::broker::Broker;
@@ -19,6 +20,7 @@ impl Broker {
         ensures rotated { result ≡ Ok tt → IsRotated self.old self.new }
         ensures same { OnErr result (self.new ≡ self.old) }
         ensures room { (slot : ℕ) → room_at self.old slot ≤ room_at self.new slot }
+        ensures promises { KeepsPromises self.new }
     {
         self.check_ready()?;
         if self.creation.is_some() || have_calls(&self.slots) {

@@ -10,6 +10,7 @@ use Rattle.named.specs.Rotating.{AreBegunAnew, AreQuiet, IsRotated, has_calls_in
 use Rattle.named.specs.Slots.{acted}
 use Rattle.named.specs.declared.slot.Slot.{Slot}
 use Rattle.named.proofs.Kept.{ready_there}
+use Rattle.named.proofs.Promises.{promises_kept, promises_well}
 use Rattle.named.proofs.Rotated.{all_quiet, rotated_rooms, rotated_well, rotated_worlds}
 use Rattle.named.proofs.broker.Broker.rotate.Goals as goal
 
@@ -59,3 +60,15 @@ returns-clause-room c = λ at.
     let begun : AreBegunAnew b.words b.slots anew = subst (λ (l : List Slot). AreBegunAnew b.words l anew) c.deref_mut.ensures.value c.begin_each.ensures in
     let written : (with_items c.self.inside.slots anew).items ≡ anew = with_items_is c.self.inside.slots anew (begun.count ∙ sym c.self.inside.slots.ok.0) in
     omega (arith, rotated_rooms b anew c.self.invariant begun at, ap (λ (l : List Slot). room_of (slice_get l at)) written, ap (λ (y : Brokered). room_at y at) c.self.view_is)
+
+pub returns-clause-promises : goal.returns-clause-promises
+returns-clause-promises c = promises_well _ (invariant_of-self c)
+
+pub returns-in_err-check_ready-clause-promises : goal.returns-in_err-check_ready-clause-promises
+returns-in_err-check_ready-clause-promises c = promises_kept _ _ c.self.invariant c.self.view_is
+
+pub returns-then-is_some-clause-promises : goal.returns-then-is_some-clause-promises
+returns-then-is_some-clause-promises c = promises_kept _ _ c.self.invariant c.self.view_is
+
+pub returns-in_err-bases-clause-promises : goal.returns-in_err-bases-clause-promises
+returns-in_err-bases-clause-promises c = promises_kept _ _ c.self.invariant c.self.view_is
