@@ -134,7 +134,7 @@ slot_elsewhere c old new i j (Durable was) ne here outside = block_elsewhere c o
 slot_elsewhere c old new i j (Log was) ne here outside = block_elsewhere c old new i j log_kind was ne here outside
 
 -- the directory's words
-has_directory : (c : Counts) (ws : Words) → HasRoom c ws → HasDirectory ws
+pub has_directory : (c : Counts) (ws : Words) → HasRoom c ws → HasDirectory ws
 has_directory c ws room = record { cached = omega (arith, room.cached); kept = omega (arith, room.kept) }
 
 block_past : (c : Counts) (old new : Words) (i : ℕ) (kind : Kind) (was : BlockState) → HasRoom c new → IsInBlock c old i kind was
@@ -180,7 +180,7 @@ directory_stays old new None creation directory same here = creating_stays old n
 directory_stays old new (Some recovery) creation directory same here = down_stays old new recovery creation directory same here
 
 -- the slot that acted
-slot_now : (c : Counts) (old new : Words) (i : ℕ) (was is : Slot) → IsSlotAt c old i was → IsSlotWell new is → IsSameSlot was is
+pub slot_now : (c : Counts) (old new : Words) (i : ℕ) (was is : Slot) → IsSlotAt c old i was → IsSlotWell new is → IsSameSlot was is
     → IsSameOutsideSlot was old new → IsSlotAt c new i is
 slot_now c old new i Closed Closed here well place outside = subst (λ (ws : Words). IsUnusedBlock c ws i) (sym outside) here
 slot_now c old new i (Durable was) (Durable is) here well place outside = record { shape = place.2 ∙ here.shape; from = place.0 ∙ here.from; len = place.1 ∙ here.len; well = well }

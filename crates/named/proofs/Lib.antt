@@ -1,3 +1,5 @@
+pub mod GoingOn
+pub mod EvictedWell
 pub mod Evicted
 pub mod Stays
 pub mod Kept
@@ -5,6 +7,12 @@ pub mod Reserved
 pub mod Begun
 pub mod Made
 pub mod Opened
+pub mod Crashed
+pub mod Eaches
+pub mod Stopped
+pub mod Nexts
+pub mod Recovers
+pub mod Founds
 pub mod Rotated
 pub mod Booted
 pub mod Promises

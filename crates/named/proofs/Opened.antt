@@ -40,7 +40,7 @@ done_slot : (slot : SlotId) (queue : Queue) (o : Option CreationPoint) (done : S
 done_slot slot queue (Some at) done e = absurd (cc)
 done_slot slot queue None done e = cc
 
-closed_where_free : (slot : Slot) → kind_in slot ≡ None → slot ≡ Closed
+pub closed_where_free : (slot : Slot) → kind_in slot ≡ None → slot ≡ Closed
 closed_where_free Closed e = refl
 closed_where_free (Durable block) e = absurd (cc)
 closed_where_free (Log block) e = absurd (cc)

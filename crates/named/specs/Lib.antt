@@ -1,8 +1,10 @@
 pub mod Blocks
 pub mod Slots
+pub mod Each
 pub mod Brokers
 pub mod Stopping
 pub mod Evicting
 pub mod Rotating
 pub mod Booting
+pub mod GoingOn
 pub mod Promises

@@ -19,7 +19,8 @@ use Rattle.interleave.specs.Calls.{is_no_memory}
 use Rattle.interleave.specs.State.{State, after_stop, after_recover, recover_result, world_over}
 use Rattle.recover.specs.Table.{boot_recovery as queue_recovery}
 use Rattle.named.specs.Slots.{acted, answered}
-use Rattle.named.specs.Brokers.{Brokered, block_words, quiet, room_at, world_at}
+use Rattle.directory.specs.UnderWay.{IsAtRest}
+use Rattle.named.specs.Brokers.{Brokered, IsReading, block_words, quiet, room_at, world_at}
 use Rattle.named.specs.declared.recovery.BrokerRecovery.{BrokerRecovery}
 use Rattle.named.specs.declared.recovery.BrokerRecovery.TheVariants.{ReadDirectory, RecoverQueue}
 
@@ -134,3 +135,14 @@ abbrev pub IsRecoveryStep : Brokered → Brokered → Result Bool Refusal → Op
 IsRecoveryStep old new result None = (result ≡ Err AlreadyReady) × (new ≡ old)
 IsRecoveryStep old new result (Some (ReadDirectory at)) = IsDirectoryRead old new at result
 IsRecoveryStep old new result (Some (RecoverQueue slot)) = IsQueueRecovered old new slot.0 result
+
+-- the directory is being read
+abbrev pub IsReadingDirectory : Option BrokerRecovery → Type 0
+IsReadingDirectory None = ⊥
+IsReadingDirectory (Some (ReadDirectory at)) = Unit {0}
+IsReadingDirectory (Some (RecoverQueue slot)) = ⊥
+
+-- it may be read on from here; or it was read, and what is known of it is what it is
+abbrev pub MayReadOn : Brokered → After DirectoryRecovery Directory → Type 0
+MayReadOn b (More next) = IsReading b.words next b.creation b.directory
+MayReadOn b (Done places) = (places ≡ b.directory) × IsAtRest b.words b.directory

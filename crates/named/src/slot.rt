@@ -1,11 +1,12 @@
 //! A slot of a broker: closed, or open with a queue.
 
-ghost use Rattle.std.specs.Prelude.{◌≡◌, ◌⊎◌, ◌<◌, ◌≤◌, ◌+◌, length, IfOk, IfErr, OnOk, IsSome, true, false, Ok, Err, Some, None};
+ghost use Rattle.std.specs.Prelude.{◌≡◌, ◌⊎◌, ◌<◌, ◌≤◌, ◌+◌, true, false, is_none, length, IfOk, IfErr, OnOk, OnErr, IsSome, Ok, Err, Some, None};
 ghost use Rattle.persist.specs.Changes.{change_of};
 ghost use Rattle.recover.specs.Table.{boot_recovery};
 ghost use Rattle.interleave.specs.Booted.{booted_world, MayRefuse};
 ghost use Rattle.named.specs.Rotating.{has_calls_in, IsBaseIn, IsBegunAnew, IsQuietIn};
-ghost use Rattle.named.specs.Slots.{IsAsReady, IsReadyIn, IsWordOf, world_evicted_in, HasRoomToStop};
+ghost use Rattle.named.specs.Each.{HasMoreRoom};
+ghost use Rattle.named.specs.Slots.{IsAsReady, IsReadyIn, IsEvictedOutside, IsWordOf, world_evicted_in, HasRoomFor};
 ghost use Rattle.interleave.specs.Queue.{told_in, told_to};
 ghost use Rattle.words.specs.declared.refusal.Refusal.{Refusal as AnyRefusal};
 ghost use Rattle.interleave.specs.Calls.{is_no_memory};
@@ -272,6 +273,7 @@ impl Slot {
         requires word { word < length memory.old.cached }
         ensures world { world_in memory.new self.new ≡ world_evicted_in self.old word memory.old }
         ensures words { IsSameWords (words_after_eviction word memory.old) memory.new }
+        ensures outside { IsEvictedOutside self.old word memory.old memory.new }
         ensures result { result ≡ Ok (change_of memory.old word) }
         ensures well { IsSlotWell memory.new self.new }
         ensures room { room_in self.new ≡ room_in self.old }
@@ -287,7 +289,7 @@ impl Slot {
 
     /// The whole system stops, where the history of the slot's queue has room for one event.
     pub(crate) fn stop(&mut self)
-        requires { HasRoomToStop self.old }
+        requires { HasRoomFor 1 self.old }
         ensures world { (ws : Words) → world_in (words_after_crash ws) self.new
             ≡ acted after_stop (world_in ws self.old) }
         ensures well { (ws : Words) → IsSlotWell ws self.old → IsSlotWell (words_after_crash ws) self.new }
@@ -333,7 +335,9 @@ impl Slot {
     }
 
     /// Whether nobody has created a queue in it.
-    pub(crate) fn is_closed(&self) -> bool {
+    pub(crate) fn is_closed(&self) -> bool
+        ensures { result ≡ is_none (kind_in self.now) }
+    {
         match self {
             Slot::Closed => true,
             Slot::Durable(_) | Slot::Log(_) => false,
@@ -341,7 +345,14 @@ impl Slot {
     }
 
     /// Makes room for so many acts in the history of its queue, if it has one.
-    pub(crate) fn make_room(&mut self, acts: usize) -> Result<(), Refusal> {
+    pub(crate) fn make_room(&mut self, acts: usize) -> Result<(), Refusal>
+        requires { AreEffectsFew self.old }
+        ensures same { HasMoreRoom self.old self.new }
+        ensures room { OnOk result (HasRoomFor acts self.new) }
+        ensures open { OnErr result (IsSome (kind_in self.old)) }
+        ensures full { OnErr result (room_in self.old < acts) }
+        ensures errors { IfErr result (λ e. e ≡ Refusal.NoMemory) }
+    {
         match self {
             Slot::Closed => Ok(()),
             Slot::Durable(block) => block.reserve(acts),

@@ -5,6 +5,8 @@ ghost use Rattle.std.specs.List.{list_any};
 ghost use Rattle.persist.specs.Memory.{Words, words_after_crash};
 ghost use Rattle.directory.specs.declared.queue.Queue.{Queue as Place};
 ghost use Rattle.named.specs.Booting.{AreBootWords, AreRead, AreSlotsBooted, IsSlotBooted};
+ghost use Rattle.named.specs.Each.{EachBecame, EachSlot, HasFullSlot, HasMoreRoom, HasStopped};
+ghost use Rattle.named.specs.Slots.{AreEffectsFew, HasRoomFor};
 ghost use Rattle.named.specs.Rotating.{has_calls_in, AreBases, AreBegunAnew, AreQuiet};
 ghost use Rattle.named.specs.declared.slot.Slot.TheVariants.{Closed};
 
@@ -76,16 +78,25 @@ pub(crate) fn boot_each(
 }
 
 /// Makes room for so many acts in the history of each open slot's queue.
-pub(crate) fn reserve_each(slots: &mut [Slot], acts: usize) -> Result<(), Refusal> {
-    for slot in slots {
+pub(crate) fn reserve_each(slots: &mut [Slot], acts: usize) -> Result<(), Refusal>
+    requires { EachSlot AreEffectsFew slots.old }
+    ensures same { EachBecame HasMoreRoom slots.old slots.new }
+    ensures room { OnOk result (EachSlot (HasRoomFor acts) slots.new) }
+    ensures full { OnErr result (HasFullSlot slots.old acts) }
+    ensures errors { IfErr result (λ e. e ≡ Refusal.NoMemory) }
+{
+    for slot in slots.iter_mut() {
         slot.make_room(acts)?;
     }
     Ok(())
 }
 
-/// Each open slot's queue stops.
-pub(crate) fn stop_each(slots: &mut [Slot]) {
-    for slot in slots {
+/// Each open slot's queue stops, where there is room for that in its history.
+pub(crate) fn stop_each(slots: &mut [Slot])
+    requires { EachSlot (HasRoomFor 1) slots.old }
+    ensures { EachBecame HasStopped slots.old slots.new }
+{
+    for slot in slots.iter_mut() {
         slot.stop();
     }
 }

@@ -1,18 +1,20 @@
 //! A crash of a broker, and the steps of its recovery.
 
-ghost use Rattle.std.specs.Prelude.{◌≡◌, ◌≢◌, ◌↔◌, ◌⊎◌, ◌<◌, ◌≤◌, ◌+◌, ℕ, true, length, replicate, slice_set, Ok, Err, IfOk, IfErr, OnOk, OnErr, IfSome, IfNone, IsSome, None, if◌then◌else◌};
+ghost use Rattle.std.specs.Prelude.{◌≡◌, ◌≢◌, ◌↔◌, ◌⊎◌, ◌<◌, ◌≤◌, ◌+◌, ℕ, true, is_none, length, replicate, slice_get, slice_set, Some, Ok, Err, IfOk, IfErr, OnOk, OnErr, IfSome, IfNone, IsSome, None, if◌then◌else◌};
 ghost use Rattle.interleave.specs.Calls.{is_no_memory};
 ghost use Rattle.interleave.specs.State.{crash_result};
+ghost use Rattle.directory.specs.Queue.{IsOpenSlot, slot_in};
 ghost use Rattle.directory.specs.Directory.{Directory as AnyDirectory, HasQueue};
 ghost use Rattle.named.specs.Brokers.{world_at, room_at};
-ghost use Rattle.named.specs.Stopping.{HasFullQueue, IsDirectoryRead, IsNext, IsQueueRecovered, IsRecoveryStep, IsSameButRoom, IsStopped};
+ghost use Rattle.named.specs.Stopping.{HasFullQueue, IsDirectoryRead, IsFound, IsNext, IsQueueRecovered, IsReadOn};
+ghost use Rattle.named.specs.Stopping.{IsReadingDirectory, IsRecoveryStep, IsSameButRoom, IsStopped, MayReadOn, creation_after};
 
 use crate::broker::Broker;
 use crate::recovery::BrokerRecovery;
 use crate::slot::Slot;
 use crate::slots::{reserve_each, stop_each};
 use arena::{SLOTS, SlotId};
-use directory::{Directory, DirectoryRecovery, Places};
+use directory::{Creation, Directory, DirectoryRecovery, Places};
 use stepper::After;
 use words::Refusal;
 
@@ -28,6 +30,19 @@ fn recovery_from(directory: &Directory, from: usize) -> Option<BrokerRecovery>
         }
     }
     None
+}
+
+/// The creation that a crash dropped is kept in mind while recovery is under way, and no longer.
+fn creation_left(
+    creation: Option<Creation>,
+    recovery: &Option<BrokerRecovery>,
+) -> Option<Creation>
+    ensures { result ≡ creation_after creation recovery.now }
+{
+    if recovery.is_none() {
+        return None;
+    }
+    creation
 }
 
 impl Broker {
@@ -51,9 +66,19 @@ impl Broker {
         Ok(())
     }
 
-    /// Recovery found the gate of a slot open. Where it is the first to find that, the queue is the one whose creation a
-    /// crash dropped, and begins here.
-    fn open_found(&mut self, slot: SlotId) {
+    /// Where recovery is the first to find the gate of a slot open, the queue is the one whose creation a crash dropped,
+    /// and begins here.
+    fn open_found(&mut self, opened: Option<SlotId>)
+        requires reading { IsReadingDirectory self.old.recovery }
+        requires open { IfSome opened (λ slot. IsOpenSlot self.old.words.kept slot.0) }
+        ensures same { self.new ≡ record self.old { slots = self.new.slots; directory = self.new.directory } }
+        ensures found { IsFound self.old self.new opened }
+        ensures known { IfSome opened (λ slot.
+            slice_get self.new.directory slot.0 ≡ Some (slot_in self.old.words.kept slot.0)) }
+    {
+        let Some(slot) = opened else {
+            return;
+        };
         if !self.slots[slot.0 as usize].is_closed() {
             return;
         }
@@ -69,20 +94,25 @@ impl Broker {
     }
 
     /// The directory's recovery goes on, or has read the whole directory. It answers whether the broker is ready now.
-    fn read_on(&mut self, after: After<DirectoryRecovery, Places>) -> bool {
+    fn read_on(&mut self, after: After<DirectoryRecovery, Places>) -> bool
+        requires reading { IsReadingDirectory self.old.recovery }
+        requires may { MayReadOn self.old after }
+        ensures next { IsReadOn self.old self.new after }
+        ensures same { self.new ≡ record self.old { creation = self.new.creation; recovery = self.new.recovery } }
+        ensures answer { result ≡ is_none self.new.recovery }
+    {
         match after {
             After::More(next) => {
                 self.recovery = Some(BrokerRecovery::ReadDirectory { at: next });
+                false
             }
             After::Done(places) => {
                 self.directory = Directory::of(places);
                 self.recovery = recovery_from(&self.directory, 0);
-                if self.recovery.is_none() {
-                    self.creation = None;
-                }
+                self.creation = creation_left(self.creation, &self.recovery);
+                self.recovery.is_none()
             }
         }
-        self.recovery.is_none()
     }
 
     /// A load of the directory's recovery. It answers whether the broker is ready now.
@@ -91,9 +121,7 @@ impl Broker {
         ensures { IsDirectoryRead self.old self.new at (Ok result) }
     {
         let recovered = at.step(&self.layout, &mut self.memory);
-        if let Some(slot) = recovered.opened {
-            self.open_found(slot);
-        }
+        self.open_found(recovered.opened);
         self.read_on(recovered.after)
     }
 
@@ -107,9 +135,7 @@ impl Broker {
             return Ok(false);
         }
         self.recovery = recovery_from(&self.directory, slot.0 as usize + 1);
-        if self.recovery.is_none() {
-            self.creation = None;
-        }
+        self.creation = creation_left(self.creation, &self.recovery);
         Ok(self.recovery.is_none())
     }
 

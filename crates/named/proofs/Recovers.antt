@@ -1,0 +1,58 @@
+-- The steps of a broker's recovery that read the directory.
+use Rattle.std.proofs.Common.{◌≡◌, ◌≢◌, ℕ, ◌+◌, ◌<◌, ◌≤◌, ◌⊎◌, inl, inr, Bool, true, false, List, Option, Some, None, length, slice_get, slice_set, refl, sym, ap, ◌∙◌, subst, arith}
+use Rattle.std.specs.Option.{option_map}
+use Rattle.persist.specs.Memory.{Words}
+use Rattle.stepper.specs.declared.resume.After.{After}
+use Rattle.stepper.specs.declared.resume.After.TheVariants.{More, Done}
+use Rattle.directory.specs.Directory.{Directory, HasQueue, IsDirectory}
+use Rattle.directory.specs.UnderWay.{IsAtRest}
+use Rattle.directory.specs.declared.creation.Creation.{Creation}
+use Rattle.directory.specs.declared.queue.Queue.{Queue}
+use Rattle.directory.specs.declared.recovery.DirectoryRecovery.{DirectoryRecovery}
+use Rattle.named.specs.Brokers.{Brokered, IsDirectoryAt, IsReading, IsWell, is_ready_at}
+use Rattle.named.specs.Slots.{IsReadyIn, kind_in}
+use Rattle.named.specs.Stopping.{IsNext, IsReadingDirectory, MayReadOn, creation_after}
+use Rattle.named.specs.declared.recovery.BrokerRecovery.{BrokerRecovery}
+use Rattle.named.specs.declared.recovery.BrokerRecovery.TheVariants.{ReadDirectory, RecoverQueue}
+use Rattle.named.specs.declared.slot.Slot.{Slot}
+use Rattle.named.proofs.Nexts.{ready_next, rest_next}
+
+-- no queue is ready while the directory is read
+none_ready : (recovery : Option BrokerRecovery) (at : ℕ) → IsReadingDirectory recovery → is_ready_at recovery at ≡ false
+none_ready None at reading = absurd reading
+none_ready (Some (ReadDirectory d)) at reading = refl
+none_ready (Some (RecoverQueue slot)) at reading = absurd reading
+
+module _ (b : Brokered) (holds : IsWell b) (down : IsReadingDirectory b.recovery) where
+  pub not_ready : (at : ℕ) (slot : Slot) → slice_get b.slots at ≡ Some slot → IsReadyIn false slot
+  not_ready at slot here = subst (λ (r : Bool). IsReadyIn r slot) (none_ready b.recovery at down) (holds.readiness at slot here)
+
+  -- it is read on
+  pub well_read_on : (next : DirectoryRecovery) → IsReading b.words next b.creation b.directory → IsWell (record b { recovery = Some (ReadDirectory next) })
+  well_read_on next reading = record {
+    counts = holds.counts;
+    room = holds.room;
+    head = holds.head;
+    count = holds.count;
+    slots = holds.slots;
+    listed = holds.listed;
+    kinds = holds.kinds;
+    directory = reading;
+    readiness = not_ready;
+  }
+
+  -- it was read
+  pub well_read : (recovery : Option BrokerRecovery) → IsAtRest b.words b.directory → IsNext b.directory 0 recovery
+      → IsWell (record b { recovery = recovery; creation = creation_after b.creation recovery })
+  well_read recovery rest next = record {
+    counts = holds.counts;
+    room = holds.room;
+    head = holds.head;
+    count = holds.count;
+    slots = holds.slots;
+    listed = holds.listed;
+    kinds = holds.kinds;
+    directory = rest_next b.words b.directory b.creation 0 recovery rest next;
+    readiness = λ at slot here. ready_next b.slots b.directory (holds.count ∙ sym holds.listed.count) holds.kinds 0 recovery next at slot here
+        (λ less. absurd (omega (arith, less))) (λ past. not_ready at slot here);
+  }
