@@ -14,3 +14,6 @@ pub mod Stopped
 pub mod Nexts
 pub mod Recovers
 pub mod Founds
+pub mod Rotated
+pub mod Booted
+pub mod Promises

@@ -7,3 +7,4 @@ pub mod Evicting
 pub mod Rotating
 pub mod Booting
 pub mod GoingOn
+pub mod Promises

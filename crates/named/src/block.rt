@@ -72,6 +72,7 @@ impl<L: Layout + Drop> Block<L> {
     ) -> Result<Self, Refusal>
         requires some { 1 ≤ len }
         requires inside { from + len ≤ length memory.now.cached }
+        requires kept { from + len ≤ length memory.now.kept }
         ensures booted { IfOk result (λ b. state_in (words_after_crash memory.now) b
             ≡ booted_world (L.shape layout) (words_in from len memory.now)) }
         ensures well { IfOk result (IsWellIn (words_after_crash memory.now)) }

@@ -4,6 +4,7 @@ ghost use Rattle.std.specs.Prelude.{◌≡◌, ◌≢◌, ◌↔◌, ◌⊎◌, 
 ghost use Rattle.persist.specs.Image.{image_of, reading};
 ghost use Rattle.interleave.specs.Queue.{told_in, told_to};
 ghost use Rattle.interleave.specs.State.{kept_content, order_in};
+ghost use Rattle.named.specs.Booting.{AreBootWords};
 ghost use Rattle.named.specs.Slots.{world_in, IfWorld, IsSlotWell, IsWhyUnread};
 ghost use Rattle.named.specs.Brokers.{world_at, room_at, answer_at};
 
@@ -96,6 +97,7 @@ impl Broker {
     pub fn to_image(&self) -> Result<Vec<u8>, Refusal>
         ensures image { IfOk result (λ bytes. bytes.items ≡ image_of self.now.words.kept) }
         ensures read { IfOk result (λ bytes. reading bytes.items ≡ Ok self.now.words.kept) }
+        ensures boots { AreBootWords self.now.words.kept }
         ensures errors { IfErr result (λ e. e ≡ Refusal.NoMemory) }
     {
         self.memory.to_image()

@@ -4,7 +4,7 @@ ghost use Rattle.std.specs.Prelude.{◌≡◌, ◌⊎◌, ◌<◌, ◌≤◌, �
 ghost use Rattle.persist.specs.Changes.{change_of};
 ghost use Rattle.recover.specs.Table.{boot_recovery};
 ghost use Rattle.interleave.specs.Booted.{booted_world, MayRefuse};
-ghost use Rattle.named.specs.Rotating.{has_calls_in};
+ghost use Rattle.named.specs.Rotating.{has_calls_in, IsBaseIn, IsBegunAnew, IsQuietIn};
 ghost use Rattle.named.specs.Each.{HasMoreRoom};
 ghost use Rattle.named.specs.Slots.{IsAsReady, IsReadyIn, IsEvictedOutside, IsWordOf, world_evicted_in, HasRoomFor};
 ghost use Rattle.interleave.specs.Queue.{told_in, told_to};
@@ -240,6 +240,7 @@ impl Slot {
     ) -> Result<Self, Refusal>
         requires slot { slot.0 < SLOTS }
         requires room { broker_size layout.now ≤ length memory.now.cached }
+        requires kept { broker_size layout.now ≤ length memory.now.kept }
         ensures kind { IfOk result (λ s. kind_in s ≡ Some kind) }
         ensures world { IfOk result (λ s. world_in (words_after_crash memory.now) s
             ≡ Some (booted_world (shape_of kind layout.now) (block_words layout.now slot.0 memory.now))) }
@@ -364,7 +365,12 @@ impl Slot {
         &self,
         alloc: Global,
         memory: &Memory,
-    ) -> Result<Vec<u32>, Refusal> {
+    ) -> Result<Vec<u32>, Refusal>
+        requires well { IsSlotWell memory.now self.now }
+        requires quiet { IsQuietIn self.now }
+        ensures base { IfOk result (λ base. IsBaseIn memory.now self.now base.items) }
+        ensures errors { IfErr result (λ e. e ≡ Refusal.NoMemory) }
+    {
         match self {
             Slot::Closed => Ok(Vec::new(alloc)),
             Slot::Durable(block) => block.prepare_rotation(memory),
@@ -373,7 +379,12 @@ impl Slot {
     }
 
     /// The history of its queue ends, and another begins with this base.
-    pub(crate) fn begin_anew(&mut self, memory: &Memory, base: Vec<u32>) {
+    pub(crate) fn begin_anew(&mut self, memory: &Memory, base: Vec<u32>)
+        requires well { IsSlotWell memory.now self.old }
+        requires quiet { IsQuietIn self.old }
+        requires base { IsBaseIn memory.now self.old base.items }
+        ensures { IsBegunAnew memory.now self.old self.new }
+    {
         match self {
             Slot::Closed => {}
             Slot::Durable(block) => block.begin_anew(memory, base),
