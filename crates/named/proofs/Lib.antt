@@ -9,3 +9,4 @@ pub mod Stopped
 pub mod Nexts
 pub mod Recovers
 pub mod Founds
+pub mod Readings
