@@ -10,3 +10,4 @@ pub mod Nexts
 pub mod Recovers
 pub mod Founds
 pub mod Readings
+pub mod Queues
