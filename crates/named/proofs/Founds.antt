@@ -249,3 +249,11 @@ pub found_here : (b new : Brokered) (slot : SlotId) (s : Slot) → slice_get b.s
     → IsFoundIn b new slot (world_at b slot.0)
 found_here b new slot s here closed found =
     subst (IsFoundIn b new slot) (sym (ap (world_of b.words) here ∙ world_closed b.words s closed)) found
+
+pub found_known : (b : Brokered) (slot : SlotId) (s : Slot) → slice_get b.slots slot.0 ≡ Some s → is_none (kind_in s) ≡ false → IsFound b b (Some slot)
+found_known b slot s here is_open = subst (IsFoundIn b b slot) (sym (ap (world_of b.words) here)) (alike s is_open)
+  where
+    alike : (x : Slot) → is_none (kind_in x) ≡ false → IsFoundIn b b slot (world_in b.words x)
+    alike Closed e = absurd (cc)
+    alike (Durable block) e = record { directory = refl; worlds = λ j. refl }
+    alike (Log block) e = record { directory = refl; worlds = λ j. refl }

@@ -17,3 +17,5 @@ pub mod Founds
 pub mod Rotated
 pub mod Booted
 pub mod Promises
+pub mod Readings
+pub mod Queues
