@@ -10,6 +10,14 @@ mod crashes;
 #[cfg(test)]
 mod creations;
 #[cfg(test)]
+mod damaged;
+#[cfg(test)]
+mod drawn;
+#[cfg(test)]
 mod evictions;
 #[cfg(test)]
+mod images;
+#[cfg(test)]
 mod refusals;
+#[cfg(test)]
+mod rotations;

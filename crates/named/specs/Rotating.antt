@@ -1,5 +1,5 @@
 -- A rotation of a broker: the histories of all its queues end, and others begin.
-use Rattle.std.specs.Prelude.{◌≡◌, ℕ, Bool, false, Result, Ok, Err, if◌then◌else◌}
+use Rattle.std.specs.Prelude.{◌≡◌, ℕ, Bool, false, ◌||◌, is_some, Result, Ok, Err, if◌then◌else◌}
 use Rattle.std.specs.List.{list_any}
 use Rattle.words.specs.declared.refusal.Refusal.{Refusal}
 use Rattle.words.specs.declared.refusal.Refusal.TheVariants.{NotReady, Busy, NoMemory}
@@ -19,7 +19,8 @@ has_calls_in (Log block) = some_client_calls block.core.calls
 abbrev pub rotate_result : Bool → Brokered → Result Unit Refusal
 rotate_result full b =
     if is_down b then Err NotReady
-    else (if list_any has_calls_in b.slots then Err Busy else (if full then Err NoMemory else Ok tt))
+    else (if is_some b.creation || list_any has_calls_in b.slots then Err Busy
+      else (if full then Err NoMemory else Ok tt))
 
 -- each queue's history ends, and another begins on what it holds and tells
 pub record IsRotated (old new : Brokered) : Type 0 where
