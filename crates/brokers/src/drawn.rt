@@ -215,6 +215,6 @@ fn drawn_calls_take_effect(rt: HostRuntime) -> Result<(), Fail> {
     for draw in 0..12 {
         count = count.saturating_add(served(rt.alloc(), draw).unwrap_or(0));
     }
-    assert!(rt; count > 64, "{count} calls");
+    assert!(rt; count > 32, "{count} calls");
     Ok(())
 }
