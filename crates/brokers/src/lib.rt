@@ -18,6 +18,8 @@ mod evictions;
 #[cfg(test)]
 mod images;
 #[cfg(test)]
+mod others;
+#[cfg(test)]
 mod refusals;
 #[cfg(test)]
 mod rotations;
