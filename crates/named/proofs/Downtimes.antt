@@ -8,7 +8,7 @@ use Rattle.arena.specs.declared.broker.SlotId.{SlotId}
 use Rattle.stepper.specs.declared.resume.After.{After}
 use Rattle.stepper.specs.declared.resume.After.TheVariants.{More, Done}
 use Rattle.directory.specs.Creation.{successor}
-use Rattle.directory.specs.Directory.{Directory, HasQueue, IsFree}
+use Rattle.directory.specs.Directory.{Directory, IsFree}
 use Rattle.directory.specs.Queue.{IsOpenSlot}
 use Rattle.directory.proofs.Recoveries.{recovery_opens}
 use Rattle.directory.specs.declared.creation.Creation.{Creation}
@@ -17,10 +17,10 @@ use Rattle.directory.specs.declared.recovery.DirectoryRecovery.{DirectoryRecover
 use Rattle.protocol.specs.declared.acts.Act.TheVariants.{Recover}
 use Rattle.interleave.specs.Calls.{is_no_memory}
 use Rattle.interleave.specs.State.{State, after_recover, recover_result}
-use Rattle.named.specs.Brokers.{Brokered, IsDirectoryAt, IsDirectoryDown, IsOpened, IsStepCreated, IsWell, quiet, words_created, world_at, world_of}
-use Rattle.named.specs.GoingOn.{BrokerGoesOn, HasOnlyOneMore, IsDowntime, IsGoneOn, IsOfCreation}
+use Rattle.named.specs.Brokers.{Brokered, IsDirectoryAt, IsDirectoryDown, IsStepCreated, IsWell, quiet, world_at, world_of}
+use Rattle.named.specs.GoingOn.{BrokerGoesOn, IsDowntime, IsGoneOn}
 use Rattle.named.specs.Slots.{acted, answered, kind_in, world_in}
-use Rattle.named.specs.Stopping.{IsDirectoryRead, IsFound, IsFoundFirst, IsFoundIn, IsKnownAlike, IsQueueOn, IsQueueRecovered, IsReadOn, IsRecoveryStep, IsStopped, creation_after, found_by}
+use Rattle.named.specs.Stopping.{IsDirectoryRead, IsFound, IsFoundFirst, IsFoundIn, IsKnownAlike, IsQueueOn, IsQueueRecovered, IsReadOn, IsRecoveryStep, IsStopped, found_by}
 use Rattle.named.specs.declared.recovery.BrokerRecovery.{BrokerRecovery}
 use Rattle.named.specs.declared.recovery.BrokerRecovery.TheVariants.{ReadDirectory, RecoverQueue}
 use Rattle.named.specs.declared.slot.Slot.{Slot}
@@ -120,9 +120,9 @@ first_downtime old new slot holds below none creation first = record {
   goes_on = opened_goes_on old new slot.0 first.creation.queue holds free first.directory first.others;
   only = λ at queue has. elim (only_more old.directory slot.0 first.creation.queue at queue (slice_get_within old.directory slot.0 None free)
       (ap (λ (d : Directory). slice_get d at) (sym first.directory) ∙ has)) [
-    | inl there ↦ inl there
-    | inr its ↦ inr (record { creation = first.creation; is = first.dropped; slot_is = its.0 ∙ ap (λ (s : SlotId). s.0) first.here; queue_is = its.1 })
-  ];
+        | inl there ↦ inl there
+        | inr its ↦ inr (record { creation = first.creation; is = first.dropped; slot_is = its.0 ∙ ap (λ (s : SlotId). s.0) first.here; queue_is = its.1 })
+      ];
   creation = creation;
 }
   where

@@ -1,5 +1,5 @@
 -- A step of recovery that reads the directory: one load, and what is known then.
-use Rattle.std.proofs.Common.{◌≡◌, ◌≢◌, ℕ, ◌+◌, ◌<◌, ◌≤◌, ◌==◌, ◌⊎◌, inl, inr, Bool, true, false, if◌then◌else◌, List, Option, Some, None, length, slice_get, slice_index, slice_set, refl, sym, ap, ◌∙◌, subst, arith}
+use Rattle.std.proofs.Common.{◌≡◌, ℕ, ◌+◌, ◌<◌, ◌≤◌, ◌==◌, ◌⊎◌, inl, inr, Bool, true, false, if◌then◌else◌, List, Option, Some, None, length, slice_get, slice_index, slice_set, refl, sym, ap, ◌∙◌, subst, arith}
 use Rattle.std.specs.Prelude.{IfSome, nat_lt}
 use Rattle.std.proofs.lemmas.Bool.{cases_lt, ltb-false}
 use Rattle.arena.specs.Shape.{Counts}
@@ -13,7 +13,7 @@ use Rattle.directory.specs.Queue.{IsOpenSlot, directory_of, gate_at, queue_in, q
 use Rattle.directory.specs.Recovering.{Finds, IsRecovering}
 use Rattle.directory.specs.Recovery.{access_of, past_slot, recovered, recovered_at, recovery_at, slot_at}
 use Rattle.directory.specs.Step.{after_one, value_found}
-use Rattle.directory.specs.UnderWay.{HasDirectory, HaveSameDirectory, IsAtRest}
+use Rattle.directory.specs.UnderWay.{HaveSameDirectory, IsAtRest}
 use Rattle.directory.specs.declared.creation.Creation.{Creation}
 use Rattle.directory.specs.declared.recovery.DirectoryPoint.{DirectoryPoint}
 use Rattle.directory.specs.declared.recovery.DirectoryPoint.TheVariants.{LoadGate, LoadFirstName, LoadSecondName, LoadKind}
@@ -22,9 +22,7 @@ use Rattle.directory.specs.declared.recovery.Recovered.{Recovered}
 use Rattle.directory.proofs.Creations.{directory_is, kept_directory}
 use Rattle.directory.proofs.Recoveries.{recovery_finds, recovery_moves, recovery_opens}
 use Rattle.directory.proofs.Sounds.{head_moves}
-use Rattle.interleave.specs.State.{State}
 use Rattle.named.specs.Brokers.{Brokered, IsDirectoryAt, IsMaybeWith, IsReading, IsWell, gates_loaded, quiet, world_at, world_of}
-use Rattle.named.specs.Slots.{world_in}
 use Rattle.named.specs.Stopping.{IsFound, IsFoundFirst, IsFoundIn, IsKnownAlike, IsReadOn, MayReadOn, creation_after, found_world, words_read}
 use Rattle.named.specs.declared.recovery.BrokerRecovery.{BrokerRecovery}
 use Rattle.named.specs.declared.recovery.BrokerRecovery.TheVariants.{ReadDirectory}
@@ -135,7 +133,7 @@ module _ (ws : Words) (known whole : Directory) (creation : Option Creation) (mo
 
       by_gate : (o : Bool) → (slice_index ws.cached (gate_at slot.0) == OPEN_GATE) ≡ o
           → IfSome (let r : Recovered = if o then record { opened = Some slot; after = More (recovery_at places (LoadFirstName slot)) } else record { opened = None; after = past_slot places slot } in r.opened)
-              (λ s. slice_get known s.0 ≡ Some (slot_in ws.kept s.0))
+          (λ s. slice_get known s.0 ≡ Some (slot_in ws.kept s.0))
           → slice_get known slot.0 ≡ slice_get whole slot.0
       by_gate true e is_known = is_known ∙ sym (rest.slots slot.0 below).same
       by_gate false e is_known = gate_closed slot.0 below e
@@ -189,7 +187,7 @@ may_read_on c ws at b holds is words opened = go (recovered at (value_found c (a
         let found : places ≡ reading.whole = subst (Finds (after_one c (access_of at) ws) reading.whole) e finds in
         let all : 8 ≤ slot_at at.at + 1 = done_gates at.places at.at (value_found c (access_of at) ws) places e in
         let same : directory_of b.words.kept ≡ b.directory = directory_is b.words.kept b.directory holds.listed.count
-            (λ slot below. known slot (omega (arith, below, all)) ∙ (reading.recovering.rest.slots slot below).same) in
+        (λ slot below. known slot (omega (arith, below, all)) ∙ (reading.recovering.rest.slots slot below).same) in
         let is_whole : reading.whole ≡ b.directory = sym (kept_directory b.words reading.whole reading.recovering.rest) ∙ same in
         (found ∙ is_whole, subst (IsAtRest b.words) is_whole reading.recovering.rest)
 

@@ -1,6 +1,6 @@
 -- What stays of a broker over its acts: its queues, and their histories.
 use Rattle.std.specs.Prelude.{◌≡◌, ◌≢◌, ◌⊎◌, ℕ, Option, Some, None}
-use Rattle.directory.specs.Directory.{Directory, HasQueue}
+use Rattle.directory.specs.Directory.{HasQueue}
 use Rattle.directory.specs.declared.creation.Creation.{Creation}
 use Rattle.directory.specs.declared.queue.Queue.{Queue}
 use Rattle.interleave.specs.Standing.{GoesOn}

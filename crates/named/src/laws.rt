@@ -38,7 +38,7 @@ pub fn acts_go_on()
         → IsWell old → old.recovery ≡ None → old.creation ≡ Some creation
         → IsStepCreated old new creation result (successor creation)
         → ((other : ℕ) → IfOk result (λ opened. IfSome opened (λ slot. other ≢ slot.0))
-            → quiet (world_at new other) ≡ quiet (world_at old other))
+        → quiet (world_at new other) ≡ quiet (world_at old other))
         → BrokerGoesOn old new }
 {}
 
