@@ -123,12 +123,16 @@ fn crashes_twice_on_the_way(alloc: Global, first: u32, second: u32) -> Result<bo
     tells(alloc, &broker, taken(2, Reply::Got(9)), &[])
 }
 
+/// How many steps recovery takes where the claim was kept: three more than where it was not.
+fn recovers_claimed(alloc: Global) -> Result<u32, Refusal> {
+    let mut broker = stopped(alloc, 15)?;
+    recover(&mut broker)
+}
+
 #[test]
 fn two_crashes_on_the_way(rt: HostRuntime) -> Result<(), Fail> {
     let alloc = rt.alloc();
-    let mut whole = stopped(alloc, 15);
-    let steps = whole.as_mut().map(recover);
-    assert!(rt; matches!(steps, Ok(Ok(56))));
+    assert!(rt; recovers_claimed(alloc) == Ok(14 + 23 + 19));
     // The shortest recovery: the durable queue's head is kept, and so is the log queue's.
     for first in 0..=56 {
         for second in 0..=11 {

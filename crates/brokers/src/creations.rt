@@ -20,7 +20,8 @@ const LONG: &[u8] = b"orders-2_eu-west";
 const MORE: u32 = 3 + 7;
 
 /// A creation in slot 0 by so many steps, after which the environment keeps the words of the set's bits, from the first
-/// word of the slot in the directory. Whether it is there after a crash if its gate is kept open, else the slot is free.
+/// word of the slot in the directory. Whether it is there after a crash if its gate is kept open, else the slot is
+/// free.
 fn crashes_after(alloc: Global, kind: Kind, steps: u32, set: u32) -> Result<bool, Refusal> {
     let mut broker = Broker::make(alloc, 1, 3)?;
     broker.create(LONG, kind)?;

@@ -32,7 +32,7 @@ fn passed<T: Drop>(answer: Result<T, Refusal>) -> Result<(), Refusal> {
 
 /// One of the first four slots, where most queues are.
 fn slot(rng: &mut Pcg32) -> SlotId {
-    SlotId(below(rng, 4) as u8)
+    SlotId(below(rng, 4).min(3) as u8)
 }
 
 /// A call starts in a drawn slot.
@@ -54,7 +54,7 @@ fn create(broker: &mut Broker, rng: &mut Pcg32) -> Result<(), Refusal> {
     } else {
         Kind::Log
     };
-    let name = [b'a' + below(rng, 6) as u8];
+    let name = [b'a' + below(rng, 6).min(5) as u8];
     passed(broker.create(&name, kind))
 }
 
@@ -100,7 +100,7 @@ fn act(
     layout: &BrokerLayout,
     number: u64,
 ) -> Result<(), Refusal> {
-    let client = Client(below(rng, layout.durable().clients()) as u8);
+    let client = Client(below(rng, layout.durable().clients()).min(15) as u8);
     let down = broker.list().is_err();
     match below(rng, 128) {
         0 => broker.crash(),
@@ -151,17 +151,22 @@ fn has_its_gates(alloc: Global, broker: &Broker, places: &Places) -> Result<bool
     Ok(right && more <= 1)
 }
 
-/// What is there now, if all is right: the queues of before are.
-fn seen(alloc: Global, broker: &Broker, before: Places) -> Result<Option<Places>, Refusal> {
-    let explained = are_explained(alloc, broker)?;
-    let Ok(places) = broker.list() else {
-        return Ok(if explained { Some(before) } else { None });
+/// Whether the queues of these places are there, where the broker is ready.
+fn has_them(broker: &Broker, places: &Places) -> bool {
+    match broker.list() {
+        Ok(now) => are_still_there(places, now),
+        Err(_) => true,
+    }
+}
+
+/// Notes the queues that are there, where the broker is ready.
+fn note(broker: &Broker, places: &mut Places) {
+    let Ok(now) = broker.list() else {
+        return;
     };
-    Ok(if explained && are_still_there(&before, places) {
-        Some(*places)
-    } else {
-        None
-    })
+    for (place, queue) in places.iter_mut().zip(now) {
+        *place = *queue;
+    }
 }
 
 /// So many drawn acts: how many queues there are then, if all was right after each of them.
@@ -171,11 +176,10 @@ fn drawn(alloc: Global, draw: u64, clients: u32, acts: u64) -> Result<Option<usi
     let mut places = [None; SLOTS];
     for number in 0..acts {
         act(&mut broker, &mut rng, &layout, number)?;
-        let Some(now) = seen(alloc, &broker, places)? else {
-            return Ok(None);
-        };
-        places = now;
-        if number % 16 == 0 && broker.list().is_ok() && !has_its_gates(alloc, &broker, &places)? {
+        let right = are_explained(alloc, &broker)? && has_them(&broker, &places);
+        note(&broker, &mut places);
+        let ready = number % 16 == 0 && broker.list().is_ok();
+        if !right || ready && !has_its_gates(alloc, &broker, &places)? {
             return Ok(None);
         }
     }

@@ -4,7 +4,7 @@ use crate::acts::{
     are_explained, begin, create, create_on, effects, finish, holds, kept, kept_at, recover_on,
 };
 use crate::calls::two_queues;
-use arena::{BLOCKS_FROM, BrokerLayout, SlotId};
+use arena::{BrokerLayout, SlotId};
 use named::Broker;
 use persist::{Change, KeptWords, Memory};
 use std::alloc::Global;
@@ -135,7 +135,7 @@ fn evictions_keep_what_recovery_stores(rt: HostRuntime) -> Result<(), Fail> {
 
 /// The word of a slot's block that is this one of a queue of its own.
 fn word_of(layout: &BrokerLayout, slot: u8, word: usize) -> usize {
-    BLOCKS_FROM + (slot as usize % 8) * layout.block_size() + word
+    layout.block(SlotId(slot % 8)).saturating_add(word)
 }
 
 /// Three queues, durable in slots 0 and 2 and log in slot 1, in each of which a client has stored its link.

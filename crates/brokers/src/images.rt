@@ -213,16 +213,23 @@ fn is_begun_rightly(alloc: Global, image: &[u8]) -> Result<bool, Refusal> {
     Ok(right && are_explained(alloc, &broker)?)
 }
 
+/// Changes a byte in the bits of the change; a second time changes it back.
+fn flip(image: &mut [u8], at: usize, change: u8) {
+    if let Some(byte) = image.get_mut(at) {
+        *byte ^= change;
+    }
+}
+
 /// Whether each byte of an image may be changed so: it is refused by name, or one word differs.
 fn is_checked(alloc: Global, broker: &Broker, change: u8) -> Result<bool, Refusal> {
     let whole = kept(alloc, broker)?;
     let mut image = broker.to_image()?;
     let mut right = true;
     for at in 0..image.len() {
-        image[at] ^= change;
+        flip(image.as_mut_slice(), at, change);
         right &= is_read_rightly(alloc, image.as_slice(), at, &whole);
         right &= at < 12 || is_begun_rightly(alloc, image.as_slice())?;
-        image[at] ^= change;
+        flip(image.as_mut_slice(), at, change);
     }
     Ok(right)
 }

@@ -11,8 +11,8 @@ use std::alloc::Global;
 use std::test::Fail;
 use words::{Call, Client, Kind, Refusal, Reply, Row, Told};
 
-/// A durable queue in slot 0 that held 7 and a log queue in slot 1 that held 9, put in by number 1, when their histories
-/// began anew.
+/// A durable queue in slot 0 that held 7 and a log queue in slot 1 that held 9, put in by number 1, when their
+/// histories began anew.
 fn rotated(alloc: Global) -> Result<Broker, Refusal> {
     let mut broker = two_queues(alloc, 1, 3)?;
     finish(&mut broker, 0, 0, 0, Call::Enq(7))?;
