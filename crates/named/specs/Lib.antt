@@ -3,6 +3,7 @@ pub mod Slots
 pub mod Each
 pub mod Brokers
 pub mod Stopping
+pub mod Telling
 pub mod Evicting
 pub mod Rotating
 pub mod Booting

@@ -8,6 +8,7 @@ ghost use Rattle.directory.specs.Directory.{Directory as AnyDirectory, HasQueue}
 ghost use Rattle.named.specs.Brokers.{IsWell, room_at};
 ghost use Rattle.named.specs.Stopping.{HasFullQueue, IsDirectoryRead, IsFound, IsNext, IsQueueRecovered, IsReadOn};
 ghost use Rattle.named.specs.Stopping.{IsReadingDirectory, IsRecoveryStep, IsSameButRoom, IsStopped, MayReadOn, creation_after};
+ghost use Rattle.named.specs.Telling.{TellAtReady};
 
 use crate::broker::Broker;
 use crate::recovery::BrokerRecovery;
@@ -100,6 +101,7 @@ impl Broker {
         requires reading { IsReadingDirectory self.old.recovery }
         requires may { MayReadOn self.old after }
         ensures next { IsReadOn self.old self.new after }
+        ensures told { TellAtReady self.old self.new }
         ensures same { self.new ≡ record self.old { creation = self.new.creation; recovery = self.new.recovery } }
         ensures answer { result ≡ is_none self.new.recovery }
     {
@@ -120,7 +122,8 @@ impl Broker {
     /// A load of the directory's recovery. It answers whether the broker is ready now.
     fn read_directory(&mut self, at: DirectoryRecovery) -> bool
         requires { self.old.recovery ≡ Some (BrokerRecovery.ReadDirectory at) }
-        ensures { IsDirectoryRead self.old self.new at (Ok result) }
+        ensures read { IsDirectoryRead self.old self.new at (Ok result) }
+        ensures told { TellAtReady self.old self.new }
     {
         let recovered = at.step(&self.layout, &mut self.memory);
         self.open_found(recovered.opened);
@@ -130,7 +133,8 @@ impl Broker {
     /// A step of recovery of the queue in a slot. It answers whether the broker is ready now.
     fn recover_queue(&mut self, slot: SlotId) -> Result<bool, Refusal>
         requires { self.old.recovery ≡ Some (BrokerRecovery.RecoverQueue slot) }
-        ensures { IsQueueRecovered self.old self.new slot.0 result }
+        ensures recovered { IsQueueRecovered self.old self.new slot.0 result }
+        ensures told { TellAtReady self.old self.new }
     {
         let ready = self.slots[slot.0 as usize].recover_step(&mut self.memory)?;
         if !ready {
@@ -147,6 +151,7 @@ impl Broker {
     /// for want of memory (NoMemory).
     pub fn recover_step(&mut self) -> Result<bool, Refusal>
         ensures step { IsRecoveryStep self.old self.new result self.old.recovery }
+        ensures told { TellAtReady self.old self.new }
     {
         match self.recovery {
             None => Err(Refusal::AlreadyReady),

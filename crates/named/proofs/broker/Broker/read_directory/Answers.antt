@@ -8,8 +8,9 @@ use Rattle.directory.specs.Queue.{IsOpenSlot, slot_in}
 use Rattle.directory.specs.declared.creation.Creation.{Creation}
 use Rattle.directory.specs.declared.recovery.Recovered.{Recovered}
 use Rattle.words.specs.declared.refusal.Refusal.{Refusal}
-use Rattle.named.specs.Brokers.{Brokered, IsWell}
+use Rattle.named.specs.Brokers.{Brokered, IsWell, is_ready_at}
 use Rattle.named.specs.Stopping.{IsDirectoryRead, IsFound, IsReadOn, MayReadOn, found_by, words_read}
+use Rattle.named.specs.declared.recovery.BrokerRecovery.{BrokerRecovery}
 use Rattle.named.specs.declared.recovery.BrokerRecovery.TheVariants.{ReadDirectory}
 use Rattle.named.specs.declared.slot.Slot.{Slot}
 use Rattle.named.proofs.Readings.{found_opens, found_over, may_read_on, read_over, well_loaded, worlds_loaded}
@@ -49,8 +50,8 @@ read_on-requires-clause-may c =
     (subst (λ (r : Recovered). IfSome r.opened (λ slot. slice_get now.directory slot.0 ≡ Some (slot_in c.step-recovered.new.memory.kept slot.0))) it c.open_found.ensures.known) in
     subst (λ (r : Recovered). MayReadOn now r.after) (sym it) (may_read_on b.counts b.words c.args.at now c.open_found.ensures.well is2 words known)
 
-pub returns : goal.returns
-returns c =
+pub returns-clause-read : goal.returns-clause-read
+returns-clause-read c =
     let b : Brokered = record { counts = c.self.inside.layout; words = c.self.inside.memory; slots = c.self.inside.slots.items; directory = c.self.inside.directory; creation = c.self.inside.creation; recovery = c.self.inside.recovery } in
     let is : b.recovery ≡ Some (ReadDirectory c.args.at) = ap (λ (x : Brokered). x.recovery) c.self.view_is ∙ c.requires in
     let now : Brokered = c.open_found.new.self in
@@ -76,3 +77,10 @@ returns c =
       answer = ap (λ (x : Bool). let r : Result Bool Refusal = Ok x in r) c.read_on.ensures.answer;
     } in
     subst (λ (x : Brokered). IsDirectoryRead x new c.args.at result) c.self.view_is read
+
+pub returns-clause-told : goal.returns-clause-told
+returns-clause-told c = λ at before now.
+    let b : Brokered = record { counts = c.self.inside.layout; words = c.self.inside.memory; slots = c.self.inside.slots.items; directory = c.self.inside.directory; creation = c.self.inside.creation; recovery = c.self.inside.recovery } in
+    let is : b.recovery ≡ Some (ReadDirectory c.args.at) = ap (λ (x : Brokered). x.recovery) c.self.view_is ∙ c.requires in
+    let same : c.open_found.new.self.recovery ≡ c.args.self.now.recovery = ap (λ (x : Brokered). x.recovery) c.open_found.ensures.same ∙ ap (λ (x : Brokered). x.recovery) c.self.view_is in
+    c.read_on.ensures.told at (ap (λ (r : Option BrokerRecovery). is_ready_at r at) same ∙ before) now

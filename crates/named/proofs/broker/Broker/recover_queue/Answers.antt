@@ -3,13 +3,13 @@ use Rattle.std.specs.Prelude.{is_none}
 use Rattle.std.proofs.lemmas.Option.{slice_get_read}
 use Rattle.words.specs.declared.refusal.Refusal.{Refusal}
 use Rattle.directory.specs.declared.creation.Creation.{Creation}
-use Rattle.named.specs.Brokers.{Brokered, IsWell, with_slot}
+use Rattle.named.specs.Brokers.{Brokered, IsWell, is_ready_at, with_slot}
 use Rattle.named.specs.Stopping.{IsNext, IsQueueRecovered, creation_after}
 use Rattle.named.specs.declared.recovery.BrokerRecovery.{BrokerRecovery}
 use Rattle.named.specs.declared.recovery.BrokerRecovery.TheVariants.{RecoverQueue}
 use Rattle.named.specs.declared.slot.Slot.{Slot}
 use Rattle.named.proofs.Kept.{slot_is_well}
-use Rattle.named.proofs.Queues.{its_slot, ready_by, recovered, recovering, well_ready, well_recovering}
+use Rattle.named.proofs.Queues.{its_slot, ready_by, recovered, recovering, tells_ready, well_ready, well_recovering}
 use Rattle.named.proofs.broker.Broker.recover_queue.Goals as goal
 
 pub recover_step-requires : goal.recover_step-requires
@@ -29,8 +29,8 @@ invariant_of-self c =
     let yet : ready_by c.recover_step.result ≡ false = ap ready_by c.in_err-ready.was in
     well_recovering b c.args.slot was c.recover_step.new.self c.recover_step.new.memory c.self.invariant here c.recover_step.ensures.well c.recover_step.ensures.outside c.recover_step.ensures.same turn c.recover_step.result c.recover_step.ensures.world c.recover_step.ensures.result yet
 
-pub returns-in_err-ready : goal.returns-in_err-ready
-returns-in_err-ready c =
+pub returns-in_err-ready-clause-recovered : goal.returns-in_err-ready-clause-recovered
+returns-in_err-ready-clause-recovered c =
     let b : Brokered = record { counts = c.self.inside.layout; words = c.self.inside.memory; slots = c.self.inside.slots.items; directory = c.self.inside.directory; creation = c.self.inside.creation; recovery = c.self.inside.recovery } in
     let turn : b.recovery ≡ Some (RecoverQueue c.args.slot) = ap (λ (x : Brokered). x.recovery) c.self.view_is ∙ c.requires in
     let was : Slot = c.index_mut.result.now in
@@ -50,8 +50,8 @@ invariant_of-self-then-not-ready c =
     let yet : ready_by c.recover_step.result ≡ false = ap ready_by c.in_ok-ready.was ∙ c.if-not-ready.true in
     well_recovering b c.args.slot was c.recover_step.new.self c.recover_step.new.memory c.self.invariant here c.recover_step.ensures.well c.recover_step.ensures.outside c.recover_step.ensures.same turn c.recover_step.result c.recover_step.ensures.world c.recover_step.ensures.result yet
 
-pub returns-then-not-ready : goal.returns-then-not-ready
-returns-then-not-ready c =
+pub returns-then-not-ready-clause-recovered : goal.returns-then-not-ready-clause-recovered
+returns-then-not-ready-clause-recovered c =
     let b : Brokered = record { counts = c.self.inside.layout; words = c.self.inside.memory; slots = c.self.inside.slots.items; directory = c.self.inside.directory; creation = c.self.inside.creation; recovery = c.self.inside.recovery } in
     let turn : b.recovery ≡ Some (RecoverQueue c.args.slot) = ap (λ (x : Brokered). x.recovery) c.self.view_is ∙ c.requires in
     let was : Slot = c.index_mut.result.now in
@@ -75,8 +75,8 @@ invariant_of-self-2 c =
     subst (λ (k : Option Creation). let x : Brokered = record now { recovery = recovery; creation = k } in IsWell x) (sym c.creation_left-self-inside.ensures)
     (well_ready b c.args.slot was c.recover_step.new.self c.recover_step.new.memory c.self.invariant here c.recover_step.ensures.well c.recover_step.ensures.outside c.recover_step.ensures.same turn c.recover_step.result c.recover_step.ensures.world c.recover_step.ensures.result ready recovery next)
 
-pub returns : goal.returns
-returns c =
+pub returns-clause-recovered : goal.returns-clause-recovered
+returns-clause-recovered c =
     let b : Brokered = record { counts = c.self.inside.layout; words = c.self.inside.memory; slots = c.self.inside.slots.items; directory = c.self.inside.directory; creation = c.self.inside.creation; recovery = c.self.inside.recovery } in
     let turn : b.recovery ≡ Some (RecoverQueue c.args.slot) = ap (λ (x : Brokered). x.recovery) c.self.view_is ∙ c.requires in
     let was : Slot = c.index_mut.result.now in
@@ -92,3 +92,15 @@ returns c =
     let left : IsQueueRecovered b new c.args.slot.0 answer =
     subst (λ (k : Option Creation). let x : Brokered = record now { recovery = recovery; creation = k } in IsQueueRecovered b x c.args.slot.0 answer) (sym c.creation_left-self-inside.ensures) done in
     subst (λ (x : Brokered). IsQueueRecovered x new c.args.slot.0 (Ok c.is_none.result)) c.self.view_is (subst (λ (x : Bool). IsQueueRecovered b new c.args.slot.0 (Ok x)) answered left)
+
+pub returns-clause-told : goal.returns-clause-told
+returns-clause-told c = λ at before now.
+    let b : Brokered = record { counts = c.self.inside.layout; words = c.self.inside.memory; slots = c.self.inside.slots.items; directory = c.self.inside.directory; creation = c.self.inside.creation; recovery = c.self.inside.recovery } in
+    let turn : b.recovery ≡ Some (RecoverQueue c.args.slot) = ap (λ (x : Brokered). x.recovery) c.self.view_is ∙ c.requires in
+    let was : Slot = c.index_mut.result.now in
+    let here : slice_get b.slots c.args.slot.0 ≡ Some was = slice_get_read b.slots 8 c.args.slot.0 was (sym c.self.invariant.count) (its_slot b c.self.invariant c.args.slot turn) c.index_mut.ensures.value in
+    let ready : c.recover_step.result ≡ Ok true = c.in_ok-ready.was ∙ ap (λ (x : Bool). let r : Result Bool Refusal = Ok x in r) c.if-not-ready.false in
+    let recovery : Option BrokerRecovery = c.recovery_from-self-inside.result in
+    let next : IsNext b.directory (c.args.slot.0 + 1) recovery = c.recovery_from-self-inside.ensures in
+    let was_not : is_ready_at b.recovery at ≡ false = subst (λ (x : Brokered). is_ready_at x.recovery at ≡ false) (sym c.self.view_is) before in
+    tells_ready b c.args.slot was c.recover_step.new.self c.recover_step.new.memory c.self.invariant here c.recover_step.ensures.well c.recover_step.ensures.outside c.recover_step.ensures.same turn c.recover_step.result c.recover_step.ensures.world c.recover_step.ensures.result ready recovery next at was_not now
