@@ -11,3 +11,4 @@ pub mod Recovers
 pub mod Founds
 pub mod Readings
 pub mod Queues
+pub mod Lastings

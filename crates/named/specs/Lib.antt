@@ -4,6 +4,7 @@ pub mod Each
 pub mod Brokers
 pub mod Stopping
 pub mod Telling
+pub mod Lasting
 pub mod Evicting
 pub mod Rotating
 pub mod Booting

@@ -8,6 +8,7 @@ ghost use Rattle.directory.specs.Directory.{Directory as AnyDirectory, HasQueue}
 ghost use Rattle.named.specs.Brokers.{IsWell, room_at};
 ghost use Rattle.named.specs.Stopping.{HasFullQueue, IsDirectoryRead, IsFound, IsNext, IsQueueRecovered, IsReadOn};
 ghost use Rattle.named.specs.Stopping.{IsReadingDirectory, IsRecoveryStep, IsSameButRoom, IsStopped, MayReadOn, creation_after};
+ghost use Rattle.named.specs.Lasting.{left_after_read, most_kept, steps_left};
 ghost use Rattle.named.specs.Telling.{TellAtReady};
 
 use crate::broker::Broker;
@@ -102,6 +103,7 @@ impl Broker {
         requires may { MayReadOn self.old after }
         ensures next { IsReadOn self.old self.new after }
         ensures told { TellAtReady self.old self.new }
+        ensures left { steps_left self.new ≤ left_after_read self.old after }
         ensures same { self.new ≡ record self.old { creation = self.new.creation; recovery = self.new.recovery } }
         ensures answer { result ≡ is_none self.new.recovery }
     {
@@ -124,6 +126,7 @@ impl Broker {
         requires { self.old.recovery ≡ Some (BrokerRecovery.ReadDirectory at) }
         ensures read { IsDirectoryRead self.old self.new at (Ok result) }
         ensures told { TellAtReady self.old self.new }
+        ensures falls { steps_left self.new < steps_left self.old }
     {
         let recovered = at.step(&self.layout, &mut self.memory);
         self.open_found(recovered.opened);
@@ -135,6 +138,7 @@ impl Broker {
         requires { self.old.recovery ≡ Some (BrokerRecovery.RecoverQueue slot) }
         ensures recovered { IsQueueRecovered self.old self.new slot.0 result }
         ensures told { TellAtReady self.old self.new }
+        ensures falls { IfOk result (λ ready. steps_left self.new < steps_left self.old) }
     {
         let ready = self.slots[slot.0 as usize].recover_step(&mut self.memory)?;
         if !ready {
@@ -152,6 +156,8 @@ impl Broker {
     pub fn recover_step(&mut self) -> Result<bool, Refusal>
         ensures step { IsRecoveryStep self.old self.new result self.old.recovery }
         ensures told { TellAtReady self.old self.new }
+        ensures few { steps_left self.old ≤ 32 + most_kept self.old }
+        ensures falls { IfOk result (λ ready. steps_left self.new < steps_left self.old) }
     {
         match self.recovery {
             None => Err(Refusal::AlreadyReady),

@@ -1,4 +1,4 @@
-use Rattle.std.proofs.Common.{rules, ◌≡◌, ◌∙◌, ℕ, List, Option, Some, Ok, Result, Bool, slice_get, refl, sym, ap, subst}
+use Rattle.std.proofs.Common.{rules, ◌≡◌, ◌∙◌, ◌+◌, ◌≤◌, arith, ℕ, List, Option, Some, Ok, Result, Bool, slice_get, refl, sym, ap, subst}
 use Rattle.std.specs.Prelude.{IfSome, is_none}
 use Rattle.persist.specs.Memory.{Words}
 use Rattle.arena.specs.Shape.{Counts}
@@ -13,6 +13,11 @@ use Rattle.named.specs.Stopping.{IsDirectoryRead, IsFound, IsReadOn, MayReadOn, 
 use Rattle.named.specs.declared.recovery.BrokerRecovery.{BrokerRecovery}
 use Rattle.named.specs.declared.recovery.BrokerRecovery.TheVariants.{ReadDirectory}
 use Rattle.named.specs.declared.slot.Slot.{Slot}
+use Rattle.directory.specs.Recovering.{most_left}
+use Rattle.directory.specs.Recovery.{access_of}
+use Rattle.directory.specs.Step.{value_found}
+use Rattle.named.specs.Lasting.{left_after_read, left_at, most_kept, steps_left}
+use Rattle.named.proofs.Lastings.{read_falls}
 use Rattle.named.proofs.Readings.{found_opens, found_over, may_read_on, read_over, well_loaded, worlds_loaded}
 use Rattle.named.proofs.broker.Broker.read_directory.Goals as goal
 
@@ -84,3 +89,18 @@ returns-clause-told c = λ at before now.
     let is : b.recovery ≡ Some (ReadDirectory c.args.at) = ap (λ (x : Brokered). x.recovery) c.self.view_is ∙ c.requires in
     let same : c.open_found.new.self.recovery ≡ c.args.self.now.recovery = ap (λ (x : Brokered). x.recovery) c.open_found.ensures.same ∙ ap (λ (x : Brokered). x.recovery) c.self.view_is in
     c.read_on.ensures.told at (ap (λ (r : Option BrokerRecovery). is_ready_at r at) same ∙ before) now
+
+pub returns-clause-falls : goal.returns-clause-falls
+returns-clause-falls c =
+    let b : Brokered = record { counts = c.self.inside.layout; words = c.self.inside.memory; slots = c.self.inside.slots.items; directory = c.self.inside.directory; creation = c.self.inside.creation; recovery = c.self.inside.recovery } in
+    let is : b.recovery ≡ Some (ReadDirectory c.args.at) = ap (λ (x : Brokered). x.recovery) c.self.view_is ∙ c.requires in
+    let now : Brokered = c.open_found.new.self in
+    let words : now.words ≡ words_read b c.args.at = ap (λ (x : Brokered). x.words) c.open_found.ensures.same ∙ c.step-recovered.ensures.one_access in
+    let it : c.step-recovered.result ≡ found_by b c.args.at = c.step-recovered.ensures.next in
+    let found : ℕ = value_found b.counts (access_of c.args.at) b.words in
+    let counts : now.counts ≡ b.counts = ap (λ (x : Brokered). x.counts) c.open_found.ensures.same in
+    let kept : now.words.kept ≡ b.words.kept = ap (λ (ws : Words). ws.kept) words in
+    let left : steps_left c.read_on.new.self ≤ left_after_read now (found_by b c.args.at).after = subst (λ (r : Recovered). steps_left c.read_on.new.self ≤ left_after_read now r.after) it c.read_on.ensures.left in
+    let less = read_falls b now c.args.at found counts kept in
+    let before : steps_left b ≡ most_left c.args.at + most_kept b = ap (left_at b) is in
+    omega (arith, left, less, before, ap (λ (x : Brokered). steps_left x) c.self.view_is)
