@@ -30,6 +30,8 @@ use Rattle.named.proofs.Kept.{directory_stays, get_set_other, kinds_now, length_
 use Rattle.named.specs.Telling.{IsToldAtReady, TellAtReady}
 use Rattle.interleave.specs.Holds.{Holds}
 use Rattle.interleave.proofs.ActLaws.{told_at_ready}
+use Rattle.named.specs.Lasting.{left_at, left_in, most_from, steps_left}
+use Rattle.named.proofs.Lastings.{few_next, slot_falls}
 use Rattle.named.proofs.Nexts.{no_world, ready_next, rest_next}
 
 -- whether the queue is ready once a step answered this
@@ -114,6 +116,21 @@ module _ (b : Brokered) (slot : SlotId) (was is : Slot) (ws : Words) (holds : Is
 
   answer_here : answered (recover_result (is_no_memory r)) (world_at b slot.0) ≡ r
   answer_here = ap (answered (recover_result (is_no_memory r))) (world_was b slot.0 was is ws holds here well outside place) ∙ sym result
+
+  -- the queue's recovery has fewer steps left
+  world_falls : (x : Bool) → r ≡ Ok x → left_in (world_at (with_slot b slot.0 is ws) slot.0) < left_in (world_at b slot.0)
+  world_falls x ok =
+      let it = its_queue b holds slot turn in
+      let less = slot_falls (is_no_memory r) b.words was it.queue.kind r x (slot_is_well b.counts b.words slot.0 was (holds.slots slot.0 was here))
+          (holds.kinds slot.0 was (Some it.queue) here it.has) result ok in
+      omega (arith, less, ap left_in (world_now b slot.0 was is ws holds here well outside place ∙ world),
+      ap left_in (world_was b slot.0 was is ws holds here well outside place))
+
+  left_before : steps_left b ≡ left_in (world_at b slot.0) + most_from b.counts b.directory (slot.0 + 1)
+  left_before = ap (left_at b) turn
+
+  pub falls_yet : (x : Bool) → r ≡ Ok x → steps_left (with_slot b slot.0 is ws) < steps_left b
+  falls_yet x ok = omega (arith, world_falls x ok, left_before, ap (left_at (with_slot b slot.0 is ws)) turn)
 
   -- it is not ready yet
   module _ (yet : ready_by r ≡ false) where
@@ -220,3 +237,6 @@ module _ (b : Brokered) (slot : SlotId) (was is : Slot) (ws : Words) (holds : Is
             subst (λ (o : Option State). IfWorld o IsToldAtReady)
             (sym (no_world (slice_set b.slots slot.0 is) b.directory (length_set b.slots slot.0 is ∙ holds.count ∙ sym holds.listed.count)
                 (kinds_now b slot.0 was is ws holds here well outside place) ws (slot.0 + 1) recovery next at (omega (arith, later, ne)) now)) tt
+
+    pub falls_ready : steps_left after < steps_left b
+    falls_ready = omega (arith, few_next after well_ready (slot.0 + 1) recovery next, world_falls true ready, left_before)

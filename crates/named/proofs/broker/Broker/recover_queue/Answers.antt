@@ -8,8 +8,9 @@ use Rattle.named.specs.Stopping.{IsNext, IsQueueRecovered, creation_after}
 use Rattle.named.specs.declared.recovery.BrokerRecovery.{BrokerRecovery}
 use Rattle.named.specs.declared.recovery.BrokerRecovery.TheVariants.{RecoverQueue}
 use Rattle.named.specs.declared.slot.Slot.{Slot}
+use Rattle.named.specs.Lasting.{left_at, steps_left}
 use Rattle.named.proofs.Kept.{slot_is_well}
-use Rattle.named.proofs.Queues.{its_slot, ready_by, recovered, recovering, tells_ready, well_ready, well_recovering}
+use Rattle.named.proofs.Queues.{falls_ready, falls_yet, its_slot, ready_by, recovered, recovering, tells_ready, well_ready, well_recovering}
 use Rattle.named.proofs.broker.Broker.recover_queue.Goals as goal
 
 pub recover_step-requires : goal.recover_step-requires
@@ -104,3 +105,26 @@ returns-clause-told c = λ at before now.
     let next : IsNext b.directory (c.args.slot.0 + 1) recovery = c.recovery_from-self-inside.ensures in
     let was_not : is_ready_at b.recovery at ≡ false = subst (λ (x : Brokered). is_ready_at x.recovery at ≡ false) (sym c.self.view_is) before in
     tells_ready b c.args.slot was c.recover_step.new.self c.recover_step.new.memory c.self.invariant here c.recover_step.ensures.well c.recover_step.ensures.outside c.recover_step.ensures.same turn c.recover_step.result c.recover_step.ensures.world c.recover_step.ensures.result ready recovery next at was_not now
+
+pub returns-then-not-ready-clause-falls : goal.returns-then-not-ready-clause-falls
+returns-then-not-ready-clause-falls c =
+    let b : Brokered = record { counts = c.self.inside.layout; words = c.self.inside.memory; slots = c.self.inside.slots.items; directory = c.self.inside.directory; creation = c.self.inside.creation; recovery = c.self.inside.recovery } in
+    let turn : b.recovery ≡ Some (RecoverQueue c.args.slot) = ap (λ (x : Brokered). x.recovery) c.self.view_is ∙ c.requires in
+    let was : Slot = c.index_mut.result.now in
+    let here : slice_get b.slots c.args.slot.0 ≡ Some was = slice_get_read b.slots 8 c.args.slot.0 was (sym c.self.invariant.count) (its_slot b c.self.invariant c.args.slot turn) c.index_mut.ensures.value in
+    let now : Brokered = with_slot b c.args.slot.0 c.recover_step.new.self c.recover_step.new.memory in
+    let less : steps_left now < steps_left b = falls_yet b c.args.slot was c.recover_step.new.self c.recover_step.new.memory c.self.invariant here c.recover_step.ensures.well c.recover_step.ensures.outside c.recover_step.ensures.same turn c.recover_step.result c.recover_step.ensures.world c.recover_step.ensures.result c.in_ok-ready.ready c.in_ok-ready.was in
+    subst (λ (x : Brokered). steps_left now < steps_left x) c.self.view_is less
+
+pub returns-clause-falls : goal.returns-clause-falls
+returns-clause-falls c =
+    let b : Brokered = record { counts = c.self.inside.layout; words = c.self.inside.memory; slots = c.self.inside.slots.items; directory = c.self.inside.directory; creation = c.self.inside.creation; recovery = c.self.inside.recovery } in
+    let turn : b.recovery ≡ Some (RecoverQueue c.args.slot) = ap (λ (x : Brokered). x.recovery) c.self.view_is ∙ c.requires in
+    let was : Slot = c.index_mut.result.now in
+    let here : slice_get b.slots c.args.slot.0 ≡ Some was = slice_get_read b.slots 8 c.args.slot.0 was (sym c.self.invariant.count) (its_slot b c.self.invariant c.args.slot turn) c.index_mut.ensures.value in
+    let ready : c.recover_step.result ≡ Ok true = c.in_ok-ready.was ∙ ap (λ (x : Bool). let r : Result Bool Refusal = Ok x in r) c.if-not-ready.false in
+    let recovery : Option BrokerRecovery = c.recovery_from-self-inside.result in
+    let next : IsNext b.directory (c.args.slot.0 + 1) recovery = c.recovery_from-self-inside.ensures in
+    let now : Brokered = with_slot b c.args.slot.0 c.recover_step.new.self c.recover_step.new.memory in
+    let less : steps_left (record now { recovery = recovery; creation = creation_after b.creation recovery }) < steps_left b = falls_ready b c.args.slot was c.recover_step.new.self c.recover_step.new.memory c.self.invariant here c.recover_step.ensures.well c.recover_step.ensures.outside c.recover_step.ensures.same turn c.recover_step.result c.recover_step.ensures.world c.recover_step.ensures.result ready recovery next in
+    subst (λ (x : Brokered). left_at now recovery < steps_left x) c.self.view_is less
