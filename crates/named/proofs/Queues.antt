@@ -19,9 +19,9 @@ use Rattle.interleave.specs.Calls.{is_no_memory}
 use Rattle.interleave.specs.State.{State, after_recover, is_ready, machine, recover_result, recover_result_with, recover_with}
 use Rattle.interleave.proofs.AloneLaws.{get_set}
 use Rattle.named.specs.Blocks.{BlockState, state_in}
-use Rattle.named.specs.Brokers.{Brokered, IsDirectoryAt, IsRecoveringQueue, IsWell, is_ready_at, with_slot, world_at}
-use Rattle.named.specs.Slots.{IsReadyIn, IsSameOutsideSlot, IsSameSlot, IsSlotWell, IfWorld, acted, answered, world_in}
-use Rattle.named.specs.Stopping.{IsNext, IsQueueOn, IsQueueRecovered, creation_after}
+use Rattle.named.specs.Brokers.{Brokered, IsDirectoryAt, IsRecoveringQueue, IsWell, is_ready_at, room_of, with_slot, world_at}
+use Rattle.named.specs.Slots.{IsReadyIn, IsSameOutsideSlot, IsSameSlot, IsSlotWell, IfWorld, acted, answered, room_in, world_in}
+use Rattle.named.specs.Stopping.{HasFullQueue, IsNext, IsQueueOn, IsQueueRecovered, creation_after}
 use Rattle.named.specs.declared.recovery.BrokerRecovery.{BrokerRecovery}
 use Rattle.named.specs.declared.recovery.BrokerRecovery.TheVariants.{RecoverQueue}
 use Rattle.named.specs.declared.slot.Slot.{Slot}
@@ -31,6 +31,7 @@ use Rattle.named.specs.Telling.{IsToldAtReady, TellAtReady}
 use Rattle.interleave.specs.Holds.{Holds}
 use Rattle.interleave.proofs.ActLaws.{told_at_ready}
 use Rattle.named.specs.Lasting.{left_at, left_in, most_from, steps_left}
+use Rattle.named.proofs.Begun.{listed_open}
 use Rattle.named.proofs.Lastings.{few_next, slot_falls}
 use Rattle.named.proofs.Nexts.{no_world, ready_next, rest_next}
 
@@ -240,3 +241,10 @@ module _ (b : Brokered) (slot : SlotId) (was is : Slot) (ws : Words) (holds : Is
 
     pub falls_ready : steps_left after < steps_left b
     falls_ready = omega (arith, few_next after well_ready (slot.0 + 1) recovery next, world_falls true ready, left_before)
+
+-- a queue whose step is refused for want of memory has no room
+pub full_here : (b : Brokered) (holds : IsWell b) (slot : SlotId) (turn : b.recovery ≡ Some (RecoverQueue slot)) (was : Slot) → slice_get b.slots slot.0 ≡ Some was
+    → room_in was ≡ 0 → HasFullQueue b
+full_here b holds slot turn was here full =
+    let it = its_queue b holds slot turn in
+    record { slot = slot.0; is_open = listed_open b slot.0 it.queue holds it.has; full = ap room_of here ∙ full }

@@ -57,6 +57,7 @@ impl Broker {
         ensures result { result ≡ crash_result (is_no_memory result) }
         ensures full { is_no_memory result ≡ true → HasFullQueue self.old }
         ensures room { (slot : ℕ) → room_at self.old slot ≤ room_at self.new slot + 1 }
+        ensures left { result ≡ Ok tt → steps_left self.new ≡ 32 + most_kept self.new }
     {
         // A queue that had stopped while another's room is refused would have a crash that the other had not.
         reserve_each(&mut self.slots, 1)?;
@@ -76,6 +77,7 @@ impl Broker {
         requires open { IfSome opened (λ slot. IsOpenSlot self.old.words.kept slot.0) }
         ensures same { self.new ≡ record self.old { slots = self.new.slots; directory = self.new.directory } }
         ensures found { IsFound self.old self.new opened }
+        ensures room { (other : ℕ) → room_at self.old other ≤ room_at self.new other + 1 }
         ensures known { IfSome opened (λ slot.
             slice_get self.new.directory slot.0 ≡ Some (slot_in self.old.words.kept slot.0)) }
         ensures well { IsWell self.new }
@@ -125,6 +127,7 @@ impl Broker {
     fn read_directory(&mut self, at: DirectoryRecovery) -> bool
         requires { self.old.recovery ≡ Some (BrokerRecovery.ReadDirectory at) }
         ensures read { IsDirectoryRead self.old self.new at (Ok result) }
+        ensures room { (slot : ℕ) → room_at self.old slot ≤ room_at self.new slot + 1 }
         ensures told { TellAtReady self.old self.new }
         ensures falls { steps_left self.new < steps_left self.old }
     {
@@ -137,6 +140,8 @@ impl Broker {
     fn recover_queue(&mut self, slot: SlotId) -> Result<bool, Refusal>
         requires { self.old.recovery ≡ Some (BrokerRecovery.RecoverQueue slot) }
         ensures recovered { IsQueueRecovered self.old self.new slot.0 result }
+        ensures full { is_no_memory result ≡ true → HasFullQueue self.old }
+        ensures room { (other : ℕ) → room_at self.old other ≤ room_at self.new other + 1 }
         ensures told { TellAtReady self.old self.new }
         ensures falls { IfOk result (λ ready. steps_left self.new < steps_left self.old) }
     {
@@ -155,6 +160,8 @@ impl Broker {
     /// for want of memory (NoMemory).
     pub fn recover_step(&mut self) -> Result<bool, Refusal>
         ensures step { IsRecoveryStep self.old self.new result self.old.recovery }
+        ensures full { is_no_memory result ≡ true → HasFullQueue self.old }
+        ensures room { (slot : ℕ) → room_at self.old slot ≤ room_at self.new slot + 1 }
         ensures told { TellAtReady self.old self.new }
         ensures few { steps_left self.old ≤ 32 + most_kept self.old }
         ensures falls { IfOk result (λ ready. steps_left self.new < steps_left self.old) }
