@@ -73,7 +73,7 @@ known_free known whole creation more long at below free = go (known_or known who
     go (inl same) = sym same
     go (inr lost) =
         let there : slice_get whole at ≡ Some (Some lost.dropped.queue) = ap (slice_get whole) lost.here ∙ ap (λ (d : Directory). slice_get d lost.dropped.slot.0) lost.more.is
-            ∙ set_here known lost.dropped.slot.0 (Some lost.dropped.queue) (omega (arith, long, below, lost.here)) in
+        ∙ set_here known lost.dropped.slot.0 (Some lost.dropped.queue) (omega (arith, long, below, lost.here)) in
         absurd (cc)
 
 same_whole : (known whole : Directory) (creation : Option Creation) → whole ≡ known → IsMaybeWith known whole creation

@@ -123,9 +123,13 @@ module _ (b : Brokered) (slot : SlotId) (was is : Slot) (ws : Words) (holds : Is
   world_falls x ok =
       let it = its_queue b holds slot turn in
       let less = slot_falls (is_no_memory r) b.words was it.queue.kind r x (slot_is_well b.counts b.words slot.0 was (holds.slots slot.0 was here))
-          (holds.kinds slot.0 was (Some it.queue) here it.has) result ok in
-      omega (arith, less, ap left_in (world_now b slot.0 was is ws holds here well outside place ∙ world),
-      ap left_in (world_was b slot.0 was is ws holds here well outside place))
+      (holds.kinds slot.0 was (Some it.queue) here it.has) result ok in
+      omega (
+        arith,
+        less,
+        ap left_in (world_now b slot.0 was is ws holds here well outside place ∙ world),
+        ap left_in (world_was b slot.0 was is ws holds here well outside place),
+      )
 
   left_before : steps_left b ≡ left_in (world_at b slot.0) + most_from b.counts b.directory (slot.0 + 1)
   left_before = ap (left_at b) turn
@@ -237,7 +241,7 @@ module _ (b : Brokered) (slot : SlotId) (was is : Slot) (ws : Words) (holds : Is
             let later : slot.0 ≤ at = ltb-false at slot.0 (subst (λ (o : Option BrokerRecovery). is_ready_at o at ≡ false) turn before) in
             subst (λ (o : Option State). IfWorld o IsToldAtReady)
             (sym (no_world (slice_set b.slots slot.0 is) b.directory (length_set b.slots slot.0 is ∙ holds.count ∙ sym holds.listed.count)
-                (kinds_now b slot.0 was is ws holds here well outside place) ws (slot.0 + 1) recovery next at (omega (arith, later, ne)) now)) tt
+            (kinds_now b slot.0 was is ws holds here well outside place) ws (slot.0 + 1) recovery next at (omega (arith, later, ne)) now)) tt
 
     pub falls_ready : steps_left after < steps_left b
     falls_ready = omega (arith, few_next after well_ready (slot.0 + 1) recovery next, world_falls true ready, left_before)

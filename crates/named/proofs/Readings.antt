@@ -135,7 +135,7 @@ module _ (ws : Words) (known whole : Directory) (creation : Option Creation) (mo
 
       by_gate : (o : Bool) → (slice_index ws.cached (gate_at slot.0) == OPEN_GATE) ≡ o
           → IfSome (let r : Recovered = if o then record { opened = Some slot; after = More (recovery_at places (LoadFirstName slot)) } else record { opened = None; after = past_slot places slot } in r.opened)
-              (λ s. slice_get known s.0 ≡ Some (slot_in ws.kept s.0))
+          (λ s. slice_get known s.0 ≡ Some (slot_in ws.kept s.0))
           → slice_get known slot.0 ≡ slice_get whole slot.0
       by_gate true e is_known = is_known ∙ sym (rest.slots slot.0 below).same
       by_gate false e is_known = gate_closed slot.0 below e
@@ -189,7 +189,7 @@ may_read_on c ws at b holds is words opened = go (recovered at (value_found c (a
         let found : places ≡ reading.whole = subst (Finds (after_one c (access_of at) ws) reading.whole) e finds in
         let all : 8 ≤ slot_at at.at + 1 = done_gates at.places at.at (value_found c (access_of at) ws) places e in
         let same : directory_of b.words.kept ≡ b.directory = directory_is b.words.kept b.directory holds.listed.count
-            (λ slot below. known slot (omega (arith, below, all)) ∙ (reading.recovering.rest.slots slot below).same) in
+        (λ slot below. known slot (omega (arith, below, all)) ∙ (reading.recovering.rest.slots slot below).same) in
         let is_whole : reading.whole ≡ b.directory = sym (kept_directory b.words reading.whole reading.recovering.rest) ∙ same in
         (found ∙ is_whole, subst (IsAtRest b.words) is_whole reading.recovering.rest)
 

@@ -35,10 +35,7 @@ fn recovery_from(directory: &Directory, from: usize) -> Option<BrokerRecovery>
 }
 
 /// The creation that a crash dropped is kept in mind while recovery is under way, and no longer.
-fn creation_left(
-    creation: Option<Creation>,
-    recovery: &Option<BrokerRecovery>,
-) -> Option<Creation>
+fn creation_left(creation: Option<Creation>, recovery: &Option<BrokerRecovery>) -> Option<Creation>
     ensures { result ≡ creation_after creation recovery.now }
 {
     if recovery.is_none() {
