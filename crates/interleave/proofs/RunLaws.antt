@@ -242,7 +242,7 @@ goes_nowhere w = record {
   ended = λ p reply ended taken. taken;
 }
 
-goes_further : {old now new : State} → GoesOn old now → GoesOn now new → GoesOn old new
+pub goes_further : {old now new : State} → GoesOn old now → GoesOn now new → GoesOn old new
 goes_further {old = old} {now = now} {new = new} one other = record {
   grown = begins_on old.log.events now.log.events new.log.events one.grown other.grown;
   part = part_of_part other.part one.part;

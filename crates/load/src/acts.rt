@@ -1,18 +1,20 @@
-//! Acts on a world, a round being one act of each client, of which the last rounds are measured.
+//! Acts on a queue, a round being one act of each client, of which the last rounds are measured.
 
 use crate::turns::Load;
 use anyhow::Result;
-use arena::Layout;
+use arena::{Layout, SlotId};
 use interleave::World;
+use named::Broker;
 use std::alloc::Global;
 use std::time::Instant;
-use words::{Call, Client, Refusal};
+use words::{Call, Client, Refusal, Reply};
 
-/// How many rounds there are before the measured ones, and how many of these.
+/// How many rounds there are before the measured ones, how many of these, and whether the queue is one of a broker.
 #[derive(Clone, Copy)]
 pub(crate) struct Acts {
     pub(crate) before: u32,
     pub(crate) rounds: u32,
+    pub(crate) in_broker: bool,
 }
 
 /// The nanoseconds of the measured rounds, and how many calls were answered in them.
@@ -22,24 +24,78 @@ pub(crate) struct ActsFigures {
     answered: u64,
 }
 
-/// A world, the number of each client's last call, and how many calls were answered.
+/// A queue whose clients act.
+trait Acting {
+    /// The client's call starts.
+    fn start(&mut self, client: Client, number: u64, call: Call) -> Result<(), Refusal>;
+
+    /// The client's call goes on by a step.
+    fn step(&mut self, client: Client) -> Result<Option<Reply>, Refusal>;
+}
+
+impl<L: Layout + Drop> Acting for World<L> {
+    fn start(&mut self, client: Client, number: u64, call: Call) -> Result<(), Refusal> {
+        World::start(self, client, number, call)
+    }
+
+    fn step(&mut self, client: Client) -> Result<Option<Reply>, Refusal> {
+        World::step(self, client)
+    }
+}
+
+/// A queue of a broker.
 #[derive(Drop)]
-struct Played<L: Layout + Drop> {
-    world: World<L>,
+struct Named {
+    broker: Broker,
+    slot: SlotId,
+}
+
+impl Acting for Named {
+    fn start(&mut self, client: Client, number: u64, call: Call) -> Result<(), Refusal> {
+        self.broker.start(self.slot, client, number, call)
+    }
+
+    fn step(&mut self, client: Client) -> Result<Option<Reply>, Refusal> {
+        self.broker.step(self.slot, client)
+    }
+}
+
+/// A queue, how many clients it has, the number of each one's last call, and how many calls were answered.
+#[derive(Drop)]
+struct Played<Q: Acting + Drop> {
+    queue: Q,
+    clients: u8,
     numbers: [u32; 16],
     answered: u64,
 }
 
-/// A new world, in which nobody called.
-fn unplayed<L: Layout + Drop>(alloc: Global, layout: L) -> Result<Played<L>, Refusal> {
-    Ok(Played {
-        world: World::make(alloc, layout)?,
+/// A queue in which nobody called.
+fn unplayed<Q: Acting + Drop>(queue: Q, clients: u32) -> Played<Q> {
+    Played {
+        queue,
+        clients: clients.min(16) as u8,
         numbers: [0; 16],
         answered: 0,
-    })
+    }
 }
 
-impl<L: Layout + Drop> Played<L> {
+/// The one queue of a new broker: the last of its eight slots, so that seven lie before it.
+fn last_of_eight<L: Layout>(alloc: Global, layout: &L) -> Result<Named, Refusal> {
+    let mut broker = Broker::make(alloc, layout.clients(), layout.records())?;
+    let names: [&[u8]; 8] = [b"a", b"b", b"c", b"d", b"e", b"f", b"g", b"h"];
+    let mut slot = SlotId(0);
+    for name in names {
+        broker.create(name, layout.kind())?;
+        for _ in 0..8 {
+            if let Some(opened) = broker.create_step()? {
+                slot = opened;
+            }
+        }
+    }
+    Ok(Named { broker, slot })
+}
+
+impl<Q: Acting + Drop> Played<Q> {
     /// The client's next call starts: it enqueues and dequeues in turn.
     fn start(&mut self, client: u8) -> Result<(), Refusal> {
         let Some(last) = self.numbers.get_mut(client as usize) else {
@@ -52,12 +108,12 @@ impl<L: Layout + Drop> Played<L> {
         } else {
             Call::Deq
         };
-        self.world.start(Client(client), u64::from(number), call)
+        self.queue.start(Client(client), u64::from(number), call)
     }
 
     /// The client's call goes on by a step, or its next one starts.
     fn act(&mut self, client: u8) -> Result<(), Refusal> {
-        match self.world.step(Client(client)) {
+        match self.queue.step(Client(client)) {
             Ok(None) => Ok(()),
             Ok(Some(_)) => {
                 self.answered = self.answered.saturating_add(1);
@@ -69,8 +125,8 @@ impl<L: Layout + Drop> Played<L> {
     }
 
     /// An act of each client.
-    fn round(&mut self, clients: u8) -> Result<(), Refusal> {
-        for client in 0..clients {
+    fn round(&mut self) -> Result<(), Refusal> {
+        for client in 0..self.clients {
             self.act(client)?;
         }
         Ok(())
@@ -78,19 +134,20 @@ impl<L: Layout + Drop> Played<L> {
 
     /// So many rounds.
     fn play(&mut self, rounds: u32) -> Result<(), Refusal> {
-        let clients = self.world.layout().clients().min(16) as u8;
         for _ in 0..rounds {
-            self.round(clients)?;
+            self.round()?;
         }
         Ok(())
     }
 }
 
-impl Load for Acts {
-    type Figures = ActsFigures;
-
-    fn turn<L: Layout + Drop>(&self, rt: &HostRuntime, layout: L) -> Result<ActsFigures> {
-        let mut played = unplayed(rt.alloc(), layout)?;
+impl Acts {
+    /// The rounds on a queue, of which the last are measured.
+    fn play<Q: Acting + Drop>(
+        &self,
+        rt: &HostRuntime,
+        mut played: Played<Q>,
+    ) -> Result<ActsFigures> {
         played.play(self.before)?;
         let answered = played.answered;
         let begun = Instant::now(rt)?;
@@ -99,6 +156,19 @@ impl Load for Acts {
             nanoseconds: begun.elapsed(rt)?.as_nanos(),
             answered: played.answered.saturating_sub(answered),
         })
+    }
+}
+
+impl Load for Acts {
+    type Figures = ActsFigures;
+
+    fn turn<L: Layout + Drop>(&self, rt: &HostRuntime, layout: L) -> Result<ActsFigures> {
+        let clients = layout.clients();
+        if self.in_broker {
+            self.play(rt, unplayed(last_of_eight(rt.alloc(), &layout)?, clients))
+        } else {
+            self.play(rt, unplayed(World::make(rt.alloc(), layout)?, clients))
+        }
     }
 
     fn better(&self, one: ActsFigures, other: ActsFigures) -> ActsFigures {

@@ -27,16 +27,30 @@ static KINDS: [&str; 2] = ["durable", "log"];
 
 static CHECKERS: [&str; 2] = ["fast", "plain"];
 
-/// `acts KIND CLIENTS BEFORE ROUNDS [TURNS]`
-fn acts<'a>(alloc: Global) -> Result<Command<'a>, AllocError> {
-    Command::new(alloc, "acts")
-        .about(
-            "Plays acts on a world, a round being one of each client, and measures the last rounds",
-        )
+/// `acts KIND CLIENTS BEFORE ROUNDS [TURNS]`, and `slots` of the same
+fn acts<'a>(alloc: Global, name: &'a str, about: &'a str) -> Result<Command<'a>, AllocError> {
+    Command::new(alloc, name)
+        .about(about)
         .arg(either(alloc, "kind", KINDS.as_slice()))?
         .arg(number(alloc, "clients"))?
         .arg(number(alloc, "before").help("Rounds before the measured ones"))?
         .arg(number(alloc, "rounds"))?
+        .arg(turns(alloc))
+}
+
+static ON_A_WORLD: &str =
+    "Plays acts on a world, a round being one of each client, and measures the last rounds";
+
+static IN_A_BROKER: &str = "Plays them on the last of a broker's eight queues";
+
+/// `restart CLIENTS RECORDS [TURNS]`
+fn restart<'a>(alloc: Global) -> Result<Command<'a>, AllocError> {
+    Command::new(alloc, "restart")
+        .about(
+            "Crashes a broker with one queue in the middle of a call, and recovers it, again and again",
+        )
+        .arg(number(alloc, "clients"))?
+        .arg(number(alloc, "records"))?
         .arg(turns(alloc))
 }
 
@@ -74,7 +88,9 @@ fn check<'a>(alloc: Global) -> Result<Command<'a>, AllocError> {
 pub(crate) fn matches<'a>(alloc: Global, words: &'a [String]) -> Result<ArgMatches<'a>, Error> {
     Command::new(alloc, "load")
         .about("Plays loads that are timed; without a command, a small one of each")
-        .subcommand(acts(alloc)?)?
+        .subcommand(acts(alloc, "acts", ON_A_WORLD)?)?
+        .subcommand(acts(alloc, "slots", IN_A_BROKER)?)?
+        .subcommand(restart(alloc)?)?
         .subcommand(recover(alloc)?)?
         .subcommand(crash(alloc)?)?
         .subcommand(check(alloc)?)?

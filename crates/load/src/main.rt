@@ -1,4 +1,5 @@
-//! Loads that the scripts of bench/ time: acts on a world, crashes and recovery, and the checker of histories.
+//! Loads that the scripts of bench/ time: acts on a world or by a broker's slot, crashes and recovery, and the checker of
+//! histories.
 //! Without a subcommand it plays a small one of each.
 #![tactic(auto)]
 
@@ -7,6 +8,7 @@ mod asked;
 mod crashes;
 mod histories;
 mod recovery;
+mod restarts;
 mod turns;
 
 use crate::acts::Acts;
@@ -29,8 +31,8 @@ fn print_best<M: Load>(rt: &HostRuntime, queue: Queue, load: &M, turns: Option<u
     }
 }
 
-/// `load acts KIND CLIENTS BEFORE ROUNDS [TURNS]`
-fn play_acts(rt: &HostRuntime, words: &ArgMatches<'_>) -> Result<()> {
+/// `load acts KIND CLIENTS BEFORE ROUNDS [TURNS]`, and `load slots` of the same
+fn play_acts(rt: &HostRuntime, words: &ArgMatches<'_>, in_broker: bool) -> Result<()> {
     let queue = Queue {
         kind: kind(words),
         clients: count(words, "clients"),
@@ -39,6 +41,7 @@ fn play_acts(rt: &HostRuntime, words: &ArgMatches<'_>) -> Result<()> {
     let load = Acts {
         before: count(words, "before"),
         rounds: count(words, "rounds"),
+        in_broker,
     };
     print_best(rt, queue, &load, words.get_one("turns"))
 }
@@ -76,6 +79,12 @@ fn small_ones(rt: &HostRuntime) -> Result<()> {
     let load = Acts {
         before: 0,
         rounds: 100,
+        in_broker: false,
+    };
+    print_best(rt, queue, &load, None)?;
+    let load = Acts {
+        in_broker: true,
+        ..load
     };
     print_best(rt, queue, &load, None)?;
     let queue = Queue {
@@ -85,6 +94,7 @@ fn small_ones(rt: &HostRuntime) -> Result<()> {
     };
     print_best(rt, queue, &Recovery { nodes: 4 }, None)?;
     crashes::run(rt, 64, None)?;
+    restarts::run(rt, 2, 64, None)?;
     let load = CheckLoad {
         plain: false,
         clients: 4,
@@ -103,7 +113,12 @@ fn main(rt: HostRuntime) -> Result<ExitCode> {
         }
     };
     match asked.subcommand() {
-        Some(("acts", words)) => play_acts(&rt, words)?,
+        Some(("acts", words)) => play_acts(&rt, words, false)?,
+        Some(("slots", words)) => play_acts(&rt, words, true)?,
+        Some(("restart", words)) => {
+            let turns = words.get_one("turns");
+            restarts::run(&rt, count(words, "clients"), count(words, "records"), turns)?;
+        }
         Some(("recover", words)) => play_recovery(&rt, words)?,
         Some(("crash", words)) => {
             crashes::run(&rt, count(words, "words") as usize, words.get_one("turns"))?;

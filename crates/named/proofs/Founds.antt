@@ -1,5 +1,5 @@
 -- A gate that recovery finds open: the queue is known, or it is that of the creation which a crash dropped.
-use Rattle.std.proofs.Common.{◌≡◌, ◌≢◌, ℕ, ◌+◌, ◌<◌, ◌≤◌, ◌⊎◌, inl, inr, Bool, true, false, List, Option, Some, None, length, slice_get, slice_set, refl, sym, ap, ◌∙◌, subst, arith}
+use Rattle.std.proofs.Common.{◌≡◌, ◌≢◌, ℕ, ◌<◌, ◌⊎◌, inl, inr, true, false, Option, Some, None, length, slice_get, slice_set, refl, sym, ap, ◌∙◌, subst, arith}
 use Rattle.std.proofs.lemmas.Bool.{cases_eq}
 use Rattle.std.proofs.lemmas.Option.{slice_get_within}
 use Rattle.std.specs.Option.{option_map}
@@ -8,17 +8,16 @@ use Rattle.words.specs.declared.call.Kind.{Kind}
 use Rattle.arena.specs.declared.broker.SlotId.{SlotId}
 use Rattle.persist.specs.Memory.{Words}
 use Rattle.directory.specs.Directory.{Directory, HasName, IsDirectory, IsFree}
-use Rattle.directory.specs.Queue.{IsOpen, IsOpenSlot, queue_in, slot_in}
+use Rattle.directory.specs.Queue.{IsOpenSlot, queue_in, slot_in}
 use Rattle.directory.specs.declared.creation.Creation.{Creation}
 use Rattle.directory.specs.declared.queue.Queue.{Queue}
 use Rattle.directory.specs.declared.recovery.DirectoryRecovery.{DirectoryRecovery}
 use Rattle.directory.proofs.Creations.{set_here, slot_open}
 use Rattle.interleave.specs.State.{State}
 use Rattle.interleave.proofs.AloneLaws.{get_set}
-use Rattle.named.specs.Blocks.{BlockState}
 use Rattle.named.specs.Brokers.{Brokered, IsDirectoryAt, IsMaybeWith, IsReading, IsSlotAt, IsUnusedBlock, IsWell, IsWith, is_ready_at, quiet, world_at, world_of}
 use Rattle.named.specs.Slots.{IsReadyIn, kind_in, world_in}
-use Rattle.named.specs.Stopping.{IsFound, IsFoundFirst, IsFoundIn, IsKnownAlike, IsReadingDirectory, found_world}
+use Rattle.named.specs.Stopping.{IsFound, IsFoundFirst, IsFoundIn, IsReadingDirectory, found_world}
 use Rattle.named.specs.declared.recovery.BrokerRecovery.{BrokerRecovery}
 use Rattle.named.specs.declared.recovery.BrokerRecovery.TheVariants.{ReadDirectory, RecoverQueue}
 use Rattle.named.specs.declared.slot.Slot.{Slot}
@@ -26,7 +25,6 @@ use Rattle.named.specs.declared.slot.Slot.TheVariants.{Closed, Durable, Log}
 use Rattle.named.proofs.Begun.{get_there}
 use Rattle.named.proofs.Kept.{get_set_other, length_set, some_is}
 use Rattle.named.proofs.Opened.{closed_where_free}
-use Rattle.named.proofs.Recovers.{not_ready}
 
 -- how far the directory is read
 pub record Reading (b : Brokered) : Type 0 where

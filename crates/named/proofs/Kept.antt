@@ -1,5 +1,5 @@
 -- An act on one slot keeps what holds of the broker, and leaves the other slots as they were.
-use Rattle.std.proofs.Common.{◌≡◌, ◌≢◌, ℕ, zero, suc, ◌+◌, ◌<◌, ◌≤◌, ◌⊎◌, inl, inr, List, [], ◌∷◌, length, take, drop, slice_get, slice_set, Option, Some, None, Result, Ok, Err, Bool, true, false, if◌then◌else◌, is_some, is_ok, refl, sym, ap, ◌∙◌, subst, arith, length-drop, length-take}
+use Rattle.std.proofs.Common.{◌≡◌, ◌≢◌, ℕ, zero, suc, ◌+◌, ◌<◌, ◌≤◌, ◌⊎◌, inl, inr, List, [], ◌∷◌, length, take, drop, slice_get, slice_set, Option, Some, None, Result, Ok, Err, Bool, if◌then◌else◌, is_some, is_ok, refl, sym, ap, ◌∙◌, subst, arith, length-drop, length-take}
 use Rattle.std.proofs.lemmas.Bool.{cases_eq, cases_lt}
 use Rattle.std.proofs.lemmas.Option.{slice_get_within, slice_get_past}
 use Rattle.std.specs.Option.{option_map}
@@ -23,7 +23,7 @@ use Rattle.words.specs.declared.call.Client.{Client}
 use Rattle.words.specs.declared.call.Kind.{Kind}
 use Rattle.words.specs.declared.call.Kind.TheVariants.{Durable as durable_kind, Log as log_kind}
 use Rattle.words.specs.declared.refusal.Refusal.{Refusal}
-use Rattle.words.specs.declared.refusal.Refusal.TheVariants.{NoQueue}
+use Rattle.words.specs.declared.refusal.Refusal.TheVariants.{NoQueue, NotReady}
 use Rattle.named.specs.Slots.{acted, answered, IsAsReady, IsReadyIn, IsSameOutsideSlot, IsSameSlot, IsSlotWell, LieInOnePlace, kind_in, world_in}
 use Rattle.named.specs.Brokers.{Brokered, HasRoom, IsDirectoryAt, IsDirectoryDown, IsDirectoryIn, IsInBlock, IsSlotAt, IsUnusedBlock, IsWell, block_words, quiet, with_slot, world_at, world_of, world_after, answer_at, answer_if, admission, is_ready_at}
 use Rattle.named.specs.declared.recovery.BrokerRecovery.{BrokerRecovery}
@@ -210,6 +210,11 @@ length_set (y ∷ xs) (suc i) x = ap suc (length_set xs i x)
 
 pub some_is : {X : Type 0} (o : Option X) (x y : X) → o ≡ Some x → o ≡ Some y → x ≡ y
 some_is o x y e f = cc
+
+-- where nothing was refused for it, no recovery is under way
+pub ready_there : (o : Option BrokerRecovery) (r : Result Unit Refusal) → r ≡ (if is_some o then Err NotReady else Ok tt) → r ≡ Ok tt → o ≡ None
+ready_there None r is ok = refl
+ready_there (Some recovery) r is ok = absurd (cc)
 
 -- past the eight slots there is no queue
 pub no_queue : {T : Type 0} (g : State → Result T Refusal) (b : Brokered) (i : ℕ) (client : Client) → IsWell b → 8 ≤ i → admission b client ≡ Ok tt

@@ -1,8 +1,7 @@
 -- A broker's recovery has fewer steps left after each.
-use Rattle.std.proofs.Common.{◌≡◌, ℕ, ◌+◌, ◌-◌, ◌*◌, ◌<◌, ◌≤◌, ◌⊎◌, inl, inr, Bool, true, false, List, Option, Some, None, Result, Ok, Err, length, drop, take, slice_get, slice_set, refl, sym, ap, ◌∙◌, subst, arith}
+use Rattle.std.proofs.Common.{◌≡◌, ℕ, ◌+◌, ◌-◌, ◌<◌, ◌≤◌, Bool, List, Option, Some, None, Result, Ok, drop, slice_get, refl, sym, ap, ◌∙◌, subst, arith}
 use Rattle.std.specs.Prelude.{IfOk}
 use Rattle.std.specs.List.{sum_by}
-use Rattle.std.specs.Option.{option_map}
 use Rattle.std.proofs.lemmas.List.{drop-drop}
 use Rattle.std.proofs.lemmas.List.Sums.{sum_by-drop_more, sum_by-take-drop}
 use Rattle.std.proofs.lemmas.Option.{get_or_from_slice_get, slice_get_within}
@@ -10,14 +9,13 @@ use Rattle.words.specs.declared.call.Kind.{Kind}
 use Rattle.words.specs.declared.call.Kind.TheVariants.{Durable as durable_kind, Log as log_kind}
 use Rattle.words.specs.declared.refusal.Refusal.{Refusal}
 use Rattle.arena.specs.Shape.{Counts, Shape, shape_of}
-use Rattle.arena.specs.declared.broker.SlotId.{SlotId}
 use Rattle.persist.specs.Memory.{Words}
 use Rattle.stepper.specs.declared.resume.After.{After}
 use Rattle.stepper.specs.declared.resume.After.TheVariants.{More, Done}
 use Rattle.directory.specs.Directory.{Directory, HasQueue}
 use Rattle.directory.specs.Queue.{directory_of}
 use Rattle.directory.specs.Recovering.{IsOneLess, most_left}
-use Rattle.directory.specs.Recovery.{recovered, slot_at}
+use Rattle.directory.specs.Recovery.{recovered}
 use Rattle.directory.specs.UnderWay.{IsAtRest}
 use Rattle.directory.specs.declared.queue.Queue.{Queue}
 use Rattle.directory.specs.declared.recovery.DirectoryPoint.{DirectoryPoint}

@@ -1,3 +1,8 @@
+pub mod Downtimes
+pub mod GoingOn
+pub mod EvictedWell
+pub mod Evicted
+pub mod Stays
 pub mod Kept
 pub mod Reserved
 pub mod Begun
@@ -9,6 +14,9 @@ pub mod Stopped
 pub mod Nexts
 pub mod Recovers
 pub mod Founds
+pub mod Rotated
+pub mod Booted
+pub mod Promises
 pub mod Readings
 pub mod Queues
 pub mod Lastings

@@ -1,7 +1,7 @@
 -- A step of recovery of the queue in a slot, and what comes once that is ready.
-use Rattle.std.proofs.Common.{◌≡◌, ◌≢◌, ℕ, ◌+◌, ◌<◌, ◌≤◌, ◌⊎◌, inl, inr, Bool, true, false, not, List, Option, Some, None, Result, Ok, Err, length, slice_get, slice_set, refl, sym, ap, ◌∙◌, subst, arith}
+use Rattle.std.proofs.Common.{◌≡◌, ℕ, ◌+◌, ◌<◌, ◌≤◌, ◌⊎◌, inl, inr, Bool, true, false, not, List, Option, Some, None, Result, Ok, Err, slice_get, slice_set, refl, sym, ap, ◌∙◌, subst, arith}
 use Rattle.std.specs.Prelude.{is_none, is_some, nat_lt}
-use Rattle.std.proofs.lemmas.Bool.{cases_eq, cases_lt, le-ltb, lt-ltb, ltb-false}
+use Rattle.std.proofs.lemmas.Bool.{cases_eq, le-ltb, lt-ltb, ltb-false}
 use Rattle.std.proofs.lemmas.Option.{slice_get_within}
 use Rattle.words.specs.declared.refusal.Refusal.{Refusal}
 use Rattle.arena.specs.declared.broker.SlotId.{SlotId}
@@ -9,9 +9,7 @@ use Rattle.words.specs.declared.told.Told.{Told}
 use Rattle.persist.specs.Memory.{Words}
 use Rattle.stepper.specs.declared.resume.After.{After}
 use Rattle.stepper.specs.declared.resume.After.TheVariants.{More, Done}
-use Rattle.directory.specs.Directory.{Directory}
 use Rattle.directory.specs.UnderWay.{IsAtRest}
-use Rattle.directory.specs.declared.creation.Creation.{Creation}
 use Rattle.directory.proofs.Sounds.{head_moves}
 use Rattle.protocol.specs.Machine.{next_recovery, recovery_left}
 use Rattle.recover.specs.declared.recovery.Recovery.{Recovery}

@@ -1,5 +1,5 @@
 -- A step of recovery that reads the directory: one load, and what is known then.
-use Rattle.std.proofs.Common.{◌≡◌, ◌≢◌, ℕ, ◌+◌, ◌<◌, ◌≤◌, ◌==◌, ◌⊎◌, inl, inr, Bool, true, false, if◌then◌else◌, List, Option, Some, None, length, slice_get, slice_index, slice_set, refl, sym, ap, ◌∙◌, subst, arith}
+use Rattle.std.proofs.Common.{◌≡◌, ℕ, ◌+◌, ◌<◌, ◌≤◌, ◌==◌, ◌⊎◌, inl, inr, Bool, true, false, if◌then◌else◌, List, Option, Some, None, length, slice_get, slice_index, slice_set, refl, sym, ap, ◌∙◌, subst, arith}
 use Rattle.std.specs.Prelude.{IfSome, nat_lt}
 use Rattle.std.proofs.lemmas.Bool.{cases_lt, ltb-false}
 use Rattle.arena.specs.Shape.{Counts}
@@ -13,7 +13,7 @@ use Rattle.directory.specs.Queue.{IsOpenSlot, directory_of, gate_at, queue_in, q
 use Rattle.directory.specs.Recovering.{Finds, IsRecovering}
 use Rattle.directory.specs.Recovery.{access_of, past_slot, recovered, recovered_at, recovery_at, slot_at}
 use Rattle.directory.specs.Step.{after_one, value_found}
-use Rattle.directory.specs.UnderWay.{HasDirectory, HaveSameDirectory, IsAtRest}
+use Rattle.directory.specs.UnderWay.{HaveSameDirectory, IsAtRest}
 use Rattle.directory.specs.declared.creation.Creation.{Creation}
 use Rattle.directory.specs.declared.recovery.DirectoryPoint.{DirectoryPoint}
 use Rattle.directory.specs.declared.recovery.DirectoryPoint.TheVariants.{LoadGate, LoadFirstName, LoadSecondName, LoadKind}
@@ -22,9 +22,7 @@ use Rattle.directory.specs.declared.recovery.Recovered.{Recovered}
 use Rattle.directory.proofs.Creations.{directory_is, kept_directory}
 use Rattle.directory.proofs.Recoveries.{recovery_finds, recovery_moves, recovery_opens}
 use Rattle.directory.proofs.Sounds.{head_moves}
-use Rattle.interleave.specs.State.{State}
 use Rattle.named.specs.Brokers.{Brokered, IsDirectoryAt, IsMaybeWith, IsReading, IsWell, gates_loaded, quiet, world_at, world_of}
-use Rattle.named.specs.Slots.{world_in}
 use Rattle.named.specs.Stopping.{IsFound, IsFoundFirst, IsFoundIn, IsKnownAlike, IsReadOn, MayReadOn, creation_after, found_world, words_read}
 use Rattle.named.specs.declared.recovery.BrokerRecovery.{BrokerRecovery}
 use Rattle.named.specs.declared.recovery.BrokerRecovery.TheVariants.{ReadDirectory}

@@ -1,5 +1,5 @@
 -- A queue in its block: a core, and where its words lie in the memory of a broker.
-use Rattle.std.specs.Prelude.{ℕ, ◌+◌, ◌≤◌, Result, length, slice_get}
+use Rattle.std.specs.Prelude.{◌≡◌, ℕ, ◌+◌, ◌≤◌, Result, length, slice_get}
 use Rattle.words.specs.declared.call.Client.{Client}
 use Rattle.words.specs.declared.refusal.Refusal.{Refusal}
 use Rattle.persist.specs.Memory.{Words, words_in}
@@ -27,3 +27,9 @@ pub record IsWellIn (ws : Words) (block : BlockState) : Type 0 where
 -- the call that the client has under way, or why it cannot go on
 abbrev pub waiting_in : State → Client → Result UnderWay Refusal
 waiting_in w client = waiting_result (is_down w) (slice_get w.calls client.0)
+
+-- two memories have the same values, after as many accesses
+pub record IsSameWords (old new : Words) : Type 0 where
+  pub cached : new.cached ≡ old.cached
+  pub kept : new.kept ≡ old.kept
+  pub accesses : new.accesses ≡ old.accesses

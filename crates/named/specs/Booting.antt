@@ -1,5 +1,5 @@
 -- A broker that begins on kept words: which words those may be, and what it is then.
-use Rattle.std.specs.Prelude.{◌≡◌, ℕ, ◌<◌, ◌⊎◌, List, Option, Some, None, take, drop}
+use Rattle.std.specs.Prelude.{◌≡◌, ℕ, ◌<◌, ◌⊎◌, List, Option, Some, None, length, slice_get, take, drop}
 use Rattle.words.specs.declared.call.Kind.{Kind}
 use Rattle.words.specs.declared.refusal.Refusal.{Refusal}
 use Rattle.words.specs.declared.refusal.Refusal.TheVariants.{NoMemory}
@@ -14,8 +14,11 @@ use Rattle.directory.specs.declared.queue.Queue.{Queue}
 use Rattle.interleave.specs.Booted.{booted_world}
 use Rattle.interleave.specs.State.{State}
 use Rattle.recover.specs.Sound.{AreSoundWords, IsDamaged}
-use Rattle.named.specs.Brokers.{Brokered, block_words, world_at}
+use Rattle.named.specs.Brokers.{Brokered, IsSlotAt, block_words, world_at}
+use Rattle.named.specs.Slots.{kind_in, world_in}
 use Rattle.named.specs.Stopping.{booting}
+use Rattle.named.specs.declared.slot.Slot.{Slot}
+use Rattle.named.specs.declared.slot.Slot.TheVariants.{Closed}
 
 -- the kept words of a slot's block
 abbrev pub kept_block : Counts → ℕ → List ℕ → List ℕ
@@ -48,6 +51,29 @@ MayRefuse ws refusal = IsBrokerDamaged ws refusal ⊎ IsBlockDamaged ws refusal
 abbrev pub world_booted : Counts → ℕ → Words → Option Queue → Option State
 world_booted c slot ws None = None
 world_booted c slot ws (Some queue) = Some (booted_world (shape_of queue.kind c) (block_words c slot ws))
+
+-- what a broker read of kept words, as a crash left them: they are a broker's, with these counts and this directory
+pub record AreRead (ws : Words) (counts : Counts) (directory : Directory) : Type 0 where
+  pub crashed : ws.cached ≡ ws.kept
+  pub broker : AreBrokerWords ws.kept
+  pub counts_are : counts ≡ counts_in ws.kept
+  pub directory_is : directory ≡ directory_of ws.kept
+
+-- the slot has a queue of this kind that begins on the words of its block
+pub record IsQueueBooted (c : Counts) (ws : Words) (at : ℕ) (kind : Kind) (slot : Slot) : Type 0 where
+  pub kind_is : kind_in slot ≡ Some kind
+  pub world : world_in (words_after_crash ws) slot ≡ Some (booted_world (shape_of kind c) (block_words c at ws))
+  pub here : IsSlotAt c (words_after_crash ws) at slot
+
+-- so has one that has a queue in the directory; any other is closed
+abbrev pub IsSlotBooted : Counts → Words → ℕ → Option Queue → Slot → Type 0
+IsSlotBooted c ws at None slot = slot ≡ Closed
+IsSlotBooted c ws at (Some queue) slot = IsQueueBooted c ws at queue.kind slot
+
+pub record AreSlotsBooted (c : Counts) (ws : Words) (directory : Directory) (slots : List Slot) : Type 0 where
+  pub count : length slots ≡ SLOTS
+  pub each : (at : ℕ) (slot : Slot) (place : Option Queue) → slice_get slots at ≡ Some slot
+      → slice_get directory at ≡ Some place → IsSlotBooted c ws at place slot
 
 -- the broker that begins on these words, as a crash left them
 pub record IsBooted (ws : Words) (b : Brokered) : Type 0 where

@@ -8,3 +8,5 @@ pub mod Lasting
 pub mod Evicting
 pub mod Rotating
 pub mod Booting
+pub mod GoingOn
+pub mod Promises

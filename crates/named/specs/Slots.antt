@@ -4,7 +4,7 @@ use Rattle.words.specs.declared.call.Kind.{Kind}
 use Rattle.words.specs.declared.call.Kind.TheVariants.{Durable as durable_kind, Log as log_kind}
 use Rattle.words.specs.declared.refusal.Refusal.{Refusal}
 use Rattle.words.specs.declared.refusal.Refusal.TheVariants.{NoMemory, NoQueue}
-use Rattle.persist.specs.Memory.{Words, IsSameOutside}
+use Rattle.persist.specs.Memory.{Words, IsSameOutside, words_after_eviction}
 use Rattle.interleave.specs.State.{State, after_evict}
 use Rattle.named.specs.Blocks.{BlockState, state_in, IsWellIn}
 use Rattle.named.specs.declared.slot.Slot.{Slot}
@@ -103,6 +103,12 @@ abbrev pub world_evicted_in : Slot → ℕ → Words → Option State
 world_evicted_in Closed word ws = None
 world_evicted_in (Durable block) word ws = Some (after_evict (state_in ws block) (word - block.from))
 world_evicted_in (Log block) word ws = Some (after_evict (state_in ws block) (word - block.from))
+
+-- what an eviction of a word of the slot's block leaves of the words outside it: a closed slot is evicted from itself
+abbrev pub IsEvictedOutside : Slot → ℕ → Words → Words → Type 0
+IsEvictedOutside Closed word old new = new ≡ words_after_eviction word old
+IsEvictedOutside (Durable block) word old new = IsSameOutside block.from block.len old new
+IsEvictedOutside (Log block) word old new = IsSameOutside block.from block.len old new
 
 -- the history of the slot's queue, if it has one, has room for so many acts
 abbrev pub HasRoomFor : ℕ → Slot → Type 0

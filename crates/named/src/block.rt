@@ -4,7 +4,7 @@ ghost use Rattle.std.specs.Prelude.{◌≡◌, ◌+◌, ◌-◌, ◌≤◌, ◌�
 ghost use Rattle.events.specs.Effects.{order_of};
 ghost use Rattle.interleave.specs.Queue.{told_in, told_to};
 ghost use Rattle.words.specs.declared.refusal.Refusal.{Refusal as AnyRefusal};
-ghost use Rattle.persist.specs.Changes.{change_of};
+ghost use Rattle.persist.specs.Changes.{change_at, change_of};
 ghost use Rattle.persist.specs.Memory.{IsSameOutside, Words, words_in, words_after_crash, words_after_eviction};
 ghost use Rattle.recover.specs.Table.{boot_recovery};
 ghost use Rattle.interleave.specs.Booted.{booted_world, MayRefuse};
@@ -12,7 +12,7 @@ ghost use Rattle.interleave.specs.Rotation.{after_rotation, rotate_result, some_
 ghost use Rattle.interleave.specs.Ranges.{AreUnused};
 ghost use Rattle.interleave.specs.Calls.{is_no_memory};
 ghost use Rattle.interleave.specs.State.{world_over, after_step, step_result, after_start, start_result, after_alone, after_evict, after_stop, after_recover, recover_result, kept_content, IsAnsweredAlone};
-ghost use Rattle.named.specs.Blocks.{state_in, waiting_in, IsWellIn};
+ghost use Rattle.named.specs.Blocks.{state_in, waiting_in, IsSameWords, IsWellIn};
 ghost use Rattle.named.specs.Slots.{LieInOnePlace};
 
 use arena::Layout;
@@ -29,6 +29,13 @@ pub(crate) struct Block<L: Layout + Drop> {
     core: Core<L>,
     from: usize,
     len: usize,
+}
+
+/// The same change, of the word of this number.
+fn renumbered(change: Option<Change>, word: usize) -> Option<Change>
+    ensures { result ≡ change_at word change }
+{
+    change.map(|change| Change { word, ..change })
 }
 
 impl<L: Layout + Drop> Model for Block<L> {
@@ -65,6 +72,7 @@ impl<L: Layout + Drop> Block<L> {
     ) -> Result<Self, Refusal>
         requires some { 1 ≤ len }
         requires inside { from + len ≤ length memory.now.cached }
+        requires kept { from + len ≤ length memory.now.kept }
         ensures booted { IfOk result (λ b. state_in (words_after_crash memory.now) b
             ≡ booted_world (L.shape layout) (words_in from len memory.now)) }
         ensures well { IfOk result (IsWellIn (words_after_crash memory.now)) }
@@ -225,7 +233,7 @@ impl<L: Layout + Drop> Block<L> {
         requires len { word < self.old.from + self.old.len }
         ensures state { state_in memory.new self.new
             ≡ after_evict (state_in memory.old self.old) (word - self.old.from) }
-        ensures words { memory.new ≡ words_after_eviction word memory.old }
+        ensures words { IsSameWords (words_after_eviction word memory.old) memory.new }
         ensures result { result ≡ Ok (change_of memory.old word) }
         ensures well { IsWellIn memory.new self.new }
         ensures outside { IsSameOutside self.old.from self.old.len memory.old memory.new }
@@ -235,7 +243,7 @@ impl<L: Layout + Drop> Block<L> {
     {
         let mut window = memory.window(self.from, self.len)?;
         let change = self.core.evict(&mut window, word - self.from)?;
-        Ok(change.map(|change| Change { word, ..change }))
+        Ok(renumbered(change, word))
     }
 
     /// The whole system stops, where the history has room for one event.
@@ -279,8 +287,8 @@ impl<L: Layout + Drop> Block<L> {
         ensures quiet { (ws : Words) → OnOk result (rotate_result false (state_in ws self.now) ≡ Ok tt) }
         ensures errors { (ws : Words) → IfErr result (λ e. rotate_result true (state_in ws self.now) ≡ Err e) }
     {
-        let view = memory.view(self.from, self.len)?;
-        self.core.prepare_rotation(&view)
+        let kept = memory.view(self.from, self.len)?;
+        self.core.prepare_rotation(&kept)
     }
 
     /// The history ends, and another begins with this base.

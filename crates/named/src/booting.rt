@@ -1,7 +1,10 @@
 //! A broker that begins on what a memory keeps.
 
 ghost use Rattle.std.specs.Prelude.{◌≡◌, ◌≢◌, ◌↔◌, ◌⊎◌, ◌<◌, ◌≤◌, ◌+◌, ℕ, true, length, replicate, slice_set, Ok, Err, IfOk, IfErr, OnOk, OnErr, IfSome, IfNone, IsSome, None, if◌then◌else◌};
-ghost use Rattle.named.specs.Booting.{AreBootWords, IsBooted, MayRefuse};
+ghost use Rattle.arena.specs.Broker.{broker_size};
+ghost use Rattle.arena.specs.Shape.{shape_of};
+ghost use Rattle.recover.specs.Sound.{AreSoundWords, IsDamaged};
+ghost use Rattle.named.specs.Booting.{AreBootWords, AreRead, IsBlockDamaged, IsBooted, MayRefuse, kept_block};
 
 use crate::broker::Broker;
 use crate::recovery::BrokerRecovery;
@@ -20,7 +23,15 @@ fn check_block(
     memory: &Memory,
     slot: SlotId,
     kind: Kind,
-) -> Result<(), Refusal> {
+) -> Result<(), Refusal>
+    requires slot { slot.0 < SLOTS }
+    requires room { broker_size layout.now ≤ length memory.now.cached }
+    requires kept { broker_size layout.now ≤ length memory.now.kept }
+    ensures sound { OnOk result
+        (AreSoundWords (shape_of kind layout.now) (kept_block layout.now slot.0 memory.now.kept)) }
+    ensures damaged { IfErr result
+        (IsDamaged (shape_of kind layout.now) (kept_block layout.now slot.0 memory.now.kept)) }
+{
     let block = memory.view(layout.block(slot), layout.block_size())?;
     match kind {
         Kind::Durable => sound_queue(&layout.durable(), &block),
@@ -29,7 +40,11 @@ fn check_block(
 }
 
 /// Whether so it is of each open slot, in slot order.
-fn check_blocks(kept: &KeptBroker, memory: &Memory) -> Result<(), Refusal> {
+fn check_blocks(kept: &KeptBroker, memory: &Memory) -> Result<(), Refusal>
+    requires { AreRead memory.now kept.now.layout kept.now.directory }
+    ensures sound { OnOk result (AreBootWords memory.now.kept) }
+    ensures damaged { IfErr result (IsBlockDamaged memory.now.kept) }
+{
     let places = kept.directory.queues();
     for slot in 0..SLOTS {
         if let Some(queue) = &places[slot] {
@@ -44,16 +59,15 @@ impl Broker {
     /// many clients and records there are, the memory's head says. Each open queue's history begins with what its kept
     /// words hold and tell. It is refused, in this order, where the words break a rule (Damaged, with the first such
     /// rule: of the head, of the directory, of the open blocks in slot order), and for want of memory (NoMemory).
-    pub fn boot(alloc: Global, memory: Memory) -> Result<Self, Refusal>
+    pub fn boot(alloc: Global, mut memory: Memory) -> Result<Self, Refusal>
         ensures booted { IfOk result (IsBooted memory) }
         ensures sound { OnOk result (AreBootWords memory.kept) }
         ensures errors { IfErr result (MayRefuse memory.kept) }
     {
+        memory.crash();
         let kept = sound_directory(&memory)?;
         check_blocks(&kept, &memory)?;
         let slots = boot_each(alloc, &kept, &memory)?;
-        let mut memory = memory;
-        memory.crash();
         Ok(Broker {
             layout: kept.layout,
             memory,

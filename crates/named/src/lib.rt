@@ -6,6 +6,7 @@ mod booting;
 mod broker;
 mod calls;
 mod evicting;
+mod laws;
 mod looks;
 mod names;
 mod recovery;
@@ -15,4 +16,5 @@ mod slots;
 mod stopping;
 
 pub use broker::Broker;
+pub use laws::{acts_go_on, brokers_go_on, downtimes_go_on};
 pub use recovery::BrokerRecovery;

@@ -1,17 +1,17 @@
 //! A slot of a broker: closed, or open with a queue.
 
-ghost use Rattle.std.specs.Prelude.{◌≡◌, ◌⊎◌, ◌<◌, ◌≤◌, ◌+◌, true, is_none, length, IfOk, IfErr, OnOk, OnErr, IsSome, Ok, Err, Some, None};
+ghost use Rattle.std.specs.Prelude.{◌≡◌, ◌⊎◌, ◌<◌, ◌≤◌, ◌+◌, true, false, is_none, length, IfOk, IfErr, OnOk, OnErr, IsSome, Ok, Err, Some, None};
 ghost use Rattle.persist.specs.Changes.{change_of};
 ghost use Rattle.recover.specs.Table.{boot_recovery};
 ghost use Rattle.interleave.specs.Booted.{booted_world, MayRefuse};
-ghost use Rattle.named.specs.Rotating.{has_calls_in};
+ghost use Rattle.named.specs.Rotating.{has_calls_in, IsBaseIn, IsBegunAnew, IsQuietIn};
 ghost use Rattle.named.specs.Each.{HasMoreRoom};
-ghost use Rattle.named.specs.Slots.{IsAsReady, IsWordOf, world_evicted_in, HasRoomFor};
+ghost use Rattle.named.specs.Slots.{IsAsReady, IsReadyIn, IsEvictedOutside, IsWordOf, world_evicted_in, HasRoomFor};
 ghost use Rattle.interleave.specs.Queue.{told_in, told_to};
 ghost use Rattle.words.specs.declared.refusal.Refusal.{Refusal as AnyRefusal};
 ghost use Rattle.interleave.specs.Calls.{is_no_memory};
 ghost use Rattle.interleave.specs.State.{after_step, step_result, after_start, start_result, after_alone, after_stop, after_recover, recover_result, kept_content, order_in, IsAnsweredAlone, world_over};
-ghost use Rattle.named.specs.Blocks.{waiting_in};
+ghost use Rattle.named.specs.Blocks.{waiting_in, IsSameWords};
 ghost use Rattle.named.specs.Slots.{world_in, acted, answered, IfWorld, IsWhyUnread, IsSlotWell, IsSameOutsideSlot, IsSameSlot, kind_in, room_in, AreEffectsFew};
 ghost use Rattle.named.specs.Brokers.{IsSlotAt, IsUnusedBlock, block_words};
 ghost use Rattle.arena.specs.Broker.{broker_size};
@@ -198,6 +198,7 @@ impl Slot {
     pub(crate) fn open(alloc: Global, layout: &BrokerLayout, slot: SlotId, kind: Kind) -> Self
         requires { slot.0 < SLOTS }
         ensures kind { kind_in result ≡ Some kind }
+        ensures ready { IsReadyIn true result }
         ensures world { (ws : Words) → world_in ws result
             ≡ Some (world_over (shape_of kind layout.now) (block_words layout.now slot.0 ws)) }
         ensures at { (ws : Words) → broker_size layout.now ≤ length ws.cached
@@ -215,6 +216,7 @@ impl Slot {
     pub(crate) fn open_found(alloc: Global, layout: &BrokerLayout, slot: SlotId, kind: Kind) -> Self
         requires { slot.0 < SLOTS }
         ensures kind { kind_in result ≡ Some kind }
+        ensures down { IsReadyIn false result }
         ensures world { (ws : Words) → world_in ws result ≡ Some (record (world_over (shape_of kind layout.now)
             (block_words layout.now slot.0 ws)) { recovery = Some boot_recovery }) }
         ensures at { (ws : Words) → broker_size layout.now ≤ length ws.cached
@@ -238,6 +240,7 @@ impl Slot {
     ) -> Result<Self, Refusal>
         requires slot { slot.0 < SLOTS }
         requires room { broker_size layout.now ≤ length memory.now.cached }
+        requires kept { broker_size layout.now ≤ length memory.now.kept }
         ensures kind { IfOk result (λ s. kind_in s ≡ Some kind) }
         ensures world { IfOk result (λ s. world_in (words_after_crash memory.now) s
             ≡ Some (booted_world (shape_of kind layout.now) (block_words layout.now slot.0 memory.now))) }
@@ -269,7 +272,8 @@ impl Slot {
         requires block { IsWordOf self.old word }
         requires word { word < length memory.old.cached }
         ensures world { world_in memory.new self.new ≡ world_evicted_in self.old word memory.old }
-        ensures words { memory.new ≡ words_after_eviction word memory.old }
+        ensures words { IsSameWords (words_after_eviction word memory.old) memory.new }
+        ensures outside { IsEvictedOutside self.old word memory.old memory.new }
         ensures result { result ≡ Ok (change_of memory.old word) }
         ensures well { IsSlotWell memory.new self.new }
         ensures room { room_in self.new ≡ room_in self.old }
@@ -361,7 +365,12 @@ impl Slot {
         &self,
         alloc: Global,
         memory: &Memory,
-    ) -> Result<Vec<u32>, Refusal> {
+    ) -> Result<Vec<u32>, Refusal>
+        requires well { IsSlotWell memory.now self.now }
+        requires quiet { IsQuietIn self.now }
+        ensures base { IfOk result (λ base. IsBaseIn memory.now self.now base.items) }
+        ensures errors { IfErr result (λ e. e ≡ Refusal.NoMemory) }
+    {
         match self {
             Slot::Closed => Ok(Vec::new(alloc)),
             Slot::Durable(block) => block.prepare_rotation(memory),
@@ -370,7 +379,12 @@ impl Slot {
     }
 
     /// The history of its queue ends, and another begins with this base.
-    pub(crate) fn begin_anew(&mut self, memory: &Memory, base: Vec<u32>) {
+    pub(crate) fn begin_anew(&mut self, memory: &Memory, base: Vec<u32>)
+        requires well { IsSlotWell memory.now self.old }
+        requires quiet { IsQuietIn self.old }
+        requires base { IsBaseIn memory.now self.old base.items }
+        ensures { IsBegunAnew memory.now self.old self.new }
+    {
         match self {
             Slot::Closed => {}
             Slot::Durable(block) => block.begin_anew(memory, base),

@@ -1,11 +1,13 @@
 //! The slots of a broker, one after the other.
 
-ghost use Rattle.std.specs.Prelude.{◌≡◌, ◌<◌, ◌≤◌, ◌+◌, ℕ, length, replicate, slice_get, IfOk, IfErr, OnOk, OnErr, Some};
+ghost use Rattle.std.specs.Prelude.{◌≡◌, ◌<◌, ◌≤◌, ◌+◌, ℕ, length, map, replicate, slice_get, Option, IfOk, IfErr, OnOk, OnErr, Some};
 ghost use Rattle.std.specs.List.{list_any};
 ghost use Rattle.persist.specs.Memory.{Words, words_after_crash};
+ghost use Rattle.directory.specs.declared.queue.Queue.{Queue as Place};
+ghost use Rattle.named.specs.Booting.{AreBootWords, AreRead, AreSlotsBooted, IsSlotBooted};
 ghost use Rattle.named.specs.Each.{EachBecame, EachSlot, HasFullSlot, HasMoreRoom, HasStopped};
 ghost use Rattle.named.specs.Slots.{AreEffectsFew, HasRoomFor};
-ghost use Rattle.named.specs.Rotating.{has_calls_in};
+ghost use Rattle.named.specs.Rotating.{has_calls_in, AreBases, AreBegunAnew, AreQuiet};
 ghost use Rattle.named.specs.declared.slot.Slot.TheVariants.{Closed};
 
 use crate::slot::Slot;
@@ -36,18 +38,41 @@ pub(crate) fn closed_slots(alloc: Global) -> Result<Vec<Slot>, Refusal>
     Ok(slots)
 }
 
-/// The slots of a memory that a broker begins on: each open one begins on the kept words of its block.
+/// A slot of a memory that a broker begins on: if it is open, its queue begins on the kept words of its block.
+fn boot_slot(
+    alloc: Global,
+    kept: &KeptBroker,
+    slot: SlotId,
+    memory: &Memory,
+) -> Result<Slot, Refusal>
+    requires slot { slot.0 < SLOTS }
+    requires read { AreRead memory.now kept.now.layout kept.now.directory }
+    requires sound { AreBootWords memory.now.kept }
+    ensures booted { IfOk result (λ s. (place : Option Place) → slice_get kept.now.directory slot.0 ≡ Some place
+        → IsSlotBooted kept.now.layout memory.now slot.0 place s) }
+    ensures errors { IfErr result (λ e. e ≡ Refusal.NoMemory) }
+{
+    match &kept.directory.queues()[slot.0 as usize] {
+        None => Ok(Slot::Closed),
+        Some(queue) => Slot::boot(alloc, &kept.layout, slot, queue.kind, memory),
+    }
+}
+
+/// The slots of a memory that a broker begins on.
 pub(crate) fn boot_each(
     alloc: Global,
     kept: &KeptBroker,
     memory: &Memory,
-) -> Result<Vec<Slot>, Refusal> {
+) -> Result<Vec<Slot>, Refusal>
+    requires read { AreRead memory.now kept.now.layout kept.now.directory }
+    requires sound { AreBootWords memory.now.kept }
+    ensures booted { IfOk result (λ slots.
+        AreSlotsBooted kept.now.layout memory.now kept.now.directory slots.items) }
+    ensures errors { IfErr result (λ e. e ≡ Refusal.NoMemory) }
+{
     let mut slots = closed_slots(alloc)?;
-    let places = kept.directory.queues();
     for slot in 0..SLOTS {
-        if let Some(queue) = &places[slot] {
-            slots[slot] = Slot::boot(alloc, &kept.layout, SlotId(slot as u8), queue.kind, memory)?;
-        }
+        slots[slot] = boot_slot(alloc, kept, SlotId(slot as u8), memory)?;
     }
     Ok(slots)
 }
@@ -84,7 +109,11 @@ pub(crate) fn have_calls(slots: &[Slot]) -> bool
 }
 
 /// What the next history of each slot's queue would begin with; of a closed one, nothing.
-pub(crate) fn prepare_each(slots: &Vec<Slot>, memory: &Memory) -> Result<Vec<Vec<u32>>, Refusal> {
+pub(crate) fn prepare_each(slots: &Vec<Slot>, memory: &Memory) -> Result<Vec<Vec<u32>>, Refusal>
+    requires { AreQuiet memory.now slots.now.items }
+    ensures bases { IfOk result (λ bases. AreBases memory.now slots.now.items (map (λ base. base.items) bases.items)) }
+    ensures errors { IfErr result (λ e. e ≡ Refusal.NoMemory) }
+{
     let alloc = *slots.allocator();
     let Ok(mut bases) = Vec::with_capacity(alloc, slots.len()) else {
         return Err(Refusal::NoMemory);
@@ -99,8 +128,12 @@ pub(crate) fn prepare_each(slots: &Vec<Slot>, memory: &Memory) -> Result<Vec<Vec
 }
 
 /// The history of each open slot's queue ends, and another begins with its base.
-pub(crate) fn begin_each(slots: &mut [Slot], memory: &Memory, bases: Vec<Vec<u32>>) {
-    for (slot, base) in slots.iter_mut().zip(bases) {
-        slot.begin_anew(memory, base);
+pub(crate) fn begin_each(slots: &mut [Slot], memory: &Memory, mut bases: Vec<Vec<u32>>)
+    requires quiet { AreQuiet memory.now slots.old }
+    requires bases { AreBases memory.now slots.old (map (λ base. base.items) bases.items) }
+    ensures { AreBegunAnew memory.now slots.old slots.new }
+{
+    while let Some(base) = bases.pop() {
+        slots[bases.len()].begin_anew(memory, base);
     }
 }

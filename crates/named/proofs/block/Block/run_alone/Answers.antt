@@ -7,6 +7,7 @@ use Rattle.interleave.specs.Holds.{Holds}
 use Rattle.interleave.specs.State.{State, IsAnsweredAlone, after_alone}
 use Rattle.interleave.proofs.PartLaws.{answered_after_placed, around_after_alone, holds_alike, left_after_placed, placed}
 use Rattle.named.specs.Blocks.{BlockState, state_in, IsWellIn}
+use Rattle.named.proofs.Stays.{alone_alike_by}
 use Rattle.named.proofs.block.Block.run_alone.Goals as goal
 
 pub run_alone-requires : goal.run_alone-requires
@@ -89,3 +90,15 @@ returns-clause-world g c =
     (subst (λ (x : State). IfOk c.run_alone.result (λ answer. x ≡ after_alone answer.1 (placed nothing old) c.args.client)) now
     (left_after_placed nothing old (state_of c.run_alone.new.self left) c.args.client c.run_alone.result c.run_alone.ensures.world))) in
     search rules
+
+pub returns-clause-place : goal.returns-clause-place
+returns-clause-place g c =
+    let w = c.in_ok-window.window in
+    let v = c.run_alone.new.memory in
+    let before : Words = part w.memory.ghost_name w.from w.len w.memory.now in
+    let left : Words = part v.memory.ghost_name v.from v.len v.memory.now in
+    let alike = alone_alike_by (state_of c.self.inside.core before) (state_of c.run_alone.new.self left) c.args.client c.run_alone.result c.run_alone.ensures.same c.run_alone.ensures.world in (
+      ap (λ (s : BlockState). s.from) c.self.view_is,
+      ap (λ (s : BlockState). s.len) c.self.view_is,
+      alike.0 ∙ ap (λ (s : BlockState). s.core.shape) c.self.view_is,
+    )

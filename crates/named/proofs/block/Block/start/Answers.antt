@@ -9,6 +9,7 @@ use Rattle.interleave.specs.Holds.{Holds}
 use Rattle.interleave.specs.State.{State, after_start, after_attempt}
 use Rattle.interleave.proofs.PartLaws.{around_stays, attempt_placed, holds_alike, placed}
 use Rattle.named.specs.Blocks.{BlockState, state_in, IsWellIn}
+use Rattle.named.proofs.Stays.{start_alike}
 use Rattle.named.proofs.block.Block.start.Goals as goal
 
 pub start-requires : goal.start-requires
@@ -76,3 +77,20 @@ returns-clause-state g c =
     ∙ sym (attempt_placed nothing full (state_of c.self.inside.core before) act)
     ∙ ap (λ (ws : Words). after_attempt full (state_of c.self.inside.core (let x : Words = record ws { around = nothing } in x)) act) c.in_ok-window.ensures.words in
     search rules
+
+pub returns-clause-recovery : goal.returns-clause-recovery
+returns-clause-recovery g c =
+    let w = c.in_ok-window.window in
+    let before : Words = part w.memory.ghost_name w.from w.len w.memory.now in
+    let alike = start_alike (is_no_memory c.start.result) (state_of c.self.inside.core before) c.args.client c.args.number c.args.call in
+    ap (λ (x : State). x.recovery) c.start.ensures.world ∙ alike.1 ∙ ap (λ (s : BlockState). s.core.trace.recovery) c.self.view_is
+
+pub returns-clause-place : goal.returns-clause-place
+returns-clause-place g c =
+    let w = c.in_ok-window.window in
+    let before : Words = part w.memory.ghost_name w.from w.len w.memory.now in
+    let alike = start_alike (is_no_memory c.start.result) (state_of c.self.inside.core before) c.args.client c.args.number c.args.call in (
+      ap (λ (s : BlockState). s.from) c.self.view_is,
+      ap (λ (s : BlockState). s.len) c.self.view_is,
+      ap (λ (x : State). x.shape) c.start.ensures.world ∙ alike.0 ∙ ap (λ (s : BlockState). s.core.shape) c.self.view_is,
+    )

@@ -1,16 +1,18 @@
-use Rattle.std.proofs.Common.{rules, ◌≡◌, Some, None, sym, subst}
+use Rattle.std.proofs.Common.{rules, ◌≡◌, Some, None, sym, ap, ◌∙◌, subst}
 use Rattle.directory.specs.Directory.{HasName}
 use Rattle.directory.specs.declared.creation.Creation.{Creation}
 use Rattle.directory.specs.declared.queue.Queue.{Queue}
 use Rattle.named.specs.Brokers.{Brokered, IsWell}
 use Rattle.named.proofs.Begun.{begun_well}
+use Rattle.named.proofs.Kept.{ready_there}
 use Rattle.named.proofs.broker.Broker.create.Goals as goal
 
 pub invariant_of-self : goal.invariant_of-self
 invariant_of-self c =
     let b : Brokered = record { counts = c.self.inside.layout; words = c.self.inside.memory; slots = c.self.inside.slots.items; directory = c.self.inside.directory; creation = c.self.inside.creation; recovery = c.self.inside.recovery } in
+    let ready : c.self.inside.recovery ≡ None = ap (λ (x : Brokered). x.recovery) c.self.view_is ∙ ready_there c.args.self.now.recovery c.check_ready.result c.check_ready.ensures c.in_ok-check_ready.was in
     let idle : c.self.inside.creation ≡ None = search rules in
     let is_new : HasName c.self.inside.directory c.in_ok-name.name → ⊥ = search rules in
     let queue : Queue = record { name = c.in_ok-name.name; kind = c.args.kind } in
     subst (λ (o : Creation). let x : Brokered = record b { creation = Some o } in IsWell x) (sym c.begin.ensures.made)
-    (begun_well b c.in-Some.slot queue c.self.invariant idle c.in-Some.ensures.found.free c.begin.ensures.named is_new)
+    (begun_well b c.in-Some.slot queue c.self.invariant ready idle c.in-Some.ensures.found.free c.begin.ensures.named is_new)

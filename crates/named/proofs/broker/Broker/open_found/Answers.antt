@@ -1,10 +1,10 @@
-use Rattle.std.proofs.Common.{rules, ◌≡◌, ◌∙◌, ◌+◌, ◌≤◌, ◌<◌, Option, Some, None, Bool, true, false, slice_get, slice_set, refl, sym, ap, subst, arith}
+use Rattle.std.proofs.Common.{◌≡◌, ◌∙◌, ◌+◌, ◌≤◌, Option, Some, true, false, slice_get, slice_set, refl, sym, ap, subst, arith}
 use Rattle.std.specs.Prelude.{IfSome, is_none}
 use Rattle.std.proofs.lemmas.Option.{slice_get_read}
 use Rattle.arena.specs.declared.broker.SlotId.{SlotId}
 use Rattle.directory.specs.Queue.{IsOpenSlot, slot_in}
 use Rattle.directory.specs.declared.creation.Creation.{Creation}
-use Rattle.named.specs.Brokers.{Brokered, IsWell, room_at, room_of}
+use Rattle.named.specs.Brokers.{Brokered, room_at, room_of}
 use Rattle.named.specs.Slots.{kind_in, room_in}
 use Rattle.named.specs.Stopping.{IsFound, IsFoundFirst, IsReadingDirectory, found_world}
 use Rattle.named.specs.declared.slot.Slot.{Slot}

@@ -1,18 +1,13 @@
-use Rattle.std.proofs.Common.{rules, ◌≡◌, ◌∙◌, ◌+◌, ◌≤◌, arith, ℕ, List, Option, Some, Ok, Result, Bool, slice_get, refl, sym, ap, subst}
-use Rattle.std.specs.Prelude.{IfSome, is_none}
+use Rattle.std.proofs.Common.{◌≡◌, ◌∙◌, ◌+◌, ◌≤◌, arith, ℕ, Option, Some, Ok, Result, Bool, slice_get, sym, ap, subst}
+use Rattle.std.specs.Prelude.{IfSome}
 use Rattle.persist.specs.Memory.{Words}
-use Rattle.arena.specs.Shape.{Counts}
-use Rattle.arena.specs.declared.broker.SlotId.{SlotId}
-use Rattle.directory.specs.Directory.{Directory}
 use Rattle.directory.specs.Queue.{IsOpenSlot, slot_in}
-use Rattle.directory.specs.declared.creation.Creation.{Creation}
 use Rattle.directory.specs.declared.recovery.Recovered.{Recovered}
 use Rattle.words.specs.declared.refusal.Refusal.{Refusal}
 use Rattle.named.specs.Brokers.{Brokered, IsWell, is_ready_at}
 use Rattle.named.specs.Stopping.{IsDirectoryRead, IsFound, IsReadOn, MayReadOn, found_by, words_read}
 use Rattle.named.specs.declared.recovery.BrokerRecovery.{BrokerRecovery}
 use Rattle.named.specs.declared.recovery.BrokerRecovery.TheVariants.{ReadDirectory}
-use Rattle.named.specs.declared.slot.Slot.{Slot}
 use Rattle.directory.specs.Recovering.{most_left}
 use Rattle.directory.specs.Recovery.{access_of}
 use Rattle.directory.specs.Step.{value_found}

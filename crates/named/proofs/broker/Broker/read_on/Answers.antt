@@ -1,12 +1,11 @@
-use Rattle.std.proofs.Common.{◌≡◌, ◌∙◌, Option, ◌≤◌, Some, arith, false, sym, subst}
+use Rattle.std.proofs.Common.{◌≡◌, ◌∙◌, Option, ◌≤◌, arith, false, sym, subst}
 use Rattle.stepper.specs.declared.resume.After.{After}
-use Rattle.stepper.specs.declared.resume.After.TheVariants.{More, Done}
 use Rattle.directory.specs.Directory.{Directory}
 use Rattle.directory.specs.UnderWay.{IsAtRest}
 use Rattle.directory.specs.declared.creation.Creation.{Creation}
 use Rattle.directory.specs.declared.recovery.DirectoryRecovery.{DirectoryRecovery}
 use Rattle.named.specs.Brokers.{Brokered, IsReading, IsWell, is_ready_at}
-use Rattle.named.specs.Stopping.{IsNext, IsReadingDirectory, MayReadOn, creation_after}
+use Rattle.named.specs.Stopping.{IsNext, IsReadingDirectory, MayReadOn}
 use Rattle.named.specs.Lasting.{left_after_read, left_at, most_kept}
 use Rattle.named.specs.declared.recovery.BrokerRecovery.{BrokerRecovery}
 use Rattle.named.proofs.Lastings.{few_next, most_is_kept}

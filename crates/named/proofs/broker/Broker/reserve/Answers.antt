@@ -20,7 +20,7 @@ invariant_of-self c =
     let here : slice_get c.self.inside.slots.items c.args.slot.0 ≡ Some c.index_mut.result.now = slice_get_read c.self.inside.slots.items (length c.self.inside.slots.items) c.args.slot.0 c.index_mut.result.now refl below c.index_mut.ensures.value in
     let b : Brokered = record { counts = c.self.inside.layout; words = c.self.inside.memory; slots = c.self.inside.slots.items; directory = c.self.inside.directory; creation = c.self.inside.creation; recovery = c.self.inside.recovery } in
     let well = slot_reserved c.self.inside.memory c.index_mut.result.now c.reserve.new.self (slot_is_well c.self.inside.layout c.self.inside.memory c.args.slot.0 c.index_mut.result.now (c.self.invariant.slots c.args.slot.0 c.index_mut.result.now here)) c.reserve.ensures.same (c.reserve.ensures.world c.self.inside.memory) in
-    still_well b c.args.slot.0 c.index_mut.result.now c.reserve.new.self c.self.inside.memory c.self.invariant here well (same_outside c.self.inside.memory c.index_mut.result.now) c.reserve.ensures.same
+    still_well b c.args.slot.0 c.index_mut.result.now c.reserve.new.self c.self.inside.memory c.self.invariant here well (same_outside c.self.inside.memory c.index_mut.result.now) c.reserve.ensures.same c.reserve.ensures.as_ready
 
 pub returns-clause-worlds : goal.returns-clause-worlds
 returns-clause-worlds c = λ at.

@@ -1,0 +1,12 @@
+use Rattle.std.proofs.Common.{◌≡◌, ℕ, ◌<◌, Some, Option, length, slice_get}
+use Rattle.directory.specs.declared.queue.Queue.{Queue}
+use Rattle.named.specs.Booting.{IsSlotBooted}
+use Rattle.named.specs.declared.slot.Slot.{Slot}
+use Rattle.named.proofs.slots.boot_each.Given as goal
+
+abbrev pub invariant-loop-slot : goal.invariant-loop-slot
+invariant-loop-slot l = record {
+  count : length l.slots.items ≡ 8;
+  each : (at : ℕ) (slot : Slot) (place : Option Queue) → at < l.slot → slice_get l.slots.items at ≡ Some slot
+      → slice_get l.kept.directory at ≡ Some place → IsSlotBooted l.kept.layout l.memory at place slot;
+}
