@@ -38,6 +38,7 @@ fn recovery_from(directory: &Directory, from: usize) -> Option<BrokerRecovery>
 fn creation_left(creation: Option<Creation>, recovery: &Option<BrokerRecovery>) -> Option<Creation>
     ensures { result ≡ creation_after creation recovery.now }
 {
+    // Forgotten while the directory is read, it would leave a gate that is kept open with no queue to open the slot by.
     if recovery.is_none() {
         return None;
     }
@@ -66,8 +67,8 @@ impl Broker {
         Ok(())
     }
 
-    /// Where recovery is the first to find the gate of a slot open, the queue is the one whose creation a crash dropped,
-    /// and begins here.
+    /// Where recovery is the first to find the gate of a slot open, the queue is the one whose creation a crash
+    /// dropped, and begins here.
     fn open_found(&mut self, opened: Option<SlotId>)
         requires well { IsWell self.old }
         requires reading { IsReadingDirectory self.old.recovery }
@@ -129,6 +130,7 @@ impl Broker {
         ensures falls { steps_left self.new < steps_left self.old }
     {
         let recovered = at.step(&self.layout, &mut self.memory);
+        // Without it recovery would come to a slot that is kept open and has no queue to recover.
         self.open_found(recovered.opened);
         self.read_on(recovered.after)
     }
@@ -146,6 +148,7 @@ impl Broker {
         if !ready {
             return Ok(false);
         }
+        // A queue that is left out here would stay down while the broker says that it is ready.
         self.recovery = recovery_from(&self.directory, slot.0 as usize + 1);
         self.creation = creation_left(self.creation, &self.recovery);
         Ok(self.recovery.is_none())
