@@ -1,10 +1,11 @@
 -- A loop over the slots, which changes each of them in turn.
-use Rattle.std.proofs.Common.{◌≡◌, ℕ, ◌+◌, ◌<◌, ◌≤◌, ◌⊎◌, inl, inr, List, Some, length, slice_get, slice_set, refl, sym, subst, ◌∙◌, arith}
+use Rattle.std.proofs.Common.{◌≡◌, ℕ, ◌+◌, ◌<◌, ◌≤◌, ◌⊎◌, inl, inr, List, Some, length, slice_get, slice_set, refl, sym, ap, subst, ◌∙◌, arith}
 use Rattle.std.proofs.lemmas.Bool.{cases_eq, cases_lt}
 use Rattle.std.proofs.lemmas.Option.{slice_get_within}
 use Rattle.interleave.proofs.AloneLaws.{get_set}
 use Rattle.named.specs.Each.{EachBecame, HasMoreRoom}
-use Rattle.named.specs.Slots.{IsAsReady, IsSameSlot}
+use Rattle.named.specs.Slots.{IsAsReady, IsSameSlot, room_in}
+use Rattle.named.specs.Brokers.{room_of}
 use Rattle.named.specs.declared.slot.Slot.{Slot}
 use Rattle.named.specs.declared.slot.Slot.TheVariants.{Closed, Durable, Log}
 use Rattle.named.proofs.Kept.{get_set_other, length_set, some_is}
@@ -84,3 +85,13 @@ each_more p k now is inside so_far own at slot less after = go (cases_eq at k)
         let e : slice_get (slice_set now k is) k ≡ Some slot = subst (λ n. slice_get (slice_set now k is) n ≡ Some slot) same after in
         subst p (some_is _ is slot (get_set now k is inside) e) own
     go (inr ne) = so_far at slot (omega (arith, less, ne)) (sym (get_set_other now k is at ne) ∙ after)
+
+-- where an act on one slot took room for one event at most, each has as much but for that
+pub rooms_after : (slots : List Slot) (i : ℕ) (was is : Slot) → slice_get slots i ≡ Some was → room_in was ≤ room_in is + 1
+    → (at : ℕ) → room_of (slice_get slots at) ≤ room_of (slice_get (slice_set slots i is) at) + 1
+rooms_after slots i was is here spent at = go (cases_eq at i)
+  where
+    go : (at ≡ i) ⊎ (at ≡ i → ⊥) → room_of (slice_get slots at) ≤ room_of (slice_get (slice_set slots i is) at) + 1
+    go (inl e) = subst (λ n. room_of (slice_get slots n) ≤ room_of (slice_get (slice_set slots i is) n) + 1) (sym e)
+        (omega (arith, ap room_of here, ap room_of (get_set slots i is (slice_get_within slots i was here)), spent))
+    go (inr ne) = omega (arith, ap room_of (get_set_other slots i is at ne))

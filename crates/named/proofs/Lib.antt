@@ -19,3 +19,4 @@ pub mod Booted
 pub mod Promises
 pub mod Readings
 pub mod Queues
+pub mod Lastings

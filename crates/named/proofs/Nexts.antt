@@ -1,16 +1,16 @@
 -- What recovery of a broker is about to do next: the queue that has one in the lowest slot left, or nothing.
-use Rattle.std.proofs.Common.{◌≡◌, ℕ, ◌<◌, ◌≤◌, ◌⊎◌, inl, inr, Bool, true, false, List, Option, Some, None, length, slice_get, refl, sym, subst, arith}
+use Rattle.std.proofs.Common.{◌≡◌, ℕ, ◌<◌, ◌≤◌, ◌⊎◌, inl, inr, Bool, true, false, List, Option, Some, None, length, slice_get, refl, sym, ap, subst, arith}
 use Rattle.std.specs.Option.{option_map}
 use Rattle.std.specs.Prelude.{nat_lt}
-use Rattle.std.proofs.lemmas.Bool.{cases_lt, le-ltb, lt-ltb}
+use Rattle.std.proofs.lemmas.Bool.{cases_lt, le-ltb, lt-ltb, ltb-true}
 use Rattle.std.proofs.lemmas.Option.{slice_get_within}
 use Rattle.persist.specs.Memory.{Words}
 use Rattle.directory.specs.Directory.{Directory, HasQueue}
 use Rattle.directory.specs.UnderWay.{IsAtRest}
 use Rattle.directory.specs.declared.creation.Creation.{Creation}
 use Rattle.directory.specs.declared.queue.Queue.{Queue}
-use Rattle.named.specs.Brokers.{IsDirectoryAt, is_ready_at}
-use Rattle.named.specs.Slots.{IsReadyIn, kind_in}
+use Rattle.named.specs.Brokers.{IsDirectoryAt, is_ready_at, world_of}
+use Rattle.named.specs.Slots.{IsReadyIn, kind_in, world_in}
 use Rattle.named.specs.Stopping.{IsNext, creation_after}
 use Rattle.named.specs.declared.recovery.BrokerRecovery.{BrokerRecovery}
 use Rattle.named.specs.declared.recovery.BrokerRecovery.TheVariants.{ReadDirectory, RecoverQueue}
@@ -53,6 +53,20 @@ module _ (slots : List Slot) (directory : Directory) (same : length slots ≡ le
       go : (at < s.0) ⊎ (s.0 ≤ at) → IsReadyIn (nat_lt at s.0) slot
       go (inl less) = subst (λ (r : Bool). IsReadyIn r slot) (sym (lt-ltb at s.0 less)) (lower (cases_lt at from) less)
       go (inr past) = subst (λ (r : Bool). IsReadyIn r slot) (sym (le-ltb at s.0 past)) (above (omega (arith, past, next.past)))
+
+  -- none of the others has a world that is ready
+  pub no_world : (ws : Words) (from : ℕ) (recovery : Option BrokerRecovery) → IsNext directory from recovery → (at : ℕ) → from ≤ at
+      → is_ready_at recovery at ≡ true → world_of ws (slice_get slots at) ≡ None
+  no_world ws from recovery next at past ready = go (slice_get slots at) refl
+    where
+      without : (r : Option BrokerRecovery) → IsNext directory from r → is_ready_at r at ≡ true → (q : Queue) → HasQueue directory at q → ⊥
+      without None n e q has = n at q past has
+      without (Some (ReadDirectory d)) n e q has = absurd n
+      without (Some (RecoverQueue s)) n e q has = n.none_before at q past (ltb-true at s.0 e) has
+
+      go : (o : Option Slot) → slice_get slots at ≡ o → world_of ws o ≡ None
+      go (Some slot) e = ap (world_in ws) (closed_without at slot e (without recovery next ready))
+      go None e = refl
 
 -- the directory was read
 pub rest_next : (ws : Words) (directory : Directory) (creation : Option Creation) (from : ℕ) (recovery : Option BrokerRecovery) → IsAtRest ws directory

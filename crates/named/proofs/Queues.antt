@@ -1,7 +1,7 @@
 -- A step of recovery of the queue in a slot, and what comes once that is ready.
 use Rattle.std.proofs.Common.{◌≡◌, ℕ, ◌+◌, ◌<◌, ◌≤◌, ◌⊎◌, inl, inr, Bool, true, false, not, List, Option, Some, None, Result, Ok, Err, slice_get, slice_set, refl, sym, ap, ◌∙◌, subst, arith}
 use Rattle.std.specs.Prelude.{is_none, is_some, nat_lt}
-use Rattle.std.proofs.lemmas.Bool.{cases_eq, le-ltb, lt-ltb}
+use Rattle.std.proofs.lemmas.Bool.{cases_eq, le-ltb, lt-ltb, ltb-false}
 use Rattle.std.proofs.lemmas.Option.{slice_get_within}
 use Rattle.words.specs.declared.refusal.Refusal.{Refusal}
 use Rattle.arena.specs.declared.broker.SlotId.{SlotId}
@@ -17,15 +17,21 @@ use Rattle.interleave.specs.Calls.{is_no_memory}
 use Rattle.interleave.specs.State.{State, after_recover, is_ready, machine, recover_result, recover_result_with, recover_with}
 use Rattle.interleave.proofs.AloneLaws.{get_set}
 use Rattle.named.specs.Blocks.{BlockState, state_in}
-use Rattle.named.specs.Brokers.{Brokered, IsDirectoryAt, IsRecoveringQueue, IsWell, is_ready_at, with_slot, world_at}
-use Rattle.named.specs.Slots.{IsReadyIn, IsSameOutsideSlot, IsSameSlot, IsSlotWell, acted, answered, world_in}
-use Rattle.named.specs.Stopping.{IsNext, IsQueueOn, IsQueueRecovered, creation_after}
+use Rattle.named.specs.Brokers.{Brokered, IsDirectoryAt, IsRecoveringQueue, IsWell, is_ready_at, room_of, with_slot, world_at}
+use Rattle.named.specs.Slots.{IsReadyIn, IsSameOutsideSlot, IsSameSlot, IsSlotWell, IfWorld, acted, answered, room_in, world_in}
+use Rattle.named.specs.Stopping.{HasFullQueue, IsNext, IsQueueOn, IsQueueRecovered, creation_after}
 use Rattle.named.specs.declared.recovery.BrokerRecovery.{BrokerRecovery}
 use Rattle.named.specs.declared.recovery.BrokerRecovery.TheVariants.{RecoverQueue}
 use Rattle.named.specs.declared.slot.Slot.{Slot}
 use Rattle.named.specs.declared.slot.Slot.TheVariants.{Closed, Durable, Log}
-use Rattle.named.proofs.Kept.{directory_stays, get_set_other, kinds_now, length_set, others_stay, readiness_now, room_now, same_directory, slots_now, some_is, world_now, world_was}
-use Rattle.named.proofs.Nexts.{ready_next, rest_next}
+use Rattle.named.proofs.Kept.{directory_stays, get_set_other, kinds_now, length_set, others_stay, readiness_now, room_now, same_directory, slot_is_well, slots_now, some_is, world_now, world_was}
+use Rattle.named.specs.Telling.{IsToldAtReady, TellAtReady}
+use Rattle.interleave.specs.Holds.{Holds}
+use Rattle.interleave.proofs.ActLaws.{told_at_ready}
+use Rattle.named.specs.Lasting.{left_at, left_in, most_from, steps_left}
+use Rattle.named.proofs.Begun.{listed_open}
+use Rattle.named.proofs.Lastings.{few_next, slot_falls}
+use Rattle.named.proofs.Nexts.{no_world, ready_next, rest_next}
 
 -- whether the queue is ready once a step answered this
 abbrev pub ready_by : Result Bool Refusal → Bool
@@ -64,6 +70,19 @@ slot_recovers full old new (Durable was) (Log is) place down world r result = ab
 slot_recovers full old new (Log was) Closed place down world r result = absurd place
 slot_recovers full old new (Log was) (Durable is) place down world r result = absurd place
 
+told_of : (full : Bool) (w : State) → Holds w → recover_result full w ≡ Ok true → IsToldAtReady (after_recover full w)
+told_of full w holds ready =
+    let it = told_at_ready full w holds ready in
+    record {
+      told = it.told;
+      announced = it.announced;
+      unannounced = it.unannounced;
+      stands = it.stands;
+      nobody = it.nobody;
+      floors = it.floors;
+      mended = it.mended;
+    }
+
 -- the queue that recovers is in a slot that there is
 pub its_queue : (b : Brokered) → IsWell b → (slot : SlotId) → b.recovery ≡ Some (RecoverQueue slot) → IsRecoveringQueue b.words b.directory slot.0
 its_queue b holds slot is = subst (λ (r : Option BrokerRecovery). IsDirectoryAt b.words r b.creation b.directory) is holds.directory
@@ -97,6 +116,25 @@ module _ (b : Brokered) (slot : SlotId) (was is : Slot) (ws : Words) (holds : Is
   answer_here : answered (recover_result (is_no_memory r)) (world_at b slot.0) ≡ r
   answer_here = ap (answered (recover_result (is_no_memory r))) (world_was b slot.0 was is ws holds here well outside place) ∙ sym result
 
+  -- the queue's recovery has fewer steps left
+  world_falls : (x : Bool) → r ≡ Ok x → left_in (world_at (with_slot b slot.0 is ws) slot.0) < left_in (world_at b slot.0)
+  world_falls x ok =
+      let it = its_queue b holds slot turn in
+      let less = slot_falls (is_no_memory r) b.words was it.queue.kind r x (slot_is_well b.counts b.words slot.0 was (holds.slots slot.0 was here))
+      (holds.kinds slot.0 was (Some it.queue) here it.has) result ok in
+      omega (
+        arith,
+        less,
+        ap left_in (world_now b slot.0 was is ws holds here well outside place ∙ world),
+        ap left_in (world_was b slot.0 was is ws holds here well outside place),
+      )
+
+  left_before : steps_left b ≡ left_in (world_at b slot.0) + most_from b.counts b.directory (slot.0 + 1)
+  left_before = ap (left_at b) turn
+
+  pub falls_yet : (x : Bool) → r ≡ Ok x → steps_left (with_slot b slot.0 is ws) < steps_left b
+  falls_yet x ok = omega (arith, world_falls x ok, left_before, ap (left_at (with_slot b slot.0 is ws)) turn)
+
   -- it is not ready yet
   module _ (yet : ready_by r ≡ false) where
     pub well_recovering : IsWell (with_slot b slot.0 is ws)
@@ -128,6 +166,10 @@ module _ (b : Brokered) (slot : SlotId) (was is : Slot) (ws : Words) (holds : Is
       others = λ j ne. others_stay b slot.0 was is ws holds here well outside place j ne;
       next = subst (IsQueueOn b (with_slot b slot.0 is ws) slot.0 r) (sym answer_here) (goes_on r yet);
     }
+
+    -- no other is either
+    pub tells_nothing : TellAtReady b (with_slot b slot.0 is ws)
+    tells_nothing at before now = absurd (cc)
 
   -- it is ready
   module _ (ready : r ≡ Ok true) (recovery : Option BrokerRecovery) (next : IsNext b.directory (slot.0 + 1) recovery) where
@@ -179,3 +221,32 @@ module _ (b : Brokered) (slot : SlotId) (was is : Slot) (ws : Words) (holds : Is
       next = subst (IsQueueOn b after slot.0 (Ok (is_none recovery)))
           (sym (subst (λ (x : Result Bool Refusal). answered (recover_result (is_no_memory x)) (world_at b slot.0) ≡ x) ready answer_here)) (refl, next, refl);
     }
+
+    tells_slot : (s : Slot) → IsSlotWell b.words s → r ≡ answered (recover_result (is_no_memory r)) (world_in b.words s)
+        → IfWorld (acted (after_recover (is_no_memory r)) (world_in b.words s)) IsToldAtReady
+    tells_slot Closed holding e = tt
+    tells_slot (Durable block) holding e = told_of (is_no_memory r) (state_in b.words block) holding.holds (sym e ∙ ready)
+    tells_slot (Log block) holding e = told_of (is_no_memory r) (state_in b.words block) holding.holds (sym e ∙ ready)
+
+    pub tells_ready : TellAtReady b after
+    tells_ready at before now = go (cases_eq at slot.0)
+      where
+        go : (at ≡ slot.0) ⊎ (at ≡ slot.0 → ⊥) → IfWorld (world_at after at) IsToldAtReady
+        go (inl same) = subst (λ n. IfWorld (world_at after n) IsToldAtReady) (sym same)
+            (subst (λ (o : Option State). IfWorld o IsToldAtReady) (sym (world_now b slot.0 was is ws holds here well outside place ∙ world))
+            (tells_slot was (slot_is_well b.counts b.words slot.0 was (holds.slots slot.0 was here)) result))
+        go (inr ne) =
+            let later : slot.0 ≤ at = ltb-false at slot.0 (subst (λ (o : Option BrokerRecovery). is_ready_at o at ≡ false) turn before) in
+            subst (λ (o : Option State). IfWorld o IsToldAtReady)
+            (sym (no_world (slice_set b.slots slot.0 is) b.directory (length_set b.slots slot.0 is ∙ holds.count ∙ sym holds.listed.count)
+            (kinds_now b slot.0 was is ws holds here well outside place) ws (slot.0 + 1) recovery next at (omega (arith, later, ne)) now)) tt
+
+    pub falls_ready : steps_left after < steps_left b
+    falls_ready = omega (arith, few_next after well_ready (slot.0 + 1) recovery next, world_falls true ready, left_before)
+
+-- a queue whose step is refused for want of memory has no room
+pub full_here : (b : Brokered) (holds : IsWell b) (slot : SlotId) (turn : b.recovery ≡ Some (RecoverQueue slot)) (was : Slot) → slice_get b.slots slot.0 ≡ Some was
+    → room_in was ≡ 0 → HasFullQueue b
+full_here b holds slot turn was here full =
+    let it = its_queue b holds slot turn in
+    record { slot = slot.0; is_open = listed_open b slot.0 it.queue holds it.has; full = ap room_of here ∙ full }

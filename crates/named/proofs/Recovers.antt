@@ -3,12 +3,14 @@ use Rattle.std.proofs.Common.{◌≡◌, ℕ, Bool, false, Option, Some, None, s
 use Rattle.directory.specs.UnderWay.{IsAtRest}
 use Rattle.directory.specs.declared.recovery.DirectoryRecovery.{DirectoryRecovery}
 use Rattle.named.specs.Brokers.{Brokered, IsReading, IsWell, is_ready_at}
-use Rattle.named.specs.Slots.{IsReadyIn}
+use Rattle.named.specs.Slots.{IfWorld, IsReadyIn}
 use Rattle.named.specs.Stopping.{IsNext, IsReadingDirectory, creation_after}
 use Rattle.named.specs.declared.recovery.BrokerRecovery.{BrokerRecovery}
 use Rattle.named.specs.declared.recovery.BrokerRecovery.TheVariants.{ReadDirectory, RecoverQueue}
 use Rattle.named.specs.declared.slot.Slot.{Slot}
-use Rattle.named.proofs.Nexts.{ready_next, rest_next}
+use Rattle.named.specs.Telling.{IsToldAtReady, TellAtReady}
+use Rattle.interleave.specs.State.{State}
+use Rattle.named.proofs.Nexts.{no_world, ready_next, rest_next}
 
 -- no queue is ready while the directory is read
 none_ready : (recovery : Option BrokerRecovery) (at : ℕ) → IsReadingDirectory recovery → is_ready_at recovery at ≡ false
@@ -49,3 +51,10 @@ module _ (b : Brokered) (holds : IsWell b) (down : IsReadingDirectory b.recovery
     readiness = λ at slot here. ready_next b.slots b.directory (holds.count ∙ sym holds.listed.count) holds.kinds 0 recovery next at slot here
         (λ less. absurd (omega (arith, less))) (λ past. not_ready at slot here);
   }
+
+  -- then no queue is ready whose clients would be told something
+  pub tells_read : (recovery : Option BrokerRecovery) → IsNext b.directory 0 recovery
+      → TellAtReady b (record b { recovery = recovery; creation = creation_after b.creation recovery })
+  tells_read recovery next at before now =
+      subst (λ (o : Option State). IfWorld o IsToldAtReady)
+      (sym (no_world b.slots b.directory (holds.count ∙ sym holds.listed.count) holds.kinds b.words 0 recovery next at (omega arith) now)) tt

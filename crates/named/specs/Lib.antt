@@ -3,6 +3,8 @@ pub mod Slots
 pub mod Each
 pub mod Brokers
 pub mod Stopping
+pub mod Telling
+pub mod Lasting
 pub mod Evicting
 pub mod Rotating
 pub mod Booting

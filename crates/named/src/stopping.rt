@@ -8,6 +8,8 @@ ghost use Rattle.directory.specs.Directory.{Directory as AnyDirectory, HasQueue}
 ghost use Rattle.named.specs.Brokers.{IsWell, room_at};
 ghost use Rattle.named.specs.Stopping.{HasFullQueue, IsDirectoryRead, IsFound, IsNext, IsQueueRecovered, IsReadOn};
 ghost use Rattle.named.specs.Stopping.{IsReadingDirectory, IsRecoveryStep, IsSameButRoom, IsStopped, MayReadOn, creation_after};
+ghost use Rattle.named.specs.Lasting.{left_after_read, most_kept, steps_left};
+ghost use Rattle.named.specs.Telling.{TellAtReady};
 
 use crate::broker::Broker;
 use crate::recovery::BrokerRecovery;
@@ -36,6 +38,7 @@ fn recovery_from(directory: &Directory, from: usize) -> Option<BrokerRecovery>
 fn creation_left(creation: Option<Creation>, recovery: &Option<BrokerRecovery>) -> Option<Creation>
     ensures { result ≡ creation_after creation recovery.now }
 {
+    // Forgotten while the directory is read, it would leave a gate that is kept open with no queue to open the slot by.
     if recovery.is_none() {
         return None;
     }
@@ -52,6 +55,7 @@ impl Broker {
         ensures result { result ≡ crash_result (is_no_memory result) }
         ensures full { is_no_memory result ≡ true → HasFullQueue self.old }
         ensures room { (slot : ℕ) → room_at self.old slot ≤ room_at self.new slot + 1 }
+        ensures left { result ≡ Ok tt → steps_left self.new ≡ 32 + most_kept self.new }
     {
         // A queue that had stopped while another's room is refused would have a crash that the other had not.
         reserve_each(&mut self.slots, 1)?;
@@ -63,14 +67,15 @@ impl Broker {
         Ok(())
     }
 
-    /// Where recovery is the first to find the gate of a slot open, the queue is the one whose creation a crash dropped,
-    /// and begins here.
+    /// Where recovery is the first to find the gate of a slot open, the queue is the one whose creation a crash
+    /// dropped, and begins here.
     fn open_found(&mut self, opened: Option<SlotId>)
         requires well { IsWell self.old }
         requires reading { IsReadingDirectory self.old.recovery }
         requires open { IfSome opened (λ slot. IsOpenSlot self.old.words.kept slot.0) }
         ensures same { self.new ≡ record self.old { slots = self.new.slots; directory = self.new.directory } }
         ensures found { IsFound self.old self.new opened }
+        ensures room { (other : ℕ) → room_at self.old other ≤ room_at self.new other + 1 }
         ensures known { IfSome opened (λ slot.
             slice_get self.new.directory slot.0 ≡ Some (slot_in self.old.words.kept slot.0)) }
         ensures well { IsWell self.new }
@@ -97,6 +102,8 @@ impl Broker {
         requires reading { IsReadingDirectory self.old.recovery }
         requires may { MayReadOn self.old after }
         ensures next { IsReadOn self.old self.new after }
+        ensures told { TellAtReady self.old self.new }
+        ensures left { steps_left self.new ≤ left_after_read self.old after }
         ensures same { self.new ≡ record self.old { creation = self.new.creation; recovery = self.new.recovery } }
         ensures answer { result ≡ is_none self.new.recovery }
     {
@@ -117,9 +124,13 @@ impl Broker {
     /// A load of the directory's recovery. It answers whether the broker is ready now.
     fn read_directory(&mut self, at: DirectoryRecovery) -> bool
         requires { self.old.recovery ≡ Some (BrokerRecovery.ReadDirectory at) }
-        ensures { IsDirectoryRead self.old self.new at (Ok result) }
+        ensures read { IsDirectoryRead self.old self.new at (Ok result) }
+        ensures room { (slot : ℕ) → room_at self.old slot ≤ room_at self.new slot + 1 }
+        ensures told { TellAtReady self.old self.new }
+        ensures falls { steps_left self.new < steps_left self.old }
     {
         let recovered = at.step(&self.layout, &mut self.memory);
+        // Without it recovery would come to a slot that is kept open and has no queue to recover.
         self.open_found(recovered.opened);
         self.read_on(recovered.after)
     }
@@ -127,12 +138,17 @@ impl Broker {
     /// A step of recovery of the queue in a slot. It answers whether the broker is ready now.
     fn recover_queue(&mut self, slot: SlotId) -> Result<bool, Refusal>
         requires { self.old.recovery ≡ Some (BrokerRecovery.RecoverQueue slot) }
-        ensures { IsQueueRecovered self.old self.new slot.0 result }
+        ensures recovered { IsQueueRecovered self.old self.new slot.0 result }
+        ensures full { is_no_memory result ≡ true → HasFullQueue self.old }
+        ensures room { (other : ℕ) → room_at self.old other ≤ room_at self.new other + 1 }
+        ensures told { TellAtReady self.old self.new }
+        ensures falls { IfOk result (λ ready. steps_left self.new < steps_left self.old) }
     {
         let ready = self.slots[slot.0 as usize].recover_step(&mut self.memory)?;
         if !ready {
             return Ok(false);
         }
+        // A queue that is left out here would stay down while the broker says that it is ready.
         self.recovery = recovery_from(&self.directory, slot.0 as usize + 1);
         self.creation = creation_left(self.creation, &self.recovery);
         Ok(self.recovery.is_none())
@@ -144,6 +160,11 @@ impl Broker {
     /// for want of memory (NoMemory).
     pub fn recover_step(&mut self) -> Result<bool, Refusal>
         ensures step { IsRecoveryStep self.old self.new result self.old.recovery }
+        ensures full { is_no_memory result ≡ true → HasFullQueue self.old }
+        ensures room { (slot : ℕ) → room_at self.old slot ≤ room_at self.new slot + 1 }
+        ensures told { TellAtReady self.old self.new }
+        ensures few { steps_left self.old ≤ 32 + most_kept self.old }
+        ensures falls { IfOk result (λ ready. steps_left self.new < steps_left self.old) }
     {
         match self.recovery {
             None => Err(Refusal::AlreadyReady),

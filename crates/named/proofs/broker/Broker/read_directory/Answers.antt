@@ -1,12 +1,18 @@
-use Rattle.std.proofs.Common.{◌≡◌, ◌∙◌, Some, Ok, Result, Bool, slice_get, sym, ap, subst}
+use Rattle.std.proofs.Common.{◌≡◌, ◌∙◌, ◌+◌, ◌≤◌, arith, ℕ, Option, Some, Ok, Result, Bool, slice_get, sym, ap, subst}
 use Rattle.std.specs.Prelude.{IfSome}
 use Rattle.persist.specs.Memory.{Words}
 use Rattle.directory.specs.Queue.{IsOpenSlot, slot_in}
 use Rattle.directory.specs.declared.recovery.Recovered.{Recovered}
 use Rattle.words.specs.declared.refusal.Refusal.{Refusal}
-use Rattle.named.specs.Brokers.{Brokered, IsWell}
+use Rattle.named.specs.Brokers.{Brokered, IsWell, is_ready_at}
 use Rattle.named.specs.Stopping.{IsDirectoryRead, IsFound, IsReadOn, MayReadOn, found_by, words_read}
+use Rattle.named.specs.declared.recovery.BrokerRecovery.{BrokerRecovery}
 use Rattle.named.specs.declared.recovery.BrokerRecovery.TheVariants.{ReadDirectory}
+use Rattle.directory.specs.Recovering.{most_left}
+use Rattle.directory.specs.Recovery.{access_of}
+use Rattle.directory.specs.Step.{value_found}
+use Rattle.named.specs.Lasting.{left_after_read, left_at, most_kept, steps_left}
+use Rattle.named.proofs.Lastings.{read_falls}
 use Rattle.named.proofs.Readings.{found_opens, found_over, may_read_on, read_over, well_loaded, worlds_loaded}
 use Rattle.named.proofs.broker.Broker.read_directory.Goals as goal
 
@@ -44,8 +50,8 @@ read_on-requires-clause-may c =
     (subst (λ (r : Recovered). IfSome r.opened (λ slot. slice_get now.directory slot.0 ≡ Some (slot_in c.step-recovered.new.memory.kept slot.0))) it c.open_found.ensures.known) in
     subst (λ (r : Recovered). MayReadOn now r.after) (sym it) (may_read_on b.counts b.words c.args.at now c.open_found.ensures.well is2 words known)
 
-pub returns : goal.returns
-returns c =
+pub returns-clause-read : goal.returns-clause-read
+returns-clause-read c =
     let b : Brokered = record { counts = c.self.inside.layout; words = c.self.inside.memory; slots = c.self.inside.slots.items; directory = c.self.inside.directory; creation = c.self.inside.creation; recovery = c.self.inside.recovery } in
     let is : b.recovery ≡ Some (ReadDirectory c.args.at) = ap (λ (x : Brokered). x.recovery) c.self.view_is ∙ c.requires in
     let now : Brokered = c.open_found.new.self in
@@ -71,3 +77,25 @@ returns c =
       answer = ap (λ (x : Bool). let r : Result Bool Refusal = Ok x in r) c.read_on.ensures.answer;
     } in
     subst (λ (x : Brokered). IsDirectoryRead x new c.args.at result) c.self.view_is read
+
+pub returns-clause-told : goal.returns-clause-told
+returns-clause-told c = λ at before now.
+    let b : Brokered = record { counts = c.self.inside.layout; words = c.self.inside.memory; slots = c.self.inside.slots.items; directory = c.self.inside.directory; creation = c.self.inside.creation; recovery = c.self.inside.recovery } in
+    let is : b.recovery ≡ Some (ReadDirectory c.args.at) = ap (λ (x : Brokered). x.recovery) c.self.view_is ∙ c.requires in
+    let same : c.open_found.new.self.recovery ≡ c.args.self.now.recovery = ap (λ (x : Brokered). x.recovery) c.open_found.ensures.same ∙ ap (λ (x : Brokered). x.recovery) c.self.view_is in
+    c.read_on.ensures.told at (ap (λ (r : Option BrokerRecovery). is_ready_at r at) same ∙ before) now
+
+pub returns-clause-falls : goal.returns-clause-falls
+returns-clause-falls c =
+    let b : Brokered = record { counts = c.self.inside.layout; words = c.self.inside.memory; slots = c.self.inside.slots.items; directory = c.self.inside.directory; creation = c.self.inside.creation; recovery = c.self.inside.recovery } in
+    let is : b.recovery ≡ Some (ReadDirectory c.args.at) = ap (λ (x : Brokered). x.recovery) c.self.view_is ∙ c.requires in
+    let now : Brokered = c.open_found.new.self in
+    let words : now.words ≡ words_read b c.args.at = ap (λ (x : Brokered). x.words) c.open_found.ensures.same ∙ c.step-recovered.ensures.one_access in
+    let it : c.step-recovered.result ≡ found_by b c.args.at = c.step-recovered.ensures.next in
+    let found : ℕ = value_found b.counts (access_of c.args.at) b.words in
+    let counts : now.counts ≡ b.counts = ap (λ (x : Brokered). x.counts) c.open_found.ensures.same in
+    let kept : now.words.kept ≡ b.words.kept = ap (λ (ws : Words). ws.kept) words in
+    let left : steps_left c.read_on.new.self ≤ left_after_read now (found_by b c.args.at).after = subst (λ (r : Recovered). steps_left c.read_on.new.self ≤ left_after_read now r.after) it c.read_on.ensures.left in
+    let less = read_falls b now c.args.at found counts kept in
+    let before : steps_left b ≡ most_left c.args.at + most_kept b = ap (left_at b) is in
+    omega (arith, left, less, before, ap (λ (x : Brokered). steps_left x) c.self.view_is)

@@ -1,15 +1,19 @@
-use Rattle.std.proofs.Common.{rules, ◌≡◌, ◌∙◌, ◌+◌, Option, Some, Ok, Result, Bool, true, false, slice_get, sym, ap, subst}
+use Rattle.std.proofs.Common.{rules, ◌≡◌, ◌∙◌, ◌+◌, ◌<◌, ◌≤◌, Option, Some, Ok, Result, Bool, true, false, slice_get, slice_set, sym, ap, subst}
 use Rattle.std.specs.Prelude.{is_none}
 use Rattle.std.proofs.lemmas.Option.{slice_get_read}
 use Rattle.words.specs.declared.refusal.Refusal.{Refusal}
 use Rattle.directory.specs.declared.creation.Creation.{Creation}
-use Rattle.named.specs.Brokers.{Brokered, IsWell, with_slot}
-use Rattle.named.specs.Stopping.{IsNext, IsQueueRecovered, creation_after}
+use Rattle.named.specs.Brokers.{Brokered, IsWell, is_ready_at, room_at, room_of, with_slot}
+use Rattle.named.specs.Stopping.{HasFullQueue, IsNext, IsQueueRecovered, creation_after}
 use Rattle.named.specs.declared.recovery.BrokerRecovery.{BrokerRecovery}
 use Rattle.named.specs.declared.recovery.BrokerRecovery.TheVariants.{RecoverQueue}
 use Rattle.named.specs.declared.slot.Slot.{Slot}
+use Rattle.named.specs.Lasting.{left_at, steps_left}
+use Rattle.interleave.specs.Calls.{is_no_memory}
+use Rattle.named.specs.Slots.{room_in}
+use Rattle.named.proofs.Eaches.{rooms_after}
 use Rattle.named.proofs.Kept.{slot_is_well}
-use Rattle.named.proofs.Queues.{its_slot, ready_by, recovered, recovering, well_ready, well_recovering}
+use Rattle.named.proofs.Queues.{falls_ready, falls_yet, full_here, its_slot, ready_by, recovered, recovering, tells_ready, well_ready, well_recovering}
 use Rattle.named.proofs.broker.Broker.recover_queue.Goals as goal
 
 pub recover_step-requires : goal.recover_step-requires
@@ -29,8 +33,8 @@ invariant_of-self c =
     let yet : ready_by c.recover_step.result ≡ false = ap ready_by c.in_err-ready.was in
     well_recovering b c.args.slot was c.recover_step.new.self c.recover_step.new.memory c.self.invariant here c.recover_step.ensures.well c.recover_step.ensures.outside c.recover_step.ensures.same turn c.recover_step.result c.recover_step.ensures.world c.recover_step.ensures.result yet
 
-pub returns-in_err-ready : goal.returns-in_err-ready
-returns-in_err-ready c =
+pub returns-in_err-ready-clause-recovered : goal.returns-in_err-ready-clause-recovered
+returns-in_err-ready-clause-recovered c =
     let b : Brokered = record { counts = c.self.inside.layout; words = c.self.inside.memory; slots = c.self.inside.slots.items; directory = c.self.inside.directory; creation = c.self.inside.creation; recovery = c.self.inside.recovery } in
     let turn : b.recovery ≡ Some (RecoverQueue c.args.slot) = ap (λ (x : Brokered). x.recovery) c.self.view_is ∙ c.requires in
     let was : Slot = c.index_mut.result.now in
@@ -50,8 +54,8 @@ invariant_of-self-then-not-ready c =
     let yet : ready_by c.recover_step.result ≡ false = ap ready_by c.in_ok-ready.was ∙ c.if-not-ready.true in
     well_recovering b c.args.slot was c.recover_step.new.self c.recover_step.new.memory c.self.invariant here c.recover_step.ensures.well c.recover_step.ensures.outside c.recover_step.ensures.same turn c.recover_step.result c.recover_step.ensures.world c.recover_step.ensures.result yet
 
-pub returns-then-not-ready : goal.returns-then-not-ready
-returns-then-not-ready c =
+pub returns-then-not-ready-clause-recovered : goal.returns-then-not-ready-clause-recovered
+returns-then-not-ready-clause-recovered c =
     let b : Brokered = record { counts = c.self.inside.layout; words = c.self.inside.memory; slots = c.self.inside.slots.items; directory = c.self.inside.directory; creation = c.self.inside.creation; recovery = c.self.inside.recovery } in
     let turn : b.recovery ≡ Some (RecoverQueue c.args.slot) = ap (λ (x : Brokered). x.recovery) c.self.view_is ∙ c.requires in
     let was : Slot = c.index_mut.result.now in
@@ -75,8 +79,8 @@ invariant_of-self-2 c =
     subst (λ (k : Option Creation). let x : Brokered = record now { recovery = recovery; creation = k } in IsWell x) (sym c.creation_left-self-inside.ensures)
     (well_ready b c.args.slot was c.recover_step.new.self c.recover_step.new.memory c.self.invariant here c.recover_step.ensures.well c.recover_step.ensures.outside c.recover_step.ensures.same turn c.recover_step.result c.recover_step.ensures.world c.recover_step.ensures.result ready recovery next)
 
-pub returns : goal.returns
-returns c =
+pub returns-clause-recovered : goal.returns-clause-recovered
+returns-clause-recovered c =
     let b : Brokered = record { counts = c.self.inside.layout; words = c.self.inside.memory; slots = c.self.inside.slots.items; directory = c.self.inside.directory; creation = c.self.inside.creation; recovery = c.self.inside.recovery } in
     let turn : b.recovery ≡ Some (RecoverQueue c.args.slot) = ap (λ (x : Brokered). x.recovery) c.self.view_is ∙ c.requires in
     let was : Slot = c.index_mut.result.now in
@@ -92,3 +96,75 @@ returns c =
     let left : IsQueueRecovered b new c.args.slot.0 answer =
     subst (λ (k : Option Creation). let x : Brokered = record now { recovery = recovery; creation = k } in IsQueueRecovered b x c.args.slot.0 answer) (sym c.creation_left-self-inside.ensures) done in
     subst (λ (x : Brokered). IsQueueRecovered x new c.args.slot.0 (Ok c.is_none.result)) c.self.view_is (subst (λ (x : Bool). IsQueueRecovered b new c.args.slot.0 (Ok x)) answered left)
+
+pub returns-clause-told : goal.returns-clause-told
+returns-clause-told c = λ at before now.
+    let b : Brokered = record { counts = c.self.inside.layout; words = c.self.inside.memory; slots = c.self.inside.slots.items; directory = c.self.inside.directory; creation = c.self.inside.creation; recovery = c.self.inside.recovery } in
+    let turn : b.recovery ≡ Some (RecoverQueue c.args.slot) = ap (λ (x : Brokered). x.recovery) c.self.view_is ∙ c.requires in
+    let was : Slot = c.index_mut.result.now in
+    let here : slice_get b.slots c.args.slot.0 ≡ Some was = slice_get_read b.slots 8 c.args.slot.0 was (sym c.self.invariant.count) (its_slot b c.self.invariant c.args.slot turn) c.index_mut.ensures.value in
+    let ready : c.recover_step.result ≡ Ok true = c.in_ok-ready.was ∙ ap (λ (x : Bool). let r : Result Bool Refusal = Ok x in r) c.if-not-ready.false in
+    let recovery : Option BrokerRecovery = c.recovery_from-self-inside.result in
+    let next : IsNext b.directory (c.args.slot.0 + 1) recovery = c.recovery_from-self-inside.ensures in
+    let was_not : is_ready_at b.recovery at ≡ false = subst (λ (x : Brokered). is_ready_at x.recovery at ≡ false) (sym c.self.view_is) before in
+    tells_ready b c.args.slot was c.recover_step.new.self c.recover_step.new.memory c.self.invariant here c.recover_step.ensures.well c.recover_step.ensures.outside c.recover_step.ensures.same turn c.recover_step.result c.recover_step.ensures.world c.recover_step.ensures.result ready recovery next at was_not now
+
+pub returns-then-not-ready-clause-falls : goal.returns-then-not-ready-clause-falls
+returns-then-not-ready-clause-falls c =
+    let b : Brokered = record { counts = c.self.inside.layout; words = c.self.inside.memory; slots = c.self.inside.slots.items; directory = c.self.inside.directory; creation = c.self.inside.creation; recovery = c.self.inside.recovery } in
+    let turn : b.recovery ≡ Some (RecoverQueue c.args.slot) = ap (λ (x : Brokered). x.recovery) c.self.view_is ∙ c.requires in
+    let was : Slot = c.index_mut.result.now in
+    let here : slice_get b.slots c.args.slot.0 ≡ Some was = slice_get_read b.slots 8 c.args.slot.0 was (sym c.self.invariant.count) (its_slot b c.self.invariant c.args.slot turn) c.index_mut.ensures.value in
+    let now : Brokered = with_slot b c.args.slot.0 c.recover_step.new.self c.recover_step.new.memory in
+    let less : steps_left now < steps_left b = falls_yet b c.args.slot was c.recover_step.new.self c.recover_step.new.memory c.self.invariant here c.recover_step.ensures.well c.recover_step.ensures.outside c.recover_step.ensures.same turn c.recover_step.result c.recover_step.ensures.world c.recover_step.ensures.result c.in_ok-ready.ready c.in_ok-ready.was in
+    subst (λ (x : Brokered). steps_left now < steps_left x) c.self.view_is less
+
+pub returns-clause-falls : goal.returns-clause-falls
+returns-clause-falls c =
+    let b : Brokered = record { counts = c.self.inside.layout; words = c.self.inside.memory; slots = c.self.inside.slots.items; directory = c.self.inside.directory; creation = c.self.inside.creation; recovery = c.self.inside.recovery } in
+    let turn : b.recovery ≡ Some (RecoverQueue c.args.slot) = ap (λ (x : Brokered). x.recovery) c.self.view_is ∙ c.requires in
+    let was : Slot = c.index_mut.result.now in
+    let here : slice_get b.slots c.args.slot.0 ≡ Some was = slice_get_read b.slots 8 c.args.slot.0 was (sym c.self.invariant.count) (its_slot b c.self.invariant c.args.slot turn) c.index_mut.ensures.value in
+    let ready : c.recover_step.result ≡ Ok true = c.in_ok-ready.was ∙ ap (λ (x : Bool). let r : Result Bool Refusal = Ok x in r) c.if-not-ready.false in
+    let recovery : Option BrokerRecovery = c.recovery_from-self-inside.result in
+    let next : IsNext b.directory (c.args.slot.0 + 1) recovery = c.recovery_from-self-inside.ensures in
+    let now : Brokered = with_slot b c.args.slot.0 c.recover_step.new.self c.recover_step.new.memory in
+    let less : steps_left (record now { recovery = recovery; creation = creation_after b.creation recovery }) < steps_left b = falls_ready b c.args.slot was c.recover_step.new.self c.recover_step.new.memory c.self.invariant here c.recover_step.ensures.well c.recover_step.ensures.outside c.recover_step.ensures.same turn c.recover_step.result c.recover_step.ensures.world c.recover_step.ensures.result ready recovery next in
+    subst (λ (x : Brokered). left_at now recovery < steps_left x) c.self.view_is less
+
+pub returns-in_err-ready-clause-full : goal.returns-in_err-ready-clause-full
+returns-in_err-ready-clause-full c = λ no_memory.
+    let b : Brokered = record { counts = c.self.inside.layout; words = c.self.inside.memory; slots = c.self.inside.slots.items; directory = c.self.inside.directory; creation = c.self.inside.creation; recovery = c.self.inside.recovery } in
+    let turn : b.recovery ≡ Some (RecoverQueue c.args.slot) = ap (λ (x : Brokered). x.recovery) c.self.view_is ∙ c.requires in
+    let was : Slot = c.index_mut.result.now in
+    let here : slice_get b.slots c.args.slot.0 ≡ Some was = slice_get_read b.slots 8 c.args.slot.0 was (sym c.self.invariant.count) (its_slot b c.self.invariant c.args.slot turn) c.index_mut.ensures.value in
+    let answer : c.recover_step.result ≡ c.from_residual.result = search rules in
+    let full : room_in was ≡ 0 = c.recover_step.ensures.full (ap is_no_memory answer ∙ no_memory) in
+    subst HasFullQueue c.self.view_is (full_here b c.self.invariant c.args.slot turn was here full)
+
+pub returns-in_err-ready-clause-room : goal.returns-in_err-ready-clause-room
+returns-in_err-ready-clause-room c = λ other.
+    let b : Brokered = record { counts = c.self.inside.layout; words = c.self.inside.memory; slots = c.self.inside.slots.items; directory = c.self.inside.directory; creation = c.self.inside.creation; recovery = c.self.inside.recovery } in
+    let turn : b.recovery ≡ Some (RecoverQueue c.args.slot) = ap (λ (x : Brokered). x.recovery) c.self.view_is ∙ c.requires in
+    let was : Slot = c.index_mut.result.now in
+    let here : slice_get b.slots c.args.slot.0 ≡ Some was = slice_get_read b.slots 8 c.args.slot.0 was (sym c.self.invariant.count) (its_slot b c.self.invariant c.args.slot turn) c.index_mut.ensures.value in
+    subst (λ (x : Brokered). room_at x other ≤ room_of (slice_get (slice_set b.slots c.args.slot.0 c.recover_step.new.self) other) + 1) c.self.view_is
+    (rooms_after b.slots c.args.slot.0 was c.recover_step.new.self here c.recover_step.ensures.room other)
+
+pub returns-then-not-ready-clause-room : goal.returns-then-not-ready-clause-room
+returns-then-not-ready-clause-room c = λ other.
+    let b : Brokered = record { counts = c.self.inside.layout; words = c.self.inside.memory; slots = c.self.inside.slots.items; directory = c.self.inside.directory; creation = c.self.inside.creation; recovery = c.self.inside.recovery } in
+    let turn : b.recovery ≡ Some (RecoverQueue c.args.slot) = ap (λ (x : Brokered). x.recovery) c.self.view_is ∙ c.requires in
+    let was : Slot = c.index_mut.result.now in
+    let here : slice_get b.slots c.args.slot.0 ≡ Some was = slice_get_read b.slots 8 c.args.slot.0 was (sym c.self.invariant.count) (its_slot b c.self.invariant c.args.slot turn) c.index_mut.ensures.value in
+    subst (λ (x : Brokered). room_at x other ≤ room_of (slice_get (slice_set b.slots c.args.slot.0 c.recover_step.new.self) other) + 1) c.self.view_is
+    (rooms_after b.slots c.args.slot.0 was c.recover_step.new.self here c.recover_step.ensures.room other)
+
+pub returns-clause-room : goal.returns-clause-room
+returns-clause-room c = λ other.
+    let b : Brokered = record { counts = c.self.inside.layout; words = c.self.inside.memory; slots = c.self.inside.slots.items; directory = c.self.inside.directory; creation = c.self.inside.creation; recovery = c.self.inside.recovery } in
+    let turn : b.recovery ≡ Some (RecoverQueue c.args.slot) = ap (λ (x : Brokered). x.recovery) c.self.view_is ∙ c.requires in
+    let was : Slot = c.index_mut.result.now in
+    let here : slice_get b.slots c.args.slot.0 ≡ Some was = slice_get_read b.slots 8 c.args.slot.0 was (sym c.self.invariant.count) (its_slot b c.self.invariant c.args.slot turn) c.index_mut.ensures.value in
+    subst (λ (x : Brokered). room_at x other ≤ room_of (slice_get (slice_set b.slots c.args.slot.0 c.recover_step.new.self) other) + 1) c.self.view_is
+    (rooms_after b.slots c.args.slot.0 was c.recover_step.new.self here c.recover_step.ensures.room other)
