@@ -5,6 +5,7 @@ ghost use Rattle.arena.specs.Broker.{broker_size};
 ghost use Rattle.arena.specs.Shape.{shape_of};
 ghost use Rattle.recover.specs.Sound.{AreSoundWords, IsDamaged};
 ghost use Rattle.named.specs.Booting.{AreBootWords, AreRead, IsBlockDamaged, IsBooted, MayRefuse, kept_block};
+ghost use Rattle.named.specs.Promises.{KeepsPromises};
 
 use crate::broker::Broker;
 use crate::recovery::BrokerRecovery;
@@ -63,6 +64,7 @@ impl Broker {
         ensures booted { IfOk result (IsBooted memory) }
         ensures sound { OnOk result (AreBootWords memory.kept) }
         ensures errors { IfErr result (MayRefuse memory.kept) }
+        ensures promises { IfOk result KeepsPromises }
     {
         memory.crash();
         let kept = sound_directory(&memory)?;

@@ -4,6 +4,7 @@ ghost use Rattle.std.specs.Prelude.{◌≡◌, ◌≢◌, ◌↔◌, ◌⊎◌, 
 ghost use Rattle.directory.specs.Directory.{IsDirectory, IsNamed, HasName};
 ghost use Rattle.directory.specs.Creation.{successor};
 ghost use Rattle.named.specs.Brokers.{is_down, world_at, quiet, IsBegun, IsNotCreated, MayCreate, IsStepCreated};
+ghost use Rattle.named.specs.Promises.{KeepsPromises};
 
 use crate::broker::Broker;
 use crate::slot::Slot;
@@ -83,6 +84,7 @@ impl Broker {
             (λ creation. IsStepCreated self.old self.new creation result (successor creation)) }
         ensures others { (other : ℕ) → IfOk result (λ opened. IfSome opened (λ slot. other ≢ slot.0))
             → quiet (world_at self.new other) ≡ quiet (world_at self.old other) }
+        ensures promises { KeepsPromises self.new }
     {
         self.check_ready()?;
         let under_way = self.creation;

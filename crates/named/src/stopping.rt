@@ -8,6 +8,7 @@ ghost use Rattle.directory.specs.Directory.{Directory as AnyDirectory, HasQueue}
 ghost use Rattle.named.specs.Brokers.{world_at, room_at};
 ghost use Rattle.named.specs.Stopping.{HasFullQueue, IsDirectoryRead, IsFound, IsNext, IsQueueRecovered, IsReadOn};
 ghost use Rattle.named.specs.Stopping.{IsReadingDirectory, IsRecoveryStep, IsSameButRoom, IsStopped, MayReadOn, creation_after};
+ghost use Rattle.named.specs.Promises.{KeepsPromises};
 
 use crate::broker::Broker;
 use crate::recovery::BrokerRecovery;
@@ -55,6 +56,7 @@ impl Broker {
         ensures result { result ≡ crash_result (is_no_memory result) }
         ensures full { is_no_memory result ≡ true → HasFullQueue self.old }
         ensures room { (slot : ℕ) → room_at self.old slot ≤ room_at self.new slot + 1 }
+        ensures promises { KeepsPromises self.new }
     {
         // A queue that had stopped while another's room is refused would have a crash that the other had not.
         reserve_each(&mut self.slots, 1)?;
