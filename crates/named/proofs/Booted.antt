@@ -1,5 +1,5 @@
 -- What a broker that begins on kept words is, and why it is refused.
-use Rattle.std.proofs.Common.{◌≡◌, ℕ, zero, suc, ◌+◌, ◌-◌, ◌<◌, ◌≤◌, ◌⊎◌, inl, inr, List, [], ◌∷◌, length, take, drop, replicate, slice_get, slice_set, slice_index, slice_index_or, true, false, Option, Some, None, Result, Ok, Err, refl, sym, ap, subst, ◌∙◌, arith}
+use Rattle.std.proofs.Common.{◌≡◌, ℕ, ◌+◌, ◌<◌, ◌≤◌, inl, inr, List, length, drop, replicate, slice_get, slice_set, slice_index, slice_index_or, true, false, Option, Some, None, Result, Ok, Err, refl, sym, ap, subst, ◌∙◌, arith}
 use Rattle.std.specs.Prelude.{IfErr, IsSome, is_some}
 use Rattle.std.specs.Option.{option_map}
 use Rattle.std.proofs.lemmas.List.{ext_get_or, get_or-replicate, length-drop, length-replicate, length-take}
@@ -19,7 +19,7 @@ use Rattle.arena.specs.Shape.{Counts, Shape, shape_of}
 use Rattle.arena.proofs.BrokerWords.{block_ends}
 use Rattle.arena.specs.declared.place.Place.{Place}
 use Rattle.recover.specs.Kept.{kept_in}
-use Rattle.recover.specs.Sound.{AnswersAreSound, AreSoundWords, EntriesAreSound, IfKind, IsDamaged, Obeys, RowsAreSound}
+use Rattle.recover.specs.Sound.{AnswersAreSound, AreSoundWords, EntriesAreSound, IfKind, Obeys, RowsAreSound}
 use Rattle.directory.specs.Directory.{Directory, IsDirectory}
 use Rattle.directory.specs.Queue.{directory_of, queue_in, slot_in}
 use Rattle.directory.specs.Sound.{IsBlockZero, IsBrokerDamaged, SlotIsSound, counts_in}

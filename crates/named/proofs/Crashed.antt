@@ -1,6 +1,6 @@
 -- A queue in its block, and a slot, over the words that a crash leaves.
-use Rattle.std.proofs.Common.{◌≡◌, ℕ, ◌+◌, ◌≤◌, List, length, take, drop, arith, sym, ◌∙◌, length-drop, length-take}
-use Rattle.persist.specs.Memory.{Words, words_after_crash}
+use Rattle.std.proofs.Common.{◌≡◌, ℕ, ◌+◌, ◌≤◌, List, length, take, drop, arith, ◌∙◌, length-drop, length-take}
+use Rattle.persist.specs.Memory.{Words}
 use Rattle.named.specs.Blocks.{BlockState, IsWellIn}
 
 -- where a part is as long as it should be, so much of the list is there

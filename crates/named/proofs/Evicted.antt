@@ -1,7 +1,6 @@
 -- An eviction through a window on a block is one of the whole memory.
-use Rattle.std.proofs.Common.{◌≡◌, ℕ, ◌+◌, ◌-◌, ◌<◌, ◌≤◌, ◌++◌, List, length, take, drop, slice_index, Bool, true, false, if◌then◌else◌, ◌==◌, Option, Some, None, Result, Ok, refl, sym, ap, ◌∙◌, subst, arith}
+use Rattle.std.proofs.Common.{◌≡◌, ℕ, ◌+◌, ◌-◌, ◌<◌, ◌≤◌, ◌++◌, List, length, take, drop, slice_index, Bool, true, false, if◌then◌else◌, ◌==◌, Option, Some, None, Ok, refl, sym, ap, ◌∙◌, subst, arith}
 use Rattle.std.proofs.lemmas.List.{take-append-drop, drop-drop}
-use Rattle.words.specs.declared.refusal.Refusal.{Refusal}
 use Rattle.persist.specs.Changes.{change_at, change_of}
 use Rattle.persist.specs.declared.access.Change.{Change}
 use Rattle.persist.specs.Memory.{Words, part, words_after_eviction}

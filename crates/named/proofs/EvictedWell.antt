@@ -1,6 +1,6 @@
 -- An eviction from a broker's memory keeps what holds of the broker.
-use Rattle.std.proofs.Common.{◌≡◌, ◌≢◌, ℕ, ◌+◌, ◌*◌, ◌-◌, ◌<◌, ◌≤◌, ◌⊎◌, inl, inr, Bool, true, false, ◌&&◌, if◌then◌else◌, List, length, take, drop, replicate, slice_get, slice_index, slice_set, Option, Some, None, refl, sym, ap, ◌∙◌, subst, arith}
-use Rattle.std.proofs.lemmas.Bool.{cases_eq, cases_lt, le-leb, lt-leb, lt-ltb, le-ltb}
+use Rattle.std.proofs.Common.{◌≡◌, ◌≢◌, ℕ, ◌+◌, ◌-◌, ◌<◌, ◌≤◌, ◌⊎◌, inl, inr, Bool, true, false, ◌&&◌, if◌then◌else◌, List, take, drop, replicate, slice_get, slice_index, slice_set, Option, Some, None, refl, sym, ap, ◌∙◌, subst, arith}
+use Rattle.std.proofs.lemmas.Bool.{cases_eq, le-leb, lt-leb, lt-ltb, le-ltb}
 use Rattle.std.proofs.lemmas.List.{drop-set-lt, drop-take, take-set-le, length-set, set-get_or, get_or-replicate}
 use Rattle.std.proofs.lemmas.Option.{slice_get_within}
 use Rattle.std.specs.Prelude.{nat_le, nat_lt}
@@ -9,9 +9,7 @@ use Rattle.persist.proofs.Parts.{index_within}
 use Rattle.arena.specs.Broker.{block_from, block_size_of, broker_size}
 use Rattle.arena.specs.Shape.{Counts}
 use Rattle.arena.proofs.BrokerWords.{block_ends}
-use Rattle.words.specs.declared.call.Kind.{Kind}
 use Rattle.directory.specs.Directory.{Directory}
-use Rattle.directory.specs.UnderWay.{HasDirectory}
 use Rattle.directory.specs.declared.creation.Creation.{Creation}
 use Rattle.directory.proofs.Creations.{creation_evicted, rest_evicted}
 use Rattle.directory.proofs.Recoveries.{recovery_evicted}
@@ -19,10 +17,10 @@ use Rattle.directory.proofs.Sounds.{head_evicted}
 use Rattle.interleave.specs.Core.{state_of}
 use Rattle.interleave.specs.State.{State, after_evict}
 use Rattle.interleave.proofs.AloneLaws.{get_set}
-use Rattle.named.specs.Blocks.{BlockState, IsSameWords, state_in}
+use Rattle.named.specs.Blocks.{IsSameWords, state_in}
 use Rattle.named.specs.Evicting.{is_in_block, world_evicted}
 use Rattle.named.specs.Slots.{IsEvictedOutside, IsSameOutsideSlot, IsWordOf, acted, world_evicted_in, world_in}
-use Rattle.named.specs.Brokers.{Brokered, HasRoom, IsDirectoryAt, IsDirectoryDown, IsDirectoryIn, IsInBlock, IsSlotAt, IsUnusedBlock, IsWell, block_words, world_at, world_of}
+use Rattle.named.specs.Brokers.{Brokered, IsDirectoryAt, IsDirectoryDown, IsDirectoryIn, IsSlotAt, IsUnusedBlock, IsWell, block_words, world_at, world_of}
 use Rattle.named.specs.declared.recovery.BrokerRecovery.{BrokerRecovery}
 use Rattle.named.specs.declared.recovery.BrokerRecovery.TheVariants.{ReadDirectory, RecoverQueue}
 use Rattle.named.specs.declared.slot.Slot.{Slot}

@@ -1,5 +1,5 @@
 -- A gate that recovery finds open: the queue is known, or it is that of the creation which a crash dropped.
-use Rattle.std.proofs.Common.{◌≡◌, ◌≢◌, ℕ, ◌+◌, ◌<◌, ◌≤◌, ◌⊎◌, inl, inr, Bool, true, false, List, Option, Some, None, length, slice_get, slice_set, refl, sym, ap, ◌∙◌, subst, arith}
+use Rattle.std.proofs.Common.{◌≡◌, ◌≢◌, ℕ, ◌<◌, ◌⊎◌, inl, inr, true, false, Option, Some, None, length, slice_get, slice_set, refl, sym, ap, ◌∙◌, subst, arith}
 use Rattle.std.proofs.lemmas.Bool.{cases_eq}
 use Rattle.std.proofs.lemmas.Option.{slice_get_within}
 use Rattle.std.specs.Option.{option_map}
@@ -8,17 +8,16 @@ use Rattle.words.specs.declared.call.Kind.{Kind}
 use Rattle.arena.specs.declared.broker.SlotId.{SlotId}
 use Rattle.persist.specs.Memory.{Words}
 use Rattle.directory.specs.Directory.{Directory, HasName, IsDirectory, IsFree}
-use Rattle.directory.specs.Queue.{IsOpen, IsOpenSlot, queue_in, slot_in}
+use Rattle.directory.specs.Queue.{IsOpenSlot, queue_in, slot_in}
 use Rattle.directory.specs.declared.creation.Creation.{Creation}
 use Rattle.directory.specs.declared.queue.Queue.{Queue}
 use Rattle.directory.specs.declared.recovery.DirectoryRecovery.{DirectoryRecovery}
 use Rattle.directory.proofs.Creations.{set_here, slot_open}
 use Rattle.interleave.specs.State.{State}
 use Rattle.interleave.proofs.AloneLaws.{get_set}
-use Rattle.named.specs.Blocks.{BlockState}
 use Rattle.named.specs.Brokers.{Brokered, IsDirectoryAt, IsMaybeWith, IsReading, IsSlotAt, IsUnusedBlock, IsWell, IsWith, is_ready_at, quiet, world_at, world_of}
 use Rattle.named.specs.Slots.{IsReadyIn, kind_in, world_in}
-use Rattle.named.specs.Stopping.{IsFound, IsFoundFirst, IsFoundIn, IsKnownAlike, IsReadingDirectory, found_world}
+use Rattle.named.specs.Stopping.{IsFound, IsFoundFirst, IsFoundIn, IsReadingDirectory, found_world}
 use Rattle.named.specs.declared.recovery.BrokerRecovery.{BrokerRecovery}
 use Rattle.named.specs.declared.recovery.BrokerRecovery.TheVariants.{ReadDirectory, RecoverQueue}
 use Rattle.named.specs.declared.slot.Slot.{Slot}
@@ -26,7 +25,6 @@ use Rattle.named.specs.declared.slot.Slot.TheVariants.{Closed, Durable, Log}
 use Rattle.named.proofs.Begun.{get_there}
 use Rattle.named.proofs.Kept.{get_set_other, length_set, some_is}
 use Rattle.named.proofs.Opened.{closed_where_free}
-use Rattle.named.proofs.Recovers.{not_ready}
 
 -- how far the directory is read
 pub record Reading (b : Brokered) : Type 0 where
@@ -73,7 +71,7 @@ known_free known whole creation more long at below free = go (known_or known who
     go (inl same) = sym same
     go (inr lost) =
         let there : slice_get whole at ≡ Some (Some lost.dropped.queue) = ap (slice_get whole) lost.here ∙ ap (λ (d : Directory). slice_get d lost.dropped.slot.0) lost.more.is
-            ∙ set_here known lost.dropped.slot.0 (Some lost.dropped.queue) (omega (arith, long, below, lost.here)) in
+        ∙ set_here known lost.dropped.slot.0 (Some lost.dropped.queue) (omega (arith, long, below, lost.here)) in
         absurd (cc)
 
 same_whole : (known whole : Directory) (creation : Option Creation) → whole ≡ known → IsMaybeWith known whole creation
@@ -249,3 +247,11 @@ pub found_here : (b new : Brokered) (slot : SlotId) (s : Slot) → slice_get b.s
     → IsFoundIn b new slot (world_at b slot.0)
 found_here b new slot s here closed found =
     subst (IsFoundIn b new slot) (sym (ap (world_of b.words) here ∙ world_closed b.words s closed)) found
+
+pub found_known : (b : Brokered) (slot : SlotId) (s : Slot) → slice_get b.slots slot.0 ≡ Some s → is_none (kind_in s) ≡ false → IsFound b b (Some slot)
+found_known b slot s here is_open = subst (IsFoundIn b b slot) (sym (ap (world_of b.words) here)) (alike s is_open)
+  where
+    alike : (x : Slot) → is_none (kind_in x) ≡ false → IsFoundIn b b slot (world_in b.words x)
+    alike Closed e = absurd (cc)
+    alike (Durable block) e = record { directory = refl; worlds = λ j. refl }
+    alike (Log block) e = record { directory = refl; worlds = λ j. refl }

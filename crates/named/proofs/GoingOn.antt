@@ -164,7 +164,7 @@ crash_goes_on old new holds stopped =
     on_by_act false w Crash (world_at new slot) (world_holds old slot w holds e) (stopped.worlds slot ∙ ap (acted after_stop) e))
 
 -- a queue that comes into a free slot leaves the others
-more_directory : (directory : Directory) (at : ℕ) (queue : Queue) → IsFree directory at → (slot : ℕ) (q : Queue) → HasQueue directory slot q
+pub more_directory : (directory : Directory) (at : ℕ) (queue : Queue) → IsFree directory at → (slot : ℕ) (q : Queue) → HasQueue directory slot q
     → HasQueue (slice_set directory at (Some queue)) slot q
 more_directory directory at queue free slot q has = go (cases_eq slot at)
   where
@@ -177,7 +177,7 @@ more_directory directory at queue free slot q has = go (cases_eq slot at)
         none_some x e = absurd (cc)
     go (inr ne) = get_set_other directory at (Some queue) slot ne ∙ has
 
-only_more : (directory : Directory) (at : ℕ) (queue : Queue) (slot : ℕ) (q : Queue) → at < length directory → HasQueue (slice_set directory at (Some queue)) slot q
+pub only_more : (directory : Directory) (at : ℕ) (queue : Queue) (slot : ℕ) (q : Queue) → at < length directory → HasQueue (slice_set directory at (Some queue)) slot q
     → HasQueue directory slot q ⊎ ((slot ≡ at) × (q ≡ queue))
 only_more directory at queue slot q below has = go (cases_eq slot at)
   where
@@ -196,7 +196,7 @@ same_downtime old new on directory creation = record {
   creation = creation;
 }
 
-creation_stays : (creation now : Option Creation) (recovery : Option BrokerRecovery) → now ≡ creation_after creation recovery
+pub creation_stays : (creation now : Option Creation) (recovery : Option BrokerRecovery) → now ≡ creation_after creation recovery
     → (now ≡ creation) ⊎ (recovery ≡ None)
 creation_stays creation now None e = inr refl
 creation_stays creation now (Some recovery) e = inl e

@@ -1,5 +1,5 @@
 -- An act on one slot keeps what holds of the broker, and leaves the other slots as they were.
-use Rattle.std.proofs.Common.{◌≡◌, ◌≢◌, ℕ, zero, suc, ◌+◌, ◌<◌, ◌≤◌, ◌⊎◌, inl, inr, List, [], ◌∷◌, length, take, drop, slice_get, slice_set, Option, Some, None, Result, Ok, Err, Bool, true, false, if◌then◌else◌, is_some, is_ok, refl, sym, ap, ◌∙◌, subst, arith, length-drop, length-take}
+use Rattle.std.proofs.Common.{◌≡◌, ◌≢◌, ℕ, zero, suc, ◌+◌, ◌<◌, ◌≤◌, ◌⊎◌, inl, inr, List, [], ◌∷◌, length, take, drop, slice_get, slice_set, Option, Some, None, Result, Ok, Err, Bool, if◌then◌else◌, is_some, is_ok, refl, sym, ap, ◌∙◌, subst, arith, length-drop, length-take}
 use Rattle.std.proofs.lemmas.Bool.{cases_eq, cases_lt}
 use Rattle.std.proofs.lemmas.Option.{slice_get_within, slice_get_past}
 use Rattle.std.specs.Option.{option_map}
@@ -246,13 +246,13 @@ module _ (b : Brokered) (i : ℕ) (was is : Slot) (ws : Words) (holds : IsWell b
   at_is : slice_get (slice_set b.slots i is) i ≡ Some is
   at_is = get_set b.slots i is (slice_get_within b.slots i was here)
 
-  room_now : HasRoom b.counts ws
+  pub room_now : HasRoom b.counts ws
   room_now = slot_room b.counts b.words ws i was is holds.room (holds.slots i was here) well place outside
 
-  same_directory : HaveSameDirectory b.words ws
+  pub same_directory : HaveSameDirectory b.words ws
   same_directory = slot_past b.counts b.words ws i was room_now (holds.slots i was here) outside
 
-  slots_now : (j : ℕ) (s : Slot) → slice_get (slice_set b.slots i is) j ≡ Some s → IsSlotAt b.counts ws j s
+  pub slots_now : (j : ℕ) (s : Slot) → slice_get (slice_set b.slots i is) j ≡ Some s → IsSlotAt b.counts ws j s
   slots_now j s e = go (cases_eq j i)
     where
       go : (j ≡ i) ⊎ (j ≡ i → ⊥) → IsSlotAt b.counts ws j s
@@ -265,7 +265,7 @@ module _ (b : Brokered) (i : ℕ) (was is : Slot) (ws : Words) (holds : IsWell b
           slot_stays b.counts j s b.words ws (slot_elsewhere b.counts b.words ws i j was ne (holds.slots i was here) outside)
           (room_now.cached ∙ sym holds.room.cached) (holds.slots j s there)
 
-  kinds_now : (j : ℕ) (s : Slot) (queue : Option Queue) → slice_get (slice_set b.slots i is) j ≡ Some s
+  pub kinds_now : (j : ℕ) (s : Slot) (queue : Option Queue) → slice_get (slice_set b.slots i is) j ≡ Some s
       → slice_get b.directory j ≡ Some queue → kind_in s ≡ option_map (λ (q : Queue). q.kind) queue
   kinds_now j s queue e listed = go (cases_eq j i)
     where

@@ -1,3 +1,4 @@
+pub mod Downtimes
 pub mod GoingOn
 pub mod EvictedWell
 pub mod Evicted
@@ -16,3 +17,5 @@ pub mod Founds
 pub mod Rotated
 pub mod Booted
 pub mod Promises
+pub mod Readings
+pub mod Queues

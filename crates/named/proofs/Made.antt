@@ -69,7 +69,7 @@ new_well c ws slots directory counts cached kept closed free listed = record {
   );
   directory = subst (IsAtRest ws) (sym free) (blank_rest ws has blank);
   readiness = λ at slot here.
-    subst (IsReadyIn true) (sym (get_replicate 8 Closed at slot (subst (λ (l : List Slot). slice_get l at ≡ Some slot) closed here))) tt;
+      subst (IsReadyIn true) (sym (get_replicate 8 Closed at slot (subst (λ (l : List Slot). slice_get l at ≡ Some slot) closed here))) tt;
 }
   where
     room : HasRoom c ws

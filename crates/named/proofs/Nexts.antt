@@ -1,5 +1,5 @@
 -- What recovery of a broker is about to do next: the queue that has one in the lowest slot left, or nothing.
-use Rattle.std.proofs.Common.{◌≡◌, ℕ, ◌<◌, ◌≤◌, ◌⊎◌, inl, inr, Bool, true, false, List, Option, Some, None, length, slice_get, refl, sym, ap, ◌∙◌, subst, arith}
+use Rattle.std.proofs.Common.{◌≡◌, ℕ, ◌<◌, ◌≤◌, ◌⊎◌, inl, inr, Bool, true, false, List, Option, Some, None, length, slice_get, refl, sym, subst, arith}
 use Rattle.std.specs.Option.{option_map}
 use Rattle.std.specs.Prelude.{nat_lt}
 use Rattle.std.proofs.lemmas.Bool.{cases_lt, le-ltb, lt-ltb}
@@ -11,11 +11,11 @@ use Rattle.directory.specs.declared.creation.Creation.{Creation}
 use Rattle.directory.specs.declared.queue.Queue.{Queue}
 use Rattle.named.specs.Brokers.{IsDirectoryAt, is_ready_at}
 use Rattle.named.specs.Slots.{IsReadyIn, kind_in}
-use Rattle.named.specs.Stopping.{IsNext, IsNextQueue, creation_after}
+use Rattle.named.specs.Stopping.{IsNext, creation_after}
 use Rattle.named.specs.declared.recovery.BrokerRecovery.{BrokerRecovery}
 use Rattle.named.specs.declared.recovery.BrokerRecovery.TheVariants.{ReadDirectory, RecoverQueue}
 use Rattle.named.specs.declared.slot.Slot.{Slot}
-use Rattle.named.specs.declared.slot.Slot.TheVariants.{Closed, Durable, Log}
+use Rattle.named.specs.declared.slot.Slot.TheVariants.{Closed}
 use Rattle.named.proofs.Begun.{get_there}
 use Rattle.named.proofs.Opened.{closed_where_free}
 

@@ -1,9 +1,8 @@
 -- What follows of a broker's invariant: each queue is explained, and another broker may begin on the words that it keeps.
-use Rattle.std.proofs.Common.{◌≡◌, ℕ, ◌+◌, ◌<◌, ◌≤◌, ◌⊎◌, inl, inr, List, length, take, drop, replicate, slice_get, slice_set, slice_index, slice_index_or, Option, Some, None, refl, sym, ap, subst, ◌∙◌, arith}
+use Rattle.std.proofs.Common.{◌≡◌, ℕ, ◌<◌, ◌≤◌, ◌⊎◌, inl, inr, List, length, replicate, slice_get, slice_set, slice_index, slice_index_or, Option, Some, None, refl, sym, ap, subst, ◌∙◌, arith}
 use Rattle.std.proofs.lemmas.Bool.{cases_eq}
 use Rattle.std.proofs.lemmas.List.{length-replicate}
 use Rattle.std.proofs.lemmas.Option.{slice_get-get_or, slice_get_within}
-use Rattle.std.specs.Option.{option_map}
 use Rattle.words.specs.declared.call.Kind.{Kind}
 use Rattle.words.specs.declared.call.Kind.TheVariants.{Durable as durable_kind, Log as log_kind}
 use Rattle.persist.specs.Memory.{Words, words_after_crash}
@@ -14,7 +13,6 @@ use Rattle.arena.specs.Limits.{AreCounts}
 use Rattle.arena.specs.Shape.{Counts, Shape, shape_of}
 use Rattle.recover.specs.Sound.{AreSoundWords}
 use Rattle.directory.specs.Directory.{Directory, HasQueue, IsDirectory, IsFree}
-use Rattle.directory.specs.Queue.{directory_of}
 use Rattle.directory.specs.Sound.{AreFreeBlocksZero, DirectoryIsSound, HeadIsSound, IsBlockZero, counts_in}
 use Rattle.directory.specs.UnderWay.{IsAtRest}
 use Rattle.directory.specs.declared.creation.Creation.{Creation}
@@ -25,21 +23,20 @@ use Rattle.directory.proofs.Sounds.{rest_sound}
 use Rattle.interleave.specs.Holds.{IsExplained}
 use Rattle.interleave.specs.Ranges.{AreUnused}
 use Rattle.interleave.specs.State.{State, world_over}
-use Rattle.interleave.proofs.AloneLaws.{get_set}
 use Rattle.interleave.proofs.HoldsKept.{explained_world}
 use Rattle.interleave.proofs.KeptTells.{kept_sound}
 use Rattle.interleave.proofs.OverLaws.{holds_over}
 use Rattle.interleave.proofs.ValueLaws.{zero_at}
 use Rattle.named.specs.Blocks.{BlockState, state_in}
 use Rattle.named.specs.Booting.{AreBootWords, kept_block}
-use Rattle.named.specs.Brokers.{Brokered, IsCreating, IsDirectoryAt, IsInBlock, IsMaybeWith, IsReading, IsSlotAt, IsUnusedBlock, IsWell, IsWith, block_words, world_at, world_of}
+use Rattle.named.specs.Brokers.{Brokered, IsCreating, IsDirectoryAt, IsInBlock, IsMaybeWith, IsSlotAt, IsUnusedBlock, IsWell, IsWith, block_words, world_of}
 use Rattle.named.specs.Promises.{AreExplained, KeepsPromises}
 use Rattle.named.specs.Slots.{kind_in, world_in}
 use Rattle.named.specs.declared.recovery.BrokerRecovery.{BrokerRecovery}
 use Rattle.named.specs.declared.recovery.BrokerRecovery.TheVariants.{ReadDirectory, RecoverQueue}
 use Rattle.named.specs.declared.slot.Slot.{Slot}
 use Rattle.named.specs.declared.slot.Slot.TheVariants.{Closed, Durable, Log}
-use Rattle.named.proofs.Kept.{get_set_other, some_is}
+use Rattle.named.proofs.Kept.{get_set_other}
 
 -- each queue's world holds
 explained_in : (c : Counts) (ws : Words) (at : ℕ) (slot : Slot) (w : State) → IsSlotAt c ws at slot → world_in ws slot ≡ Some w → IsExplained w

@@ -1,17 +1,10 @@
 -- The steps of a broker's recovery that read the directory.
-use Rattle.std.proofs.Common.{◌≡◌, ◌≢◌, ℕ, ◌+◌, ◌<◌, ◌≤◌, ◌⊎◌, inl, inr, Bool, true, false, List, Option, Some, None, length, slice_get, slice_set, refl, sym, ap, ◌∙◌, subst, arith}
-use Rattle.std.specs.Option.{option_map}
-use Rattle.persist.specs.Memory.{Words}
-use Rattle.stepper.specs.declared.resume.After.{After}
-use Rattle.stepper.specs.declared.resume.After.TheVariants.{More, Done}
-use Rattle.directory.specs.Directory.{Directory, HasQueue, IsDirectory}
+use Rattle.std.proofs.Common.{◌≡◌, ℕ, Bool, false, Option, Some, None, slice_get, refl, sym, ◌∙◌, subst, arith}
 use Rattle.directory.specs.UnderWay.{IsAtRest}
-use Rattle.directory.specs.declared.creation.Creation.{Creation}
-use Rattle.directory.specs.declared.queue.Queue.{Queue}
 use Rattle.directory.specs.declared.recovery.DirectoryRecovery.{DirectoryRecovery}
-use Rattle.named.specs.Brokers.{Brokered, IsDirectoryAt, IsReading, IsWell, is_ready_at}
-use Rattle.named.specs.Slots.{IsReadyIn, kind_in}
-use Rattle.named.specs.Stopping.{IsNext, IsReadingDirectory, MayReadOn, creation_after}
+use Rattle.named.specs.Brokers.{Brokered, IsReading, IsWell, is_ready_at}
+use Rattle.named.specs.Slots.{IsReadyIn}
+use Rattle.named.specs.Stopping.{IsNext, IsReadingDirectory, creation_after}
 use Rattle.named.specs.declared.recovery.BrokerRecovery.{BrokerRecovery}
 use Rattle.named.specs.declared.recovery.BrokerRecovery.TheVariants.{ReadDirectory, RecoverQueue}
 use Rattle.named.specs.declared.slot.Slot.{Slot}

@@ -1,11 +1,11 @@
 -- A crash of a broker: room is made in each queue's history, each queue stops, and recovery begins anew.
-use Rattle.std.proofs.Common.{◌≡◌, ℕ, ◌+◌, ◌<◌, ◌≤◌, ◌⊎◌, inl, inr, Bool, true, false, List, Option, Some, None, length, take, drop, slice_get, slice_set, refl, sym, ap, ◌∙◌, subst, arith}
+use Rattle.std.proofs.Common.{◌≡◌, ℕ, ◌+◌, ◌≤◌, inl, inr, true, false, List, Option, Some, None, slice_get, slice_set, refl, sym, ap, ◌∙◌, arith}
 use Rattle.std.specs.Option.{option_map}
 use Rattle.std.specs.Prelude.{is_some}
 use Rattle.std.proofs.lemmas.Option.{slice_get_within}
 use Rattle.persist.specs.Memory.{Words, words_after_crash}
 use Rattle.arena.specs.Shape.{Counts}
-use Rattle.directory.specs.Directory.{Directory, HasName}
+use Rattle.directory.specs.Directory.{Directory}
 use Rattle.directory.specs.Recovery.{boot_recovery}
 use Rattle.directory.specs.UnderWay.{IsAsItWasOrWith, IsAtRest}
 use Rattle.directory.specs.declared.creation.Creation.{Creation}
@@ -15,9 +15,9 @@ use Rattle.directory.proofs.Recoveries.{recovery_begins}
 use Rattle.directory.proofs.Sounds.{head_crashed}
 use Rattle.interleave.specs.State.{State, after_stop}
 use Rattle.named.specs.Blocks.{BlockState, state_in}
-use Rattle.named.specs.Brokers.{Brokered, IsCreating, IsDirectoryAt, IsDirectoryDown, IsDirectoryIn, IsInBlock, IsMaybeWith, IsReading, IsSlotAt, IsUnusedBlock, IsWell, IsWith, is_ready_at, room_at, room_of, world_at, world_of}
+use Rattle.named.specs.Brokers.{Brokered, IsCreating, IsDirectoryAt, IsMaybeWith, IsReading, IsSlotAt, IsUnusedBlock, IsWell, IsWith, is_ready_at, room_at, room_of, world_at, world_of}
 use Rattle.named.specs.Each.{EachBecame, HasMoreRoom, HasStopped}
-use Rattle.named.specs.Slots.{AreEffectsFew, IsReadyIn, IsSameSlot, IsSlotWell, acted, kind_in, room_in, world_in}
+use Rattle.named.specs.Slots.{AreEffectsFew, IsReadyIn, IsSameSlot, IsSlotWell, acted, kind_in, world_in}
 use Rattle.named.specs.Stopping.{booting}
 use Rattle.named.specs.declared.recovery.BrokerRecovery.{BrokerRecovery}
 use Rattle.named.specs.declared.recovery.BrokerRecovery.TheVariants.{ReadDirectory, RecoverQueue}

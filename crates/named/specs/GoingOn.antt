@@ -1,11 +1,11 @@
 -- What stays of a broker over its acts: its queues, and their histories.
-use Rattle.std.specs.Prelude.{◌≡◌, ◌⊎◌, ℕ, Option, Some, None}
-use Rattle.directory.specs.Directory.{Directory, HasQueue}
+use Rattle.std.specs.Prelude.{◌≡◌, ◌≢◌, ◌⊎◌, ℕ, Option, Some, None}
+use Rattle.directory.specs.Directory.{HasQueue}
 use Rattle.directory.specs.declared.creation.Creation.{Creation}
 use Rattle.directory.specs.declared.queue.Queue.{Queue}
 use Rattle.interleave.specs.Standing.{GoesOn}
 use Rattle.interleave.specs.State.{State}
-use Rattle.named.specs.Brokers.{Brokered, world_at}
+use Rattle.named.specs.Brokers.{Brokered, quiet, world_at}
 
 -- a slot's queue is still there, and its history goes on: nothing is taken back, and calls that had ended stay as they are
 pub record IsGoneOn (w : State) (now : Option State) : Type 0 where
@@ -36,3 +36,7 @@ pub record IsDowntime (old new : Brokered) : Type 0 where
   pub goes_on : BrokerGoesOn old new
   pub only : HasOnlyOneMore old new
   pub creation : (new.creation ≡ old.creation) ⊎ (new.recovery ≡ None)
+
+-- the worlds of the other slots are as they were, but for the count of accesses
+abbrev pub AreOthersQuiet : Brokered → Brokered → ℕ → Type 0
+AreOthersQuiet old new slot = (other : ℕ) → other ≢ slot → quiet (world_at new other) ≡ quiet (world_at old other)

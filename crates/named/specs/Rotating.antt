@@ -51,7 +51,7 @@ abbrev pub rotate_result : Bool → Brokered → Result Unit Refusal
 rotate_result full b =
     if is_down b then Err NotReady
     else (if is_some b.creation || list_any has_calls_in b.slots then Err Busy
-      else (if full then Err NoMemory else Ok tt))
+    else (if full then Err NoMemory else Ok tt))
 
 -- each queue's history ends, and another begins on what it holds and tells
 pub record IsRotated (old new : Brokered) : Type 0 where

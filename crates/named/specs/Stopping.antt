@@ -1,5 +1,5 @@
 -- A crash of a broker, and the steps of its recovery.
-use Rattle.std.specs.Prelude.{◌≡◌, ◌≢◌, ℕ, ◌+◌, ◌<◌, ◌≤◌, Bool, true, false, is_none, List, Option, Some, None, Result, Ok, Err, IsSome, slice_set}
+use Rattle.std.specs.Prelude.{◌≡◌, ◌≢◌, ℕ, ◌+◌, ◌<◌, ◌≤◌, Bool, true, false, is_none, Option, Some, None, Result, Ok, Err, IsSome, slice_set}
 use Rattle.words.specs.declared.call.Kind.{Kind}
 use Rattle.words.specs.declared.refusal.Refusal.{Refusal}
 use Rattle.words.specs.declared.refusal.Refusal.TheVariants.{AlreadyReady}

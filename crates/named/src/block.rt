@@ -287,8 +287,8 @@ impl<L: Layout + Drop> Block<L> {
         ensures quiet { (ws : Words) → OnOk result (rotate_result false (state_in ws self.now) ≡ Ok tt) }
         ensures errors { (ws : Words) → IfErr result (λ e. rotate_result true (state_in ws self.now) ≡ Err e) }
     {
-        let view = memory.view(self.from, self.len)?;
-        self.core.prepare_rotation(&view)
+        let kept = memory.view(self.from, self.len)?;
+        self.core.prepare_rotation(&kept)
     }
 
     /// The history ends, and another begins with this base.

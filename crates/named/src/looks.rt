@@ -6,7 +6,8 @@ ghost use Rattle.interleave.specs.Queue.{told_in, told_to};
 ghost use Rattle.interleave.specs.State.{kept_content, order_in};
 ghost use Rattle.named.specs.Booting.{AreBootWords};
 ghost use Rattle.named.specs.Slots.{world_in, IfWorld, IsSlotWell, IsWhyUnread};
-ghost use Rattle.named.specs.Brokers.{world_at, room_at, answer_at};
+ghost use Rattle.named.specs.Promises.{KeepsPromises};
+ghost use Rattle.named.specs.Brokers.{world_at, room_at, answer_at, IsWell};
 
 use crate::broker::Broker;
 use crate::slot::Slot;
@@ -19,6 +20,7 @@ impl Broker {
     fn slot(&self, slot: SlotId) -> Result<&Slot, Refusal>
         ensures world { IfOk result (λ s. world_in self.now.words s.now ≡ world_at self.now slot.0) }
         ensures well { IfOk result (λ s. IsSlotWell self.now.words s.now) }
+        ensures whole { IsWell self.now }
         ensures errors { IfErr result (λ e. (e ≡ Refusal.NoQueue) × (world_at self.now slot.0 ≡ None)) }
     {
         match self.slots.get(slot.0 as usize) {
@@ -38,13 +40,17 @@ impl Broker {
     }
 
     /// What happened in the queue of a slot since the history begins. It takes no memory, and is refused where the slot
-    /// is closed (NoQueue).
+    /// is closed (NoQueue). What is promised of every queue holds at every moment, as any broker has it; laws on states ask
+    /// for `IsWell`.
+    #[tactic(auto, using(crate::proofs::Promises::promises_well))]
     pub fn history(&self, slot: SlotId) -> Result<&History, Refusal>
         ensures base { IfOk result (λ h. IfWorld (world_at self.now slot.0) (λ w. h.now.base.items ≡ w.base)) }
         ensures told { IfOk result (λ h. IfWorld (world_at self.now slot.0) (λ w. h.now.told ≡ w.told)) }
         ensures events { IfOk result (λ h. IfWorld (world_at self.now slot.0)
             (λ w. h.now.events.items ≡ w.log.events)) }
         ensures open { OnOk result (IsSome (world_at self.now slot.0)) }
+        ensures well { IsWell self.now }
+        ensures promises { KeepsPromises self.now }
         ensures errors { IfErr result (λ e. (e ≡ Refusal.NoQueue) × (world_at self.now slot.0 ≡ None)) }
     {
         self.slot(slot)?.history()

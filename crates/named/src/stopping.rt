@@ -5,7 +5,7 @@ ghost use Rattle.interleave.specs.Calls.{is_no_memory};
 ghost use Rattle.interleave.specs.State.{crash_result};
 ghost use Rattle.directory.specs.Queue.{IsOpenSlot, slot_in};
 ghost use Rattle.directory.specs.Directory.{Directory as AnyDirectory, HasQueue};
-ghost use Rattle.named.specs.Brokers.{world_at, room_at};
+ghost use Rattle.named.specs.Brokers.{IsWell, room_at};
 ghost use Rattle.named.specs.Stopping.{HasFullQueue, IsDirectoryRead, IsFound, IsNext, IsQueueRecovered, IsReadOn};
 ghost use Rattle.named.specs.Stopping.{IsReadingDirectory, IsRecoveryStep, IsSameButRoom, IsStopped, MayReadOn, creation_after};
 ghost use Rattle.named.specs.Promises.{KeepsPromises};
@@ -34,10 +34,7 @@ fn recovery_from(directory: &Directory, from: usize) -> Option<BrokerRecovery>
 }
 
 /// The creation that a crash dropped is kept in mind while recovery is under way, and no longer.
-fn creation_left(
-    creation: Option<Creation>,
-    recovery: &Option<BrokerRecovery>,
-) -> Option<Creation>
+fn creation_left(creation: Option<Creation>, recovery: &Option<BrokerRecovery>) -> Option<Creation>
     ensures { result ≡ creation_after creation recovery.now }
 {
     if recovery.is_none() {
@@ -71,12 +68,14 @@ impl Broker {
     /// Where recovery is the first to find the gate of a slot open, the queue is the one whose creation a crash dropped,
     /// and begins here.
     fn open_found(&mut self, opened: Option<SlotId>)
+        requires well { IsWell self.old }
         requires reading { IsReadingDirectory self.old.recovery }
         requires open { IfSome opened (λ slot. IsOpenSlot self.old.words.kept slot.0) }
         ensures same { self.new ≡ record self.old { slots = self.new.slots; directory = self.new.directory } }
         ensures found { IsFound self.old self.new opened }
         ensures known { IfSome opened (λ slot.
             slice_get self.new.directory slot.0 ≡ Some (slot_in self.old.words.kept slot.0)) }
+        ensures well { IsWell self.new }
     {
         let Some(slot) = opened else {
             return;

@@ -1,9 +1,7 @@
-use Rattle.std.proofs.Common.{rules, ◌≡◌, ◌≢◌, ◌<◌, ◌+◌, ℕ, length, List, [], ◌∷◌, ◌++◌, Some, Option, Vec, Global, slice_get, slice_set, slice_index_or, refl, ap, sym, subst, ◌∙◌, arith}
+use Rattle.std.proofs.Common.{rules, ◌≡◌, ℕ, length, List, [], ◌∷◌, ◌++◌, Some, Option, Vec, Global, slice_get, slice_set, slice_index_or, ap, sym, subst, ◌∙◌}
 use Rattle.std.specs.Option.{option_to_list}
-use Rattle.std.proofs.lemmas.List.{map-append, length-map, length_push}
-use Rattle.std.proofs.lemmas.Option.{slice_get_read}
+use Rattle.std.proofs.lemmas.List.{map-append, length-map}
 use Rattle.std.specs.Prelude.{map}
-use Rattle.named.specs.Rotating.{IsBaseIn}
 use Rattle.named.specs.declared.slot.Slot.{Slot}
 use Rattle.named.proofs.Rotated.{AreBegunFrom, IsNext, begun_all, begun_more, next_slot}
 use Rattle.named.proofs.slots.begin_each.Goals as goal
@@ -19,7 +17,7 @@ shown before after base o items is =
 
 the_next : (c : goal.After-index-slots-len)
     → IsNext c.args.slots.now c.loop-base.slots (map of_each c.args.bases.items) c.in-Some.base.items c.len.result
-        (slice_index_or c.loop-base.slots c.len.result c.index-slots-len.result)
+    (slice_index_or c.loop-base.slots c.len.result c.index-slots-len.result)
 the_next c =
     let many : c.len.result ≡ length c.pop.new.self.items = search rules in
     let bases : List (List ℕ) = map of_each c.args.bases.items in

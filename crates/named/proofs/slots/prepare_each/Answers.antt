@@ -1,4 +1,4 @@
-use Rattle.std.proofs.Common.{◌≡◌, ℕ, ◌+◌, length, List, [], ◌∷◌, ◌++◌, Some, Bool, true, Vec, Global, slice_get, if◌then◌else◌, refl, ap, sym, subst, ◌∙◌, arith}
+use Rattle.std.proofs.Common.{◌≡◌, ℕ, ◌+◌, length, List, [], ◌∷◌, ◌++◌, Some, Bool, true, Vec, Global, slice_get, if◌then◌else◌, refl, ap, sym, subst, ◌∙◌}
 use Rattle.std.proofs.lemmas.List.{map-append, length-map, length_push}
 use Rattle.std.proofs.lemmas.Option.{slice_get_read}
 use Rattle.std.specs.Prelude.{is_ok, map, not}

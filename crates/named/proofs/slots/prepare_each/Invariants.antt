@@ -1,4 +1,4 @@
-use Rattle.std.proofs.Common.{◌≡◌, ℕ, ◌<◌, Some, List, length, slice_get}
+use Rattle.std.proofs.Common.{◌≡◌, ℕ, Some, List, length, slice_get}
 use Rattle.std.specs.Prelude.{map}
 use Rattle.named.specs.Rotating.{IsBaseIn}
 use Rattle.named.specs.declared.slot.Slot.{Slot}

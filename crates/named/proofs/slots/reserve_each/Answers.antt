@@ -32,9 +32,10 @@ pub loop-slot-preserved : goal.loop-slot-preserved
 loop-slot-preserved c =
     let below : c.loop-slot.slot-index < length c.loop-slot.slots = omega (arith, c.loop-slot-test.true, c.loop-slot.invariant.0.count) in
     let was : Slot = slice_index_or c.loop-slot.slots c.loop-slot.slot-index c.slot-item.result in
-    let here : slice_get c.loop-slot.slots c.loop-slot.slot-index ≡ Some was = slice_get_read c.loop-slot.slots (length c.loop-slot.slots) c.loop-slot.slot-index c.slot-item.result refl below c.slot-item.is ∙ ap Some c.slot-item.is in
-    (one_more HasMoreRoom c.loop-slot.slot-index c.args.slots.now c.loop-slot.slots was c.make_room.new.self c.loop-slot.invariant.0 here c.make_room.ensures.same,
-    each_more (HasRoomFor c.args.acts) c.loop-slot.slot-index c.loop-slot.slots c.make_room.new.self below c.loop-slot.invariant.1 c.in_ok-make_room.ensures.room)
+    let here : slice_get c.loop-slot.slots c.loop-slot.slot-index ≡ Some was = slice_get_read c.loop-slot.slots (length c.loop-slot.slots) c.loop-slot.slot-index c.slot-item.result refl below c.slot-item.is ∙ ap Some c.slot-item.is in (
+      one_more HasMoreRoom c.loop-slot.slot-index c.args.slots.now c.loop-slot.slots was c.make_room.new.self c.loop-slot.invariant.0 here c.make_room.ensures.same,
+      each_more (HasRoomFor c.args.acts) c.loop-slot.slot-index c.loop-slot.slots c.make_room.new.self below c.loop-slot.invariant.1 c.in_ok-make_room.ensures.room,
+    )
 
 pub returns-clause-same : goal.returns-clause-same
 returns-clause-same c =

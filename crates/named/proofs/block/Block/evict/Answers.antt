@@ -1,4 +1,4 @@
-use Rattle.std.proofs.Common.{rules, arith, ◌≤◌, ◌<◌, ◌≡◌, ◌-◌, ◌+◌, false, Ok, length, take, drop, ap, sym, subst, ◌∙◌, length-drop, length-take}
+use Rattle.std.proofs.Common.{rules, arith, ◌≤◌, ◌<◌, ◌≡◌, ◌-◌, ◌+◌, false, Ok, length, drop, ap, sym, subst, ◌∙◌, length-drop, length-take}
 use Rattle.persist.specs.Memory.{Around, Words, nothing, part, words_after_eviction, words_in}
 use Rattle.persist.specs.Changes.{change_at, change_of}
 use Rattle.persist.proofs.Parts.{bare_part}
@@ -7,7 +7,7 @@ use Rattle.interleave.specs.Core.{state_of}
 use Rattle.interleave.specs.Holds.{Holds}
 use Rattle.interleave.specs.State.{State}
 use Rattle.interleave.proofs.PartLaws.{around_stays, holds_alike}
-use Rattle.named.specs.Blocks.{BlockState, IsSameWords, IsWellIn, state_in}
+use Rattle.named.specs.Blocks.{BlockState, IsWellIn, state_in}
 use Rattle.named.proofs.Evicted.{change_there, result_evicted, whole_evicted, words_evicted}
 use Rattle.named.proofs.block.Block.evict.Goals as goal
 

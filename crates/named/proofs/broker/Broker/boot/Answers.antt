@@ -1,5 +1,5 @@
-use Rattle.std.proofs.Common.{◌≡◌, List, Some, None, refl, ap, sym, subst, ◌∙◌}
-use Rattle.persist.specs.Memory.{Words, words_after_crash}
+use Rattle.std.proofs.Common.{◌≡◌, Some, None, refl, ap, sym, subst, ◌∙◌}
+use Rattle.persist.specs.Memory.{Words}
 use Rattle.directory.specs.Queue.{directory_of, slot_in}
 use Rattle.directory.specs.Sound.{counts_in}
 use Rattle.directory.specs.declared.recovery.DirectoryRecovery.{DirectoryRecovery}

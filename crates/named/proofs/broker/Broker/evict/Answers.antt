@@ -1,11 +1,10 @@
-use Rattle.std.proofs.Common.{rules, arith, ◌≡◌, ◌<◌, ◌≤◌, ◌+◌, ◌⊎◌, ℕ, inl, inr, slice_get, slice_set, length, ap, sym, subst, ◌∙◌}
+use Rattle.std.proofs.Common.{rules, arith, ◌≡◌, ◌⊎◌, ℕ, inl, inr, slice_get, slice_set, ap, sym, subst, ◌∙◌}
 use Rattle.std.proofs.lemmas.Option.{slice_get_read, slice_get_within}
 use Rattle.std.proofs.lemmas.Bool.{cases_eq}
-use Rattle.persist.specs.Memory.{Words, words_after_eviction}
+use Rattle.persist.specs.Memory.{Words}
 use Rattle.interleave.proofs.AloneLaws.{get_set}
-use Rattle.named.specs.Blocks.{IsSameWords}
 use Rattle.named.specs.Evicting.{IsInNoBlock, world_evicted}
-use Rattle.named.specs.Slots.{acted, room_in}
+use Rattle.named.specs.Slots.{acted}
 use Rattle.named.specs.Brokers.{Brokered, IsWell, room_at, room_of, world_at, world_of}
 use Rattle.named.proofs.Kept.{get_set_other, slot_is_well, still_well}
 use Rattle.named.proofs.EvictedWell.{outside_evicted, well_before, word_of_block, worlds_before, worlds_past, worlds_within}

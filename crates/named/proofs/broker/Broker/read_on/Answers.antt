@@ -1,12 +1,9 @@
-use Rattle.std.proofs.Common.{◌≡◌, ◌∙◌, Option, Some, sym, subst}
-use Rattle.stepper.specs.declared.resume.After.{After}
-use Rattle.stepper.specs.declared.resume.After.TheVariants.{More, Done}
+use Rattle.std.proofs.Common.{◌≡◌, ◌∙◌, Option, sym, subst}
 use Rattle.directory.specs.Directory.{Directory}
 use Rattle.directory.specs.UnderWay.{IsAtRest}
 use Rattle.directory.specs.declared.creation.Creation.{Creation}
-use Rattle.directory.specs.declared.recovery.DirectoryRecovery.{DirectoryRecovery}
 use Rattle.named.specs.Brokers.{Brokered, IsReading, IsWell}
-use Rattle.named.specs.Stopping.{IsNext, IsReadingDirectory, MayReadOn, creation_after}
+use Rattle.named.specs.Stopping.{IsNext, IsReadingDirectory, MayReadOn}
 use Rattle.named.proofs.Recovers.{well_read, well_read_on}
 use Rattle.named.proofs.broker.Broker.read_on.Goals as goal
 

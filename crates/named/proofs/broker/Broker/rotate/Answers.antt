@@ -1,13 +1,11 @@
-use Rattle.std.proofs.Common.{◌≡◌, ◌≤◌, List, Bool, false, None, Ok, Err, slice_get, if◌then◌else◌, refl, ap, sym, subst, ◌∙◌, arith}
+use Rattle.std.proofs.Common.{◌≡◌, List, false, None, Ok, Err, slice_get, if◌then◌else◌, refl, ap, sym, subst, ◌∙◌, arith}
 use Rattle.std.specs.List.{list_any}
 use Rattle.std.specs.Prelude.{is_some}
 use Rattle.std.specs.Vec.{with_items}
 use Rattle.std.proofs.lemmas.List.{with_items_is}
 use Rattle.words.specs.declared.refusal.Refusal.TheVariants.{NotReady}
-use Rattle.interleave.specs.Rotation.{after_rotation}
-use Rattle.named.specs.Brokers.{Brokered, IsWell, room_at, room_of, world_at, world_of}
+use Rattle.named.specs.Brokers.{Brokered, IsWell, room_at, room_of, world_of}
 use Rattle.named.specs.Rotating.{AreBegunAnew, AreQuiet, IsRotated, has_calls_in}
-use Rattle.named.specs.Slots.{acted}
 use Rattle.named.specs.declared.slot.Slot.{Slot}
 use Rattle.named.proofs.Kept.{ready_there}
 use Rattle.named.proofs.Promises.{promises_kept, promises_well}

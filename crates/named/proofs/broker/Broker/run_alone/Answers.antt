@@ -1,4 +1,4 @@
-use Rattle.std.proofs.Common.{◌≡◌, ap, sym, subst, ◌∙◌, Ok, Err, true, Option, Result, refl, IfErr, IfOk, ◌⊎◌, inr, if◌then◌else◌, arith}
+use Rattle.std.proofs.Common.{◌≡◌, ap, sym, subst, ◌∙◌, Ok, Err, Option, Result, refl, IfErr, IfOk, ◌⊎◌, inr, arith}
 use Rattle.std.proofs.lemmas.Option.{slice_get_read}
 use Rattle.words.specs.declared.refusal.Refusal.{Refusal}
 use Rattle.interleave.specs.State.{State, after_alone, IsAnsweredAlone}

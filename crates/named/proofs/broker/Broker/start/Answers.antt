@@ -1,6 +1,5 @@
-use Rattle.std.proofs.Common.{arith, slice_get, slice_set, ◌≡◌, ap, sym, ◌∙◌, Ok, Err, true, if◌then◌else◌}
+use Rattle.std.proofs.Common.{arith, slice_get, slice_set, ◌≡◌, ap, sym, ◌∙◌, Ok}
 use Rattle.std.proofs.lemmas.Option.{slice_get_read, slice_get_within}
-use Rattle.words.specs.declared.refusal.Refusal.{Refusal}
 use Rattle.interleave.specs.Calls.{is_no_memory}
 use Rattle.interleave.specs.State.{State, after_start, start_result}
 use Rattle.interleave.proofs.AloneLaws.{get_set}

@@ -1,0 +1,73 @@
+use Rattle.std.proofs.Common.{◌≡◌, ◌∙◌, Some, Ok, Result, Bool, slice_get, sym, ap, subst}
+use Rattle.std.specs.Prelude.{IfSome}
+use Rattle.persist.specs.Memory.{Words}
+use Rattle.directory.specs.Queue.{IsOpenSlot, slot_in}
+use Rattle.directory.specs.declared.recovery.Recovered.{Recovered}
+use Rattle.words.specs.declared.refusal.Refusal.{Refusal}
+use Rattle.named.specs.Brokers.{Brokered, IsWell}
+use Rattle.named.specs.Stopping.{IsDirectoryRead, IsFound, IsReadOn, MayReadOn, found_by, words_read}
+use Rattle.named.specs.declared.recovery.BrokerRecovery.TheVariants.{ReadDirectory}
+use Rattle.named.proofs.Readings.{found_opens, found_over, may_read_on, read_over, well_loaded, worlds_loaded}
+use Rattle.named.proofs.broker.Broker.read_directory.Goals as goal
+
+pub invariant_of-self : goal.invariant_of-self
+invariant_of-self c =
+    let b : Brokered = record { counts = c.self.inside.layout; words = c.self.inside.memory; slots = c.self.inside.slots.items; directory = c.self.inside.directory; creation = c.self.inside.creation; recovery = c.self.inside.recovery } in
+    let is : b.recovery ≡ Some (ReadDirectory c.args.at) = ap (λ (x : Brokered). x.recovery) c.self.view_is ∙ c.requires in
+    subst (λ (ws : Words). let x : Brokered = record b { words = ws } in IsWell x) (sym c.step-recovered.ensures.one_access) (well_loaded b c.self.invariant c.args.at is)
+
+pub open_found-requires-clause-well : goal.open_found-requires-clause-well
+open_found-requires-clause-well c =
+    let b : Brokered = record { counts = c.self.inside.layout; words = c.self.inside.memory; slots = c.self.inside.slots.items; directory = c.self.inside.directory; creation = c.self.inside.creation; recovery = c.self.inside.recovery } in
+    let is : b.recovery ≡ Some (ReadDirectory c.args.at) = ap (λ (x : Brokered). x.recovery) c.self.view_is ∙ c.requires in
+    subst (λ (ws : Words). let x : Brokered = record b { words = ws } in IsWell x) (sym c.step-recovered.ensures.one_access) (well_loaded b c.self.invariant c.args.at is)
+
+pub open_found-requires-clause-open : goal.open_found-requires-clause-open
+open_found-requires-clause-open c =
+    let b : Brokered = record { counts = c.self.inside.layout; words = c.self.inside.memory; slots = c.self.inside.slots.items; directory = c.self.inside.directory; creation = c.self.inside.creation; recovery = c.self.inside.recovery } in
+    let is : b.recovery ≡ Some (ReadDirectory c.args.at) = ap (λ (x : Brokered). x.recovery) c.self.view_is ∙ c.requires in
+    let opens = found_opens b c.self.invariant c.args.at is in
+    subst (λ (ws : Words). IfSome c.step-recovered.result.opened (λ slot. IsOpenSlot ws.kept slot.0)) (sym c.step-recovered.ensures.one_access)
+    (subst (λ (r : Recovered). IfSome r.opened (λ slot. IsOpenSlot b.words.kept slot.0)) (sym c.step-recovered.ensures.next) opens)
+
+pub read_on-requires-clause-may : goal.read_on-requires-clause-may
+read_on-requires-clause-may c =
+    let b : Brokered = record { counts = c.self.inside.layout; words = c.self.inside.memory; slots = c.self.inside.slots.items; directory = c.self.inside.directory; creation = c.self.inside.creation; recovery = c.self.inside.recovery } in
+    let is : b.recovery ≡ Some (ReadDirectory c.args.at) = ap (λ (x : Brokered). x.recovery) c.self.view_is ∙ c.requires in
+    let now : Brokered = c.open_found.new.self in
+    let words : now.words ≡ words_read b c.args.at = ap (λ (x : Brokered). x.words) c.open_found.ensures.same ∙ c.step-recovered.ensures.one_access in
+    let it : c.step-recovered.result ≡ found_by b c.args.at = c.step-recovered.ensures.next in
+    let is2 : now.recovery ≡ Some (ReadDirectory c.args.at) = ap (λ (x : Brokered). x.recovery) c.open_found.ensures.same ∙ is in
+    let kept : c.step-recovered.new.memory ≡ now.words = sym (ap (λ (x : Brokered). x.words) c.open_found.ensures.same) in
+    let known : IfSome (found_by b c.args.at).opened (λ slot. slice_get now.directory slot.0 ≡ Some (slot_in now.words.kept slot.0)) =
+    subst (λ (ws : Words). IfSome (found_by b c.args.at).opened (λ slot. slice_get now.directory slot.0 ≡ Some (slot_in ws.kept slot.0))) kept
+    (subst (λ (r : Recovered). IfSome r.opened (λ slot. slice_get now.directory slot.0 ≡ Some (slot_in c.step-recovered.new.memory.kept slot.0))) it c.open_found.ensures.known) in
+    subst (λ (r : Recovered). MayReadOn now r.after) (sym it) (may_read_on b.counts b.words c.args.at now c.open_found.ensures.well is2 words known)
+
+pub returns : goal.returns
+returns c =
+    let b : Brokered = record { counts = c.self.inside.layout; words = c.self.inside.memory; slots = c.self.inside.slots.items; directory = c.self.inside.directory; creation = c.self.inside.creation; recovery = c.self.inside.recovery } in
+    let is : b.recovery ≡ Some (ReadDirectory c.args.at) = ap (λ (x : Brokered). x.recovery) c.self.view_is ∙ c.requires in
+    let now : Brokered = c.open_found.new.self in
+    let words : now.words ≡ words_read b c.args.at = ap (λ (x : Brokered). x.words) c.open_found.ensures.same ∙ c.step-recovered.ensures.one_access in
+    let it : c.step-recovered.result ≡ found_by b c.args.at = c.step-recovered.ensures.next in
+    let new : Brokered = c.read_on.new.self in
+    let slots : new.slots ≡ now.slots = ap (λ (x : Brokered). x.slots) c.read_on.ensures.same in
+    let counts : new.counts ≡ now.counts = ap (λ (x : Brokered). x.counts) c.read_on.ensures.same in
+    let same_words : new.words ≡ now.words = ap (λ (x : Brokered). x.words) c.read_on.ensures.same in
+    let directory : new.directory ≡ now.directory = ap (λ (x : Brokered). x.directory) c.read_on.ensures.same in
+    let found1 : IsFound (record b { words = words_read b c.args.at }) now (found_by b c.args.at).opened =
+    subst (λ (ws : Words). let x : Brokered = record b { words = ws } in IsFound x now (found_by b c.args.at).opened) c.step-recovered.ensures.one_access
+    (subst (λ (r : Recovered). let x : Brokered = record b { words = c.step-recovered.new.memory } in IsFound x now r.opened) it c.open_found.ensures.found) in
+    let found : IsFound b new (found_by b c.args.at).opened =
+    found_over b now new (words_read b c.args.at) (worlds_loaded b c.self.invariant c.args.at is) counts same_words slots directory (found_by b c.args.at).opened found1 in
+    let on : IsReadOn now new (found_by b c.args.at).after = subst (λ (r : Recovered). IsReadOn now new r.after) it c.read_on.ensures.next in
+    let result : Result Bool Refusal = Ok c.read_on.result in
+    let read : IsDirectoryRead b new c.args.at result = record {
+      counts = counts ∙ ap (λ (x : Brokered). x.counts) c.open_found.ensures.same;
+      words = same_words ∙ words;
+      found = found;
+      next = read_over b now new (found_by b c.args.at).after (ap (λ (x : Brokered). x.creation) c.open_found.ensures.same) on;
+      answer = ap (λ (x : Bool). let r : Result Bool Refusal = Ok x in r) c.read_on.ensures.answer;
+    } in
+    subst (λ (x : Brokered). IsDirectoryRead x new c.args.at result) c.self.view_is read

@@ -1,0 +1,94 @@
+use Rattle.std.proofs.Common.{rules, ◌≡◌, ◌∙◌, ◌+◌, Option, Some, Ok, Result, Bool, true, false, slice_get, sym, ap, subst}
+use Rattle.std.specs.Prelude.{is_none}
+use Rattle.std.proofs.lemmas.Option.{slice_get_read}
+use Rattle.words.specs.declared.refusal.Refusal.{Refusal}
+use Rattle.directory.specs.declared.creation.Creation.{Creation}
+use Rattle.named.specs.Brokers.{Brokered, IsWell, with_slot}
+use Rattle.named.specs.Stopping.{IsNext, IsQueueRecovered, creation_after}
+use Rattle.named.specs.declared.recovery.BrokerRecovery.{BrokerRecovery}
+use Rattle.named.specs.declared.recovery.BrokerRecovery.TheVariants.{RecoverQueue}
+use Rattle.named.specs.declared.slot.Slot.{Slot}
+use Rattle.named.proofs.Kept.{slot_is_well}
+use Rattle.named.proofs.Queues.{its_slot, ready_by, recovered, recovering, well_ready, well_recovering}
+use Rattle.named.proofs.broker.Broker.recover_queue.Goals as goal
+
+pub recover_step-requires : goal.recover_step-requires
+recover_step-requires c =
+    let b : Brokered = record { counts = c.self.inside.layout; words = c.self.inside.memory; slots = c.self.inside.slots.items; directory = c.self.inside.directory; creation = c.self.inside.creation; recovery = c.self.inside.recovery } in
+    let turn : b.recovery ≡ Some (RecoverQueue c.args.slot) = ap (λ (x : Brokered). x.recovery) c.self.view_is ∙ c.requires in
+    let was : Slot = c.index_mut.result.now in
+    let here : slice_get b.slots c.args.slot.0 ≡ Some was = slice_get_read b.slots 8 c.args.slot.0 was (sym c.self.invariant.count) (its_slot b c.self.invariant c.args.slot turn) c.index_mut.ensures.value in
+    slot_is_well b.counts b.words c.args.slot.0 was (c.self.invariant.slots c.args.slot.0 was here)
+
+pub invariant_of-self : goal.invariant_of-self
+invariant_of-self c =
+    let b : Brokered = record { counts = c.self.inside.layout; words = c.self.inside.memory; slots = c.self.inside.slots.items; directory = c.self.inside.directory; creation = c.self.inside.creation; recovery = c.self.inside.recovery } in
+    let turn : b.recovery ≡ Some (RecoverQueue c.args.slot) = ap (λ (x : Brokered). x.recovery) c.self.view_is ∙ c.requires in
+    let was : Slot = c.index_mut.result.now in
+    let here : slice_get b.slots c.args.slot.0 ≡ Some was = slice_get_read b.slots 8 c.args.slot.0 was (sym c.self.invariant.count) (its_slot b c.self.invariant c.args.slot turn) c.index_mut.ensures.value in
+    let yet : ready_by c.recover_step.result ≡ false = ap ready_by c.in_err-ready.was in
+    well_recovering b c.args.slot was c.recover_step.new.self c.recover_step.new.memory c.self.invariant here c.recover_step.ensures.well c.recover_step.ensures.outside c.recover_step.ensures.same turn c.recover_step.result c.recover_step.ensures.world c.recover_step.ensures.result yet
+
+pub returns-in_err-ready : goal.returns-in_err-ready
+returns-in_err-ready c =
+    let b : Brokered = record { counts = c.self.inside.layout; words = c.self.inside.memory; slots = c.self.inside.slots.items; directory = c.self.inside.directory; creation = c.self.inside.creation; recovery = c.self.inside.recovery } in
+    let turn : b.recovery ≡ Some (RecoverQueue c.args.slot) = ap (λ (x : Brokered). x.recovery) c.self.view_is ∙ c.requires in
+    let was : Slot = c.index_mut.result.now in
+    let here : slice_get b.slots c.args.slot.0 ≡ Some was = slice_get_read b.slots 8 c.args.slot.0 was (sym c.self.invariant.count) (its_slot b c.self.invariant c.args.slot turn) c.index_mut.ensures.value in
+    let yet : ready_by c.recover_step.result ≡ false = ap ready_by c.in_err-ready.was in
+    let now : Brokered = with_slot b c.args.slot.0 c.recover_step.new.self c.recover_step.new.memory in
+    let answer : c.recover_step.result ≡ c.from_residual.result = search rules in
+    let done : IsQueueRecovered b now c.args.slot.0 c.recover_step.result = recovering b c.args.slot was c.recover_step.new.self c.recover_step.new.memory c.self.invariant here c.recover_step.ensures.well c.recover_step.ensures.outside c.recover_step.ensures.same turn c.recover_step.result c.recover_step.ensures.world c.recover_step.ensures.result yet in
+    subst (λ (x : Brokered). IsQueueRecovered x now c.args.slot.0 c.from_residual.result) c.self.view_is (subst (IsQueueRecovered b now c.args.slot.0) answer done)
+
+pub invariant_of-self-then-not-ready : goal.invariant_of-self-then-not-ready
+invariant_of-self-then-not-ready c =
+    let b : Brokered = record { counts = c.self.inside.layout; words = c.self.inside.memory; slots = c.self.inside.slots.items; directory = c.self.inside.directory; creation = c.self.inside.creation; recovery = c.self.inside.recovery } in
+    let turn : b.recovery ≡ Some (RecoverQueue c.args.slot) = ap (λ (x : Brokered). x.recovery) c.self.view_is ∙ c.requires in
+    let was : Slot = c.index_mut.result.now in
+    let here : slice_get b.slots c.args.slot.0 ≡ Some was = slice_get_read b.slots 8 c.args.slot.0 was (sym c.self.invariant.count) (its_slot b c.self.invariant c.args.slot turn) c.index_mut.ensures.value in
+    let yet : ready_by c.recover_step.result ≡ false = ap ready_by c.in_ok-ready.was ∙ c.if-not-ready.true in
+    well_recovering b c.args.slot was c.recover_step.new.self c.recover_step.new.memory c.self.invariant here c.recover_step.ensures.well c.recover_step.ensures.outside c.recover_step.ensures.same turn c.recover_step.result c.recover_step.ensures.world c.recover_step.ensures.result yet
+
+pub returns-then-not-ready : goal.returns-then-not-ready
+returns-then-not-ready c =
+    let b : Brokered = record { counts = c.self.inside.layout; words = c.self.inside.memory; slots = c.self.inside.slots.items; directory = c.self.inside.directory; creation = c.self.inside.creation; recovery = c.self.inside.recovery } in
+    let turn : b.recovery ≡ Some (RecoverQueue c.args.slot) = ap (λ (x : Brokered). x.recovery) c.self.view_is ∙ c.requires in
+    let was : Slot = c.index_mut.result.now in
+    let here : slice_get b.slots c.args.slot.0 ≡ Some was = slice_get_read b.slots 8 c.args.slot.0 was (sym c.self.invariant.count) (its_slot b c.self.invariant c.args.slot turn) c.index_mut.ensures.value in
+    let yet : ready_by c.recover_step.result ≡ false = ap ready_by c.in_ok-ready.was ∙ c.if-not-ready.true in
+    let now : Brokered = with_slot b c.args.slot.0 c.recover_step.new.self c.recover_step.new.memory in
+    let answer : c.recover_step.result ≡ Ok false = c.in_ok-ready.was ∙ ap (λ (x : Bool). let r : Result Bool Refusal = Ok x in r) c.if-not-ready.true in
+    let done : IsQueueRecovered b now c.args.slot.0 c.recover_step.result = recovering b c.args.slot was c.recover_step.new.self c.recover_step.new.memory c.self.invariant here c.recover_step.ensures.well c.recover_step.ensures.outside c.recover_step.ensures.same turn c.recover_step.result c.recover_step.ensures.world c.recover_step.ensures.result yet in
+    subst (λ (x : Brokered). IsQueueRecovered x now c.args.slot.0 (Ok false)) c.self.view_is (subst (IsQueueRecovered b now c.args.slot.0) answer done)
+
+pub invariant_of-self-2 : goal.invariant_of-self-2
+invariant_of-self-2 c =
+    let b : Brokered = record { counts = c.self.inside.layout; words = c.self.inside.memory; slots = c.self.inside.slots.items; directory = c.self.inside.directory; creation = c.self.inside.creation; recovery = c.self.inside.recovery } in
+    let turn : b.recovery ≡ Some (RecoverQueue c.args.slot) = ap (λ (x : Brokered). x.recovery) c.self.view_is ∙ c.requires in
+    let was : Slot = c.index_mut.result.now in
+    let here : slice_get b.slots c.args.slot.0 ≡ Some was = slice_get_read b.slots 8 c.args.slot.0 was (sym c.self.invariant.count) (its_slot b c.self.invariant c.args.slot turn) c.index_mut.ensures.value in
+    let ready : c.recover_step.result ≡ Ok true = c.in_ok-ready.was ∙ ap (λ (x : Bool). let r : Result Bool Refusal = Ok x in r) c.if-not-ready.false in
+    let recovery : Option BrokerRecovery = c.recovery_from-self-inside.result in
+    let next : IsNext b.directory (c.args.slot.0 + 1) recovery = c.recovery_from-self-inside.ensures in
+    let now : Brokered = with_slot b c.args.slot.0 c.recover_step.new.self c.recover_step.new.memory in
+    subst (λ (k : Option Creation). let x : Brokered = record now { recovery = recovery; creation = k } in IsWell x) (sym c.creation_left-self-inside.ensures)
+    (well_ready b c.args.slot was c.recover_step.new.self c.recover_step.new.memory c.self.invariant here c.recover_step.ensures.well c.recover_step.ensures.outside c.recover_step.ensures.same turn c.recover_step.result c.recover_step.ensures.world c.recover_step.ensures.result ready recovery next)
+
+pub returns : goal.returns
+returns c =
+    let b : Brokered = record { counts = c.self.inside.layout; words = c.self.inside.memory; slots = c.self.inside.slots.items; directory = c.self.inside.directory; creation = c.self.inside.creation; recovery = c.self.inside.recovery } in
+    let turn : b.recovery ≡ Some (RecoverQueue c.args.slot) = ap (λ (x : Brokered). x.recovery) c.self.view_is ∙ c.requires in
+    let was : Slot = c.index_mut.result.now in
+    let here : slice_get b.slots c.args.slot.0 ≡ Some was = slice_get_read b.slots 8 c.args.slot.0 was (sym c.self.invariant.count) (its_slot b c.self.invariant c.args.slot turn) c.index_mut.ensures.value in
+    let ready : c.recover_step.result ≡ Ok true = c.in_ok-ready.was ∙ ap (λ (x : Bool). let r : Result Bool Refusal = Ok x in r) c.if-not-ready.false in
+    let recovery : Option BrokerRecovery = c.recovery_from-self-inside.result in
+    let next : IsNext b.directory (c.args.slot.0 + 1) recovery = c.recovery_from-self-inside.ensures in
+    let now : Brokered = with_slot b c.args.slot.0 c.recover_step.new.self c.recover_step.new.memory in
+    let answer : Result Bool Refusal = Ok (is_none recovery) in
+    let done : IsQueueRecovered b (record now { recovery = recovery; creation = creation_after b.creation recovery }) c.args.slot.0 answer = recovered b c.args.slot was c.recover_step.new.self c.recover_step.new.memory c.self.invariant here c.recover_step.ensures.well c.recover_step.ensures.outside c.recover_step.ensures.same turn c.recover_step.result c.recover_step.ensures.world c.recover_step.ensures.result ready recovery next in
+    let answered : is_none recovery ≡ c.is_none.result = search rules in
+    let new : Brokered = record now { recovery = recovery; creation = c.creation_left-self-inside.result } in
+    let left : IsQueueRecovered b new c.args.slot.0 answer =
+    subst (λ (k : Option Creation). let x : Brokered = record now { recovery = recovery; creation = k } in IsQueueRecovered b x c.args.slot.0 answer) (sym c.creation_left-self-inside.ensures) done in
+    subst (λ (x : Brokered). IsQueueRecovered x new c.args.slot.0 (Ok c.is_none.result)) c.self.view_is (subst (λ (x : Bool). IsQueueRecovered b new c.args.slot.0 (Ok x)) answered left)
