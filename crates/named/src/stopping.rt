@@ -101,6 +101,7 @@ impl Broker {
         ensures next { IsReadOn self.old self.new after }
         ensures same { self.new ≡ record self.old { creation = self.new.creation; recovery = self.new.recovery } }
         ensures answer { result ≡ is_none self.new.recovery }
+        ensures promises { KeepsPromises self.new }
     {
         match after {
             After::More(next) => {
@@ -119,7 +120,8 @@ impl Broker {
     /// A load of the directory's recovery. It answers whether the broker is ready now.
     fn read_directory(&mut self, at: DirectoryRecovery) -> bool
         requires { self.old.recovery ≡ Some (BrokerRecovery.ReadDirectory at) }
-        ensures { IsDirectoryRead self.old self.new at (Ok result) }
+        ensures read { IsDirectoryRead self.old self.new at (Ok result) }
+        ensures promises { KeepsPromises self.new }
     {
         let recovered = at.step(&self.layout, &mut self.memory);
         self.open_found(recovered.opened);
@@ -129,7 +131,8 @@ impl Broker {
     /// A step of recovery of the queue in a slot. It answers whether the broker is ready now.
     fn recover_queue(&mut self, slot: SlotId) -> Result<bool, Refusal>
         requires { self.old.recovery ≡ Some (BrokerRecovery.RecoverQueue slot) }
-        ensures { IsQueueRecovered self.old self.new slot.0 result }
+        ensures recovered { IsQueueRecovered self.old self.new slot.0 result }
+        ensures promises { KeepsPromises self.new }
     {
         let ready = self.slots[slot.0 as usize].recover_step(&mut self.memory)?;
         if !ready {
@@ -146,6 +149,7 @@ impl Broker {
     /// for want of memory (NoMemory).
     pub fn recover_step(&mut self) -> Result<bool, Refusal>
         ensures step { IsRecoveryStep self.old self.new result self.old.recovery }
+        ensures promises { KeepsPromises self.new }
     {
         match self.recovery {
             None => Err(Refusal::AlreadyReady),

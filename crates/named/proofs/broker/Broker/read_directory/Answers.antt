@@ -44,8 +44,8 @@ read_on-requires-clause-may c =
     (subst (λ (r : Recovered). IfSome r.opened (λ slot. slice_get now.directory slot.0 ≡ Some (slot_in c.step-recovered.new.memory.kept slot.0))) it c.open_found.ensures.known) in
     subst (λ (r : Recovered). MayReadOn now r.after) (sym it) (may_read_on b.counts b.words c.args.at now c.open_found.ensures.well is2 words known)
 
-pub returns : goal.returns
-returns c =
+pub returns-clause-read : goal.returns-clause-read
+returns-clause-read c =
     let b : Brokered = record { counts = c.self.inside.layout; words = c.self.inside.memory; slots = c.self.inside.slots.items; directory = c.self.inside.directory; creation = c.self.inside.creation; recovery = c.self.inside.recovery } in
     let is : b.recovery ≡ Some (ReadDirectory c.args.at) = ap (λ (x : Brokered). x.recovery) c.self.view_is ∙ c.requires in
     let now : Brokered = c.open_found.new.self in
@@ -71,3 +71,6 @@ returns c =
       answer = ap (λ (x : Bool). let r : Result Bool Refusal = Ok x in r) c.read_on.ensures.answer;
     } in
     subst (λ (x : Brokered). IsDirectoryRead x new c.args.at result) c.self.view_is read
+
+pub returns-clause-promises : goal.returns-clause-promises
+returns-clause-promises c = c.read_on.ensures.promises

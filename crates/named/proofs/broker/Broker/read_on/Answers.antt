@@ -5,6 +5,7 @@ use Rattle.directory.specs.declared.creation.Creation.{Creation}
 use Rattle.named.specs.Brokers.{Brokered, IsReading, IsWell}
 use Rattle.named.specs.Stopping.{IsNext, IsReadingDirectory, MayReadOn}
 use Rattle.named.proofs.Recovers.{well_read, well_read_on}
+use Rattle.named.proofs.Promises.{promises_well}
 use Rattle.named.proofs.broker.Broker.read_on.Goals as goal
 
 pub invariant_of-self : goal.invariant_of-self
@@ -26,3 +27,9 @@ invariant_of-self-in-Done c =
     subst (λ (d : Directory). let x : Brokered = record { counts = b.counts; words = b.words; slots = b.slots; directory = d; creation = c.creation_left-self-inside.result; recovery = c.recovery_from-self-inside.result } in IsWell x) (sym known)
     (subst (λ (k : Option Creation). let x : Brokered = record { counts = b.counts; words = b.words; slots = b.slots; directory = b.directory; creation = k; recovery = c.recovery_from-self-inside.result } in IsWell x) (sym c.creation_left-self-inside.ensures)
     (well_read b c.self.invariant down c.recovery_from-self-inside.result done.1 next))
+
+pub returns-in-More-clause-promises : goal.returns-in-More-clause-promises
+returns-in-More-clause-promises c = promises_well _ (invariant_of-self c)
+
+pub returns-in-Done-clause-promises : goal.returns-in-Done-clause-promises
+returns-in-Done-clause-promises c = promises_well _ (invariant_of-self-in-Done c)

@@ -10,6 +10,7 @@ use Rattle.named.specs.declared.recovery.BrokerRecovery.TheVariants.{RecoverQueu
 use Rattle.named.specs.declared.slot.Slot.{Slot}
 use Rattle.named.proofs.Kept.{slot_is_well}
 use Rattle.named.proofs.Queues.{its_slot, ready_by, recovered, recovering, well_ready, well_recovering}
+use Rattle.named.proofs.Promises.{promises_well}
 use Rattle.named.proofs.broker.Broker.recover_queue.Goals as goal
 
 pub recover_step-requires : goal.recover_step-requires
@@ -29,8 +30,8 @@ invariant_of-self c =
     let yet : ready_by c.recover_step.result ≡ false = ap ready_by c.in_err-ready.was in
     well_recovering b c.args.slot was c.recover_step.new.self c.recover_step.new.memory c.self.invariant here c.recover_step.ensures.well c.recover_step.ensures.outside c.recover_step.ensures.same turn c.recover_step.result c.recover_step.ensures.world c.recover_step.ensures.result yet
 
-pub returns-in_err-ready : goal.returns-in_err-ready
-returns-in_err-ready c =
+pub returns-in_err-ready-clause-recovered : goal.returns-in_err-ready-clause-recovered
+returns-in_err-ready-clause-recovered c =
     let b : Brokered = record { counts = c.self.inside.layout; words = c.self.inside.memory; slots = c.self.inside.slots.items; directory = c.self.inside.directory; creation = c.self.inside.creation; recovery = c.self.inside.recovery } in
     let turn : b.recovery ≡ Some (RecoverQueue c.args.slot) = ap (λ (x : Brokered). x.recovery) c.self.view_is ∙ c.requires in
     let was : Slot = c.index_mut.result.now in
@@ -50,8 +51,8 @@ invariant_of-self-then-not-ready c =
     let yet : ready_by c.recover_step.result ≡ false = ap ready_by c.in_ok-ready.was ∙ c.if-not-ready.true in
     well_recovering b c.args.slot was c.recover_step.new.self c.recover_step.new.memory c.self.invariant here c.recover_step.ensures.well c.recover_step.ensures.outside c.recover_step.ensures.same turn c.recover_step.result c.recover_step.ensures.world c.recover_step.ensures.result yet
 
-pub returns-then-not-ready : goal.returns-then-not-ready
-returns-then-not-ready c =
+pub returns-then-not-ready-clause-recovered : goal.returns-then-not-ready-clause-recovered
+returns-then-not-ready-clause-recovered c =
     let b : Brokered = record { counts = c.self.inside.layout; words = c.self.inside.memory; slots = c.self.inside.slots.items; directory = c.self.inside.directory; creation = c.self.inside.creation; recovery = c.self.inside.recovery } in
     let turn : b.recovery ≡ Some (RecoverQueue c.args.slot) = ap (λ (x : Brokered). x.recovery) c.self.view_is ∙ c.requires in
     let was : Slot = c.index_mut.result.now in
@@ -75,8 +76,8 @@ invariant_of-self-2 c =
     subst (λ (k : Option Creation). let x : Brokered = record now { recovery = recovery; creation = k } in IsWell x) (sym c.creation_left-self-inside.ensures)
     (well_ready b c.args.slot was c.recover_step.new.self c.recover_step.new.memory c.self.invariant here c.recover_step.ensures.well c.recover_step.ensures.outside c.recover_step.ensures.same turn c.recover_step.result c.recover_step.ensures.world c.recover_step.ensures.result ready recovery next)
 
-pub returns : goal.returns
-returns c =
+pub returns-clause-recovered : goal.returns-clause-recovered
+returns-clause-recovered c =
     let b : Brokered = record { counts = c.self.inside.layout; words = c.self.inside.memory; slots = c.self.inside.slots.items; directory = c.self.inside.directory; creation = c.self.inside.creation; recovery = c.self.inside.recovery } in
     let turn : b.recovery ≡ Some (RecoverQueue c.args.slot) = ap (λ (x : Brokered). x.recovery) c.self.view_is ∙ c.requires in
     let was : Slot = c.index_mut.result.now in
@@ -92,3 +93,12 @@ returns c =
     let left : IsQueueRecovered b new c.args.slot.0 answer =
     subst (λ (k : Option Creation). let x : Brokered = record now { recovery = recovery; creation = k } in IsQueueRecovered b x c.args.slot.0 answer) (sym c.creation_left-self-inside.ensures) done in
     subst (λ (x : Brokered). IsQueueRecovered x new c.args.slot.0 (Ok c.is_none.result)) c.self.view_is (subst (λ (x : Bool). IsQueueRecovered b new c.args.slot.0 (Ok x)) answered left)
+
+pub returns-in_err-ready-clause-promises : goal.returns-in_err-ready-clause-promises
+returns-in_err-ready-clause-promises c = promises_well _ (invariant_of-self c)
+
+pub returns-then-not-ready-clause-promises : goal.returns-then-not-ready-clause-promises
+returns-then-not-ready-clause-promises c = promises_well _ (invariant_of-self-then-not-ready c)
+
+pub returns-clause-promises : goal.returns-clause-promises
+returns-clause-promises c = promises_well _ (invariant_of-self-2 c)
