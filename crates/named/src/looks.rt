@@ -91,6 +91,7 @@ impl Broker {
         ensures directory { self.new.directory ≡ self.old.directory }
         ensures creation { self.new.creation ≡ self.old.creation }
         ensures recovery { self.new.recovery ≡ self.old.recovery }
+        ensures promises { KeepsPromises self.new }
     {
         if slot.0 as usize >= self.slots.len() {
             return Err(Refusal::NoQueue);

@@ -58,6 +58,7 @@ impl Broker {
         ensures others { self.new ≡ record self.old { creation = self.new.creation } }
         ensures errors { IfErr result (IsNotCreated self.old name.now) }
         ensures same { OnErr result (self.new ≡ self.old) }
+        ensures promises { OnOk result (KeepsPromises self.new) }
     {
         let name = Name::make(name)?;
         self.check_ready()?;
