@@ -22,8 +22,8 @@ fn turn(rt: &HostRuntime, memory: &mut Memory) -> Result<u128> {
     Ok(begun.elapsed(rt)?.as_nanos())
 }
 
-/// Prints how many nanoseconds a crash took at best in a memory of so many words, the stores before it too, or without a
-/// number of turns only how many words are changed after one.
+/// Prints how many nanoseconds a crash took at best in a memory of so many words, the stores before it too, or without
+/// a number of turns only how many words are changed after one.
 pub(crate) fn run(rt: &HostRuntime, words: usize, turns: Option<u32>) -> Result<()> {
     let mut memory = Memory::new(rt.alloc(), words)?;
     let mut best = turn(rt, &mut memory)?;

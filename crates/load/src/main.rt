@@ -1,6 +1,5 @@
-//! Loads that the scripts of bench/ time: acts on a world or by a broker's slot, crashes and recovery, and the checker of
-//! histories.
-//! Without a subcommand it plays a small one of each.
+//! Loads that the scripts of bench/ time: acts on a world or by a broker's slot, crashes and recovery, and the checker
+//! of histories. Without a subcommand it plays a small one of each.
 #![tactic(auto)]
 
 mod acts;

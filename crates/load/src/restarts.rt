@@ -38,8 +38,8 @@ fn broker(rt: &HostRuntime, clients: u32, records: u32) -> Result<(Broker, SlotI
     Ok((broker, slot))
 }
 
-/// A turn: a call begins, makes some steps, and is cut off by a crash, which recovery follows. How many nanoseconds that
-/// took, and how many steps the last recovery did.
+/// A turn: a call begins, makes some steps, and is cut off by a crash, which recovery follows. How many nanoseconds
+/// that took, and how many steps the last recovery did.
 fn turn(rt: &HostRuntime, clients: u32, records: u32) -> Result<(u128, u32)> {
     let (mut broker, slot) = broker(rt, clients, records)?;
     let mut steps = 0;
@@ -55,8 +55,8 @@ fn turn(rt: &HostRuntime, clients: u32, records: u32) -> Result<(u128, u32)> {
     Ok((begun.elapsed(rt)?.as_nanos(), steps))
 }
 
-/// Prints how many nanoseconds a call, a crash and its recovery took at best, or without a number of turns only how many
-/// steps the last recovery did.
+/// Prints how many nanoseconds a call, a crash and its recovery took at best, or without a number of turns only how
+/// many steps the last recovery did.
 pub(crate) fn run(rt: &HostRuntime, clients: u32, records: u32, turns: Option<u32>) -> Result<()> {
     let (mut best, steps) = turn(rt, clients, records)?;
     for _ in 1..turns.unwrap_or(1) {

@@ -135,7 +135,8 @@ gates_loaded (LoadSecondName slot first) = slot.0 + 1
 gates_loaded (LoadKind slot first second) = slot.0 + 1
 
 -- the directory is read: what is known of it is what the memory has, where its gates were loaded already
-pub record IsReading (ws : Words) (at : DirectoryRecovery) (creation : Option Creation) (known : Directory) : Type 0 where
+pub record IsReading (ws : Words) (at : DirectoryRecovery) (creation : Option Creation) (known : Directory)
+    : Type 0 where
   pub whole : Directory
   pub recovering : IsRecovering ws at whole
   pub more : IsMaybeWith known whole creation
@@ -218,7 +219,8 @@ pub record IsOpened (old new : Brokered) (creation : Creation) (slot : SlotId) :
       ≡ Some (world_over (shape_of creation.queue.kind old.counts) (block_words old.counts slot.0 new.words))
 
 -- what a step of a creation comes to, and what it answers
-abbrev pub IsStepCreated : Brokered → Brokered → Creation → Result (Option SlotId) Refusal → After Creation SlotId → Type 0
+abbrev pub IsStepCreated
+    : Brokered → Brokered → Creation → Result (Option SlotId) Refusal → After Creation SlotId → Type 0
 IsStepCreated old new creation result (More next) =
     (result ≡ Ok None) × (new ≡ record old { words = words_created old creation; creation = Some next })
 IsStepCreated old new creation result (Done slot) = (result ≡ Ok (Some slot)) × IsOpened old new creation slot

@@ -7,7 +7,8 @@ use Rattle.interleave.specs.Standing.{GoesOn}
 use Rattle.interleave.specs.State.{State}
 use Rattle.named.specs.Brokers.{Brokered, quiet, world_at}
 
--- a slot's queue is still there, and its history goes on: nothing is taken back, and calls that had ended stay as they are
+-- a slot's queue is still there, and its history goes on: nothing is taken back, and calls that had ended stay as they
+-- are
 pub record IsGoneOn (w : State) (now : Option State) : Type 0 where
   pub world : State
   pub is : now ≡ Some world

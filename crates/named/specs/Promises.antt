@@ -5,7 +5,8 @@ use Rattle.interleave.specs.State.{State}
 use Rattle.named.specs.Booting.{AreBootWords}
 use Rattle.named.specs.Brokers.{Brokered, world_at}
 
--- each open slot's history may arise, its order explains it, and its kept words hold what the replay of the order leaves
+-- each open slot's history may arise, its order explains it, and its kept words hold what the replay of the order
+-- leaves
 abbrev pub AreExplained : Brokered → Type 0
 AreExplained b = (slot : ℕ) (w : State) → world_at b slot ≡ Some w → IsExplained w
 

@@ -5,6 +5,7 @@ ghost use Rattle.arena.specs.Broker.{broker_size};
 ghost use Rattle.arena.specs.Shape.{shape_of};
 ghost use Rattle.recover.specs.Sound.{AreSoundWords, IsDamaged};
 ghost use Rattle.named.specs.Booting.{AreBootWords, AreRead, IsBlockDamaged, IsBooted, MayRefuse, kept_block};
+ghost use Rattle.named.specs.Promises.{KeepsPromises};
 
 use crate::broker::Broker;
 use crate::recovery::BrokerRecovery;
@@ -55,14 +56,15 @@ fn check_blocks(kept: &KeptBroker, memory: &Memory) -> Result<(), Refusal>
 }
 
 impl Broker {
-    /// A broker that begins on what a memory keeps, as a crash left it: what is not kept is lost, and recovery begins. How
-    /// many clients and records there are, the memory's head says. Each open queue's history begins with what its kept
-    /// words hold and tell. It is refused, in this order, where the words break a rule (Damaged, with the first such
-    /// rule: of the head, of the directory, of the open blocks in slot order), and for want of memory (NoMemory).
+    /// A broker that begins on what a memory keeps, as a crash left it: what is not kept is lost, and recovery begins.
+    /// How many clients and records there are, the memory's head says. Each open queue's history begins with what its
+    /// kept words hold and tell. It is refused, in this order, where the words break a rule (Damaged, with the first
+    /// such rule: of the head, of the directory, of the open blocks in slot order), and for want of memory (NoMemory).
     pub fn boot(alloc: Global, mut memory: Memory) -> Result<Self, Refusal>
         ensures booted { IfOk result (IsBooted memory) }
         ensures sound { OnOk result (AreBootWords memory.kept) }
         ensures errors { IfErr result (MayRefuse memory.kept) }
+        ensures promises { IfOk result KeepsPromises }
     {
         memory.crash();
         let kept = sound_directory(&memory)?;

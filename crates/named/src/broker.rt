@@ -13,6 +13,7 @@ ghost use Rattle.named.specs.Slots.{acted, world_in, IfWorld, IsSlotWell, IsWhyU
 ghost use Rattle.interleave.specs.Queue.{told_in, told_to};
 ghost use Rattle.named.specs.Brokers.{has_client, world_at, room_at, quiet, world_after, answer_at, new_words, IsNew, IsBegun, IsNotCreated, MayCreate, IsStepCreated};
 ghost use Rattle.named.specs.declared.slot.Slot.TheVariants.{Closed};
+ghost use Rattle.named.specs.Promises.{KeepsPromises};
 
 use crate::recovery::BrokerRecovery;
 use crate::slot::Slot;
@@ -102,6 +103,7 @@ impl Broker {
         ensures counts { OnOk result (AreCounts clients records) }
         ensures bad_clients { result ≡ Err Refusal.BadClients ↔ ((clients ≡ 0) ⊎ (MAX_CLIENTS < clients)) }
         ensures errors { IfErr result (λ e. (e ≡ Refusal.NoMemory) ⊎ (AreCounts clients records → ⊥)) }
+        ensures promises { IfOk result KeepsPromises }
     {
         let layout = BrokerLayout::make(clients, records)?;
         let memory = new_memory(alloc, &layout, clients, records)?;

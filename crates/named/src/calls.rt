@@ -7,6 +7,7 @@ ghost use Rattle.words.specs.declared.refusal.Refusal.{Refusal as AnyRefusal};
 ghost use Rattle.named.specs.Blocks.{waiting_in};
 ghost use Rattle.named.specs.Slots.{acted, IfWorld};
 ghost use Rattle.named.specs.Brokers.{admission, world_at, room_at, quiet, world_after, answer_at};
+ghost use Rattle.named.specs.Promises.{KeepsPromises};
 
 use crate::broker::Broker;
 use arena::{Layout, SLOTS, SlotId};
@@ -24,7 +25,8 @@ impl Broker {
     }
 
     /// Starts a call in the queue of a slot. It is refused, in this order, where there is no such client (NoClient),
-    /// while the broker recovers (NotReady), where the slot is closed (NoQueue), and as [`interleave::World::start`] is.
+    /// while the broker recovers (NotReady), where the slot is closed (NoQueue), and as [`interleave::World::start`]
+    /// is.
     pub fn start(
         &mut self,
         slot: SlotId,
@@ -44,6 +46,7 @@ impl Broker {
         ensures directory { self.new.directory ≡ self.old.directory }
         ensures creation { self.new.creation ≡ self.old.creation }
         ensures recovery { self.new.recovery ≡ self.old.recovery }
+        ensures promises { KeepsPromises self.new }
     {
         self.admit(client)?;
         if slot.0 as usize >= SLOTS {
@@ -66,6 +69,7 @@ impl Broker {
         ensures directory { self.new.directory ≡ self.old.directory }
         ensures creation { self.new.creation ≡ self.old.creation }
         ensures recovery { self.new.recovery ≡ self.old.recovery }
+        ensures promises { KeepsPromises self.new }
     {
         self.admit(client)?;
         if slot.0 as usize >= SLOTS {
@@ -95,6 +99,7 @@ impl Broker {
         ensures directory { self.new.directory ≡ self.old.directory }
         ensures creation { self.new.creation ≡ self.old.creation }
         ensures recovery { self.new.recovery ≡ self.old.recovery }
+        ensures promises { KeepsPromises self.new }
     {
         self.admit(client)?;
         if slot.0 as usize >= SLOTS {

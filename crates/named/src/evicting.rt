@@ -6,6 +6,7 @@ ghost use Rattle.named.specs.Blocks.{IsSameWords};
 ghost use Rattle.named.specs.Slots.{acted};
 ghost use Rattle.named.specs.Brokers.{world_at, room_at};
 ghost use Rattle.named.specs.Evicting.{world_evicted, evict_result, IsInBlockOf, IsInNoBlock};
+ghost use Rattle.named.specs.Promises.{KeepsPromises};
 
 use crate::broker::Broker;
 use arena::{BrokerLayout, BrokerPlace, SlotId};
@@ -35,6 +36,7 @@ impl Broker {
             → world_at self.new slot ≡ acted (world_evicted self.old.counts slot word) (world_at self.old slot) }
         ensures same { self.new ≡ record self.old { words = self.new.words; slots = self.new.slots } }
         ensures room { (slot : ℕ) → room_at self.new slot ≡ room_at self.old slot }
+        ensures promises { KeepsPromises self.new }
     {
         // A word of an open queue is evicted through its window, so that the queue notices what takes effect.
         match block_of(&self.layout, word) {

@@ -15,8 +15,8 @@ ghost use Rattle.named.specs.GoingOn.{BrokerGoesOn, IsDowntime, AreOthersQuiet};
 ghost use Rattle.named.specs.Slots.{acted, IfWorld};
 ghost use Rattle.named.specs.Stopping.{IsRecoveryStep, IsStopped};
 
-/// Any list of acts goes on with a broker's queues: each stays in its slot with its name and kind, nothing is taken back
-/// from its order, and calls that had ended stay as they are. A rotation alone ends histories.
+/// Any list of acts goes on with a broker's queues: each stays in its slot with its name and kind, nothing is taken
+/// back from its order, and calls that had ended stay as they are. A rotation alone ends histories.
 #[tactic(auto, using(crate::proofs::GoingOn::broker_stays, crate::proofs::GoingOn::broker_goes_further))]
 pub fn brokers_go_on()
     ensures none { (b : Brokered) → BrokerGoesOn b b }
@@ -26,7 +26,8 @@ pub fn brokers_go_on()
 /// So does each act: a start or a step of a call, a call that goes on alone, a step of a creation, and an eviction.
 pub fn acts_go_on()
     ensures calls { (full : Bool) (act : Act ℕ) (old new : Brokered) (slot : ℕ) (client : Client) → IsWell old
-        → new.directory ≡ old.directory → world_at new slot ≡ world_after (λ w. after_attempt full w act) old slot client
+        → new.directory ≡ old.directory
+        → world_at new slot ≡ world_after (λ w. after_attempt full w act) old slot client
         → AreOthersQuiet old new slot → BrokerGoesOn old new }
     ensures alone { (client : Client) (result : Result (Reply × ℕ) Refusal) (old new : Brokered) (slot : ℕ)
         → IsWell old → new.directory ≡ old.directory

@@ -40,8 +40,8 @@ impl Broker {
     }
 
     /// What happened in the queue of a slot since the history begins. It takes no memory, and is refused where the slot
-    /// is closed (NoQueue). What is promised of every queue holds at every moment, as any broker has it; laws on states ask
-    /// for `IsWell`.
+    /// is closed (NoQueue). What is promised of every queue holds at every moment, as any broker has it; laws on states
+    /// ask for `IsWell`.
     #[tactic(auto, using(crate::proofs::Promises::promises_well))]
     pub fn history(&self, slot: SlotId) -> Result<&History, Refusal>
         ensures base { IfOk result (λ h. IfWorld (world_at self.now slot.0) (λ w. h.now.base.items ≡ w.base)) }
@@ -91,6 +91,7 @@ impl Broker {
         ensures directory { self.new.directory ≡ self.old.directory }
         ensures creation { self.new.creation ≡ self.old.creation }
         ensures recovery { self.new.recovery ≡ self.old.recovery }
+        ensures promises { KeepsPromises self.new }
     {
         if slot.0 as usize >= self.slots.len() {
             return Err(Refusal::NoQueue);

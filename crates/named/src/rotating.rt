@@ -11,10 +11,10 @@ use crate::slots::{begin_each, have_calls, prepare_each};
 use words::Refusal;
 
 impl Broker {
-    /// The histories of all queues end, and others begin: each one's base is what its kept words hold and tell. Words and
-    /// floors of numbers stay. All memory is taken before any history ends. It is refused, in this order, while recovery
-    /// is under way (NotReady), where a creation is or a call in any queue (Busy), and for want of memory (NoMemory), and
-    /// then nothing changed.
+    /// The histories of all queues end, and others begin: each one's base is what its kept words hold and tell. Words
+    /// and floors of numbers stay. All memory is taken before any history ends. It is refused, in this order, while
+    /// recovery is under way (NotReady), where a creation is or a call in any queue (Busy), and for want of memory
+    /// (NoMemory), and then nothing changed.
     pub fn rotate(&mut self) -> Result<(), Refusal>
         ensures result { result ≡ rotate_result (is_no_memory result) self.old }
         ensures rotated { result ≡ Ok tt → IsRotated self.old self.new }

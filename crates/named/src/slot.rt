@@ -212,7 +212,8 @@ impl Slot {
         }
     }
 
-    /// A queue of this kind in the slot's block, which is all zero: recovery is the first to find it. It takes no memory.
+    /// A queue of this kind in the slot's block, which is all zero: recovery is the first to find it. It takes no
+    /// memory.
     pub(crate) fn open_found(alloc: Global, layout: &BrokerLayout, slot: SlotId, kind: Kind) -> Self
         requires { slot.0 < SLOTS }
         ensures kind { kind_in result ≡ Some kind }

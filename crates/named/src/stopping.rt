@@ -10,6 +10,7 @@ ghost use Rattle.named.specs.Stopping.{HasFullQueue, IsDirectoryRead, IsFound, I
 ghost use Rattle.named.specs.Stopping.{IsReadingDirectory, IsRecoveryStep, IsSameButRoom, IsStopped, MayReadOn, creation_after};
 ghost use Rattle.named.specs.Lasting.{left_after_read, most_kept, steps_left};
 ghost use Rattle.named.specs.Telling.{TellAtReady};
+ghost use Rattle.named.specs.Promises.{KeepsPromises};
 
 use crate::broker::Broker;
 use crate::recovery::BrokerRecovery;
@@ -56,6 +57,7 @@ impl Broker {
         ensures full { is_no_memory result ≡ true → HasFullQueue self.old }
         ensures room { (slot : ℕ) → room_at self.old slot ≤ room_at self.new slot + 1 }
         ensures left { result ≡ Ok tt → steps_left self.new ≡ 32 + most_kept self.new }
+        ensures promises { KeepsPromises self.new }
     {
         // A queue that had stopped while another's room is refused would have a crash that the other had not.
         reserve_each(&mut self.slots, 1)?;
@@ -106,6 +108,7 @@ impl Broker {
         ensures left { steps_left self.new ≤ left_after_read self.old after }
         ensures same { self.new ≡ record self.old { creation = self.new.creation; recovery = self.new.recovery } }
         ensures answer { result ≡ is_none self.new.recovery }
+        ensures promises { KeepsPromises self.new }
     {
         match after {
             After::More(next) => {
@@ -128,6 +131,7 @@ impl Broker {
         ensures room { (slot : ℕ) → room_at self.old slot ≤ room_at self.new slot + 1 }
         ensures told { TellAtReady self.old self.new }
         ensures falls { steps_left self.new < steps_left self.old }
+        ensures promises { KeepsPromises self.new }
     {
         let recovered = at.step(&self.layout, &mut self.memory);
         // Without it recovery would come to a slot that is kept open and has no queue to recover.
@@ -143,6 +147,7 @@ impl Broker {
         ensures room { (other : ℕ) → room_at self.old other ≤ room_at self.new other + 1 }
         ensures told { TellAtReady self.old self.new }
         ensures falls { IfOk result (λ ready. steps_left self.new < steps_left self.old) }
+        ensures promises { KeepsPromises self.new }
     {
         let ready = self.slots[slot.0 as usize].recover_step(&mut self.memory)?;
         if !ready {
@@ -165,6 +170,7 @@ impl Broker {
         ensures told { TellAtReady self.old self.new }
         ensures few { steps_left self.old ≤ 32 + most_kept self.old }
         ensures falls { IfOk result (λ ready. steps_left self.new < steps_left self.old) }
+        ensures promises { KeepsPromises self.new }
     {
         match self.recovery {
             None => Err(Refusal::AlreadyReady),

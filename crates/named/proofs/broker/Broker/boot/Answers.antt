@@ -7,6 +7,7 @@ use Rattle.named.specs.Booting.{AreRead, world_booted}
 use Rattle.named.specs.Brokers.{IsWell}
 use Rattle.named.specs.declared.recovery.BrokerRecovery.TheVariants.{ReadDirectory}
 use Rattle.named.proofs.Booted.{booted_alike, booted_well, booted_worlds}
+use Rattle.named.proofs.Promises.{promises_well}
 use Rattle.named.proofs.broker.Broker.boot.Goals as goal
 
 is_read : (c : goal.After-boot) → AreRead c.crash.new.self c.in_ok-kept.kept.layout c.in_ok-kept.kept.directory
@@ -42,3 +43,6 @@ returns-clause-booted c =
       creation = refl;
       recovery = ap (λ (r : DirectoryRecovery). Some (ReadDirectory r)) c.boot.ensures;
     }
+
+pub returns-clause-promises : goal.returns-clause-promises
+returns-clause-promises c = promises_well _ (invariant_of-result c)

@@ -11,6 +11,7 @@ use Rattle.named.specs.declared.recovery.BrokerRecovery.{BrokerRecovery}
 use Rattle.named.specs.declared.recovery.BrokerRecovery.TheVariants.{ReadDirectory}
 use Rattle.named.specs.declared.slot.Slot.{Slot}
 use Rattle.named.proofs.Stopped.{few_in_each, rooms_roomier, rooms_stopped, well_roomier, well_stopped, worlds_roomier, worlds_stopped}
+use Rattle.named.proofs.Promises.{promises_well}
 use Rattle.named.proofs.broker.Broker.crash.Goals as goal
 
 pub reserve_each-requires : goal.reserve_each-requires
@@ -97,3 +98,9 @@ returns-clause-room c = λ at.
     let each2 : EachBecame HasStopped more stopped = subst (λ (l : List Slot). EachBecame HasStopped l stopped) (c.deref_mut-2.ensures.value ∙ written) (record { count = c.stop_each.ensures.count; each = c.stop_each.ensures.each }) in
     let written2 : (with_items (with_items c.self.inside.slots more) stopped).items ≡ stopped = with_items_is (with_items c.self.inside.slots more) stopped (each2.count ∙ each.count ∙ sym c.self.inside.slots.ok.0) in
     omega (arith, rooms_roomier b more c.self.invariant each at, rooms_stopped x stopped well each2 at, ap (λ (l : List Slot). room_of (slice_get l at)) written2, ap (λ (y : Brokered). room_at y at) c.self.view_is)
+
+pub returns-in_err-reserve_each-clause-promises : goal.returns-in_err-reserve_each-clause-promises
+returns-in_err-reserve_each-clause-promises c = promises_well _ (invariant_of-self c)
+
+pub returns-clause-promises : goal.returns-clause-promises
+returns-clause-promises c = promises_well _ (invariant_of-self-2 c)

@@ -5,6 +5,7 @@ use Rattle.directory.specs.declared.queue.Queue.{Queue}
 use Rattle.named.specs.Brokers.{Brokered, IsWell}
 use Rattle.named.proofs.Begun.{begun_well}
 use Rattle.named.proofs.Kept.{ready_there}
+use Rattle.named.proofs.Promises.{promises_well}
 use Rattle.named.proofs.broker.Broker.create.Goals as goal
 
 pub invariant_of-self : goal.invariant_of-self
@@ -16,3 +17,6 @@ invariant_of-self c =
     let queue : Queue = record { name = c.in_ok-name.name; kind = c.args.kind } in
     subst (λ (o : Creation). let x : Brokered = record b { creation = Some o } in IsWell x) (sym c.begin.ensures.made)
     (begun_well b c.in-Some.slot queue c.self.invariant ready idle c.in-Some.ensures.found.free c.begin.ensures.named is_new)
+
+pub returns-clause-promises : goal.returns-clause-promises
+returns-clause-promises c = promises_well _ (invariant_of-self c)

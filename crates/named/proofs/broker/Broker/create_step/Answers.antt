@@ -12,6 +12,7 @@ use Rattle.named.specs.Brokers.{Brokered, IsOpened, IsStepCreated, IsWell, block
 use Rattle.named.proofs.Opened.{others_done, others_more, rest, room_now, unused, well_done, well_more, world_opened}
 use Rattle.named.specs.declared.recovery.BrokerRecovery.{BrokerRecovery}
 use Rattle.named.proofs.Kept.{ready_there}
+use Rattle.named.proofs.Promises.{promises_kept, promises_well}
 use Rattle.named.proofs.broker.Broker.create_step.Goals as goal
 
 pub invariant_of-self : goal.invariant_of-self
@@ -83,3 +84,15 @@ returns-in-Done-clause-step c = λ _.
     let result : Result (Option SlotId) Refusal = Ok (Some c.in-Done.slot) in
     subst (λ (o : Option Creation). IfSome o (λ (x : Creation). IsStepCreated c.args.self.now new x result (successor x))) (sym now)
     (subst (λ (a : After Creation SlotId). IsStepCreated c.args.self.now new k result a) (sym went) (refl, opened))
+
+pub returns-in_err-check_ready-clause-promises : goal.returns-in_err-check_ready-clause-promises
+returns-in_err-check_ready-clause-promises c = promises_kept _ _ c.self.invariant c.self.view_is
+
+pub returns-in_default-clause-promises : goal.returns-in_default-clause-promises
+returns-in_default-clause-promises c = promises_kept _ _ c.self.invariant c.self.view_is
+
+pub returns-in-More-clause-promises : goal.returns-in-More-clause-promises
+returns-in-More-clause-promises c = promises_well _ (invariant_of-self c)
+
+pub returns-in-Done-clause-promises : goal.returns-in-Done-clause-promises
+returns-in-Done-clause-promises c = promises_well _ (invariant_of-self-in-Done c)

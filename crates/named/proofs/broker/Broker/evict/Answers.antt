@@ -8,6 +8,7 @@ use Rattle.named.specs.Slots.{acted}
 use Rattle.named.specs.Brokers.{Brokered, IsWell, room_at, room_of, world_at, world_of}
 use Rattle.named.proofs.Kept.{get_set_other, slot_is_well, still_well}
 use Rattle.named.proofs.EvictedWell.{outside_evicted, well_before, word_of_block, worlds_before, worlds_past, worlds_within}
+use Rattle.named.proofs.Promises.{promises_well}
 use Rattle.named.proofs.broker.Broker.evict.Goals as goal
 
 pub evict-requires-clause-well : goal.evict-requires-clause-well
@@ -74,3 +75,9 @@ returns-in-None-clause-worlds c = λ slot.
       | inl low ↦ ap (λ (w : Words). world_of w (slice_get b.slots slot)) (c.evict-in-None.ensures.done (omega (arith, low, c.self.invariant.room.cached))) ∙ worlds_before b c.args.word c.self.invariant low slot
       | inr past ↦ ap (λ (w : Words). world_of w (slice_get b.slots slot)) (c.evict-in-None.ensures.same (omega (arith, past, c.self.invariant.room.cached))) ∙ worlds_past b c.args.word c.self.invariant past slot
     ] in go outside ∙ ap (λ (x : Brokered). acted (world_evicted x.counts slot c.args.word) (world_at x slot)) c.self.view_is
+
+pub returns-in-Some-clause-promises : goal.returns-in-Some-clause-promises
+returns-in-Some-clause-promises c = promises_well _ (invariant_of-self c)
+
+pub returns-in-None-clause-promises : goal.returns-in-None-clause-promises
+returns-in-None-clause-promises c = promises_well _ (invariant_of-self-in-None c)

@@ -99,3 +99,6 @@ returns-clause-falls c =
     let less = read_falls b now c.args.at found counts kept in
     let before : steps_left b ≡ most_left c.args.at + most_kept b = ap (left_at b) is in
     omega (arith, left, less, before, ap (λ (x : Brokered). steps_left x) c.self.view_is)
+
+pub returns-clause-promises : goal.returns-clause-promises
+returns-clause-promises c = c.read_on.ensures.promises

@@ -10,6 +10,8 @@ use Rattle.named.specs.Lasting.{left_after_read, left_at, most_kept}
 use Rattle.named.specs.declared.recovery.BrokerRecovery.{BrokerRecovery}
 use Rattle.named.proofs.Lastings.{few_next, most_is_kept}
 use Rattle.named.proofs.Recovers.{tells_read, well_read, well_read_on}
+use Rattle.named.proofs.Recovers.{well_read, well_read_on}
+use Rattle.named.proofs.Promises.{promises_well}
 use Rattle.named.proofs.broker.Broker.read_on.Goals as goal
 
 pub invariant_of-self : goal.invariant_of-self
@@ -57,3 +59,9 @@ returns-in-Done-clause-left c =
     subst (λ (d : Directory). let x : Brokered = record b { directory = d } in left_at x recovery ≤ most_kept b) (sym known) few in
     subst (λ (x : Brokered). left_at (record b { directory = c.of-self-inside.result }) recovery ≤ left_after_read x c.args.after) c.self.view_is
     (subst (λ (a : After DirectoryRecovery Directory). left_at (record b { directory = c.of-self-inside.result }) recovery ≤ left_after_read b a) (sym c.in-Done.is) left)
+
+pub returns-in-More-clause-promises : goal.returns-in-More-clause-promises
+returns-in-More-clause-promises c = promises_well _ (invariant_of-self c)
+
+pub returns-in-Done-clause-promises : goal.returns-in-Done-clause-promises
+returns-in-Done-clause-promises c = promises_well _ (invariant_of-self-in-Done c)

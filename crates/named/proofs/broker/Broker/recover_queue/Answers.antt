@@ -14,6 +14,7 @@ use Rattle.named.specs.Slots.{room_in}
 use Rattle.named.proofs.Eaches.{rooms_after}
 use Rattle.named.proofs.Kept.{slot_is_well}
 use Rattle.named.proofs.Queues.{falls_ready, falls_yet, full_here, its_slot, ready_by, recovered, recovering, tells_ready, well_ready, well_recovering}
+use Rattle.named.proofs.Promises.{promises_well}
 use Rattle.named.proofs.broker.Broker.recover_queue.Goals as goal
 
 pub recover_step-requires : goal.recover_step-requires
@@ -168,3 +169,12 @@ returns-clause-room c = λ other.
     let here : slice_get b.slots c.args.slot.0 ≡ Some was = slice_get_read b.slots 8 c.args.slot.0 was (sym c.self.invariant.count) (its_slot b c.self.invariant c.args.slot turn) c.index_mut.ensures.value in
     subst (λ (x : Brokered). room_at x other ≤ room_of (slice_get (slice_set b.slots c.args.slot.0 c.recover_step.new.self) other) + 1) c.self.view_is
     (rooms_after b.slots c.args.slot.0 was c.recover_step.new.self here c.recover_step.ensures.room other)
+
+pub returns-in_err-ready-clause-promises : goal.returns-in_err-ready-clause-promises
+returns-in_err-ready-clause-promises c = promises_well _ (invariant_of-self c)
+
+pub returns-then-not-ready-clause-promises : goal.returns-then-not-ready-clause-promises
+returns-then-not-ready-clause-promises c = promises_well _ (invariant_of-self-then-not-ready c)
+
+pub returns-clause-promises : goal.returns-clause-promises
+returns-clause-promises c = promises_well _ (invariant_of-self-2 c)

@@ -6,6 +6,7 @@ use Rattle.named.specs.Slots.{IsWhyUnread, world_in}
 use Rattle.named.specs.Brokers.{Brokered, room_at, room_of, world_at, world_of}
 use Rattle.named.proofs.Kept.{slot_is_well, still_well}
 use Rattle.named.proofs.Reserved.{few, room_here, rooms_kept, same_outside, slot_reserved, worlds_same}
+use Rattle.named.proofs.Promises.{promises_kept, promises_well}
 use Rattle.named.proofs.broker.Broker.reserve.Goals as goal
 
 pub reserve-requires : goal.reserve-requires
@@ -57,3 +58,9 @@ returns-clause-errors c =
     let here : slice_get c.self.inside.slots.items c.args.slot.0 ≡ Some c.index_mut.result.now = slice_get_read c.self.inside.slots.items (length c.self.inside.slots.items) c.args.slot.0 c.index_mut.result.now refl below c.index_mut.ensures.value in
     let world : world_in c.self.inside.memory c.index_mut.result.now ≡ world_at c.args.self.now c.args.slot.0 = sym (ap (world_of c.self.inside.memory) here) ∙ ap (λ (x : Brokered). world_at x c.args.slot.0) c.self.view_is in
     subst (λ (o : Option State). IfErr c.reserve.result (IsWhyUnread o)) world (c.reserve.ensures.errors c.self.inside.memory)
+
+pub returns-then-slot-len-clause-promises : goal.returns-then-slot-len-clause-promises
+returns-then-slot-len-clause-promises c = promises_kept _ _ c.self.invariant c.self.view_is
+
+pub returns-clause-promises : goal.returns-clause-promises
+returns-clause-promises c = promises_well _ (invariant_of-self c)

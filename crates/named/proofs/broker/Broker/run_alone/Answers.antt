@@ -8,6 +8,7 @@ use Rattle.named.specs.Blocks.{waiting_in}
 use Rattle.named.specs.Slots.{acted, IfWorld, world_in}
 use Rattle.named.specs.Brokers.{Brokered, admission, world_at, quiet, answer_at}
 use Rattle.named.proofs.Kept.{no_queue, world_now, world_was, slot_is_well, still_well, others_stay, answer_done}
+use Rattle.named.proofs.Promises.{promises_kept, promises_well}
 use Rattle.named.proofs.broker.Broker.run_alone.Goals as goal
 
 pub run_alone-requires : goal.run_alone-requires
@@ -89,3 +90,12 @@ returns-clause-world c =
     let now = sym (world_now b c.args.slot.0 c.index_mut.result.now c.run_alone.new.self c.run_alone.new.memory c.self.invariant here c.run_alone.ensures.well c.run_alone.ensures.outside c.run_alone.ensures.same) in
     subst (λ (o : Option State). IfOk c.run_alone.result (λ answer. o ≡ acted (λ w. after_alone answer.1 w c.args.client) (world_at c.args.self.now c.args.slot.0))) now
     (subst (λ (o : Option State). IfOk c.run_alone.result (λ answer. world_in c.run_alone.new.memory c.run_alone.new.self ≡ acted (λ w. after_alone answer.1 w c.args.client) o)) was c.run_alone.ensures.world)
+
+pub returns-in_err-admit-clause-promises : goal.returns-in_err-admit-clause-promises
+returns-in_err-admit-clause-promises c = promises_kept _ _ c.self.invariant c.self.view_is
+
+pub returns-then-slot-ge-SLOTS-clause-promises : goal.returns-then-slot-ge-SLOTS-clause-promises
+returns-then-slot-ge-SLOTS-clause-promises c = promises_kept _ _ c.self.invariant c.self.view_is
+
+pub returns-clause-promises : goal.returns-clause-promises
+returns-clause-promises c = promises_well _ (invariant_of-self c)

@@ -6,6 +6,7 @@ use Rattle.interleave.proofs.AloneLaws.{get_set}
 use Rattle.named.specs.Slots.{room_in}
 use Rattle.named.specs.Brokers.{Brokered, admission, room_at, room_of, world_at, quiet, world_after, answer_at}
 use Rattle.named.proofs.Kept.{get_set_other, slot_is_well, still_well, others_stay, world_done, answer_done}
+use Rattle.named.proofs.Promises.{promises_kept, promises_well}
 use Rattle.named.proofs.broker.Broker.step.Goals as goal
 
 pub step-requires : goal.step-requires
@@ -58,3 +59,12 @@ returns-clause-room c =
 pub returns-clause-other_rooms : goal.returns-clause-other_rooms
 returns-clause-other_rooms c = λ other ne.
     ap room_of (get_set_other c.self.inside.slots.items c.args.slot.0 c.step.new.self other ne) ∙ ap (λ (x : Brokered). room_at x other) c.self.view_is
+
+pub returns-in_err-admit-clause-promises : goal.returns-in_err-admit-clause-promises
+returns-in_err-admit-clause-promises c = promises_kept _ _ c.self.invariant c.self.view_is
+
+pub returns-then-slot-ge-SLOTS-clause-promises : goal.returns-then-slot-ge-SLOTS-clause-promises
+returns-then-slot-ge-SLOTS-clause-promises c = promises_kept _ _ c.self.invariant c.self.view_is
+
+pub returns-clause-promises : goal.returns-clause-promises
+returns-clause-promises c = promises_well _ (invariant_of-self c)
