@@ -237,7 +237,7 @@ fn is_checked(alloc: Global, broker: &Broker, change: u8) -> Result<bool, Refusa
 #[test]
 fn a_changed_byte_is_refused_or_one_word(rt: HostRuntime) -> Result<(), Fail> {
     let alloc = rt.alloc();
-    for change in [1, 2, 255] {
+    for change in 1..=u8::MAX {
         let right = with_five(alloc, 1).and_then(|broker| is_checked(alloc, &broker, change));
         assert!(rt; right == Ok(true), "{change}");
     }
