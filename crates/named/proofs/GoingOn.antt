@@ -200,3 +200,8 @@ pub creation_stays : (creation now : Option Creation) (recovery : Option BrokerR
     → (now ≡ creation) ⊎ (recovery ≡ None)
 creation_stays creation now None e = inr refl
 creation_stays creation now (Some recovery) e = inl e
+
+-- queues that are as they were
+pub same_goes_on : (old new : Brokered) → new.directory ≡ old.directory → ((slot : ℕ) → world_at new slot ≡ world_at old slot) → BrokerGoesOn old new
+same_goes_on old new directory same =
+    each_goes_on old new directory (λ slot w e. on_if_same w (world_at new slot) (same slot ∙ e))

@@ -23,8 +23,11 @@ pub fn brokers_go_on()
     ensures more { (old now new : Brokered) → BrokerGoesOn old now → BrokerGoesOn now new → BrokerGoesOn old new }
 {}
 
-/// So does each act: a start or a step of a call, a call that goes on alone, a step of a creation, and an eviction.
+/// So does each act: a start or a step of a call, a call that goes on alone, and a step of a creation; and what leaves
+/// the queues as they are: a creation that begins, room that is made, and an act that is refused.
 pub fn acts_go_on()
+    ensures same { (old new : Brokered) → new.directory ≡ old.directory
+        → ((slot : ℕ) → world_at new slot ≡ world_at old slot) → BrokerGoesOn old new }
     ensures calls { (full : Bool) (act : Act ℕ) (old new : Brokered) (slot : ℕ) (client : Client) → IsWell old
         → new.directory ≡ old.directory
         → world_at new slot ≡ world_after (λ w. after_attempt full w act) old slot client
