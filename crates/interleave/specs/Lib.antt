@@ -3,6 +3,7 @@ pub mod Core
 pub mod Queue
 pub mod Calls
 pub mod Values
+pub mod Verdicts
 pub mod Effects
 pub mod Trace
 pub mod State
