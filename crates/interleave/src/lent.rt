@@ -1,6 +1,6 @@
 //! A world whose memory is lent to each of its acts.
 
-ghost use Rattle.std.specs.Prelude.{◌≡◌, ◌≤◌, ◌<◌, length, is_some, IfOk, IfErr, OnOk, OnErr, Some};
+ghost use Rattle.std.specs.Prelude.{◌≡◌, ◌≤◌, ◌<◌, length, is_some, slice_index_or, IfOk, IfErr, OnOk, OnErr, Some, None};
 ghost use Rattle.persist.specs.Memory.{Words, words_after_crash};
 ghost use Rattle.recover.specs.Sound.{AreSoundWords};
 ghost use Rattle.recover.specs.Table.{boot_recovery};
@@ -11,6 +11,7 @@ ghost use Rattle.interleave.specs.Holds.{Holds};
 ghost use Rattle.interleave.specs.Ranges.{AreUnused, KeptFit};
 ghost use Rattle.interleave.specs.State.{world_over};
 ghost use Rattle.interleave.specs.Values.{value_of_place};
+ghost use Rattle.interleave.specs.Verdicts.{number_of_call};
 ghost use Rattle.arena.specs.Content.{kept_content as content_of};
 ghost use Rattle.events.specs.Effects.{order_of};
 
@@ -167,6 +168,14 @@ impl<L: Layout + Drop> Core<L> {
         ensures events { result.now.events.items ≡ self.now.trace.log.events }
     {
         self.trace.history()
+    }
+
+    /// The number of the call that a client has under way, if it has one; of a durable queue's call it is 0.
+    pub fn calling(&self, client: Client) -> Option<u64>
+        ensures { result ≡ number_of_call (slice_index_or self.now.calls client.0 None) }
+    {
+        let call = self.calls.under_way(client.0 as usize);
+        call.map(|call| call.begun.number)
     }
 
     /// What the client was last told: what the last recovery read, and at first what the base tells. A client that

@@ -20,3 +20,4 @@ pub mod Promises
 pub mod Readings
 pub mod Queues
 pub mod Lastings
+pub mod QueueKinds

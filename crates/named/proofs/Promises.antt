@@ -207,7 +207,7 @@ module _ (b : Brokered) (holds : IsWell b) where
   boots_well = at_boots b.recovery b.creation holds.directory
 
 pub promises_well : (b : Brokered) → IsWell b → KeepsPromises b
-promises_well b holds = record { explained = explained_well b holds; boots = boots_well b holds }
+promises_well b holds = record { explained = explained_well b holds; boots = boots_well b holds; well = holds }
 
 -- by the fields that the broker is shown by
 pub promises_kept : (b shown : Brokered) → IsWell b → b ≡ shown → KeepsPromises shown

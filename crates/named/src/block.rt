@@ -12,6 +12,7 @@ ghost use Rattle.interleave.specs.Rotation.{after_rotation, rotate_result, some_
 ghost use Rattle.interleave.specs.Ranges.{AreUnused};
 ghost use Rattle.interleave.specs.Calls.{is_no_memory};
 ghost use Rattle.interleave.specs.State.{world_over, after_step, step_result, after_start, start_result, after_alone, after_evict, after_stop, after_recover, recover_result, kept_content, IsAnsweredAlone};
+ghost use Rattle.interleave.specs.Verdicts.{number_under_way};
 ghost use Rattle.named.specs.Blocks.{state_in, waiting_in, IsSameWords, IsWellIn};
 ghost use Rattle.named.specs.Slots.{LieInOnePlace};
 
@@ -179,6 +180,13 @@ impl<L: Layout + Drop> Block<L> {
         ensures { result ≡ told_to (told_in self.now.core.queue) client }
     {
         self.core.told(client)
+    }
+
+    /// The number of the call that a client has under way, if it has one.
+    pub(crate) fn calling(&self, client: Client) -> Option<u64>
+        ensures { (ws : Words) → result ≡ number_under_way (state_in ws self.now) client }
+    {
+        self.core.calling(client)
     }
 
     /// What happened since the history begins.

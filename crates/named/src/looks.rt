@@ -1,11 +1,12 @@
 //! What the queues of a broker have: what happened, what they hold, and what their clients were told.
 
-ghost use Rattle.std.specs.Prelude.{◌≡◌, ◌≢◌, ◌↔◌, ◌⊎◌, ◌<◌, ◌≤◌, ◌+◌, ℕ, true, length, replicate, slice_set, Ok, Err, IfOk, IfErr, OnOk, OnErr, IfSome, IfNone, IsSome, None, if◌then◌else◌};
+ghost use Rattle.std.specs.Prelude.{◌≡◌, ◌≢◌, ◌↔◌, ◌⊎◌, ◌<◌, ◌≤◌, ◌+◌, ℕ, true, length, replicate, slice_get, slice_set, Ok, Err, IfOk, IfErr, OnOk, OnErr, IfSome, IfNone, IsSome, Some, None, if◌then◌else◌};
 ghost use Rattle.persist.specs.Image.{image_of, reading};
 ghost use Rattle.interleave.specs.Queue.{told_in, told_to};
 ghost use Rattle.interleave.specs.State.{kept_content, order_in};
+ghost use Rattle.interleave.specs.Verdicts.{number_under_way};
 ghost use Rattle.named.specs.Booting.{AreBootWords};
-ghost use Rattle.named.specs.Slots.{world_in, IfWorld, IsSlotWell, IsWhyUnread};
+ghost use Rattle.named.specs.Slots.{answered, world_in, IfWorld, IsSlotWell, IsWhyUnread};
 ghost use Rattle.named.specs.Promises.{KeepsPromises};
 ghost use Rattle.named.specs.Brokers.{world_at, room_at, answer_at, IsWell};
 
@@ -13,12 +14,13 @@ use crate::broker::Broker;
 use crate::slot::Slot;
 use arena::SlotId;
 use events::{History, Order};
-use words::{Client, Refusal, Told};
+use words::{Client, Kind, Refusal, Told};
 
 impl Broker {
     /// A slot, where there is one.
     fn slot(&self, slot: SlotId) -> Result<&Slot, Refusal>
         ensures world { IfOk result (λ s. world_in self.now.words s.now ≡ world_at self.now slot.0) }
+        ensures there { IfOk result (λ s. slice_get self.now.slots slot.0 ≡ Some s.now) }
         ensures well { IfOk result (λ s. IsSlotWell self.now.words s.now) }
         ensures whole { IsWell self.now }
         ensures errors { IfErr result (λ e. (e ≡ Refusal.NoQueue) × (world_at self.now slot.0 ≡ None)) }
@@ -39,9 +41,28 @@ impl Broker {
         self.slot(slot)?.told(client)
     }
 
+    /// Which kind of queue a slot has. It is refused where the slot is closed (NoQueue).
+    #[tactic(auto, using(crate::proofs::Promises::promises_well))]
+    pub fn kind(&self, slot: SlotId) -> Result<Kind, Refusal>
+        ensures kind { result ≡ answered (λ w. Ok w.shape.kind) (world_at self.now slot.0) }
+        ensures promises { KeepsPromises self.now }
+    {
+        let _ = &self.layout;
+        self.slot(slot)?.kind()
+    }
+
+    /// The number of the call that the client has under way in the queue of a slot, if it has one; of a durable queue's
+    /// call it is 0. It is refused, in this order, where there is no such client (NoClient), while the broker recovers
+    /// (NotReady), and where the slot is closed (NoQueue).
+    pub fn calling(&self, slot: SlotId, client: Client) -> Result<Option<u64>, Refusal>
+        ensures { result ≡ answer_at (λ w. Ok (number_under_way w client)) self.now slot.0 client }
+    {
+        self.admit(client)?;
+        self.slot(slot)?.calling(client)
+    }
+
     /// What happened in the queue of a slot since the history begins. It takes no memory, and is refused where the slot
-    /// is closed (NoQueue). What is promised of every queue holds at every moment, as any broker has it; laws on states
-    /// ask for `IsWell`.
+    /// is closed (NoQueue). What is promised of every queue holds at every moment, as any broker has it.
     #[tactic(auto, using(crate::proofs::Promises::promises_well))]
     pub fn history(&self, slot: SlotId) -> Result<&History, Refusal>
         ensures base { IfOk result (λ h. IfWorld (world_at self.now slot.0) (λ w. h.now.base.items ≡ w.base)) }
@@ -49,7 +70,6 @@ impl Broker {
         ensures events { IfOk result (λ h. IfWorld (world_at self.now slot.0)
             (λ w. h.now.events.items ≡ w.log.events)) }
         ensures open { OnOk result (IsSome (world_at self.now slot.0)) }
-        ensures well { IsWell self.now }
         ensures promises { KeepsPromises self.now }
         ensures errors { IfErr result (λ e. (e ≡ Refusal.NoQueue) × (world_at self.now slot.0 ≡ None)) }
     {

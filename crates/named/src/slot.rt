@@ -11,6 +11,7 @@ ghost use Rattle.interleave.specs.Queue.{told_in, told_to};
 ghost use Rattle.words.specs.declared.refusal.Refusal.{Refusal as AnyRefusal};
 ghost use Rattle.interleave.specs.Calls.{is_no_memory};
 ghost use Rattle.interleave.specs.State.{after_step, step_result, after_start, start_result, after_alone, after_stop, after_recover, recover_result, kept_content, order_in, IsAnsweredAlone, world_over};
+ghost use Rattle.interleave.specs.Verdicts.{number_under_way};
 ghost use Rattle.named.specs.Blocks.{waiting_in, IsSameWords};
 ghost use Rattle.named.specs.Slots.{world_in, acted, answered, IfWorld, IsWhyUnread, IsSlotWell, IsSameOutsideSlot, IsSameSlot, kind_in, room_in, AreEffectsFew};
 ghost use Rattle.named.specs.Brokers.{IsSlotAt, IsUnusedBlock, block_words};
@@ -126,6 +127,29 @@ impl Slot {
             Slot::Closed => Err(Refusal::NoQueue),
             Slot::Durable(block) => Ok(block.told(client)),
             Slot::Log(block) => Ok(block.told(client)),
+        }
+    }
+
+    /// Which kind of queue it has.
+    pub(crate) fn kind(&self) -> Result<Kind, Refusal>
+        ensures kind { IfOk result (λ kind. kind_in self.now ≡ Some kind) }
+        ensures errors { IfErr result (λ e. (e ≡ Refusal.NoQueue) × (kind_in self.now ≡ None)) }
+    {
+        match self {
+            Slot::Closed => Err(Refusal::NoQueue),
+            Slot::Durable(_) => Ok(Kind::Durable),
+            Slot::Log(_) => Ok(Kind::Log),
+        }
+    }
+
+    /// The number of the call that a client of its queue has under way, if it has one.
+    pub(crate) fn calling(&self, client: Client) -> Result<Option<u64>, Refusal>
+        ensures { (ws : Words) → result ≡ answered (λ w. Ok (number_under_way w client)) (world_in ws self.now) }
+    {
+        match self {
+            Slot::Closed => Err(Refusal::NoQueue),
+            Slot::Durable(block) => Ok(block.calling(client)),
+            Slot::Log(block) => Ok(block.calling(client)),
         }
     }
 

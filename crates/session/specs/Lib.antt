@@ -1,0 +1,5 @@
+pub mod Numbers
+pub mod Sessions
+pub mod Requests
+pub mod Keeping
+pub mod Promises

@@ -1,0 +1,82 @@
+//! What is kept of each client in each queue.
+
+ghost use Rattle.std.specs.Prelude.{◌≡◌, ◌≢◌, ◌<◌, ◌⊎◌, ℕ, Ok, Some, None};
+ghost use Rattle.interleave.specs.Queue.{told_in, told_to};
+ghost use Rattle.named.specs.Brokers.{answer_at};
+ghost use Rattle.named.specs.Promises.{KeepsPromises};
+ghost use Rattle.session.specs.Keeping.{verdict_heard, AreKeptAsHeard, IsKeptNow};
+ghost use Rattle.session.specs.Sessions.{kept_in};
+
+use arena::{SLOTS, SlotId};
+use named::Broker;
+use std::marker::Model;
+use words::{Client, MAX_CLIENTS, Refusal, Told, Verdict};
+
+/// The last verdict of each client in each slot. The places are fixed, so that no request takes memory for them.
+#[derive(Drop)]
+pub(crate) struct Kept {
+    rows: [[Option<Verdict>; MAX_CLIENTS]; SLOTS],
+}
+
+impl Model for Kept {
+    ghost use Rattle.std.specs.Prelude.{List, Option};
+    ghost use Rattle.words.specs.declared.told.Verdict.{Verdict};
+
+    ghost Value = { List (List (Option Verdict)) };
+
+    ghost view = { λ k. k.rows };
+}
+
+/// The verdict, if that is what a client was told.
+fn verdict_of(told: Result<Told, Refusal>) -> Option<Verdict>
+    ensures { result ≡ verdict_heard told }
+{
+    match told {
+        Ok(Told::Verdict(verdict)) => Some(verdict),
+        Ok(Told::None | Told::Row(_)) | Err(_) => None,
+    }
+}
+
+/// What each client is told in the queue of a slot.
+fn row_told(broker: &Broker, slot: SlotId) -> [Option<Verdict>; MAX_CLIENTS] {
+    let mut row = [None; MAX_CLIENTS];
+    for client in 0..MAX_CLIENTS {
+        row[client] = verdict_of(broker.told(slot, Client(client as u8)));
+    }
+    row
+}
+
+impl Kept {
+    /// What each client is told in each queue of a broker: nothing, while it recovers.
+    pub(crate) fn told(broker: &Broker) -> Self
+        ensures { AreKeptAsHeard broker.now result }
+    {
+        let mut rows = [[None; MAX_CLIENTS]; SLOTS];
+        for slot in 0..SLOTS {
+            rows[slot] = row_told(broker, SlotId(slot as u8));
+        }
+        Kept { rows }
+    }
+
+    /// What is kept of a client in a slot; nothing, where there is no such place.
+    pub(crate) fn last(&self, slot: SlotId, client: Client) -> Option<Verdict>
+        ensures { result ≡ kept_in self.now slot.0 client.0 }
+    {
+        match self.rows.get(slot.0 as usize) {
+            Some(row) => match row.get(client.0 as usize) {
+                Some(last) => *last,
+                None => None,
+            },
+            None => None,
+        }
+    }
+
+    /// Keeps a client's last verdict in a slot.
+    pub(crate) fn keep(&mut self, slot: SlotId, client: Client, verdict: Verdict)
+        requires slot { slot.0 < SLOTS }
+        requires client { client.0 < MAX_CLIENTS }
+        ensures { IsKeptNow self.old self.new slot.0 client.0 (Some verdict) }
+    {
+        self.rows[slot.0 as usize][client.0 as usize] = Some(verdict);
+    }
+}

@@ -1,0 +1,31 @@
+//! What holds over any list of a session's acts.
+
+ghost use Rattle.std.specs.Prelude.{◌≡◌, ℕ, Ok, Option, Some, None};
+ghost use Rattle.words.specs.declared.call.Client.{Client};
+ghost use Rattle.words.specs.declared.call.Reply.{Reply};
+ghost use Rattle.words.specs.declared.told.Verdict.{Verdict};
+ghost use Rattle.interleave.specs.Holds.{Holds};
+ghost use Rattle.interleave.specs.State.{State};
+ghost use Rattle.interleave.specs.Verdicts.{IsReplyOf, taken_as};
+ghost use Rattle.words.specs.declared.call.Kind.{Kind};
+ghost use Rattle.session.specs.Keeping.{IsAnswered, SessionGoesOn};
+ghost use Rattle.session.specs.Numbers.{by_number};
+ghost use Rattle.session.specs.Sessions.{Sessioned};
+
+/// Any list of acts goes on with the numbers that were answered. A number that was answered once never runs again, and
+/// each answer to it, however often it is sent and whatever crashes, recoveries, evictions and rotations come between,
+/// is the same.
+pub fn answers_last()
+    ensures none { (s : Sessioned) → SessionGoesOn s s }
+    ensures more { (old now new : Sessioned) → SessionGoesOn old now → SessionGoesOn now new → SessionGoesOn old new }
+    ensures never_again { (last : Option Verdict) (number : ℕ) (reply : Reply) → IsAnswered last number reply
+        → by_number last number ≡ Ok None → ⊥ }
+    ensures same { (last : Option Verdict) (number : ℕ) (reply again : Reply) → IsAnswered last number reply
+        → by_number last number ≡ Ok (Some again) → again ≡ reply }
+{}
+
+/// A client's number has one reply in a log queue.
+pub fn numbers_have_one_reply()
+    ensures { (w : State) (client : Client) (number : ℕ) (reply other : Reply) → Holds w → w.shape.kind ≡ Kind.Log
+        → IsReplyOf w client number reply → IsReplyOf w client number other → reply ≡ other }
+{}

@@ -1,0 +1,78 @@
+//! The queues of a session's broker.
+
+ghost use Rattle.std.specs.Prelude.{◌≡◌, ◌≢◌, ◌<◌, ◌≤◌, ℕ, true, Err, None, IfErr, IfOk, IfSome, IsSome, OnErr, OnOk};
+ghost use Rattle.directory.specs.Creation.{successor};
+ghost use Rattle.interleave.specs.Calls.{is_no_memory};
+ghost use Rattle.named.specs.Brokers.{is_down, quiet, room_at, world_at, IsBegun, IsNotCreated, IsStepCreated, MayCreate};
+ghost use Rattle.named.specs.Rotating.{rotate_result, IsRotated};
+ghost use Rattle.named.specs.Slots.{IsWhyUnread};
+ghost use Rattle.session.specs.Keeping.{SessionGoesOn};
+ghost use Rattle.session.specs.Promises.{KeepsNumbers};
+
+use crate::session::Session;
+use arena::SlotId;
+use words::{Kind, Refusal};
+
+impl Session {
+    /// Begins to create a queue, as [`named::Broker::create`] does.
+    pub fn create(&mut self, name: &[u8], kind: Kind) -> Result<(), Refusal>
+        ensures may { OnOk result (MayCreate self.old.broker name.now) }
+        ensures begun { OnOk result (IfSome self.new.broker.creation (IsBegun self.old.broker name.now kind)) }
+        ensures under_way { OnOk result (IsSome self.new.broker.creation) }
+        ensures others { self.new
+            ≡ record self.old { broker = record self.old.broker { creation = self.new.broker.creation } } }
+        ensures errors { IfErr result (IsNotCreated self.old.broker name.now) }
+        ensures same { OnErr result (self.new ≡ self.old) }
+        ensures goes_on { SessionGoesOn self.old self.new }
+        ensures promises { KeepsNumbers self.new }
+    {
+        self.broker.create(name, kind)
+    }
+
+    /// One step of the creation, as [`named::Broker::create_step`] takes it.
+    pub fn create_step(&mut self) -> Result<Option<SlotId>, Refusal>
+        ensures down { is_down self.old.broker ≡ true → result ≡ Err Refusal.NotReady }
+        ensures idle { self.old.broker.recovery ≡ None → self.old.broker.creation ≡ None → result ≡ Err Refusal.Idle }
+        ensures same { OnErr result (self.new ≡ self.old) }
+        ensures step { self.old.broker.recovery ≡ None → IfSome self.old.broker.creation
+            (λ creation. IsStepCreated self.old.broker self.new.broker creation result (successor creation)) }
+        ensures others { (other : ℕ) → IfOk result (λ opened. IfSome opened (λ slot. other ≢ slot.0))
+            → quiet (world_at self.new.broker other) ≡ quiet (world_at self.old.broker other) }
+        ensures kept { self.new.kept ≡ self.old.kept }
+        ensures goes_on { SessionGoesOn self.old self.new }
+        ensures promises { KeepsNumbers self.new }
+    {
+        self.broker.create_step()
+    }
+
+    /// Makes room in the history of a queue, as [`named::Broker::reserve`] does.
+    pub fn reserve(&mut self, queue: SlotId, acts: usize) -> Result<(), Refusal>
+        ensures worlds { (at : ℕ) → world_at self.new.broker at ≡ world_at self.old.broker at }
+        ensures room { OnOk result (acts ≤ room_at self.new.broker queue.0) }
+        ensures rooms { (at : ℕ) → room_at self.old.broker at ≤ room_at self.new.broker at }
+        ensures full { result ≡ Err Refusal.NoMemory → room_at self.old.broker queue.0 < acts }
+        ensures errors { IfErr result (IsWhyUnread (world_at self.old.broker queue.0)) }
+        ensures directory { self.new.broker.directory ≡ self.old.broker.directory }
+        ensures creation { self.new.broker.creation ≡ self.old.broker.creation }
+        ensures recovery { self.new.broker.recovery ≡ self.old.broker.recovery }
+        ensures kept { self.new.kept ≡ self.old.kept }
+        ensures goes_on { SessionGoesOn self.old self.new }
+        ensures promises { KeepsNumbers self.new }
+    {
+        self.broker.reserve(queue, acts)
+    }
+
+    /// The histories of all queues end, and others begin, as [`named::Broker::rotate`] makes them. What is kept of each
+    /// client stays: its last number is answered as before.
+    pub fn rotate(&mut self) -> Result<(), Refusal>
+        ensures result { result ≡ rotate_result (is_no_memory result) self.old.broker }
+        ensures rotated { OnOk result (IsRotated self.old.broker self.new.broker) }
+        ensures same { OnErr result (self.new ≡ self.old) }
+        ensures room { (slot : ℕ) → room_at self.old.broker slot ≤ room_at self.new.broker slot }
+        ensures kept { self.new.kept ≡ self.old.kept }
+        ensures goes_on { SessionGoesOn self.old self.new }
+        ensures promises { KeepsNumbers self.new }
+    {
+        self.broker.rotate()
+    }
+}

@@ -1,0 +1,174 @@
+//! The requests of a session's clients.
+
+ghost use Rattle.std.specs.Prelude.{◌≡◌, Ok, Some, None, IfOk, IfSome, OnErr};
+ghost use Rattle.interleave.specs.Verdicts.{taken_as};
+ghost use Rattle.named.specs.Brokers.{answer_at, world_at};
+ghost use Rattle.session.specs.Keeping.{IsKeptNow, SessionGoesOn};
+ghost use Rattle.session.specs.Promises.{IsReplyAt, IsReplyIfNumbered, KeepsNumbers};
+ghost use Rattle.session.specs.Requests.{answer_to, call_number, last_after, number_or_none, plain_answer, request_admission, request_answer, IsAdvanced, IsBegunBy, IsServedBy};
+ghost use Rattle.session.specs.Sessions.{kept_at};
+
+use crate::numbers::answer;
+use crate::running::run;
+use crate::session::Session;
+use arena::SlotId;
+use words::{Call, Client, Kind, Outcome, Refusal, Reply, Verdict};
+
+impl Session {
+    /// Refuses what is no request to a queue of this kind, whatever its number.
+    fn admit(&self, client: Client, queue: SlotId, kind: Kind) -> Result<(), Refusal>
+        ensures { result ≡ request_admission kind self.now.broker queue.0 client }
+    {
+        let calling = self.broker.calling(queue, client)?;
+        if self.broker.kind(queue)? != kind {
+            return Err(Refusal::WrongKind);
+        }
+        if calling.is_some() {
+            return Err(Refusal::Busy);
+        }
+        Ok(())
+    }
+
+    /// What a request comes to, with a number or without one: its kept reply, or, with none, a run.
+    fn look_up(
+        &self,
+        client: Client,
+        queue: SlotId,
+        number: Option<u64>,
+    ) -> Result<Option<Reply>, Refusal>
+        ensures { result ≡ answer_to self.now queue.0 client number }
+    {
+        match number {
+            Some(number) => {
+                self.admit(client, queue, Kind::Log)?;
+                answer(self.kept.last(queue, client), number)
+            }
+            None => {
+                self.admit(client, queue, Kind::Durable)?;
+                Ok(None)
+            }
+        }
+    }
+
+    /// A call with a number, in a log queue, which runs to its end: its reply. A number that was sent before is answered
+    /// with the reply that it got, whatever call comes with it, or runs again where it took no effect. It is refused, in
+    /// this order, where there is no such client (NoClient), while the broker recovers (NotReady), where the slot is
+    /// closed (NoQueue), where the queue is durable (WrongKind), where the client has a call under way (Busy), where a
+    /// later number is known (Old), as it is for 0, where an earlier one is missing (Gap), and for want of memory
+    /// (NoMemory); what would run is refused where the number is above [`words::MAX_CALL_NUMBER`] (StaleNumber) or the
+    /// client's records are used up (NoRoom).
+    pub fn request(
+        &mut self,
+        client: Client,
+        queue: SlotId,
+        number: u64,
+        call: Call,
+    ) -> Result<Reply, Refusal>
+        ensures request { IsServedBy self.old self.new queue.0 client number call result
+            (request_answer self.old queue.0 client number) }
+        ensures reply { IfOk result (IsReplyAt self.new queue.0 client number) }
+        ensures kept { IfOk result (λ reply.
+            IsKeptNow self.old.kept self.new.kept queue.0 client.0 (Some (taken_as number reply))) }
+        ensures same { OnErr result (self.new.kept ≡ self.old.kept) }
+        ensures goes_on { SessionGoesOn self.old self.new }
+        ensures promises { KeepsNumbers self.new }
+    {
+        if let Some(reply) = self.look_up(client, queue, Some(number))? {
+            return Ok(reply);
+        }
+        let reply = run(&mut self.broker, client, queue, number, call)?;
+        self.kept.keep(
+            queue,
+            client,
+            Verdict {
+                number,
+                outcome: Outcome::Taken(reply),
+            },
+        );
+        Ok(reply)
+    }
+
+    /// A call without a number, in a durable queue, which runs to its end: its reply. It is refused as
+    /// [`Session::request`] is, but on a log queue (WrongKind), and for no number.
+    pub fn plain(
+        &mut self,
+        client: Client,
+        queue: SlotId,
+        call: Call,
+    ) -> Result<Reply, Refusal>
+        ensures request { IsServedBy self.old self.new queue.0 client 0 call result
+            (plain_answer self.old queue.0 client) }
+        ensures same { self.new.kept ≡ self.old.kept }
+        ensures goes_on { SessionGoesOn self.old self.new }
+        ensures promises { KeepsNumbers self.new }
+    {
+        self.admit(client, queue, Kind::Durable)?;
+        run(&mut self.broker, client, queue, 0, call)
+    }
+
+    /// A call that is only started, where it is to run: with a number as [`Session::request`], without one as
+    /// [`Session::plain`]. It answers the kept reply, where there is one; else [`Session::advance`] takes the call's
+    /// steps. It makes one act, or none, and is refused as they are, and as [`named::Broker::start`] is.
+    pub fn begin(
+        &mut self,
+        client: Client,
+        queue: SlotId,
+        number: Option<u64>,
+        call: Call,
+    ) -> Result<Option<Reply>, Refusal>
+        ensures begun { IsBegunBy self.old self.new queue.0 client (number_or_none number) call result
+            (answer_to self.old queue.0 client number) }
+        ensures reply { IfOk result (λ answer. IfSome answer
+            (IsReplyAt self.new queue.0 client (number_or_none number))) }
+        ensures same { self.new.kept ≡ self.old.kept }
+        ensures goes_on { SessionGoesOn self.old self.new }
+        ensures promises { KeepsNumbers self.new }
+    {
+        if let Some(reply) = self.look_up(client, queue, number)? {
+            return Ok(Some(reply));
+        }
+        self.broker
+            .start(queue, client, number.unwrap_or(0), call)?;
+        Ok(None)
+    }
+
+    /// The number of the client's call under way, if it has one in a log queue.
+    fn calling(&self, client: Client, queue: SlotId) -> Result<Option<u64>, Refusal>
+        ensures { result ≡ answer_at (λ w. Ok (call_number (Some w) client)) self.now.broker queue.0 client }
+    {
+        let number = self.broker.calling(queue, client)?;
+        match self.broker.kind(queue)? {
+            Kind::Log => Ok(number),
+            Kind::Durable => Ok(None),
+        }
+    }
+
+    /// One step of the client's call: its reply, if it answered. It is refused as [`named::Broker::step`] is.
+    pub fn advance(
+        &mut self,
+        client: Client,
+        queue: SlotId,
+    ) -> Result<Option<Reply>, Refusal>
+        ensures advanced { IsAdvanced self.old.broker self.new.broker queue.0 client result }
+        ensures reply { IfOk result (λ answer. IfSome answer (IsReplyIfNumbered self.new queue.0 client
+            (call_number (world_at self.old.broker queue.0) client))) }
+        ensures kept { IsKeptNow self.old.kept self.new.kept queue.0 client.0
+            (last_after (call_number (world_at self.old.broker queue.0) client) result (kept_at self.old queue.0 client)) }
+        ensures goes_on { SessionGoesOn self.old self.new }
+        ensures promises { KeepsNumbers self.new }
+    {
+        let number = self.calling(client, queue)?;
+        let answer = self.broker.step(queue, client)?;
+        if let (Some(number), Some(reply)) = (number, answer) {
+            self.kept.keep(
+                queue,
+                client,
+                Verdict {
+                    number,
+                    outcome: Outcome::Taken(reply),
+                },
+            );
+        }
+        Ok(answer)
+    }
+}

@@ -1,0 +1,61 @@
+//! A session over a broker.
+
+ghost use Rattle.std.specs.Prelude.{◌≡◌};
+ghost use Rattle.session.specs.Keeping.{AreKeptAsHeard};
+ghost use Rattle.session.specs.Promises.{KeepsNumbers};
+ghost use Rattle.session.specs.Sessions.{kept_at, IsUncalled};
+
+use crate::kept::Kept;
+use arena::SlotId;
+use named::Broker;
+use std::marker::Model;
+use words::{Client, Verdict};
+
+/// A broker whose clients number their operations in each log queue: 1, then 2, and so on. A number that is sent again,
+/// after a crash or any other doubt, is answered with the reply that it got, or runs if it took no effect; so each takes
+/// effect at most once. For each client and log queue the session keeps the last number with what became of it, from
+/// replies and from what recovery tells.
+#[derive(Drop)]
+pub struct Session {
+    pub(crate) broker: Broker,
+    pub(crate) kept: Kept,
+}
+
+impl Model for Session {
+    ghost use Rattle.session.specs.Sessions.{Sessioned, IsRight};
+
+    ghost Value = { Sessioned };
+
+    ghost view = { λ s. record { broker = s.broker; kept = s.kept } };
+
+    ghost invariant = { λ s. IsRight (record { broker = s.broker; kept = s.kept }) };
+}
+
+impl Session {
+    /// A session over this broker. It begins with what each client was told, so no call of a log queue may have begun
+    /// since the broker was made or booted, or last recovered or rotated. It takes no memory.
+    pub fn open(broker: Broker) -> Self
+        requires { IsUncalled broker }
+        ensures broker { result.broker ≡ broker }
+        ensures kept { AreKeptAsHeard broker result.kept }
+        ensures promises { KeepsNumbers result }
+    {
+        let kept = Kept::told(&broker);
+        Session { broker, kept }
+    }
+
+    /// The broker, to look at.
+    pub fn broker(&self) -> &Broker
+        ensures broker { result.now ≡ self.now.broker }
+        ensures promises { KeepsNumbers self.now }
+    {
+        &self.broker
+    }
+
+    /// The last number of a client in a log queue, and what became of it; nothing, where none is known.
+    pub fn last(&self, client: Client, queue: SlotId) -> Option<Verdict>
+        ensures { result ≡ kept_at self.now queue.0 client }
+    {
+        self.kept.last(queue, client)
+    }
+}
