@@ -36,3 +36,4 @@ pub mod TurnLaws
 pub mod AloneServed
 pub mod Rotated
 pub mod Unused
+pub mod verdicts

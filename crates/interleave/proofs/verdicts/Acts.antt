@@ -1,0 +1,211 @@
+-- What each act leaves of what the kept words tell a log queue's client, and of its floor.
+use Rattle.std.proofs.Common.{◌≡◌, ◌≢◌, ℕ, ◌<◌, ◌≤◌, ◌⊎◌, ◌==◌, inl, inr, Bool, true, false, if◌then◌else◌, List, length, map}
+use Rattle.std.proofs.Common.{Option, Some, None, Result, Ok, Err, slice_get, slice_index, slice_index_or, slice_set, refl}
+use Rattle.std.proofs.Common.{sym, ap, ◌∙◌, subst, arith, get_or, get_or-set_other}
+use Rattle.std.specs.Prelude.{is_some}
+use Rattle.std.proofs.lemmas.Bool.{cases_eq}
+use Rattle.std.proofs.lemmas.Grind.{get_or-set_at}
+use Rattle.std.proofs.lemmas.List.{get_or-map}
+use Rattle.std.proofs.lemmas.List.FromFn.{length-map-range_with_len}
+use Rattle.std.proofs.lemmas.Option.{unwrap_or-slice_get}
+use Rattle.words.specs.declared.call.Call.{Call}
+use Rattle.words.specs.declared.call.Client.{Client}
+use Rattle.words.specs.declared.call.Kind.{Kind}
+use Rattle.words.specs.declared.call.Kind.TheVariants.{Log as log_kind}
+use Rattle.words.specs.declared.call.Reply.{Reply}
+use Rattle.words.specs.declared.limits.TheConstants.{MAX_CLIENTS}
+use Rattle.words.specs.declared.refusal.Refusal.{Refusal}
+use Rattle.words.specs.declared.told.Told.{Told}
+use Rattle.words.specs.declared.told.Told.TheVariants.{None as told_none}
+use Rattle.logqueue.specs.Numbers.{floor_of}
+use Rattle.logqueue.specs.Queue.{LogClients}
+use Rattle.arena.specs.Layout.{place_at}
+use Rattle.arena.specs.declared.place.Place.{Place}
+use Rattle.stepper.specs.declared.resume.After.{After}
+use Rattle.stepper.specs.declared.resume.After.TheVariants.{More, Done}
+use Rattle.helping.specs.Table.{access_of}
+use Rattle.helping.specs.declared.op.Op.{Op}
+use Rattle.recover.specs.Told.{told_by}
+use Rattle.recover.specs.declared.recovery.Recovery.{Recovery}
+use Rattle.protocol.specs.Machine.{World, MayStep, after_keeping, effects_after, events_after, next_of, next_recovery}
+use Rattle.protocol.specs.Machine.{with_access, with_eviction, with_flush, with_step}
+use Rattle.protocol.specs.declared.UnderWay.{UnderWay}
+use Rattle.protocol.specs.declared.acts.Act.{Act}
+use Rattle.protocol.specs.declared.acts.Act.TheVariants.{Start, Step, Evict, Crash, Recover}
+use Rattle.protocol.specs.invariants.Worlds.{Inv, IsReady}
+use Rattle.protocol.proofs.worlds.Acts.{step_noted}
+use Rattle.protocol.proofs.worlds.Facts.{explained, inv_evicted, inv_stepped, is_ready, part_evicted, part_stepped}
+use Rattle.protocol.proofs.worlds.Moments.{calling, keep_noted}
+use Rattle.protocol.proofs.worlds.ReadyWorlds.{access_kept}
+use Rattle.interleave.specs.Calls.{waiting_result}
+use Rattle.interleave.specs.Floors.{AreFloorsRightIn}
+use Rattle.interleave.specs.Holds.{Holds, from_invariant}
+use Rattle.interleave.specs.Numbers.{AreNumbersRisingIn}
+use Rattle.interleave.specs.Queue.{told_in, told_to}
+use Rattle.interleave.specs.Ranges.{IsOfKind}
+use Rattle.interleave.specs.State.{State, machine, after_attempt, after_bump_load, after_call_began, after_evict}
+use Rattle.interleave.specs.State.{after_one_access, after_recover, after_start, after_step, evict_with, is_down}
+use Rattle.interleave.specs.State.{is_ready as says_ready, kept_tells, number_to_start, order_in, queue_at_ready}
+use Rattle.interleave.specs.State.{queue_left, recover_result, recover_result_with, recover_with, start_with, step_with}
+use Rattle.interleave.specs.State.{used_by}
+use Rattle.interleave.specs.Verdicts.{floor_in, kept_told}
+use Rattle.interleave.specs.declared.queue.Queue.{Queue}
+use Rattle.interleave.specs.declared.queue.Queue.TheVariants.{Durable, Log}
+use Rattle.interleave.proofs.HoldsKept.{evicted_is, gone_on_is, may_step, waiting_is}
+use Rattle.interleave.proofs.KeptTells.{tells_crashed, tells_evicted, tells_on, told_by_kept}
+use Rattle.interleave.proofs.verdicts.Tells.{IsToldOfNumber, comes_announced, kept_is, told_in_world, told_now, told_on}
+
+-- what is told is of the call that the client has under way
+pub record IsOwnTold (w : State) (client : Client) (told : Told) : Type 0 where
+  pub u : UnderWay
+  pub at : slice_index_or w.calls client.0 None ≡ Some u
+  pub number : IsToldOfNumber u.begun.number told
+
+-- a client is told the same still, or of its own call
+abbrev pub StaysTold : State → Client → State → Type 0
+StaysTold old client new =
+    (kept_told new client ≡ kept_told old client) ⊎ IsOwnTold old client (kept_told new client)
+
+same_tells : (old new : State) (client : Client) → kept_tells new ≡ kept_tells old → StaysTold old client new
+same_tells old new client same = inl (ap (λ (ts : List Told). told_to ts client) same)
+
+-- where recovery told clients this, their floors are by it
+floor_told : (kind : Kind) → kind ≡ log_kind → (client : Client) → client.0 < MAX_CLIENTS
+    → (next : After Recovery (List Told)) (queue : Queue) → IsOfKind kind queue → says_ready next ≡ true
+    → (ts : List Told) → length ts ≡ MAX_CLIENTS → told_in (queue_at_ready queue next) ≡ ts
+    → floor_in (queue_at_ready queue next) client ≡ floor_of (told_to ts client)
+floor_told kind log client few (More r) queue is ready ts long told = cc
+floor_told kind log client few (Done tells) (Durable reports) is ready ts long told =
+    absurd (subst (λ (k : Kind). IsOfKind k (Durable reports)) log is)
+floor_told kind log client few (Done tells) (Log clients) is ready ts long told =
+    ap (λ (xs : List Told). slice_index (map floor_of xs) client.0) told
+    ∙ get_or-map floor_of ts client.0 told_none 0 (omega (arith, few, long))
+    ∙ ap floor_of (sym (unwrap_or-slice_get ts client.0 told_none))
+
+module _ (w : State) (holds : Holds w) (log : w.shape.kind ≡ log_kind) (client : Client)
+    (few : client.0 < MAX_CLIENTS) where
+  inv : Inv (machine w)
+  inv = from_invariant _ holds.inv
+
+  -- what the words of a machine tell are those of the world
+  told_so : (new : State) (m : World) → machine new ≡ m
+      → (told_by m.shape m.memory.kept client.0 ≡ kept_told w client)
+      ⊎ ((u : UnderWay) × (slice_index_or w.calls client.0 None ≡ Some u)
+      × IsToldOfNumber u.begun.number (told_by m.shape m.memory.kept client.0))
+      → StaysTold w client new
+  told_so new m is told =
+      let same : kept_told new client ≡ told_by m.shape m.memory.kept client.0 =
+      kept_is new client few ∙ ap (λ (v : World). told_by v.shape v.memory.kept client.0) is in
+      elim told [
+        | inl stays ↦ inl (same ∙ stays)
+        | inr own ↦ inr (record {
+          u = own.0;
+          at = own.1;
+          number = subst (IsToldOfNumber own.0.begun.number) (sym same) own.2;
+        })
+      ]
+
+  tells_gone_on : (c : Client) (u : UnderWay) → slice_get w.calls c.0 ≡ Some (Some u)
+      → StaysTold w client (after_one_access w c u)
+  tells_gone_on c u here =
+      let m : World = machine w in
+      let may : MayStep m c u = may_step w c u holds here in
+      let v : IsReady m = is_ready m inv may.ready in
+      let after : Inv (with_step m c u) = inv_stepped m inv c u may in
+      told_so (after_one_access w c u) (with_step m c u) (gone_on_is w c u holds here)
+      (told_on m v (with_access m.memory (access_of w.shape.kind u.op))
+      (access_kept m.memory (access_of w.shape.kind u.op)) log (effects_after m u u.op)
+      (comes_announced m v.working log (effects_after m u u.op) _
+      (step_noted m v.working c.0 u may.waits u.op (calling m v.working c.0 u may.waits).0))
+      (part_stepped m inv c u may) (explained (with_step m c u) after).1.is_order.once
+      (events_after w.log.events c (next_of m u)) client (kept_told w client) _ (told_now w holds log client few)
+      (told_in_world (with_step m c u) after log client few))
+
+  tells_kept : (word : ℕ) (p : Place) → place_at w.shape word ≡ Some p → w.recovery ≡ None
+      → StaysTold w client (evict_with w word (Some p))
+  tells_kept word p named up =
+      let m : World = machine w in
+      let v : IsReady m = is_ready m inv up in
+      let after : Inv (with_eviction m p) = inv_evicted m inv p in
+      told_so (evict_with w word (Some p)) (with_eviction m p) (evicted_is w word p holds named)
+      (told_on m v (with_flush m.memory p) (inr (record { p = p; same = refl })) log (after_keeping m p)
+      (comes_announced m v.working log (after_keeping m p) _ (keep_noted m v.working p)) (part_evicted m inv p)
+      (explained (with_eviction m p) after).1.is_order.once w.log.events client (kept_told w client) _
+      (told_now w holds log client few) (told_in_world (with_eviction m p) after log client few))
+
+  tells_stepped : (full : Bool) (c : Client) → StaysTold w client (after_step full w c)
+  tells_stepped full c = go (waiting_result (is_down w) (slice_get w.calls c.0)) refl full
+    where
+      go : (r : Result UnderWay Refusal) → waiting_result (is_down w) (slice_get w.calls c.0) ≡ r → (f : Bool)
+          → StaysTold w client (step_with f w c r)
+      go (Err refusal) e f = inl refl
+      go (Ok u) e true = inl refl
+      go (Ok u) e false = tells_gone_on c u (waiting_is _ _ u e)
+
+  tells_of_evicted : (word : ℕ) → StaysTold w client (after_evict w word)
+  tells_of_evicted word = go w.recovery refl (place_at w.shape word) refl
+    where
+      go : (r : Option Recovery) → w.recovery ≡ r → (o : Option Place) → place_at w.shape word ≡ o
+          → StaysTold w client (evict_with w word o)
+      go r e None named = inl refl
+      go None e (Some p) named = tells_kept word p named e
+      go (Some r) e (Some p) named =
+          subst (λ o. StaysTold w client (evict_with w word o)) named
+          (same_tells w (after_evict w word) client (tells_evicted w word holds (ap is_some e)).0)
+
+  -- whatever the act
+  pub told_after : (full : Bool) (act : Act ℕ) → StaysTold w client (after_attempt full w act)
+  told_after full (Start c number call) = go (number_to_start w c number)
+    where
+      go : (r : Result ℕ Refusal) → StaysTold w client (start_with full w c call r)
+      go (Err refusal) = inl refl
+      go (Ok n) = both (used_by w c == w.shape.records) full
+        where
+          both : (a b : Bool) → StaysTold w client
+              (if a then after_bump_load w else (if b then after_bump_load w else after_call_began w c n call))
+          both true b = inl refl
+          both false true = inl refl
+          both false false = inl refl
+  told_after full (Step c) = tells_stepped full c
+  told_after full (Evict word) = tells_of_evicted word
+  told_after full Crash = same_tells w (after_attempt full w Crash) client (tells_crashed full w).0
+  told_after full Recover = same_tells w (after_recover full w) client (tells_on full w holds).0
+
+  -- a call under way has a number above the floor
+  pub floor_below : (u : UnderWay) → slice_index_or w.calls client.0 None ≡ Some u
+      → floor_in w.queue client < u.begun.number
+  floor_below u at = go w.queue holds.kind holds.floors
+    where
+      go : (queue : Queue) → IsOfKind w.shape.kind queue → AreFloorsRightIn queue (machine w)
+          → floor_in queue client < u.begun.number
+      go (Log clients) is fit = fit.above client u at
+      go (Durable reports) is fit = absurd (subst (λ (k : Kind). IsOfKind k (Durable reports)) log is)
+
+  -- which becomes the floor when the call is answered
+  pub floor_answered : (u : UnderWay) (reply : Reply) → u.begun.client.0 ≡ client.0
+      → floor_in (queue_left w.queue u (Done reply)) client ≡ u.begun.number
+  floor_answered u reply who = go w.queue holds.kind holds.numbers
+    where
+      go : (queue : Queue) → IsOfKind w.shape.kind queue
+          → AreNumbersRisingIn queue w.told w.log.events (order_in w)
+          → floor_in (queue_left queue u (Done reply)) client ≡ u.begun.number
+      go (Log clients) is v =
+          get_or-set_at clients.floors u.begun.client.0 client.0 u.begun.number 0 (sym who)
+          (omega (arith, few, who, v.sixteen))
+      go (Durable reports) is v = absurd (subst (λ (k : Kind). IsOfKind k (Durable reports)) log is)
+
+  -- once recovery has ended, it is by what the kept words tell
+  pub floor_ready : (full : Bool) → recover_result full w ≡ Ok true
+      → floor_in (after_recover full w).queue client ≡ floor_of (kept_told (after_recover full w) client)
+  floor_ready full is = go w.recovery full is (told_by_kept full w holds is ∙ sym (tells_on full w holds).0)
+    where
+      go : (o : Option Recovery) (f : Bool) → recover_result_with f w o ≡ Ok true
+          → told_in (recover_with f w o).queue ≡ kept_tells (recover_with f w o)
+          → floor_in (recover_with f w o).queue client ≡ floor_of (kept_told (recover_with f w o) client)
+      go None f is told = cc
+      go (Some r) true is told = cc
+      go (Some r) false is told =
+          floor_told w.shape.kind log client few (next_recovery (machine w) r) w.queue holds.kind
+          (let same : says_ready (next_recovery (machine w) r) ≡ true = cc in same)
+          (kept_tells (recover_with false w (Some r)))
+          (length-map-range_with_len (told_by w.shape (machine (recover_with false w (Some r))).memory.kept) 0 16) told
