@@ -44,7 +44,7 @@ tells_after_attempt full w (Evict word) holds down = tells_evicted w word holds 
 tells_after_attempt full w Crash holds down = tells_crashed full w
 tells_after_attempt full w Recover holds down = tells_on full w holds
 
-down_evicted : (w : State) (word : ℕ) → is_down (after_evict w word) ≡ is_down w
+pub down_evicted : (w : State) (word : ℕ) → is_down (after_evict w word) ≡ is_down w
 down_evicted w word = go (place_at w.shape word)
   where
     go : (o : Option Place) → is_down (evict_with w word o) ≡ is_down w
@@ -78,7 +78,7 @@ told_recovered full w holds = record {
   floors = λ down up. within_floors_ready full w (holds_after_recover full w holds).numbers (became_ready full w down up);
 }
 
-crash_down : (full : Bool) (w : State) → is_down w ≡ true → is_down (after_crash full w) ≡ true
+pub crash_down : (full : Bool) (w : State) → is_down w ≡ true → is_down (after_crash full w) ≡ true
 crash_down true w down = down
 crash_down false w down = refl
 

@@ -1,2 +1,4 @@
 pub mod Tells
 pub mod Acts
+pub mod Moves
+pub mod Recalled
