@@ -2,3 +2,5 @@ pub mod Tells
 pub mod Acts
 pub mod Moves
 pub mod Recalled
+pub mod Given
+pub mod Last

@@ -212,23 +212,26 @@ module _ (w : World) (ready : IsReady w) (n : Memory) (kept : KeptBy w.memory n)
             })
       ]
 
-  -- what it is told of its own call has that one's number
-  own_told : (events : List Event) (order : List Entry) (client : Client) (y : Told)
+  -- what it is told of its own call is of that one
+  pub own_says : (events : List Event) (order : List Entry) (client : Client) (y : Told)
       → IsTold log_kind w.told w.log.issued (announcements n.kept client.0) events order client y
-      → (own : IsOwn w.calls client.0 (announcements n.kept client.0)) → IsToldOfNumber own.u.begun.number y
-  own_told events order client y (inl some) own =
+      → (own : IsOwn w.calls client.0 (announcements n.kept client.0))
+      → Says log_kind order own.u.place own.u.begun.number y
+  own_says events order client y (inl some) own =
       let of : IsCallOf w.log.issued (announcements n.kept client.0) (issued_as own.u) =
       subst (λ e. IsCallOf w.log.issued e (issued_as own.u)) (sym own.named) (ready.issued client.0 own.u own.at) in
       let one : some.1.call ≡ issued_as own.u = call_once w.log.issued _ some.1.call (issued_as own.u) some.1.of of in
       let number : some.0.tells.number ≡ own.u.begun.number =
       sym some.1.number ∙ ap (λ (c : Issued). c.begun.number) one in
-      subst (λ (m : ℕ). IsToldOfNumber m y) number (number_said order some.0.place some.0.tells.number y some.0.tells.says)
-  own_told events order client y (inr (base, inl zero)) own =
+      let place : some.0.place ≡ own.u.place = sym some.1.place ∙ ap (λ (c : Issued). c.place) one in
+      subst (λ (p : ℕ). Says log_kind order p own.u.begun.number y) place
+      (subst (λ (m : ℕ). Says log_kind order some.0.place m y) number some.0.tells.says)
+  own_says events order client y (inr (base, inl zero)) own =
       let fits = call_begun_fits w.shape w.memory (ledger_of w) client.0 own.u.op
       (calling w ready.working client.0 own.u own.at).0 in
       let begun = ap (λ (c : Option UnderWay). (record_of_call c).token.0) own.at in
       absurd (omega (arith, fits.is_record.0, begun, own.named, zero))
-  own_told events order client y (inr (base, inr nobody)) own =
+  own_says events order client y (inr (base, inr nobody)) own =
       let of = ready.issued client.0 own.u own.at in
       absurd (nobody.none of.index (issued_as own.u) of.there (sym own.named))
 
@@ -242,7 +245,12 @@ module _ (w : World) (ready : IsReady w) (n : Memory) (kept : KeptBy w.memory n)
       → (y ≡ x) ⊎ ((u : UnderWay) × (w.calls client.0 ≡ Some u) × IsToldOfNumber u.begun.number y)
   told_on log effects comes part once events client x y is also =
       elim (own_or_not w.calls client.0 (announcements n.kept client.0)) [
-        | inl own ↦ inr (own.u, own.at, own_told events (order_of effects) client y also own)
+        | inl own ↦ inr (
+          own.u,
+          own.at,
+          number_said (order_of effects) own.u.place own.u.begun.number y
+              (own_says events (order_of effects) client y also own),
+        )
         | inr other ↦ elim (announced_or client.0) [
           | inl stays ↦ inl (sym (same_told w.told w.log.issued (announcements w.memory.kept client.0) w.log.events events
               (order_of w.log.effects) (order_of effects) client once
