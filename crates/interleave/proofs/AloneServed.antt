@@ -31,7 +31,7 @@ idle w true answer is = cc
 idle w false answer is = cc
 
 -- a client that has a call after a step had it before, and was not answered
-unanswered : (w : State) (client : Client) (answer : Option Reply)
+pub unanswered : (w : State) (client : Client) (answer : Option Reply)
     → step_result false (after_step false w client) client ≡ Ok answer → step_result false w client ≡ Ok None
 unanswered w client answer is = from_waiting (waiting_result (is_down w) (slice_get w.calls client.0)) refl is
   where

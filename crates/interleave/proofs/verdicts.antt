@@ -4,3 +4,5 @@ pub mod Moves
 pub mod Recalled
 pub mod Given
 pub mod Last
+pub mod Alone
+pub mod Carried

@@ -84,7 +84,7 @@ pub fn numbers_are_new()
 {}
 
 /// Draft: what the kept words tell.
-#[tactic(auto, using(crate::proofs::verdicts::Recalled::recalled_after, crate::proofs::verdicts::Given::one_reply, crate::proofs::verdicts::Last::rested_after))]
+#[tactic(auto, using(crate::proofs::verdicts::Recalled::recalled_after, crate::proofs::verdicts::Given::one_reply, crate::proofs::verdicts::Last::rested_after, crate::proofs::verdicts::Alone::answered_alone, crate::proofs::verdicts::Carried::one_verdict))]
 pub fn draft_tells()
     ensures { (w : State) → Holds w → w.shape.kind ≡ Kind.Log → (client : Client) → client.0 < MAX_CLIENTS
         → (full : Bool) (act : Act ℕ) → Unit {0} }
