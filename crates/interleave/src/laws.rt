@@ -1,6 +1,6 @@
 //! What holds of every act on a world.
 
-ghost use Rattle.std.specs.Prelude.{ℕ, ◌<◌, Bool, List, length, slice_get, Some, ◌≡◌, ◌≢◌, ◌≤◌, ◌+◌, ◌++◌};
+ghost use Rattle.std.specs.Prelude.{ℕ, Bool, List, length, slice_get, Some, ◌≡◌, ◌≢◌, ◌≤◌, ◌+◌, ◌++◌};
 ghost use Rattle.words.specs.declared.call.Client.{Client};
 ghost use Rattle.words.specs.declared.told.Told.{Told};
 ghost use Rattle.arena.specs.Shape.{Shape};
@@ -17,10 +17,7 @@ ghost use Rattle.words.specs.declared.call.Kind.{Kind};
 ghost use Rattle.interleave.specs.Standing.{IsBeginningOf};
 ghost use Rattle.protocol.specs.Acts.{recoveries};
 ghost use Rattle.interleave.specs.Runs.{Went, recovery_steps, TellsNext};
-ghost use Rattle.interleave.specs.Verdicts.{kept_told};
-ghost use Rattle.recover.specs.Told.{told_by};
-ghost use Rattle.words.specs.declared.limits.TheConstants.{MAX_CLIENTS};
-ghost use Rattle.interleave.specs.State.{machine, State, after_attempt, after_act, after_acts, taken_of, kept_tells};
+ghost use Rattle.interleave.specs.State.{State, after_attempt, after_act, after_acts, taken_of, kept_tells};
 ghost use Rattle.interleave.specs.OneAccess.{MakesOneAccess};
 ghost use Rattle.interleave.specs.OneEvent.{event_of};
 ghost use Rattle.protocol.specs.declared.acts.Act.{Act};
@@ -81,11 +78,4 @@ pub fn steps_stay_in_range()
 pub fn numbers_are_new()
     ensures { (old new : State) → Holds old → IsQuiet old → Holds new → new.shape.kind ≡ Kind.Log
         → new.told ≡ kept_tells old → ShareNoNumber old new }
-{}
-
-/// Draft: what the kept words tell.
-#[tactic(auto, using(crate::proofs::verdicts::Recalled::recalled_after, crate::proofs::verdicts::Given::one_reply, crate::proofs::verdicts::Last::rested_after, crate::proofs::verdicts::Alone::answered_alone, crate::proofs::verdicts::Carried::one_verdict))]
-pub fn draft_tells()
-    ensures { (w : State) → Holds w → w.shape.kind ≡ Kind.Log → (client : Client) → client.0 < MAX_CLIENTS
-        → (full : Bool) (act : Act ℕ) → Unit {0} }
 {}

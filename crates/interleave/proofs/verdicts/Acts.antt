@@ -1,14 +1,12 @@
 -- What each act leaves of what the kept words tell a log queue's client, and of its floor.
-use Rattle.std.proofs.Common.{◌≡◌, ◌≢◌, ℕ, ◌<◌, ◌≤◌, ◌⊎◌, ◌==◌, inl, inr, Bool, true, false, if◌then◌else◌, List, length, map}
-use Rattle.std.proofs.Common.{Option, Some, None, Result, Ok, Err, slice_get, slice_index, slice_index_or, slice_set, refl}
-use Rattle.std.proofs.Common.{sym, ap, ◌∙◌, subst, arith, get_or, get_or-set_other}
+use Rattle.std.proofs.Common.{◌≡◌, ℕ, ◌<◌, ◌⊎◌, ◌==◌, inl, inr, Bool, true, false, if◌then◌else◌, List, length, map}
+use Rattle.std.proofs.Common.{Option, Some, None, Result, Ok, Err, slice_get, slice_index, slice_index_or, refl}
+use Rattle.std.proofs.Common.{sym, ap, ◌∙◌, subst, arith}
 use Rattle.std.specs.Prelude.{is_some}
-use Rattle.std.proofs.lemmas.Bool.{cases_eq}
 use Rattle.std.proofs.lemmas.Grind.{get_or-set_at}
 use Rattle.std.proofs.lemmas.List.{get_or-map}
 use Rattle.std.proofs.lemmas.List.FromFn.{length-map-range_with_len}
 use Rattle.std.proofs.lemmas.Option.{unwrap_or-slice_get}
-use Rattle.words.specs.declared.call.Call.{Call}
 use Rattle.words.specs.declared.call.Client.{Client}
 use Rattle.words.specs.declared.call.Kind.{Kind}
 use Rattle.words.specs.declared.call.Kind.TheVariants.{Log as log_kind}
@@ -18,13 +16,11 @@ use Rattle.words.specs.declared.refusal.Refusal.{Refusal}
 use Rattle.words.specs.declared.told.Told.{Told}
 use Rattle.words.specs.declared.told.Told.TheVariants.{None as told_none}
 use Rattle.logqueue.specs.Numbers.{floor_of}
-use Rattle.logqueue.specs.Queue.{LogClients}
 use Rattle.arena.specs.Layout.{place_at}
 use Rattle.arena.specs.declared.place.Place.{Place}
 use Rattle.stepper.specs.declared.resume.After.{After}
 use Rattle.stepper.specs.declared.resume.After.TheVariants.{More, Done}
 use Rattle.helping.specs.Table.{access_of}
-use Rattle.helping.specs.declared.op.Op.{Op}
 use Rattle.recover.specs.Told.{told_by}
 use Rattle.recover.specs.declared.recovery.Recovery.{Recovery}
 use Rattle.protocol.specs.Machine.{World, MayStep, after_keeping, effects_after, events_after, next_of, next_recovery}
@@ -44,7 +40,7 @@ use Rattle.interleave.specs.Numbers.{AreNumbersRisingIn}
 use Rattle.interleave.specs.Queue.{told_in, told_to}
 use Rattle.interleave.specs.Ranges.{IsOfKind}
 use Rattle.interleave.specs.State.{State, machine, after_attempt, after_bump_load, after_call_began, after_evict}
-use Rattle.interleave.specs.State.{after_one_access, after_recover, after_start, after_step, evict_with, is_down}
+use Rattle.interleave.specs.State.{after_one_access, after_recover, after_step, evict_with, is_down}
 use Rattle.interleave.specs.State.{is_ready as says_ready, kept_tells, number_to_start, order_in, queue_at_ready}
 use Rattle.interleave.specs.State.{queue_left, recover_result, recover_result_with, recover_with, start_with, step_with}
 use Rattle.interleave.specs.State.{used_by}

@@ -1,12 +1,12 @@
 -- What clients were given, over a call that goes on alone.
-use Rattle.std.proofs.Common.{◌≡◌, ◌≢◌, ℕ, zero, suc, ◌<◌, ◌==◌, inl, inr, Bool, true, false, if◌then◌else◌, Option, Some, None}
+use Rattle.std.proofs.Common.{◌≡◌, ◌≢◌, ℕ, zero, suc, ◌<◌, ◌==◌, Bool, true, false, if◌then◌else◌, Option, Some, None}
 use Rattle.std.proofs.Common.{Result, Ok, Err, slice_get, slice_index, slice_index_or, refl, sym, ap, ◌∙◌, subst, arith}
 use Rattle.std.proofs.lemmas.Grind.{get_or-set_at}
 use Rattle.std.proofs.lemmas.Option.{get_or_from_slice_get, slice_get_within}
 use Rattle.words.specs.declared.call.Call.{Call}
 use Rattle.words.specs.declared.call.Client.{Client}
 use Rattle.words.specs.declared.call.Kind.{Kind}
-use Rattle.words.specs.declared.call.Kind.TheVariants.{Durable as durable_kind, Log as log_kind}
+use Rattle.words.specs.declared.call.Kind.TheVariants.{Log as log_kind}
 use Rattle.words.specs.declared.call.Reply.{Reply}
 use Rattle.words.specs.declared.limits.TheConstants.{MAX_CLIENTS}
 use Rattle.words.specs.declared.refusal.Refusal.{Refusal}
@@ -17,7 +17,6 @@ use Rattle.arena.specs.Shape.{Shape}
 use Rattle.stepper.specs.declared.resume.After.{After}
 use Rattle.stepper.specs.declared.resume.After.TheVariants.{More, Done}
 use Rattle.helping.specs.declared.op.Op.{Op}
-use Rattle.recover.specs.declared.recovery.Recovery.{Recovery}
 use Rattle.protocol.specs.Machine.{begun_of, call_begun, next_of, with_next}
 use Rattle.protocol.specs.declared.UnderWay.{UnderWay}
 use Rattle.protocol.specs.declared.acts.Act.{Act}
@@ -28,7 +27,8 @@ use Rattle.interleave.specs.Queue.{number_check}
 use Rattle.interleave.specs.Ranges.{IsOfKind}
 use Rattle.interleave.specs.State.{State, IsAnsweredAlone, machine, after_alone, after_bump_load, after_call_began}
 use Rattle.interleave.specs.State.{after_one_access, after_start, after_step, is_down, number_of_idle, number_to_start}
-use Rattle.interleave.specs.State.{start_result, start_result_with, start_with, step_result, step_result_with, step_with}
+use Rattle.interleave.specs.State.{start_result, start_result_with, start_with, step_result, step_result_with}
+use Rattle.interleave.specs.State.{step_with}
 use Rattle.interleave.specs.State.{used_by}
 use Rattle.interleave.specs.Verdicts.{IsLast, IsRecalled, floor_in, number_of_call, number_under_way}
 use Rattle.interleave.specs.declared.queue.Queue.{Queue}
@@ -92,7 +92,8 @@ module _ (w : State) (holds : Holds w) (log : w.shape.kind ≡ log_kind) (client
       apart step = let same : other ≡ client = cc in ne (ap (λ (c : Client). c.0) (sym same))
 
   -- a step that does not answer leaves the number of the call
-  number_went : (v : State) (number : ℕ) → step_result false v client ≡ Ok None → number_under_way v client ≡ Some number
+  number_went : (v : State) (number : ℕ) → step_result false v client ≡ Ok None
+      → number_under_way v client ≡ Some number
       → number_under_way (after_step false v client) client ≡ Some number
   number_went v number is has = go (waiting_result (is_down v) (slice_get v.calls client.0)) refl is
     where
@@ -105,7 +106,8 @@ module _ (w : State) (holds : Holds w) (log : w.shape.kind ≡ log_kind) (client
           get_or-set_at v.calls client.0 client.0 (with_next u (next_of (machine v) u)) None refl
           (slice_get_within v.calls client.0 (Some u) here)
           ∙ ap (λ (a : After Op Reply). with_next u a) e in
-          ap number_of_call now ∙ ap number_of_call (sym (get_or_from_slice_get v.calls client.0 (Some u) None here)) ∙ has
+          ap number_of_call now ∙ ap number_of_call (sym (get_or_from_slice_get v.calls client.0 (Some u) None here))
+          ∙ has
 
       go : (r : Result UnderWay Refusal) → waiting_result (is_down v) (slice_get v.calls client.0) ≡ r
           → step_result_with false v r ≡ Ok None → number_under_way (step_with false v client r) client ≡ Some number
@@ -177,10 +179,11 @@ number_started full w client number call holds log is = go (number_to_start w cl
         holds.kind e).1 in
         let now : slice_index_or (after_call_began w client n call).calls client.0 None
         ≡ Some (call_begun (machine w) (begun_of (machine w) client n call)) =
-        get_or-set_at w.calls client.0 client.0 (Some (call_begun (machine w) (begun_of (machine w) client n call))) None
-        refl (slice_get_within w.calls client.0 None idle) in
+        get_or-set_at w.calls client.0 client.0 (Some (call_begun (machine w) (begun_of (machine w) client n call)))
+        None refl (slice_get_within w.calls client.0 None idle) in
         ap number_of_call now
-        ∙ ap (λ (m : ℕ). Some m) (number_accepted w.queue client number n (is_down w) (slice_get w.calls client.0) kind e)
+        ∙ ap (λ (m : ℕ). Some m)
+        (number_accepted w.queue client number n (is_down w) (slice_get w.calls client.0) kind e)
 
     go : (r : Result ℕ Refusal) → number_to_start w client number ≡ r → start_result_with full w client r ≡ Ok tt
         → number_under_way (start_with full w client call r) client ≡ Some number

@@ -1,12 +1,11 @@
 -- What clients were given, over a rotation; and it is the same whatever the count of accesses is.
-use Rattle.std.proofs.Common.{◌≡◌, ℕ, ◌<◌, ◌≤◌, inl, inr, Bool, List, Option, Some, Result, Ok, slice_get, refl, sym, ap, ◌∙◌, subst}
+use Rattle.std.proofs.Common.{◌≡◌, ℕ, ◌<◌, ◌≤◌, inl, inr, Bool, List, Option, Some, Ok, refl, sym, ap, ◌∙◌, subst}
 use Rattle.words.specs.declared.call.Client.{Client}
 use Rattle.words.specs.declared.call.Kind.TheVariants.{Log as log_kind}
 use Rattle.words.specs.declared.call.Reply.{Reply}
 use Rattle.words.specs.declared.limits.TheConstants.{MAX_CLIENTS}
 use Rattle.words.specs.declared.told.Told.{Told}
 use Rattle.words.specs.declared.told.Verdict.{Verdict}
-use Rattle.persist.specs.Memory.{Words}
 use Rattle.interleave.specs.Holds.{Holds}
 use Rattle.interleave.specs.Rotation.{IsQuiet, after_rotation, queue_with_told, rotate_result}
 use Rattle.interleave.specs.State.{State, kept_tells}
@@ -100,9 +99,11 @@ pub record IsOneVerdict (v w : State) : Type 0 where
 pub one_verdict : (v w : State) → uncounted v ≡ uncounted w → IsOneVerdict v w
 one_verdict v w same = record {
   recalled = λ client last is.
-      recalled_back v client last (subst (λ (x : State). IsRecalled x client last) (sym same) (recalled_out w client last is));
+      recalled_back v client last
+      (subst (λ (x : State). IsRecalled x client last) (sym same) (recalled_out w client last is));
   last = λ client last is.
-      last_back v client last (subst (λ (x : State). IsLast x client last) (sym same) (last_out w client last is));
+      last_back v client last
+      (subst (λ (x : State). IsLast x client last) (sym same) (last_out w client last is));
   rested = λ is. rested_back v (subst IsRested (sym same) (rested_out w is));
   idle = λ client is. subst (λ (x : State). IsIdle x client) (sym same) is;
   reply = λ client number reply is. reply_back v client number reply

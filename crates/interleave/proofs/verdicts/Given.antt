@@ -1,6 +1,7 @@
 -- What a client of a log queue was given, by what the kept words tell it.
-use Rattle.std.proofs.Common.{◌≡◌, ◌≢◌, ℕ, zero, suc, ◌<◌, ◌≤◌, ◌⊎◌, inl, inr, Bool, true, false, List, Option, Some, None}
-use Rattle.std.proofs.Common.{Result, Ok, Err, replicate, slice_get, slice_index, refl, sym, ap, ◌∙◌, subst, arith, ⊎_elim}
+use Rattle.std.proofs.Common.{◌≡◌, ◌≢◌, ℕ, zero, suc, ◌<◌, ◌≤◌, ◌⊎◌, inl, inr, Bool, true, false, List, Option, Some}
+use Rattle.std.proofs.Common.{None}
+use Rattle.std.proofs.Common.{Ok, replicate, slice_get, refl, sym, ap, ◌∙◌, subst, arith, ⊎_elim}
 use Rattle.std.specs.Prelude.{unwrap_or}
 use Rattle.std.proofs.lemmas.Bool.{cases_lt}
 use Rattle.std.proofs.lemmas.Option.{same_Some}
@@ -30,15 +31,16 @@ use Rattle.protocol.specs.Kept.{TellsBy, TellsOf}
 use Rattle.protocol.specs.Machine.{World}
 use Rattle.protocol.specs.invariants.Records.{IsEntry}
 use Rattle.protocol.specs.invariants.Sound.{memory_at_rest}
-use Rattle.protocol.specs.invariants.Worlds.{Inv, InvAt}
+use Rattle.protocol.specs.invariants.Worlds.{InvAt}
 use Rattle.protocol.proofs.boot.Booted.{told_at}
 use Rattle.protocol.proofs.worlds.Facts.{no_calls}
 use Rattle.protocol.proofs.worlds.Rotated.{tells_now}
 use Rattle.interleave.specs.Holds.{Holds, from_invariant}
-use Rattle.interleave.specs.Numbers.{AreNumbersRisingIn, IsEntryOf, NumbersRise, told_floor}
+use Rattle.interleave.specs.Numbers.{AreNumbersRisingIn, NumbersRise, told_floor}
 use Rattle.interleave.specs.Queue.{new_queue, told_in}
 use Rattle.interleave.specs.Ranges.{IsOfKind}
-use Rattle.interleave.specs.State.{State, machine, after_recover, kept_tells, order_in, recover_result, recover_result_with}
+use Rattle.interleave.specs.State.{State, machine, after_recover, kept_tells, order_in, recover_result}
+use Rattle.interleave.specs.State.{recover_result_with}
 use Rattle.interleave.specs.State.{recover_with, world_over}
 use Rattle.interleave.specs.Verdicts.{IsIdle, IsLast, IsRecalled, IsReplyOf, IsRested, IsTakenByBase, IsTakenNumber}
 use Rattle.interleave.specs.Verdicts.{IsToldAbove, NoneIsAbove, floor_by, floor_in, kept_told, taken_as, told_as}

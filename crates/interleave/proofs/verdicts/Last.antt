@@ -1,5 +1,5 @@
 -- A client's last verdict stays its last one until its own call is answered, which gives it another.
-use Rattle.std.proofs.Common.{◌≡◌, ◌≢◌, ℕ, ◌<◌, ◌≤◌, ◌+◌, ◌⊎◌, inl, inr, Bool, true, false, List, [], ◌∷◌, ◌++◌, length, Option}
+use Rattle.std.proofs.Common.{◌≡◌, ℕ, ◌<◌, ◌+◌, inl, inr, Bool, true, false, List, [], ◌∷◌, ◌++◌, length, Option}
 use Rattle.std.proofs.Common.{Some, None, Result, Ok, Err, slice_get, slice_index_or, refl, sym, ap, ◌∙◌, subst, arith}
 use Rattle.std.specs.Prelude.{EachIndex}
 use Rattle.std.proofs.lemmas.Grind.{get_or-set_at}
@@ -25,22 +25,21 @@ use Rattle.stepper.specs.declared.resume.After.TheVariants.{More, Done}
 use Rattle.helping.specs.Table.{access_of}
 use Rattle.helping.specs.declared.op.Op.{Op}
 use Rattle.recover.specs.Told.{told_by}
-use Rattle.events.specs.Effects.{order_of}
 use Rattle.events.specs.History.{BeginsAt, CallAt, IsEnd, IsOpenFrom, ReturnAt}
 use Rattle.events.specs.Orders.{IsNew, IsTakenAs}
 use Rattle.events.specs.Telling.{IsOutcome, IsToldOf, Says}
 use Rattle.events.specs.declared.event.Entry.{Entry}
 use Rattle.events.specs.declared.event.Event.{Event}
 use Rattle.events.specs.declared.event.Event.TheVariants.{Return as return_event}
-use Rattle.events.proofs.Growing.{begins_longer, begins_within, no_end_longer}
+use Rattle.events.proofs.Growing.{begins_longer, no_end_longer}
 use Rattle.events.proofs.Interrupted.{one_reply}
 use Rattle.events.proofs.Lists.{get_last, get_longer}
 use Rattle.events.proofs.Members.{in_order_from_taken}
-use Rattle.protocol.specs.Machine.{Memory, World, MayStep, effects_after, events_after, next_of, with_access, with_next}
+use Rattle.protocol.specs.Machine.{Memory, World, MayStep, events_after, next_of, with_access, with_next}
 use Rattle.protocol.specs.Machine.{with_step}
 use Rattle.protocol.specs.declared.UnderWay.{UnderWay}
 use Rattle.protocol.specs.declared.acts.Act.{Act}
-use Rattle.protocol.specs.declared.acts.Act.TheVariants.{Start, Step, Evict, Crash, Recover}
+use Rattle.protocol.specs.declared.acts.Act.TheVariants.{Step, Evict}
 use Rattle.protocol.specs.invariants.Ledger.{Ledger, asked_call, held_token}
 use Rattle.protocol.specs.invariants.Worlds.{Inv, IsCalling, IsReady, ledger_of, record_of_call}
 use Rattle.protocol.proofs.calls.Rows.{KnowsNext, ledger_after}
@@ -55,11 +54,11 @@ use Rattle.interleave.specs.Queue.{told_in}
 use Rattle.interleave.specs.State.{State, machine, after_attempt, after_evict, after_one_access, after_step, evict_with}
 use Rattle.interleave.specs.State.{is_down, order_in, queue_left, step_result, step_result_with, step_with}
 use Rattle.interleave.specs.Verdicts.{IsIdle, IsLast, IsReplyOf, IsRested, floor_in, kept_told, number_of_call}
-use Rattle.interleave.specs.Verdicts.{number_under_way, taken_as, told_as}
+use Rattle.interleave.specs.Verdicts.{number_under_way, taken_as}
 use Rattle.interleave.proofs.HoldsKept.{explained_world, gone_on_is, holds_gone_on, may_step, waiting_is}
 use Rattle.interleave.proofs.verdicts.Acts.{floor_answered, floor_below, told_after}
 use Rattle.interleave.proofs.verdicts.Moves.{moves}
-use Rattle.interleave.proofs.verdicts.Tells.{IsOwn, kept_is, own_says, told_in_world}
+use Rattle.interleave.proofs.verdicts.Tells.{kept_is, own_says, told_in_world}
 
 none_some : {X : Type 0} {x : X} → None ≡ Some x → ⊥
 none_some e = cc
@@ -157,7 +156,8 @@ module _ (w : State) (holds : Holds w) (log : w.shape.kind ≡ log_kind) (client
       (let long = ap (λ (es : List Event). length es) events_now in omega (arith, before, longer, long)) in
       answers.taken (length w.log.events) client reply
       (subst (λ (es : List Event). BeginsAt es client u.place) (sym events_now)
-      (begins_longer w.log.events (return_event client reply ∷ []) client u.place (u.begun.number, (u.begun.call, begins))))
+      (begins_longer w.log.events (return_event client reply ∷ []) client u.place
+      (u.begun.number, (u.begun.call, begins))))
       (subst (λ (es : List Event). IsEnd es client u.place (length w.log.events)) (sym events_now)
       (record {
         after = before;
@@ -184,9 +184,10 @@ module _ (w : State) (holds : Holds w) (log : w.shape.kind ≡ log_kind) (client
 
   told : kept_told new client ≡ told_verdict (taken_as u.begun.number reply)
   told =
-      kept_is new client few ∙ ap (λ (v : World). told_by v.shape v.memory.kept client.0) (gone_on_is w client u holds here)
-      ∙ said_taken (order_in new) (explained (with_step m client u) after).1.is_order.once u.place u.begun.number reply _
-      taken
+      kept_is new client few
+      ∙ ap (λ (v : World). told_by v.shape v.memory.kept client.0) (gone_on_is w client u holds here)
+      ∙ said_taken (order_in new) (explained (with_step m client u) after).1.is_order.once u.place u.begun.number
+      reply _ taken
       (own_says m ready (with_access m.memory (access_of w.shape.kind u.op))
       (access_kept m.memory (access_of w.shape.kind u.op)) (events_after w.log.events client (next_of m u))
       (order_in new) client _ (told_in_world (with_step m client u) after log client few)
@@ -228,7 +229,8 @@ answered full w holds log client few number reply is has =
     of_call u here (More op) e answer = absurd (none_some answer)
     of_call u here (Done other) e answer =
         let same : other ≡ reply = cc in
-        let at : slice_index_or w.calls client.0 None ≡ Some u = get_or_from_slice_get w.calls client.0 (Some u) None here in
+        let at : slice_index_or w.calls client.0 None ≡ Some u =
+        get_or_from_slice_get w.calls client.0 (Some u) None here in
         let numbered : Some u.begun.number ≡ Some number = ap number_of_call (sym at) ∙ has in
         let number_is : u.begun.number ≡ number = cc in
         subst (λ (n : ℕ). IsGiven w client n reply (after_one_access w client u)) number_is

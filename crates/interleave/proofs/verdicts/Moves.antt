@@ -1,6 +1,8 @@
 -- An act leaves a client's floor and its call as they are, or it answers the call.
-use Rattle.std.proofs.Common.{◌≡◌, ◌≢◌, ℕ, ◌<◌, ◌≤◌, ◌⊎◌, ◌==◌, inl, inr, Bool, true, false, if◌then◌else◌, Option, Some, None}
-use Rattle.std.proofs.Common.{Result, Ok, Err, slice_get, slice_index_or, refl, sym, ap, ◌∙◌, subst, arith, get_or-set_other}
+use Rattle.std.proofs.Common.{◌≡◌, ◌≢◌, ℕ, ◌<◌, ◌≤◌, ◌⊎◌, ◌==◌, inl, inr, Bool, true, false, if◌then◌else◌, Option}
+use Rattle.std.proofs.Common.{Some, None}
+use Rattle.std.proofs.Common.{Result, Ok, Err, slice_get, slice_index_or, refl, sym, ap, ◌∙◌, subst, arith}
+use Rattle.std.proofs.Common.{get_or-set_other}
 use Rattle.std.specs.Prelude.{is_some}
 use Rattle.std.proofs.lemmas.Bool.{cases_eq}
 use Rattle.std.proofs.lemmas.Grind.{get_or-set_at}
@@ -26,7 +28,8 @@ use Rattle.protocol.proofs.worlds.Moments.{calling}
 use Rattle.interleave.specs.Calls.{answer_of, waiting_result}
 use Rattle.interleave.specs.Holds.{Holds, from_invariant}
 use Rattle.interleave.specs.State.{State, machine, after_attempt, after_bump_load, after_call_began, after_one_access}
-use Rattle.interleave.specs.State.{evict_with, is_down, number_to_start, queue_left, recover_with, start_with, step_result}
+use Rattle.interleave.specs.State.{evict_with, is_down, number_to_start, queue_left, recover_with, start_with}
+use Rattle.interleave.specs.State.{step_result}
 use Rattle.interleave.specs.State.{step_result_with, step_with, used_by}
 use Rattle.interleave.specs.Verdicts.{floor_in}
 use Rattle.interleave.specs.declared.queue.Queue.{Queue}
@@ -75,7 +78,7 @@ module _ (w : State) (holds : Holds w) (log : w.shape.kind ≡ log_kind) (client
       get_or-set_other w.calls c.0 client.0 (Some (call_begun (machine w) (begun_of (machine w) c n call))) None
           (λ same. none_some (sym (get_or_from_slice_get w.calls c.0 None None idle)
           ∙ ap (λ (t : ℕ). slice_index_or w.calls t None) (sym same) ∙ at))
-      ∙ at,
+          ∙ at,
     );
   }
 
@@ -106,7 +109,7 @@ module _ (w : State) (holds : Holds w) (log : w.shape.kind ≡ log_kind) (client
         record u { op = op },
         get_or-set_at w.calls c.0 client.0 (with_next u (next_of (machine w) u)) None same
             (slice_get_within w.calls c.0 (Some u) here)
-        ∙ ap (λ (a : After Op Reply). with_next u a) e,
+            ∙ ap (λ (a : After Op Reply). with_next u a) e,
       );
     })
     of_own same (Done reply) e = inr (record {
@@ -114,7 +117,8 @@ module _ (w : State) (holds : Holds w) (log : w.shape.kind ≡ log_kind) (client
       at = ap (λ (t : ℕ). slice_index_or w.calls t None) same ∙ get_or_from_slice_get w.calls c.0 (Some u) None here;
       reply = reply;
       step = ap Step (same_client c client (sym same));
-      result = subst (λ (x : Client). step_result false w x ≡ Ok (Some reply)) (same_client c client (sym same)) answers;
+      result = subst (λ (x : Client). step_result false w x ≡ Ok (Some reply)) (same_client c client (sym same))
+          answers;
       floor = ap (λ (a : After Op Reply). floor_in (queue_left w.queue u a) client) e
           ∙ floor_answered w holds log client few u reply (who ∙ sym same);
     })

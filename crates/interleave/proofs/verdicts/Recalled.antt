@@ -1,10 +1,9 @@
 -- What holds of a verdict that a client was once given stays so, whatever the acts.
-use Rattle.std.proofs.Common.{◌≡◌, ℕ, ◌<◌, ◌≤◌, ◌⊎◌, ◌==◌, inl, inr, Bool, true, false, if◌then◌else◌, List, Option, Some, None}
+use Rattle.std.proofs.Common.{◌≡◌, ℕ, ◌<◌, ◌≤◌, ◌⊎◌, ◌==◌, inl, inr, Bool, true, false, if◌then◌else◌, List, Option}
+use Rattle.std.proofs.Common.{Some, None}
 use Rattle.std.proofs.Common.{Result, Ok, Err, slice_get, slice_index_or, refl, sym, ap, ◌∙◌, subst, arith}
 use Rattle.std.specs.Prelude.{is_some}
-use Rattle.words.specs.declared.call.Call.{Call}
 use Rattle.words.specs.declared.call.Client.{Client}
-use Rattle.words.specs.declared.call.Kind.{Kind}
 use Rattle.words.specs.declared.call.Kind.TheVariants.{Log as log_kind}
 use Rattle.words.specs.declared.call.Reply.{Reply}
 use Rattle.words.specs.declared.limits.TheConstants.{MAX_CLIENTS}
@@ -31,10 +30,10 @@ use Rattle.interleave.specs.Calls.{waiting_result}
 use Rattle.interleave.specs.Holds.{Holds, from_invariant}
 use Rattle.interleave.specs.Numbers.{HasNumber}
 use Rattle.interleave.specs.Standing.{GoesOn}
-use Rattle.interleave.specs.State.{State, machine, after_attempt, after_bump_load, after_call_began, after_one_access, evict_with}
-use Rattle.interleave.specs.State.{after_recover, is_down, number_to_start, order_in, recover_with, start_with, step_with}
+use Rattle.interleave.specs.State.{State, machine, after_attempt, after_bump_load, after_call_began, evict_with}
+use Rattle.interleave.specs.State.{is_down, number_to_start, order_in, recover_with, start_with, step_with}
 use Rattle.interleave.specs.State.{used_by}
-use Rattle.interleave.specs.Verdicts.{IsRecalled, IsReplyOf, IsToldAbove, floor_by, floor_in, kept_told, taken_as, told_as}
+use Rattle.interleave.specs.Verdicts.{IsRecalled, IsReplyOf, IsToldAbove, floor_by, floor_in, kept_told, told_as}
 use Rattle.interleave.proofs.ActLaws.{goes_on_after}
 use Rattle.interleave.proofs.DownLaws.{became_ready, start_down, step_down}
 use Rattle.interleave.proofs.RunLaws.{crash_down, down_evicted}
@@ -146,7 +145,8 @@ module _ (full : Bool) (w : State) (act : Act ℕ) (holds : Holds w) (log : w.sh
       | inl told ↦ inl (same ∙ told)
       | inr above ↦ inr (subst (IsToldAbove (floor_by last)) (sym same) above)
     ]
-    | inr own ↦ inr (above_floor (floor_by last) own.u.begun.number (kept_told new client) own.number (below own.u own.at))
+    | inr own ↦ inr (above_floor (floor_by last) own.u.begun.number (kept_told new client) own.number
+        (below own.u own.at))
   ]
     where
       below : (u : UnderWay) → slice_index_or w.calls client.0 None ≡ Some u

@@ -1,5 +1,5 @@
 -- What the kept words tell a client of a log queue, and which acts change it: those of its own call under way alone.
-use Rattle.std.proofs.Common.{◌≡◌, ◌≢◌, ℕ, ◌<◌, ◌⊎◌, inl, inr, List, length, Option, Some, None, refl, sym, ap, ◌∙◌}
+use Rattle.std.proofs.Common.{◌≡◌, ℕ, ◌<◌, ◌⊎◌, inl, inr, List, length, Option, Some, None, refl, sym, ap, ◌∙◌}
 use Rattle.std.proofs.Common.{subst, arith}
 use Rattle.std.specs.Prelude.{EachIndex, unwrap_or}
 use Rattle.std.proofs.lemmas.Bool.{cases_eq}
@@ -46,7 +46,7 @@ use Rattle.protocol.proofs.worlds.Moments.{Noted, calling, holder}
 use Rattle.protocol.proofs.worlds.Rotated.{tells_now}
 use Rattle.interleave.specs.Holds.{Holds, from_invariant}
 use Rattle.interleave.specs.Reuse.{issued_as}
-use Rattle.interleave.specs.State.{State, machine, order_in}
+use Rattle.interleave.specs.State.{State, machine}
 use Rattle.interleave.specs.Verdicts.{kept_told}
 
 -- what the kept words tell a client, by its announcement
@@ -113,7 +113,8 @@ module _ (base : List Told) (issued : List Issued) (e : ℕ) (events later : Lis
       let a : Issued = some.1.call in
       let b : Issued = other.1.call in
       let one : a ≡ b = call_once issued e a b some.1.of other.1.of in
-      let place : other.0.place ≡ some.0.place = sym other.1.place ∙ ap (λ (c : Issued). c.place) (sym one) ∙ some.1.place in
+      let place : other.0.place ≡ some.0.place =
+      sym other.1.place ∙ ap (λ (c : Issued). c.place) (sym one) ∙ some.1.place in
       let number : other.0.tells.number ≡ some.0.tells.number =
       sym other.1.number ∙ ap (λ (c : Issued). c.begun.number) (sym one) ∙ some.1.number in
       same_said old new some.0.place once (kept some.0.place)
@@ -252,11 +253,8 @@ module _ (w : World) (ready : IsReady w) (n : Memory) (kept : KeptBy w.memory n)
               (own_says events (order_of effects) client y also own),
         )
         | inr other ↦ elim (announced_or client.0) [
-          | inl stays ↦ inl (sym (same_told w.told w.log.issued (announcements w.memory.kept client.0) w.log.events events
-              (order_of w.log.effects) (order_of effects) client once
-              (λ p reply taken.
-              let e : Entry = record { place = p; reply = reply } in
-              contains_from_in (order_of effects) e (in_part e part (in_from_contains (order_of w.log.effects) e taken)))
+          | inl stays ↦ inl (sym (same_told w.told w.log.issued (announcements w.memory.kept client.0) w.log.events
+              events (order_of w.log.effects) (order_of effects) client once part_kept
               (λ p begins there. elim (comes client p begins there) [
                 | inl was ↦ was
                 | inr own ↦ absurd (other (subst (IsOwn w.calls client.0) (sym stays) own))
@@ -266,3 +264,9 @@ module _ (w : World) (ready : IsReady w) (n : Memory) (kept : KeptBy w.memory n)
           | inr own ↦ absurd (other own)
         ]
       ]
+    where
+      part_kept : (p : ℕ) (reply : Reply) → IsTakenAs (order_of w.log.effects) p reply
+          → IsTakenAs (order_of effects) p reply
+      part_kept p reply taken =
+          let e : Entry = record { place = p; reply = reply } in
+          contains_from_in (order_of effects) e (in_part e part (in_from_contains (order_of w.log.effects) e taken))
