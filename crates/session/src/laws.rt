@@ -29,3 +29,8 @@ pub fn numbers_have_one_reply()
     ensures { (w : State) (client : Client) (number : ℕ) (reply other : Reply) → Holds w → w.shape.kind ≡ Kind.Log
         → IsReplyOf w client number reply → IsReplyOf w client number other → reply ≡ other }
 {}
+
+#[tactic(auto, using(crate::proofs::Worlds::up_there, crate::proofs::SlotLaws::right_if_quiet, crate::proofs::SlotLaws::right_unanswered, crate::proofs::SlotLaws::right_rotated, crate::proofs::SlotLaws::rested_recovered))]
+pub fn draft()
+    ensures { (w : State) → w.recovery ≡ None → w.recovery ≡ None }
+{}
