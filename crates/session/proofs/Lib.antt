@@ -1,2 +1,5 @@
 pub mod Worlds
 pub mod SlotLaws
+pub mod Calling
+pub mod Acting
+pub mod Serving

@@ -1,0 +1,198 @@
+-- A session stays right over its clients' calls.
+use Rattle.std.proofs.Common.{◌≡◌, ◌≢◌, ◌⊎◌, inl, inr, ℕ, ◌<◌, ◌≤◌, ◌==◌, Bool, true, false, not, is_ok, is_some, if◌then◌else◌, length, List, Option, Some, None, Result, Ok, Err, slice_get, slice_index_or, refl, sym, ap, subst, ◌∙◌, arith}
+use Rattle.std.proofs.lemmas.Bool.{cases_eq}
+use Rattle.std.proofs.lemmas.Option.{get_or_from_slice_get, slice_get_within}
+use Rattle.words.specs.declared.call.Call.{Call}
+use Rattle.words.specs.declared.call.Client.{Client}
+use Rattle.words.specs.declared.call.Kind.{Kind}
+use Rattle.words.specs.declared.call.Kind.TheVariants.{Durable as durable_kind, Log as log_kind}
+use Rattle.words.specs.declared.call.Reply.{Reply}
+use Rattle.words.specs.declared.limits.TheConstants.{MAX_CLIENTS}
+use Rattle.words.specs.declared.refusal.Refusal.{Refusal}
+use Rattle.words.specs.declared.told.Verdict.{Verdict}
+use Rattle.protocol.specs.declared.UnderWay.{UnderWay}
+use Rattle.interleave.specs.Calls.{is_no_memory, waiting_result}
+use Rattle.interleave.specs.Holds.{Holds}
+use Rattle.interleave.specs.State.{State, after_start, after_step, is_down as is_world_down, step_result, step_result_with}
+use Rattle.interleave.specs.Verdicts.{number_of_call, number_under_way, taken_as, IsLast, IsRecalled}
+use Rattle.interleave.proofs.HoldsKept.{holds_after_start, waiting_is}
+use Rattle.named.specs.Brokers.{Brokered, IsWell, admission, answer_at, answer_if, is_down, quiet, world_after, world_at}
+use Rattle.named.specs.Slots.{acted, answered as answer_in}
+use Rattle.named.proofs.Stays.{step_alike}
+use Rattle.arena.specs.Shape.{Shape}
+use Rattle.named.specs.declared.recovery.BrokerRecovery.{BrokerRecovery}
+use Rattle.session.specs.Keeping.{IsKeptNow}
+use Rattle.session.specs.Requests.{AreOthersAlike, IsAdvanced, IsRun, IsServed, IsStarted, IsUnserved, call_number, last_after, numbered}
+use Rattle.session.specs.Sessions.{AreVerdictsRight, IsRight, IsSlotRight, Sessioned, is_up, kept_in}
+use Rattle.session.proofs.Calling.{IsAnsweredAt, IsKeptNew, admitted_up, answered_at, right_answered, right_by_client, right_if_durable, right_served, right_started, right_stepped, up_is}
+use Rattle.session.proofs.SlotLaws.{right_if_quiet}
+use Rattle.session.proofs.Worlds.{few_there, holds_there, none_some, up_there}
+
+-- the same verdicts
+pub right_alike : (up : Bool) (o : Option State) (f g : ℕ → Option Verdict) → ((c : ℕ) → g c ≡ f c)
+    → IsSlotRight up o f → IsSlotRight up o g
+right_alike up None f g same is = λ c. same c ∙ is c
+right_alike up (Some w) f g same is = λ log.
+    let r = is log in
+    record {
+      recalled = λ client lt. subst (IsRecalled w client) (sym (same client.0)) (r.recalled client lt);
+      last = λ is_up client lt. subst (IsLast w client) (sym (same client.0)) (r.last is_up client lt);
+      rested = r.rested;
+    }
+
+module _ (old new : Brokered) (slot : ℕ) (was is : List (List (Option Verdict))) where
+  -- where only the queue of one slot acted, and what is kept for it alone may have changed
+  pub right_beside : IsWell new → AreOthersAlike old new slot
+      → ((at : ℕ) → at ≢ slot → (c : ℕ) → kept_in is at c ≡ kept_in was at c)
+      → IsRight (record { broker = old; kept = was })
+      → IsSlotRight (is_up old) (world_at new slot) (kept_in is slot) → IsRight (record { broker = new; kept = is })
+  right_beside well others beside right here = record {
+    well = well;
+    slots = λ at. subst (λ (b : Bool). IsSlotRight b (world_at new at) (kept_in is at)) (sym up) (go at (cases_eq at slot));
+  }
+    where
+      up : is_up new ≡ is_up old
+      up = ap (λ (o : Option BrokerRecovery). not (is_some o)) others.recovery
+
+      go : (at : ℕ) → (at ≡ slot) ⊎ (at ≢ slot) → IsSlotRight (is_up old) (world_at new at) (kept_in is at)
+      go at (inl same) =
+          subst (λ (n : ℕ). IsSlotRight (is_up old) (world_at new n) (kept_in is n)) (sym same) here
+      go at (inr apart) =
+          right_alike (is_up old) (world_at new at) (kept_in was at) (kept_in is at) (beside at apart)
+          (right_if_quiet (is_up old) (world_at old at) (world_at new at) (kept_in was at) (others.worlds at apart)
+          (right.slots at))
+
+  -- what is kept for one client alone may have changed
+  pub kept_beside : (client : Client) (last : Option Verdict) → IsKeptNow was is slot client.0 last
+      → (at : ℕ) → at ≢ slot → (c : ℕ) → kept_in is at c ≡ kept_in was at c
+  kept_beside client last kept at apart c = kept.others at c (inl apart)
+
+  pub kept_new : (client : Client) (last : Option Verdict) → IsKeptNow was is slot client.0 last
+      → IsKeptNew (kept_in was slot) (kept_in is slot) client last
+  kept_new client last kept = record { here = kept.here; others = λ other apart. kept.others slot other (inr apart) }
+
+  -- or nothing did
+  pub kept_all : (client : ℕ) → IsKeptNow was is slot client (kept_in was slot client)
+      → (at c : ℕ) → kept_in is at c ≡ kept_in was at c
+  kept_all client kept at c = elim (cases_eq at slot) [
+    | inr apart ↦ kept.others at c (inl apart)
+    | inl here ↦ elim (cases_eq c client) [
+      | inr other ↦ kept.others at c (inr other)
+      | inl same ↦
+          ap (λ (n : ℕ). kept_in is n c) here ∙ ap (kept_in is slot) same ∙ kept.here
+          ∙ ap (kept_in was slot) (sym same) ∙ ap (λ (n : ℕ). kept_in was n c) (sym here)
+    ]
+  ]
+
+-- a call that makes a step has a number, which is its own
+step_numbered : (full : Bool) (w : State) (client : Client) (reply : Reply) → step_result full w client ≡ Ok (Some reply)
+    → (n : ℕ) × (number_under_way w client ≡ Some n) × (client.0 < length w.calls)
+step_numbered full w client reply is = go (waiting_result (is_world_down w) (slice_get w.calls client.0)) refl is
+  where
+    go : (r : Result UnderWay Refusal) → waiting_result (is_world_down w) (slice_get w.calls client.0) ≡ r
+        → step_result_with full w r ≡ Ok (Some reply)
+        → (n : ℕ) × (number_under_way w client ≡ Some n) × (client.0 < length w.calls)
+    go (Err refusal) e answer = absurd (cc (answer))
+    go (Ok u) e answer =
+        let at : slice_index_or w.calls client.0 None ≡ Some u =
+        get_or_from_slice_get w.calls client.0 (Some u) None (waiting_is _ _ u e) in
+        (u.begun.number, ap number_of_call at, slice_get_within w.calls client.0 (Some u) (waiting_is _ _ u e))
+
+-- what is kept stays where nothing was answered
+last_same : (n : Option ℕ) (result : Result (Option Reply) Refusal) (last : Option Verdict)
+    → ((reply : Reply) → result ≡ Ok (Some reply) → ⊥) → last_after n result last ≡ last
+last_same None result last none = refl
+last_same (Some n) (Err refusal) last none = refl
+last_same (Some n) (Ok None) last none = refl
+last_same (Some n) (Ok (Some reply)) last none = absurd (none reply refl)
+
+-- a client that is let in is answered by the slot's world, and acts on it
+answer_here : {T : Type 0} (g : State → Result T Refusal) (b : Brokered) (slot : ℕ) (client : Client) (w : State)
+    → admission b client ≡ Ok tt → world_at b slot ≡ Some w → answer_at g b slot client ≡ g w
+answer_here g b slot client w admitted here =
+    ap (λ (r : Result Unit Refusal). answer_if r (answer_in g (world_at b slot))) admitted ∙ ap (answer_in g) here
+
+world_here : (f : State → State) (b : Brokered) (slot : ℕ) (client : Client) (w : State) → admission b client ≡ Ok tt
+    → world_at b slot ≡ Some w → world_after f b slot client ≡ Some (f w)
+world_here f b slot client w admitted here =
+    ap (λ (r : Result Unit Refusal). if is_ok r then acted f (world_at b slot) else world_at b slot) admitted
+    ∙ ap (acted f) here
+
+-- a step
+module _ (old new : Brokered) (slot : ℕ) (client : Client) (was is : List (List (Option Verdict))) where
+  abbrev before : Sessioned
+  before = record { broker = old; kept = was }
+
+  -- one that answers nothing
+  unanswered_right : (result : Result (Option Reply) Refusal) → ((reply : Reply) → result ≡ Ok (Some reply) → ⊥)
+      → IsRight before → IsWell new → IsAdvanced old new slot client result
+      → ((at c : ℕ) → kept_in is at c ≡ kept_in was at c) → IsRight (record { broker = new; kept = is })
+  unanswered_right result none right well made same =
+      right_beside old new slot was is well made.others (λ at apart c. same at c) right
+      (right_alike (is_up old) (world_at new slot) (kept_in was slot) (kept_in is slot) (same slot)
+      (right_by_client (λ w. after_step full w client) old new slot client (kept_in was slot) made.world each
+      (right.slots slot)))
+    where
+      full : Bool
+      full = is_no_memory result
+
+      each : (w : State) → world_at old slot ≡ Some w → admission old client ≡ Ok tt
+          → IsSlotRight true (Some w) (kept_in was slot) → IsSlotRight true (Some (after_step full w client)) (kept_in was slot)
+      each w here admitted r =
+          right_stepped full w client (holds_there old right.well slot w here)
+          (up_there old right.well slot w here (admitted_up old client admitted))
+          (λ reply answers. none reply (made.result_is ∙ answer_here (λ v. step_result full v client) old slot client w admitted here ∙ answers))
+          (kept_in was slot) r
+
+  pub advanced_right : (result : Result (Option Reply) Refusal) → IsRight before → IsWell new
+      → IsAdvanced old new slot client result
+      → IsKeptNow was is slot client.0
+      (last_after (call_number (world_at old slot) client) result (kept_in was slot client.0))
+      → IsRight (record { broker = new; kept = is })
+  advanced_right (Err refusal) right well made kept =
+      unanswered_right (Err refusal) (λ reply e. absurd (cc (e))) right well made
+      (kept_all old new slot was is client.0
+      (subst (IsKeptNow was is slot client.0)
+      (last_same (call_number (world_at old slot) client) (Err refusal) (kept_in was slot client.0) (λ reply e. absurd (cc (e)))) kept))
+  advanced_right (Ok None) right well made kept =
+      unanswered_right (Ok None) (λ reply e. absurd (cc (e))) right well made
+      (kept_all old new slot was is client.0
+      (subst (IsKeptNow was is slot client.0)
+      (last_same (call_number (world_at old slot) client) (Ok None) (kept_in was slot client.0) (λ reply e. absurd (cc (e)))) kept))
+  advanced_right (Ok (Some reply)) right well made kept =
+      right_beside old new slot was is well made.others (kept_beside old new slot was is client _ kept) right
+      (subst (λ (b : Bool). IsSlotRight b (world_at new slot) (kept_in is slot)) (sym (up_is old at.up))
+      (subst (λ (o : Option State). IsSlotRight true o (kept_in is slot)) (sym now) (by_kind w.shape.kind refl)))
+    where
+      at : IsAnsweredAt (λ w. step_result false w client) old slot client (Some reply)
+      at = answered_at (λ w. step_result false w client) old slot client (Some reply) (sym made.result_is)
+
+      w : State
+      w = at.world
+
+      now : world_at new slot ≡ Some (after_step false w client)
+      now = made.world ∙ world_here (λ v. after_step false v client) old slot client w at.admitted at.here
+
+      was_right : IsSlotRight true (Some w) (kept_in was slot)
+      was_right =
+          subst (λ (b : Bool). IsSlotRight b (Some w) (kept_in was slot)) (up_is old at.up)
+          (subst (λ (o : Option State). IsSlotRight (is_up old) o (kept_in was slot)) at.here (right.slots slot))
+
+      n : (n : ℕ) × (number_under_way w client ≡ Some n) × (client.0 < length w.calls)
+      n = step_numbered false w client reply at.says
+
+      by_kind : (kind : Kind) → w.shape.kind ≡ kind → IsSlotRight true (Some (after_step false w client)) (kept_in is slot)
+      by_kind durable_kind e =
+          right_if_durable true (after_step false w client) (kept_in is slot)
+          (λ log. absurd (cc (e, ap (λ (s : Shape). s.kind) (sym (step_alike false w client).0) ∙ log)))
+      by_kind log_kind e =
+          let holds : Holds w = holds_there old right.well slot w at.here in
+          let has : call_number (world_at old slot) client ≡ Some n.0 =
+          ap (λ (o : Option State). call_number o client) at.here
+          ∙ ap (λ (k : Kind). numbered k (number_under_way w client)) e ∙ n.1 in
+          let last : IsKeptNow was is slot client.0 (Some (taken_as n.0 reply)) =
+          subst (λ (x : Option ℕ). IsKeptNow was is slot client.0 (last_after x (Ok (Some reply)) (kept_in was slot client.0)))
+          has kept in
+          right_answered false w client n.0 reply holds (holds_there new well slot (after_step false w client) now)
+          (up_there old right.well slot w at.here at.up) e (omega (arith, n.2, holds.safe.clients, holds.safe.few)) at.says
+          n.1 (kept_in was slot) (kept_in is slot) (kept_new old new slot was is client _ last) was_right

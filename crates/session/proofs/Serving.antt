@@ -1,0 +1,176 @@
+-- A session stays right over its clients' requests, and each reply is that of its number.
+use Rattle.std.proofs.Common.{◌≡◌, ◌≢◌, ◌⊎◌, inl, inr, ℕ, suc, ◌<◌, ◌≤◌, ◌+◌, ◌==◌, Bool, true, false, not, is_ok, is_some, if◌then◌else◌, nat_lt, length, List, Option, Some, None, Result, Ok, Err, slice_get, slice_index_or, refl, sym, ap, subst, ◌∙◌, arith}
+use Rattle.std.proofs.lemmas.Bool.{eqb-true}
+use Rattle.std.proofs.lemmas.Option.{slice_get_within}
+use Rattle.words.specs.declared.call.Call.{Call}
+use Rattle.words.specs.declared.call.Client.{Client}
+use Rattle.words.specs.declared.call.Kind.{Kind}
+use Rattle.words.specs.declared.call.Kind.TheVariants.{Durable as durable_kind, Log as log_kind}
+use Rattle.words.specs.declared.call.Reply.{Reply}
+use Rattle.words.specs.declared.refusal.Refusal.{Refusal}
+use Rattle.words.specs.declared.refusal.Refusal.TheVariants.{Busy, Gap, Old, WrongKind}
+use Rattle.words.specs.declared.told.Outcome.{Outcome}
+use Rattle.words.specs.declared.told.Outcome.TheVariants.{NotTaken, Taken}
+use Rattle.words.specs.declared.told.Verdict.{Verdict}
+use Rattle.arena.specs.Shape.{Shape}
+use Rattle.protocol.specs.Machine.{FitsCall}
+use Rattle.protocol.specs.declared.UnderWay.{UnderWay}
+use Rattle.interleave.specs.Calls.{idle_result, is_no_memory}
+use Rattle.interleave.specs.Holds.{Holds}
+use Rattle.interleave.specs.Queue.{number_check}
+use Rattle.interleave.specs.State.{State, after_alone, after_start, is_down as is_world_down, number_of_idle, number_to_start, start_result, start_result_with}
+use Rattle.interleave.specs.Verdicts.{IsReplyOf, number_under_way, taken_as}
+use Rattle.interleave.specs.declared.queue.Queue.{Queue}
+use Rattle.interleave.proofs.HoldsKept.{holds_after_start}
+use Rattle.interleave.proofs.verdicts.Alone.{answered_alone}
+use Rattle.interleave.proofs.verdicts.Last.{IsGiven}
+use Rattle.named.specs.Brokers.{Brokered, IsWell, admission, answer_at, is_down, quiet, world_after, world_at}
+use Rattle.named.specs.Slots.{IfWorld}
+use Rattle.named.proofs.Stays.{alone_alike, start_alike}
+use Rattle.session.specs.Keeping.{IsAnswered, IsKeptNow}
+use Rattle.session.specs.Numbers.{by_last, by_number, by_outcome, by_reply, missed}
+use Rattle.session.specs.Promises.{IsReplyAt}
+use Rattle.session.specs.Requests.{AreOthersAlike, IsRun, IsServed, IsStarted, IsUnserved, is_kind, queue_admission, request_admission, request_answer}
+use Rattle.session.specs.Sessions.{IsRight, IsSlotRight, Sessioned, is_up, kept_at, kept_in}
+use Rattle.session.proofs.Acting.{kept_beside, kept_new, right_beside}
+use Rattle.session.proofs.Calling.{IsAnsweredAt, admitted_up, answered_at, right_by_client, right_if_durable, right_served, right_started, up_is}
+use Rattle.session.proofs.SlotLaws.{right_if_quiet}
+use Rattle.session.proofs.Worlds.{clients_there, few_there, holds_there, no_recovery, up_there}
+
+-- the kept reply is that of the last number, and has it
+kept_by_reply : (last number : ℕ) (own reply : Reply) → by_reply own last number ≡ Ok (Some reply)
+    → (last ≡ number) × (own ≡ reply)
+kept_by_reply last number own reply is = go (number == last) refl is
+  where
+    later : (b : Bool) → (let r : Result (Option Reply) Refusal = if b then Ok None else missed last number in r)
+        ≡ Ok (Some reply) → ⊥
+    later true e = cc
+    later false e = other (nat_lt number last) e
+      where
+        other : (b : Bool) → (let r : Result (Option Reply) Refusal = if b then Err Old else Err Gap in r)
+            ≡ Ok (Some reply) → ⊥
+        other true e = cc
+        other false e = cc
+
+    go : (b : Bool) → (number == last) ≡ b → (let r : Result (Option Reply) Refusal = if b then Ok (Some own)
+        else (if number == last + 1 then Ok None else missed last number) in r) ≡ Ok (Some reply)
+        → (last ≡ number) × (own ≡ reply)
+    go true same e = (sym (eqb-true number last same), cc (e))
+    go false same e = absurd (later (number == last + 1) e)
+
+-- a start
+module _ (old new : Brokered) (slot : ℕ) (client : Client) (number : ℕ) (call : Call)
+    (kept : List (List (Option Verdict))) where
+  abbrev before : Sessioned
+  before = record { broker = old; kept = kept }
+
+  abbrev after : Sessioned
+  after = record { broker = new; kept = kept }
+
+  begun_right : (full : Bool) → IsRight before → IsWell new → AreOthersAlike old new slot
+      → world_at new slot ≡ world_after (λ w. after_start full w client number call) old slot client → IsRight after
+  begun_right full right well others world =
+      right_beside old new slot kept kept well others (λ at apart c. refl) right
+      (right_by_client (λ w. after_start full w client number call) old new slot client (kept_in kept slot) world
+      (λ w here admitted r.
+      right_started full w client number call (holds_there old right.well slot w here)
+      (up_there old right.well slot w here (admitted_up old client admitted)) (kept_in kept slot) r)
+      (right.slots slot))
+
+  pub started_right : (result : Result (Option Reply) Refusal) → IsRight before → IsWell new
+      → IsStarted old new slot client number call result → IsRight after
+  started_right result right well made = begun_right (is_no_memory result) right well made.others made.world
+
+  -- nothing changed but room
+  same_right : IsRight before → IsWell new → AreOthersAlike old new slot → world_at new slot ≡ world_at old slot
+      → IsRight after
+  same_right right well others same =
+      right_beside old new slot kept kept well others (λ at apart c. refl) right
+      (subst (λ (o : Option State). IsSlotRight (is_up old) o (kept_in kept slot)) (sym same) (right.slots slot))
+
+  pub unserved_right : (refusal : Refusal) → IsRight before → IsWell new
+      → IsUnserved old new slot client number call refusal × AreOthersAlike old new slot → IsRight after
+  unserved_right refusal right well (inl none, others) = same_right right well others (none.1 slot)
+  unserved_right refusal right well (inr refused, others) = begun_right false right well others refused.1
+
+-- a client that starts a call is one of a ready queue
+start_up : (w : State) (client : Client) (number : ℕ) → start_result false w client number ≡ Ok tt
+    → (w.recovery ≡ None) × (client.0 < length w.calls)
+start_up w client number is = go (is_world_down w) refl (slice_get w.calls client.0) refl is
+  where
+    go : (down : Bool) → is_world_down w ≡ down → (o : Option (Option UnderWay)) → slice_get w.calls client.0 ≡ o
+        → start_result_with false w client (number_of_idle w.queue client number (idle_result down o)) ≡ Ok tt
+        → (w.recovery ≡ None) × (client.0 < length w.calls)
+    go down e None at answer = absurd (cc (answer))
+    go true e (Some call) at answer = absurd (cc (answer))
+    go false e (Some None) at answer = (no_recovery w.recovery e, slice_get_within w.calls client.0 None at)
+    go false e (Some (Some u)) at answer = absurd (cc (answer))
+
+-- a call that ran to its end
+module _ (old new : Brokered) (slot : ℕ) (client : Client) (number : ℕ) (call : Call) (reply : Reply)
+    (was : List (List (Option Verdict))) (right : IsRight (record { broker = old; kept = was })) (well : IsWell new)
+    (up : old.recovery ≡ None) (fits : FitsCall call) (made : IsServed old new slot client number call reply) where
+  abbrev w : State
+  w = made.world
+
+  abbrev begun : State
+  begun = after_start false w client number call
+
+  abbrev done : State
+  done = after_alone made.steps begun client
+
+  holds : Holds w
+  holds = holds_there old right.well slot w made.was
+
+  started : Holds begun
+  started = holds_after_start false w client number call holds fits
+
+  few : client.0 < 16
+  few = let at = (start_up w client number made.started).1 in omega (arith, at, holds.safe.clients, holds.safe.few)
+
+  alike : (done.shape ≡ w.shape) × (done.recovery ≡ w.recovery)
+  alike =
+      let first = start_alike false w client number call in
+      let alone = alone_alike made.steps begun client in
+      (alone.0 ∙ first.0, alone.1 ∙ first.1)
+
+  was_right : IsSlotRight true (Some w) (kept_in was slot)
+  was_right =
+      subst (λ (b : Bool). IsSlotRight b (Some w) (kept_in was slot)) (up_is old up)
+      (subst (λ (o : Option State). IsSlotRight (is_up old) o (kept_in was slot)) made.was (right.slots slot))
+
+  here_right : (is : List (List (Option Verdict)))
+      → ((at : ℕ) → at ≢ slot → (c : ℕ) → kept_in is at c ≡ kept_in was at c)
+      → IsSlotRight true (Some done) (kept_in is slot) → IsRight (record { broker = new; kept = is })
+  here_right is beside now =
+      right_beside old new slot was is well made.others beside right
+      (subst (λ (b : Bool). IsSlotRight b (world_at new slot) (kept_in is slot)) (sym (up_is old up))
+      (subst (λ (o : Option State). IsSlotRight true o (kept_in is slot)) (sym made.is) now))
+
+  durable_right : w.shape.kind ≡ durable_kind → (is : ℕ → Option Verdict) → IsSlotRight true (Some done) is
+  durable_right e is =
+      right_if_durable true done is (λ log. absurd (cc (e, ap (λ (s : Shape). s.kind) (sym alike.0) ∙ log)))
+
+  -- in a log queue its reply is kept
+  pub served_right : (is : List (List (Option Verdict)))
+      → IsKeptNow was is slot client.0 (Some (taken_as number reply)) → IsRight (record { broker = new; kept = is })
+  served_right is kept =
+      here_right is (kept_beside old new slot was is client _ kept) (by_kind w.shape.kind refl)
+    where
+      by_kind : (kind : Kind) → w.shape.kind ≡ kind → IsSlotRight true (Some done) (kept_in is slot)
+      by_kind durable_kind e = durable_right e (kept_in is slot)
+      by_kind log_kind e =
+          right_served w client number call made.steps reply holds started (holds_there new well slot done made.is)
+          (up_there old right.well slot w made.was up) e few made.started made.answered (kept_in was slot) (kept_in is slot)
+          (kept_new old new slot was is client _ kept) was_right
+
+  -- in a durable one nothing is
+  pub plain_right : w.shape.kind ≡ durable_kind → IsRight (record { broker = new; kept = was })
+  plain_right durable = here_right was (λ at apart c. refl) (durable_right durable (kept_in was slot))
+
+  -- its reply is that of its number
+  pub served_reply : (is : List (List (Option Verdict))) → w.shape.kind ≡ log_kind
+      → IsReplyAt (record { broker = new; kept = is }) slot client number reply
+  served_reply is log =
+      subst (λ (o : Option State). IfWorld o (λ v. IsReplyOf v client number reply)) (sym made.is)
+      (answered_alone false w client number call holds log few started made.started made.steps reply made.answered).reply_of
