@@ -3,3 +3,4 @@ pub mod SlotLaws
 pub mod Calling
 pub mod Acting
 pub mod Serving
+pub mod Places
