@@ -4,3 +4,4 @@ pub mod Calling
 pub mod Acting
 pub mod Serving
 pub mod Places
+pub mod Promised
