@@ -1,2 +1,3 @@
 pub mod Worlds
 pub mod SlotLaws
+pub mod Promised

@@ -1,0 +1,54 @@
+-- What follows of a session's invariant: what is promised of the numbers of its clients.
+use Rattle.std.proofs.Common.{◌≡◌, ℕ, ◌<◌, Bool, true, not, is_some, Option, Some, None, refl, ap, subst, arith}
+use Rattle.words.specs.declared.call.Client.{Client}
+use Rattle.words.specs.declared.call.Kind.TheVariants.{Log as log_kind}
+use Rattle.words.specs.declared.limits.TheConstants.{MAX_CLIENTS}
+use Rattle.interleave.specs.State.{State}
+use Rattle.interleave.specs.Verdicts.{IsIdle}
+use Rattle.interleave.proofs.verdicts.Given.{none_above}
+use Rattle.named.specs.Brokers.{world_at}
+use Rattle.named.specs.declared.recovery.BrokerRecovery.{BrokerRecovery}
+use Rattle.named.proofs.Promises.{promises_well}
+use Rattle.session.specs.Promises.{IsKeptRight, KeepsNumbers}
+use Rattle.session.specs.Sessions.{AreVerdictsRight, IsRight, IsSlotRight, Sessioned, is_up, kept_at, kept_in}
+use Rattle.session.proofs.Worlds.{few_there, holds_there}
+
+module _ (s : Sessioned) (right : IsRight s) where
+  -- what is kept for the clients of a log queue, once the broker is ready
+  pub right_at : (slot : ℕ) (w : State) → s.broker.recovery ≡ None → world_at s.broker slot ≡ Some w
+      → w.shape.kind ≡ log_kind → AreVerdictsRight true w (kept_in s.kept slot)
+  right_at slot w up here log = there log
+    where
+      ready : is_up s.broker ≡ true
+      ready = ap (λ (r : Option BrokerRecovery). not (is_some r)) up
+
+      there : IsSlotRight true (Some w) (kept_in s.kept slot)
+      there =
+          subst (λ (o : Option State). IsSlotRight true o (kept_in s.kept slot)) here
+          (subst (λ (u : Bool). IsSlotRight u (world_at s.broker slot) (kept_in s.kept slot)) ready (right.slots slot))
+
+  kept_right : (slot : ℕ) (w : State) (client : Client) → s.broker.recovery ≡ None → world_at s.broker slot ≡ Some w
+      → w.shape.kind ≡ log_kind → client.0 < w.shape.clients → IsIdle w client
+      → IsKeptRight w client (kept_at s slot client)
+  kept_right slot w client up here log lt idle =
+      let r = right_at slot w up here log in
+      let few : client.0 < MAX_CLIENTS = omega (arith, lt, few_there s.broker right.well slot w here) in
+      record {
+        reply = (r.recalled client lt).reply;
+        none_later =
+            none_above w (holds_there s.broker right.well slot w here) log client few (kept_at s slot client) idle
+            (r.last refl client lt);
+      }
+
+  pub numbers_kept : KeepsNumbers s
+  numbers_kept =
+      let promises = promises_well s.broker right.well in
+      record {
+        broker = promises;
+        once = λ slot w here. (promises.explained slot w here).numbers;
+        kept = kept_right;
+      }
+
+-- by the fields that the session is shown by
+pub numbers_shown : (s shown : Sessioned) → IsRight s → s ≡ shown → KeepsNumbers shown
+numbers_shown s shown right same = subst KeepsNumbers same (numbers_kept s right)
