@@ -1,10 +1,10 @@
 //! What is kept of each client in each queue.
 
-ghost use Rattle.std.specs.Prelude.{◌≡◌, ◌≢◌, ◌<◌, ◌⊎◌, ℕ, Ok, Some, None};
+ghost use Rattle.std.specs.Prelude.{◌≡◌, ◌≢◌, ◌<◌, ◌⊎◌, ℕ, Ok, Some, None, slice_index_or};
 ghost use Rattle.interleave.specs.Queue.{told_in, told_to};
 ghost use Rattle.named.specs.Brokers.{answer_at};
 ghost use Rattle.named.specs.Promises.{KeepsPromises};
-ghost use Rattle.session.specs.Keeping.{verdict_heard, AreKeptAsHeard, IsKeptNow};
+ghost use Rattle.session.specs.Keeping.{told_when_asked, verdict_heard, AreKeptAsHeard, IsKeptNow};
 ghost use Rattle.session.specs.Sessions.{kept_in};
 
 use arena::{SLOTS, SlotId};
@@ -38,7 +38,10 @@ fn verdict_of(told: Result<Told, Refusal>) -> Option<Verdict>
 }
 
 /// What each client is told in the queue of a slot.
-fn row_told(broker: &Broker, slot: SlotId) -> [Option<Verdict>; MAX_CLIENTS] {
+fn row_told(broker: &Broker, slot: SlotId) -> [Option<Verdict>; MAX_CLIENTS]
+    ensures { (client : ℕ) → client < MAX_CLIENTS
+        → slice_index_or result client None ≡ told_when_asked broker.now slot.0 client }
+{
     let mut row = [None; MAX_CLIENTS];
     for client in 0..MAX_CLIENTS {
         row[client] = verdict_of(broker.told(slot, Client(client as u8)));
