@@ -1,19 +1,23 @@
-use Rattle.std.proofs.Common.{rules, ◌≡◌, ◌≢◌, ◌<◌, ◌⊎◌, ℕ, Ok, Some, None, slice_index_or, ◌+◌, ◌-◌, ◌*◌, ◌≤◌, length, ◌/◌, ◌%◌, Bool, true, false, nat_eq, nat_lt, List, [], ◌∷◌, ◌++◌, slice_set, bit_and, bit_or, Fits, w8, w32, w64, Bor, MutBor}
-use Rattle.interleave.specs.Queue.{told_in, told_to}
-use Rattle.named.specs.Brokers.{answer_at}
-use Rattle.named.specs.Promises.{KeepsPromises}
-use Rattle.session.specs.Keeping.{told_when_asked, verdict_heard, AreKeptAsHeard, IsKeptNow}
-use Rattle.session.specs.Sessions.{kept_in}
+use Rattle.std.proofs.Common.{rules, ◌≡◌, ◌<◌, ℕ, List, [], Option, None, slice_index_or, length, ◌∙◌, ap, arith, length-set}
+use Rattle.words.specs.declared.told.Verdict.{Verdict}
+use Rattle.std.proofs.lemmas.List.{get_or_past}
+use Rattle.session.proofs.Places.{one_more_place}
+use Rattle.session.proofs.kept.Kept.told.Invariants.{IsRowOf}
 use Rattle.session.proofs.kept.Kept.told.Goals as goal
 
--- src/kept.rt:58:9
 pub loop-slot-init : goal.loop-slot-init
-loop-slot-init c = ?
+loop-slot-init c = search rules
 
--- src/kept.rt:58:9
 pub loop-slot-preserved : goal.loop-slot-preserved
-loop-slot-preserved c = ?
+loop-slot-preserved c = record {
+  len = length-set c.loop-slot.rows c.loop-slot.slot c.row_told.result ∙ c.loop-slot.invariant.len;
+  so_far = one_more_place (IsRowOf c.args.broker.now) c.loop-slot.rows c.loop-slot.slot c.row_told.result []
+      (omega (arith, c.loop-slot-test.true, c.loop-slot.invariant.len)) c.loop-slot.invariant.so_far c.row_told.ensures;
+}
 
--- src/kept.rt:54:5
 pub returns : goal.returns
-returns c = ?
+returns c = record {
+  each = λ slot client less few. c.loop-slot.invariant.so_far slot (omega (arith, c.loop-slot-test.false, less)) client few;
+  none = λ slot client past. ap (λ (row : List (Option Verdict)). slice_index_or row client None)
+      (get_or_past c.loop-slot.rows slot [] (omega (arith, c.loop-slot.invariant.len, past)));
+}
