@@ -15,5 +15,5 @@ loop-client-preserved c = record {
       c.loop-client.invariant.so_far (c.verdict_of.ensures ∙ ap verdict_heard c.told.ensures);
 }
 
-pub returns : goal.returns
-returns c client few = c.loop-client.invariant.so_far client (omega arith)
+pub returns-clause-told : goal.returns-clause-told
+returns-clause-told c client few = c.loop-client.invariant.so_far client (omega arith)

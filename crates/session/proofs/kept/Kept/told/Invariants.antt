@@ -6,8 +6,9 @@ use Rattle.session.specs.Keeping.{told_when_asked}
 use Rattle.session.proofs.kept.Kept.told.Given as goal
 
 -- a row has what each client is told in its slot
-abbrev pub IsRowOf : Brokered → ℕ → List (Option Verdict) → Type 0
-IsRowOf b slot row = (client : ℕ) → client < MAX_CLIENTS → slice_index_or row client None ≡ told_when_asked b slot client
+pub record IsRowOf (b : Brokered) (slot : ℕ) (row : List (Option Verdict)) : Type 0 where
+  pub len : length row ≡ MAX_CLIENTS
+  pub told : (client : ℕ) → client < MAX_CLIENTS → slice_index_or row client None ≡ told_when_asked b slot client
 
 pub record AreToldSoFar (l : goal.Live-loop-slot) : Type 0 where
   pub len : length l.rows ≡ 8
