@@ -1,3 +1,4 @@
 pub mod Worlds
 pub mod SlotLaws
 pub mod Promised
+pub mod Places

@@ -1,10 +1,10 @@
 //! What is kept of each client in each queue.
 
-ghost use Rattle.std.specs.Prelude.{◌≡◌, ◌≢◌, ◌<◌, ◌⊎◌, ℕ, Ok, Some, None};
+ghost use Rattle.std.specs.Prelude.{◌≡◌, ◌≢◌, ◌<◌, ◌⊎◌, ℕ, Ok, Some, None, length, slice_index_or};
 ghost use Rattle.interleave.specs.Queue.{told_in, told_to};
 ghost use Rattle.named.specs.Brokers.{answer_at};
 ghost use Rattle.named.specs.Promises.{KeepsPromises};
-ghost use Rattle.session.specs.Keeping.{verdict_heard, AreKeptAsHeard, IsKeptNow};
+ghost use Rattle.session.specs.Keeping.{told_when_asked, verdict_heard, AreKeptAsHeard, IsKeptNow};
 ghost use Rattle.session.specs.Sessions.{kept_in};
 
 use arena::{SLOTS, SlotId};
@@ -19,12 +19,16 @@ pub(crate) struct Kept {
 }
 
 impl Model for Kept {
-    ghost use Rattle.std.specs.Prelude.{List, Option};
+    ghost use Rattle.std.specs.Prelude.{◌≡◌, ◌<◌, ℕ, length, slice_index_or, List, [], Option};
+    ghost use Rattle.words.specs.declared.limits.TheConstants.{MAX_CLIENTS};
     ghost use Rattle.words.specs.declared.told.Verdict.{Verdict};
+    ghost use Rattle.arena.specs.declared.broker.TheConstants.{SLOTS};
 
     ghost Value = { List (List (Option Verdict)) };
 
     ghost view = { λ k. k.rows };
+
+    ghost invariant = { λ k. (slot : ℕ) → slot < SLOTS → length (slice_index_or k.rows slot []) ≡ MAX_CLIENTS };
 }
 
 /// The verdict, if that is what a client was told.
@@ -38,7 +42,11 @@ fn verdict_of(told: Result<Told, Refusal>) -> Option<Verdict>
 }
 
 /// What each client is told in the queue of a slot.
-fn row_told(broker: &Broker, slot: SlotId) -> [Option<Verdict>; MAX_CLIENTS] {
+fn row_told(broker: &Broker, slot: SlotId) -> [Option<Verdict>; MAX_CLIENTS]
+    ensures told { (client : ℕ) → client < MAX_CLIENTS
+        → slice_index_or result client None ≡ told_when_asked broker.now slot.0 client }
+    ensures len { length result ≡ MAX_CLIENTS }
+{
     let mut row = [None; MAX_CLIENTS];
     for client in 0..MAX_CLIENTS {
         row[client] = verdict_of(broker.told(slot, Client(client as u8)));

@@ -1,0 +1,24 @@
+use Rattle.std.proofs.Common.{rules, ◌≡◌, ◌<◌, ℕ, List, [], Option, None, slice_index_or, length, ◌∙◌, ap, arith, length-set}
+use Rattle.words.specs.declared.told.Verdict.{Verdict}
+use Rattle.std.proofs.lemmas.List.{get_or_past}
+use Rattle.session.proofs.Places.{one_more_place}
+use Rattle.session.proofs.kept.Kept.told.Invariants.{IsRowOf}
+use Rattle.session.proofs.kept.Kept.told.Goals as goal
+
+pub loop-slot-init : goal.loop-slot-init
+loop-slot-init c = search rules
+
+pub loop-slot-preserved : goal.loop-slot-preserved
+loop-slot-preserved c = record {
+  len = length-set c.loop-slot.rows c.loop-slot.slot c.row_told.result ∙ c.loop-slot.invariant.len;
+  so_far = one_more_place (IsRowOf c.args.broker.now) c.loop-slot.rows c.loop-slot.slot c.row_told.result []
+      (omega (arith, c.loop-slot-test.true, c.loop-slot.invariant.len)) c.loop-slot.invariant.so_far
+      (record { len = c.row_told.ensures.len; told = c.row_told.ensures.told });
+}
+
+pub returns : goal.returns
+returns c = record {
+  each = λ slot client less few. (c.loop-slot.invariant.so_far slot (omega (arith, c.loop-slot-test.false, less))).told client few;
+  none = λ slot client past. ap (λ (row : List (Option Verdict)). slice_index_or row client None)
+      (get_or_past c.loop-slot.rows slot [] (omega (arith, c.loop-slot.invariant.len, past)));
+}

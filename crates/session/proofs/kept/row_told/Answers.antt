@@ -1,0 +1,19 @@
+use Rattle.std.proofs.Common.{rules, ◌≡◌, ◌<◌, ℕ, Option, None, slice_index_or, slice_set, length, ◌∙◌, ap, arith, length-set}
+use Rattle.words.specs.declared.told.Verdict.{Verdict}
+use Rattle.session.specs.Keeping.{told_when_asked, verdict_heard}
+use Rattle.session.proofs.Places.{one_more_place}
+use Rattle.session.proofs.kept.row_told.Goals as goal
+
+pub loop-client-init : goal.loop-client-init
+loop-client-init c = search rules
+
+pub loop-client-preserved : goal.loop-client-preserved
+loop-client-preserved c = record {
+  len = length-set c.loop-client.row c.loop-client.client c.verdict_of.result ∙ c.loop-client.invariant.len;
+  so_far = one_more_place (λ k (last : Option Verdict). last ≡ told_when_asked c.args.broker.now c.args.slot.0 k)
+      c.loop-client.row c.loop-client.client c.verdict_of.result None (omega (arith, c.loop-client-test.true, c.loop-client.invariant.len))
+      c.loop-client.invariant.so_far (c.verdict_of.ensures ∙ ap verdict_heard c.told.ensures);
+}
+
+pub returns-clause-told : goal.returns-clause-told
+returns-clause-told c client few = c.loop-client.invariant.so_far client (omega arith)
