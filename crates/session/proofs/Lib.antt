@@ -5,3 +5,5 @@ pub mod Acting
 pub mod Serving
 pub mod Places
 pub mod Promised
+pub mod Promised
+pub mod Places
