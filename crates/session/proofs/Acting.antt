@@ -14,16 +14,21 @@ use Rattle.protocol.specs.declared.UnderWay.{UnderWay}
 use Rattle.interleave.specs.Calls.{is_no_memory, waiting_result}
 use Rattle.interleave.specs.Holds.{Holds}
 use Rattle.interleave.specs.State.{State, after_start, after_step, is_down as is_world_down, step_result, step_result_with}
-use Rattle.interleave.specs.Verdicts.{number_of_call, number_under_way, taken_as, IsLast, IsRecalled}
+use Rattle.interleave.specs.Verdicts.{number_of_call, number_under_way, taken_as, IsLast, IsRecalled, IsReplyOf}
 use Rattle.interleave.proofs.HoldsKept.{holds_after_start, waiting_is}
 use Rattle.named.specs.Brokers.{Brokered, IsWell, admission, answer_at, answer_if, is_down, quiet, world_after, world_at}
 use Rattle.named.specs.Slots.{acted, answered as answer_in}
 use Rattle.named.proofs.Stays.{step_alike}
 use Rattle.arena.specs.Shape.{Shape}
 use Rattle.named.specs.declared.recovery.BrokerRecovery.{BrokerRecovery}
-use Rattle.session.specs.Keeping.{IsKeptNow}
+use Rattle.session.specs.Keeping.{IsAnswered, IsKeptNow, SessionGoesOn}
+use Rattle.session.specs.Promises.{IsReplyIfNumbered}
+use Rattle.session.proofs.Going.{answered_below, answers_go_on, clients_go_on, shape_by_client}
+use Rattle.named.proofs.Kept.{some_is}
+use Rattle.interleave.proofs.verdicts.Last.{answered}
+use Rattle.named.specs.Slots.{IfWorld}
 use Rattle.session.specs.Requests.{AreOthersAlike, IsAdvanced, IsRun, IsServed, IsStarted, IsUnserved, call_number, last_after, numbered}
-use Rattle.session.specs.Sessions.{AreVerdictsRight, IsRight, IsSlotRight, Sessioned, is_up, kept_in}
+use Rattle.session.specs.Sessions.{AreVerdictsRight, IsLogClient, IsRight, IsSlotRight, Sessioned, is_up, kept_in}
 use Rattle.session.proofs.Calling.{IsAnsweredAt, IsKeptNew, admitted_up, answered_at, right_answered, right_by_client, right_if_durable, right_served, right_started, right_stepped, up_is}
 use Rattle.session.proofs.SlotLaws.{right_if_quiet}
 use Rattle.session.proofs.Worlds.{few_there, holds_there, none_some, up_there}
@@ -196,3 +201,81 @@ module _ (old new : Brokered) (slot : ℕ) (client : Client) (was is : List (Lis
           right_answered false w client n.0 reply holds (holds_there new well slot (after_step false w client) now)
           (up_there old right.well slot w at.here at.up) e (omega (arith, n.2, holds.safe.clients, holds.safe.few)) at.says
           n.1 (kept_in was slot) (kept_in is slot) (kept_new old new slot was is client _ last) was_right
+
+  -- the reply is that of the call's number
+  pub advanced_reply : (reply : Reply) → IsRight before → IsAdvanced old new slot client (Ok (Some reply))
+      → IsReplyIfNumbered (record { broker = new; kept = is }) slot client (call_number (world_at old slot) client) reply
+  advanced_reply reply right made =
+      subst (λ (o : Option State). IsReplyIfNumbered after slot client (call_number o client) reply) (sym at.here)
+      (by_kind w.shape.kind refl)
+    where
+      after : Sessioned
+      after = record { broker = new; kept = is }
+
+      at : IsAnsweredAt (λ w. step_result false w client) old slot client (Some reply)
+      at = answered_at (λ w. step_result false w client) old slot client (Some reply) (sym made.result_is)
+
+      w : State
+      w = at.world
+
+      now : world_at new slot ≡ Some (after_step false w client)
+      now = made.world ∙ world_here (λ v. after_step false v client) old slot client w at.admitted at.here
+
+      n : (n : ℕ) × (number_under_way w client ≡ Some n) × (client.0 < length w.calls)
+      n = step_numbered false w client reply at.says
+
+      by_kind : (kind : Kind) → w.shape.kind ≡ kind
+          → IsReplyIfNumbered after slot client (numbered w.shape.kind (number_under_way w client)) reply
+      by_kind durable_kind e =
+          subst (λ (k : Kind). IsReplyIfNumbered after slot client (numbered k (number_under_way w client)) reply) (sym e) tt
+      by_kind log_kind e =
+          let holds : Holds w = holds_there old right.well slot w at.here in
+          let is_number : numbered w.shape.kind (number_under_way w client) ≡ Some n.0 =
+          ap (λ (k : Kind). numbered k (number_under_way w client)) e ∙ n.1 in
+          subst (λ (x : Option ℕ). IsReplyIfNumbered after slot client x reply) (sym is_number)
+          (subst (λ (o : Option State). IfWorld o (λ v. IsReplyOf v client n.0 reply)) (sym now)
+          (answered false w holds e client (omega (arith, n.2, holds.safe.clients, holds.safe.few)) n.0 reply at.says n.1).reply_of)
+
+  -- what was answered stays so
+  pub advanced_on : (result : Result (Option Reply) Refusal) → IsRight before → IsAdvanced old new slot client result
+      → IsKeptNow was is slot client.0
+      (last_after (call_number (world_at old slot) client) result (kept_in was slot client.0))
+      → SessionGoesOn before (record { broker = new; kept = is })
+  advanced_on result right made kept = record {
+    clients = clients_go_on old new slot made.others
+        (shape_by_client (λ v. after_step (is_no_memory result) v client)
+        (λ v. (step_alike (is_no_memory result) v client).0) old new slot client made.world);
+    answers = answers_go_on old new was is slot client kept.others (λ number reply its answers.
+        subst (λ (v : Option Verdict). IsAnswered v number reply) (sym kept.here) (stays result made number reply its answers));
+  }
+    where
+      stays : (r : Result (Option Reply) Refusal) → IsAdvanced old new slot client r → (k : ℕ) (own : Reply)
+          → IsLogClient old slot client → IsAnswered (kept_in was slot client.0) k own
+          → IsAnswered (last_after (call_number (world_at old slot) client) r (kept_in was slot client.0)) k own
+      stays (Err refusal) made k own its answers =
+          subst (λ (v : Option Verdict). IsAnswered v k own)
+          (sym (last_same (call_number (world_at old slot) client) (Err refusal) (kept_in was slot client.0) (λ reply e. absurd (cc (e)))))
+          answers
+      stays (Ok None) made k own its answers =
+          subst (λ (v : Option Verdict). IsAnswered v k own)
+          (sym (last_same (call_number (world_at old slot) client) (Ok None) (kept_in was slot client.0) (λ reply e. absurd (cc (e)))))
+          answers
+      stays (Ok (Some reply)) made k own its answers =
+          let at : IsAnsweredAt (λ w. step_result false w client) old slot client (Some reply) =
+          answered_at (λ w. step_result false w client) old slot client (Some reply) (sym made.result_is) in
+          let same : its.world ≡ at.world = some_is (world_at old slot) its.world at.world its.here at.here in
+          let log : at.world.shape.kind ≡ log_kind = ap (λ (v : State). v.shape.kind) (sym same) ∙ its.log in
+          let holds : Holds at.world = holds_there old right.well slot at.world at.here in
+          let n = step_numbered false at.world client reply at.says in
+          let given = answered false at.world holds log client (omega (arith, n.2, holds.safe.clients, holds.safe.few)) n.0 reply at.says n.1 in
+          let rights : IsSlotRight true (Some at.world) (kept_in was slot) =
+          subst (λ (b : Bool). IsSlotRight b (Some at.world) (kept_in was slot)) (up_is old at.up)
+          (subst (λ (o : Option State). IsSlotRight (is_up old) o (kept_in was slot)) at.here (right.slots slot)) in
+          let last : IsLast at.world client (kept_in was slot client.0) =
+          (rights log).last refl client (subst (λ (v : State). client.0 < v.shape.clients) same its.few) in
+          let low = answered_below (kept_in was slot client.0) n.0 k own (omega (arith, given.above, last.floor)) answers in
+          let has : call_number (world_at old slot) client ≡ Some n.0 =
+          ap (λ (o : Option State). call_number o client) at.here
+          ∙ ap (λ (k : Kind). numbered k (number_under_way at.world client)) log ∙ n.1 in
+          subst (λ (x : Option ℕ). IsAnswered (last_after x (Ok (Some reply)) (kept_in was slot client.0)) k own) (sym has)
+          (inr low)

@@ -1,9 +1,8 @@
-pub mod Worlds
-pub mod SlotLaws
-pub mod Calling
 pub mod Acting
+pub mod Calling
+pub mod Going
+pub mod Places
+pub mod Promised
 pub mod Serving
-pub mod Places
-pub mod Promised
-pub mod Promised
-pub mod Places
+pub mod SlotLaws
+pub mod Worlds

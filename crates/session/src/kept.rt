@@ -5,12 +5,13 @@ ghost use Rattle.interleave.specs.Queue.{told_in, told_to};
 ghost use Rattle.named.specs.Brokers.{answer_at};
 ghost use Rattle.named.specs.Promises.{KeepsPromises};
 ghost use Rattle.session.specs.Keeping.{told_when_asked, verdict_heard, AreKeptAsHeard, IsKeptNow};
+ghost use Rattle.session.specs.Requests.{last_after};
 ghost use Rattle.session.specs.Sessions.{kept_in};
 
 use arena::{SLOTS, SlotId};
 use named::Broker;
 use std::marker::Model;
-use words::{Client, MAX_CLIENTS, Refusal, Told, Verdict};
+use words::{Client, MAX_CLIENTS, Outcome, Refusal, Reply, Told, Verdict};
 
 /// The last verdict of each client in each slot. The places are fixed, so that no request takes memory for them.
 #[derive(Drop)]
@@ -80,11 +81,30 @@ impl Kept {
     }
 
     /// Keeps a client's last verdict in a slot.
-    pub(crate) fn keep(&mut self, slot: SlotId, client: Client, verdict: Verdict)
+    fn keep(&mut self, slot: SlotId, client: Client, verdict: Verdict)
         requires slot { slot.0 < SLOTS }
         requires client { client.0 < MAX_CLIENTS }
         ensures { IsKeptNow self.old self.new slot.0 client.0 (Some verdict) }
     {
         self.rows[slot.0 as usize][client.0 as usize] = Some(verdict);
+    }
+
+    /// What a client's call answered, if it did: with a number it is the client's last verdict.
+    pub(crate) fn hear(
+        &mut self,
+        slot: SlotId,
+        client: Client,
+        number: Option<u64>,
+        answer: Option<Reply>,
+    )
+        requires slot { slot.0 < SLOTS }
+        requires client { client.0 < MAX_CLIENTS }
+        ensures { IsKeptNow self.old self.new slot.0 client.0
+            (last_after number (Ok answer) (kept_in self.old slot.0 client.0)) }
+    {
+        if let (Some(number), Some(reply)) = (number, answer) {
+            let outcome = Outcome::Taken(reply);
+            self.keep(slot, client, Verdict { number, outcome });
+        }
     }
 }

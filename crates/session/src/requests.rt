@@ -12,7 +12,7 @@ use crate::numbers::answer;
 use crate::running::run;
 use crate::session::Session;
 use arena::SlotId;
-use words::{Call, Client, Kind, Outcome, Refusal, Reply, Verdict};
+use words::{Call, Client, Kind, Refusal, Reply};
 
 impl Session {
     /// Refuses what is no request to a queue of this kind, whatever its number.
@@ -77,14 +77,7 @@ impl Session {
             return Ok(reply);
         }
         let reply = run(&mut self.broker, client, queue, number, call)?;
-        self.kept.keep(
-            queue,
-            client,
-            Verdict {
-                number,
-                outcome: Outcome::Taken(reply),
-            },
-        );
+        self.kept.hear(queue, client, Some(number), Some(reply));
         Ok(reply)
     }
 
@@ -159,16 +152,7 @@ impl Session {
     {
         let number = self.calling(client, queue)?;
         let answer = self.broker.step(queue, client)?;
-        if let (Some(number), Some(reply)) = (number, answer) {
-            self.kept.keep(
-                queue,
-                client,
-                Verdict {
-                    number,
-                    outcome: Outcome::Taken(reply),
-                },
-            );
-        }
+        self.kept.hear(queue, client, number, answer);
         Ok(answer)
     }
 }
