@@ -279,3 +279,31 @@ module _ (old new : Brokered) (slot : ℕ) (client : Client) (was is : List (Lis
           ∙ ap (λ (k : Kind). numbered k (number_under_way at.world client)) log ∙ n.1 in
           subst (λ (x : Option ℕ). IsAnswered (last_after x (Ok (Some reply)) (kept_in was slot client.0)) k own) (sym has)
           (inr low)
+
+-- the number of the client's call, when asked
+pub number_heard : (b : Brokered) (slot : ℕ) (client : Client) (n : Option ℕ) (asked : Result (Option ℕ) Refusal)
+    → asked ≡ Ok n → asked ≡ answer_at (λ w. let r : Result (Option ℕ) Refusal = Ok (call_number (Some w) client) in r) b slot client
+    → n ≡ call_number (world_at b slot) client
+number_heard b slot client n asked is answers =
+    let at = answered_at (λ w. let r : Result (Option ℕ) Refusal = Ok (call_number (Some w) client) in r) b slot client n (sym answers ∙ is) in
+    let says : call_number (Some at.world) client ≡ n = cc (at.says) in
+    sym says ∙ ap (λ (o : Option State). call_number o client) (sym at.here)
+
+-- what is kept of it, where it was asked for before the step
+pub kept_heard : (was is : List (List (Option Verdict))) (slot client : ℕ) (asked number : Option ℕ)
+    (result : Result (Option Reply) Refusal) (answer : Option Reply) → asked ≡ number → result ≡ Ok answer
+    → IsKeptNow was is slot client (last_after asked (Ok answer) (kept_in was slot client))
+    → IsKeptNow was is slot client (last_after number result (kept_in was slot client))
+kept_heard was is slot client asked number result answer same answers kept =
+    subst (λ (r : Result (Option Reply) Refusal). IsKeptNow was is slot client (last_after number r (kept_in was slot client)))
+    (sym answers)
+    (subst (λ (n : Option ℕ). IsKeptNow was is slot client (last_after n (Ok answer) (kept_in was slot client))) same kept)
+
+-- where the step is refused nothing is
+pub kept_refused : (was : List (List (Option Verdict))) (slot client : ℕ) (number : Option ℕ)
+    (result : Result (Option Reply) Refusal) (refusal : Refusal) → result ≡ Err refusal
+    → IsKeptNow was was slot client (last_after number result (kept_in was slot client))
+kept_refused was slot client number result refusal is =
+    subst (IsKeptNow was was slot client)
+    (sym (last_same number result (kept_in was slot client) (λ reply e. absurd (cc (is, e)))))
+    (record { here = refl; others = λ at other apart. refl })
