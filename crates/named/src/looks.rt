@@ -105,6 +105,7 @@ impl Broker {
         ensures worlds { (at : ℕ) → world_at self.new at ≡ world_at self.old at }
         ensures room { OnOk result (acts ≤ room_at self.new slot.0) }
         ensures kept { (at : ℕ) → room_at self.old at ≤ room_at self.new at }
+        ensures other_rooms { (other : ℕ) → other ≢ slot.0 → room_at self.new other ≡ room_at self.old other }
         ensures full { result ≡ Err Refusal.NoMemory → room_at self.old slot.0 < acts }
         ensures open { OnOk result (IsSome (world_at self.old slot.0)) }
         ensures errors { IfErr result (IsWhyUnread (world_at self.old slot.0)) }

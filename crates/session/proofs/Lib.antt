@@ -3,6 +3,8 @@ pub mod Calling
 pub mod Going
 pub mod Places
 pub mod Promised
+pub mod Opens
+pub mod Runs
 pub mod Serving
 pub mod SlotLaws
 pub mod Worlds

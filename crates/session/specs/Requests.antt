@@ -12,7 +12,7 @@ use Rattle.words.specs.declared.told.Verdict.{Verdict}
 use Rattle.interleave.specs.Calls.{is_no_memory}
 use Rattle.interleave.specs.State.{State, IsAnsweredAlone, after_alone, after_start, after_step, start_result, step_result}
 use Rattle.interleave.specs.Verdicts.{number_under_way, taken_as}
-use Rattle.named.specs.Brokers.{Brokered, answer_at, answer_if, quiet, room_at, world_after, world_at}
+use Rattle.named.specs.Brokers.{Brokered, admission, answer_at, answer_if, quiet, room_at, world_after, world_at}
 use Rattle.session.specs.Numbers.{by_number}
 use Rattle.session.specs.Sessions.{Sessioned, kept_at}
 
@@ -81,6 +81,12 @@ IsBegunBy old new slot client number call result (Err refusal) = (result ≡ Err
 IsBegunBy old new slot client number call result (Ok (Some reply)) = (result ≡ Ok (Some reply)) × (new ≡ old)
 IsBegunBy old new slot client number call result (Ok None) =
     IsStarted old.broker new.broker slot client number call result × (new.kept ≡ old.kept)
+
+-- the slot is open, and no act of the client's is refused before its queue is looked at
+pub record IsOpenTo (b : Brokered) (slot : ℕ) (client : Client) : Type 0 where
+  pub world : State
+  pub here : world_at b slot ≡ Some world
+  pub admitted : admission b client ≡ Ok tt
 
 -- the client's call was started, and went on alone until it answered
 pub record IsServed (old new : Brokered) (slot : ℕ) (client : Client) (number : ℕ) (call : Call) (reply : Reply)

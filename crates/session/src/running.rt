@@ -1,8 +1,8 @@
 //! A call that is started and runs to its end.
 
-ghost use Rattle.std.specs.Prelude.{◌≡◌};
+ghost use Rattle.named.specs.Brokers.{IsWell};
 ghost use Rattle.named.specs.Promises.{KeepsPromises};
-ghost use Rattle.session.specs.Requests.{IsRun};
+ghost use Rattle.session.specs.Requests.{IsOpenTo, IsRun};
 
 use arena::SlotId;
 use named::Broker;
@@ -12,7 +12,7 @@ use words::{Call, Client, Refusal, Reply};
 const ACTS_OF_A_CALL: usize = 2;
 
 /// A client's call is started and goes on alone until it answers. Room is made first for all of it: a call that stopped
-/// half way for want of memory would leave its client in doubt.
+/// half way for want of memory would leave its client in doubt. The client was admitted, and the slot is open.
 pub(crate) fn run(
     broker: &mut Broker,
     client: Client,
@@ -20,6 +20,8 @@ pub(crate) fn run(
     number: u64,
     call: Call,
 ) -> Result<Reply, Refusal>
+    requires well { IsWell broker.old }
+    requires open { IsOpenTo broker.old queue.0 client }
     ensures run { IsRun broker.old broker.new queue.0 client number call result }
     ensures promises { KeepsPromises broker.new }
 {

@@ -4,7 +4,7 @@ use Rattle.std.proofs.lemmas.Option.{slice_get_read}
 use Rattle.interleave.specs.State.{State}
 use Rattle.named.specs.Slots.{IsWhyUnread, world_in}
 use Rattle.named.specs.Brokers.{Brokered, room_at, room_of, world_at, world_of}
-use Rattle.named.proofs.Kept.{slot_is_well, still_well}
+use Rattle.named.proofs.Kept.{get_set_other, slot_is_well, still_well}
 use Rattle.named.proofs.Reserved.{few, room_here, rooms_kept, same_outside, slot_reserved, worlds_same}
 use Rattle.named.proofs.Promises.{promises_kept, promises_well}
 use Rattle.named.proofs.broker.Broker.reserve.Goals as goal
@@ -44,6 +44,11 @@ returns-clause-kept c = λ at.
     let b : Brokered = record { counts = c.self.inside.layout; words = c.self.inside.memory; slots = c.self.inside.slots.items; directory = c.self.inside.directory; creation = c.self.inside.creation; recovery = c.self.inside.recovery } in
     subst (λ n. n ≤ room_of (slice_get (slice_set c.self.inside.slots.items c.args.slot.0 c.reserve.new.self) at)) (ap (λ (x : Brokered). room_at x at) c.self.view_is)
     (rooms_kept b c.args.slot.0 c.index_mut.result.now c.reserve.new.self here c.reserve.ensures.kept at)
+
+pub returns-clause-other_rooms : goal.returns-clause-other_rooms
+returns-clause-other_rooms c = λ other ne.
+    ap room_of (get_set_other c.self.inside.slots.items c.args.slot.0 c.reserve.new.self other ne)
+    ∙ ap (λ (x : Brokered). room_at x other) c.self.view_is
 
 pub returns-clause-open : goal.returns-clause-open
 returns-clause-open c =
