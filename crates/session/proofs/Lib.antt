@@ -1,4 +1,5 @@
 pub mod Worlds
 pub mod SlotLaws
 pub mod Promised
+pub mod Downs
 pub mod Places
