@@ -2,4 +2,5 @@ pub mod Worlds
 pub mod SlotLaws
 pub mod Promised
 pub mod Downs
+pub mod Heard
 pub mod Places
