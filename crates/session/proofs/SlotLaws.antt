@@ -113,16 +113,22 @@ right_as_told w holds up rests kept as_told = λ log. record {
     last log client lt =
         subst (λ (v : Option Verdict). IsLast w client v) (sym (as_told client lt)) ((rests log).last client (few client lt))
 
--- a queue that recovers, and of whose clients nothing is kept
-pub right_if_none : (w : State) (r : Recovery) → Holds w → w.recovery ≡ Some r → (kept : ℕ → Option Verdict)
-    → ((client : ℕ) → kept client ≡ None) → IsSlotRight false (Some w) kept
-right_if_none w r holds down kept none = λ log. record {
+-- a queue of whose clients nothing is kept, while the broker recovers
+pub right_if_untold : (w : State) → Holds w → (kept : ℕ → Option Verdict) → ((client : ℕ) → kept client ≡ None)
+    → (w.shape.kind ≡ log_kind → w.recovery ≡ None → IsRested w) → IsSlotRight false (Some w) kept
+right_if_untold w holds kept none rests = λ log. record {
   recalled = λ client lt.
       subst (λ (v : Option Verdict). IsRecalled w client v) (sym (none client.0))
       (recalled_none w holds log client (omega (arith, lt, holds.safe.few)));
   last = λ up. absurd (cc (up));
-  rested = λ is_down up. absurd (none_some (sym up ∙ down));
+  rested = λ down. rests log;
 }
+
+-- a queue that recovers, and of whose clients nothing is kept
+pub right_if_none : (w : State) (r : Recovery) → Holds w → w.recovery ≡ Some r → (kept : ℕ → Option Verdict)
+    → ((client : ℕ) → kept client ≡ None) → IsSlotRight false (Some w) kept
+right_if_none w r holds down kept none =
+    right_if_untold w holds kept none (λ log up. absurd (none_some (sym up ∙ down)))
 
 -- a new queue, of whose clients nothing is kept
 pub right_if_new : (s : Shape) (ws : Words) → Holds (world_over s ws) → (kept : ℕ → Option Verdict)

@@ -1,0 +1,14 @@
+use Rattle.std.proofs.Common.{ap}
+use Rattle.named.specs.Brokers.{Brokered}
+use Rattle.session.proofs.Downs.{right_evicted}
+use Rattle.session.proofs.Promised.{numbers_kept}
+use Rattle.session.proofs.session.Session.evict.Goals as goal
+
+pub invariant_of-self : goal.invariant_of-self
+invariant_of-self c =
+    right_evicted (record { broker = c.self.inside.broker; kept = c.self.inside.kept }) c.evict.new.self c.args.word
+    c.self.invariant c.evict.ensures.promises.well (ap (λ (b : Brokered). b.recovery) c.evict.ensures.same)
+    c.evict.ensures.worlds
+
+pub returns-clause-promises : goal.returns-clause-promises
+returns-clause-promises c = numbers_kept _ (invariant_of-self c)
