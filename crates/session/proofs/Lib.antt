@@ -1,14 +1,11 @@
 pub mod Acting
 pub mod Calling
-pub mod Going
-pub mod Worlds
-pub mod SlotLaws
-pub mod Promised
 pub mod Downs
+pub mod Going
 pub mod Heard
+pub mod Opens
 pub mod Places
 pub mod Promised
-pub mod Opens
 pub mod Runs
 pub mod Serving
 pub mod SlotLaws
