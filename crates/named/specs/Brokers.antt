@@ -212,6 +212,8 @@ words_created b creation = after_one b.counts (access_of creation) b.words
 
 -- its last step opens the slot: a new world, on words that are all 0
 pub record IsOpened (old new : Brokered) (creation : Creation) (slot : SlotId) : Type 0 where
+  pub counts : new.counts ≡ old.counts
+  pub recovery : new.recovery ≡ old.recovery
   pub words : new.words ≡ words_created old creation
   pub ended : new.creation ≡ None
   pub directory : new.directory ≡ slice_set old.directory slot.0 (Some creation.queue)

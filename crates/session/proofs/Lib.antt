@@ -6,6 +6,7 @@ pub mod Heard
 pub mod Opens
 pub mod Places
 pub mod Promised
+pub mod Queueing
 pub mod Runs
 pub mod Serving
 pub mod SlotLaws

@@ -73,6 +73,8 @@ returns-in-Done-clause-step c = λ _.
     let at = c.open-opened.ensures.at (words_created b k) (omega (arith, room.cached)) (unused b k c.self.invariant ready is c.in-Done.slot went) in
     let new : Brokered = record { counts = c.self.inside.layout; words = c.step-after.new.memory; slots = slice_set c.self.inside.slots.items c.in-Done.slot.0 c.open-opened.result; directory = c.open.new.self; creation = None; recovery = c.self.inside.recovery } in
     let opened : IsOpened c.args.self.now new k c.in-Done.slot = record {
+      counts = ap (λ (x : Brokered). x.counts) c.self.view_is;
+      recovery = ap (λ (x : Brokered). x.recovery) c.self.view_is;
       words = c.step-after.ensures.one_access ∙ ap (λ (x : Brokered). words_created x k) c.self.view_is;
       ended = refl;
       directory = c.open.ensures.opened ∙ ap (λ (x : Brokered). slice_set x.directory c.in-Done.slot.0 (Some k.queue)) c.self.view_is;
