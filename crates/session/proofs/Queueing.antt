@@ -31,7 +31,9 @@ use Rattle.named.specs.declared.slot.Slot.TheVariants.{Closed, Durable, Log}
 use Rattle.named.proofs.Opened.{closed_where_free, is_free}
 use Rattle.named.proofs.Rotated.{all_quiet, may_rotate}
 use Rattle.session.specs.Sessions.{IsRight, IsSlotRight, Sessioned, is_up, kept_in}
+use Rattle.session.specs.Keeping.{SessionGoesOn}
 use Rattle.session.proofs.Calling.{up_is}
+use Rattle.session.proofs.Going.{client_goes_on, shape_if_quiet}
 use Rattle.session.proofs.SlotLaws.{right_if_new, right_if_quiet, right_rotated}
 use Rattle.session.proofs.Worlds.{holds_there, none_some}
 
@@ -197,3 +199,41 @@ module _ (old new : Brokered) (kept : List (List (Option Verdict))) (right : IsR
       each at (Some w) e =
           right_rotated false w (holds_there old right.well at w e) (at_rest at w e) (kept_in kept at)
           (subst (λ (o : Option State). IsSlotRight true o (kept_in kept at)) e (was at))
+
+  -- numbers that were answered stay so: no queue is taken away
+  pub creation_on : (result : Result (Option SlotId) Refusal) → (is_down old ≡ true → result ≡ Err NotReady)
+      → (old.recovery ≡ None → old.creation ≡ None → result ≡ Err Idle) → OnErr result (new ≡ old)
+      → (old.recovery ≡ None → IfSome old.creation (λ creation. IsStepCreated old new creation result (successor creation)))
+      → ((other : ℕ) → IfOk result (λ opened. IfSome opened (λ slot. other ≢ slot.0))
+      → quiet (world_at new other) ≡ quiet (world_at old other)) → SessionGoesOn before after
+  creation_on (Err refusal) down idle same step others =
+      subst (λ (b : Brokered). SessionGoesOn before (record { broker = b; kept = kept })) (sym same)
+      (record { clients = λ at client is. is; answers = λ at client number reply is answered. answered })
+  creation_on (Ok opened) down idle same step others = record {
+    clients = λ at client is.
+        client_goes_on old new at client is
+        (λ w there. shape_if_quiet w (world_at new at) (others at (apart at w there) ∙ ap quiet there));
+    answers = λ at client number reply is answered. answered;
+  }
+    where
+      stepped : old.recovery ≡ None → (creation : Creation) → old.creation ≡ Some creation → (a : After Creation SlotId)
+          → successor creation ≡ a → IsStepCreated old new creation (Ok opened) a → (at : ℕ) (w : State)
+          → world_at old at ≡ Some w → IfSome opened (λ slot. at ≢ slot.0)
+      stepped up creation there (More next) e (answer, is) at w here =
+          let none : opened ≡ None = cc (answer) in subst (λ (o : Option SlotId). IfSome o (λ slot. at ≢ slot.0)) (sym none) tt
+      stepped up creation there (Done slot) e (answer, is) at w here =
+          let this : opened ≡ Some slot = cc (answer) in
+          subst (λ (o : Option SlotId). IfSome o (λ slot. at ≢ slot.0)) (sym this)
+          (λ same. none_some
+          (sym (none_where_free slot.0 (is_free old creation right.well up there slot e)) ∙ ap (world_at old) (sym same) ∙ here))
+
+      go : (recovery : Option BrokerRecovery) → old.recovery ≡ recovery → (creation : Option Creation)
+          → old.creation ≡ creation → (at : ℕ) (w : State) → world_at old at ≡ Some w → IfSome opened (λ slot. at ≢ slot.0)
+      go (Some r) e creation c = absurd (cc (down (ap (λ (o : Option BrokerRecovery). is_some o) e)))
+      go None e None c = absurd (cc (idle e c))
+      go None e (Some creation) c =
+          stepped e creation c (successor creation) refl
+          (subst (λ (o : Option Creation). IfSome o (λ k. IsStepCreated old new k (Ok opened) (successor k))) c (step e))
+
+      apart : (at : ℕ) (w : State) → world_at old at ≡ Some w → IfSome opened (λ slot. at ≢ slot.0)
+      apart = go old.recovery refl old.creation refl

@@ -1,4 +1,9 @@
+use Rattle.session.proofs.Promised.{numbers_kept}
+use Rattle.session.proofs.Queueing.{created_right}
 use Rattle.session.proofs.session.Session.create.Goals as goal
 
 pub returns-clause-promises : goal.returns-clause-promises
-returns-clause-promises c = ?
+returns-clause-promises c =
+    numbers_kept _
+    (created_right c.self.inside.broker c.create.new.self c.self.inside.kept c.self.invariant c.create.result
+    c.create.ensures.promises c.create.ensures.same c.create.ensures.others)

@@ -1,4 +1,9 @@
+use Rattle.session.proofs.Promised.{numbers_kept}
+use Rattle.session.proofs.Queueing.{alike_right}
 use Rattle.session.proofs.session.Session.reserve.Goals as goal
 
 pub returns-clause-promises : goal.returns-clause-promises
-returns-clause-promises c = ?
+returns-clause-promises c =
+    numbers_kept _
+    (alike_right c.self.inside.broker c.reserve.new.self c.self.inside.kept c.self.invariant c.reserve.ensures.promises.well
+    c.reserve.ensures.recovery c.reserve.ensures.worlds)
