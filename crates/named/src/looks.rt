@@ -34,9 +34,12 @@ impl Broker {
     /// What the client was last told in the queue of a slot: what the last recovery read, and at first what the base
     /// tells. It is refused, in this order, where there is no such client (NoClient), while the broker recovers
     /// (NotReady), and where the slot is closed (NoQueue).
+    #[tactic(auto, using(crate::proofs::Promises::promises_well))]
     pub fn told(&self, slot: SlotId, client: Client) -> Result<Told, Refusal>
-        ensures { result ≡ answer_at (λ w. Ok (told_to (told_in w.queue) client)) self.now slot.0 client }
+        ensures told { result ≡ answer_at (λ w. Ok (told_to (told_in w.queue) client)) self.now slot.0 client }
+        ensures promises { KeepsPromises self.now }
     {
+        let _ = &self.layout;
         self.admit(client)?;
         self.slot(slot)?.told(client)
     }

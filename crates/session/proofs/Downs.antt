@@ -23,7 +23,7 @@ pub up_none : (o : Option BrokerRecovery) → not (is_some o) ≡ true → o ≡
 up_none None up = refl
 up_none (Some r) up = absurd (cc (up))
 
-up_same : (old new : Brokered) → new.recovery ≡ old.recovery → is_up new ≡ is_up old
+pub up_same : (old new : Brokered) → new.recovery ≡ old.recovery → is_up new ≡ is_up old
 up_same old new same = ap (λ (r : Option BrokerRecovery). not (is_some r)) same
 
 -- where nothing but counts of accesses changed

@@ -76,6 +76,13 @@ module _ (b : Brokered) (well : IsWell b) where
       go None at is = absurd (none_some is)
       go (Some s) at is = clients_in b slot s w (well.slots slot s at) is
 
+  open_below : (slot : ℕ) (w : State) → world_at b slot ≡ Some w → slot < SLOTS
+  open_below slot w here = go (slice_get b.slots slot) refl here
+    where
+      go : (o : Option Slot) → slice_get b.slots slot ≡ o → world_of b.words o ≡ Some w → slot < SLOTS
+      go None at is = absurd (none_some is)
+      go (Some s) at is = omega (arith, slice_get_within b.slots slot s at, well.count)
+
   admitted : (client : Client) → b.recovery ≡ None → client.0 < b.counts.clients → admission b client ≡ Ok tt
   admitted client up lt =
       ap (λ (has : Bool). if has then (if is_down b then Err NotReady else Ok tt) else Err NoClient)
@@ -115,12 +122,12 @@ module _ (b : Brokered) (well : IsWell b) (kept : List (List (Option Verdict))) 
     | inr outside ↦ heard.none slot client outside
   ]
 
-  open_below : (slot : ℕ) (w : State) → world_at b slot ≡ Some w → slot < SLOTS
-  open_below slot w here = go (slice_get b.slots slot) refl here
-    where
-      go : (o : Option Slot) → slice_get b.slots slot ≡ o → world_of b.words o ≡ Some w → slot < SLOTS
-      go None at is = absurd (none_some is)
-      go (Some s) at is = omega (arith, slice_get_within b.slots slot s at, well.count)
+  -- what is kept of each client of a ready broker's queue is what it was told there
+  pub kept_there : (slot : ℕ) (w : State) (client : Client) → b.recovery ≡ None → world_at b slot ≡ Some w
+      → client.0 < w.shape.clients → kept_in kept slot client.0 ≡ verdict_of (slice_get (told_in w.queue) client.0)
+  kept_there slot w client up here lt =
+      heard.each slot client.0 (open_below b well slot w here)
+      (omega (arith, lt, (holds_there b well slot w here).safe.few)) ∙ heard_there b well slot w client up here lt
 
   -- once the broker is ready, where nobody called since its clients were told
   pub right_heard : b.recovery ≡ None
@@ -139,8 +146,7 @@ module _ (b : Brokered) (well : IsWell b) (kept : List (List (Option Verdict))) 
           let ready = up_there b well slot w here up in
           let holds = holds_there b well slot w here in
           right_as_told w holds ready (λ log. rests slot w here log ready) (kept_in kept slot) (λ client lt.
-          heard.each slot client.0 (open_below slot w here) (omega (arith, lt, holds.safe.few))
-          ∙ heard_there b well slot w client up here lt)
+          kept_there slot w client up here lt)
 
   -- and while it recovers
   pub right_unheard : is_down b ≡ true

@@ -4,6 +4,8 @@ pub mod Downs
 pub mod Going
 pub mod Heard
 pub mod Opens
+pub mod Recovering
+pub mod Answered
 pub mod Places
 pub mod Promised
 pub mod Queueing

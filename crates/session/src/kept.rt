@@ -1,6 +1,6 @@
 //! What is kept of each client in each queue.
 
-ghost use Rattle.std.specs.Prelude.{◌≡◌, ◌≢◌, ◌<◌, ◌⊎◌, ℕ, Ok, Some, None, length, slice_index_or};
+ghost use Rattle.std.specs.Prelude.{◌≡◌, ◌≢◌, ◌<◌, ◌≤◌, ◌⊎◌, ℕ, Ok, Some, None, length, slice_index_or};
 ghost use Rattle.interleave.specs.Queue.{told_in, told_to};
 ghost use Rattle.named.specs.Brokers.{answer_at};
 ghost use Rattle.named.specs.Promises.{KeepsPromises};
@@ -58,7 +58,8 @@ fn row_told(broker: &Broker, slot: SlotId) -> [Option<Verdict>; MAX_CLIENTS]
 impl Kept {
     /// What each client is told in each queue of a broker: nothing, while it recovers.
     pub(crate) fn told(broker: &Broker) -> Self
-        ensures { AreKeptAsHeard broker.now result }
+        ensures heard { AreKeptAsHeard broker.now result }
+        ensures beyond { (slot client : ℕ) → MAX_CLIENTS ≤ client → kept_in result slot client ≡ None }
     {
         let mut rows = [[None; MAX_CLIENTS]; SLOTS];
         for slot in 0..SLOTS {

@@ -1,5 +1,6 @@
-use Rattle.std.proofs.Common.{rules, ◌≡◌, ◌<◌, ℕ, List, [], Option, None, slice_index_or, length, ◌∙◌, ap, arith, length-set}
+use Rattle.std.proofs.Common.{rules, ◌≡◌, ◌<◌, inl, inr, ℕ, List, [], Option, None, slice_index_or, length, ◌∙◌, ap, arith, length-set}
 use Rattle.words.specs.declared.told.Verdict.{Verdict}
+use Rattle.std.proofs.lemmas.Bool.{cases_lt}
 use Rattle.std.proofs.lemmas.List.{get_or_past}
 use Rattle.session.proofs.Places.{one_more_place}
 use Rattle.session.proofs.kept.Kept.told.Invariants.{IsRowOf}
@@ -16,9 +17,19 @@ loop-slot-preserved c = record {
       (record { len = c.row_told.ensures.len; told = c.row_told.ensures.told });
 }
 
-pub returns : goal.returns
-returns c = record {
+pub returns-clause-heard : goal.returns-clause-heard
+returns-clause-heard c = record {
   each = λ slot client less few. (c.loop-slot.invariant.so_far slot (omega (arith, c.loop-slot-test.false, less))).told client few;
   none = λ slot client past. ap (λ (row : List (Option Verdict)). slice_index_or row client None)
       (get_or_past c.loop-slot.rows slot [] (omega (arith, c.loop-slot.invariant.len, past)));
 }
+
+pub returns-clause-beyond : goal.returns-clause-beyond
+returns-clause-beyond c slot client past =
+    let rows : List (List (Option Verdict)) = c.loop-slot.rows in
+    elim (cases_lt slot 8) [
+      | inl less ↦ get_or_past (slice_index_or rows slot []) client None
+          (omega (arith, (c.loop-slot.invariant.so_far slot (omega (arith, c.loop-slot-test.false, less))).len, past))
+      | inr far ↦ ap (λ (row : List (Option Verdict)). slice_index_or row client None)
+          (get_or_past rows slot [] (omega (arith, c.loop-slot.invariant.len, far)))
+    ]

@@ -1,0 +1,201 @@
+-- A step of recovery leaves what is kept right, and each number that was answered stays so.
+use Rattle.std.proofs.Common.{◌≡◌, ◌≢◌, ℕ, ◌<◌, ◌≤◌, ◌⊎◌, inl, inr, Bool, true, false, not, is_some, List, Option, Some, None, Result, Ok, Err, slice_get, refl, sym, ap, subst, ◌∙◌, arith}
+use Rattle.std.proofs.lemmas.Bool.{cases_eq}
+use Rattle.words.specs.declared.call.Client.{Client}
+use Rattle.words.specs.declared.call.Kind.TheVariants.{Log as log_kind}
+use Rattle.words.specs.declared.call.Reply.{Reply}
+use Rattle.words.specs.declared.limits.TheConstants.{MAX_CLIENTS}
+use Rattle.words.specs.declared.refusal.Refusal.{Refusal}
+use Rattle.words.specs.declared.told.Outcome.{Outcome}
+use Rattle.words.specs.declared.told.Outcome.TheVariants.{NotTaken, Taken}
+use Rattle.words.specs.declared.told.Told.{Told}
+use Rattle.words.specs.declared.told.Verdict.{Verdict}
+use Rattle.logqueue.specs.Numbers.{floor_from, verdict_of}
+use Rattle.arena.specs.Shape.{Shape}
+use Rattle.arena.specs.declared.broker.SlotId.{SlotId}
+use Rattle.interleave.specs.Calls.{is_no_memory}
+use Rattle.interleave.specs.Queue.{told_in}
+use Rattle.interleave.specs.State.{State, after_recover}
+use Rattle.interleave.specs.Verdicts.{IsRested, IsToldAbove, floor_by, taken_as, told_as}
+use Rattle.interleave.proofs.verdicts.Carried.{uncounted}
+use Rattle.named.specs.Brokers.{Brokered, IsWell, is_down, quiet, world_at}
+use Rattle.named.specs.Slots.{acted}
+use Rattle.named.specs.Stopping.{IsFound, IsFoundIn, IsRecoveryStep, found_by}
+use Rattle.named.specs.declared.recovery.BrokerRecovery.{BrokerRecovery}
+use Rattle.named.specs.declared.recovery.BrokerRecovery.TheVariants.{ReadDirectory, RecoverQueue}
+use Rattle.session.specs.Keeping.{AreKeptAsHeard, IsAnswered, SessionGoesOn}
+use Rattle.session.specs.Sessions.{AreVerdictsRight, IsLogClient, IsRight, IsSlotRight, Sessioned, is_up, kept_in}
+use Rattle.session.proofs.Downs.{up_same}
+use Rattle.session.proofs.Heard.{kept_there, right_heard}
+use Rattle.session.proofs.Recovering.{AreDownRight, IsAsFar, IsStepDown, recovered_shape, step_down}
+use Rattle.session.proofs.Worlds.{holds_there, none_some, up_there}
+
+-- a slot's queue is still there, laid out as it was
+pub record IsShapedOn (w : State) (now : Option State) : Type 0 where
+  pub world : State
+  pub is : now ≡ Some world
+  pub shape : world.shape ≡ w.shape
+
+pub shaped_quiet : (w : State) (now : Option State) → quiet now ≡ quiet (Some w) → IsShapedOn w now
+shaped_quiet w (Some v) same =
+    let one : uncounted v ≡ uncounted w = cc (same) in
+    record { world = v; is = refl; shape = ap (λ (x : State). x.shape) one }
+shaped_quiet w None same = absurd (cc (same))
+
+-- so its clients are still there
+pub client_on : (old new : Brokered) (slot : ℕ) (client : Client)
+    → ((w : State) → world_at old slot ≡ Some w → IsShapedOn w (world_at new slot)) → IsLogClient old slot client
+    → IsLogClient new slot client
+client_on old new slot client shaped is =
+    let on = shaped is.world is.here in
+    record {
+      world = on.world;
+      here = on.is;
+      log = ap (λ (s : Shape). s.kind) on.shape ∙ is.log;
+      few = subst (λ (s : Shape). client.0 < s.clients) (sym on.shape) is.few;
+    }
+
+module _ (old new : Brokered) (slot : ℕ) (w : State) (here : world_at old slot ≡ Some w) where
+  shaped_same : quiet (world_at new slot) ≡ quiet (world_at old slot) → IsShapedOn w (world_at new slot)
+  shaped_same same = shaped_quiet w (world_at new slot) (same ∙ ap quiet here)
+
+  shaped_in : (at : SlotId) (o : Option State) → world_at old at.0 ≡ o → IsFoundIn old new at o
+      → IsShapedOn w (world_at new slot)
+  shaped_in at (Some v) is found = shaped_same (found.worlds slot)
+  shaped_in at None is found = go (cases_eq slot at.0)
+    where
+      go : (slot ≡ at.0) ⊎ (slot ≡ at.0 → ⊥) → IsShapedOn w (world_at new slot)
+      go (inl same) = absurd (none_some (sym is ∙ ap (world_at old) (sym same) ∙ here))
+      go (inr ne) = shaped_same (found.others slot ne)
+
+  shaped_found : (o : Option SlotId) → IsFound old new o → IsShapedOn w (world_at new slot)
+  shaped_found None found = shaped_same (found.worlds slot)
+  shaped_found (Some at) found = shaped_in at (world_at old at.0) refl found
+
+  shaped_recovered : (at : ℕ) (full : Bool) → world_at new at ≡ acted (after_recover full) (world_at old at)
+      → ((other : ℕ) → other ≢ at → quiet (world_at new other) ≡ quiet (world_at old other))
+      → IsShapedOn w (world_at new slot)
+  shaped_recovered at full is others = go (cases_eq slot at)
+    where
+      go : (slot ≡ at) ⊎ (slot ≡ at → ⊥) → IsShapedOn w (world_at new slot)
+      go (inl same) = record {
+        world = after_recover full w;
+        is =
+            ap (world_at new) same ∙ is
+            ∙ ap (acted (after_recover full)) (ap (world_at old) (sym same) ∙ here);
+        shape = recovered_shape full w;
+      }
+      go (inr ne) = shaped_same (others slot ne)
+
+  pub shaped_step : (result : Result Bool Refusal) (o : Option BrokerRecovery) → IsRecoveryStep old new result o
+      → IsShapedOn w (world_at new slot)
+  shaped_step result None step = shaped_same (ap (λ (b : Brokered). quiet (world_at b slot)) step.1)
+  shaped_step result (Some (ReadDirectory at)) step = shaped_found (found_by old at).opened step.found
+  shaped_step result (Some (RecoverQueue at)) step =
+      shaped_recovered at.0 (is_no_memory result) step.world step.others
+
+-- what is told now is what was kept, or is of a later number: so a number that was answered is answered still
+answered_on : (last now : Option Verdict) (number : ℕ) (reply : Reply)
+    → (told_as now ≡ told_as last) ⊎ IsToldAbove (floor_by last) (told_as now) → IsAnswered last number reply
+    → IsAnswered now number reply
+answered_on None now number reply told is = absurd is
+answered_on (Some was) None number reply (inl same) is = absurd (cc (same))
+answered_on (Some was) None number reply (inr above) is = absurd above
+answered_on (Some was) (Some now) number reply (inl same) is =
+    let one : was ≡ now = cc (same) in
+    subst (λ (v : Verdict). (v ≡ taken_as number reply) ⊎ (number < v.number)) one is
+answered_on (Some was) (Some now) number reply (inr above) (inl taken) =
+    inr (subst (λ (v : Verdict). floor_from v.number v.outcome < now.number) taken above)
+answered_on (Some was) (Some now) number reply (inr above) (inr later) = inr (go was.outcome above)
+  where
+    go : (outcome : Outcome) → floor_from was.number outcome < now.number → number < now.number
+    go (Taken r) higher = omega (arith, higher, later)
+    go NotTaken higher = omega (arith, higher, later)
+
+module _ (s : Sessioned) (new : Brokered) (result : Result Bool Refusal) (right : IsRight s) (well : IsWell new)
+    (step : IsRecoveryStep s.broker new result s.broker.recovery) where
+  taken_down : (r : BrokerRecovery) → s.broker.recovery ≡ Some r → IsStepDown s.broker new s.kept result
+  taken_down r is =
+      let down : is_down s.broker ≡ true = ap (λ (o : Option BrokerRecovery). is_some o) is in
+      step_down s.broker new s.kept result r right.well well
+      (λ slot. subst (λ (d : Bool). IsSlotRight (not d) (world_at s.broker slot) (kept_in s.kept slot)) down (right.slots slot))
+      down (subst (IsRecoveryStep s.broker new result) is step)
+
+  -- where the broker is not ready by it
+  pub right_unready : (result ≡ Ok true → ⊥) → IsRight (record s { broker = new })
+  right_unready other = go s.broker.recovery refl
+    where
+      still : (r : BrokerRecovery) → s.broker.recovery ≡ Some r → (x : Result Bool Refusal) → result ≡ x
+          → IsAsFar s.broker new x → is_up new ≡ false
+      still r is (Ok true) e far = absurd (other e)
+      still r is (Ok false) e far = ap not far
+      still r is (Err refusal) e far =
+          up_same s.broker new far ∙ ap (λ (o : Option BrokerRecovery). not (is_some o)) is
+
+      go : (o : Option BrokerRecovery) → s.broker.recovery ≡ o → IsRight (record s { broker = new })
+      go None is =
+          let refused = subst (IsRecoveryStep s.broker new result) is step in
+          subst (λ (b : Brokered). IsRight (record s { broker = b })) (sym refused.1) right
+      go (Some r) is =
+          let taken = taken_down r is in
+          record {
+            well = well;
+            slots = λ slot.
+                subst (λ (u : Bool). IsSlotRight u (world_at new slot) (kept_in s.kept slot))
+                (sym (still r is result refl taken.far)) (taken.right slot);
+          }
+
+  clients_on : (slot : ℕ) (client : Client) → IsLogClient s.broker slot client → IsLogClient new slot client
+  clients_on slot client =
+      client_on s.broker new slot client (λ w here. shaped_step s.broker new slot w here result s.broker.recovery step)
+
+  pub unready_goes_on : SessionGoesOn s (record s { broker = new })
+  unready_goes_on = record { clients = clients_on; answers = λ slot client number reply is answered. answered }
+
+  -- and where it is
+  module _ (ready : result ≡ Ok true) where
+    became : IsStepDown s.broker new s.kept result
+    became = go s.broker.recovery refl
+      where
+        go : (o : Option BrokerRecovery) → s.broker.recovery ≡ o → IsStepDown s.broker new s.kept result
+        go None is =
+            let refused = subst (IsRecoveryStep s.broker new result) is step in
+            absurd (cc (refused.0, ready))
+        go (Some r) is = taken_down r is
+
+    up : new.recovery ≡ None
+    up = subst (IsAsFar s.broker new) ready became.far
+
+    verdicts_at : (slot : ℕ) (w : State) → world_at new slot ≡ Some w → w.shape.kind ≡ log_kind
+        → AreVerdictsRight false w (kept_in s.kept slot)
+    verdicts_at slot w here log = there log
+      where
+        there : IsSlotRight false (Some w) (kept_in s.kept slot)
+        there = subst (λ (o : Option State). IsSlotRight false o (kept_in s.kept slot)) here (became.right slot)
+
+    module _ (kept : List (List (Option Verdict))) (heard : AreKeptAsHeard new kept)
+        (beyond : (slot client : ℕ) → MAX_CLIENTS ≤ client → kept_in kept slot client ≡ None) where
+      pub right_ready : IsRight (record { broker = new; kept = kept })
+      right_ready =
+          right_heard new well kept heard beyond up
+          (λ slot w here log ready. (verdicts_at slot w here log).rested refl ready)
+
+      answers_on : (slot : ℕ) (client : Client) (number : ℕ) (reply : Reply) → IsLogClient s.broker slot client
+          → IsAnswered (kept_in s.kept slot client.0) number reply → IsAnswered (kept_in kept slot client.0) number reply
+      answers_on slot client number reply is answered =
+          let on = clients_on slot client is in
+          let w : State = on.world in
+          let r = verdicts_at slot w on.here on.log in
+          let rested = r.rested refl (up_there new well slot w on.here up) in
+          let few : client.0 < MAX_CLIENTS = omega (arith, on.few, (holds_there new well slot w on.here).safe.few) in
+          let last : Option Verdict = kept_in s.kept slot client.0 in
+          let now : Option Verdict = verdict_of (slice_get (told_in w.queue) client.0) in
+          let told : (told_as now ≡ told_as last) ⊎ IsToldAbove (floor_by last) (told_as now) =
+              subst (λ (t : Told). (t ≡ told_as last) ⊎ IsToldAbove (floor_by last) t)
+              ((rested.last client few).told (rested.nobody client)) (r.recalled client on.few).told in
+          subst (λ (v : Option Verdict). IsAnswered v number reply)
+          (sym (kept_there new well kept heard beyond slot w client up on.here on.few))
+          (answered_on last now number reply told answered)
+
+      pub ready_goes_on : SessionGoesOn s (record { broker = new; kept = kept })
+      ready_goes_on = record { clients = clients_on; answers = answers_on }
