@@ -1,14 +1,14 @@
 pub mod Acting
+pub mod Answered
 pub mod Calling
 pub mod Downs
 pub mod Going
 pub mod Heard
 pub mod Opens
-pub mod Recovering
-pub mod Answered
 pub mod Places
 pub mod Promised
 pub mod Queueing
+pub mod Recovering
 pub mod Runs
 pub mod Serving
 pub mod SlotLaws

@@ -12,7 +12,7 @@ loop-client-preserved c = record {
   len = length-set c.loop-client.row c.loop-client.client c.verdict_of.result ∙ c.loop-client.invariant.len;
   so_far = one_more_place (λ k (last : Option Verdict). last ≡ told_when_asked c.args.broker.now c.args.slot.0 k)
       c.loop-client.row c.loop-client.client c.verdict_of.result None (omega (arith, c.loop-client-test.true, c.loop-client.invariant.len))
-      c.loop-client.invariant.so_far (c.verdict_of.ensures ∙ ap verdict_heard c.told.ensures);
+      c.loop-client.invariant.so_far (c.verdict_of.ensures ∙ ap verdict_heard c.told.ensures.told);
 }
 
 pub returns-clause-told : goal.returns-clause-told
