@@ -5,6 +5,8 @@ pub mod Downs
 pub mod Going
 pub mod Heard
 pub mod Opens
+pub mod Clients
+pub mod Numbering
 pub mod Places
 pub mod Promised
 pub mod Queueing
@@ -12,4 +14,5 @@ pub mod Recovering
 pub mod Runs
 pub mod Serving
 pub mod SlotLaws
+pub mod Starts
 pub mod Worlds

@@ -1,0 +1,57 @@
+-- What a start answers is what a request answers that has begun to run.
+use Rattle.std.proofs.Common.{◌≡◌, ◌≢◌, ℕ, true, Option, None, Some, Result, Ok, Err, refl, sym, ap, subst, ◌∙◌}
+use Rattle.std.specs.Option.{unwrap_or}
+use Rattle.words.specs.declared.call.Call.{Call}
+use Rattle.words.specs.declared.call.Client.{Client}
+use Rattle.words.specs.declared.call.Reply.{Reply}
+use Rattle.words.specs.declared.refusal.Refusal.{Refusal}
+use Rattle.words.specs.declared.refusal.Refusal.TheVariants.{NoMemory}
+use Rattle.interleave.specs.Calls.{is_no_memory}
+use Rattle.interleave.specs.State.{State, after_start, start_result}
+use Rattle.named.specs.Brokers.{Brokered, admission, answer_at, answer_if, room_at, world_after, world_at}
+use Rattle.named.specs.Slots.{answered}
+use Rattle.session.specs.Requests.{AreOthersAlike, IsBegunBy, IsStarted, as_begun, number_or_none}
+use Rattle.session.specs.Sessions.{Sessioned}
+
+-- whether memory was refused is not a matter of what else would be answered
+memory_alike : (X Y : Type 0) (refusal : Refusal) → is_no_memory {X = X} (Err refusal) ≡ is_no_memory {X = Y} (Err refusal)
+memory_alike X Y NoMemory = refl
+memory_alike X Y _ = refl
+
+same_memory : (r : Result Unit Refusal) → is_no_memory (as_begun r) ≡ is_no_memory r
+same_memory (Ok u) = refl
+same_memory (Err refusal) = memory_alike (Option Reply) Unit refusal
+
+begun_at : (f : State → Result Unit Refusal) (b : Brokered) (slot : ℕ) (client : Client)
+    → as_begun (answer_at f b slot client) ≡ answer_at (λ w. as_begun (f w)) b slot client
+begun_at f b slot client = go (admission b client) (world_at b slot)
+  where
+    go : (r : Result Unit Refusal) (o : Option State)
+        → as_begun (answer_if r (answered f o)) ≡ answer_if r (answered (λ w. as_begun (f w)) o)
+    go (Err refusal) o = refl
+    go (Ok u) None = refl
+    go (Ok u) (Some w) = refl
+
+pub started_by : (old new : Brokered) (slot : ℕ) (client : Client) (number : ℕ) (call : Call) (r : Result Unit Refusal)
+    → world_at new slot ≡ world_after (λ w. after_start (is_no_memory r) w client number call) old slot client
+    → r ≡ answer_at (λ w. start_result (is_no_memory r) w client number) old slot client
+    → (is_no_memory r ≡ true → room_at old slot ≡ 0) → AreOthersAlike old new slot
+    → IsStarted old new slot client number call (as_begun r)
+started_by old new slot client number call r world result full others = record {
+  world = world ∙ ap (λ x. world_after (λ w. after_start x w client number call) old slot client) (sym (same_memory r));
+  result_is = ap as_begun result ∙ begun_at (λ w. start_result (is_no_memory r) w client number) old slot client
+      ∙ ap (λ x. answer_at (λ w. as_begun (start_result x w client number)) old slot client) (sym (same_memory r));
+  full = λ e. full (sym (same_memory r) ∙ e);
+  others = others;
+}
+
+pub number_is : (number : Option ℕ) → unwrap_or number 0 ≡ number_or_none number
+number_is (Some number) = refl
+number_is None = refl
+
+-- a request that runs has begun, or its start was refused
+pub begun_if_runs : (old new : Sessioned) (slot : ℕ) (client : Client) (number : ℕ) (call : Call) (r : Result Unit Refusal)
+    (answer : Result (Option Reply) Refusal) → answer ≡ Ok None → IsStarted old.broker new.broker slot client number call (as_begun r)
+    → new.kept ≡ old.kept → IsBegunBy old new slot client number call (as_begun r) answer
+begun_if_runs old new slot client number call r answer runs started kept =
+    subst (IsBegunBy old new slot client number call (as_begun r)) (sym runs) (started, kept)

@@ -1,0 +1,54 @@
+use Rattle.std.proofs.Common.{rules, ◌≡◌, ◌∙◌, ℕ, Option, None, Result, Ok, Err, refl, sym, ap, subst}
+use Rattle.std.specs.Option.{unwrap_or}
+use Rattle.words.specs.declared.call.Reply.{Reply}
+use Rattle.words.specs.declared.refusal.Refusal.{Refusal}
+use Rattle.interleave.specs.Calls.{is_no_memory}
+use Rattle.interleave.specs.State.{after_start}
+use Rattle.session.specs.Keeping.{SessionGoesOn}
+use Rattle.session.specs.Requests.{IsBegunBy, answer_to, as_begun, number_or_none}
+use Rattle.session.specs.Sessions.{Sessioned}
+use Rattle.session.proofs.Clients.{goes_on_kept, laid_out_act, shape_after_start}
+use Rattle.session.proofs.Starts.{begun_if_runs, number_is, started_by}
+use Rattle.session.proofs.session.Session.begin.Goals as goal
+
+pub returns-in_err-start-clause-begun : goal.returns-in_err-start-clause-begun
+returns-in_err-start-clause-begun c =
+    let old : Sessioned = record { broker = c.self.inside.broker; kept = c.self.inside.kept } in
+    let new : Sessioned = record { broker = c.start.new.self; kept = c.self.inside.kept } in
+    let runs : answer_to c.args.self.now c.args.queue.0 c.args.client c.args.number ≡ Ok None = search rules in
+    let number : c.unwrap_or.result ≡ number_or_none c.args.number = c.unwrap_or.ensures ∙ number_is c.args.number in
+    let refused : c.from_residual-in_err-start.result ≡ Err c.in_err-start.field-0.0 = search rules in
+    let result : as_begun c.start.result ≡ c.from_residual-in_err-start.result =
+        ap as_begun c.in_err-start.was ∙ sym refused in
+    let done : IsBegunBy old new c.args.queue.0 c.args.client c.unwrap_or.result c.args.call (as_begun c.start.result)
+        (answer_to c.args.self.now c.args.queue.0 c.args.client c.args.number) =
+        begun_if_runs old new c.args.queue.0 c.args.client c.unwrap_or.result c.args.call c.start.result
+        (answer_to c.args.self.now c.args.queue.0 c.args.client c.args.number) runs
+        (started_by old.broker new.broker c.args.queue.0 c.args.client c.unwrap_or.result c.args.call c.start.result
+        c.start.ensures.world c.start.ensures.result c.start.ensures.full
+        (record { worlds = c.start.ensures.others; rooms = c.start.ensures.other_rooms; directory = c.start.ensures.directory; creation = c.start.ensures.creation; recovery = c.start.ensures.recovery }))
+        refl in
+    let answers : Result (Option Reply) Refusal = answer_to c.args.self.now c.args.queue.0 c.args.client c.args.number in
+    subst (λ (s : Sessioned). IsBegunBy s new c.args.queue.0 c.args.client (number_or_none c.args.number) c.args.call c.from_residual-in_err-start.result answers) c.self.view_is
+    (subst (λ (n : ℕ). IsBegunBy old new c.args.queue.0 c.args.client n c.args.call c.from_residual-in_err-start.result answers) number
+    (subst (λ (r : Result (Option Reply) Refusal). IsBegunBy old new c.args.queue.0 c.args.client c.unwrap_or.result c.args.call r answers) result done))
+
+pub returns-in_err-start-clause-goes_on : goal.returns-in_err-start-clause-goes_on
+returns-in_err-start-clause-goes_on c =
+    let old : Sessioned = record { broker = c.self.inside.broker; kept = c.self.inside.kept } in
+    let new : Sessioned = record { broker = c.start.new.self; kept = c.self.inside.kept } in
+    subst (λ (s : Sessioned). SessionGoesOn s new) c.self.view_is
+    (goes_on_kept old new refl
+    (laid_out_act (λ w. after_start (is_no_memory c.start.result) w c.args.client c.unwrap_or.result c.args.call)
+    (λ w. shape_after_start (is_no_memory c.start.result) w c.args.client c.unwrap_or.result c.args.call) old.broker new.broker
+    c.args.queue.0 c.args.client c.start.ensures.world c.start.ensures.others))
+
+pub returns-clause-goes_on : goal.returns-clause-goes_on
+returns-clause-goes_on c =
+    let old : Sessioned = record { broker = c.self.inside.broker; kept = c.self.inside.kept } in
+    let new : Sessioned = record { broker = c.start.new.self; kept = c.self.inside.kept } in
+    subst (λ (s : Sessioned). SessionGoesOn s new) c.self.view_is
+    (goes_on_kept old new refl
+    (laid_out_act (λ w. after_start (is_no_memory c.start.result) w c.args.client c.unwrap_or.result c.args.call)
+    (λ w. shape_after_start (is_no_memory c.start.result) w c.args.client c.unwrap_or.result c.args.call) old.broker new.broker
+    c.args.queue.0 c.args.client c.start.ensures.world c.start.ensures.others))
