@@ -1,12 +1,12 @@
 pub mod Acting
 pub mod Answered
 pub mod Calling
+pub mod Clients
 pub mod Downs
 pub mod Going
 pub mod Heard
-pub mod Opens
-pub mod Clients
 pub mod Numbering
+pub mod Opens
 pub mod Places
 pub mod Promised
 pub mod Queueing

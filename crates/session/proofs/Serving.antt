@@ -1,6 +1,6 @@
 -- A session stays right over its clients' requests, and each reply is that of its number.
 use Rattle.std.proofs.Common.{◌≡◌, ◌≢◌, ◌⊎◌, inl, inr, ℕ, suc, ◌<◌, ◌≤◌, ◌+◌, ◌==◌, Bool, true, false, not, is_ok, is_some, if◌then◌else◌, nat_lt, length, List, Option, Some, None, Result, Ok, Err, slice_get, slice_index_or, refl, sym, ap, subst, ◌∙◌, arith}
-use Rattle.std.proofs.lemmas.Bool.{eqb-true}
+use Rattle.std.proofs.lemmas.Bool.{eqb-true, ltb-true}
 use Rattle.std.proofs.lemmas.Option.{slice_get_within}
 use Rattle.words.specs.declared.call.Call.{Call}
 use Rattle.words.specs.declared.call.Client.{Client}
@@ -24,16 +24,16 @@ use Rattle.interleave.specs.declared.queue.Queue.{Queue}
 use Rattle.interleave.proofs.HoldsKept.{holds_after_start}
 use Rattle.interleave.proofs.verdicts.Alone.{answered_alone}
 use Rattle.interleave.proofs.verdicts.Last.{IsGiven}
-use Rattle.named.specs.Brokers.{Brokered, IsWell, admission, answer_at, is_down, quiet, world_after, world_at}
+use Rattle.named.specs.Brokers.{Brokered, IsWell, admission, answer_at, answer_if, is_down, quiet, world_after, world_at}
 use Rattle.named.specs.Slots.{IfWorld}
 use Rattle.named.proofs.Stays.{alone_alike, start_alike}
 use Rattle.session.specs.Keeping.{IsAnswered, IsKeptNow}
 use Rattle.session.specs.Numbers.{by_last, by_number, by_outcome, by_reply, missed}
 use Rattle.session.specs.Promises.{IsReplyAt}
-use Rattle.session.specs.Requests.{AreOthersAlike, IsRun, IsServed, IsStarted, IsUnserved, is_kind, queue_admission, request_admission, request_answer}
+use Rattle.session.specs.Requests.{AreOthersAlike, IsRun, IsServed, IsStarted, IsUnserved, answer_to, is_kind, number_or_none, queue_admission, request_admission, request_answer}
 use Rattle.session.specs.Sessions.{IsRight, IsSlotRight, Sessioned, is_up, kept_at, kept_in}
 use Rattle.session.proofs.Acting.{kept_beside, kept_new, right_beside}
-use Rattle.session.proofs.Calling.{IsAnsweredAt, admitted_up, answered_at, right_by_client, right_if_durable, right_served, right_started, up_is}
+use Rattle.session.proofs.Calling.{IsAnsweredAt, admitted_has, admitted_up, answered_at, right_by_client, right_if_durable, right_served, right_started, up_is}
 use Rattle.session.proofs.SlotLaws.{right_if_quiet}
 use Rattle.session.proofs.Worlds.{clients_there, few_there, holds_there, no_recovery, up_there}
 
@@ -174,3 +174,86 @@ module _ (old new : Brokered) (slot : ℕ) (client : Client) (number : ℕ) (cal
   served_reply is log =
       subst (λ (o : Option State). IfWorld o (λ v. IsReplyOf v client number reply)) (sym made.is)
       (answered_alone false w client number call holds log few started made.started made.steps reply made.answered).reply_of
+
+-- what is kept where a number's reply is
+missed_none : (last number : ℕ) (reply : Reply) → missed last number ≡ Ok (Some reply) → ⊥
+missed_none last number reply = go (nat_lt number last)
+  where
+    go : (b : Bool) → (let r : Result (Option Reply) Refusal = if b then Err Old else Err Gap in r) ≡ Ok (Some reply) → ⊥
+    go true e = cc
+    go false e = cc
+
+runs_or_missed : (b : Bool) (last number : ℕ) (reply : Reply)
+    → (let r : Result (Option Reply) Refusal = if b then Ok None else missed last number in r) ≡ Ok (Some reply) → ⊥
+runs_or_missed true last number reply e = cc
+runs_or_missed false last number reply e = missed_none last number reply e
+
+pub kept_by_number : (last : Option Verdict) (number : ℕ) (reply : Reply) → by_number last number ≡ Ok (Some reply)
+    → last ≡ Some (taken_as number reply)
+kept_by_number last number reply is = go (number == 0) last is
+  where
+    by_verdict : (verdict : Verdict) (outcome : Outcome) → verdict.outcome ≡ outcome
+        → by_outcome outcome verdict.number number ≡ Ok (Some reply) → verdict ≡ taken_as number reply
+    by_verdict verdict (Taken own) e answer =
+        let same = kept_by_reply verdict.number number own reply answer in
+        ap (λ (n : ℕ). let v : Verdict = record { number = n; outcome = verdict.outcome } in v) same.0
+        ∙ ap (λ (o : Outcome). let v : Verdict = record { number = number; outcome = o } in v)
+        (e ∙ ap (λ (r : Reply). Taken r) same.1)
+    by_verdict verdict NotTaken e answer = absurd (runs_or_missed (number == verdict.number) verdict.number number reply answer)
+
+    first : (b : Bool) → (let r : Result (Option Reply) Refusal = if b then Ok None else Err Gap in r) ≡ Ok (Some reply) → ⊥
+    first true e = cc
+    first false e = cc
+
+    go : (zero_number : Bool) (o : Option Verdict)
+        → (let r : Result (Option Reply) Refusal = if zero_number then Err Old else by_last o number in r) ≡ Ok (Some reply)
+        → o ≡ Some (taken_as number reply)
+    go true o e = absurd (cc (e))
+    go false None e = absurd (first (number == 1) e)
+    go false (Some verdict) e = ap (λ (v : Verdict). Some v) (by_verdict verdict verdict.outcome refl e)
+
+-- a client that is admitted to a queue of a kind: it is there, and the queue is of the kind
+admitted_kind : (kind : Kind) (client : Client) (w : State) → queue_admission kind client w ≡ Ok tt
+    → w.shape.kind ≡ kind
+admitted_kind kind client w is = go kind w.shape.kind is
+  where
+    go : (k l : Kind) → (let r : Result Unit Refusal = if is_kind k l
+        then (if is_some (number_under_way w client) then Err Busy else Ok tt) else Err WrongKind in r) ≡ Ok tt → l ≡ k
+    go durable_kind durable_kind e = refl
+    go log_kind log_kind e = refl
+    go durable_kind log_kind e = absurd (cc (e))
+    go log_kind durable_kind e = absurd (cc (e))
+
+-- the reply that is kept of a number is its
+pub kept_reply : (s : Sessioned) → IsRight s → (slot : ℕ) (client : Client) (number : ℕ) (reply : Reply)
+    → request_answer s slot client number ≡ Ok (Some reply) → IsReplyAt s slot client number reply
+kept_reply s right slot client number reply is = go (request_admission log_kind s.broker slot client) refl is
+  where
+    found : request_admission log_kind s.broker slot client ≡ Ok tt
+        → by_number (kept_at s slot client) number ≡ Ok (Some reply) → IsReplyAt s slot client number reply
+    found admitted by =
+        let at : IsAnsweredAt (queue_admission log_kind client) s.broker slot client tt =
+        answered_at (queue_admission log_kind client) s.broker slot client tt admitted in
+        let log : at.world.shape.kind ≡ log_kind = admitted_kind log_kind client at.world at.says in
+        let below : client.0 < s.broker.counts.clients = ltb-true client.0 s.broker.counts.clients (admitted_has s.broker client at.admitted) in
+        let few : client.0 < at.world.shape.clients =
+        omega (arith, below, clients_there s.broker right.well slot at.world at.here) in
+        let verdicts : IsSlotRight (is_up s.broker) (Some at.world) (kept_in s.kept slot) =
+        subst (λ (o : Option State). IsSlotRight (is_up s.broker) o (kept_in s.kept slot)) at.here (right.slots slot) in
+        subst (λ (o : Option State). IfWorld o (λ w. IsReplyOf w client number reply)) (sym at.here)
+        (((verdicts log).recalled client few).reply number reply (kept_by_number (kept_at s slot client) number reply by))
+
+    go : (r : Result Unit Refusal) → request_admission log_kind s.broker slot client ≡ r
+        → answer_if r (by_number (kept_at s slot client) number) ≡ Ok (Some reply) → IsReplyAt s slot client number reply
+    go (Err refusal) e answer = absurd (cc (answer))
+    go (Ok u) e answer = found e answer
+
+-- with a number or without one
+pub answered_reply : (s : Sessioned) → IsRight s → (slot : ℕ) (client : Client) (number : Option ℕ) (reply : Reply)
+    → answer_to s slot client number ≡ Ok (Some reply) → IsReplyAt s slot client (number_or_none number) reply
+answered_reply s right slot client (Some number) reply is = kept_reply s right slot client number reply is
+answered_reply s right slot client None reply is = absurd (go (request_admission durable_kind s.broker slot client) is)
+  where
+    go : (r : Result Unit Refusal) → answer_if r (let a : Result (Option Reply) Refusal = Ok None in a) ≡ Ok (Some reply) → ⊥
+    go (Err refusal) e = cc
+    go (Ok u) e = cc

@@ -30,7 +30,7 @@ pub fn numbers_have_one_reply()
         → IsReplyOf w client number reply → IsReplyOf w client number other → reply ≡ other }
 {}
 
-#[tactic(auto, using(crate::proofs::Worlds::up_there, crate::proofs::SlotLaws::right_if_quiet, crate::proofs::Calling::right_served, crate::proofs::Serving::served_reply, crate::proofs::Queueing::rotated_right))]
+#[tactic(auto, using(crate::proofs::Worlds::up_there, crate::proofs::SlotLaws::right_if_quiet, crate::proofs::Calling::right_served, crate::proofs::Serving::served_reply, crate::proofs::Serving::answered_reply))]
 pub fn draft()
     ensures { (w : State) → w.recovery ≡ None → w.recovery ≡ None }
 {}
