@@ -118,7 +118,8 @@ module _ (s : Sessioned) (new : Brokered) (result : Result Bool Refusal) (right 
   taken_down r is =
       let down : is_down s.broker ≡ true = ap (λ (o : Option BrokerRecovery). is_some o) is in
       step_down s.broker new s.kept result r right.well well
-      (λ slot. subst (λ (d : Bool). IsSlotRight (not d) (world_at s.broker slot) (kept_in s.kept slot)) down (right.slots slot))
+      (λ slot. subst (λ (d : Bool). IsSlotRight (not d) (world_at s.broker slot) (kept_in s.kept slot)) down
+      (right.slots slot))
       down (subst (IsRecoveryStep s.broker new result) is step)
 
   -- where the broker is not ready by it
@@ -181,7 +182,8 @@ module _ (s : Sessioned) (new : Brokered) (result : Result Bool Refusal) (right 
           (λ slot w here log ready. (verdicts_at slot w here log).rested refl ready)
 
       answers_on : (slot : ℕ) (client : Client) (number : ℕ) (reply : Reply) → IsLogClient s.broker slot client
-          → IsAnswered (kept_in s.kept slot client.0) number reply → IsAnswered (kept_in kept slot client.0) number reply
+          → IsAnswered (kept_in s.kept slot client.0) number reply
+          → IsAnswered (kept_in kept slot client.0) number reply
       answers_on slot client number reply is answered =
           let on = clients_on slot client is in
           let w : State = on.world in
@@ -191,8 +193,8 @@ module _ (s : Sessioned) (new : Brokered) (result : Result Bool Refusal) (right 
           let last : Option Verdict = kept_in s.kept slot client.0 in
           let now : Option Verdict = verdict_of (slice_get (told_in w.queue) client.0) in
           let told : (told_as now ≡ told_as last) ⊎ IsToldAbove (floor_by last) (told_as now) =
-              subst (λ (t : Told). (t ≡ told_as last) ⊎ IsToldAbove (floor_by last) t)
-              ((rested.last client few).told (rested.nobody client)) (r.recalled client on.few).told in
+          subst (λ (t : Told). (t ≡ told_as last) ⊎ IsToldAbove (floor_by last) t)
+          ((rested.last client few).told (rested.nobody client)) (r.recalled client on.few).told in
           subst (λ (v : Option Verdict). IsAnswered v number reply)
           (sym (kept_there new well kept heard beyond slot w client up on.here on.few))
           (answered_on last now number reply told answered)

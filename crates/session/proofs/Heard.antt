@@ -72,7 +72,8 @@ module _ (b : Brokered) (well : IsWell b) where
   pub clients_there : (slot : ℕ) (w : State) → world_at b slot ≡ Some w → w.shape.clients ≡ b.counts.clients
   clients_there slot w here = go (slice_get b.slots slot) refl here
     where
-      go : (o : Option Slot) → slice_get b.slots slot ≡ o → world_of b.words o ≡ Some w → w.shape.clients ≡ b.counts.clients
+      go : (o : Option Slot) → slice_get b.slots slot ≡ o → world_of b.words o ≡ Some w
+          → w.shape.clients ≡ b.counts.clients
       go None at is = absurd (none_some is)
       go (Some s) at is = clients_in b slot s w (well.slots slot s at) is
 
@@ -113,7 +114,8 @@ module _ (b : Brokered) (well : IsWell b) where
 module _ (b : Brokered) (well : IsWell b) (kept : List (List (Option Verdict))) (heard : AreKeptAsHeard b kept)
     (beyond : (slot client : ℕ) → MAX_CLIENTS ≤ client → kept_in kept slot client ≡ None) where
   -- nothing is kept where nothing is told
-  none_kept : (slot : ℕ) → ((client : ℕ) → told_when_asked b slot client ≡ None) → (client : ℕ) → kept_in kept slot client ≡ None
+  none_kept : (slot : ℕ) → ((client : ℕ) → told_when_asked b slot client ≡ None) → (client : ℕ)
+      → kept_in kept slot client ≡ None
   none_kept slot nothing client = elim (cases_lt slot SLOTS) [
     | inl inside ↦ elim (cases_lt client MAX_CLIENTS) [
       | inl few ↦ heard.each slot client inside few ∙ nothing client
@@ -136,8 +138,8 @@ module _ (b : Brokered) (well : IsWell b) (kept : List (List (Option Verdict))) 
   right_heard up rests = record {
     well = well;
     slots = λ slot.
-        subst (λ (r : Option BrokerRecovery). IsSlotRight (not (is_some r)) (world_at b slot) (kept_in kept slot)) (sym up)
-        (go slot (world_at b slot) refl);
+        subst (λ (r : Option BrokerRecovery). IsSlotRight (not (is_some r)) (world_at b slot) (kept_in kept slot))
+        (sym up) (go slot (world_at b slot) refl);
   }
     where
       go : (slot : ℕ) (o : Option State) → world_at b slot ≡ o → IsSlotRight true o (kept_in kept slot)
@@ -167,7 +169,8 @@ module _ (b : Brokered) (well : IsWell b) (kept : List (List (Option Verdict))) 
       go slot (Some w) here =
           right_if_untold w (holds_there b well slot w here) (kept_in kept slot) (nothing slot) (rests slot w here)
 
-  pub right_asked : ((slot : ℕ) (w : State) → world_at b slot ≡ Some w → w.shape.kind ≡ log_kind → w.recovery ≡ None → IsRested w)
+  pub right_asked
+      : ((slot : ℕ) (w : State) → world_at b slot ≡ Some w → w.shape.kind ≡ log_kind → w.recovery ≡ None → IsRested w)
       → IsRight (record { broker = b; kept = kept })
   right_asked rests = go b.recovery refl
     where

@@ -44,7 +44,8 @@ module _ (old new : Brokered) (kept : List (List (Option Verdict))) (well : IsWe
     (right : AreDownRight old kept) where
   quiet_slot : (slot : ℕ) → quiet (world_at new slot) ≡ quiet (world_at old slot)
       → IsSlotRight false (world_at new slot) (kept_in kept slot)
-  quiet_slot slot same = right_if_quiet false (world_at old slot) (world_at new slot) (kept_in kept slot) same (right slot)
+  quiet_slot slot same =
+      right_if_quiet false (world_at old slot) (world_at new slot) (kept_in kept slot) same (right slot)
 
   -- a slot that recovery is the first to find open had nothing kept
   first_found : (at : SlotId) → world_at old at.0 ≡ None → IsFoundFirst old new at → AreDownRight new kept
@@ -59,7 +60,8 @@ module _ (old new : Brokered) (kept : List (List (Option Verdict))) (well : IsWe
       here : IsSlotRight false (world_at new at.0) (kept_in kept at.0)
       here =
           subst (λ (o : Option State). IsSlotRight false o (kept_in kept at.0)) (sym first.world)
-          (right_if_none found queue_recovery (holds_there new well_new at.0 found first.world) refl (kept_in kept at.0) none)
+          (right_if_none found queue_recovery (holds_there new well_new at.0 found first.world) refl
+          (kept_in kept at.0) none)
 
       go : (slot ≡ at.0) ⊎ (slot ≡ at.0 → ⊥) → IsSlotRight false (world_at new slot) (kept_in kept slot)
       go (inl same) = subst (λ (i : ℕ). IsSlotRight false (world_at new i) (kept_in kept i)) (sym same) here
@@ -103,7 +105,8 @@ IsAsFar old new (Ok true) = new.recovery ≡ None
 IsAsFar old new (Ok false) = is_down new ≡ true
 IsAsFar old new (Err refusal) = new.recovery ≡ old.recovery
 
-by_answer : (old new : Brokered) (result : Result Bool Refusal) → result ≡ Ok (is_none new.recovery) → IsAsFar old new result
+by_answer : (old new : Brokered) (result : Result Bool Refusal) → result ≡ Ok (is_none new.recovery)
+    → IsAsFar old new result
 by_answer old new (Ok true) answer = go new.recovery answer
   where
     go : (o : Option BrokerRecovery) → (let r : Result Bool Refusal = Ok true in r) ≡ Ok (is_none o) → o ≡ None
@@ -122,26 +125,28 @@ as_it_was old new (Ok true) before is off same down = absurd (cc (is, off))
 as_it_was old new (Ok false) before is off same down = ap (λ (o : Option BrokerRecovery). is_some o) same ∙ down
 as_it_was old new (Err refusal) before is off same down = same
 
-queue_far : (old new : Brokered) (at : ℕ) (result r : Result Bool Refusal) → is_down old ≡ true → IsQueueOn old new at result r
-    → IsAsFar old new result
+queue_far : (old new : Brokered) (at : ℕ) (result r : Result Bool Refusal) → is_down old ≡ true
+    → IsQueueOn old new at result r → IsAsFar old new result
 queue_far old new at result (Ok true) down on = by_answer old new result on.0
 queue_far old new at result (Ok false) down on = as_it_was old new result false on.0 refl on.1 down
-queue_far old new at result (Err refusal) down on =
-    subst (IsAsFar old new) (sym on.0) on.1
+queue_far old new at result (Err refusal) down on = subst (IsAsFar old new) (sym on.0) on.1
 
 -- a step of recovery that is under way
-pub record IsStepDown (old new : Brokered) (kept : List (List (Option Verdict))) (result : Result Bool Refusal) : Type 0 where
+pub record IsStepDown (old new : Brokered) (kept : List (List (Option Verdict))) (result : Result Bool Refusal)
+    : Type 0 where
   pub right : AreDownRight new kept
   pub far : IsAsFar old new result
 
-pub step_down : (old new : Brokered) (kept : List (List (Option Verdict))) (result : Result Bool Refusal) (r : BrokerRecovery)
-    → IsWell old → IsWell new → AreDownRight old kept → is_down old ≡ true → IsRecoveryStep old new result (Some r)
-    → IsStepDown old new kept result
+pub step_down : (old new : Brokered) (kept : List (List (Option Verdict))) (result : Result Bool Refusal)
+    (r : BrokerRecovery) → IsWell old → IsWell new → AreDownRight old kept → is_down old ≡ true
+    → IsRecoveryStep old new result (Some r) → IsStepDown old new kept result
 step_down old new kept result (ReadDirectory at) well well_new right down step = record {
   right = found_right old new kept well well_new right (found_by old at).opened step.found;
   far = by_answer old new result step.answer;
 }
 step_down old new kept result (RecoverQueue at) well well_new right down step = record {
   right = queue_right old new kept well well_new right at.0 result step;
-  far = queue_far old new at.0 result (answered (recover_result (is_no_memory result)) (world_at old at.0)) down step.next;
+  far =
+      queue_far old new at.0 result (answered (recover_result (is_no_memory result)) (world_at old at.0)) down
+      step.next;
 }
