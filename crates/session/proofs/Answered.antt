@@ -16,7 +16,7 @@ use Rattle.arena.specs.declared.broker.SlotId.{SlotId}
 use Rattle.interleave.specs.Calls.{is_no_memory}
 use Rattle.interleave.specs.Queue.{told_in}
 use Rattle.interleave.specs.State.{State, after_recover}
-use Rattle.interleave.specs.Verdicts.{IsRested, IsToldAbove, floor_by, taken_as, told_as}
+use Rattle.interleave.specs.Verdicts.{IsToldAbove, floor_by, taken_as, told_as}
 use Rattle.interleave.proofs.verdicts.Carried.{uncounted}
 use Rattle.named.specs.Brokers.{Brokered, IsWell, is_down, quiet, world_at}
 use Rattle.named.specs.Slots.{acted}
@@ -27,7 +27,7 @@ use Rattle.session.specs.Keeping.{AreKeptAsHeard, IsAnswered, SessionGoesOn}
 use Rattle.session.specs.Sessions.{AreVerdictsRight, IsLogClient, IsRight, IsSlotRight, Sessioned, is_up, kept_in}
 use Rattle.session.proofs.Downs.{up_same}
 use Rattle.session.proofs.Heard.{kept_there, right_heard}
-use Rattle.session.proofs.Recovering.{AreDownRight, IsAsFar, IsStepDown, recovered_shape, step_down}
+use Rattle.session.proofs.Recovering.{IsAsFar, IsStepDown, recovered_shape, step_down}
 use Rattle.session.proofs.Worlds.{holds_there, none_some, up_there}
 
 -- a slot's queue is still there, laid out as it was

@@ -1,32 +1,28 @@
 -- What is kept is right where it is what each client is told when asked.
-use Rattle.std.proofs.Common.{◌≡◌, ℕ, ◌<◌, ◌≤◌, ◌⊎◌, inl, inr, Bool, true, false, not, is_some, if◌then◌else◌, List, Option, Some, None, Result, Ok, Err, slice_get, refl, sym, ap, subst, ◌∙◌, arith}
-use Rattle.std.specs.Prelude.{nat_lt}
+use Rattle.std.proofs.Common.{◌≡◌, ℕ, ◌<◌, ◌≤◌, inl, inr, Bool, true, false, not, is_some, if◌then◌else◌, List, Option, Some, None, Result, Ok, Err, slice_get, refl, sym, ap, subst, ◌∙◌, arith}
 use Rattle.std.proofs.lemmas.Bool.{cases_lt, lt-ltb}
 use Rattle.std.proofs.lemmas.Option.{slice_get_within}
 use Rattle.words.specs.declared.call.Client.{Client}
 use Rattle.words.specs.declared.call.Kind.TheVariants.{Log as log_kind}
 use Rattle.words.specs.declared.limits.TheConstants.{MAX_CLIENTS}
 use Rattle.words.specs.declared.refusal.Refusal.{Refusal}
-use Rattle.words.specs.declared.refusal.Refusal.TheVariants.{NoClient, NoQueue, NotReady}
+use Rattle.words.specs.declared.refusal.Refusal.TheVariants.{NoClient, NotReady}
 use Rattle.words.specs.declared.told.Told.{Told}
 use Rattle.words.specs.declared.told.Told.TheVariants.{None as told_none, Verdict as told_verdict, Row as told_row}
 use Rattle.words.specs.declared.told.Verdict.{Verdict}
 use Rattle.logqueue.specs.Numbers.{verdict_of}
-use Rattle.persist.specs.Memory.{Words}
 use Rattle.arena.specs.Shape.{Shape}
 use Rattle.arena.specs.declared.broker.TheConstants.{SLOTS}
-use Rattle.interleave.specs.Holds.{Holds}
 use Rattle.interleave.specs.Queue.{told_in, told_to}
 use Rattle.interleave.specs.State.{State}
-use Rattle.interleave.specs.Verdicts.{IsRecalled, IsRested}
-use Rattle.interleave.proofs.verdicts.Given.{recalled_none}
+use Rattle.interleave.specs.Verdicts.{IsRested}
 use Rattle.named.specs.Brokers.{Brokered, IsSlotAt, IsWell, admission, answer_if, has_client, is_down, world_at, world_of}
 use Rattle.named.specs.Slots.{answered, world_in}
 use Rattle.named.specs.declared.recovery.BrokerRecovery.{BrokerRecovery}
 use Rattle.named.specs.declared.slot.Slot.{Slot}
 use Rattle.named.specs.declared.slot.Slot.TheVariants.{Closed, Durable, Log}
 use Rattle.session.specs.Keeping.{AreKeptAsHeard, told_when_asked, verdict_heard}
-use Rattle.session.specs.Sessions.{IsRight, IsSlotRight, is_up, kept_in}
+use Rattle.session.specs.Sessions.{IsRight, IsSlotRight, kept_in}
 use Rattle.session.proofs.SlotLaws.{right_as_told, right_if_untold}
 use Rattle.session.proofs.Worlds.{holds_there, none_some, up_there}
 

@@ -1,29 +1,22 @@
 -- What is kept over a step of recovery, and that the numbers which were answered stay so.
-use Rattle.std.proofs.Common.{◌≡◌, ◌≢◌, ℕ, ◌<◌, ◌≤◌, ◌⊎◌, inl, inr, Bool, true, false, not, is_none, is_some, List, Option, Some, None, Result, Ok, Err, slice_get, refl, sym, ap, subst, ◌∙◌, arith}
+use Rattle.std.proofs.Common.{◌≡◌, ℕ, ◌⊎◌, inl, inr, Bool, true, false, is_none, is_some, List, Option, Some, None, Result, Ok, Err, refl, sym, ap, subst, ◌∙◌}
 use Rattle.std.proofs.lemmas.Bool.{cases_eq}
-use Rattle.words.specs.declared.call.Client.{Client}
 use Rattle.words.specs.declared.call.Kind.TheVariants.{Log as log_kind}
-use Rattle.words.specs.declared.call.Reply.{Reply}
 use Rattle.words.specs.declared.refusal.Refusal.{Refusal}
-use Rattle.words.specs.declared.refusal.Refusal.TheVariants.{AlreadyReady}
-use Rattle.words.specs.declared.told.Outcome.{Outcome}
-use Rattle.words.specs.declared.told.Outcome.TheVariants.{NotTaken, Taken}
 use Rattle.words.specs.declared.told.Verdict.{Verdict}
 use Rattle.arena.specs.Shape.{Shape}
 use Rattle.arena.specs.declared.broker.SlotId.{SlotId}
-use Rattle.directory.specs.declared.recovery.DirectoryRecovery.{DirectoryRecovery}
 use Rattle.recover.specs.Table.{boot_recovery as queue_recovery}
 use Rattle.recover.specs.declared.recovery.Recovery.{Recovery}
 use Rattle.protocol.specs.declared.acts.Act.TheVariants.{Recover}
 use Rattle.interleave.specs.Calls.{is_no_memory}
 use Rattle.interleave.specs.State.{State, after_recover, recover_result, recover_with}
-use Rattle.interleave.specs.Verdicts.{IsRested}
 use Rattle.named.specs.Brokers.{Brokered, IsWell, is_down, quiet, world_at}
 use Rattle.named.specs.Slots.{acted, answered}
-use Rattle.named.specs.Stopping.{IsDirectoryRead, IsFound, IsFoundFirst, IsFoundIn, IsQueueOn, IsQueueRecovered, IsRecoveryStep, found_by, found_world}
+use Rattle.named.specs.Stopping.{IsFound, IsFoundFirst, IsFoundIn, IsQueueOn, IsQueueRecovered, IsRecoveryStep, found_by, found_world}
 use Rattle.named.specs.declared.recovery.BrokerRecovery.{BrokerRecovery}
 use Rattle.named.specs.declared.recovery.BrokerRecovery.TheVariants.{ReadDirectory, RecoverQueue}
-use Rattle.session.specs.Sessions.{IsRight, IsSlotRight, Sessioned, is_up, kept_in}
+use Rattle.session.specs.Sessions.{IsSlotRight, kept_in}
 use Rattle.session.proofs.SlotLaws.{rested_recovered, right_down, right_if_none, right_if_quiet}
 use Rattle.session.proofs.Worlds.{holds_there}
 
