@@ -16,7 +16,7 @@ use Rattle.arena.specs.declared.broker.SlotId.{SlotId}
 use Rattle.interleave.specs.Calls.{is_no_memory}
 use Rattle.interleave.specs.Queue.{told_in}
 use Rattle.interleave.specs.State.{State, after_recover}
-use Rattle.interleave.specs.Verdicts.{IsRested, IsToldAbove, floor_by, taken_as, told_as}
+use Rattle.interleave.specs.Verdicts.{IsToldAbove, floor_by, taken_as, told_as}
 use Rattle.interleave.proofs.verdicts.Carried.{uncounted}
 use Rattle.named.specs.Brokers.{Brokered, IsWell, is_down, quiet, world_at}
 use Rattle.named.specs.Slots.{acted}
@@ -27,7 +27,7 @@ use Rattle.session.specs.Keeping.{AreKeptAsHeard, IsAnswered, SessionGoesOn}
 use Rattle.session.specs.Sessions.{AreVerdictsRight, IsLogClient, IsRight, IsSlotRight, Sessioned, is_up, kept_in}
 use Rattle.session.proofs.Downs.{up_same}
 use Rattle.session.proofs.Heard.{kept_there, right_heard}
-use Rattle.session.proofs.Recovering.{AreDownRight, IsAsFar, IsStepDown, recovered_shape, step_down}
+use Rattle.session.proofs.Recovering.{IsAsFar, IsStepDown, recovered_shape, step_down}
 use Rattle.session.proofs.Worlds.{holds_there, none_some, up_there}
 
 -- a slot's queue is still there, laid out as it was
@@ -118,7 +118,8 @@ module _ (s : Sessioned) (new : Brokered) (result : Result Bool Refusal) (right 
   taken_down r is =
       let down : is_down s.broker ≡ true = ap (λ (o : Option BrokerRecovery). is_some o) is in
       step_down s.broker new s.kept result r right.well well
-      (λ slot. subst (λ (d : Bool). IsSlotRight (not d) (world_at s.broker slot) (kept_in s.kept slot)) down (right.slots slot))
+      (λ slot. subst (λ (d : Bool). IsSlotRight (not d) (world_at s.broker slot) (kept_in s.kept slot)) down
+      (right.slots slot))
       down (subst (IsRecoveryStep s.broker new result) is step)
 
   -- where the broker is not ready by it
@@ -181,7 +182,8 @@ module _ (s : Sessioned) (new : Brokered) (result : Result Bool Refusal) (right 
           (λ slot w here log ready. (verdicts_at slot w here log).rested refl ready)
 
       answers_on : (slot : ℕ) (client : Client) (number : ℕ) (reply : Reply) → IsLogClient s.broker slot client
-          → IsAnswered (kept_in s.kept slot client.0) number reply → IsAnswered (kept_in kept slot client.0) number reply
+          → IsAnswered (kept_in s.kept slot client.0) number reply
+          → IsAnswered (kept_in kept slot client.0) number reply
       answers_on slot client number reply is answered =
           let on = clients_on slot client is in
           let w : State = on.world in
@@ -191,8 +193,8 @@ module _ (s : Sessioned) (new : Brokered) (result : Result Bool Refusal) (right 
           let last : Option Verdict = kept_in s.kept slot client.0 in
           let now : Option Verdict = verdict_of (slice_get (told_in w.queue) client.0) in
           let told : (told_as now ≡ told_as last) ⊎ IsToldAbove (floor_by last) (told_as now) =
-              subst (λ (t : Told). (t ≡ told_as last) ⊎ IsToldAbove (floor_by last) t)
-              ((rested.last client few).told (rested.nobody client)) (r.recalled client on.few).told in
+          subst (λ (t : Told). (t ≡ told_as last) ⊎ IsToldAbove (floor_by last) t)
+          ((rested.last client few).told (rested.nobody client)) (r.recalled client on.few).told in
           subst (λ (v : Option Verdict). IsAnswered v number reply)
           (sym (kept_there new well kept heard beyond slot w client up on.here on.few))
           (answered_on last now number reply told answered)

@@ -38,10 +38,11 @@ right_quiet s new right well same worlds = record {
 }
 
 -- each world became this, which leaves what is kept of it right
-became_right : (s : Sessioned) (new : Brokered) (up : Bool) (act : ℕ → State → State) → IsRight s → IsWell new → is_up new ≡ up
-    → ((slot : ℕ) → world_at new slot ≡ acted (act slot) (world_at s.broker slot))
+became_right : (s : Sessioned) (new : Brokered) (up : Bool) (act : ℕ → State → State) → IsRight s → IsWell new
+    → is_up new ≡ up → ((slot : ℕ) → world_at new slot ≡ acted (act slot) (world_at s.broker slot))
     → ((slot : ℕ) (w : State) → world_at s.broker slot ≡ Some w
-    → IsSlotRight (is_up s.broker) (Some w) (kept_in s.kept slot) → IsSlotRight up (Some (act slot w)) (kept_in s.kept slot))
+    → IsSlotRight (is_up s.broker) (Some w) (kept_in s.kept slot)
+    → IsSlotRight up (Some (act slot w)) (kept_in s.kept slot))
     → IsRight (record s { broker = new })
 became_right s new up act right well is worlds each = record {
   well = well;
@@ -51,7 +52,8 @@ became_right s new up act right well is worlds each = record {
       (go slot (world_at s.broker slot) refl (right.slots slot)));
 }
   where
-    go : (slot : ℕ) (o : Option State) → world_at s.broker slot ≡ o → IsSlotRight (is_up s.broker) o (kept_in s.kept slot)
+    go : (slot : ℕ) (o : Option State) → world_at s.broker slot ≡ o
+        → IsSlotRight (is_up s.broker) o (kept_in s.kept slot)
         → IsSlotRight up (acted (act slot) o) (kept_in s.kept slot)
     go slot None here is = is
     go slot (Some w) here is = each slot w here is
@@ -81,7 +83,8 @@ evicted_slot c slot word up w kept holds ready is = go (is_in_block c slot word)
     go true = evicted_queue up w (word - block_from c slot) kept holds ready is
     go false = is
 
-pub right_evicted : (s : Sessioned) (new : Brokered) (word : ℕ) → IsRight s → IsWell new → new.recovery ≡ s.broker.recovery
+pub right_evicted : (s : Sessioned) (new : Brokered) (word : ℕ) → IsRight s → IsWell new
+    → new.recovery ≡ s.broker.recovery
     → ((slot : ℕ) → world_at new slot ≡ acted (world_evicted s.broker.counts slot word) (world_at s.broker slot))
     → IsRight (record s { broker = new })
 right_evicted s new word right well same worlds =

@@ -1,32 +1,28 @@
 -- What is kept is right where it is what each client is told when asked.
-use Rattle.std.proofs.Common.{◌≡◌, ℕ, ◌<◌, ◌≤◌, ◌⊎◌, inl, inr, Bool, true, false, not, is_some, if◌then◌else◌, List, Option, Some, None, Result, Ok, Err, slice_get, refl, sym, ap, subst, ◌∙◌, arith}
-use Rattle.std.specs.Prelude.{nat_lt}
+use Rattle.std.proofs.Common.{◌≡◌, ℕ, ◌<◌, ◌≤◌, inl, inr, Bool, true, false, not, is_some, if◌then◌else◌, List, Option, Some, None, Result, Ok, Err, slice_get, refl, sym, ap, subst, ◌∙◌, arith}
 use Rattle.std.proofs.lemmas.Bool.{cases_lt, lt-ltb}
 use Rattle.std.proofs.lemmas.Option.{slice_get_within}
 use Rattle.words.specs.declared.call.Client.{Client}
 use Rattle.words.specs.declared.call.Kind.TheVariants.{Log as log_kind}
 use Rattle.words.specs.declared.limits.TheConstants.{MAX_CLIENTS}
 use Rattle.words.specs.declared.refusal.Refusal.{Refusal}
-use Rattle.words.specs.declared.refusal.Refusal.TheVariants.{NoClient, NoQueue, NotReady}
+use Rattle.words.specs.declared.refusal.Refusal.TheVariants.{NoClient, NotReady}
 use Rattle.words.specs.declared.told.Told.{Told}
 use Rattle.words.specs.declared.told.Told.TheVariants.{None as told_none, Verdict as told_verdict, Row as told_row}
 use Rattle.words.specs.declared.told.Verdict.{Verdict}
 use Rattle.logqueue.specs.Numbers.{verdict_of}
-use Rattle.persist.specs.Memory.{Words}
 use Rattle.arena.specs.Shape.{Shape}
 use Rattle.arena.specs.declared.broker.TheConstants.{SLOTS}
-use Rattle.interleave.specs.Holds.{Holds}
 use Rattle.interleave.specs.Queue.{told_in, told_to}
 use Rattle.interleave.specs.State.{State}
-use Rattle.interleave.specs.Verdicts.{IsRecalled, IsRested}
-use Rattle.interleave.proofs.verdicts.Given.{recalled_none}
+use Rattle.interleave.specs.Verdicts.{IsRested}
 use Rattle.named.specs.Brokers.{Brokered, IsSlotAt, IsWell, admission, answer_if, has_client, is_down, world_at, world_of}
 use Rattle.named.specs.Slots.{answered, world_in}
 use Rattle.named.specs.declared.recovery.BrokerRecovery.{BrokerRecovery}
 use Rattle.named.specs.declared.slot.Slot.{Slot}
 use Rattle.named.specs.declared.slot.Slot.TheVariants.{Closed, Durable, Log}
 use Rattle.session.specs.Keeping.{AreKeptAsHeard, told_when_asked, verdict_heard}
-use Rattle.session.specs.Sessions.{IsRight, IsSlotRight, is_up, kept_in}
+use Rattle.session.specs.Sessions.{IsRight, IsSlotRight, kept_in}
 use Rattle.session.proofs.SlotLaws.{right_as_told, right_if_untold}
 use Rattle.session.proofs.Worlds.{holds_there, none_some, up_there}
 
@@ -72,7 +68,8 @@ module _ (b : Brokered) (well : IsWell b) where
   pub clients_there : (slot : ℕ) (w : State) → world_at b slot ≡ Some w → w.shape.clients ≡ b.counts.clients
   clients_there slot w here = go (slice_get b.slots slot) refl here
     where
-      go : (o : Option Slot) → slice_get b.slots slot ≡ o → world_of b.words o ≡ Some w → w.shape.clients ≡ b.counts.clients
+      go : (o : Option Slot) → slice_get b.slots slot ≡ o → world_of b.words o ≡ Some w
+          → w.shape.clients ≡ b.counts.clients
       go None at is = absurd (none_some is)
       go (Some s) at is = clients_in b slot s w (well.slots slot s at) is
 
@@ -113,7 +110,8 @@ module _ (b : Brokered) (well : IsWell b) where
 module _ (b : Brokered) (well : IsWell b) (kept : List (List (Option Verdict))) (heard : AreKeptAsHeard b kept)
     (beyond : (slot client : ℕ) → MAX_CLIENTS ≤ client → kept_in kept slot client ≡ None) where
   -- nothing is kept where nothing is told
-  none_kept : (slot : ℕ) → ((client : ℕ) → told_when_asked b slot client ≡ None) → (client : ℕ) → kept_in kept slot client ≡ None
+  none_kept : (slot : ℕ) → ((client : ℕ) → told_when_asked b slot client ≡ None) → (client : ℕ)
+      → kept_in kept slot client ≡ None
   none_kept slot nothing client = elim (cases_lt slot SLOTS) [
     | inl inside ↦ elim (cases_lt client MAX_CLIENTS) [
       | inl few ↦ heard.each slot client inside few ∙ nothing client
@@ -136,8 +134,8 @@ module _ (b : Brokered) (well : IsWell b) (kept : List (List (Option Verdict))) 
   right_heard up rests = record {
     well = well;
     slots = λ slot.
-        subst (λ (r : Option BrokerRecovery). IsSlotRight (not (is_some r)) (world_at b slot) (kept_in kept slot)) (sym up)
-        (go slot (world_at b slot) refl);
+        subst (λ (r : Option BrokerRecovery). IsSlotRight (not (is_some r)) (world_at b slot) (kept_in kept slot))
+        (sym up) (go slot (world_at b slot) refl);
   }
     where
       go : (slot : ℕ) (o : Option State) → world_at b slot ≡ o → IsSlotRight true o (kept_in kept slot)
@@ -167,7 +165,8 @@ module _ (b : Brokered) (well : IsWell b) (kept : List (List (Option Verdict))) 
       go slot (Some w) here =
           right_if_untold w (holds_there b well slot w here) (kept_in kept slot) (nothing slot) (rests slot w here)
 
-  pub right_asked : ((slot : ℕ) (w : State) → world_at b slot ≡ Some w → w.shape.kind ≡ log_kind → w.recovery ≡ None → IsRested w)
+  pub right_asked
+      : ((slot : ℕ) (w : State) → world_at b slot ≡ Some w → w.shape.kind ≡ log_kind → w.recovery ≡ None → IsRested w)
       → IsRight (record { broker = b; kept = kept })
   right_asked rests = go b.recovery refl
     where

@@ -47,6 +47,7 @@ fn row_told(broker: &Broker, slot: SlotId) -> [Option<Verdict>; MAX_CLIENTS]
     ensures told { (client : ℕ) → client < MAX_CLIENTS
         → slice_index_or result client None ≡ told_when_asked broker.now slot.0 client }
     ensures len { length result ≡ MAX_CLIENTS }
+    ensures promises { KeepsPromises broker.now }
 {
     let mut row = [None; MAX_CLIENTS];
     for client in 0..MAX_CLIENTS {
@@ -60,6 +61,7 @@ impl Kept {
     pub(crate) fn told(broker: &Broker) -> Self
         ensures heard { AreKeptAsHeard broker.now result }
         ensures beyond { (slot client : ℕ) → MAX_CLIENTS ≤ client → kept_in result slot client ≡ None }
+        ensures promises { KeepsPromises broker.now }
     {
         let mut rows = [[None; MAX_CLIENTS]; SLOTS];
         for slot in 0..SLOTS {

@@ -12,6 +12,7 @@ loop-slot-init c = search rules
 pub loop-slot-preserved : goal.loop-slot-preserved
 loop-slot-preserved c = record {
   len = length-set c.loop-slot.rows c.loop-slot.slot c.row_told.result ∙ c.loop-slot.invariant.len;
+  promises = λ some. c.row_told.ensures.promises;
   so_far = one_more_place (IsRowOf c.args.broker.now) c.loop-slot.rows c.loop-slot.slot c.row_told.result []
       (omega (arith, c.loop-slot-test.true, c.loop-slot.invariant.len)) c.loop-slot.invariant.so_far
       (record { len = c.row_told.ensures.len; told = c.row_told.ensures.told });
@@ -33,3 +34,6 @@ returns-clause-beyond c slot client past =
       | inr far ↦ ap (λ (row : List (Option Verdict)). slice_index_or row client None)
           (get_or_past rows slot [] (omega (arith, c.loop-slot.invariant.len, far)))
     ]
+
+pub returns-clause-promises : goal.returns-clause-promises
+returns-clause-promises c = c.loop-slot.invariant.promises (omega (arith, c.loop-slot-test.false))

@@ -2,6 +2,7 @@ use Rattle.std.proofs.Common.{◌≡◌, ◌<◌, ℕ, List, [], Option, None, s
 use Rattle.words.specs.declared.limits.TheConstants.{MAX_CLIENTS}
 use Rattle.words.specs.declared.told.Verdict.{Verdict}
 use Rattle.named.specs.Brokers.{Brokered}
+use Rattle.named.specs.Promises.{KeepsPromises}
 use Rattle.session.specs.Keeping.{told_when_asked}
 use Rattle.session.proofs.kept.Kept.told.Given as goal
 
@@ -12,6 +13,7 @@ pub record IsRowOf (b : Brokered) (slot : ℕ) (row : List (Option Verdict)) : T
 
 pub record AreToldSoFar (l : goal.Live-loop-slot) : Type 0 where
   pub len : length l.rows ≡ 8
+  pub promises : 0 < l.slot → KeepsPromises l.broker
   pub so_far : (k : ℕ) → k < l.slot → IsRowOf l.broker k (slice_index_or l.rows k [])
 
 abbrev pub invariant-loop-slot : goal.invariant-loop-slot

@@ -11,10 +11,12 @@ pub invariant_of-self : goal.invariant_of-self
 invariant_of-self c =
     let s : Sessioned = record { broker = c.self.inside.broker; kept = c.self.inside.kept } in
     let go : (r : Result Unit Refusal) → c.crash.result ≡ r → IsRight (record s { broker = c.crash.new.self }) = elim [
-      | Ok u ↦ λ is. right_stopped s c.crash.new.self c.self.invariant c.crash.ensures.promises.well (c.crash.ensures.stopped is)
+      | Ok u ↦ λ is.
+          right_stopped s c.crash.new.self c.self.invariant c.crash.ensures.promises.well (c.crash.ensures.stopped is)
       | Err refusal ↦ λ is.
           right_roomier s c.crash.new.self c.self.invariant c.crash.ensures.promises.well
-          (subst (λ (r : Result Unit Refusal). OnErr r (IsSameButRoom s.broker c.crash.new.self)) is c.crash.ensures.same)
+          (subst (λ (r : Result Unit Refusal). OnErr r (IsSameButRoom s.broker c.crash.new.self)) is
+          c.crash.ensures.same)
     ] in
     go c.crash.result refl
 

@@ -23,8 +23,8 @@ returns-in_err-ready-clause-goes_on c =
     let s : Sessioned = record { broker = c.self.inside.broker; kept = c.self.inside.kept } in
     let new : Sessioned = record s { broker = c.recover_step.new.self } in
     subst (λ (x : Sessioned). SessionGoesOn x new) c.self.view_is
-    (unready_goes_on s c.recover_step.new.self c.recover_step.result c.self.invariant c.recover_step.ensures.promises.well
-    c.recover_step.ensures.step)
+    (unready_goes_on s c.recover_step.new.self c.recover_step.result c.self.invariant
+    c.recover_step.ensures.promises.well c.recover_step.ensures.step)
 
 pub returns-in_err-ready-clause-promises : goal.returns-in_err-ready-clause-promises
 returns-in_err-ready-clause-promises c = numbers_kept _ (invariant_of-self c)
@@ -34,7 +34,7 @@ pub invariant_of-self-then-ready : goal.invariant_of-self-then-ready
 invariant_of-self-then-ready c =
     let s : Sessioned = record { broker = c.self.inside.broker; kept = c.self.inside.kept } in
     let ready : c.recover_step.result ≡ Ok true =
-        c.in_ok-ready.was ∙ ap (λ (x : Bool). let r : Result Bool Refusal = Ok x in r) c.if-ready.true in
+    c.in_ok-ready.was ∙ ap (λ (x : Bool). let r : Result Bool Refusal = Ok x in r) c.if-ready.true in
     right_ready s c.recover_step.new.self c.recover_step.result c.self.invariant c.recover_step.ensures.promises.well
     c.recover_step.ensures.step ready c.told-self-inside.result c.told-self-inside.ensures.heard
     c.told-self-inside.ensures.beyond
@@ -48,7 +48,7 @@ returns-then-ready-clause-goes_on c =
     let s : Sessioned = record { broker = c.self.inside.broker; kept = c.self.inside.kept } in
     let new : Sessioned = record { broker = c.recover_step.new.self; kept = c.told-self-inside.result } in
     let ready : c.recover_step.result ≡ Ok true =
-        c.in_ok-ready.was ∙ ap (λ (x : Bool). let r : Result Bool Refusal = Ok x in r) c.if-ready.true in
+    c.in_ok-ready.was ∙ ap (λ (x : Bool). let r : Result Bool Refusal = Ok x in r) c.if-ready.true in
     subst (λ (x : Sessioned). SessionGoesOn x new) c.self.view_is
     (ready_goes_on s c.recover_step.new.self c.recover_step.result c.self.invariant c.recover_step.ensures.promises.well
     c.recover_step.ensures.step ready c.told-self-inside.result c.told-self-inside.ensures.heard
@@ -73,8 +73,8 @@ returns-else-ready-clause-goes_on c =
     let s : Sessioned = record { broker = c.self.inside.broker; kept = c.self.inside.kept } in
     let new : Sessioned = record s { broker = c.recover_step.new.self } in
     subst (λ (x : Sessioned). SessionGoesOn x new) c.self.view_is
-    (unready_goes_on s c.recover_step.new.self c.recover_step.result c.self.invariant c.recover_step.ensures.promises.well
-    c.recover_step.ensures.step)
+    (unready_goes_on s c.recover_step.new.self c.recover_step.result c.self.invariant
+    c.recover_step.ensures.promises.well c.recover_step.ensures.step)
 
 pub returns-else-ready-clause-promises : goal.returns-else-ready-clause-promises
 returns-else-ready-clause-promises c = numbers_kept _ (invariant_of-self-else-ready c)
