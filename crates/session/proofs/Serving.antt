@@ -26,6 +26,7 @@ use Rattle.interleave.proofs.verdicts.Alone.{answered_alone}
 use Rattle.interleave.proofs.verdicts.Last.{IsGiven}
 use Rattle.named.specs.Brokers.{Brokered, IsWell, admission, answer_at, answer_if, is_down, quiet, world_after, world_at}
 use Rattle.named.specs.Slots.{IfWorld}
+use Rattle.named.proofs.Kept.{some_is}
 use Rattle.named.proofs.Stays.{alone_alike, start_alike}
 use Rattle.session.specs.Keeping.{IsAnswered, IsKeptNow}
 use Rattle.session.specs.Numbers.{by_last, by_number, by_outcome, by_reply, missed}
@@ -257,3 +258,49 @@ answered_reply s right slot client None reply is = absurd (go (request_admission
     go : (r : Result Unit Refusal) → answer_if r (let a : Result (Option Reply) Refusal = Ok None in a) ≡ Ok (Some reply) → ⊥
     go (Err refusal) e = cc
     go (Ok u) e = cc
+
+-- a request that is to run was admitted
+if_answered : {T : Type 0} (r : Result Unit Refusal) (a : Result T Refusal) (x : T) → answer_if r a ≡ Ok x → r ≡ Ok tt
+if_answered (Ok u) a x e = refl
+if_answered (Err refusal) a x e = absurd (cc (e))
+
+pub runs_admitted : (s : Sessioned) (slot : ℕ) (client : Client) (number : ℕ)
+    → request_answer s slot client number ≡ Ok None → request_admission log_kind s.broker slot client ≡ Ok tt
+runs_admitted s slot client number is =
+    if_answered (request_admission log_kind s.broker slot client) (by_number (kept_at s slot client) number) None is
+
+-- the queue that serves it is of its kind
+served_kind : (kind : Kind) (b : Brokered) (slot : ℕ) (client : Client) (w : State)
+    → request_admission kind b slot client ≡ Ok tt → world_at b slot ≡ Some w → w.shape.kind ≡ kind
+served_kind kind b slot client w admitted here =
+    let at : IsAnsweredAt (queue_admission kind client) b slot client tt =
+    answered_at (queue_admission kind client) b slot client tt admitted in
+    let same : at.world ≡ w = some_is (world_at b slot) at.world w at.here here in
+    ap (λ (v : State). v.shape.kind) (sym same) ∙ admitted_kind kind client at.world at.says
+
+module _ (old new : Brokered) (slot : ℕ) (client : Client) (call : Call) (was : List (List (Option Verdict)))
+    (right : IsRight (record { broker = old; kept = was })) (well : IsWell new) (fits : FitsCall call) where
+  admitted_is_up : (kind : Kind) → request_admission kind old slot client ≡ Ok tt → old.recovery ≡ None
+  admitted_is_up kind admitted = (answered_at (queue_admission kind client) old slot client tt admitted).up
+
+  -- a call without a number
+  pub plain_run_right : request_admission durable_kind old slot client ≡ Ok tt → (result : Result Reply Refusal)
+      → IsRun old new slot client 0 call result → IsRight (record { broker = new; kept = was })
+  plain_run_right admitted (Err refusal) made = unserved_right old new slot client 0 call was refusal right well made
+  plain_run_right admitted (Ok reply) made =
+      plain_right old new slot client 0 call reply was right well (admitted_is_up durable_kind admitted) fits made
+      (served_kind durable_kind old slot client made.world admitted made.was)
+
+  -- one with a number
+  pub run_right : (number : ℕ) (reply : Reply) (is : List (List (Option Verdict)))
+      → request_admission log_kind old slot client ≡ Ok tt → IsServed old new slot client number call reply
+      → IsKeptNow was is slot client.0 (Some (taken_as number reply)) → IsRight (record { broker = new; kept = is })
+  run_right number reply is admitted made kept =
+      served_right old new slot client number call reply was right well (admitted_is_up log_kind admitted) fits made is kept
+
+  pub run_reply : (number : ℕ) (reply : Reply) (is : List (List (Option Verdict)))
+      → request_admission log_kind old slot client ≡ Ok tt → IsServed old new slot client number call reply
+      → IsReplyAt (record { broker = new; kept = is }) slot client number reply
+  run_reply number reply is admitted made =
+      served_reply old new slot client number call reply was right well (admitted_is_up log_kind admitted) fits made is
+      (served_kind log_kind old slot client made.world admitted made.was)

@@ -1,8 +1,9 @@
 //! What holds over any list of a session's acts.
 
-ghost use Rattle.std.specs.Prelude.{◌≡◌, ℕ, Ok, Option, Some, None};
+ghost use Rattle.std.specs.Prelude.{◌≡◌, ◌<◌, ℕ, Ok, Option, Some, None};
 ghost use Rattle.words.specs.declared.call.Client.{Client};
 ghost use Rattle.words.specs.declared.call.Reply.{Reply};
+ghost use Rattle.words.specs.declared.limits.TheConstants.{MAX_CLIENTS};
 ghost use Rattle.words.specs.declared.told.Verdict.{Verdict};
 ghost use Rattle.interleave.specs.Holds.{Holds};
 ghost use Rattle.interleave.specs.State.{State};
@@ -27,10 +28,5 @@ pub fn answers_last()
 /// A client's number has one reply in a log queue.
 pub fn numbers_have_one_reply()
     ensures { (w : State) (client : Client) (number : ℕ) (reply other : Reply) → Holds w → w.shape.kind ≡ Kind.Log
-        → IsReplyOf w client number reply → IsReplyOf w client number other → reply ≡ other }
-{}
-
-#[tactic(auto, using(crate::proofs::Worlds::up_there, crate::proofs::SlotLaws::right_if_quiet, crate::proofs::Calling::right_served, crate::proofs::Serving::served_reply, crate::proofs::Serving::answered_reply))]
-pub fn draft()
-    ensures { (w : State) → w.recovery ≡ None → w.recovery ≡ None }
+        → client.0 < MAX_CLIENTS → IsReplyOf w client number reply → IsReplyOf w client number other → reply ≡ other }
 {}

@@ -1,4 +1,4 @@
-use Rattle.std.proofs.Common.{rules, ◌≡◌, ◌∙◌, ℕ, Option, None, Result, Ok, Err, refl, sym, ap, subst}
+use Rattle.std.proofs.Common.{rules, ◌≡◌, ◌∙◌, ℕ, Option, None, Some, Result, Ok, Err, refl, sym, ap, subst}
 use Rattle.std.specs.Option.{unwrap_or}
 use Rattle.words.specs.declared.call.Reply.{Reply}
 use Rattle.words.specs.declared.refusal.Refusal.{Refusal}
@@ -6,7 +6,9 @@ use Rattle.interleave.specs.Calls.{is_no_memory}
 use Rattle.interleave.specs.State.{after_start}
 use Rattle.session.specs.Keeping.{SessionGoesOn}
 use Rattle.session.specs.Requests.{IsBegunBy, answer_to, as_begun, number_or_none}
-use Rattle.session.specs.Sessions.{Sessioned}
+use Rattle.session.specs.Sessions.{IsRight, Sessioned}
+use Rattle.session.proofs.Promised.{numbers_kept, numbers_shown}
+use Rattle.session.proofs.Serving.{answered_reply, started_right}
 use Rattle.session.proofs.Clients.{goes_on_kept, laid_out_act, shape_after_start}
 use Rattle.session.proofs.Starts.{begun_if_runs, number_is, started_by}
 use Rattle.session.proofs.session.Session.begin.Goals as goal
@@ -52,3 +54,49 @@ returns-clause-goes_on c =
     (laid_out_act (λ w. after_start (is_no_memory c.start.result) w c.args.client c.unwrap_or.result c.args.call)
     (λ w. shape_after_start (is_no_memory c.start.result) w c.args.client c.unwrap_or.result c.args.call) old.broker new.broker
     c.args.queue.0 c.args.client c.start.ensures.world c.start.ensures.others))
+
+pub returns-in_err-reply-clause-promises : goal.returns-in_err-reply-clause-promises
+returns-in_err-reply-clause-promises c = numbers_shown _ _ c.self.invariant c.self.view_is
+
+pub returns-in-Some-clause-promises : goal.returns-in-Some-clause-promises
+returns-in-Some-clause-promises c = numbers_shown _ _ c.self.invariant c.self.view_is
+
+pub returns-in-Some-clause-reply : goal.returns-in-Some-clause-reply
+returns-in-Some-clause-reply c =
+    let answers : answer_to c.args.self.now c.args.queue.0 c.args.client c.args.number ≡ Ok (Some c.in-Some.reply) = search rules in
+    answered_reply c.args.self.now (subst IsRight c.self.view_is c.self.invariant) c.args.queue.0 c.args.client c.args.number
+    c.in-Some.reply answers
+
+pub invariant_of-self : goal.invariant_of-self
+invariant_of-self c =
+    started_right c.self.inside.broker c.start.new.self c.args.queue.0 c.args.client c.unwrap_or.result c.args.call
+    c.self.inside.kept (as_begun c.start.result) c.self.invariant c.start.ensures.promises.well
+    (started_by c.self.inside.broker c.start.new.self c.args.queue.0 c.args.client c.unwrap_or.result c.args.call
+    c.start.result c.start.ensures.world c.start.ensures.result c.start.ensures.full
+    (record {
+      worlds = c.start.ensures.others;
+      rooms = c.start.ensures.other_rooms;
+      directory = c.start.ensures.directory;
+      creation = c.start.ensures.creation;
+      recovery = c.start.ensures.recovery;
+    }))
+
+pub returns-in_err-start-clause-promises : goal.returns-in_err-start-clause-promises
+returns-in_err-start-clause-promises c = numbers_kept _ (invariant_of-self c)
+
+pub invariant_of-self-2 : goal.invariant_of-self-2
+invariant_of-self-2 c =
+    started_right c.self.inside.broker c.start.new.self c.args.queue.0 c.args.client c.unwrap_or.result c.args.call
+    c.self.inside.kept (as_begun c.start.result) c.self.invariant c.start.ensures.promises.well
+    (started_by c.self.inside.broker c.start.new.self c.args.queue.0 c.args.client c.unwrap_or.result c.args.call
+    c.start.result c.start.ensures.world c.start.ensures.result c.start.ensures.full
+    (record {
+      worlds = c.start.ensures.others;
+      rooms = c.start.ensures.other_rooms;
+      directory = c.start.ensures.directory;
+      creation = c.start.ensures.creation;
+      recovery = c.start.ensures.recovery;
+    }))
+
+pub returns-clause-promises : goal.returns-clause-promises
+returns-clause-promises c = numbers_kept _ (invariant_of-self-2 c)

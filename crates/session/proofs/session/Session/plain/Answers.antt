@@ -1,6 +1,13 @@
-use Rattle.std.proofs.Common.{rules, ◌≡◌, refl, subst}
+use Rattle.std.proofs.Common.{rules, ◌≡◌, ◌≤◌, ℕ, Ok, refl, sym, ap, subst, ◌∙◌}
+use Rattle.words.specs.declared.call.Kind.TheVariants.{Durable as durable_kind}
+use Rattle.words.specs.declared.call.Call.TheVariants.{Enq}
+use Rattle.protocol.specs.Machine.{FitsCall}
+use Rattle.interleave.proofs.HoldsKept.{call_fits}
 use Rattle.session.specs.Keeping.{SessionGoesOn}
-use Rattle.session.specs.Sessions.{Sessioned}
+use Rattle.session.specs.Requests.{request_admission}
+use Rattle.session.specs.Sessions.{IsRight, Sessioned}
+use Rattle.session.proofs.Promised.{numbers_kept, numbers_shown}
+use Rattle.session.proofs.Serving.{plain_run_right}
 use Rattle.session.proofs.Clients.{goes_on_kept, laid_out_each, laid_out_run, others_run}
 use Rattle.session.proofs.Numbering.{answered_below, answered_by_floor}
 use Rattle.session.proofs.session.Session.plain.Goals as goal
@@ -13,3 +20,19 @@ returns-clause-goes_on c =
     (goes_on_kept old new refl (laid_out_each c.self.inside.broker c.run.new.broker c.args.queue.0
     (others_run c.self.inside.broker c.run.new.broker c.args.queue.0 c.args.client 0 c.args.call c.run.result c.run.ensures.run).worlds
     (laid_out_run c.self.inside.broker c.run.new.broker c.args.queue.0 c.args.client 0 c.args.call c.run.result c.run.ensures.run)))
+
+pub returns-in_err-admit-clause-promises : goal.returns-in_err-admit-clause-promises
+returns-in_err-admit-clause-promises c = numbers_shown _ _ c.self.invariant c.self.view_is
+
+pub invariant_of-self : goal.invariant_of-self
+invariant_of-self c =
+    let value : (v : ℕ) → c.args.call ≡ Enq v → v ≤ 4294967295 = search rules in
+    let fits : FitsCall c.args.call = call_fits c.args.call value in
+    let admitted : request_admission durable_kind c.args.self.now.broker c.args.queue.0 c.args.client ≡ Ok tt = search rules in
+    let here : request_admission durable_kind c.self.inside.broker c.args.queue.0 c.args.client ≡ Ok tt =
+    ap (λ (s : Sessioned). request_admission durable_kind s.broker c.args.queue.0 c.args.client) c.self.view_is ∙ admitted in
+    plain_run_right c.self.inside.broker c.run.new.broker c.args.queue.0 c.args.client c.args.call c.self.inside.kept
+    c.self.invariant c.run.ensures.promises.well fits here c.run.result c.run.ensures.run
+
+pub returns-clause-promises : goal.returns-clause-promises
+returns-clause-promises c = numbers_kept _ (invariant_of-self c)

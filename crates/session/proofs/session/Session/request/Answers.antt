@@ -1,12 +1,17 @@
-use Rattle.std.proofs.Common.{rules, ◌≡◌, ◌∙◌, ℕ, inr, None, Ok, Option, Result, Some, refl, ap, subst}
+use Rattle.std.proofs.Common.{rules, ◌≡◌, ◌≤◌, ◌∙◌, ℕ, sym, inr, None, Ok, Option, Result, Some, refl, ap, subst}
 use Rattle.words.specs.declared.call.Reply.{Reply}
 use Rattle.words.specs.declared.call.Kind.TheVariants.{Log as log_kind}
 use Rattle.words.specs.declared.refusal.Refusal.{Refusal}
+use Rattle.words.specs.declared.call.Call.TheVariants.{Enq}
+use Rattle.protocol.specs.Machine.{FitsCall}
+use Rattle.interleave.proofs.HoldsKept.{call_fits}
 use Rattle.interleave.specs.Verdicts.{taken_as}
 use Rattle.session.specs.Keeping.{SessionGoesOn}
 use Rattle.session.specs.Numbers.{by_number}
 use Rattle.session.specs.Requests.{request_admission, request_answer}
-use Rattle.session.specs.Sessions.{Sessioned, kept_at}
+use Rattle.session.specs.Sessions.{IsRight, Sessioned, kept_at}
+use Rattle.session.proofs.Promised.{numbers_kept, numbers_shown}
+use Rattle.session.proofs.Serving.{kept_reply, run_reply, run_right, runs_admitted, unserved_right}
 use Rattle.session.proofs.Clients.{goes_on_kept, goes_on_kept_now, laid_out_each, laid_out_run, others_run, slot_within}
 use Rattle.session.proofs.Numbering.{answer_runs, answered_below}
 use Rattle.session.proofs.session.Session.request.Goals as goal
@@ -20,15 +25,15 @@ returns-in_err-reply-2-clause-goes_on c =
     (others_run old.broker new.broker c.args.queue.0 c.args.client c.args.number c.args.call c.run.result c.run.ensures.run).worlds
     (laid_out_run old.broker new.broker c.args.queue.0 c.args.client c.args.number c.args.call c.run.result c.run.ensures.run)))
 
-pub keep-requires-clause-slot : goal.keep-requires-clause-slot
-keep-requires-clause-slot c =
+pub hear-requires-clause-slot : goal.hear-requires-clause-slot
+hear-requires-clause-slot c =
     let ran = c.in_ok-reply-2.ensures.run in
     slot_within c.self.inside.broker c.args.queue.0 ran.world c.self.invariant.well ran.was
 
 pub returns-clause-goes_on : goal.returns-clause-goes_on
 returns-clause-goes_on c =
     let old : Sessioned = record { broker = c.self.inside.broker; kept = c.self.inside.kept } in
-    let new : Sessioned = record { broker = c.run.new.broker; kept = c.keep.new.self } in
+    let new : Sessioned = record { broker = c.run.new.broker; kept = c.hear.new.self } in
     let answer : request_answer c.args.self.now c.args.queue.0 c.args.client c.args.number ≡ Ok None = search rules in
     let here : request_answer old c.args.queue.0 c.args.client c.args.number ≡ Ok None =
         ap (λ (s : Sessioned). request_answer s c.args.queue.0 c.args.client c.args.number) c.self.view_is ∙ answer in
@@ -36,8 +41,55 @@ returns-clause-goes_on c =
         answer_runs (request_admission log_kind old.broker c.args.queue.0 c.args.client)
         (by_number (kept_at old c.args.queue.0 c.args.client) c.args.number) here in
     subst (λ (s : Sessioned). SessionGoesOn s new) c.self.view_is
-    (goes_on_kept_now old new c.args.queue.0 c.args.client (Some (taken_as c.args.number c.in_ok-reply-2.reply)) c.keep.ensures
+    (goes_on_kept_now old new c.args.queue.0 c.args.client (Some (taken_as c.args.number c.in_ok-reply-2.reply)) c.hear.ensures
     (laid_out_each old.broker new.broker c.args.queue.0
     (others_run old.broker new.broker c.args.queue.0 c.args.client c.args.number c.args.call c.run.result c.run.ensures.run).worlds
     (laid_out_run old.broker new.broker c.args.queue.0 c.args.client c.args.number c.args.call c.run.result c.run.ensures.run))
     (λ was reply answered. inr (answered_below (kept_at old c.args.queue.0 c.args.client) c.args.number was reply runs answered)))
+
+pub returns-in_err-reply-clause-promises : goal.returns-in_err-reply-clause-promises
+returns-in_err-reply-clause-promises c = numbers_shown _ _ c.self.invariant c.self.view_is
+
+pub returns-in-Some-clause-promises : goal.returns-in-Some-clause-promises
+returns-in-Some-clause-promises c = numbers_shown _ _ c.self.invariant c.self.view_is
+
+pub returns-in-Some-clause-reply : goal.returns-in-Some-clause-reply
+returns-in-Some-clause-reply c =
+    let answers : request_answer c.args.self.now c.args.queue.0 c.args.client c.args.number ≡ Ok (Some c.in-Some.reply) = search rules in
+    kept_reply c.args.self.now (subst IsRight c.self.view_is c.self.invariant) c.args.queue.0 c.args.client c.args.number
+    c.in-Some.reply answers
+
+pub invariant_of-self : goal.invariant_of-self
+invariant_of-self c =
+    unserved_right c.self.inside.broker c.run.new.broker c.args.queue.0 c.args.client c.args.number c.args.call
+    c.self.inside.kept c.in_err-reply-2.field-0.0 c.self.invariant c.run.ensures.promises.well c.in_err-reply-2.ensures.run
+
+pub returns-in_err-reply-2-clause-promises : goal.returns-in_err-reply-2-clause-promises
+returns-in_err-reply-2-clause-promises c = numbers_kept _ (invariant_of-self c)
+
+pub invariant_of-self-2 : goal.invariant_of-self-2
+invariant_of-self-2 c =
+    let value : (v : ℕ) → c.args.call ≡ Enq v → v ≤ 4294967295 = search rules in
+    let fits : FitsCall c.args.call = call_fits c.args.call value in
+    let answer : request_answer c.args.self.now c.args.queue.0 c.args.client c.args.number ≡ Ok None = search rules in
+    let here : request_admission log_kind c.self.inside.broker c.args.queue.0 c.args.client ≡ Ok tt =
+    ap (λ (s : Sessioned). request_admission log_kind s.broker c.args.queue.0 c.args.client) c.self.view_is
+    ∙ runs_admitted c.args.self.now c.args.queue.0 c.args.client c.args.number answer in
+    run_right c.self.inside.broker c.run.new.broker c.args.queue.0 c.args.client c.args.call c.self.inside.kept
+    c.self.invariant c.run.ensures.promises.well fits c.args.number c.in_ok-reply-2.reply c.hear.new.self here
+    c.in_ok-reply-2.ensures.run c.hear.ensures
+
+pub returns-clause-reply : goal.returns-clause-reply
+returns-clause-reply c =
+    let value : (v : ℕ) → c.args.call ≡ Enq v → v ≤ 4294967295 = search rules in
+    let fits : FitsCall c.args.call = call_fits c.args.call value in
+    let answer : request_answer c.args.self.now c.args.queue.0 c.args.client c.args.number ≡ Ok None = search rules in
+    let here : request_admission log_kind c.self.inside.broker c.args.queue.0 c.args.client ≡ Ok tt =
+    ap (λ (s : Sessioned). request_admission log_kind s.broker c.args.queue.0 c.args.client) c.self.view_is
+    ∙ runs_admitted c.args.self.now c.args.queue.0 c.args.client c.args.number answer in
+    run_reply c.self.inside.broker c.run.new.broker c.args.queue.0 c.args.client c.args.call c.self.inside.kept
+    c.self.invariant c.run.ensures.promises.well fits c.args.number c.in_ok-reply-2.reply c.hear.new.self here
+    c.in_ok-reply-2.ensures.run
+
+pub returns-clause-promises : goal.returns-clause-promises
+returns-clause-promises c = numbers_kept _ (invariant_of-self-2 c)
