@@ -4,15 +4,17 @@ use crate::acts::{
     A, are_explained, are_once, ask, begin, comes_to, effects, holds, is_as_told, last, restart,
     taken, with_log,
 };
-use arena::BrokerLayout;
+use arena::{BrokerLayout, SLOTS};
 use session::Session;
 use std::alloc::Global;
 use std::test::Fail;
 use words::{Call, Refusal, Reply};
 
-/// How many words a broker of one client with three records has.
-fn size() -> Result<usize, Refusal> {
-    Ok(BrokerLayout::make(1, 3)?.size())
+/// How many words a broker of one client with three records has in the given number of blocks, and before them.
+fn words_in(blocks: usize) -> Result<usize, Refusal> {
+    let layout = BrokerLayout::make(1, 3)?;
+    let from = layout.block(A);
+    Ok(from.saturating_add(layout.block_size().saturating_mul(blocks)))
 }
 
 /// A session in which a call of this number goes on by so many steps; then the environment keeps a word, if there is
@@ -79,7 +81,7 @@ fn finds_none_once(alloc: Global, steps: u32, word: usize) -> Result<bool, Refus
 #[test]
 fn a_number_gets_once_whatever_is_kept(rt: HostRuntime) -> Result<(), Fail> {
     // The last word is one that there is not: nothing is kept beside what the call keeps.
-    let size = size().unwrap_or(0);
+    let size = words_in(SLOTS).unwrap_or(0);
     assert!(rt; size > 34);
     for steps in 0..=20 {
         for word in 0..=size {
@@ -94,7 +96,7 @@ fn a_number_gets_once_whatever_is_kept(rt: HostRuntime) -> Result<(), Fail> {
 
 #[test]
 fn a_number_puts_once_whatever_is_kept(rt: HostRuntime) -> Result<(), Fail> {
-    let size = size().unwrap_or(0);
+    let size = words_in(1).unwrap_or(0);
     for steps in 0..=22 {
         for word in 0..=size {
             assert!(rt;
@@ -108,7 +110,7 @@ fn a_number_puts_once_whatever_is_kept(rt: HostRuntime) -> Result<(), Fail> {
 
 #[test]
 fn a_number_finds_none_once_whatever_is_kept(rt: HostRuntime) -> Result<(), Fail> {
-    let size = size().unwrap_or(0);
+    let size = words_in(1).unwrap_or(0);
     for steps in 0..=16 {
         for word in 0..=size {
             let right = finds_none_once(rt.alloc(), steps, word);
