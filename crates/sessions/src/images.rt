@@ -72,7 +72,7 @@ fn an_image_of_a_recovery_goes_on_too(rt: HostRuntime) -> Result<(), Fail> {
     Ok(())
 }
 
-/// Whether the kept number is answered and the next one runs, in session after session, each over the image of the last.
+/// Whether the kept number is answered and the next one runs, in session after session, each over an image of the last.
 fn goes_on_and_on(alloc: Global) -> Result<bool, Refusal> {
     let mut session = with_log(alloc, 1, 8)?;
     let mut right = true;

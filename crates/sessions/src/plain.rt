@@ -179,9 +179,9 @@ impl Plain {
         Ok(given && next && left.serve(call)? == reply)
     }
 
-    /// Replays the order of a history since its beginning: whether each number of a client took effect once and in its
-    /// turn, with the reply that a plain list gives and that was first given, and the queue holds what that leaves. Then
-    /// the next history begins with that, where it does.
+    /// Replays the order of a history since its beginning: whether each number of a client took effect once and in
+    /// turn, with the reply that a plain list gives and that was first given, and the queue holds what is left. Where
+    /// it ends, the next one begins with that.
     pub(crate) fn is_replayed(
         &mut self,
         alloc: Global,

@@ -19,7 +19,7 @@ fn with_nine(alloc: Global) -> Result<Session, Refusal> {
     Ok(session)
 }
 
-/// Number 2 is sent again and again: each time it is cut off by a crash, a step later than before, until it is answered.
+/// Number 2 is sent again and again: each time a crash cuts it off, a step later than before, until it is answered.
 /// Its reply, and how often it was sent.
 fn send_until_answered(session: &mut Session, call: Call) -> Result<(Reply, u32), Refusal> {
     for sent in 0..=MOST_STEPS {
