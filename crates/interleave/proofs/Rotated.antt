@@ -85,7 +85,7 @@ refused_so w refusal is = go (is_down w) (some_client_calls w.calls) is
     go false true e = sym e
     go false false e = subst (λ (r : Result Unit Refusal). r ≡ answer_by false false (is_no_memory r)) e refl
 
-told_with : (queue : Queue) (told : List Told) → told_in (queue_with_told queue told) ≡ told
+pub told_with : (queue : Queue) (told : List Told) → told_in (queue_with_told queue told) ≡ told
 told_with (Durable old) told = refl
 told_with (Log clients) told = refl
 
@@ -212,7 +212,7 @@ module _ (w : State) (holds : Holds w) (quiet : IsQuiet w) where
           omega (arith, floor, low)
 
   -- no floor is below what the kept words tell
-  floors_told : (clients : LogClients) → w.shape.kind ≡ log_kind
+  pub floors_told : (clients : LogClients) → w.shape.kind ≡ log_kind
       → NumbersRise w.told w.log.events (order_in w) clients.floors → FloorsFit (machine w) clients.floors
       → (client : Client) → client.0 < MAX_CLIENTS
       → told_floor (kept_tells w) client ≤ slice_index clients.floors client.0

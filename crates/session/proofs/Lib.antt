@@ -15,4 +15,5 @@ pub mod Runs
 pub mod Serving
 pub mod SlotLaws
 pub mod Starts
+pub mod Uncalled
 pub mod Worlds

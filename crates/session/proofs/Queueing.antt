@@ -41,6 +41,40 @@ no_broker_recovery : (o : Option BrokerRecovery) → is_some o ≡ false → o �
 no_broker_recovery None e = refl
 no_broker_recovery (Some r) e = cc
 
+-- where the histories may end, nobody calls any queue
+free_to : (down busy : Bool) (c : Option Creation) → Ok tt ≡ (let r : Result Unit Refusal = if down then Err NotReady
+    else (if is_some c || busy then Err Busy else (if false then Err NoMemory else Ok tt)) in r)
+    → (down ≡ false) × (busy ≡ false)
+free_to true busy c e = absurd (cc (e))
+free_to false busy (Some k) e = absurd (cc (e))
+free_to false true None e = absurd (cc (e))
+free_to false false None e = (refl, refl)
+
+pub up_rotates : (b : Brokered) → rotate_result false b ≡ Ok tt → b.recovery ≡ None
+up_rotates b rotates =
+    no_broker_recovery b.recovery (free_to (is_down b) (list_any has_calls_in b.slots) b.creation (sym rotates)).0
+
+quiet_world : (ws : Words) (slot : Slot) (w : State) → IsQuietIn slot → world_in ws slot ≡ Some w
+    → rotate_world false w ≡ Ok tt
+quiet_world ws Closed w is e = absurd (none_some e)
+quiet_world ws (Durable block) w is e =
+    let same : state_in ws block ≡ w = cc (e) in
+    subst (λ (v : State). rotate_world false v ≡ Ok tt) same (may_rotate false ws block is.0 is.1)
+quiet_world ws (Log block) w is e =
+    let same : state_in ws block ≡ w = cc (e) in
+    subst (λ (v : State). rotate_world false v ≡ Ok tt) same (may_rotate false ws block is.0 is.1)
+
+pub world_at_rest : (b : Brokered) → IsWell b → rotate_result false b ≡ Ok tt → (at : ℕ) (w : State)
+    → world_at b at ≡ Some w → rotate_world false w ≡ Ok tt
+world_at_rest b well rotates at w here = go (slice_get b.slots at) refl here
+  where
+    nobody : list_any has_calls_in b.slots ≡ false
+    nobody = (free_to (is_down b) (list_any has_calls_in b.slots) b.creation (sym rotates)).1
+
+    go : (o : Option Slot) → slice_get b.slots at ≡ o → world_of b.words o ≡ Some w → rotate_world false w ≡ Ok tt
+    go None e there = absurd (none_some there)
+    go (Some s) e there = quiet_world b.words s w (all_quiet b well (up_rotates b rotates) nobody at s e).1 there
+
 module _ (old new : Brokered) (kept : List (List (Option Verdict))) (right : IsRight (record { broker = old; kept = kept })) where
   abbrev before : Sessioned
   before = record { broker = old; kept = kept }
@@ -157,39 +191,8 @@ module _ (old new : Brokered) (kept : List (List (Option Verdict))) (right : IsR
       made : IsRotated old new
       made = rotated refl
 
-      free_to : (down busy : Bool) (c : Option Creation) → Ok tt ≡ (let r : Result Unit Refusal = if down then Err NotReady
-          else (if is_some c || busy then Err Busy else (if false then Err NoMemory else Ok tt)) in r)
-          → (down ≡ false) × (busy ≡ false)
-      free_to true busy c e = absurd (cc (e))
-      free_to false busy (Some k) e = absurd (cc (e))
-      free_to false true None e = absurd (cc (e))
-      free_to false false None e = (refl, refl)
-
-      free : (is_down old ≡ false) × (list_any has_calls_in old.slots ≡ false)
-      free = free_to (is_down old) (list_any has_calls_in old.slots) old.creation answer
-
       up : old.recovery ≡ None
-      up = no_broker_recovery old.recovery free.0
-
-      quiets : AreQuiet old.words old.slots
-      quiets = all_quiet old right.well up free.1
-
-      quiet_world : (ws : Words) (slot : Slot) (w : State) → IsQuietIn slot → world_in ws slot ≡ Some w
-          → rotate_world false w ≡ Ok tt
-      quiet_world ws Closed w is e = absurd (none_some e)
-      quiet_world ws (Durable block) w is e =
-          let same : state_in ws block ≡ w = cc (e) in
-          subst (λ (v : State). rotate_world false v ≡ Ok tt) same (may_rotate false ws block is.0 is.1)
-      quiet_world ws (Log block) w is e =
-          let same : state_in ws block ≡ w = cc (e) in
-          subst (λ (v : State). rotate_world false v ≡ Ok tt) same (may_rotate false ws block is.0 is.1)
-
-      at_rest : (at : ℕ) (w : State) → world_at old at ≡ Some w → rotate_world false w ≡ Ok tt
-      at_rest at w here = go (slice_get old.slots at) refl here
-        where
-          go : (o : Option Slot) → slice_get old.slots at ≡ o → world_of old.words o ≡ Some w → rotate_world false w ≡ Ok tt
-          go None e there = absurd (none_some there)
-          go (Some s) e there = quiet_world old.words s w (quiets at s e).1 there
+      up = up_rotates old (sym answer)
 
       was : (at : ℕ) → IsSlotRight true (world_at old at) (kept_in kept at)
       was at = subst (λ (b : Bool). IsSlotRight b (world_at old at) (kept_in kept at)) (up_is old up) (right.slots at)
@@ -197,7 +200,7 @@ module _ (old new : Brokered) (kept : List (List (Option Verdict))) (right : IsR
       each : (at : ℕ) (o : Option State) → world_at old at ≡ o → IsSlotRight true (acted after_rotation o) (kept_in kept at)
       each at None e = subst (λ (o : Option State). IsSlotRight true o (kept_in kept at)) e (was at)
       each at (Some w) e =
-          right_rotated false w (holds_there old right.well at w e) (at_rest at w e) (kept_in kept at)
+          right_rotated false w (holds_there old right.well at w e) (world_at_rest old right.well (sym answer) at w e) (kept_in kept at)
           (subst (λ (o : Option State). IsSlotRight true o (kept_in kept at)) e (was at))
 
   -- numbers that were answered stay so: no queue is taken away

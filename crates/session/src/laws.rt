@@ -1,6 +1,13 @@
 //! What holds over any list of a session's acts.
 
-ghost use Rattle.std.specs.Prelude.{◌≡◌, ◌<◌, ℕ, Ok, Option, Some, None};
+ghost use Rattle.std.specs.Prelude.{◌≡◌, ◌<◌, ℕ, Bool, false, Ok, Option, Result, Some, None};
+ghost use Rattle.words.specs.declared.refusal.Refusal.{Refusal};
+ghost use Rattle.persist.specs.Memory.{Words};
+ghost use Rattle.arena.specs.Shape.{Counts};
+ghost use Rattle.named.specs.Booting.{IsBooted};
+ghost use Rattle.named.specs.Brokers.{Brokered, IsNew, IsWell};
+ghost use Rattle.named.specs.Rotating.{rotate_result, IsRotated};
+ghost use Rattle.named.specs.Stopping.{IsRecoveryStep, IsStopped};
 ghost use Rattle.words.specs.declared.call.Client.{Client};
 ghost use Rattle.words.specs.declared.call.Reply.{Reply};
 ghost use Rattle.words.specs.declared.limits.TheConstants.{MAX_CLIENTS};
@@ -11,7 +18,7 @@ ghost use Rattle.interleave.specs.Verdicts.{IsReplyOf, taken_as};
 ghost use Rattle.words.specs.declared.call.Kind.{Kind};
 ghost use Rattle.session.specs.Keeping.{IsAnswered, SessionGoesOn};
 ghost use Rattle.session.specs.Numbers.{by_number};
-ghost use Rattle.session.specs.Sessions.{Sessioned};
+ghost use Rattle.session.specs.Sessions.{IsUncalled, Sessioned};
 
 /// Any list of acts goes on with the numbers that were answered. A number that was answered once never runs again, and
 /// each answer to it, however often it is sent and whatever crashes, recoveries, evictions and rotations come between,
@@ -29,4 +36,16 @@ pub fn answers_last()
 pub fn numbers_have_one_reply()
     ensures { (w : State) (client : Client) (number : ℕ) (reply other : Reply) → Holds w → w.shape.kind ≡ Kind.Log
         → client.0 < MAX_CLIENTS → IsReplyOf w client number reply → IsReplyOf w client number other → reply ≡ other }
+{}
+
+/// A broker that begins, that has recovered, or that has ended its histories may be given to a session: nobody has
+/// called it since.
+pub fn uncalled_brokers()
+    ensures new { (c : Counts) (b : Brokered) → IsNew c b → IsUncalled b }
+    ensures booted { (ws : Words) (b : Brokered) → IsWell b → IsBooted ws b → IsUncalled b }
+    ensures stopped { (old new : Brokered) → IsStopped old new → IsUncalled new }
+    ensures recovered { (old new : Brokered) (result : Result Bool Refusal) → IsWell old → IsUncalled old
+        → IsRecoveryStep old new result old.recovery → IsUncalled new }
+    ensures rotated { (old new : Brokered) → IsWell old → rotate_result false old ≡ Ok tt → IsRotated old new
+        → IsUncalled new }
 {}

@@ -51,7 +51,7 @@ use Rattle.interleave.proofs.KeptTells.{tells_on, told_by_kept}
 use Rattle.interleave.proofs.NumberLaws.{there_at, told_covers}
 use Rattle.interleave.proofs.ValueLaws.{zero_at}
 use Rattle.interleave.proofs.verdicts.Acts.{floor_ready}
-use Rattle.interleave.proofs.verdicts.Tells.{IsLogTold, kept_is, told_now}
+use Rattle.interleave.proofs.verdicts.Tells.{IsLogTold, kept_is, not_below, told_now}
 
 none_some : {X : Type 0} {x : X} → None ≡ Some x → ⊥
 none_some e = cc
@@ -252,7 +252,7 @@ rested_at_ready full w holds log is = record { nobody = nobody; last = last }
         let same : told_as (verdict_of (slice_get (told_in new.queue) client.0)) ≡ kept_told new client =
         ap (λ (o : Option Told). told_as (verdict_of o)) given ∙ kept_verdict new keeps log_new client few in
         record {
-          floor = floor_ready w holds log client few full is ∙ ap floor_of (sym same);
+          floor = not_below (floor_ready w holds log client few full is ∙ ap floor_of (sym same));
           told = λ idle. sym same;
         }
 
@@ -265,7 +265,7 @@ copies_are (suc n) (suc t) x y at = copies_are n t x y at
 pub last_new : (s : Shape) (ws : Words) → Holds (world_over s ws) → s.kind ≡ log_kind → (client : Client)
     → client.0 < MAX_CLIENTS → IsLast (world_over s ws) client None
 last_new s ws holds log client few = record {
-  floor = ap (λ (k : Kind). floor_in (new_queue k s.clients) client) log ∙ zero_at MAX_CLIENTS client.0;
+  floor = not_below (ap (λ (k : Kind). floor_in (new_queue k s.clients) client) log ∙ zero_at MAX_CLIENTS client.0);
   told = λ idle. go (kept_told w client) (told_now w holds log client few);
 }
   where

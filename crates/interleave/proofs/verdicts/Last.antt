@@ -1,5 +1,5 @@
 -- A client's last verdict stays its last one until its own call is answered, which gives it another.
-use Rattle.std.proofs.Common.{◌≡◌, ℕ, ◌<◌, ◌+◌, inl, inr, Bool, true, false, List, [], ◌∷◌, ◌++◌, length, Option}
+use Rattle.std.proofs.Common.{◌≡◌, ℕ, ◌<◌, ◌≤◌, ◌+◌, inl, inr, Bool, true, false, List, [], ◌∷◌, ◌++◌, length, Option}
 use Rattle.std.proofs.Common.{Some, None, Result, Ok, Err, slice_get, slice_index_or, refl, sym, ap, ◌∙◌, subst, arith}
 use Rattle.std.specs.Prelude.{EachIndex}
 use Rattle.std.proofs.lemmas.Grind.{get_or-set_at}
@@ -53,12 +53,12 @@ use Rattle.interleave.specs.Holds.{Holds, from_invariant}
 use Rattle.interleave.specs.Queue.{told_in}
 use Rattle.interleave.specs.State.{State, machine, after_attempt, after_evict, after_one_access, after_step, evict_with}
 use Rattle.interleave.specs.State.{is_down, order_in, queue_left, step_result, step_result_with, step_with}
-use Rattle.interleave.specs.Verdicts.{IsIdle, IsLast, IsReplyOf, IsRested, floor_in, kept_told, number_of_call}
+use Rattle.interleave.specs.Verdicts.{IsIdle, IsLast, IsReplyOf, IsRested, floor_by, floor_in, kept_told, number_of_call}
 use Rattle.interleave.specs.Verdicts.{number_under_way, taken_as}
 use Rattle.interleave.proofs.HoldsKept.{explained_world, gone_on_is, holds_gone_on, may_step, waiting_is}
 use Rattle.interleave.proofs.verdicts.Acts.{floor_answered, floor_below, told_after}
 use Rattle.interleave.proofs.verdicts.Moves.{moves}
-use Rattle.interleave.proofs.verdicts.Tells.{kept_is, own_says, told_in_world}
+use Rattle.interleave.proofs.verdicts.Tells.{kept_is, not_below, own_says, told_in_world}
 
 none_some : {X : Type 0} {x : X} → None ≡ Some x → ⊥
 none_some e = cc
@@ -72,7 +72,7 @@ pub last_after : (full : Bool) (w : State) (act : Act ℕ) → Holds w → w.sha
 last_after full w act holds log client few last up still unanswered is =
     elim (moves w holds log client few full act up still) [
       | inl kept ↦ record {
-        floor = kept.floor ∙ is.floor;
+        floor = subst (λ (f : ℕ). floor_by last ≤ f) (sym kept.floor) is.floor;
         told = λ idle.
             let was : (c : Option UnderWay) → slice_index_or w.calls client.0 None ≡ c → IsIdle w client = λ c.
             was_idle (after_attempt full w act) kept.busy idle c in
@@ -196,8 +196,8 @@ module _ (w : State) (holds : Holds w) (log : w.shape.kind ≡ log_kind) (client
   given : IsGiven w client u.begun.number reply new
   given = record {
     last = record {
-      floor = ap (λ (a : After Op Reply). floor_in (queue_left w.queue u a) client) ends
-          ∙ floor_answered w holds log client few u reply stands.who;
+      floor = not_below (ap (λ (a : After Op Reply). floor_in (queue_left w.queue u a) client) ends
+          ∙ floor_answered w holds log client few u reply stands.who);
       told = λ idle. told;
     };
     reply_of = inl (record {

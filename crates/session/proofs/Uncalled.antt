@@ -1,0 +1,164 @@
+-- Nobody has called a broker that begins, and so it stays while it stops, recovers, or ends its histories.
+use Rattle.std.proofs.Common.{◌≡◌, ◌≢◌, ◌⊎◌, inl, inr, ℕ, zero, suc, ◌<◌, List, Bool, true, false, is_some, if◌then◌else◌, Option, None, Some, Result, Ok, Err, replicate, slice_get, refl, sym, ap, subst, ◌∙◌, arith}
+use Rattle.std.proofs.lemmas.Bool.{cases_eq}
+use Rattle.std.proofs.lemmas.Option.{slice_get_within}
+use Rattle.words.specs.declared.call.Kind.TheVariants.{Log as log_kind}
+use Rattle.words.specs.declared.refusal.Refusal.{Refusal}
+use Rattle.persist.specs.Memory.{Words}
+use Rattle.recover.specs.Table.{boot_recovery as queue_recovery}
+use Rattle.recover.specs.declared.recovery.Recovery.{Recovery}
+use Rattle.arena.specs.Shape.{Counts, Shape}
+use Rattle.arena.specs.declared.broker.SlotId.{SlotId}
+use Rattle.arena.specs.declared.broker.TheConstants.{SLOTS}
+use Rattle.directory.specs.Queue.{slot_in}
+use Rattle.directory.specs.declared.queue.Queue.{Queue}
+use Rattle.interleave.specs.Calls.{is_no_memory}
+use Rattle.interleave.specs.Rotation.{after_rotation}
+use Rattle.interleave.specs.State.{State, after_recover, after_stop}
+use Rattle.interleave.specs.Verdicts.{IsRested}
+use Rattle.interleave.proofs.verdicts.Carried.{one_verdict, rested_rotated, uncounted}
+use Rattle.named.specs.Booting.{IsBooted, world_booted}
+use Rattle.named.specs.Brokers.{Brokered, IsNew, IsWell, quiet, world_at, world_of}
+use Rattle.named.specs.Rotating.{IsRotated, rotate_result}
+use Rattle.named.specs.Slots.{acted, world_in}
+use Rattle.named.specs.Stopping.{IsDirectoryRead, IsFound, IsFoundFirst, IsFoundIn, IsQueueRecovered, IsRecoveryStep, IsStopped, found_by, found_world}
+use Rattle.named.specs.declared.recovery.BrokerRecovery.{BrokerRecovery}
+use Rattle.named.specs.declared.recovery.BrokerRecovery.TheVariants.{ReadDirectory, RecoverQueue}
+use Rattle.named.specs.declared.slot.Slot.{Slot}
+use Rattle.named.specs.declared.slot.Slot.TheVariants.{Closed}
+use Rattle.session.specs.Sessions.{IsUncalled}
+use Rattle.session.proofs.Going.{open_below}
+use Rattle.session.proofs.Queueing.{world_at_rest}
+use Rattle.session.proofs.Recovering.{recovered_shape}
+use Rattle.session.proofs.SlotLaws.{rested_recovered}
+use Rattle.session.proofs.Worlds.{holds_there, none_some}
+
+-- a world where nobody has called, if it is that of a ready log queue
+abbrev pub IsRestedIf : State → Type 0
+IsRestedIf w = w.shape.kind ≡ log_kind → w.recovery ≡ None → IsRested w
+
+if_same : (v w : State) → v ≡ w → IsRestedIf w → IsRestedIf v
+if_same v w same is = subst IsRestedIf (sym same) is
+
+-- nor does the count of accesses matter
+if_quiet : (b : Brokered) (slot : ℕ) (v : State) (o : Option State) → quiet (Some v) ≡ quiet o
+    → ((w : State) → o ≡ Some w → IsRestedIf w) → IsRestedIf v
+if_quiet b slot v None e is = absurd (cc (e))
+if_quiet b slot v (Some w) e is = λ log up.
+    let same : uncounted v ≡ uncounted w = cc (e) in
+    (one_verdict v w same).rested
+    (is w refl (ap (λ (x : State). x.shape.kind) (sym same) ∙ log) (ap (λ (x : State). x.recovery) (sym same) ∙ up))
+
+-- a new broker has no queue
+copies_closed : (n slot : ℕ) (s : Slot) → slice_get (replicate n Closed) slot ≡ Some s → s ≡ Closed
+copies_closed zero slot s e = absurd (none_some e)
+copies_closed (suc n) zero s e = cc
+copies_closed (suc n) (suc slot) s e = copies_closed n slot s e
+
+pub uncalled_new : (c : Counts) (b : Brokered) → IsNew c b → IsUncalled b
+uncalled_new c b new = record { rested = λ slot w here log up. absurd (go slot w (slice_get b.slots slot) refl here) }
+  where
+    go : (slot : ℕ) (w : State) (o : Option Slot) → slice_get b.slots slot ≡ o → world_of b.words o ≡ Some w → ⊥
+    go slot w None e there = none_some there
+    go slot w (Some s) e there =
+        let closed = copies_closed SLOTS slot s (ap (λ (xs : List Slot). slice_get xs slot) (sym new.slots) ∙ e) in
+        none_some (ap (world_in b.words) (sym closed) ∙ there)
+
+-- one that begins on kept words is all to recover
+abbrev recovers : Option State → Bool
+recovers None = false
+recovers (Some w) = is_some w.recovery
+
+unready : (c : Counts) (slot : ℕ) (ws : Words) (place : Option Queue) (w : State)
+    → world_booted c slot ws place ≡ Some w → w.recovery ≡ None → ⊥
+unready c slot ws None w here ready = none_some here
+unready c slot ws (Some queue) w here ready =
+    let up : true ≡ is_some w.recovery = ap recovers here in
+    let down : is_some w.recovery ≡ false = ap (λ (o : Option Recovery). is_some o) ready in
+    cc
+
+pub uncalled_booted : (ws : Words) (b : Brokered) → IsWell b → IsBooted ws b → IsUncalled b
+uncalled_booted ws b well booted = record {
+  rested = λ slot w here log ready.
+      let below = open_below b well slot w here in
+      absurd (unready b.counts slot ws (slot_in ws.kept slot) w (sym (booted.worlds slot below) ∙ here) ready);
+}
+
+-- so is one that stopped
+pub uncalled_stopped : (old new : Brokered) → IsStopped old new → IsUncalled new
+uncalled_stopped old new stopped = record {
+  rested = λ slot w here log ready. absurd (go slot w (world_at old slot) (sym (stopped.worlds slot) ∙ here) ready);
+}
+  where
+    go : (slot : ℕ) (w : State) (o : Option State) → acted after_stop o ≡ Some w → w.recovery ≡ None → ⊥
+    go slot w None e ready = none_some e
+    go slot w (Some v) e ready =
+        let same : after_stop v ≡ w = cc (e) in
+        none_some (sym ready ∙ ap (λ (x : State). x.recovery) (sym same))
+
+-- where its histories ended, each queue is told what is kept
+pub uncalled_rotated : (old new : Brokered) → IsWell old → rotate_result false old ≡ Ok tt → IsRotated old new
+    → IsUncalled new
+uncalled_rotated old new well rotates rotated = record {
+  rested = λ slot w here. go slot w (world_at old slot) refl (sym (rotated.worlds slot) ∙ here);
+}
+  where
+    go : (slot : ℕ) (w : State) (o : Option State) → world_at old slot ≡ o → acted after_rotation o ≡ Some w → IsRestedIf w
+    go slot w None there e = absurd (none_some e)
+    go slot w (Some v) there e =
+        let same : after_rotation v ≡ w = cc (e) in
+        if_same w (after_rotation v) (sym same)
+        (λ log up. rested_rotated false v (holds_there old well slot v there) log (world_at_rest old well rotates slot v there))
+
+-- a step of recovery makes a queue ready with its clients told, or leaves the queues that are
+module _ (old new : Brokered) (well : IsWell old) (is : IsUncalled old) where
+  quiet_slot : (slot : ℕ) (w : State) → world_at new slot ≡ Some w → quiet (world_at new slot) ≡ quiet (world_at old slot)
+      → IsRestedIf w
+  quiet_slot slot w here same =
+      if_quiet new slot w (world_at old slot) (ap quiet (sym here) ∙ same) (λ v there. is.rested slot v there)
+
+  found_first : (at : SlotId) → IsFoundFirst old new at → IsUncalled new
+  found_first at first = record { rested = λ slot w here. go slot w here (cases_eq slot at.0) }
+    where
+      go : (slot : ℕ) (w : State) → world_at new slot ≡ Some w → (slot ≡ at.0) ⊎ (slot ≡ at.0 → ⊥) → IsRestedIf w
+      go slot w here (inr apart) = quiet_slot slot w here (first.others slot apart)
+      go slot w here (inl same) = λ log up.
+          let it = sym here ∙ ap (world_at new) same ∙ first.world in
+          absurd (none_some (sym up ∙ found_down w it))
+        where
+          found_down : (w : State) → Some w ≡ Some (found_world old first.creation.queue.kind at.0 new.words)
+              → w.recovery ≡ Some queue_recovery
+          found_down w e = cc (e)
+
+  found_in : (at : SlotId) (o : Option State) → IsFoundIn old new at o → IsUncalled new
+  found_in at None first = found_first at first
+  found_in at (Some w) known = record { rested = λ slot v here. quiet_slot slot v here (known.worlds slot) }
+
+  found_uncalled : (o : Option SlotId) → IsFound old new o → IsUncalled new
+  found_uncalled None known = record { rested = λ slot v here. quiet_slot slot v here (known.worlds slot) }
+  found_uncalled (Some at) found = found_in at (world_at old at.0) found
+
+  queue_uncalled : (at : ℕ) (result : Result Bool Refusal) → IsQueueRecovered old new at result → IsUncalled new
+  queue_uncalled at result step = record { rested = λ slot w here. go slot w here (cases_eq slot at) }
+    where
+      own : (w : State) (o : Option State) → world_at old at ≡ o → acted (after_recover (is_no_memory result)) o ≡ Some w
+          → IsRestedIf w
+      own w None there e = absurd (none_some e)
+      own w (Some v) there e =
+          let same : after_recover (is_no_memory result) v ≡ w = cc (e) in
+          if_same w (after_recover (is_no_memory result) v) (sym same)
+          (λ log ready.
+          let was : v.shape.kind ≡ log_kind = ap (λ (s : Shape). s.kind) (sym (recovered_shape (is_no_memory result) v)) ∙ log in
+          rested_recovered (is_no_memory result) v (holds_there old well at v there) was (is.rested at v there was) ready)
+
+      go : (slot : ℕ) (w : State) → world_at new slot ≡ Some w → (slot ≡ at) ⊎ (slot ≡ at → ⊥) → IsRestedIf w
+      go slot w here (inr apart) = quiet_slot slot w here (step.others slot apart)
+      go slot w here (inl same) = own w (world_at old at) refl (sym step.world ∙ ap (world_at new) (sym same) ∙ here)
+
+  pub uncalled_recovered : (result : Result Bool Refusal) → IsRecoveryStep old new result old.recovery → IsUncalled new
+  uncalled_recovered result step = go old.recovery step
+    where
+      go : (r : Option BrokerRecovery) → IsRecoveryStep old new result r → IsUncalled new
+      go None same = subst IsUncalled (sym same.1) is
+      go (Some (ReadDirectory at)) read = found_uncalled (found_by old at).opened read.found
+      go (Some (RecoverQueue at)) recovered = queue_uncalled at.0 result recovered

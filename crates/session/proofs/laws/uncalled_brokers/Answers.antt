@@ -1,0 +1,17 @@
+use Rattle.session.proofs.Uncalled.{uncalled_booted, uncalled_new, uncalled_recovered, uncalled_rotated, uncalled_stopped}
+use Rattle.session.proofs.laws.uncalled_brokers.Goals as goal
+
+pub returns-clause-new : goal.returns-clause-new
+returns-clause-new c = uncalled_new
+
+pub returns-clause-booted : goal.returns-clause-booted
+returns-clause-booted c = uncalled_booted
+
+pub returns-clause-stopped : goal.returns-clause-stopped
+returns-clause-stopped c = uncalled_stopped
+
+pub returns-clause-recovered : goal.returns-clause-recovered
+returns-clause-recovered c = λ old new result well is step. uncalled_recovered old new well is result step
+
+pub returns-clause-rotated : goal.returns-clause-rotated
+returns-clause-rotated c = uncalled_rotated
