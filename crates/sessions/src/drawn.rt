@@ -220,7 +220,7 @@ impl Drawn {
         let steps = below(rng, 10);
         let down = self.session.broker().list().is_err();
         match below(rng, 128) {
-            0..=2 => self.stop(8 * steps),
+            0..=2 => self.stop(steps.saturating_mul(8)),
             3 => self.rotate(alloc),
             4 => self.reboot(alloc),
             5..=14 => {
@@ -228,7 +228,7 @@ impl Drawn {
                 Ok(())
             }
             15..=64 => self.send_any(rng, client),
-            _ if down => self.recover(4 * steps),
+            _ if down => self.recover(steps.saturating_mul(4)),
             _ => self.go_on(client, steps),
         }
     }
