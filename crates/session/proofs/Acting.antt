@@ -21,12 +21,11 @@ use Rattle.named.specs.Slots.{acted, answered as answer_in}
 use Rattle.named.proofs.Stays.{step_alike}
 use Rattle.arena.specs.Shape.{Shape}
 use Rattle.named.specs.declared.recovery.BrokerRecovery.{BrokerRecovery}
-use Rattle.session.specs.Keeping.{IsAnswered, IsKeptNow, SessionGoesOn}
-use Rattle.session.specs.Promises.{IsReplyIfNumbered}
+use Rattle.session.specs.Keeping.{IsSettled, IsKeptNow, SessionGoesOn}
+use Rattle.session.specs.Promises.{IsReplyIfNumbered, IsReplyIn}
 use Rattle.session.proofs.Going.{answered_below, answers_go_on, clients_go_on, shape_by_client}
 use Rattle.named.proofs.Kept.{some_is}
 use Rattle.interleave.proofs.verdicts.Last.{answered}
-use Rattle.named.specs.Slots.{IfWorld}
 use Rattle.session.specs.Requests.{AreOthersAlike, IsAdvanced, IsRun, IsServed, IsStarted, IsUnserved, call_number, last_after, numbered}
 use Rattle.session.specs.Sessions.{AreVerdictsRight, IsLogClient, IsRight, IsSlotRight, Sessioned, is_up, kept_in}
 use Rattle.session.proofs.Calling.{IsAnsweredAt, IsKeptNew, admitted_up, answered_at, right_answered, right_by_client, right_if_durable, right_served, right_started, right_stepped, up_is}
@@ -233,7 +232,7 @@ module _ (old new : Brokered) (slot : ℕ) (client : Client) (was is : List (Lis
           let is_number : numbered w.shape.kind (number_under_way w client) ≡ Some n.0 =
           ap (λ (k : Kind). numbered k (number_under_way w client)) e ∙ n.1 in
           subst (λ (x : Option ℕ). IsReplyIfNumbered after slot client x reply) (sym is_number)
-          (subst (λ (o : Option State). IfWorld o (λ v. IsReplyOf v client n.0 reply)) (sym now)
+          (subst (λ (o : Option State). IsReplyIn o client n.0 reply) (sym now)
           (answered false w holds e client (omega (arith, n.2, holds.safe.clients, holds.safe.few)) n.0 reply at.says n.1).reply_of)
 
   -- what was answered stays so
@@ -246,18 +245,18 @@ module _ (old new : Brokered) (slot : ℕ) (client : Client) (was is : List (Lis
         (shape_by_client (λ v. after_step (is_no_memory result) v client)
         (λ v. (step_alike (is_no_memory result) v client).0) old new slot client made.world);
     answers = answers_go_on old new was is slot client kept.others (λ number reply its answers.
-        subst (λ (v : Option Verdict). IsAnswered v number reply) (sym kept.here) (stays result made number reply its answers));
+        subst (λ (v : Option Verdict). IsSettled v number reply) (sym kept.here) (stays result made number reply its answers));
   }
     where
       stays : (r : Result (Option Reply) Refusal) → IsAdvanced old new slot client r → (k : ℕ) (own : Reply)
-          → IsLogClient old slot client → IsAnswered (kept_in was slot client.0) k own
-          → IsAnswered (last_after (call_number (world_at old slot) client) r (kept_in was slot client.0)) k own
+          → IsLogClient old slot client → IsSettled (kept_in was slot client.0) k own
+          → IsSettled (last_after (call_number (world_at old slot) client) r (kept_in was slot client.0)) k own
       stays (Err refusal) made k own its answers =
-          subst (λ (v : Option Verdict). IsAnswered v k own)
+          subst (λ (v : Option Verdict). IsSettled v k own)
           (sym (last_same (call_number (world_at old slot) client) (Err refusal) (kept_in was slot client.0) (λ reply e. absurd (cc (e)))))
           answers
       stays (Ok None) made k own its answers =
-          subst (λ (v : Option Verdict). IsAnswered v k own)
+          subst (λ (v : Option Verdict). IsSettled v k own)
           (sym (last_same (call_number (world_at old slot) client) (Ok None) (kept_in was slot client.0) (λ reply e. absurd (cc (e)))))
           answers
       stays (Ok (Some reply)) made k own its answers =
@@ -277,7 +276,7 @@ module _ (old new : Brokered) (slot : ℕ) (client : Client) (was is : List (Lis
           let has : call_number (world_at old slot) client ≡ Some n.0 =
           ap (λ (o : Option State). call_number o client) at.here
           ∙ ap (λ (k : Kind). numbered k (number_under_way at.world client)) log ∙ n.1 in
-          subst (λ (x : Option ℕ). IsAnswered (last_after x (Ok (Some reply)) (kept_in was slot client.0)) k own) (sym has)
+          subst (λ (x : Option ℕ). IsSettled (last_after x (Ok (Some reply)) (kept_in was slot client.0)) k own) (sym has)
           (inr low)
 
 -- the number of the client's call, when asked

@@ -23,7 +23,7 @@ use Rattle.named.specs.Slots.{acted}
 use Rattle.named.specs.Stopping.{IsFound, IsFoundIn, IsRecoveryStep, found_by}
 use Rattle.named.specs.declared.recovery.BrokerRecovery.{BrokerRecovery}
 use Rattle.named.specs.declared.recovery.BrokerRecovery.TheVariants.{ReadDirectory, RecoverQueue}
-use Rattle.session.specs.Keeping.{AreKeptAsHeard, IsAnswered, SessionGoesOn}
+use Rattle.session.specs.Keeping.{AreKeptAsHeard, IsSettled, SessionGoesOn}
 use Rattle.session.specs.Sessions.{AreVerdictsRight, IsLogClient, IsRight, IsSlotRight, Sessioned, is_up, kept_in}
 use Rattle.session.proofs.Downs.{up_same}
 use Rattle.session.proofs.Heard.{kept_there, right_heard}
@@ -96,8 +96,8 @@ module _ (old new : Brokered) (slot : ℕ) (w : State) (here : world_at old slot
 
 -- what is told now is what was kept, or is of a later number: so a number that was answered is answered still
 answered_on : (last now : Option Verdict) (number : ℕ) (reply : Reply)
-    → (told_as now ≡ told_as last) ⊎ IsToldAbove (floor_by last) (told_as now) → IsAnswered last number reply
-    → IsAnswered now number reply
+    → (told_as now ≡ told_as last) ⊎ IsToldAbove (floor_by last) (told_as now) → IsSettled last number reply
+    → IsSettled now number reply
 answered_on None now number reply told is = absurd is
 answered_on (Some was) None number reply (inl same) is = absurd (cc (same))
 answered_on (Some was) None number reply (inr above) is = absurd above
@@ -182,8 +182,8 @@ module _ (s : Sessioned) (new : Brokered) (result : Result Bool Refusal) (right 
           (λ slot w here log ready. (verdicts_at slot w here log).rested refl ready)
 
       answers_on : (slot : ℕ) (client : Client) (number : ℕ) (reply : Reply) → IsLogClient s.broker slot client
-          → IsAnswered (kept_in s.kept slot client.0) number reply
-          → IsAnswered (kept_in kept slot client.0) number reply
+          → IsSettled (kept_in s.kept slot client.0) number reply
+          → IsSettled (kept_in kept slot client.0) number reply
       answers_on slot client number reply is answered =
           let on = clients_on slot client is in
           let w : State = on.world in
@@ -195,7 +195,7 @@ module _ (s : Sessioned) (new : Brokered) (result : Result Bool Refusal) (right 
           let told : (told_as now ≡ told_as last) ⊎ IsToldAbove (floor_by last) (told_as now) =
           subst (λ (t : Told). (t ≡ told_as last) ⊎ IsToldAbove (floor_by last) t)
           ((rested.last client few).told (rested.nobody client)) (r.recalled client on.few).told in
-          subst (λ (v : Option Verdict). IsAnswered v number reply)
+          subst (λ (v : Option Verdict). IsSettled v number reply)
           (sym (kept_there new well kept heard beyond slot w client up on.here on.few))
           (answered_on last now number reply told answered)
 

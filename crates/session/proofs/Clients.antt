@@ -14,7 +14,7 @@ use Rattle.interleave.specs.State.{State, after_alone, after_bump_load, after_ca
 use Rattle.named.specs.Brokers.{Brokered, IsWell, admission, answer_at, answer_if, quiet, world_after, world_at, world_of}
 use Rattle.named.specs.Slots.{acted, answered}
 use Rattle.named.specs.declared.slot.Slot.{Slot}
-use Rattle.session.specs.Keeping.{IsAnswered, IsKeptNow, SessionGoesOn}
+use Rattle.session.specs.Keeping.{IsSettled, IsKeptNow, SessionGoesOn}
 use Rattle.session.specs.Requests.{AreOthersAlike, IsRun}
 use Rattle.session.specs.Sessions.{IsLogClient, Sessioned, kept_at}
 
@@ -74,16 +74,16 @@ laid_out_run old new slot client number call (Ok reply) ran w here =
       shape = shape_after_alone ran.steps (after_start false ran.world client number call) client
           ∙ shape_after_start false ran.world client number call ∙ ap (λ v. v.shape) same;
     }
-laid_out_run old new slot client number call (Err refusal) (inl none, others) w here =
-    laid_out_same w (world_at old slot) (world_at new slot) here (none.1 slot)
-laid_out_run old new slot client number call (Err refusal) (inr refused, others) w here =
+laid_out_run old new slot client number call (Err refusal) (inl none, room, others) w here =
+    laid_out_same w (world_at old slot) (world_at new slot) here (none.2 slot)
+laid_out_run old new slot client number call (Err refusal) (inr refused, room, others) w here =
     laid_out_after (λ v. after_start false v client number call) (λ v. shape_after_start false v client number call)
     old slot client w (world_at new slot) here refused.1
 
 pub others_run : (old new : Brokered) (slot : ℕ) (client : Client) (number : ℕ) (call : Call) (result : Result Reply Refusal)
     → IsRun old new slot client number call result → AreOthersAlike old new slot
 others_run old new slot client number call (Ok reply) ran = ran.others
-others_run old new slot client number call (Err refusal) ran = ran.1
+others_run old new slot client number call (Err refusal) ran = ran.2
 
 abbrev counted : State → State
 counted w = record w { words = record w.words { accesses = 0 } }
@@ -123,14 +123,14 @@ pub goes_on_kept : (old new : Sessioned) → new.kept ≡ old.kept
 goes_on_kept old new same laid = record {
   clients = clients_stay old.broker new.broker laid;
   answers = λ slot client number reply its answered.
-      subst (λ kept. IsAnswered (kept_at (record { broker = new.broker; kept = kept }) slot client) number reply) (sym same) answered;
+      subst (λ kept. IsSettled (kept_at (record { broker = new.broker; kept = kept }) slot client) number reply) (sym same) answered;
 }
 
 -- one client's last verdict is another now, which answers all that was answered
 pub goes_on_kept_now : (old new : Sessioned) (slot : ℕ) (client : Client) (last : Option _)
     → IsKeptNow old.kept new.kept slot client.0 last
     → ((at : ℕ) (w : State) → world_at old.broker at ≡ Some w → IsLaidOutAs w (world_at new.broker at))
-    → ((number : ℕ) (reply : Reply) → IsAnswered (kept_at old slot client) number reply → IsAnswered last number reply)
+    → ((number : ℕ) (reply : Reply) → IsSettled (kept_at old slot client) number reply → IsSettled last number reply)
     → SessionGoesOn old new
 goes_on_kept_now old new slot client last now laid still = record {
   clients = clients_stay old.broker new.broker laid;
@@ -138,22 +138,22 @@ goes_on_kept_now old new slot client last now laid still = record {
 }
   where
     answers : (at : ℕ) (other : Client) (number : ℕ) (reply : Reply) → IsLogClient old.broker at other
-        → IsAnswered (kept_at old at other) number reply → IsAnswered (kept_at new at other) number reply
+        → IsSettled (kept_at old at other) number reply → IsSettled (kept_at new at other) number reply
     answers at other number reply its answered = go (cases_eq at slot) (cases_eq other.0 client.0)
       where
         go : (at ≡ slot) ⊎ (at ≡ slot → ⊥) → (other.0 ≡ client.0) ⊎ (other.0 ≡ client.0 → ⊥)
-            → IsAnswered (kept_at new at other) number reply
-        go (inr far) its_own = subst (λ v. IsAnswered v number reply) (sym (now.others at other.0 (inl far))) answered
-        go (inl same) (inr far) = subst (λ v. IsAnswered v number reply) (sym (now.others at other.0 (inr far))) answered
+            → IsSettled (kept_at new at other) number reply
+        go (inr far) its_own = subst (λ v. IsSettled v number reply) (sym (now.others at other.0 (inl far))) answered
+        go (inl same) (inr far) = subst (λ v. IsSettled v number reply) (sym (now.others at other.0 (inr far))) answered
         go (inl same) (inl own) =
             let who : other ≡ client = ap (λ (n : ℕ). let x : Client = record { 0 = n } in x) own in
-            let was : IsAnswered (kept_at old slot client) number reply =
-                subst (λ (c : Client). IsAnswered (kept_at old slot c) number reply) who
-                (subst (λ (n : ℕ). IsAnswered (kept_at old n other) number reply) same answered) in
-            let is : IsAnswered (kept_at new slot client) number reply =
-                subst (λ v. IsAnswered v number reply) (sym now.here) (still number reply was) in
-            subst (λ (n : ℕ). IsAnswered (kept_at new n other) number reply) (sym same)
-            (subst (λ (c : Client). IsAnswered (kept_at new slot c) number reply) (sym who) is)
+            let was : IsSettled (kept_at old slot client) number reply =
+            subst (λ (c : Client). IsSettled (kept_at old slot c) number reply) who
+            (subst (λ (n : ℕ). IsSettled (kept_at old n other) number reply) same answered) in
+            let is : IsSettled (kept_at new slot client) number reply =
+            subst (λ v. IsSettled v number reply) (sym now.here) (still number reply was) in
+            subst (λ (n : ℕ). IsSettled (kept_at new n other) number reply) (sym same)
+            (subst (λ (c : Client). IsSettled (kept_at new slot c) number reply) (sym who) is)
 
 -- a slot with a queue is one of the broker's
 pub slot_within : (b : Brokered) (slot : ℕ) (w : State) → IsWell b → world_at b slot ≡ Some w → slot < SLOTS

@@ -17,7 +17,7 @@ use Rattle.interleave.proofs.verdicts.Carried.{uncounted}
 use Rattle.named.specs.Brokers.{Brokered, IsWell, admission, quiet, world_after, world_at, world_of}
 use Rattle.named.specs.Slots.{acted}
 use Rattle.named.specs.declared.slot.Slot.{Slot}
-use Rattle.session.specs.Keeping.{IsAnswered, SessionGoesOn}
+use Rattle.session.specs.Keeping.{IsSettled, SessionGoesOn}
 use Rattle.session.specs.Requests.{AreOthersAlike}
 use Rattle.session.specs.Sessions.{IsLogClient, Sessioned, kept_in}
 use Rattle.session.proofs.Worlds.{none_some}
@@ -72,7 +72,7 @@ clients_go_on old new slot others shaped at client is = elim (cases_eq at slot) 
 
 -- a number that was answered is below one that is above the floor by the last verdict
 pub answered_below : (last : Option Verdict) (number k : ℕ) (reply : Reply) → floor_by last < number
-    → IsAnswered last k reply → k < number
+    → IsSettled last k reply → k < number
 answered_below None number k reply above is = absurd is
 answered_below (Some verdict) number k reply above (inl e) =
     let floor : floor_by (Some verdict) ≡ k = ap (λ (v : Verdict). floor_by (Some v)) e in omega (arith, floor, above)
@@ -85,10 +85,10 @@ answered_below (Some verdict) number k reply above (inr lt) = go verdict.outcome
 -- where one place has something new, what was answered there stays so
 pub answers_go_on : (old new : Brokered) (was is : List (List (Option Verdict))) (slot : ℕ) (client : Client)
     → ((at other : ℕ) → (at ≢ slot) ⊎ (other ≢ client.0) → kept_in is at other ≡ kept_in was at other)
-    → ((number : ℕ) (reply : Reply) → IsLogClient old slot client → IsAnswered (kept_in was slot client.0) number reply
-    → IsAnswered (kept_in is slot client.0) number reply)
+    → ((number : ℕ) (reply : Reply) → IsLogClient old slot client → IsSettled (kept_in was slot client.0) number reply
+    → IsSettled (kept_in is slot client.0) number reply)
     → (at : ℕ) (other : Client) (number : ℕ) (reply : Reply) → IsLogClient old at other
-    → IsAnswered (kept_in was at other.0) number reply → IsAnswered (kept_in is at other.0) number reply
+    → IsSettled (kept_in was at other.0) number reply → IsSettled (kept_in is at other.0) number reply
 answers_go_on old new was is slot client others here at other number reply its answered =
     elim (cases_eq at slot) [
       | inr apart ↦ same (others at other.0 (inl apart))
@@ -98,18 +98,18 @@ answers_go_on old new was is slot client others here at other number reply its a
       ]
     ]
   where
-    same : kept_in is at other.0 ≡ kept_in was at other.0 → IsAnswered (kept_in is at other.0) number reply
-    same e = subst (λ (v : Option Verdict). IsAnswered v number reply) (sym e) answered
+    same : kept_in is at other.0 ≡ kept_in was at other.0 → IsSettled (kept_in is at other.0) number reply
+    same e = subst (λ (v : Option Verdict). IsSettled v number reply) (sym e) answered
 
-    there_is : at ≡ slot → other.0 ≡ client.0 → IsAnswered (kept_in is at other.0) number reply
+    there_is : at ≡ slot → other.0 ≡ client.0 → IsSettled (kept_in is at other.0) number reply
     there_is there it =
         let who : other ≡ client = ap (λ (n : ℕ). let x : Client = record { 0 = n } in x) it in
-        subst (λ (n : ℕ). IsAnswered (kept_in is n other.0) number reply) (sym there)
-        (subst (λ (c : Client). IsAnswered (kept_in is slot c.0) number reply) (sym who)
+        subst (λ (n : ℕ). IsSettled (kept_in is n other.0) number reply) (sym there)
+        (subst (λ (c : Client). IsSettled (kept_in is slot c.0) number reply) (sym who)
         (here number reply
         (subst (IsLogClient old slot) who (subst (λ (n : ℕ). IsLogClient old n other) there its))
-        (subst (λ (c : Client). IsAnswered (kept_in was slot c.0) number reply) who
-        (subst (λ (n : ℕ). IsAnswered (kept_in was n other.0) number reply) there answered))))
+        (subst (λ (c : Client). IsSettled (kept_in was slot c.0) number reply) who
+        (subst (λ (n : ℕ). IsSettled (kept_in was n other.0) number reply) there answered))))
 
 -- an open slot is one of the eight
 pub open_below : (b : Brokered) → IsWell b → (slot : ℕ) (w : State) → world_at b slot ≡ Some w → slot < 8

@@ -117,7 +117,7 @@ module _ (b : Brokered) (well : IsWell b) (kept : List (List (Option Verdict))) 
       | inl few ↦ heard.each slot client inside few ∙ nothing client
       | inr past ↦ beyond slot client past
     ]
-    | inr outside ↦ heard.none slot client outside
+    | inr outside ↦ heard.no_slot slot client outside
   ]
 
   -- what is kept of each client of a ready broker's queue is what it was told there

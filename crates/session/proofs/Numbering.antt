@@ -11,7 +11,7 @@ use Rattle.words.specs.declared.told.Verdict.{Verdict}
 use Rattle.logqueue.specs.Numbers.{floor_from}
 use Rattle.named.specs.Brokers.{answer_if}
 use Rattle.interleave.specs.Verdicts.{floor_by, taken_as}
-use Rattle.session.specs.Keeping.{IsAnswered}
+use Rattle.session.specs.Keeping.{IsSettled}
 use Rattle.session.specs.Numbers.{by_last, by_number, by_outcome, by_reply, missed}
 
 misses : (last number : ℕ) → missed last number ≡ Ok None → ⊥
@@ -49,7 +49,7 @@ by_last_of last number e = go (number == 0) e
     go false e = e
 
 below : (last : Verdict) (number was : ℕ) (reply : Reply) (outcome : Outcome) → last.outcome ≡ outcome
-    → by_outcome outcome last.number number ≡ Ok None → IsAnswered (Some last) was reply → was < number
+    → by_outcome outcome last.number number ≡ Ok None → IsSettled (Some last) was reply → was < number
 below last number was reply (Taken kept) is e (inl same) =
     let n : last.number ≡ was = ap (λ (v : Verdict). v.number) same in
     omega (arith, next_by_reply kept last.number number e, n)
@@ -61,17 +61,17 @@ below last number was reply NotTaken is e (inr less) = omega (arith, same_by_non
 
 -- what was answered is below a number that may run
 pub answered_below : (last : Option Verdict) (number was : ℕ) (reply : Reply) → by_number last number ≡ Ok None
-    → IsAnswered last was reply → was < number
+    → IsSettled last was reply → was < number
 answered_below None number was reply e answered = absurd answered
 answered_below (Some last) number was reply e answered =
     below last number was reply last.outcome refl (by_last_of (Some last) number e) answered
 
 -- and at most the floor by what is kept
-pub answered_by_floor : (last : Option Verdict) (was : ℕ) (reply : Reply) → IsAnswered last was reply → was ≤ floor_by last
+pub answered_by_floor : (last : Option Verdict) (was : ℕ) (reply : Reply) → IsSettled last was reply → was ≤ floor_by last
 answered_by_floor None was reply answered = absurd answered
 answered_by_floor (Some last) was reply answered = go last.outcome refl answered
   where
-    go : (outcome : Outcome) → last.outcome ≡ outcome → IsAnswered (Some last) was reply → was ≤ floor_by (Some last)
+    go : (outcome : Outcome) → last.outcome ≡ outcome → IsSettled (Some last) was reply → was ≤ floor_by (Some last)
     go (Taken kept) is (inl same) =
         let n : last.number ≡ was = ap (λ (v : Verdict). v.number) same in
         let floor : floor_by (Some last) ≡ last.number = ap (floor_from last.number) is in

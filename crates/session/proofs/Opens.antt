@@ -17,7 +17,7 @@ pub still_admitted : (old new : Brokered) (client : Client) (slot : ℕ) (w v : 
     → admission old client ≡ Ok tt → admission new client ≡ Ok tt
 still_admitted old new client slot w v well next here there shape recovery ok =
     let counts : new.counts.clients ≡ old.counts.clients =
-        sym (clients_there new next slot v there) ∙ ap (λ (s : Shape). s.clients) shape ∙ clients_there old well slot w here in
+    sym (clients_there new next slot v there) ∙ ap (λ (s : Shape). s.clients) shape ∙ clients_there old well slot w here in
     ap (λ n. by n new.recovery) counts ∙ ap (by old.counts.clients) recovery ∙ ok
   where
     by : ℕ → Option BrokerRecovery → Result Unit Refusal

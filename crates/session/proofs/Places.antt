@@ -26,13 +26,17 @@ kept_now rows slot client last inside few = record { here = here; others = other
   where
     row : List (Option Verdict)
     row = slice_set (slice_index_or rows slot []) client last
+
     there : slice_index_or (slice_set rows slot row) slot [] ≡ row
     there = get_or-set_same rows slot row [] inside
+
     here : kept_in (slice_set rows slot row) slot client ≡ last
     here = ap (λ (r : List (Option Verdict)). slice_index_or r client None) there
         ∙ get_or-set_same (slice_index_or rows slot []) client last None few
+
     elsewhere : (at other : ℕ) → at ≢ slot → kept_in (slice_set rows slot row) at other ≡ kept_in rows at other
     elsewhere at other ne = ap (λ (r : List (Option Verdict)). slice_index_or r other None) (get_or-set_other rows slot at row [] ne)
+
     others : (at other : ℕ) → (at ≢ slot) ⊎ (other ≢ client)
         → kept_in (slice_set rows slot row) at other ≡ kept_in rows at other
     others at other (inl ne) = elsewhere at other ne

@@ -1,16 +1,17 @@
 -- What follows of a session's invariant: what is promised of the numbers of its clients.
-use Rattle.std.proofs.Common.{◌≡◌, ℕ, ◌<◌, Bool, true, not, is_some, Option, Some, None, refl, ap, subst, arith}
+use Rattle.std.proofs.Common.{◌≡◌, ℕ, ◌<◌, Bool, true, not, is_some, Option, Some, None, refl, sym, ap, subst, arith}
 use Rattle.words.specs.declared.call.Client.{Client}
 use Rattle.words.specs.declared.call.Kind.TheVariants.{Log as log_kind}
+use Rattle.words.specs.declared.call.Reply.{Reply}
 use Rattle.words.specs.declared.limits.TheConstants.{MAX_CLIENTS}
 use Rattle.interleave.specs.State.{State}
-use Rattle.interleave.specs.Verdicts.{IsIdle}
+use Rattle.interleave.specs.Verdicts.{IsIdle, taken_as}
 use Rattle.interleave.proofs.verdicts.Given.{none_above}
 use Rattle.named.specs.Brokers.{world_at}
 use Rattle.named.specs.declared.recovery.BrokerRecovery.{BrokerRecovery}
 use Rattle.named.proofs.Promises.{promises_well}
-use Rattle.session.specs.Promises.{IsKeptRight, KeepsNumbers}
-use Rattle.session.specs.Sessions.{AreVerdictsRight, IsRight, IsSlotRight, Sessioned, is_up, kept_at, kept_in}
+use Rattle.session.specs.Promises.{IsKeptRight, IsReplyAt, IsReplyIn, KeepsNumbers}
+use Rattle.session.specs.Sessions.{AreVerdictsRight, IsLogClient, IsRight, IsSlotRight, Sessioned, is_up, kept_at, kept_in}
 use Rattle.session.proofs.Worlds.{few_there, holds_there}
 
 module _ (s : Sessioned) (right : IsRight s) where
@@ -34,17 +35,26 @@ module _ (s : Sessioned) (right : IsRight s) where
       let r = right_at slot w up here log in
       let few : client.0 < MAX_CLIENTS = omega (arith, lt, few_there s.broker right.well slot w here) in
       record {
-        reply = (r.recalled client lt).reply;
         none_later =
             none_above w (holds_there s.broker right.well slot w here) log client few (kept_at s slot client) idle
             (r.last refl client lt);
       }
+
+  -- a reply that is kept is that of its number
+  reply_kept : (slot : ℕ) (client : Client) (number : ℕ) (reply : Reply) → IsLogClient s.broker slot client
+      → kept_at s slot client ≡ Some (taken_as number reply) → IsReplyAt s slot client number reply
+  reply_kept slot client number reply is kept =
+      let there : IsSlotRight (is_up s.broker) (Some is.world) (kept_in s.kept slot) =
+      subst (λ (o : Option State). IsSlotRight (is_up s.broker) o (kept_in s.kept slot)) is.here (right.slots slot) in
+      subst (λ (o : Option State). IsReplyIn o client number reply) (sym is.here)
+      (((there is.log).recalled client is.few).reply number reply kept)
 
   pub numbers_kept : KeepsNumbers s
   numbers_kept =
       let promises = promises_well s.broker right.well in
       record {
         broker = promises;
+        replies = reply_kept;
         once = λ slot w here. (promises.explained slot w here).numbers;
         kept = kept_right;
       }

@@ -46,10 +46,12 @@ begun_by w client number call started = go (number_to_start w client number) ref
     here n e =
         let parts = by_idle w.queue client number n (is_down w) (slice_get w.calls client.0) e in
         record { up = parts.0; idle = parts.1 }
+
     used : (n : ℕ) (no_room : Bool) → (if no_room then (let r : Result Unit Refusal = Err NoRoom in r) else Ok tt) ≡ Ok tt
         → (if no_room then after_bump_load w else after_call_began w client n call) ≡ after_call_began w client n call
     used n true ok = absurd (cc)
     used n false ok = refl
+
     go : (r : Result ℕ Refusal) → number_to_start w client number ≡ r → start_result_with false w client r ≡ Ok tt
         → HasBegun w client number call
     go (Err refusal) is ok = absurd (cc)
@@ -70,9 +72,9 @@ goes_on_once_started w client number call refusal started refused =
     let begun = begun_by w client number call started in
     let u : UnderWay = call_begun (machine w) (begun_of (machine w) client begun.n call) in
     let calls : slice_get (after_call_began w client begun.n call).calls client.0 ≡ Some (Some u) =
-        get_set w.calls client.0 (Some u) (slice_get_within w.calls client.0 None begun.startable.idle) in
+    get_set w.calls client.0 (Some u) (slice_get_within w.calls client.0 None begun.startable.idle) in
     let waits : waiting_in (after_call_began w client begun.n call) client ≡ Ok u =
-        waiting (is_down w) (slice_get (after_call_began w client begun.n call).calls client.0) u begun.startable.up calls in
+    waiting (is_down w) (slice_get (after_call_began w client begun.n call).calls client.0) u begun.startable.up calls in
     let here : waiting_in (after_start false w client number call) client ≡ Ok u = ap (λ v. waiting_in v client) begun.is ∙ waits in
     absurd (cc)
 
@@ -112,14 +114,16 @@ module _ (old made now : Brokered) (slot : ℕ) (client : Client) (number : ℕ)
   pub refused_here : (refusal : Refusal) → result ≡ Err refusal
       → (answer_at (λ w. start_result false w client number) old slot client ≡ Err refusal)
       × (world_at now slot ≡ world_after (λ w. after_start false w client number call) old slot client)
-  refused_here refusal is =
-      (open_answer (λ w. start_result false w client number) old slot client opened ∙ started_here ∙ is
-      , left_here ∙ sym (open_after (λ w. after_start false w client number call) old slot client opened))
+  refused_here refusal is = (
+    open_answer (λ w. start_result false w client number) old slot client opened ∙ started_here ∙ is,
+    left_here ∙ sym (open_after (λ w. after_start false w client number call) old slot client opened),
+  )
 
 -- room for two acts was made in a slot's queue
 pub record IsRoomMade (old made : Brokered) (slot : ℕ) : Type 0 where
   pub worlds : (at : ℕ) → world_at made at ≡ world_at old at
   pub room : 2 ≤ room_at made slot
+  pub more : room_at old slot ≤ room_at made slot
   pub rooms : (other : ℕ) → other ≢ slot → room_at made other ≡ room_at old other
   pub directory : made.directory ≡ old.directory
   pub creation : made.creation ≡ old.creation
@@ -162,9 +166,11 @@ module _ (old made now : Brokered) (slot : ℕ) (client : Client) (number : ℕ)
   others_alike = alike_further old made now slot (made_alike old made slot m) tried.others
 
   pub start_was_refused : (refusal : Refusal) → result ≡ Err refusal → IsRun old now slot client number call (Err refusal)
-  start_was_refused refusal is =
-      (inr (refused_here old made now slot client number call opened admitted_then refl result tried.result_is tried.world not_refused_memory refusal is)
-      , others_alike)
+  start_was_refused refusal is = (
+    inr (refused_here old made now slot client number call opened admitted_then refl result tried.result_is tried.world not_refused_memory refusal is),
+    omega (arith, m.more, tried.room),
+    others_alike,
+  )
 
   pub was_started : result ≡ Ok tt → start_result false opened.world client number ≡ Ok tt
   was_started is = started_here old made now slot client number call opened admitted_then refl result tried.result_is tried.world not_refused_memory ∙ is
@@ -192,9 +198,10 @@ module _ (old made now : Brokered) (slot : ℕ) (client : Client) (number : ℕ)
 
   pub served : (new : Brokered) (reply : Reply) (steps : ℕ) → result ≡ Ok tt → steps ≤ MAX_STEPS_ALONE
       → IfWorld (world_at now slot) (λ w. IsAnsweredAlone w client steps reply)
-      → world_at new slot ≡ acted (λ w. after_alone steps w client) (world_at now slot) → AreOthersAlike now new slot
+      → world_at new slot ≡ acted (λ w. after_alone steps w client) (world_at now slot)
+      → room_at now slot ≤ room_at new slot + 1 → AreOthersAlike now new slot
       → IsServed old new slot client number call reply
-  served new reply steps ok few answered is others = record {
+  served new reply steps ok few answered is room others = record {
     world = opened.world;
     was = opened.here;
     started = was_started ok;
@@ -202,5 +209,6 @@ module _ (old made now : Brokered) (slot : ℕ) (client : Client) (number : ℕ)
     few = few;
     answered = subst (λ (o : Option State). IfWorld o (λ w. IsAnsweredAlone w client steps reply)) left answered;
     is = is ∙ ap (acted (λ w. after_alone steps w client)) left;
+    room = omega (arith, m.more, tried.room, room);
     others = alike_further old now new slot others_alike others;
   }

@@ -24,14 +24,13 @@ use Rattle.interleave.specs.declared.queue.Queue.{Queue}
 use Rattle.interleave.proofs.HoldsKept.{holds_after_start}
 use Rattle.interleave.proofs.verdicts.Alone.{answered_alone}
 use Rattle.interleave.proofs.verdicts.Last.{IsGiven}
-use Rattle.named.specs.Brokers.{Brokered, IsWell, admission, answer_at, answer_if, is_down, quiet, world_after, world_at}
-use Rattle.named.specs.Slots.{IfWorld}
+use Rattle.named.specs.Brokers.{Brokered, IsWell, admission, answer_at, answer_if, is_down, quiet, room_at, world_after, world_at}
 use Rattle.named.proofs.Kept.{some_is}
 use Rattle.named.proofs.Stays.{alone_alike, start_alike}
-use Rattle.session.specs.Keeping.{IsAnswered, IsKeptNow}
+use Rattle.session.specs.Keeping.{IsSettled, IsKeptNow}
 use Rattle.session.specs.Numbers.{by_last, by_number, by_outcome, by_reply, missed}
-use Rattle.session.specs.Promises.{IsReplyAt}
-use Rattle.session.specs.Requests.{AreOthersAlike, IsRun, IsServed, IsStarted, IsUnserved, answer_to, is_kind, number_or_none, queue_admission, request_admission, request_answer}
+use Rattle.session.specs.Promises.{IsReplyAt, IsReplyIfNumbered, IsReplyIn}
+use Rattle.session.specs.Requests.{AreOthersAlike, IsRun, IsServed, IsStarted, IsUnserved, answer_to, is_kind, queue_admission, request_admission, request_answer}
 use Rattle.session.specs.Sessions.{IsRight, IsSlotRight, Sessioned, is_up, kept_at, kept_in}
 use Rattle.session.proofs.Acting.{kept_beside, kept_new, right_beside}
 use Rattle.session.proofs.Calling.{IsAnsweredAt, admitted_has, admitted_up, answered_at, right_by_client, right_if_durable, right_served, right_started, up_is}
@@ -90,9 +89,10 @@ module _ (old new : Brokered) (slot : ℕ) (client : Client) (number : ℕ) (cal
       (subst (λ (o : Option State). IsSlotRight (is_up old) o (kept_in kept slot)) (sym same) (right.slots slot))
 
   pub unserved_right : (refusal : Refusal) → IsRight before → IsWell new
-      → IsUnserved old new slot client number call refusal × AreOthersAlike old new slot → IsRight after
-  unserved_right refusal right well (inl none, others) = same_right right well others (none.1 slot)
-  unserved_right refusal right well (inr refused, others) = begun_right false right well others refused.1
+      → IsUnserved old new slot client number call refusal × (room_at old slot ≤ room_at new slot + 1)
+      × AreOthersAlike old new slot → IsRight after
+  unserved_right refusal right well (inl none, room, others) = same_right right well others (none.2 slot)
+  unserved_right refusal right well (inr refused, room, others) = begun_right false right well others refused.1
 
 -- a client that starts a call is one of a ready queue
 start_up : (w : State) (client : Client) (number : ℕ) → start_result false w client number ≡ Ok tt
@@ -173,7 +173,7 @@ module _ (old new : Brokered) (slot : ℕ) (client : Client) (number : ℕ) (cal
   pub served_reply : (is : List (List (Option Verdict))) → w.shape.kind ≡ log_kind
       → IsReplyAt (record { broker = new; kept = is }) slot client number reply
   served_reply is log =
-      subst (λ (o : Option State). IfWorld o (λ v. IsReplyOf v client number reply)) (sym made.is)
+      subst (λ (o : Option State). IsReplyIn o client number reply) (sym made.is)
       (answered_alone false w client number call holds log few started made.started made.steps reply made.answered).reply_of
 
 -- what is kept where a number's reply is
@@ -241,7 +241,7 @@ kept_reply s right slot client number reply is = go (request_admission log_kind 
         omega (arith, below, clients_there s.broker right.well slot at.world at.here) in
         let verdicts : IsSlotRight (is_up s.broker) (Some at.world) (kept_in s.kept slot) =
         subst (λ (o : Option State). IsSlotRight (is_up s.broker) o (kept_in s.kept slot)) at.here (right.slots slot) in
-        subst (λ (o : Option State). IfWorld o (λ w. IsReplyOf w client number reply)) (sym at.here)
+        subst (λ (o : Option State). IsReplyIn o client number reply) (sym at.here)
         (((verdicts log).recalled client few).reply number reply (kept_by_number (kept_at s slot client) number reply by))
 
     go : (r : Result Unit Refusal) → request_admission log_kind s.broker slot client ≡ r
@@ -251,13 +251,9 @@ kept_reply s right slot client number reply is = go (request_admission log_kind 
 
 -- with a number or without one
 pub answered_reply : (s : Sessioned) → IsRight s → (slot : ℕ) (client : Client) (number : Option ℕ) (reply : Reply)
-    → answer_to s slot client number ≡ Ok (Some reply) → IsReplyAt s slot client (number_or_none number) reply
+    → answer_to s slot client number ≡ Ok (Some reply) → IsReplyIfNumbered s slot client number reply
 answered_reply s right slot client (Some number) reply is = kept_reply s right slot client number reply is
-answered_reply s right slot client None reply is = absurd (go (request_admission durable_kind s.broker slot client) is)
-  where
-    go : (r : Result Unit Refusal) → answer_if r (let a : Result (Option Reply) Refusal = Ok None in a) ≡ Ok (Some reply) → ⊥
-    go (Err refusal) e = cc
-    go (Ok u) e = cc
+answered_reply s right slot client None reply is = tt
 
 -- a request that is to run was admitted
 if_answered : {T : Type 0} (r : Result Unit Refusal) (a : Result T Refusal) (x : T) → answer_if r a ≡ Ok x → r ≡ Ok tt

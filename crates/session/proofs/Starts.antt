@@ -1,5 +1,5 @@
 -- What a start answers is what a request answers that has begun to run.
-use Rattle.std.proofs.Common.{◌≡◌, ◌≢◌, ℕ, true, Option, None, Some, Result, Ok, Err, refl, sym, ap, subst, ◌∙◌}
+use Rattle.std.proofs.Common.{◌≡◌, ◌+◌, ◌≤◌, ◌≢◌, ℕ, true, Option, None, Some, Result, Ok, Err, refl, sym, ap, subst, ◌∙◌}
 use Rattle.std.specs.Option.{unwrap_or}
 use Rattle.words.specs.declared.call.Call.{Call}
 use Rattle.words.specs.declared.call.Client.{Client}
@@ -10,7 +10,7 @@ use Rattle.interleave.specs.Calls.{is_no_memory}
 use Rattle.interleave.specs.State.{State, after_start, start_result}
 use Rattle.named.specs.Brokers.{Brokered, admission, answer_at, answer_if, room_at, world_after, world_at}
 use Rattle.named.specs.Slots.{answered}
-use Rattle.session.specs.Requests.{AreOthersAlike, IsBegunBy, IsStarted, as_begun, number_or_none}
+use Rattle.session.specs.Requests.{AreOthersAlike, IsBegunBy, IsStarted, as_begun, number_or_zero}
 use Rattle.session.specs.Sessions.{Sessioned}
 
 -- whether memory was refused is not a matter of what else would be answered
@@ -35,17 +35,18 @@ begun_at f b slot client = go (admission b client) (world_at b slot)
 pub started_by : (old new : Brokered) (slot : ℕ) (client : Client) (number : ℕ) (call : Call) (r : Result Unit Refusal)
     → world_at new slot ≡ world_after (λ w. after_start (is_no_memory r) w client number call) old slot client
     → r ≡ answer_at (λ w. start_result (is_no_memory r) w client number) old slot client
-    → (is_no_memory r ≡ true → room_at old slot ≡ 0) → AreOthersAlike old new slot
+    → (is_no_memory r ≡ true → room_at old slot ≡ 0) → room_at old slot ≤ room_at new slot + 1 → AreOthersAlike old new slot
     → IsStarted old new slot client number call (as_begun r)
-started_by old new slot client number call r world result full others = record {
+started_by old new slot client number call r world result full room others = record {
   world = world ∙ ap (λ x. world_after (λ w. after_start x w client number call) old slot client) (sym (same_memory r));
   result_is = ap as_begun result ∙ begun_at (λ w. start_result (is_no_memory r) w client number) old slot client
       ∙ ap (λ x. answer_at (λ w. as_begun (start_result x w client number)) old slot client) (sym (same_memory r));
   full = λ e. full (sym (same_memory r) ∙ e);
+  room = room;
   others = others;
 }
 
-pub number_is : (number : Option ℕ) → unwrap_or number 0 ≡ number_or_none number
+pub number_is : (number : Option ℕ) → unwrap_or number 0 ≡ number_or_zero number
 number_is (Some number) = refl
 number_is None = refl
 

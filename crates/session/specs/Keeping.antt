@@ -18,10 +18,10 @@ pub record IsKeptNow (old new : List (List (Option Verdict))) (slot client : ℕ
   pub here : kept_in new slot client ≡ last
   pub others : (at other : ℕ) → (at ≢ slot) ⊎ (other ≢ client) → kept_in new at other ≡ kept_in old at other
 
--- by what is kept of a client, a number that was answered once: it is the last, with that reply, or there is a later one
-abbrev pub IsAnswered : Option Verdict → ℕ → Reply → Type 0
-IsAnswered None number reply = ⊥
-IsAnswered (Some verdict) number reply = (verdict ≡ taken_as number reply) ⊎ (number < verdict.number)
+-- by what is kept of a client, a number that will run no more: it is the last one, with this reply, or there is a later one
+abbrev pub IsSettled : Option Verdict → ℕ → Reply → Type 0
+IsSettled None number reply = ⊥
+IsSettled (Some verdict) number reply = (verdict ≡ taken_as number reply) ⊎ (number < verdict.number)
 
 -- the verdict, if that is what a client was told
 abbrev pub verdict_heard : Result Told Refusal → Option Verdict
@@ -39,7 +39,8 @@ told_when_asked b slot client =
 pub record AreKeptAsHeard (b : Brokered) (kept : List (List (Option Verdict))) : Type 0 where
   pub each : (slot client : ℕ) → slot < SLOTS → client < MAX_CLIENTS
       → kept_in kept slot client ≡ told_when_asked b slot client
-  pub none : (slot client : ℕ) → SLOTS ≤ slot → kept_in kept slot client ≡ None
+  pub no_slot : (slot client : ℕ) → SLOTS ≤ slot → kept_in kept slot client ≡ None
+  pub no_client : (slot client : ℕ) → MAX_CLIENTS ≤ client → kept_in kept slot client ≡ None
 
 -- a step of recovery leaves what is kept, unless the broker is ready by it: then it is what each client is told
 abbrev pub AreKeptAfter : Sessioned → Sessioned → Result Bool Refusal → Type 0
@@ -51,4 +52,4 @@ AreKeptAfter old new (Err refusal) = new.kept ≡ old.kept
 pub record SessionGoesOn (old new : Sessioned) : Type 0 where
   pub clients : (slot : ℕ) (client : Client) → IsLogClient old.broker slot client → IsLogClient new.broker slot client
   pub answers : (slot : ℕ) (client : Client) (number : ℕ) (reply : Reply) → IsLogClient old.broker slot client
-      → IsAnswered (kept_at old slot client) number reply → IsAnswered (kept_at new slot client) number reply
+      → IsSettled (kept_at old slot client) number reply → IsSettled (kept_at new slot client) number reply

@@ -9,25 +9,31 @@ use Rattle.interleave.specs.State.{State}
 use Rattle.interleave.specs.Verdicts.{IsIdle, IsReplyOf, NoneIsAbove, floor_by, taken_as}
 use Rattle.named.specs.Brokers.{world_at}
 use Rattle.named.specs.Promises.{KeepsPromises}
-use Rattle.named.specs.Slots.{IfWorld}
-use Rattle.session.specs.Sessions.{Sessioned, kept_at}
+use Rattle.session.specs.Sessions.{IsLogClient, Sessioned, kept_at}
 
--- what is kept of a client that has no call under way: a reply is that of its number, and none of the client's calls
--- with a later one is in the order, nor, where the verdict is NotTaken, one with that number; with nothing kept none is
+-- this is the reply of a client's number in the queue of a slot
+abbrev pub IsReplyIn : Option State → Client → ℕ → Reply → Type 0
+IsReplyIn (Some w) client number reply = IsReplyOf w client number reply
+IsReplyIn None client number reply = ⊥
+
+abbrev pub IsReplyAt : Sessioned → ℕ → Client → ℕ → Reply → Type 0
+IsReplyAt s slot client number reply = IsReplyIn (world_at s.broker slot) client number reply
+
+-- what is kept of a client that has no call under way: none of its calls with a later number is in the order, nor, where
+-- the verdict is NotTaken, one with that number; with nothing kept none is
 pub record IsKeptRight (w : State) (client : Client) (last : Option Verdict) : Type 0 where
-  pub reply : (number : ℕ) (reply : Reply) → last ≡ Some (taken_as number reply) → IsReplyOf w client number reply
   pub none_later : NoneIsAbove w client (floor_by last)
 
+-- no number stands twice in an order; a reply that is kept is that of its number, also while the broker is down or the
+-- client calls; and what is kept is right of the client's last number where the broker is ready
 pub record KeepsNumbers (s : Sessioned) : Type 0 where
   pub broker : KeepsPromises s.broker
+  pub replies : (slot : ℕ) (client : Client) (number : ℕ) (reply : Reply) → IsLogClient s.broker slot client
+      → kept_at s slot client ≡ Some (taken_as number reply) → IsReplyAt s slot client number reply
   pub once : (slot : ℕ) (w : State) → world_at s.broker slot ≡ Some w → AreNumbersOnce w
   pub kept : (slot : ℕ) (w : State) (client : Client) → s.broker.recovery ≡ None → world_at s.broker slot ≡ Some w
       → w.shape.kind ≡ log_kind → client.0 < w.shape.clients → IsIdle w client
       → IsKeptRight w client (kept_at s slot client)
-
--- this is the reply of a client's number in a slot's queue
-abbrev pub IsReplyAt : Sessioned → ℕ → Client → ℕ → Reply → Type 0
-IsReplyAt s slot client number reply = IfWorld (world_at s.broker slot) (λ w. IsReplyOf w client number reply)
 
 abbrev pub IsReplyIfNumbered : Sessioned → ℕ → Client → Option ℕ → Reply → Type 0
 IsReplyIfNumbered s slot client (Some number) reply = IsReplyAt s slot client number reply

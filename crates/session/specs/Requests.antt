@@ -1,5 +1,5 @@
 -- A client's request: when it is refused, and what it makes of the broker where it runs.
-use Rattle.std.specs.Prelude.{◌≡◌, ◌≢◌, ◌≤◌, ◌⊎◌, ℕ, Bool, true, false, is_some, Option, Some, None, Result, Ok, Err, if◌then◌else◌}
+use Rattle.std.specs.Prelude.{◌≡◌, ◌≢◌, ◌+◌, ◌<◌, ◌≤◌, ◌⊎◌, ℕ, Bool, true, false, is_some, Option, Some, None, Result, Ok, Err, if◌then◌else◌}
 use Rattle.words.specs.declared.call.Call.{Call}
 use Rattle.words.specs.declared.call.Client.{Client}
 use Rattle.words.specs.declared.call.Kind.{Kind}
@@ -15,6 +15,7 @@ use Rattle.interleave.specs.Verdicts.{number_under_way, taken_as}
 use Rattle.named.specs.Brokers.{Brokered, admission, answer_at, answer_if, quiet, room_at, world_after, world_at}
 use Rattle.session.specs.Numbers.{by_number}
 use Rattle.session.specs.Sessions.{Sessioned, kept_at}
+use Rattle.session.specs.declared.running.TheConstants.{ACTS_OF_A_CALL}
 
 -- a queue takes requests of its own kind alone: with a number, if it is a log queue
 abbrev pub is_kind : Kind → Kind → Bool
@@ -46,12 +47,12 @@ abbrev pub answer_to : Sessioned → ℕ → Client → Option ℕ → Result (O
 answer_to s slot client (Some number) = request_answer s slot client number
 answer_to s slot client None = plain_answer s slot client
 
--- a plain call has no number
-abbrev pub number_or_none : Option ℕ → ℕ
-number_or_none (Some number) = number
-number_or_none None = 0
+-- a plain call has no number, and the broker is handed 0
+abbrev pub number_or_zero : Option ℕ → ℕ
+number_or_zero (Some number) = number
+number_or_zero None = 0
 
--- all else is as it was where only the queue of one slot acted
+-- the other queues and the directory are as they were, where only the queue of one slot acted
 pub record AreOthersAlike (old new : Brokered) (slot : ℕ) : Type 0 where
   pub worlds : (other : ℕ) → other ≢ slot → quiet (world_at new other) ≡ quiet (world_at old other)
   pub rooms : (other : ℕ) → other ≢ slot → room_at new other ≡ room_at old other
@@ -72,6 +73,7 @@ pub record IsStarted (old new : Brokered) (slot : ℕ) (client : Client) (number
   pub result_is : result
       ≡ answer_at (λ w. as_begun (start_result (is_no_memory result) w client number)) old slot client
   pub full : is_no_memory result ≡ true → room_at old slot ≡ 0
+  pub room : room_at old slot ≤ room_at new slot + 1
   pub others : AreOthersAlike old new slot
 
 -- what a request makes that comes to this: nothing, where it is refused or its reply is kept; else it is started
@@ -98,19 +100,21 @@ pub record IsServed (old new : Brokered) (slot : ℕ) (client : Client) (number 
   pub few : steps ≤ MAX_STEPS_ALONE
   pub answered : IsAnsweredAlone (after_start false world client number call) client steps reply
   pub is : world_at new slot ≡ Some (after_alone steps (after_start false world client number call) client)
+  pub room : room_at old slot ≤ room_at new slot + ACTS_OF_A_CALL
   pub others : AreOthersAlike old new slot
 
--- none was: there was no memory for it, or its start was refused
+-- none was: there was no memory for its acts, or its start was refused
 abbrev pub IsUnserved : Brokered → Brokered → ℕ → Client → ℕ → Call → Refusal → Type 0
 IsUnserved old new slot client number call refusal =
-    ((refusal ≡ NoMemory) × ((at : ℕ) → world_at new at ≡ world_at old at))
+    ((refusal ≡ NoMemory) × (room_at old slot < ACTS_OF_A_CALL) × ((at : ℕ) → world_at new at ≡ world_at old at))
     ⊎ ((answer_at (λ w. start_result false w client number) old slot client ≡ Err refusal)
     × (world_at new slot ≡ world_after (λ w. after_start false w client number call) old slot client))
 
 abbrev pub IsRun : Brokered → Brokered → ℕ → Client → ℕ → Call → Result Reply Refusal → Type 0
 IsRun old new slot client number call (Ok reply) = IsServed old new slot client number call reply
 IsRun old new slot client number call (Err refusal) =
-    IsUnserved old new slot client number call refusal × AreOthersAlike old new slot
+    IsUnserved old new slot client number call refusal × (room_at old slot ≤ room_at new slot + 1)
+    × AreOthersAlike old new slot
 
 -- what a request makes that runs to its end, if it comes to this
 abbrev pub IsServedBy : Sessioned → Sessioned → ℕ → Client → ℕ → Call → Result Reply Refusal
@@ -142,4 +146,5 @@ pub record IsAdvanced (old new : Brokered) (slot : ℕ) (client : Client) (resul
   pub world : world_at new slot ≡ world_after (λ w. after_step (is_no_memory result) w client) old slot client
   pub result_is : result ≡ answer_at (λ w. step_result (is_no_memory result) w client) old slot client
   pub full : is_no_memory result ≡ true → room_at old slot ≡ 0
+  pub room : room_at old slot ≤ room_at new slot + 1
   pub others : AreOthersAlike old new slot

@@ -60,7 +60,6 @@ impl Kept {
     /// What each client is told in each queue of a broker: nothing, while it recovers.
     pub(crate) fn told(broker: &Broker) -> Self
         ensures heard { AreKeptAsHeard broker.now result }
-        ensures beyond { (slot client : ℕ) → MAX_CLIENTS ≤ client → kept_in result slot client ≡ None }
         ensures promises { KeepsPromises broker.now }
     {
         let mut rows = [[None; MAX_CLIENTS]; SLOTS];

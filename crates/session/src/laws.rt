@@ -16,19 +16,19 @@ ghost use Rattle.interleave.specs.Holds.{Holds};
 ghost use Rattle.interleave.specs.State.{State};
 ghost use Rattle.interleave.specs.Verdicts.{IsReplyOf, taken_as};
 ghost use Rattle.words.specs.declared.call.Kind.{Kind};
-ghost use Rattle.session.specs.Keeping.{IsAnswered, SessionGoesOn};
+ghost use Rattle.session.specs.Keeping.{IsSettled, SessionGoesOn};
 ghost use Rattle.session.specs.Numbers.{by_number};
 ghost use Rattle.session.specs.Sessions.{IsUncalled, Sessioned};
 
-/// Any list of acts goes on with the numbers that were answered. A number that was answered once never runs again, and
-/// each answer to it, however often it is sent and whatever crashes, recoveries, evictions and rotations come between,
-/// is the same.
+/// Each act's `goes_on` says that a settled number stays settled, and these chain: so it is over any list of acts, with
+/// crashes, recoveries, evictions and rotations. A settled number never runs again, and each answer to it, however often
+/// it is sent, is the same.
 pub fn answers_last()
     ensures none { (s : Sessioned) → SessionGoesOn s s }
     ensures more { (old now new : Sessioned) → SessionGoesOn old now → SessionGoesOn now new → SessionGoesOn old new }
-    ensures never_again { (last : Option Verdict) (number : ℕ) (reply : Reply) → IsAnswered last number reply
+    ensures never_again { (last : Option Verdict) (number : ℕ) (reply : Reply) → IsSettled last number reply
         → by_number last number ≡ Ok None → ⊥ }
-    ensures same { (last : Option Verdict) (number : ℕ) (reply again : Reply) → IsAnswered last number reply
+    ensures same { (last : Option Verdict) (number : ℕ) (reply again : Reply) → IsSettled last number reply
         → by_number last number ≡ Ok (Some again) → again ≡ reply }
 {}
 

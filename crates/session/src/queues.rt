@@ -51,6 +51,9 @@ impl Session {
         ensures room { OnOk result (acts ≤ room_at self.new.broker queue.0) }
         ensures rooms { (at : ℕ) → room_at self.old.broker at ≤ room_at self.new.broker at }
         ensures full { result ≡ Err Refusal.NoMemory → room_at self.old.broker queue.0 < acts }
+        ensures other_rooms { (other : ℕ) → other ≢ queue.0
+            → room_at self.new.broker other ≡ room_at self.old.broker other }
+        ensures open { OnOk result (IsSome (world_at self.old.broker queue.0)) }
         ensures errors { IfErr result (IsWhyUnread (world_at self.old.broker queue.0)) }
         ensures directory { self.new.broker.directory ≡ self.old.broker.directory }
         ensures creation { self.new.broker.creation ≡ self.old.broker.creation }

@@ -5,7 +5,7 @@ ghost use Rattle.interleave.specs.Verdicts.{taken_as};
 ghost use Rattle.named.specs.Brokers.{answer_at, world_at};
 ghost use Rattle.session.specs.Keeping.{IsKeptNow, SessionGoesOn};
 ghost use Rattle.session.specs.Promises.{IsReplyAt, IsReplyIfNumbered, KeepsNumbers};
-ghost use Rattle.session.specs.Requests.{answer_to, call_number, last_after, number_or_none, plain_answer, request_admission, request_answer, IsAdvanced, IsBegunBy, IsServedBy};
+ghost use Rattle.session.specs.Requests.{answer_to, call_number, last_after, number_or_zero, plain_answer, request_admission, request_answer, IsAdvanced, IsBegunBy, IsServedBy};
 ghost use Rattle.session.specs.Sessions.{kept_at};
 
 use crate::numbers::answer;
@@ -50,8 +50,9 @@ impl Session {
         }
     }
 
-    /// A call with a number, in a log queue, which runs to its end: its reply. A number that was sent before is answered
-    /// with the reply that it got, whatever call comes with it, or runs again where it took no effect. It is refused, in
+    /// A call with a number, in a log queue, which runs to its end: its reply. The client's last number, sent again, is
+    /// answered with the reply that it got, whatever call comes with it, or runs as a new call where it took no effect;
+    /// the next number runs. Room for all of the call is made before it starts, so it never stops half way. It is refused, in
     /// this order, where there is no such client (NoClient), while the broker recovers (NotReady), where the slot is
     /// closed (NoQueue), where the queue is durable (WrongKind), where the client has a call under way (Busy), where a
     /// later number is known (Old), as it is for 0, where an earlier one is missing (Gap), and for want of memory
@@ -83,12 +84,7 @@ impl Session {
 
     /// A call without a number, in a durable queue, which runs to its end: its reply. It is refused as
     /// [`Session::request`] is, but on a log queue (WrongKind), and for no number.
-    pub fn plain(
-        &mut self,
-        client: Client,
-        queue: SlotId,
-        call: Call,
-    ) -> Result<Reply, Refusal>
+    pub fn plain(&mut self, client: Client, queue: SlotId, call: Call) -> Result<Reply, Refusal>
         ensures request { IsServedBy self.old self.new queue.0 client 0 call result
             (plain_answer self.old queue.0 client) }
         ensures same { self.new.kept ≡ self.old.kept }
@@ -109,10 +105,9 @@ impl Session {
         number: Option<u64>,
         call: Call,
     ) -> Result<Option<Reply>, Refusal>
-        ensures begun { IsBegunBy self.old self.new queue.0 client (number_or_none number) call result
+        ensures begun { IsBegunBy self.old self.new queue.0 client (number_or_zero number) call result
             (answer_to self.old queue.0 client number) }
-        ensures reply { IfOk result (λ answer. IfSome answer
-            (IsReplyAt self.new queue.0 client (number_or_none number))) }
+        ensures reply { IfOk result (λ answer. IfSome answer (IsReplyIfNumbered self.new queue.0 client number)) }
         ensures same { self.new.kept ≡ self.old.kept }
         ensures goes_on { SessionGoesOn self.old self.new }
         ensures promises { KeepsNumbers self.new }
@@ -120,8 +115,7 @@ impl Session {
         if let Some(reply) = self.look_up(client, queue, number)? {
             return Ok(Some(reply));
         }
-        self.broker
-            .start(queue, client, number.unwrap_or(0), call)?;
+        self.broker.start(queue, client, number.unwrap_or(0), call)?;
         Ok(None)
     }
 
@@ -137,11 +131,7 @@ impl Session {
     }
 
     /// One step of the client's call: its reply, if it answered. It is refused as [`named::Broker::step`] is.
-    pub fn advance(
-        &mut self,
-        client: Client,
-        queue: SlotId,
-    ) -> Result<Option<Reply>, Refusal>
+    pub fn advance(&mut self, client: Client, queue: SlotId) -> Result<Option<Reply>, Refusal>
         ensures advanced { IsAdvanced self.old.broker self.new.broker queue.0 client result }
         ensures reply { IfOk result (λ answer. IfSome answer (IsReplyIfNumbered self.new queue.0 client
             (call_number (world_at self.old.broker queue.0) client))) }

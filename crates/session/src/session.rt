@@ -11,10 +11,10 @@ use named::Broker;
 use std::marker::Model;
 use words::{Client, Verdict};
 
-/// A broker whose clients number their operations in each log queue: 1, then 2, and so on. A number that is sent again,
-/// after a crash or any other doubt, is answered with the reply that it got, or runs if it took no effect; so each takes
-/// effect at most once. For each client and log queue the session keeps the last number with what became of it, from
-/// replies and from what recovery tells.
+/// A broker whose clients number their operations in each log queue: 1, then 2, and so on. The last number, sent again
+/// after a crash or any other doubt, is answered with the reply that it got, or runs as a new call where it took no
+/// effect; so each number takes effect at most once. For each client and log queue the session keeps the last number
+/// with what became of it, from replies and from what recovery tells.
 #[derive(Drop)]
 pub struct Session {
     pub(crate) broker: Broker,
@@ -52,7 +52,8 @@ impl Session {
         &self.broker
     }
 
-    /// The last number of a client in a log queue, and what became of it; nothing, where none is known.
+    /// The last number of a client in a log queue, and what became of it; nothing, where none is known. While the broker
+    /// recovers or the client has a call under way it is what was heard last.
     pub fn last(&self, client: Client, queue: SlotId) -> Option<Verdict>
         ensures { result ≡ kept_at self.now queue.0 client }
     {

@@ -8,8 +8,8 @@ pub returns : goal.returns
 returns c =
     let rows : List (List (Option Verdict)) = c.self.inside.rows in
     let few : c.args.client.0 < length (slice_index_or rows c.args.slot.0 []) =
-        omega (arith, c.requires.client, c.self.invariant c.args.slot.0 c.requires.slot) in
+    omega (arith, c.requires.client, c.self.invariant c.args.slot.0 c.requires.slot) in
     subst (λ (was : List (List (Option Verdict))). IsKeptNow was
-        (slice_set rows c.args.slot.0 (slice_set (slice_index_or rows c.args.slot.0 []) c.args.client.0 (Some c.args.verdict)))
-        c.args.slot.0 c.args.client.0 (Some c.args.verdict)) c.self.view_is
+    (slice_set rows c.args.slot.0 (slice_set (slice_index_or rows c.args.slot.0 []) c.args.client.0 (Some c.args.verdict)))
+    c.args.slot.0 c.args.client.0 (Some c.args.verdict)) c.self.view_is
     (kept_now rows c.args.slot.0 c.args.client.0 (Some c.args.verdict) (omega (arith, c.requires.slot)) few)

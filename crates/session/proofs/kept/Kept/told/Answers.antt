@@ -21,19 +21,17 @@ loop-slot-preserved c = record {
 pub returns-clause-heard : goal.returns-clause-heard
 returns-clause-heard c = record {
   each = λ slot client less few. (c.loop-slot.invariant.so_far slot (omega (arith, c.loop-slot-test.false, less))).told client few;
-  none = λ slot client past. ap (λ (row : List (Option Verdict)). slice_index_or row client None)
+  no_slot = λ slot client past. ap (λ (row : List (Option Verdict)). slice_index_or row client None)
       (get_or_past c.loop-slot.rows slot [] (omega (arith, c.loop-slot.invariant.len, past)));
+  no_client = λ slot client past.
+      let rows : List (List (Option Verdict)) = c.loop-slot.rows in
+      elim (cases_lt slot 8) [
+        | inl less ↦ get_or_past (slice_index_or rows slot []) client None
+            (omega (arith, (c.loop-slot.invariant.so_far slot (omega (arith, c.loop-slot-test.false, less))).len, past))
+        | inr far ↦ ap (λ (row : List (Option Verdict)). slice_index_or row client None)
+            (get_or_past rows slot [] (omega (arith, c.loop-slot.invariant.len, far)))
+      ];
 }
-
-pub returns-clause-beyond : goal.returns-clause-beyond
-returns-clause-beyond c slot client past =
-    let rows : List (List (Option Verdict)) = c.loop-slot.rows in
-    elim (cases_lt slot 8) [
-      | inl less ↦ get_or_past (slice_index_or rows slot []) client None
-          (omega (arith, (c.loop-slot.invariant.so_far slot (omega (arith, c.loop-slot-test.false, less))).len, past))
-      | inr far ↦ ap (λ (row : List (Option Verdict)). slice_index_or row client None)
-          (get_or_past rows slot [] (omega (arith, c.loop-slot.invariant.len, far)))
-    ]
 
 pub returns-clause-promises : goal.returns-clause-promises
 returns-clause-promises c = c.loop-slot.invariant.promises (omega (arith, c.loop-slot-test.false))

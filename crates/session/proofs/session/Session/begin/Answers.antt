@@ -5,7 +5,7 @@ use Rattle.words.specs.declared.refusal.Refusal.{Refusal}
 use Rattle.interleave.specs.Calls.{is_no_memory}
 use Rattle.interleave.specs.State.{after_start}
 use Rattle.session.specs.Keeping.{SessionGoesOn}
-use Rattle.session.specs.Requests.{IsBegunBy, answer_to, as_begun, number_or_none}
+use Rattle.session.specs.Requests.{IsBegunBy, answer_to, as_begun, number_or_zero}
 use Rattle.session.specs.Sessions.{IsRight, Sessioned}
 use Rattle.session.proofs.Promised.{numbers_kept, numbers_shown}
 use Rattle.session.proofs.Serving.{answered_reply, started_right}
@@ -18,20 +18,20 @@ returns-in_err-start-clause-begun c =
     let old : Sessioned = record { broker = c.self.inside.broker; kept = c.self.inside.kept } in
     let new : Sessioned = record { broker = c.start.new.self; kept = c.self.inside.kept } in
     let runs : answer_to c.args.self.now c.args.queue.0 c.args.client c.args.number ≡ Ok None = search rules in
-    let number : c.unwrap_or.result ≡ number_or_none c.args.number = c.unwrap_or.ensures ∙ number_is c.args.number in
+    let number : c.unwrap_or.result ≡ number_or_zero c.args.number = c.unwrap_or.ensures ∙ number_is c.args.number in
     let refused : c.from_residual-in_err-start.result ≡ Err c.in_err-start.field-0.0 = search rules in
     let result : as_begun c.start.result ≡ c.from_residual-in_err-start.result =
-        ap as_begun c.in_err-start.was ∙ sym refused in
+    ap as_begun c.in_err-start.was ∙ sym refused in
     let done : IsBegunBy old new c.args.queue.0 c.args.client c.unwrap_or.result c.args.call (as_begun c.start.result)
-        (answer_to c.args.self.now c.args.queue.0 c.args.client c.args.number) =
-        begun_if_runs old new c.args.queue.0 c.args.client c.unwrap_or.result c.args.call c.start.result
-        (answer_to c.args.self.now c.args.queue.0 c.args.client c.args.number) runs
-        (started_by old.broker new.broker c.args.queue.0 c.args.client c.unwrap_or.result c.args.call c.start.result
-        c.start.ensures.world c.start.ensures.result c.start.ensures.full
-        (record { worlds = c.start.ensures.others; rooms = c.start.ensures.other_rooms; directory = c.start.ensures.directory; creation = c.start.ensures.creation; recovery = c.start.ensures.recovery }))
-        refl in
+    (answer_to c.args.self.now c.args.queue.0 c.args.client c.args.number) =
+    begun_if_runs old new c.args.queue.0 c.args.client c.unwrap_or.result c.args.call c.start.result
+    (answer_to c.args.self.now c.args.queue.0 c.args.client c.args.number) runs
+    (started_by old.broker new.broker c.args.queue.0 c.args.client c.unwrap_or.result c.args.call c.start.result
+    c.start.ensures.world c.start.ensures.result c.start.ensures.full c.start.ensures.room
+    (record { worlds = c.start.ensures.others; rooms = c.start.ensures.other_rooms; directory = c.start.ensures.directory; creation = c.start.ensures.creation; recovery = c.start.ensures.recovery }))
+    refl in
     let answers : Result (Option Reply) Refusal = answer_to c.args.self.now c.args.queue.0 c.args.client c.args.number in
-    subst (λ (s : Sessioned). IsBegunBy s new c.args.queue.0 c.args.client (number_or_none c.args.number) c.args.call c.from_residual-in_err-start.result answers) c.self.view_is
+    subst (λ (s : Sessioned). IsBegunBy s new c.args.queue.0 c.args.client (number_or_zero c.args.number) c.args.call c.from_residual-in_err-start.result answers) c.self.view_is
     (subst (λ (n : ℕ). IsBegunBy old new c.args.queue.0 c.args.client n c.args.call c.from_residual-in_err-start.result answers) number
     (subst (λ (r : Result (Option Reply) Refusal). IsBegunBy old new c.args.queue.0 c.args.client c.unwrap_or.result c.args.call r answers) result done))
 
@@ -72,7 +72,7 @@ invariant_of-self c =
     started_right c.self.inside.broker c.start.new.self c.args.queue.0 c.args.client c.unwrap_or.result c.args.call
     c.self.inside.kept (as_begun c.start.result) c.self.invariant c.start.ensures.promises.well
     (started_by c.self.inside.broker c.start.new.self c.args.queue.0 c.args.client c.unwrap_or.result c.args.call
-    c.start.result c.start.ensures.world c.start.ensures.result c.start.ensures.full
+    c.start.result c.start.ensures.world c.start.ensures.result c.start.ensures.full c.start.ensures.room
     (record {
       worlds = c.start.ensures.others;
       rooms = c.start.ensures.other_rooms;
@@ -89,7 +89,7 @@ invariant_of-self-2 c =
     started_right c.self.inside.broker c.start.new.self c.args.queue.0 c.args.client c.unwrap_or.result c.args.call
     c.self.inside.kept (as_begun c.start.result) c.self.invariant c.start.ensures.promises.well
     (started_by c.self.inside.broker c.start.new.self c.args.queue.0 c.args.client c.unwrap_or.result c.args.call
-    c.start.result c.start.ensures.world c.start.ensures.result c.start.ensures.full
+    c.start.result c.start.ensures.world c.start.ensures.result c.start.ensures.full c.start.ensures.room
     (record {
       worlds = c.start.ensures.others;
       rooms = c.start.ensures.other_rooms;

@@ -37,7 +37,7 @@ invariant_of-self-then-ready c =
     c.in_ok-ready.was ∙ ap (λ (x : Bool). let r : Result Bool Refusal = Ok x in r) c.if-ready.true in
     right_ready s c.recover_step.new.self c.recover_step.result c.self.invariant c.recover_step.ensures.promises.well
     c.recover_step.ensures.step ready c.told-self-inside.result c.told-self-inside.ensures.heard
-    c.told-self-inside.ensures.beyond
+    c.told-self-inside.ensures.heard.no_client
 
 pub returns-then-ready-clause-few : goal.returns-then-ready-clause-few
 returns-then-ready-clause-few c =
@@ -52,7 +52,7 @@ returns-then-ready-clause-goes_on c =
     subst (λ (x : Sessioned). SessionGoesOn x new) c.self.view_is
     (ready_goes_on s c.recover_step.new.self c.recover_step.result c.self.invariant c.recover_step.ensures.promises.well
     c.recover_step.ensures.step ready c.told-self-inside.result c.told-self-inside.ensures.heard
-    c.told-self-inside.ensures.beyond)
+    c.told-self-inside.ensures.heard.no_client)
 
 pub returns-then-ready-clause-promises : goal.returns-then-ready-clause-promises
 returns-then-ready-clause-promises c = numbers_kept _ (invariant_of-self-then-ready c)

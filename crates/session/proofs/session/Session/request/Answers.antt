@@ -36,10 +36,10 @@ returns-clause-goes_on c =
     let new : Sessioned = record { broker = c.run.new.broker; kept = c.hear.new.self } in
     let answer : request_answer c.args.self.now c.args.queue.0 c.args.client c.args.number ≡ Ok None = search rules in
     let here : request_answer old c.args.queue.0 c.args.client c.args.number ≡ Ok None =
-        ap (λ (s : Sessioned). request_answer s c.args.queue.0 c.args.client c.args.number) c.self.view_is ∙ answer in
+    ap (λ (s : Sessioned). request_answer s c.args.queue.0 c.args.client c.args.number) c.self.view_is ∙ answer in
     let runs : by_number (kept_at old c.args.queue.0 c.args.client) c.args.number ≡ Ok None =
-        answer_runs (request_admission log_kind old.broker c.args.queue.0 c.args.client)
-        (by_number (kept_at old c.args.queue.0 c.args.client) c.args.number) here in
+    answer_runs (request_admission log_kind old.broker c.args.queue.0 c.args.client)
+    (by_number (kept_at old c.args.queue.0 c.args.client) c.args.number) here in
     subst (λ (s : Sessioned). SessionGoesOn s new) c.self.view_is
     (goes_on_kept_now old new c.args.queue.0 c.args.client (Some (taken_as c.args.number c.in_ok-reply-2.reply)) c.hear.ensures
     (laid_out_each old.broker new.broker c.args.queue.0
