@@ -1,17 +1,29 @@
 -- What follows of a session's invariant: what is promised of the numbers of its clients.
-use Rattle.std.proofs.Common.{◌≡◌, ℕ, ◌<◌, Bool, true, not, is_some, Option, Some, None, refl, ap, subst, arith}
+use Rattle.std.proofs.Common.{◌≡◌, ℕ, ◌<◌, ◌⊎◌, inl, inr, Bool, true, not, is_some, Option, Some, None, refl, ap, subst, arith}
 use Rattle.words.specs.declared.call.Client.{Client}
 use Rattle.words.specs.declared.call.Kind.TheVariants.{Log as log_kind}
+use Rattle.words.specs.declared.call.Reply.{Reply}
 use Rattle.words.specs.declared.limits.TheConstants.{MAX_CLIENTS}
+use Rattle.words.specs.declared.told.Verdict.{Verdict}
 use Rattle.interleave.specs.State.{State}
-use Rattle.interleave.specs.Verdicts.{IsIdle}
+use Rattle.interleave.specs.Verdicts.{IsIdle, IsReplyOf, IsToldAbove, taken_as, told_as}
 use Rattle.interleave.proofs.verdicts.Given.{none_above}
+use Rattle.interleave.proofs.verdicts.Settled.{base_below, settled}
 use Rattle.named.specs.Brokers.{world_at}
 use Rattle.named.specs.declared.recovery.BrokerRecovery.{BrokerRecovery}
 use Rattle.named.proofs.Promises.{promises_well}
+use Rattle.session.specs.Keeping.{IsAnswered}
 use Rattle.session.specs.Promises.{IsKeptRight, KeepsNumbers}
 use Rattle.session.specs.Sessions.{AreVerdictsRight, IsRight, IsSlotRight, Sessioned, is_up, kept_at, kept_in}
 use Rattle.session.proofs.Worlds.{few_there, holds_there}
+
+-- a number that the last verdict settles was answered
+answered_if_settled : (last : Option Verdict) (number : ℕ) (reply : Reply)
+    → (last ≡ Some (taken_as number reply)) ⊎ IsToldAbove number (told_as last) → IsAnswered last number reply
+answered_if_settled None number reply (inl same) = absurd (cc (same))
+answered_if_settled None number reply (inr above) = absurd above
+answered_if_settled (Some verdict) number reply (inl same) = inl (cc (same))
+answered_if_settled (Some verdict) number reply (inr above) = inr above
 
 module _ (s : Sessioned) (right : IsRight s) where
   -- what is kept for the clients of a log queue, once the broker is ready
@@ -38,7 +50,21 @@ module _ (s : Sessioned) (right : IsRight s) where
         none_later =
             none_above w (holds_there s.broker right.well slot w here) log client few (kept_at s slot client) idle
             (r.last refl client lt);
+        none_told_later =
+            base_below w (holds_there s.broker right.well slot w here) log client few (kept_at s slot client) idle
+            (r.last refl client lt);
       }
+
+  -- a number that took effect is settled by what is kept
+  pub effect_settled : (slot : ℕ) (w : State) (client : Client) (number : ℕ) (reply : Reply)
+      → s.broker.recovery ≡ None → world_at s.broker slot ≡ Some w → w.shape.kind ≡ log_kind
+      → client.0 < w.shape.clients → IsIdle w client → IsReplyOf w client number reply
+      → IsAnswered (kept_at s slot client) number reply
+  effect_settled slot w client number reply up here log lt idle taken =
+      let few : client.0 < MAX_CLIENTS = omega (arith, lt, few_there s.broker right.well slot w here) in
+      answered_if_settled (kept_at s slot client) number reply
+      (settled w (holds_there s.broker right.well slot w here) log client few (kept_at s slot client) idle
+      ((right_at slot w up here log).last refl client lt) number reply taken)
 
   pub numbers_kept : KeepsNumbers s
   numbers_kept =

@@ -1,22 +1,24 @@
 -- What is promised of the numbers of a session's clients, at every moment.
-use Rattle.std.specs.Prelude.{◌≡◌, ◌<◌, ℕ, Option, Some, None}
+use Rattle.std.specs.Prelude.{◌≡◌, ◌<◌, ◌≤◌, ℕ, Option, Some, None}
 use Rattle.words.specs.declared.call.Client.{Client}
 use Rattle.words.specs.declared.call.Kind.TheVariants.{Log as log_kind}
 use Rattle.words.specs.declared.call.Reply.{Reply}
 use Rattle.words.specs.declared.told.Verdict.{Verdict}
 use Rattle.interleave.specs.Numbers.{AreNumbersOnce}
 use Rattle.interleave.specs.State.{State}
-use Rattle.interleave.specs.Verdicts.{IsIdle, IsReplyOf, NoneIsAbove, floor_by, taken_as}
+use Rattle.interleave.specs.Verdicts.{IsIdle, IsReplyOf, IsTakenByBase, NoneIsAbove, floor_by, taken_as}
 use Rattle.named.specs.Brokers.{world_at}
 use Rattle.named.specs.Promises.{KeepsPromises}
 use Rattle.named.specs.Slots.{IfWorld}
 use Rattle.session.specs.Sessions.{Sessioned, kept_at}
 
 -- what is kept of a client that has no call under way: a reply is that of its number, and none of the client's calls
--- with a later one is in the order, nor, where the verdict is NotTaken, one with that number; with nothing kept none is
+-- with a later one is in the order, nor, where the verdict is NotTaken, one with that number; with nothing kept none is.
+-- Nor does the base tell that such a number took effect
 pub record IsKeptRight (w : State) (client : Client) (last : Option Verdict) : Type 0 where
   pub reply : (number : ℕ) (reply : Reply) → last ≡ Some (taken_as number reply) → IsReplyOf w client number reply
   pub none_later : NoneIsAbove w client (floor_by last)
+  pub none_told_later : (number : ℕ) (reply : Reply) → IsTakenByBase w client number reply → number ≤ floor_by last
 
 pub record KeepsNumbers (s : Sessioned) : Type 0 where
   pub broker : KeepsPromises s.broker

@@ -5,7 +5,7 @@ ghost use Rattle.words.specs.declared.refusal.Refusal.{Refusal};
 ghost use Rattle.persist.specs.Memory.{Words};
 ghost use Rattle.arena.specs.Shape.{Counts};
 ghost use Rattle.named.specs.Booting.{IsBooted};
-ghost use Rattle.named.specs.Brokers.{Brokered, IsNew, IsWell};
+ghost use Rattle.named.specs.Brokers.{Brokered, IsNew, IsWell, world_at};
 ghost use Rattle.named.specs.Rotating.{rotate_result, IsRotated};
 ghost use Rattle.named.specs.Stopping.{IsRecoveryStep, IsStopped};
 ghost use Rattle.words.specs.declared.call.Client.{Client};
@@ -14,11 +14,11 @@ ghost use Rattle.words.specs.declared.limits.TheConstants.{MAX_CLIENTS};
 ghost use Rattle.words.specs.declared.told.Verdict.{Verdict};
 ghost use Rattle.interleave.specs.Holds.{Holds};
 ghost use Rattle.interleave.specs.State.{State};
-ghost use Rattle.interleave.specs.Verdicts.{IsReplyOf, taken_as};
+ghost use Rattle.interleave.specs.Verdicts.{IsIdle, IsReplyOf, taken_as};
 ghost use Rattle.words.specs.declared.call.Kind.{Kind};
 ghost use Rattle.session.specs.Keeping.{IsAnswered, SessionGoesOn};
 ghost use Rattle.session.specs.Numbers.{by_number};
-ghost use Rattle.session.specs.Sessions.{IsUncalled, Sessioned};
+ghost use Rattle.session.specs.Sessions.{IsRight, IsUncalled, Sessioned, kept_at};
 
 /// Any list of acts goes on with the numbers that were answered. A number that was answered once never runs again, and
 /// each answer to it, however often it is sent and whatever crashes, recoveries, evictions and rotations come between,
@@ -30,6 +30,15 @@ pub fn answers_last()
         → by_number last number ≡ Ok None → ⊥ }
     ensures same { (last : Option Verdict) (number : ℕ) (reply again : Reply) → IsAnswered last number reply
         → by_number last number ≡ Ok (Some again) → again ≡ reply }
+{}
+
+/// What took effect is settled: where the broker is ready and its client has no call under way, a number with a reply is
+/// the last one, with that reply, or below it. So no number that took effect runs again (`answers_last`).
+pub fn effects_are_settled()
+    ensures { (s : Sessioned) (slot : ℕ) (w : State) (client : Client) (number : ℕ) (reply : Reply) → IsRight s
+        → s.broker.recovery ≡ None → world_at s.broker slot ≡ Some w → w.shape.kind ≡ Kind.Log
+        → client.0 < w.shape.clients → IsIdle w client → IsReplyOf w client number reply
+        → IsAnswered (kept_at s slot client) number reply }
 {}
 
 /// A client's number has one reply in a log queue.
