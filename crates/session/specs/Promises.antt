@@ -13,8 +13,8 @@ use Rattle.named.specs.Slots.{IfWorld}
 use Rattle.session.specs.Sessions.{Sessioned, kept_at}
 
 -- what is kept of a client that has no call under way: a reply is that of its number, and none of the client's calls
--- with a later one is in the order, nor, where the verdict is NotTaken, one with that number; with nothing kept none is.
--- Nor does the base tell that such a number took effect
+-- with a later one is in the order, nor, where the verdict is NotTaken, one with that number; with nothing kept none
+-- is. Nor does the base tell that such a number took effect
 pub record IsKeptRight (w : State) (client : Client) (last : Option Verdict) : Type 0 where
   pub reply : (number : ℕ) (reply : Reply) → last ≡ Some (taken_as number reply) → IsReplyOf w client number reply
   pub none_later : NoneIsAbove w client (floor_by last)

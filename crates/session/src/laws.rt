@@ -36,8 +36,8 @@ pub fn answers_last()
         → by_number last number ≡ Ok (Some again) → again ≡ reply }
 {}
 
-/// What took effect is settled: where the broker is ready and its client has no call under way, a number with a reply is
-/// the last one, with that reply, or below it. So no number that took effect runs again (`answers_last`).
+/// What took effect is settled: where the broker is ready and its client has no call under way, a number with a reply
+/// is the last one, with that reply, or below it. So no number that took effect runs again (`answers_last`).
 pub fn effects_are_settled()
     ensures { (s : Sessioned) (slot : ℕ) (w : State) (client : Client) (number : ℕ) (reply : Reply) → IsRight s
         → s.broker.recovery ≡ None → world_at s.broker slot ≡ Some w → w.shape.kind ≡ Kind.Log

@@ -86,7 +86,8 @@ module _ (w : State) (holds : Holds w) (log : w.shape.kind ≡ log_kind) (client
           let called = some.0.tells.number in
           let above = v.base some.0.place called client (some.0.tells.begins.call, some.0.tells.begins.begins) in
           inr (later_told (order_in w) some.0.place called number told some.0.tells.says (omega (arith, above, floor)))
-      go (Log clients) kind v (inr none) = inl (same_Some told (told_verdict (taken_as number reply)) (sym none.0.same ∙ base))
+      go (Log clients) kind v (inr none) =
+          inl (same_Some told (told_verdict (taken_as number reply)) (sym none.0.same ∙ base))
 
   -- and of the order: the number is at least 1 and at most the floor
   in_range : (number : ℕ) (reply : Reply) → IsTakenNumber w client number reply
@@ -107,7 +108,8 @@ module _ (w : State) (holds : Holds w) (log : w.shape.kind ≡ log_kind) (client
   by_order number reply taken = go told refl (in_range number reply taken)
     where
       own : (verdict : Verdict) (outcome : Outcome) → verdict.outcome ≡ outcome → told ≡ told_verdict verdict
-          → (1 ≤ number) × (number ≤ floor_from verdict.number outcome) → IsSettledBy number reply (told_verdict verdict)
+          → (1 ≤ number) × (number ≤ floor_from verdict.number outcome)
+          → IsSettledBy number reply (told_verdict verdict)
       own verdict (Taken other) e is range = elim (cases_lt number verdict.number) [
         | inl lt ↦ inr lt
         | inr ge ↦
@@ -117,7 +119,8 @@ module _ (w : State) (holds : Holds w) (log : w.shape.kind ≡ log_kind) (client
             ∙ ap (λ (o : Outcome). let v : Verdict = record { number = number; outcome = o } in v) e in
             let one : other ≡ reply =
             one_reply w holds log client few number other reply
-            (told_reply w holds log client few number other (is ∙ ap (λ (v : Verdict). told_verdict v) given)) (inl taken) in
+            (told_reply w holds log client few number other (is ∙ ap (λ (v : Verdict). told_verdict v) given))
+            (inl taken) in
             inl (ap (λ (v : Verdict). told_verdict v) given ∙ ap (λ (r : Reply). told_verdict (taken_as number r)) one)
       ]
       own verdict NotTaken e is range = inr (omega (arith, range.0, range.1))
