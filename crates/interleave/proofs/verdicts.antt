@@ -3,6 +3,7 @@ pub mod Acts
 pub mod Moves
 pub mod Recalled
 pub mod Given
+pub mod Settled
 pub mod Last
 pub mod Alone
 pub mod Carried

@@ -1,22 +1,20 @@
 -- A session stays right over its clients' calls.
-use Rattle.std.proofs.Common.{◌≡◌, ◌≢◌, ◌⊎◌, inl, inr, ℕ, ◌<◌, ◌≤◌, ◌==◌, Bool, true, false, not, is_ok, is_some, if◌then◌else◌, length, List, Option, Some, None, Result, Ok, Err, slice_get, slice_index_or, refl, sym, ap, subst, ◌∙◌, arith}
+use Rattle.std.proofs.Common.{◌≡◌, ◌≢◌, ◌⊎◌, inl, inr, ℕ, ◌<◌, Bool, true, false, not, is_ok, is_some, if◌then◌else◌, length, List, Option, Some, None, Result, Ok, Err, slice_get, slice_index_or, refl, sym, ap, subst, ◌∙◌, arith}
 use Rattle.std.proofs.lemmas.Bool.{cases_eq}
 use Rattle.std.proofs.lemmas.Option.{get_or_from_slice_get, slice_get_within}
-use Rattle.words.specs.declared.call.Call.{Call}
 use Rattle.words.specs.declared.call.Client.{Client}
 use Rattle.words.specs.declared.call.Kind.{Kind}
 use Rattle.words.specs.declared.call.Kind.TheVariants.{Durable as durable_kind, Log as log_kind}
 use Rattle.words.specs.declared.call.Reply.{Reply}
-use Rattle.words.specs.declared.limits.TheConstants.{MAX_CLIENTS}
 use Rattle.words.specs.declared.refusal.Refusal.{Refusal}
 use Rattle.words.specs.declared.told.Verdict.{Verdict}
 use Rattle.protocol.specs.declared.UnderWay.{UnderWay}
 use Rattle.interleave.specs.Calls.{is_no_memory, waiting_result}
 use Rattle.interleave.specs.Holds.{Holds}
-use Rattle.interleave.specs.State.{State, after_start, after_step, is_down as is_world_down, step_result, step_result_with}
-use Rattle.interleave.specs.Verdicts.{number_of_call, number_under_way, taken_as, IsLast, IsRecalled, IsReplyOf}
-use Rattle.interleave.proofs.HoldsKept.{holds_after_start, waiting_is}
-use Rattle.named.specs.Brokers.{Brokered, IsWell, admission, answer_at, answer_if, is_down, quiet, world_after, world_at}
+use Rattle.interleave.specs.State.{State, after_step, is_down as is_world_down, step_result, step_result_with}
+use Rattle.interleave.specs.Verdicts.{number_of_call, number_under_way, taken_as, IsLast, IsRecalled}
+use Rattle.interleave.proofs.HoldsKept.{waiting_is}
+use Rattle.named.specs.Brokers.{Brokered, IsWell, admission, answer_at, answer_if, world_after, world_at}
 use Rattle.named.specs.Slots.{acted, answered as answer_in}
 use Rattle.named.proofs.Stays.{step_alike}
 use Rattle.arena.specs.Shape.{Shape}
@@ -26,11 +24,11 @@ use Rattle.session.specs.Promises.{IsReplyIfNumbered, IsReplyIn}
 use Rattle.session.proofs.Going.{answered_below, answers_go_on, clients_go_on, shape_by_client}
 use Rattle.named.proofs.Kept.{some_is}
 use Rattle.interleave.proofs.verdicts.Last.{answered}
-use Rattle.session.specs.Requests.{AreOthersAlike, IsAdvanced, IsRun, IsServed, IsStarted, IsUnserved, call_number, last_after, numbered}
-use Rattle.session.specs.Sessions.{AreVerdictsRight, IsLogClient, IsRight, IsSlotRight, Sessioned, is_up, kept_in}
-use Rattle.session.proofs.Calling.{IsAnsweredAt, IsKeptNew, admitted_up, answered_at, right_answered, right_by_client, right_if_durable, right_served, right_started, right_stepped, up_is}
+use Rattle.session.specs.Requests.{AreOthersAlike, IsAdvanced, call_number, last_after, numbered}
+use Rattle.session.specs.Sessions.{IsLogClient, IsRight, IsSlotRight, Sessioned, is_up, kept_in}
+use Rattle.session.proofs.Calling.{IsAnsweredAt, IsKeptNew, admitted_up, answered_at, right_answered, right_by_client, right_if_durable, right_stepped, up_is}
 use Rattle.session.proofs.SlotLaws.{right_if_quiet}
-use Rattle.session.proofs.Worlds.{few_there, holds_there, none_some, up_there}
+use Rattle.session.proofs.Worlds.{holds_there, up_there}
 
 -- the same verdicts
 pub right_alike : (up : Bool) (o : Option State) (f g : ℕ → Option Verdict) → ((c : ℕ) → g c ≡ f c)

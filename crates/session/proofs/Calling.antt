@@ -1,5 +1,5 @@
 -- What is kept for the clients of a slot's queue stays right over their calls.
-use Rattle.std.proofs.Common.{◌≡◌, ◌≢◌, ◌⊎◌, inl, inr, ℕ, ◌<◌, ◌≤◌, Bool, true, false, not, is_ok, is_some, if◌then◌else◌, nat_lt, Option, Some, None, Result, Ok, Err, slice_get, slice_index_or, refl, sym, ap, subst, ◌∙◌, arith}
+use Rattle.std.proofs.Common.{◌≡◌, ◌≢◌, ◌⊎◌, inl, inr, ℕ, ◌<◌, Bool, true, false, not, is_ok, is_some, if◌then◌else◌, Option, Some, None, Result, Ok, Err, refl, sym, ap, subst, ◌∙◌, arith}
 use Rattle.std.proofs.lemmas.Bool.{cases_eq}
 use Rattle.words.specs.declared.call.Call.{Call}
 use Rattle.words.specs.declared.call.Client.{Client}
@@ -7,25 +7,24 @@ use Rattle.words.specs.declared.call.Kind.TheVariants.{Log as log_kind}
 use Rattle.words.specs.declared.call.Reply.{Reply}
 use Rattle.words.specs.declared.limits.TheConstants.{MAX_CLIENTS}
 use Rattle.words.specs.declared.refusal.Refusal.{Refusal}
-use Rattle.words.specs.declared.refusal.Refusal.TheVariants.{NoClient, NotReady, NoQueue}
+use Rattle.words.specs.declared.refusal.Refusal.TheVariants.{NoClient, NotReady}
 use Rattle.words.specs.declared.told.Verdict.{Verdict}
 use Rattle.arena.specs.Shape.{Shape}
 use Rattle.protocol.specs.declared.acts.Act.{Act}
 use Rattle.protocol.specs.declared.acts.Act.TheVariants.{Start, Step}
 use Rattle.interleave.specs.Holds.{Holds}
-use Rattle.interleave.specs.State.{State, IsAnsweredAlone, after_alone, after_attempt, after_start, after_step, start_result, step_result}
+use Rattle.interleave.specs.State.{State, IsAnsweredAlone, after_alone, after_start, after_step, start_result, step_result}
 use Rattle.interleave.specs.Verdicts.{IsIdle, IsLast, IsRecalled, number_under_way, taken_as}
 use Rattle.interleave.proofs.verdicts.Alone.{answered_alone, last_alone, recalled_alone}
 use Rattle.interleave.proofs.verdicts.Given.{recalled_last}
 use Rattle.interleave.proofs.verdicts.Last.{IsGiven, answered, last_after}
 use Rattle.interleave.proofs.verdicts.Recalled.{recalled_after}
-use Rattle.named.specs.Brokers.{Brokered, admission, answer_at, answer_if, has_client, is_down, world_after, world_at}
+use Rattle.named.specs.Brokers.{Brokered, admission, answer_at, answer_if, has_client, world_after, world_at}
 use Rattle.named.specs.Slots.{acted, answered as answer_in}
 use Rattle.named.specs.declared.recovery.BrokerRecovery.{BrokerRecovery}
 use Rattle.named.proofs.Stays.{alone_alike, start_alike, step_alike}
-use Rattle.session.specs.Sessions.{AreVerdictsRight, IsSlotRight, is_up}
+use Rattle.session.specs.Sessions.{IsSlotRight, is_up}
 use Rattle.session.proofs.SlotLaws.{right_unanswered}
-use Rattle.session.proofs.Worlds.{none_some}
 
 -- a client was let in, and this was answered by the world of the slot
 pub record IsAnsweredAt {T : Type 0} (g : State → Result T Refusal) (b : Brokered) (slot : ℕ) (client : Client) (x : T)

@@ -1,9 +1,8 @@
 -- Numbers that were answered stay so over the acts on one slot.
-use Rattle.std.proofs.Common.{◌≡◌, ◌≢◌, ◌⊎◌, inl, inr, ℕ, ◌<◌, ◌≤◌, ◌-◌, Bool, true, is_ok, if◌then◌else◌, List, Option, Some, None, Result, Ok, Err, slice_get, length, refl, sym, ap, subst, ◌∙◌, arith}
+use Rattle.std.proofs.Common.{◌≡◌, ◌≢◌, ◌⊎◌, inl, inr, ℕ, ◌<◌, is_ok, if◌then◌else◌, List, Option, Some, None, Result, Ok, Err, slice_get, refl, sym, ap, subst, ◌∙◌, arith}
 use Rattle.std.proofs.lemmas.Bool.{cases_eq}
 use Rattle.std.proofs.lemmas.Option.{slice_get_within}
 use Rattle.words.specs.declared.call.Client.{Client}
-use Rattle.words.specs.declared.call.Kind.TheVariants.{Log as log_kind}
 use Rattle.words.specs.declared.call.Reply.{Reply}
 use Rattle.words.specs.declared.refusal.Refusal.{Refusal}
 use Rattle.words.specs.declared.told.Outcome.{Outcome}
@@ -12,14 +11,14 @@ use Rattle.words.specs.declared.told.Verdict.{Verdict}
 use Rattle.logqueue.specs.Numbers.{floor_from}
 use Rattle.arena.specs.Shape.{Shape}
 use Rattle.interleave.specs.State.{State}
-use Rattle.interleave.specs.Verdicts.{floor_by, taken_as}
+use Rattle.interleave.specs.Verdicts.{floor_by}
 use Rattle.interleave.proofs.verdicts.Carried.{uncounted}
 use Rattle.named.specs.Brokers.{Brokered, IsWell, admission, quiet, world_after, world_at, world_of}
 use Rattle.named.specs.Slots.{acted}
 use Rattle.named.specs.declared.slot.Slot.{Slot}
-use Rattle.session.specs.Keeping.{IsSettled, SessionGoesOn}
+use Rattle.session.specs.Keeping.{IsSettled}
 use Rattle.session.specs.Requests.{AreOthersAlike}
-use Rattle.session.specs.Sessions.{IsLogClient, Sessioned, kept_in}
+use Rattle.session.specs.Sessions.{IsLogClient, kept_in}
 use Rattle.session.proofs.Worlds.{none_some}
 
 -- a slot's world is still there, of the same shape

@@ -4,6 +4,7 @@ pub mod Calling
 pub mod Clients
 pub mod Downs
 pub mod Going
+pub mod GoneOn
 pub mod Heard
 pub mod Numbering
 pub mod Opens

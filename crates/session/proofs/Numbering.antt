@@ -1,5 +1,5 @@
 -- What was answered stays so when a client's next number is answered.
-use Rattle.std.proofs.Common.{◌≡◌, ◌⊎◌, inl, inr, ℕ, ◌+◌, ◌-◌, ◌<◌, ◌≤◌, ◌==◌, Bool, true, false, if◌then◌else◌, Option, None, Some, Result, Ok, Err, refl, sym, ap, ◌∙◌, arith}
+use Rattle.std.proofs.Common.{◌≡◌, inl, inr, ℕ, ◌+◌, ◌-◌, ◌<◌, ◌≤◌, ◌==◌, Bool, true, false, if◌then◌else◌, Option, None, Some, Result, Ok, Err, refl, sym, ap, ◌∙◌, arith}
 use Rattle.std.specs.Prelude.{nat_lt}
 use Rattle.std.proofs.lemmas.Bool.{eqb-true}
 use Rattle.words.specs.declared.call.Reply.{Reply}
@@ -10,7 +10,7 @@ use Rattle.words.specs.declared.told.Outcome.TheVariants.{NotTaken, Taken}
 use Rattle.words.specs.declared.told.Verdict.{Verdict}
 use Rattle.logqueue.specs.Numbers.{floor_from}
 use Rattle.named.specs.Brokers.{answer_if}
-use Rattle.interleave.specs.Verdicts.{floor_by, taken_as}
+use Rattle.interleave.specs.Verdicts.{floor_by}
 use Rattle.session.specs.Keeping.{IsSettled}
 use Rattle.session.specs.Numbers.{by_last, by_number, by_outcome, by_reply, missed}
 

@@ -1,11 +1,11 @@
 -- A client that was admitted to an open slot.
-use Rattle.std.proofs.Common.{◌≡◌, ◌≢◌, ℕ, nat_lt, is_ok, is_some, if◌then◌else◌, Option, None, Some, Result, Ok, Err, slice_get, refl, sym, ap, ◌∙◌}
+use Rattle.std.proofs.Common.{◌≡◌, ℕ, nat_lt, is_ok, is_some, if◌then◌else◌, Option, Some, Result, Ok, Err, sym, ap, ◌∙◌}
 use Rattle.words.specs.declared.call.Client.{Client}
 use Rattle.words.specs.declared.refusal.Refusal.{Refusal}
 use Rattle.words.specs.declared.refusal.Refusal.TheVariants.{NoClient, NotReady}
 use Rattle.arena.specs.Shape.{Shape}
 use Rattle.interleave.specs.State.{State}
-use Rattle.named.specs.Brokers.{Brokered, IsWell, admission, answer_at, answer_if, quiet, room_at, world_after, world_at}
+use Rattle.named.specs.Brokers.{Brokered, IsWell, admission, answer_at, answer_if, world_after, world_at}
 use Rattle.named.specs.Slots.{acted, answered}
 use Rattle.named.specs.declared.recovery.BrokerRecovery.{BrokerRecovery}
 use Rattle.session.specs.Requests.{AreOthersAlike, IsOpenTo}

@@ -1,18 +1,30 @@
 -- What follows of a session's invariant: what is promised of the numbers of its clients.
-use Rattle.std.proofs.Common.{◌≡◌, ℕ, ◌<◌, Bool, true, not, is_some, Option, Some, None, refl, sym, ap, subst, arith}
+use Rattle.std.proofs.Common.{◌≡◌, ℕ, ◌<◌, ◌⊎◌, inl, inr, Bool, true, not, is_some, Option, Some, None, refl, sym, ap}
+use Rattle.std.proofs.Common.{subst, arith}
 use Rattle.words.specs.declared.call.Client.{Client}
 use Rattle.words.specs.declared.call.Kind.TheVariants.{Log as log_kind}
 use Rattle.words.specs.declared.call.Reply.{Reply}
 use Rattle.words.specs.declared.limits.TheConstants.{MAX_CLIENTS}
+use Rattle.words.specs.declared.told.Verdict.{Verdict}
 use Rattle.interleave.specs.State.{State}
-use Rattle.interleave.specs.Verdicts.{IsIdle, taken_as}
+use Rattle.interleave.specs.Verdicts.{IsIdle, IsToldAbove, taken_as, told_as}
 use Rattle.interleave.proofs.verdicts.Given.{none_above}
+use Rattle.interleave.proofs.verdicts.Settled.{base_below, settled}
 use Rattle.named.specs.Brokers.{world_at}
 use Rattle.named.specs.declared.recovery.BrokerRecovery.{BrokerRecovery}
 use Rattle.named.proofs.Promises.{promises_well}
+use Rattle.session.specs.Keeping.{IsSettled}
 use Rattle.session.specs.Promises.{IsKeptRight, IsReplyAt, IsReplyIn, KeepsNumbers}
 use Rattle.session.specs.Sessions.{AreVerdictsRight, IsLogClient, IsRight, IsSlotRight, Sessioned, is_up, kept_at, kept_in}
 use Rattle.session.proofs.Worlds.{few_there, holds_there}
+
+-- a number that the last verdict says, or that is below it, is settled
+settled_by : (last : Option Verdict) (number : ℕ) (reply : Reply)
+    → (last ≡ Some (taken_as number reply)) ⊎ IsToldAbove number (told_as last) → IsSettled last number reply
+settled_by None number reply (inl same) = absurd (cc (same))
+settled_by None number reply (inr above) = absurd above
+settled_by (Some verdict) number reply (inl same) = inl (cc (same))
+settled_by (Some verdict) number reply (inr above) = inr above
 
 module _ (s : Sessioned) (right : IsRight s) where
   -- what is kept for the clients of a log queue, once the broker is ready
@@ -38,6 +50,13 @@ module _ (s : Sessioned) (right : IsRight s) where
         none_later =
             none_above w (holds_there s.broker right.well slot w here) log client few (kept_at s slot client) idle
             (r.last refl client lt);
+        none_told_later =
+            base_below w (holds_there s.broker right.well slot w here) log client few (kept_at s slot client) idle
+            (r.last refl client lt);
+        settled = λ number reply taken.
+            settled_by (kept_at s slot client) number reply
+            (settled w (holds_there s.broker right.well slot w here) log client few (kept_at s slot client) idle
+            (r.last refl client lt) number reply taken);
       }
 
   -- a reply that is kept is that of its number

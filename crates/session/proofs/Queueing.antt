@@ -1,9 +1,8 @@
 -- A session stays right while queues are created and histories end.
-use Rattle.std.proofs.Common.{◌≡◌, ◌≢◌, ◌⊎◌, inl, inr, ℕ, ◌<◌, Bool, true, false, not, is_some, ◌||◌, if◌then◌else◌, List, Option, Some, None, Result, Ok, Err, slice_get, slice_set, refl, sym, ap, subst, ◌∙◌, arith}
+use Rattle.std.proofs.Common.{◌≡◌, ◌≢◌, ◌⊎◌, inl, inr, ℕ, Bool, true, false, not, is_some, ◌||◌, if◌then◌else◌, List, Option, Some, None, Result, Ok, Err, slice_get, refl, sym, ap, subst, ◌∙◌}
 use Rattle.std.specs.Prelude.{IfOk, IfSome, OnErr, OnOk}
 use Rattle.std.specs.List.{list_any}
 use Rattle.std.proofs.lemmas.Bool.{cases_eq}
-use Rattle.words.specs.declared.call.Kind.{Kind}
 use Rattle.words.specs.declared.refusal.Refusal.{Refusal}
 use Rattle.words.specs.declared.refusal.Refusal.TheVariants.{Busy, Idle, NoMemory, NotReady}
 use Rattle.words.specs.declared.told.Verdict.{Verdict}
@@ -15,16 +14,14 @@ use Rattle.stepper.specs.declared.resume.After.TheVariants.{More, Done}
 use Rattle.directory.specs.Creation.{successor}
 use Rattle.directory.specs.Directory.{IsFree}
 use Rattle.directory.specs.declared.creation.Creation.{Creation}
-use Rattle.directory.specs.declared.queue.Queue.{Queue}
 use Rattle.interleave.specs.Calls.{is_no_memory}
-use Rattle.interleave.specs.Holds.{Holds}
-use Rattle.interleave.specs.Rotation.{after_rotation, rotate_result as rotate_world, some_client_calls}
+use Rattle.interleave.specs.Rotation.{after_rotation, rotate_result as rotate_world}
 use Rattle.interleave.specs.State.{State, world_over}
-use Rattle.named.specs.Blocks.{BlockState, state_in}
-use Rattle.named.specs.Brokers.{Brokered, IsOpened, IsStepCreated, IsWell, block_words, is_down, quiet, world_at, world_of}
+use Rattle.named.specs.Blocks.{state_in}
+use Rattle.named.specs.Brokers.{Brokered, IsStepCreated, IsWell, block_words, is_down, quiet, world_at, world_of}
 use Rattle.named.specs.Promises.{KeepsPromises}
-use Rattle.named.specs.Rotating.{AreQuiet, IsQuietIn, IsRotated, has_calls_in, rotate_result}
-use Rattle.named.specs.Slots.{acted, kind_in, world_in}
+use Rattle.named.specs.Rotating.{IsQuietIn, IsRotated, has_calls_in, rotate_result}
+use Rattle.named.specs.Slots.{acted, world_in}
 use Rattle.named.specs.declared.recovery.BrokerRecovery.{BrokerRecovery}
 use Rattle.named.specs.declared.slot.Slot.{Slot}
 use Rattle.named.specs.declared.slot.Slot.TheVariants.{Closed, Durable, Log}

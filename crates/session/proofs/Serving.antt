@@ -1,5 +1,5 @@
 -- A session stays right over its clients' requests, and each reply is that of its number.
-use Rattle.std.proofs.Common.{◌≡◌, ◌≢◌, ◌⊎◌, inl, inr, ℕ, suc, ◌<◌, ◌≤◌, ◌+◌, ◌==◌, Bool, true, false, not, is_ok, is_some, if◌then◌else◌, nat_lt, length, List, Option, Some, None, Result, Ok, Err, slice_get, slice_index_or, refl, sym, ap, subst, ◌∙◌, arith}
+use Rattle.std.proofs.Common.{◌≡◌, ◌≢◌, inl, inr, ℕ, ◌<◌, ◌≤◌, ◌+◌, ◌==◌, Bool, true, false, is_some, if◌then◌else◌, nat_lt, length, List, Option, Some, None, Result, Ok, Err, slice_get, refl, sym, ap, subst, ◌∙◌, arith}
 use Rattle.std.proofs.lemmas.Bool.{eqb-true, ltb-true}
 use Rattle.std.proofs.lemmas.Option.{slice_get_within}
 use Rattle.words.specs.declared.call.Call.{Call}
@@ -17,25 +17,21 @@ use Rattle.protocol.specs.Machine.{FitsCall}
 use Rattle.protocol.specs.declared.UnderWay.{UnderWay}
 use Rattle.interleave.specs.Calls.{idle_result, is_no_memory}
 use Rattle.interleave.specs.Holds.{Holds}
-use Rattle.interleave.specs.Queue.{number_check}
-use Rattle.interleave.specs.State.{State, after_alone, after_start, is_down as is_world_down, number_of_idle, number_to_start, start_result, start_result_with}
-use Rattle.interleave.specs.Verdicts.{IsReplyOf, number_under_way, taken_as}
-use Rattle.interleave.specs.declared.queue.Queue.{Queue}
+use Rattle.interleave.specs.State.{State, after_alone, after_start, is_down as is_world_down, number_of_idle, start_result, start_result_with}
+use Rattle.interleave.specs.Verdicts.{number_under_way, taken_as}
 use Rattle.interleave.proofs.HoldsKept.{holds_after_start}
 use Rattle.interleave.proofs.verdicts.Alone.{answered_alone}
-use Rattle.interleave.proofs.verdicts.Last.{IsGiven}
-use Rattle.named.specs.Brokers.{Brokered, IsWell, admission, answer_at, answer_if, is_down, quiet, room_at, world_after, world_at}
+use Rattle.named.specs.Brokers.{Brokered, IsWell, answer_if, room_at, world_after, world_at}
 use Rattle.named.proofs.Kept.{some_is}
 use Rattle.named.proofs.Stays.{alone_alike, start_alike}
-use Rattle.session.specs.Keeping.{IsSettled, IsKeptNow}
+use Rattle.session.specs.Keeping.{IsKeptNow}
 use Rattle.session.specs.Numbers.{by_last, by_number, by_outcome, by_reply, missed}
 use Rattle.session.specs.Promises.{IsReplyAt, IsReplyIfNumbered, IsReplyIn}
 use Rattle.session.specs.Requests.{AreOthersAlike, IsRun, IsServed, IsStarted, IsUnserved, answer_to, is_kind, queue_admission, request_admission, request_answer}
 use Rattle.session.specs.Sessions.{IsRight, IsSlotRight, Sessioned, is_up, kept_at, kept_in}
 use Rattle.session.proofs.Acting.{kept_beside, kept_new, right_beside}
 use Rattle.session.proofs.Calling.{IsAnsweredAt, admitted_has, admitted_up, answered_at, right_by_client, right_if_durable, right_served, right_started, up_is}
-use Rattle.session.proofs.SlotLaws.{right_if_quiet}
-use Rattle.session.proofs.Worlds.{clients_there, few_there, holds_there, no_recovery, up_there}
+use Rattle.session.proofs.Worlds.{clients_there, holds_there, no_recovery, up_there}
 
 -- the kept reply is that of the last number, and has it
 kept_by_reply : (last number : ℕ) (own reply : Reply) → by_reply own last number ≡ Ok (Some reply)

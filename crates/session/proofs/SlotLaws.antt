@@ -1,5 +1,5 @@
 -- What is kept for the clients of a slot's queue stays right over the acts on it.
-use Rattle.std.proofs.Common.{◌≡◌, ◌≢◌, ◌⊎◌, inl, inr, ℕ, ◌<◌, ◌≤◌, Bool, true, false, is_some, Option, Some, None, Result, Ok, Err, slice_get, refl, sym, ap, subst, ◌∙◌, arith}
+use Rattle.std.proofs.Common.{◌≡◌, ℕ, ◌<◌, Bool, true, false, is_some, Option, Some, None, Ok, slice_get, refl, sym, ap, subst, ◌∙◌, arith}
 use Rattle.words.specs.declared.call.Client.{Client}
 use Rattle.words.specs.declared.call.Kind.TheVariants.{Log as log_kind}
 use Rattle.words.specs.declared.call.Reply.{Reply}
@@ -9,17 +9,17 @@ use Rattle.logqueue.specs.Numbers.{verdict_of}
 use Rattle.persist.specs.Memory.{Words}
 use Rattle.arena.specs.Shape.{Shape}
 use Rattle.protocol.specs.declared.acts.Act.{Act}
-use Rattle.protocol.specs.declared.acts.Act.TheVariants.{Crash, Evict, Recover, Start, Step}
+use Rattle.protocol.specs.declared.acts.Act.TheVariants.{Step}
 use Rattle.recover.specs.declared.recovery.Recovery.{Recovery}
 use Rattle.interleave.specs.Holds.{Holds}
 use Rattle.interleave.specs.Queue.{told_in}
 use Rattle.interleave.specs.Rotation.{after_rotation, rotate_result}
-use Rattle.interleave.specs.State.{State, after_attempt, after_evict, after_recover, recover_with, step_result, world_over}
-use Rattle.interleave.specs.Verdicts.{IsIdle, IsLast, IsRecalled, IsRested}
+use Rattle.interleave.specs.State.{State, after_attempt, after_recover, recover_with, step_result, world_over}
+use Rattle.interleave.specs.Verdicts.{IsLast, IsRecalled, IsRested}
 use Rattle.interleave.proofs.DownLaws.{became_ready}
 use Rattle.interleave.proofs.verdicts.Carried.{last_rotated, one_verdict, recalled_rotated, uncounted}
 use Rattle.interleave.proofs.verdicts.Given.{last_new, recalled_last, recalled_none, rested_at_ready}
-use Rattle.interleave.proofs.verdicts.Last.{last_after, rested_after}
+use Rattle.interleave.proofs.verdicts.Last.{last_after}
 use Rattle.interleave.proofs.verdicts.Recalled.{recalled_after}
 use Rattle.named.specs.Brokers.{quiet}
 use Rattle.session.specs.Sessions.{AreVerdictsRight, IsSlotRight}

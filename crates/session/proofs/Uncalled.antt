@@ -1,7 +1,6 @@
 -- Nobody has called a broker that begins, and so it stays while it stops, recovers, or ends its histories.
-use Rattle.std.proofs.Common.{◌≡◌, ◌≢◌, ◌⊎◌, inl, inr, ℕ, zero, suc, ◌<◌, List, Bool, true, false, is_some, if◌then◌else◌, Option, None, Some, Result, Ok, Err, replicate, slice_get, refl, sym, ap, subst, ◌∙◌, arith}
+use Rattle.std.proofs.Common.{◌≡◌, ◌⊎◌, inl, inr, ℕ, zero, suc, List, Bool, true, false, is_some, Option, None, Some, Result, Ok, replicate, slice_get, refl, sym, ap, subst, ◌∙◌}
 use Rattle.std.proofs.lemmas.Bool.{cases_eq}
-use Rattle.std.proofs.lemmas.Option.{slice_get_within}
 use Rattle.words.specs.declared.call.Kind.TheVariants.{Log as log_kind}
 use Rattle.words.specs.declared.refusal.Refusal.{Refusal}
 use Rattle.persist.specs.Memory.{Words}
@@ -21,7 +20,7 @@ use Rattle.named.specs.Booting.{IsBooted, world_booted}
 use Rattle.named.specs.Brokers.{Brokered, IsNew, IsWell, quiet, world_at, world_of}
 use Rattle.named.specs.Rotating.{IsRotated, rotate_result}
 use Rattle.named.specs.Slots.{acted, world_in}
-use Rattle.named.specs.Stopping.{IsDirectoryRead, IsFound, IsFoundFirst, IsFoundIn, IsQueueRecovered, IsRecoveryStep, IsStopped, found_by, found_world}
+use Rattle.named.specs.Stopping.{IsFound, IsFoundFirst, IsFoundIn, IsQueueRecovered, IsRecoveryStep, IsStopped, found_by, found_world}
 use Rattle.named.specs.declared.recovery.BrokerRecovery.{BrokerRecovery}
 use Rattle.named.specs.declared.recovery.BrokerRecovery.TheVariants.{ReadDirectory, RecoverQueue}
 use Rattle.named.specs.declared.slot.Slot.{Slot}

@@ -1,5 +1,5 @@
 -- The worlds of a broker that is well: each holds, and all are ready once the broker is.
-use Rattle.std.proofs.Common.{◌≡◌, ℕ, ◌≤◌, Bool, true, false, not, is_some, Option, Some, None, slice_get, sym, ap, subst, ◌∙◌, refl}
+use Rattle.std.proofs.Common.{◌≡◌, ℕ, ◌≤◌, true, false, is_some, Option, Some, None, slice_get, sym, ap, subst, ◌∙◌, refl}
 use Rattle.words.specs.declared.call.Kind.{Kind}
 use Rattle.words.specs.declared.call.Kind.TheVariants.{Durable as durable_kind, Log as log_kind}
 use Rattle.words.specs.declared.limits.TheConstants.{MAX_CLIENTS}

@@ -1,14 +1,15 @@
 -- What is promised of the numbers of a session's clients, at every moment.
-use Rattle.std.specs.Prelude.{◌≡◌, ◌<◌, ℕ, Option, Some, None}
+use Rattle.std.specs.Prelude.{◌≡◌, ◌<◌, ◌≤◌, ℕ, Option, Some, None}
 use Rattle.words.specs.declared.call.Client.{Client}
 use Rattle.words.specs.declared.call.Kind.TheVariants.{Log as log_kind}
 use Rattle.words.specs.declared.call.Reply.{Reply}
 use Rattle.words.specs.declared.told.Verdict.{Verdict}
 use Rattle.interleave.specs.Numbers.{AreNumbersOnce}
 use Rattle.interleave.specs.State.{State}
-use Rattle.interleave.specs.Verdicts.{IsIdle, IsReplyOf, NoneIsAbove, floor_by, taken_as}
+use Rattle.interleave.specs.Verdicts.{IsIdle, IsReplyOf, IsTakenByBase, NoneIsAbove, floor_by, taken_as}
 use Rattle.named.specs.Brokers.{world_at}
 use Rattle.named.specs.Promises.{KeepsPromises}
+use Rattle.session.specs.Keeping.{IsSettled}
 use Rattle.session.specs.Sessions.{IsLogClient, Sessioned, kept_at}
 
 -- this is the reply of a client's number in the queue of a slot
@@ -20,9 +21,12 @@ abbrev pub IsReplyAt : Sessioned → ℕ → Client → ℕ → Reply → Type 0
 IsReplyAt s slot client number reply = IsReplyIn (world_at s.broker slot) client number reply
 
 -- what is kept of a client that has no call under way: none of its calls with a later number is in the order, nor, where
--- the verdict is NotTaken, one with that number; with nothing kept none is
+-- the verdict is NotTaken, one with that number; with nothing kept none is. Nor does the base tell that such a number
+-- took effect. So each number that took effect is settled: it never runs again
 pub record IsKeptRight (w : State) (client : Client) (last : Option Verdict) : Type 0 where
   pub none_later : NoneIsAbove w client (floor_by last)
+  pub none_told_later : (number : ℕ) (reply : Reply) → IsTakenByBase w client number reply → number ≤ floor_by last
+  pub settled : (number : ℕ) (reply : Reply) → IsReplyOf w client number reply → IsSettled last number reply
 
 -- no number stands twice in an order; a reply that is kept is that of its number, also while the broker is down or the
 -- client calls; and what is kept is right of the client's last number where the broker is ready

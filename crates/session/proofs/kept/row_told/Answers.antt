@@ -1,4 +1,4 @@
-use Rattle.std.proofs.Common.{rules, ◌≡◌, ◌<◌, ℕ, Option, None, slice_index_or, slice_set, length, ◌∙◌, ap, arith, length-set}
+use Rattle.std.proofs.Common.{rules, ◌≡◌, Option, None, ◌∙◌, ap, arith, length-set}
 use Rattle.words.specs.declared.told.Verdict.{Verdict}
 use Rattle.session.specs.Keeping.{told_when_asked, verdict_heard}
 use Rattle.session.proofs.Places.{one_more_place}

@@ -1,6 +1,4 @@
-use Rattle.std.proofs.Common.{rules, ◌≡◌, ℕ, Ok, Err, refl, sym, ap, subst, ◌∙◌, arith}
-use Rattle.words.specs.declared.call.Reply.{Reply}
-use Rattle.words.specs.declared.refusal.Refusal.{Refusal}
+use Rattle.std.proofs.Common.{rules, ◌≡◌, Err, sym, subst}
 use Rattle.session.specs.Requests.{IsRun}
 use Rattle.session.proofs.Runs.{IsRoomMade, IsStartTried, never_refused, served, start_was_refused}
 use Rattle.session.proofs.running.run.Goals as goal

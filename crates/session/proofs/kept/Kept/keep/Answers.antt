@@ -1,4 +1,4 @@
-use Rattle.std.proofs.Common.{rules, ◌≡◌, ◌<◌, ℕ, List, Option, Some, slice_index_or, slice_set, length, [], subst, arith}
+use Rattle.std.proofs.Common.{◌<◌, List, Option, Some, slice_index_or, slice_set, length, [], subst, arith}
 use Rattle.words.specs.declared.told.Verdict.{Verdict}
 use Rattle.session.specs.Keeping.{IsKeptNow}
 use Rattle.session.proofs.Places.{kept_now}

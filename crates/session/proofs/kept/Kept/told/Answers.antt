@@ -1,4 +1,4 @@
-use Rattle.std.proofs.Common.{rules, ◌≡◌, ◌<◌, inl, inr, ℕ, List, [], Option, None, slice_index_or, length, ◌∙◌, ap, arith, length-set}
+use Rattle.std.proofs.Common.{rules, inl, inr, List, [], Option, None, slice_index_or, ◌∙◌, ap, arith, length-set}
 use Rattle.words.specs.declared.told.Verdict.{Verdict}
 use Rattle.std.proofs.lemmas.Bool.{cases_lt}
 use Rattle.std.proofs.lemmas.List.{get_or_past}

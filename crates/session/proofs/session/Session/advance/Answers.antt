@@ -1,14 +1,11 @@
-use Rattle.std.proofs.Common.{◌≡◌, ℕ, Option, Some, None, Result, Ok, Err, refl, sym, ap, subst, ◌∙◌}
+use Rattle.std.proofs.Common.{◌≡◌, ℕ, Option, Some, None, Ok, sym, subst, ◌∙◌}
 use Rattle.std.specs.Option.{IfSome}
-use Rattle.words.specs.declared.call.Client.{Client}
 use Rattle.words.specs.declared.call.Reply.{Reply}
-use Rattle.words.specs.declared.refusal.Refusal.{Refusal}
-use Rattle.words.specs.declared.told.Verdict.{Verdict}
-use Rattle.named.specs.Brokers.{Brokered, world_at}
+use Rattle.named.specs.Brokers.{world_at}
 use Rattle.session.specs.Keeping.{IsKeptNow, SessionGoesOn}
 use Rattle.session.specs.Promises.{IsReplyIfNumbered}
 use Rattle.session.specs.Requests.{IsAdvanced, call_number, last_after}
-use Rattle.session.specs.Sessions.{IsRight, Sessioned, kept_in}
+use Rattle.session.specs.Sessions.{Sessioned, kept_in}
 use Rattle.session.proofs.Acting.{advanced_on, advanced_reply, advanced_right, kept_heard, kept_refused, number_heard}
 use Rattle.session.proofs.Calling.{answered_at}
 use Rattle.session.proofs.Going.{open_below}

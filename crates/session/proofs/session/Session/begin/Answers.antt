@@ -1,5 +1,4 @@
 use Rattle.std.proofs.Common.{rules, ◌≡◌, ◌∙◌, ℕ, Option, None, Some, Result, Ok, Err, refl, sym, ap, subst}
-use Rattle.std.specs.Option.{unwrap_or}
 use Rattle.words.specs.declared.call.Reply.{Reply}
 use Rattle.words.specs.declared.refusal.Refusal.{Refusal}
 use Rattle.interleave.specs.Calls.{is_no_memory}

@@ -1,15 +1,14 @@
-use Rattle.std.proofs.Common.{rules, ◌≡◌, ◌≤◌, ℕ, Ok, refl, sym, ap, subst, ◌∙◌}
+use Rattle.std.proofs.Common.{rules, ◌≡◌, ◌≤◌, ℕ, Ok, refl, ap, subst, ◌∙◌}
 use Rattle.words.specs.declared.call.Kind.TheVariants.{Durable as durable_kind}
 use Rattle.words.specs.declared.call.Call.TheVariants.{Enq}
 use Rattle.protocol.specs.Machine.{FitsCall}
 use Rattle.interleave.proofs.HoldsKept.{call_fits}
 use Rattle.session.specs.Keeping.{SessionGoesOn}
 use Rattle.session.specs.Requests.{request_admission}
-use Rattle.session.specs.Sessions.{IsRight, Sessioned}
+use Rattle.session.specs.Sessions.{Sessioned}
 use Rattle.session.proofs.Promised.{numbers_kept, numbers_shown}
 use Rattle.session.proofs.Serving.{plain_run_right}
 use Rattle.session.proofs.Clients.{goes_on_kept, laid_out_each, laid_out_run, others_run}
-use Rattle.session.proofs.Numbering.{answered_below, answered_by_floor}
 use Rattle.session.proofs.session.Session.plain.Goals as goal
 
 pub returns-clause-goes_on : goal.returns-clause-goes_on

@@ -1,7 +1,5 @@
-use Rattle.std.proofs.Common.{rules, ◌≡◌, ◌≤◌, ◌∙◌, ℕ, sym, inr, None, Ok, Option, Result, Some, refl, ap, subst}
-use Rattle.words.specs.declared.call.Reply.{Reply}
+use Rattle.std.proofs.Common.{rules, ◌≡◌, ◌≤◌, ◌∙◌, ℕ, inr, None, Ok, Some, refl, ap, subst}
 use Rattle.words.specs.declared.call.Kind.TheVariants.{Log as log_kind}
-use Rattle.words.specs.declared.refusal.Refusal.{Refusal}
 use Rattle.words.specs.declared.call.Call.TheVariants.{Enq}
 use Rattle.protocol.specs.Machine.{FitsCall}
 use Rattle.interleave.proofs.HoldsKept.{call_fits}
