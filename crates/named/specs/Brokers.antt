@@ -1,5 +1,5 @@
 -- A broker: one memory, and eight slots in it.
-use Rattle.std.specs.Prelude.{◌≡◌, ℕ, ◌+◌, ◌<◌, ◌⊎◌, Bool, true, false, IsSome, is_some, is_ok, List, Ok, Option, Some, None, Result, Err, length, replicate, slice_get, slice_set, nat_lt, if◌then◌else◌}
+use Rattle.std.specs.Prelude.{◌≡◌, ℕ, ◌+◌, ◌<◌, ◌⊎◌, Bool, true, false, ◌&&◌, not, IsSome, is_some, is_ok, List, Ok, Option, Some, None, Result, Err, length, replicate, slice_get, slice_set, nat_lt, if◌then◌else◌}
 use Rattle.std.specs.Option.{option_map}
 use Rattle.words.specs.declared.call.Client.{Client}
 use Rattle.words.specs.declared.call.Kind.{Kind}
@@ -71,6 +71,10 @@ has_client b client = nat_lt client.0 b.counts.clients
 -- recovery is under way
 abbrev pub is_down : Brokered → Bool
 is_down b = is_some b.recovery
+
+-- a creation is under way: one that a crash dropped is not
+abbrev pub is_creating : Brokered → Bool
+is_creating b = not (is_down b) && is_some b.creation
 
 -- why a client's act is refused before its slot is looked at: there is no such client, or recovery is under way
 abbrev pub admission : Brokered → Client → Result Unit Refusal

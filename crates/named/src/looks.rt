@@ -12,7 +12,7 @@ ghost use Rattle.named.specs.Brokers.{world_at, room_at, answer_at, IsWell};
 
 use crate::broker::Broker;
 use crate::slot::Slot;
-use arena::SlotId;
+use arena::{Layout, SlotId};
 use events::{History, Order};
 use words::{Client, Kind, Refusal, Told};
 
@@ -29,6 +29,13 @@ impl Broker {
             Some(slot) => Ok(slot),
             None => Err(Refusal::NoQueue),
         }
+    }
+
+    /// How many clients each queue has, from 1 to [`words::MAX_CLIENTS`].
+    pub fn clients(&self) -> u32
+        ensures { result ≡ self.now.counts.clients }
+    {
+        self.layout.durable().clients()
     }
 
     /// What the client was last told in the queue of a slot: what the last recovery read, and at first what the base

@@ -3,7 +3,7 @@
 ghost use Rattle.std.specs.Prelude.{◌≡◌, ◌≢◌, ◌↔◌, ◌⊎◌, ◌<◌, ◌≤◌, ◌+◌, ℕ, true, length, replicate, slice_set, Ok, Err, IfOk, IfErr, OnOk, OnErr, IfSome, IfNone, IsSome, None, if◌then◌else◌};
 ghost use Rattle.directory.specs.Directory.{IsDirectory, IsNamed, HasName};
 ghost use Rattle.directory.specs.Creation.{successor};
-ghost use Rattle.named.specs.Brokers.{is_down, world_at, quiet, IsBegun, IsNotCreated, MayCreate, IsStepCreated};
+ghost use Rattle.named.specs.Brokers.{is_creating, is_down, world_at, quiet, IsBegun, IsNotCreated, MayCreate, IsStepCreated};
 ghost use Rattle.named.specs.Promises.{KeepsPromises};
 
 use crate::broker::Broker;
@@ -46,6 +46,13 @@ impl Broker {
     {
         self.check_ready()?;
         Ok(self.directory.find(name))
+    }
+
+    /// Whether a creation is under way. One that a crash ended is not.
+    pub fn is_creating(&self) -> bool
+        ensures { result ≡ is_creating self.now }
+    {
+        self.recovery.is_none() && self.creation.is_some()
     }
 
     /// Begins to create a queue of this name, in the lowest free slot. It is refused, in this order, where these bytes

@@ -1,0 +1,64 @@
+-- What a call leaves in its seat's list.
+use Rattle.std.specs.Prelude.{◌≡◌, ◌++◌, ℕ, List, [], ◌∷◌, Option, Some, None, Result, Ok, Err}
+use Rattle.words.specs.declared.call.Call.{Call}
+use Rattle.words.specs.declared.call.Reply.{Reply}
+use Rattle.words.specs.declared.refusal.Refusal.{Refusal}
+use Rattle.arena.specs.declared.broker.SlotId.{SlotId}
+use Rattle.workers.specs.Lists.{with_end}
+use Rattle.workers.specs.declared.entry.Answer.{Answer}
+use Rattle.workers.specs.declared.entry.Answer.TheVariants.{Refused, Reply as answer_reply, Interrupted as answer_interrupted, Unfinished}
+use Rattle.workers.specs.declared.entry.End.{End}
+use Rattle.workers.specs.declared.entry.End.TheVariants.{Answered, Interrupted, Open}
+use Rattle.workers.specs.declared.entry.Entry.{Entry}
+use Rattle.workers.specs.declared.entry.Request.{Request}
+use Rattle.workers.specs.declared.entry.Took.{Took}
+use Rattle.workers.specs.declared.entry.Took.TheVariants.{More, NoMemory as took_no_memory, Answered as took_answered, Interrupted as took_interrupted}
+
+-- the entry of a call that was asked for
+abbrev pub entry_of : SlotId → Option ℕ → Call → Option ℕ → End → Entry
+entry_of queue number call place end = record {
+  queue = queue;
+  number = number;
+  call = call;
+  place = place;
+  end = end;
+}
+
+-- the list has one entry more, of this call
+pub record HasOneMore (old : List Entry) (queue : SlotId) (number : Option ℕ) (call : Call) (end : End)
+    (new : List Entry) : Type 0 where
+  pub place : Option ℕ
+  pub is : new ≡ old ++ entry_of queue number call place end ∷ []
+
+-- exactly one entry more, with what was asked for and what is answered; or none, where it is refused
+abbrev pub Remembers : List Entry → SlotId → Option ℕ → Call → Answer → List Entry → Type 0
+Remembers old queue number call (answer_reply reply) new = HasOneMore old queue number call (Answered reply) new
+Remembers old queue number call (Refused refusal) new = new ≡ old
+Remembers old queue number call answer_interrupted new = HasOneMore old queue number call Interrupted new
+Remembers old queue number call Unfinished new = HasOneMore old queue number call Open new
+
+-- the open call has its answer
+abbrev pub Finishes : List Entry → Answer → List Entry → Type 0
+Finishes old (answer_reply reply) new = new ≡ with_end (Answered reply) old
+Finishes old (Refused refusal) new = ⊥
+Finishes old answer_interrupted new = new ≡ with_end Interrupted old
+Finishes old Unfinished new = new ≡ old
+
+-- what one step leaves
+abbrev pub IsListAfter : List Entry → Took → List Entry → Type 0
+IsListAfter old More new = new ≡ old
+IsListAfter old (took_answered reply) new = new ≡ with_end (Answered reply) old
+IsListAfter old took_interrupted new = new ≡ with_end Interrupted old
+IsListAfter old took_no_memory new = new ≡ old
+
+-- the list has one entry more, of an open call that ran from some place
+pub record IsUnderWay (old : List Entry) (r : Request) (new : List Entry) : Type 0 where
+  pub place : ℕ
+  pub is : new ≡ old ++ entry_of r.queue r.number r.call (Some place) Open ∷ []
+
+-- what a start leaves: nothing, where it is refused; the kept reply, or the open call
+abbrev pub IsListBegun : List Entry → Request → Result (Option Reply) Refusal → List Entry → Type 0
+IsListBegun old r (Err refusal) new = new ≡ old
+IsListBegun old r (Ok (Some reply)) new =
+    new ≡ old ++ entry_of r.queue r.number r.call None (Answered reply) ∷ []
+IsListBegun old r (Ok None) new = IsUnderWay old r new

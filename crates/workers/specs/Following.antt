@@ -1,0 +1,29 @@
+-- How the rows that a keeper knows follow the session beside it under the lock.
+use Rattle.std.specs.Prelude.{◌≡◌, ◌≤◌, ℕ, Bool, true, false, length, List, Some, slice_get}
+use Rattle.words.specs.declared.call.Client.{Client}
+use Rattle.named.specs.Brokers.{is_down}
+use Rattle.session.specs.Sessions.{Sessioned}
+use Rattle.workers.specs.Lists.{IsCutOff, IsRecorded, OnlyLastIsOpen, RanAt, events_at}
+use Rattle.workers.specs.declared.entry.End.TheVariants.{Open}
+use Rattle.workers.specs.declared.entry.Entry.{Entry}
+
+-- where the seats' lists begin in each history: at what it had when the seats were given, or, since a rotation, at 0
+abbrev pub beginnings : (ℕ → ℕ) → Bool → ℕ → ℕ
+beginnings given true slot = 0
+beginnings given false slot = given slot
+
+-- while the broker is down, a crash has ended each open call
+abbrev pub IsStopped : Sessioned → Client → List Entry → Type 0
+IsStopped s client list =
+    is_down s.broker ≡ true → (k slot place : ℕ) (e : Entry) → slice_get list k ≡ Some e → RanAt e slot place
+    → e.end ≡ Open → IsCutOff (events_at s.broker slot) client place
+
+pub record IsFollowed (since : ℕ → ℕ) (s : Sessioned) (client : Client) (row : List Entry) : Type 0 where
+  pub recorded : IsRecorded since s client row
+  pub only_last : OnlyLastIsOpen row
+  pub stopped : IsStopped s client row
+
+-- each row is its client's list
+pub record AreFollowed (since : ℕ → ℕ) (s : Sessioned) (rows : List (List Entry)) : Type 0 where
+  pub begun : (slot : ℕ) → since slot ≤ length (events_at s.broker slot)
+  pub each : (t : ℕ) (row : List Entry) → slice_get rows t ≡ Some row → IsFollowed since s (record { 0 = t }) row

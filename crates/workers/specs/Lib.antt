@@ -1,0 +1,6 @@
+pub mod Lists
+pub mod Following
+pub mod Answers
+pub mod Opening
+pub mod Creating
+pub mod Seats

@@ -1,0 +1,35 @@
+-- Which sessions may be shared, and under which name.
+use Rattle.std.specs.Prelude.{◌≡◌, ◌≢◌, ◌⊎◌, ℕ, true, false, length, Ok, Some}
+use Rattle.atomic_table.specs.Seated.{TableId}
+use Rattle.words.specs.declared.call.Client.{Client}
+use Rattle.interleave.specs.Verdicts.{number_under_way}
+use Rattle.named.specs.Brokers.{Brokered, answer_at, is_creating}
+use Rattle.workers.specs.Lists.{events_at}
+
+-- the client has a call with this number under way in the queue of a slot
+abbrev pub IsCalling : Brokered → ℕ → Client → ℕ → Type 0
+IsCalling b slot client number = answer_at (λ w. Ok (number_under_way w client)) b slot client ≡ Ok (Some number)
+
+pub record HasCall (b : Brokered) : Type 0 where
+  pub slot : ℕ
+  pub client : Client
+  pub number : ℕ
+  pub calling : IsCalling b slot client number
+
+-- a client has a call under way, or a creation is
+abbrev pub IsInUse : Brokered → Type 0
+IsInUse b = (is_creating b ≡ true) ⊎ HasCall b
+
+-- no client has one in the queue of a slot
+abbrev pub HasNoCall : Brokered → ℕ → Type 0
+HasNoCall b slot = (client : Client) (number : ℕ) → IsCalling b slot client number → ⊥
+
+pub record IsNotInUse (b : Brokered) : Type 0 where
+  pub creating : is_creating b ≡ false
+  pub calls : (slot : ℕ) → HasNoCall b slot
+
+-- the name says which roll it is, how many clients there are, and how long each history is
+pub record IsNameOf (roll : TableId) (clients : ℕ) (given : ℕ → ℕ) (id : TableId) (b : Brokered) : Type 0 where
+  pub same : id ≡ roll
+  pub all : b.counts.clients ≡ clients
+  pub lengths : (slot : ℕ) → given slot ≡ length (events_at b slot)

@@ -1,0 +1,144 @@
+//! How the histories end, and how a shared session is taken back.
+
+ghost use Rattle.std.specs.Prelude.{◌≡◌, [], length, OnErr, OnOk, slice_get, slice_set, Some};
+ghost use Rattle.roll.specs.Rule.{IsKeeper};
+ghost use Rattle.session.specs.Promises.{KeepsNumbers};
+ghost use Rattle.workers.specs.Seats.{AreAccountedFor, AreAllInOrder, AreEmpty};
+
+use crate::entry::Entry;
+use crate::locked::Locked;
+use crate::naming::Naming;
+use crate::seat::{Seat, seat_of};
+use crate::shared::Shared;
+use roll::{Roll, Token};
+use session::Session;
+use std::sync::Wait;
+use words::Refusal;
+
+/// The keeper knows the seat's list.
+fn hand_back<J: Naming>(roll: &Roll<Entry>, keeper: &mut Token<Entry>, seat: Seat<J>)
+    requires roll { roll.now.table.shared.table_id ≡ J.roll }
+    requires keeper { IsKeeper J.roll keeper.old.me.0.rows keeper.old }
+    ensures known { slice_get keeper.old.me.0.rows seat.client.0 ≡ Some seat.list.items }
+    ensures keeper { IsKeeper J.roll keeper.old.me.0.rows keeper.new }
+{
+    let Seat {
+        client: _,
+        list,
+        steps: _,
+        token,
+        of: _,
+    } = seat;
+    roll.write(keeper, token, &list);
+}
+
+/// The seat with an empty list, as the keeper knows it.
+fn emptied<J: Naming>(roll: &Roll<Entry>, keeper: &mut Token<Entry>, seat: Seat<J>) -> Seat<J>
+    requires roll { roll.now.table.shared.table_id ≡ J.roll }
+    requires keeper { IsKeeper J.roll keeper.old.me.0.rows keeper.old }
+    ensures client { result.client ≡ seat.client }
+    ensures list { result.list.items ≡ [] }
+    ensures keeper { IsKeeper J.roll (slice_set keeper.old.me.0.rows seat.client.0 []) keeper.new }
+{
+    let Seat {
+        client,
+        mut list,
+        steps: _,
+        token,
+        of: _,
+    } = seat;
+    list.clear();
+    let token = roll.write(keeper, token, &list);
+    seat_of(client, list, token)
+}
+
+/// All seats with empty lists, as the keeper knows them. Each is taken from the front of the vector and put behind the
+/// others, so that this takes no memory.
+fn all_emptied<J: Naming>(
+    roll: &Roll<Entry>,
+    keeper: &mut Token<Entry>,
+    mut seats: Vec<Seat<J>>,
+) -> Vec<Seat<J>>
+    requires roll { roll.now.table.shared.table_id ≡ J.roll }
+    requires keeper { IsKeeper J.roll keeper.old.me.0.rows keeper.old }
+    requires clients { length keeper.old.me.0.rows ≡ J.clients }
+    requires order { AreAllInOrder (λ seat. seat.client) J.clients seats.items }
+    ensures keeper { IsKeeper J.roll keeper.new.me.0.rows keeper.new }
+    ensures clients { length keeper.new.me.0.rows ≡ J.clients }
+    ensures rows { AreEmpty (λ row. row) keeper.new.me.0.rows }
+    ensures order { AreAllInOrder (λ seat. seat.client) J.clients result.items }
+    ensures empty { AreEmpty (λ seat. seat.list.items) result.items }
+{
+    for _ in 0..seats.len() {
+        let seat = seats.remove(0);
+        seats.push_reserved(emptied(roll, keeper, seat));
+    }
+    seats
+}
+
+/// The histories of all queues end, and with them the lists of all seats.
+fn rotate_all<J: Naming>(
+    locked: &mut Locked<J>,
+    roll: &Roll<Entry>,
+    seats: Vec<Seat<J>>,
+) -> (Vec<Seat<J>>, Result<(), Refusal>)
+    requires roll { roll.now.table.shared.table_id ≡ J.roll }
+    requires order { AreAllInOrder (λ seat. seat.client) J.clients seats.items }
+    ensures order { AreAllInOrder (λ seat. seat.client) J.clients result.0.items }
+    ensures empty { OnOk result.1 (AreEmpty (λ seat. seat.list.items) result.0.items) }
+    ensures same { OnErr result.1 (result.0.items ≡ seats.items) }
+{
+    let Locked {
+        session,
+        keeper,
+        creating: _,
+        rotated,
+        of: _,
+    } = locked;
+    if let Err(refusal) = session.rotate() {
+        return (seats, Err(refusal));
+    }
+    *rotated = true;
+    (all_emptied(roll, keeper, seats), Ok(()))
+}
+
+impl<J: Naming> Shared<J> {
+    /// The histories of all queues end, and others begin, as [`session::Session::rotate`] makes them; the seats' lists
+    /// begin anew with them. The seats are all that were given, in client order, and come back so. It is refused,
+    /// in this order, while the broker recovers (NotReady), where a call or a creation is under way (Busy), and for want
+    /// of memory (NoMemory); then the lists stay.
+    pub fn rotate<R: Wait>(
+        &self,
+        rt: &R,
+        seats: Vec<Seat<J>>,
+    ) -> (Vec<Seat<J>>, Result<(), Refusal>)
+        requires { AreAllInOrder (λ seat. seat.client) J.clients seats.items }
+        ensures order { AreAllInOrder (λ seat. seat.client) J.clients result.0.items }
+        ensures empty { OnOk result.1 (AreEmpty (λ seat. seat.list.items) result.0.items) }
+        ensures same { OnErr result.1 (result.0.items ≡ seats.items) }
+    {
+        rotate_all(&mut *self.locked.lock(rt), &self.roll, seats)
+    }
+
+    /// Takes the session back. The seats are all that were given, in client order: the list of each is what the
+    /// histories have of its client, since the seats were given or the histories ended last.
+    pub fn close(self, seats: Vec<Seat<J>>) -> Session
+        requires { AreAllInOrder (λ seat. seat.client) J.clients seats.items }
+        ensures lists { AreAccountedFor (λ seat. seat.list.items) J.given seats.items result }
+        ensures promises { KeepsNumbers result }
+    {
+        let Shared { roll, locked } = self;
+        let Locked {
+            session,
+            mut keeper,
+            creating: _,
+            rotated: _,
+            of: _,
+        } = locked.into_inner();
+        let mut seats = seats;
+        while let Some(seat) = seats.pop() {
+            hand_back(&roll, &mut keeper, seat);
+        }
+        session
+    }
+}

@@ -1,0 +1,86 @@
+//! What a seat remembers of its calls, and what its caller is told.
+
+ghost use Rattle.std.specs.Prelude.{◌≡◌, ◌-◌, length};
+ghost use Rattle.workers.specs.Lists.{ends_open, is_open, with_end};
+
+use arena::SlotId;
+use words::{Call, Refusal, Reply};
+
+/// What became of a call.
+#[derive(Clone, Copy, Debug, PartialEq, Eq)]
+pub enum End {
+    /// It has not been answered, and its seat has not heard of a crash either.
+    Open,
+    /// A crash came before the answer.
+    Interrupted,
+    /// It was answered.
+    Answered(Reply),
+}
+
+/// A call of a seat. It ran from the place of its Call event in the history of its queue, or, with no place, it was
+/// answered with the reply that was kept for its number.
+#[derive(Clone, Copy, Debug, PartialEq, Eq)]
+pub struct Entry {
+    pub queue: SlotId,
+    pub number: Option<u64>,
+    pub call: Call,
+    pub place: Option<usize>,
+    pub end: End,
+}
+
+/// What a caller is told of its call.
+#[derive(Clone, Copy, Debug, PartialEq, Eq)]
+pub enum Answer {
+    /// The call's reply.
+    Reply(Reply),
+    /// It was not made.
+    Refused(Refusal),
+    /// A crash came before the answer. Whether it took effect is told once the broker is ready.
+    Interrupted,
+    /// A step was refused memory. The call stays under way.
+    Unfinished,
+}
+
+/// A call as it is asked for: in which queue, and with a number in a log queue.
+#[derive(Clone, Copy)]
+pub(crate) struct Request {
+    pub(crate) queue: SlotId,
+    pub(crate) number: Option<u64>,
+    pub(crate) call: Call,
+}
+
+/// What one step of a call came to.
+#[derive(Clone, Copy)]
+pub(crate) enum Took {
+    More,
+    Answered(Reply),
+    Interrupted,
+    NoMemory,
+}
+
+/// Whether a call is open.
+fn is_open_end(end: End) -> bool
+    ensures { result ≡ is_open end }
+{
+    matches!(end, End::Open)
+}
+
+/// Whether the last call of a list is open.
+pub(crate) fn has_open_call(list: &[Entry]) -> bool
+    ensures { result ≡ ends_open list.now }
+{
+    if list.is_empty() {
+        return false;
+    }
+    is_open_end(list[list.len() - 1].end)
+}
+
+/// Writes what became of the last call of a list.
+pub(crate) fn end_last(list: &mut Vec<Entry>, end: End)
+    requires { ends_open list.old.items ≡ true }
+    ensures { list.new.items ≡ with_end end list.old.items }
+{
+    let last = list.len() - 1;
+    let entry = list[last];
+    list[last] = Entry { end, ..entry };
+}

@@ -1,0 +1,20 @@
+//! One session for several threads: one lock for each act, seats that remember their clients' calls, and gates between
+//! the steps of a call, so that a client that stands still holds nobody up.
+#![tactic(auto)]
+
+mod closing;
+mod creating;
+mod entry;
+mod gate;
+mod locked;
+mod naming;
+mod opening;
+mod seat;
+mod shared;
+
+pub use entry::{Answer, End, Entry};
+pub use gate::{Gate, OpenGate};
+pub use naming::Naming;
+pub use opening::{NotOpened, Opened};
+pub use seat::Seat;
+pub use shared::{Created, Shared};

@@ -1,0 +1,131 @@
+//! What lies under the lock.
+
+ghost use Rattle.std.specs.Prelude.{◌≡◌, ◌<◌, false, length, true, vec_capacity, vec_len};
+ghost use Rattle.roll.specs.Rule.{IsKeeper};
+ghost use Rattle.session.specs.Promises.{KeepsNumbers};
+ghost use Rattle.workers.specs.Answers.{IsListAfter, IsListBegun};
+ghost use Rattle.workers.specs.Creating.{IsCreationKnown};
+ghost use Rattle.workers.specs.Following.{beginnings, AreFollowed};
+ghost use Rattle.workers.specs.Lists.{ends_open, events_at};
+
+use crate::entry::{End, Entry, Request, Took};
+use crate::naming::Naming;
+use crate::seat::{Seat, with_entry, with_last};
+use arena::SlotId;
+use roll::{Roll, Token};
+use session::Session;
+use std::marker::PhantomData;
+use words::{Refusal, Reply};
+
+/// The creation that threads know of.
+#[derive(Clone, Copy, Debug, PartialEq, Eq)]
+pub(crate) enum Creating {
+    /// None, or one that a crash ended before the seats were given.
+    Nothing,
+    /// Its caller takes its steps.
+    UnderWay,
+    /// A crash ended it, and its caller has not seen that.
+    Interrupted,
+}
+
+/// The session, beside the keeper of the seats' lists: each list is what the histories have of its client.
+#[derive(Drop)]
+pub(crate) struct Locked<J: Naming> {
+    pub(crate) session: Session,
+    pub(crate) keeper: Token<Entry>,
+    pub(crate) creating: Creating,
+    /// Whether the histories have ended since the seats were given.
+    pub(crate) rotated: bool,
+    pub(crate) of: PhantomData<J>,
+    pub(crate) ghost kept: { IsKeeper J.roll keeper.me.0.rows keeper },
+    pub(crate) ghost clients: { length keeper.me.0.rows ≡ J.clients },
+    pub(crate) ghost followed: { AreFollowed (beginnings J.given rotated) session keeper.me.0.rows },
+    pub(crate) ghost promises: { KeepsNumbers session },
+    pub(crate) ghost creation: { IsCreationKnown session.broker creating },
+}
+
+/// How many events the history of a slot has; 0 where the slot is closed.
+pub(crate) fn events_in(session: &Session, queue: SlotId) -> usize
+    ensures { result ≡ length (events_at session.now.broker queue.0) }
+{
+    match session.broker().history(queue) {
+        Ok(history) => history.events.len(),
+        Err(_) => 0,
+    }
+}
+
+impl<J: Naming> Locked<J> {
+    /// Begins a call of the seat's client. Its entry is written in the same event, so that list and history never part.
+    pub(crate) fn begin(
+        &mut self,
+        roll: &Roll<Entry>,
+        seat: Seat<J>,
+        request: Request,
+    ) -> (Seat<J>, Result<Option<Reply>, Refusal>)
+        requires roll { roll.now.table.shared.table_id ≡ J.roll }
+        requires idle { ends_open seat.list.items ≡ false }
+        requires room { vec_len seat.list < vec_capacity seat.list }
+        ensures client { result.0.client ≡ seat.client }
+        ensures begun { IsListBegun seat.list.items request result.1 result.0.list.items }
+    {
+        let Locked {
+            session,
+            keeper,
+            creating: _,
+            rotated: _,
+            of: _,
+        } = self;
+        let Request {
+            queue,
+            number,
+            call,
+        } = request;
+        let next = events_in(session, queue);
+        let began = match session.begin(seat.client, queue, number, call) {
+            Ok(began) => began,
+            Err(refusal) => return (seat, Err(refusal)),
+        };
+        let (place, end) = match began {
+            Some(reply) => (None, End::Answered(reply)),
+            None => (Some(next), End::Open),
+        };
+        let entry = Entry {
+            queue,
+            number,
+            call,
+            place,
+            end,
+        };
+        (with_entry(roll, keeper, seat, entry), Ok(began))
+    }
+
+    /// One step of the seat's open call.
+    pub(crate) fn step(&mut self, roll: &Roll<Entry>, seat: Seat<J>) -> (Seat<J>, Took)
+        requires roll { roll.now.table.shared.table_id ≡ J.roll }
+        requires open { ends_open seat.list.items ≡ true }
+        ensures client { result.0.client ≡ seat.client }
+        ensures step { IsListAfter seat.list.items result.1 result.0.list.items }
+    {
+        let Locked {
+            session,
+            keeper,
+            creating: _,
+            rotated: _,
+            of: _,
+        } = self;
+        let queue = seat.list[seat.list.len() - 1].queue;
+        match session.advance(seat.client, queue) {
+            Ok(None) => (seat, Took::More),
+            Ok(Some(reply)) => (
+                with_last(roll, keeper, seat, End::Answered(reply)),
+                Took::Answered(reply),
+            ),
+            Err(Refusal::NoMemory) => (seat, Took::NoMemory),
+            // No call of the client is under way any more, or the broker recovers: a crash ended it.
+            Err(_) => (
+                with_last(roll, keeper, seat, End::Interrupted),
+                Took::Interrupted,
+            ),
+        }
+    }
+}

@@ -1,0 +1,149 @@
+//! How a session comes to be shared.
+
+ghost use Rattle.std.specs.Prelude.{◌≡◌, ◌≤◌, ◌⊎◌, ℕ, false, length, true, IfErr, IfOk, Ok, OnOk, Some, None, vec_capacity, vec_len, []};
+ghost use Rattle.interleave.specs.Verdicts.{number_under_way};
+ghost use Rattle.named.specs.Brokers.{answer_at, is_creating};
+ghost use Rattle.roll.specs.Rule.{IsHolder, IsKeeper};
+ghost use Rattle.session.specs.Promises.{KeepsNumbers};
+ghost use Rattle.workers.specs.Lists.{events_at};
+ghost use Rattle.workers.specs.Seats.{AreAllInOrder, AreEmpty};
+ghost use Rattle.workers.specs.Opening.{IsInUse, IsNameOf, IsNotInUse, HasNoCall};
+
+use crate::entry::Entry;
+use crate::locked::{Creating, Locked};
+use crate::naming::Naming;
+use crate::seat::{Seat, seat_of};
+use crate::shared::Shared;
+use arena::{SLOTS, SlotId};
+use roll::{Roll, Token};
+use session::Session;
+use std::alloc::Global;
+use std::marker::PhantomData;
+use std::sync::Mutex;
+use words::{Client, Refusal};
+
+/// A session that is about to be shared, which has no name yet.
+#[derive(Drop)]
+pub struct Opened {
+    session: Session,
+    roll: Roll<Entry>,
+    keeper: Token<Entry>,
+    pub ghost keeps: { IsKeeper roll.table.shared.table_id [] keeper },
+}
+
+/// Why a session is not shared; it is handed back.
+#[derive(Drop)]
+pub struct NotOpened {
+    pub refusal: Refusal,
+    pub session: Session,
+}
+
+/// Whether a client has a call under way in the queue of this slot.
+fn has_call(session: &Session, queue: SlotId) -> bool
+    ensures busy { result ≡ true → IsInUse session.now.broker }
+    ensures idle { result ≡ false → HasNoCall session.now.broker queue.0 }
+{
+    for client in 0..session.broker().clients() {
+        if let Ok(Some(_)) = session.broker().calling(queue, Client(client as u8)) {
+            return true;
+        }
+    }
+    false
+}
+
+/// Whether a client has a call under way, or a creation is.
+fn is_in_use(session: &Session) -> bool
+    ensures busy { result ≡ true → IsInUse session.now.broker }
+    ensures idle { result ≡ false → IsNotInUse session.now.broker }
+{
+    if session.broker().is_creating() {
+        return true;
+    }
+    for slot in 0..SLOTS {
+        if has_call(session, SlotId(slot as u8)) {
+            return true;
+        }
+    }
+    false
+}
+
+/// What is shared under a name, where no seat has been used yet.
+fn shared_of<J: Naming>(session: Session, roll: Roll<Entry>, keeper: Token<Entry>) -> Shared<J>
+    requires roll { roll.table.shared.table_id ≡ J.roll }
+    requires keeper { IsKeeper J.roll keeper.me.0.rows keeper }
+    requires clients { length keeper.me.0.rows ≡ J.clients }
+    requires given { (slot : ℕ) → J.given slot ≡ length (events_at session.broker slot) }
+    requires empty { AreEmpty (λ row. row) keeper.me.0.rows }
+    requires promises { KeepsNumbers session }
+{
+    let locked = Locked {
+        session,
+        keeper,
+        creating: Creating::Nothing,
+        rotated: false,
+        of: PhantomData,
+    };
+    Shared {
+        roll,
+        locked: Mutex::new(locked),
+    }
+}
+
+impl Opened {
+    /// Opens a session to threads, before it is named. It is refused, in this order, where a client has a call under way
+    /// or a creation is (Busy), and for want of memory (NoMemory).
+    pub fn new(alloc: Global, session: Session) -> Result<Opened, NotOpened>
+        ensures session { IfOk result (λ opened. opened.session ≡ session) }
+        ensures quiet { OnOk result (IsNotInUse session.broker) }
+        ensures back { IfErr result (λ not. not.session ≡ session) }
+        ensures errors { IfErr result (λ not. ((not.refusal ≡ Refusal.Busy) × IsInUse session.broker)
+            ⊎ ((not.refusal ≡ Refusal.NoMemory) × IsNotInUse session.broker)) }
+    {
+        if is_in_use(&session) {
+            return Err(NotOpened {
+                refusal: Refusal::Busy,
+                session,
+            });
+        }
+        match Roll::open(alloc) {
+            Ok((roll, keeper)) => Ok(Opened {
+                session,
+                roll,
+                keeper,
+            }),
+            Err(_) => Err(NotOpened {
+                refusal: Refusal::NoMemory,
+                session,
+            }),
+        }
+    }
+
+    /// The shared session under its name, and a seat for each client, in client order, which remembers no call yet. It
+    /// is refused for want of memory (NoMemory). The name is one that the caller's caller picked for this value.
+    pub fn named<J: Naming>(self, alloc: Global) -> Result<(Shared<J>, Vec<Seat<J>>), NotOpened>
+        requires name { IsNameOf J.roll J.clients J.given self.roll.table.shared.table_id self.session.broker }
+        ensures order { IfOk result (λ r. AreAllInOrder (λ seat. seat.client) J.clients r.1.items) }
+        ensures empty { IfOk result (λ r. AreEmpty (λ seat. seat.list.items) r.1.items) }
+        ensures errors { IfErr result (λ not. (not.refusal ≡ Refusal.NoMemory) × (not.session ≡ self.session)) }
+    {
+        let Opened {
+            session,
+            roll,
+            mut keeper,
+        } = self;
+        let clients = session.broker().clients();
+        let mut seats = Vec::new(alloc);
+        if seats.reserve(clients as usize).is_err() {
+            return Err(NotOpened {
+                refusal: Refusal::NoMemory,
+                session,
+            });
+        }
+        for client in 0..clients {
+            let list = Vec::new(alloc);
+            let token = roll.enroll(&mut keeper, &list);
+            seats.push_reserved(seat_of(Client(client as u8), list, token));
+        }
+        Ok((shared_of(session, roll, keeper), seats))
+    }
+}

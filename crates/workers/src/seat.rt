@@ -1,0 +1,167 @@
+//! Seats.
+
+ghost use Rattle.std.specs.Prelude.{◌≡◌, ◌<◌, ◌++◌, ◌∷◌, [], slice_get, slice_set, Some, true, vec_capacity, vec_len};
+ghost use Rattle.roll.specs.Rule.{IsHolder, IsKeeper};
+ghost use Rattle.workers.specs.Lists.{ends_open, with_end};
+
+use crate::entry::{End, Entry, end_last};
+use crate::naming::Naming;
+use roll::{Roll, Token};
+use std::marker::PhantomData;
+use words::Client;
+
+/// A client's seat, which remembers the client's calls. Calls take it by value and give it back, so that a client makes
+/// one at a time.
+#[derive(Drop)]
+pub struct Seat<J: Naming> {
+    pub(crate) client: Client,
+    pub(crate) list: Vec<Entry>,
+    /// How many steps the open call has made.
+    pub(crate) steps: u64,
+    pub(crate) token: Token<Entry>,
+    pub(crate) of: PhantomData<J>,
+    pub ghost holds: { IsHolder J.roll client.0 list.items token },
+}
+
+impl<J: Naming> Seat<J> {
+    /// Whose seat it is.
+    pub fn client(&self) -> Client
+        ensures { result ≡ self.now.client }
+    {
+        self.client
+    }
+
+    /// The client's calls, in its own order, since the seats were given or the histories ended last. The last one alone
+    /// may be open.
+    pub fn list(&self) -> &[Entry]
+        ensures { result.now ≡ self.now.list.items }
+    {
+        self.list.as_slice()
+    }
+
+    /// The seat, whose open call has made one step more.
+    pub(crate) fn with_step(self) -> Self
+        ensures client { result.client ≡ self.client }
+        ensures list { result.list.items ≡ self.list.items }
+    {
+        let Seat {
+            client,
+            list,
+            steps,
+            token,
+            of,
+        } = self;
+        Seat {
+            client,
+            list,
+            steps: steps.saturating_add(1),
+            token,
+            of,
+        }
+    }
+
+    /// Makes room for one entry more, if there is memory for it.
+    pub(crate) fn with_room(self) -> (Self, bool)
+        ensures same { (result.0.client ≡ self.client) × (result.0.list.items ≡ self.list.items) }
+        ensures room { result.1 ≡ true → vec_len result.0.list < vec_capacity result.0.list }
+    {
+        let Seat {
+            client,
+            mut list,
+            steps,
+            token,
+            of,
+        } = self;
+        let room = list.reserve(1).is_ok();
+        let seat = Seat {
+            client,
+            list,
+            steps,
+            token,
+            of,
+        };
+        (seat, room)
+    }
+}
+
+/// A client's seat with this list.
+pub(crate) fn seat_of<J: Naming>(client: Client, list: Vec<Entry>, token: Token<Entry>) -> Seat<J>
+    requires { IsHolder J.roll client.0 list.items token }
+    ensures { (result.client ≡ client) × (result.list.items ≡ list.items) }
+{
+    Seat {
+        client,
+        list,
+        steps: 0,
+        token,
+        of: PhantomData,
+    }
+}
+
+/// The seat with one entry more, as the keeper knows it.
+pub(crate) fn with_entry<J: Naming>(
+    roll: &Roll<Entry>,
+    keeper: &mut Token<Entry>,
+    seat: Seat<J>,
+    entry: Entry,
+) -> Seat<J>
+    requires roll { roll.now.table.shared.table_id ≡ J.roll }
+    requires keeper { IsKeeper J.roll keeper.old.me.0.rows keeper.old }
+    requires room { vec_len seat.list < vec_capacity seat.list }
+    ensures before { slice_get keeper.old.me.0.rows seat.client.0 ≡ Some seat.list.items }
+    ensures client { result.client ≡ seat.client }
+    ensures list { result.list.items ≡ seat.list.items ++ entry ∷ [] }
+    ensures keeper { IsKeeper J.roll (slice_set keeper.old.me.0.rows seat.client.0 (seat.list.items ++ entry ∷ []))
+        keeper.new }
+{
+    let Seat {
+        client,
+        mut list,
+        steps: _,
+        token,
+        of,
+    } = seat;
+    list.push_reserved(entry);
+    let token = roll.write(keeper, token, &list);
+    Seat {
+        client,
+        list,
+        steps: 0,
+        token,
+        of,
+    }
+}
+
+/// The seat, where this became of its open call, as the keeper knows it.
+pub(crate) fn with_last<J: Naming>(
+    roll: &Roll<Entry>,
+    keeper: &mut Token<Entry>,
+    seat: Seat<J>,
+    end: End,
+) -> Seat<J>
+    requires roll { roll.now.table.shared.table_id ≡ J.roll }
+    requires keeper { IsKeeper J.roll keeper.old.me.0.rows keeper.old }
+    requires open { ends_open seat.list.items ≡ true }
+    ensures before { slice_get keeper.old.me.0.rows seat.client.0 ≡ Some seat.list.items }
+    ensures client { result.client ≡ seat.client }
+    ensures list { result.list.items ≡ with_end end seat.list.items }
+    ensures keeper { IsKeeper J.roll (slice_set keeper.old.me.0.rows seat.client.0 (with_end end seat.list.items))
+        keeper.new }
+{
+    let Seat {
+        client,
+        mut list,
+        steps,
+        token,
+        of,
+    } = seat;
+    end_last(&mut list, end);
+    let token = roll.write(keeper, token, &list);
+    Seat {
+        client,
+        list,
+        steps,
+        token,
+        of,
+    }
+}

@@ -1,0 +1,201 @@
+//! A broker that threads share.
+
+ghost use Rattle.std.specs.Prelude.{◌≡◌, ◌<◌, ◌⊎◌, false, IfErr, true, vec_capacity, vec_len};
+ghost use Rattle.workers.specs.Answers.{Finishes, IsListAfter, IsListBegun, Remembers};
+ghost use Rattle.workers.specs.Lists.{ends_open};
+ghost use Rattle.workers.specs.declared.entry.Answer.{Answer as AnyAnswer};
+
+use crate::entry::{Answer, Entry, Request, Took, has_open_call};
+use crate::gate::Gate;
+use crate::locked::Locked;
+use crate::naming::Naming;
+use crate::seat::Seat;
+use arena::SlotId;
+use directory::{Name, Places};
+use roll::Roll;
+use std::sync::{Mutex, Wait};
+use words::{Call, Client, Kind, Refusal, Reply, Told};
+
+/// A session that threads share. Each act takes the lock, makes one step and releases it, so that a client that stands
+/// still between two steps of its call holds nobody up: others help its call along where they must. Every call may wait
+/// for the lock.
+#[derive(Drop)]
+pub struct Shared<J: Naming> {
+    pub(crate) roll: Roll<Entry>,
+    pub(crate) locked: Mutex<Locked<J>>,
+    pub(crate) ghost same: { roll.table.shared.table_id ≡ J.roll },
+}
+
+/// What became of a creation.
+#[derive(Clone, Copy, Debug, PartialEq, Eq)]
+pub enum Created {
+    /// The queue is in this slot.
+    Queue(SlotId),
+    /// It was not begun.
+    Refused(Refusal),
+    /// A crash came before its last step. Whether the queue is there is known once the broker is ready.
+    Interrupted,
+}
+
+impl<J: Naming> Shared<J> {
+    /// Starts a call, in one act.
+    fn begin<R: Wait>(
+        &self,
+        rt: &R,
+        seat: Seat<J>,
+        request: Request,
+    ) -> (Seat<J>, Result<Option<Reply>, Refusal>)
+        requires idle { ends_open seat.list.items ≡ false }
+        requires room { vec_len seat.list < vec_capacity seat.list }
+        ensures client { result.0.client ≡ seat.client }
+        ensures begun { IsListBegun seat.list.items request result.1 result.0.list.items }
+    {
+        self.locked.lock(rt).begin(&self.roll, seat, request)
+    }
+
+    /// One step of the seat's open call.
+    fn step<R: Wait>(&self, rt: &R, seat: Seat<J>) -> (Seat<J>, Took)
+        requires { ends_open seat.list.items ≡ true }
+        ensures client { result.0.client ≡ seat.client }
+        ensures step { IsListAfter seat.list.items result.1 result.0.list.items }
+    {
+        self.locked.lock(rt).step(&self.roll, seat)
+    }
+
+    /// Goes on with the seat's open call until it is answered, interrupted or refused memory.
+    fn go_on<R: Wait, G: Gate>(&self, rt: &R, seat: Seat<J>, gate: &G) -> (Seat<J>, Answer)
+        requires { ends_open seat.list.items ≡ true }
+        ensures client { result.0.client ≡ seat.client }
+        ensures finishes { Finishes seat.list.items result.1 result.0.list.items }
+    {
+        let mut seat = seat;
+        for _ in rt.forever() {
+            let (next, took) = self.step(rt, seat);
+            seat = next;
+            match took {
+                Took::More => {
+                    seat = seat.with_step();
+                    gate.pass(rt, seat.client, seat.steps);
+                }
+                Took::Answered(reply) => return (seat, Answer::Reply(reply)),
+                Took::Interrupted => return (seat, Answer::Interrupted),
+                Took::NoMemory => return (seat, Answer::Unfinished),
+            }
+        }
+        unreachable!()
+    }
+
+    /// Makes a call of the seat's client: with a number in a log queue, where it is answered from what is kept if it is
+    /// the client's last number, and without one in a durable queue. The seat remembers just this call, with the answer
+    /// that is given. It passes the gate after its start and after each step that does not answer. It is refused, before
+    /// all else, where the seat has an open call (Busy), for want of memory for its entry (NoMemory), and as
+    /// [`session::Session::begin`] is; then nothing is remembered. A step that is refused memory leaves the call under
+    /// way (Unfinished), for [`Shared::finish`].
+    pub fn call<R: Wait, G: Gate>(
+        &self,
+        rt: &R,
+        seat: Seat<J>,
+        queue: SlotId,
+        number: Option<u64>,
+        call: Call,
+        gate: &G,
+    ) -> (Seat<J>, Answer)
+        ensures client { result.0.client ≡ seat.client }
+        ensures entry { Remembers seat.list.items queue number call result.1 result.0.list.items }
+        ensures busy { ends_open seat.list.items ≡ true → result ≡ (seat, AnyAnswer.Refused Refusal.Busy) }
+    {
+        if has_open_call(seat.list.as_slice()) {
+            return (seat, Answer::Refused(Refusal::Busy));
+        }
+        let (seat, room) = seat.with_room();
+        if !room {
+            return (seat, Answer::Refused(Refusal::NoMemory));
+        }
+        let request = Request {
+            queue,
+            number,
+            call,
+        };
+        let (seat, began) = self.begin(rt, seat, request);
+        match began {
+            Ok(None) => {
+                gate.pass(rt, seat.client, 0);
+                self.go_on(rt, seat, gate)
+            }
+            Ok(Some(reply)) => (seat, Answer::Reply(reply)),
+            Err(refusal) => (seat, Answer::Refused(refusal)),
+        }
+    }
+
+    /// Goes on with the seat's open call, which was left Unfinished: to its answer, or as [`Shared::call`] would. It is
+    /// Interrupted where a crash came meanwhile, and refused where the seat has no open call (Idle).
+    pub fn finish<R: Wait, G: Gate>(&self, rt: &R, seat: Seat<J>, gate: &G) -> (Seat<J>, Answer)
+        ensures client { result.0.client ≡ seat.client }
+        ensures finishes { ends_open seat.list.items ≡ true → Finishes seat.list.items result.1 result.0.list.items }
+        ensures idle { ends_open seat.list.items ≡ false → result ≡ (seat, AnyAnswer.Refused Refusal.Idle) }
+    {
+        if !has_open_call(seat.list.as_slice()) {
+            return (seat, Answer::Refused(Refusal::Idle));
+        }
+        self.go_on(rt, seat, gate)
+    }
+
+    /// Creates a queue, one act a step. It is Interrupted where a crash came between, and refused as
+    /// [`session::Session::create`] is; and, before all else, where a crash ended another creation whose caller has not
+    /// seen that yet (Busy).
+    pub fn create<R: Wait>(&self, rt: &R, name: &[u8], kind: Kind) -> Created {
+        if let Err(refusal) = self.locked.lock(rt).create(name, kind) {
+            return Created::Refused(refusal);
+        }
+        for _ in rt.forever() {
+            if let Some(created) = self.locked.lock(rt).create_step() {
+                return created;
+            }
+        }
+        unreachable!()
+    }
+
+    /// The whole system stops: each call under way is interrupted, as its seat hears when it goes on. It is refused for
+    /// want of memory (NoMemory), and then nothing stopped.
+    pub fn crash<R: Wait>(&self, rt: &R) -> Result<(), Refusal>
+        ensures { IfErr result (λ refusal. refusal ≡ Refusal.NoMemory) }
+    {
+        self.locked.lock(rt).crash()
+    }
+
+    /// Recovers the broker, one act a step, until it is ready; other threads may take steps too. It is refused where no
+    /// recovery is under way at its first step (AlreadyReady), and for want of memory (NoMemory): then the steps that
+    /// were made stand, and another `recover` goes on.
+    pub fn recover<R: Wait>(&self, rt: &R) -> Result<(), Refusal>
+        ensures { IfErr result (λ refusal. (refusal ≡ Refusal.AlreadyReady) ⊎ (refusal ≡ Refusal.NoMemory)) }
+    {
+        let mut begun = false;
+        for _ in rt.forever() {
+            match self.locked.lock(rt).recover_step() {
+                Ok(false) => begun = true,
+                Ok(true) => return Ok(()),
+                // Another thread took the last step.
+                Err(Refusal::AlreadyReady) if begun => return Ok(()),
+                Err(refusal) => return Err(refusal),
+            }
+        }
+        unreachable!()
+    }
+
+    /// The slot with the queue of this name, if there is one. It is refused as [`named::Broker::find`] is.
+    pub fn find<R: Wait>(&self, rt: &R, name: &Name) -> Result<Option<SlotId>, Refusal> {
+        self.locked.lock(rt).session.broker().find(name)
+    }
+
+    /// What each slot has. It is refused as [`named::Broker::list`] is.
+    pub fn list<R: Wait>(&self, rt: &R) -> Result<Places, Refusal> {
+        let locked = self.locked.lock(rt);
+        let places = locked.session.broker().list()?;
+        Ok(*places)
+    }
+
+    /// What the client was last told in the queue of a slot. It is refused as [`named::Broker::told`] is.
+    pub fn told<R: Wait>(&self, rt: &R, client: Client, queue: SlotId) -> Result<Told, Refusal> {
+        self.locked.lock(rt).session.broker().told(queue, client)
+    }
+}
