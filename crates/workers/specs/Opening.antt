@@ -4,6 +4,7 @@ use Rattle.atomic_table.specs.Seated.{TableId}
 use Rattle.words.specs.declared.call.Client.{Client}
 use Rattle.interleave.specs.Verdicts.{number_under_way}
 use Rattle.named.specs.Brokers.{Brokered, answer_at, is_creating}
+use Rattle.session.specs.Sessions.{Sessioned}
 use Rattle.workers.specs.Lists.{events_at}
 
 -- the client has a call with this number under way in the queue of a slot
@@ -28,8 +29,13 @@ pub record IsNotInUse (b : Brokered) : Type 0 where
   pub creating : is_creating b ≡ false
   pub calls : (slot : ℕ) → HasNoCall b slot
 
+-- a session that has no name yet, with the roll of its seats' lists
+pub record Unnamed : Type 0 where
+  pub roll : TableId
+  pub session : Sessioned
+
 -- the name says which roll it is, how many clients there are, and how long each history is
-pub record IsNameOf (roll : TableId) (clients : ℕ) (given : ℕ → ℕ) (id : TableId) (b : Brokered) : Type 0 where
-  pub same : id ≡ roll
-  pub all : b.counts.clients ≡ clients
-  pub lengths : (slot : ℕ) → given slot ≡ length (events_at b slot)
+pub record IsNameOf (roll : TableId) (clients : ℕ) (given : ℕ → ℕ) (o : Unnamed) : Type 0 where
+  pub same : o.roll ≡ roll
+  pub all : o.session.broker.counts.clients ≡ clients
+  pub lengths : (slot : ℕ) → given slot ≡ length (events_at o.session.broker slot)

@@ -18,7 +18,7 @@ use arena::{SLOTS, SlotId};
 use roll::{Roll, Token};
 use session::Session;
 use std::alloc::Global;
-use std::marker::PhantomData;
+use std::marker::{Model, PhantomData};
 use std::sync::Mutex;
 use words::{Client, Refusal};
 
@@ -28,7 +28,18 @@ pub struct Opened {
     session: Session,
     roll: Roll<Entry>,
     keeper: Token<Entry>,
-    pub ghost keeps: { IsKeeper roll.table.shared.table_id [] keeper },
+}
+
+impl Model for Opened {
+    ghost use Rattle.std.specs.Prelude.{[]};
+    ghost use Rattle.roll.specs.Rule.{IsKeeper};
+    ghost use Rattle.workers.specs.Opening.{Unnamed};
+
+    ghost Value = { Unnamed };
+
+    ghost view = { λ o. record { roll = o.roll.table.shared.table_id; session = o.session } };
+
+    ghost invariant = { λ o. IsKeeper o.roll.table.shared.table_id [] o.keeper };
 }
 
 /// Why a session is not shared; it is handed back.
@@ -121,7 +132,7 @@ impl Opened {
     /// The shared session under its name, and a seat for each client, in client order, which remembers no call yet. It
     /// is refused for want of memory (NoMemory). The name is one that the caller's caller picked for this value.
     pub fn named<J: Naming>(self, alloc: Global) -> Result<(Shared<J>, Vec<Seat<J>>), NotOpened>
-        requires name { IsNameOf J.roll J.clients J.given self.roll.table.shared.table_id self.session.broker }
+        requires name { IsNameOf J.roll J.clients J.given self }
         ensures order { IfOk result (λ r. AreAllInOrder (λ seat. seat.client) J.clients r.1.items) }
         ensures empty { IfOk result (λ r. AreEmpty (λ seat. seat.list.items) r.1.items) }
         ensures errors { IfErr result (λ not. (not.refusal ≡ Refusal.NoMemory) × (not.session ≡ self.session)) }

@@ -14,8 +14,11 @@ use words::Client;
 /// one at a time.
 #[derive(Drop)]
 pub struct Seat<J: Naming> {
-    pub(crate) client: Client,
-    pub(crate) list: Vec<Entry>,
+    /// Whose seat it is.
+    pub client: Client,
+    /// The client's calls, in its own order, since the seats were given or the histories ended last. The last one alone
+    /// may be open.
+    pub list: Vec<Entry>,
     /// How many steps the open call has made.
     pub(crate) steps: u64,
     pub(crate) token: Token<Entry>,
@@ -24,21 +27,6 @@ pub struct Seat<J: Naming> {
 }
 
 impl<J: Naming> Seat<J> {
-    /// Whose seat it is.
-    pub fn client(&self) -> Client
-        ensures { result ≡ self.now.client }
-    {
-        self.client
-    }
-
-    /// The client's calls, in its own order, since the seats were given or the histories ended last. The last one alone
-    /// may be open.
-    pub fn list(&self) -> &[Entry]
-        ensures { result.now ≡ self.now.list.items }
-    {
-        self.list.as_slice()
-    }
-
     /// The seat, whose open call has made one step more.
     pub(crate) fn with_step(self) -> Self
         ensures client { result.client ≡ self.client }

@@ -1,0 +1,1 @@
+//! Crashes that come between two steps of a call.

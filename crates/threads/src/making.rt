@@ -1,0 +1,56 @@
+//! Sessions that the tests share.
+
+use arena::SlotId;
+use named::Broker;
+use session::Session;
+use std::alloc::Global;
+use std::test::Fail;
+use words::{Client, Kind, Refusal};
+use workers::Opened;
+
+/// The most steps that a creation, a call or a recovery takes here.
+const MOST_STEPS: u32 = 10_000;
+
+/// The slot of the first queue, of which most tests have no other.
+pub(crate) const A: SlotId = SlotId(0);
+
+/// A new queue.
+pub(crate) fn create(session: &mut Session, name: &[u8], kind: Kind) -> Result<SlotId, Refusal> {
+    session.create(name, kind)?;
+    for _ in 0..MOST_STEPS {
+        if let Some(slot) = session.create_step()? {
+            return Ok(slot);
+        }
+    }
+    Err(Refusal::NoQueue)
+}
+
+/// A session over a new broker with one queue, `a`.
+pub(crate) fn with_queue(
+    alloc: Global,
+    kind: Kind,
+    clients: u32,
+    records: u32,
+) -> Result<Session, Refusal> {
+    let mut session = Session::open(Broker::make(alloc, clients, records)?);
+    create(&mut session, b"a", kind)?;
+    Ok(session)
+}
+
+/// The session, about to be shared.
+pub(crate) fn opened(alloc: Global, session: Session) -> Result<Opened, Refusal> {
+    match Opened::new(alloc, session) {
+        Ok(opened) => Ok(opened),
+        Err(not) => Err(not.refusal),
+    }
+}
+
+/// A new broker's session with one queue, about to be shared.
+pub(crate) fn opened_with(
+    alloc: Global,
+    kind: Kind,
+    clients: u32,
+    records: u32,
+) -> Result<Opened, Refusal> {
+    opened(alloc, with_queue(alloc, kind, clients, records)?)
+}
