@@ -9,7 +9,7 @@ use lib.ListN.{get_elem?}
 use Rattle.atomic_table.proofs.Lists.{at_set}
 use Rattle.roll.specs.declared.law.View.{View}
 use Rattle.roll.specs.Rule.{keeper, holder, keeper_and_holder, nobody, Fits, AllFit}
-use Rattle.roll.proofs.Places.{slice_get-set_else, slice_get_longer, get_elem_push_cases}
+use Rattle.roll.proofs.Places.{get_set_else, get_longer, at_end_cases}
 
 off : false ≡ true → ⊥
 off e = true≢false (sym e)
@@ -48,7 +48,7 @@ module _ {E : Type 0} (k : ℕ) (rows : List (List E)) (owner : ℕ → Option �
             × (update eqb owner (length rows) (Some i) u.place ≡ Some j)
         still was =
             let within : u.place < length rows = slice_get_within rows u.place u.row was.0 in (
-              slice_get_longer rows (row ∷ []) u.place u.row was.0,
+              get_longer rows (row ∷ []) u.place u.row was.0,
               update_apart owner (length rows) (Some i) u.place (λ e. omega arith) ∙ was.1,
             )
 
@@ -58,7 +58,7 @@ module _ {E : Type 0} (k : ℕ) (rows : List (List E)) (owner : ℕ → Option �
         record {
           keeps = λ h. absurd (no_keeper is h);
           holds = λ h. (
-            slice_get-set_else rows p u.place row (other_place p owns h) ∙ (fits.holds h).0,
+            get_set_else rows u.place p row (other_place p owns h) ∙ (fits.holds h).0,
             (fits.holds h).1,
           );
         }
@@ -101,4 +101,4 @@ module _ {E : Type 0} (k : ℕ) (rows : List (List E)) (owner : ℕ → Option �
       ⊎_elim
       (λ was. old j u was)
       (λ last. fits_same k rows owner (length views) w new j u last)
-      (get_elem_push_cases views w u j e)
+      (at_end_cases views w u j e)
