@@ -1,7 +1,7 @@
 //! How the histories end, and how a shared session is taken back.
 
 ghost use Rattle.std.specs.Prelude.{◌≡◌, [], length, OnErr, OnOk, slice_get, slice_set, Some};
-ghost use Rattle.roll.specs.Rule.{IsKeeper};
+ghost use Rattle.roll.specs.Rule.{IsKeeper, rows_of};
 ghost use Rattle.session.specs.Promises.{KeepsNumbers};
 ghost use Rattle.workers.specs.Seats.{AreAccountedFor, AreAllInOrder, AreEmpty};
 
@@ -17,10 +17,10 @@ use words::Refusal;
 
 /// The keeper knows the seat's list.
 fn hand_back<J: Naming>(roll: &Roll<Entry>, keeper: &mut Token<Entry>, seat: Seat<J>)
-    requires roll { roll.now.table.shared.table_id ≡ J.roll }
-    requires keeper { IsKeeper J.roll keeper.old.me.0.rows keeper.old }
-    ensures known { slice_get keeper.old.me.0.rows seat.client.0 ≡ Some seat.list.items }
-    ensures keeper { IsKeeper J.roll keeper.old.me.0.rows keeper.new }
+    requires roll { roll.now ≡ J.roll }
+    requires keeper { IsKeeper J.roll (rows_of keeper.old) keeper.old }
+    ensures known { slice_get (rows_of keeper.old) seat.client.0 ≡ Some seat.list.items }
+    ensures keeper { IsKeeper J.roll (rows_of keeper.old) keeper.new }
 {
     let Seat {
         client: _,
@@ -34,11 +34,11 @@ fn hand_back<J: Naming>(roll: &Roll<Entry>, keeper: &mut Token<Entry>, seat: Sea
 
 /// The seat with an empty list, as the keeper knows it.
 fn emptied<J: Naming>(roll: &Roll<Entry>, keeper: &mut Token<Entry>, seat: Seat<J>) -> Seat<J>
-    requires roll { roll.now.table.shared.table_id ≡ J.roll }
-    requires keeper { IsKeeper J.roll keeper.old.me.0.rows keeper.old }
+    requires roll { roll.now ≡ J.roll }
+    requires keeper { IsKeeper J.roll (rows_of keeper.old) keeper.old }
     ensures client { result.client ≡ seat.client }
     ensures list { result.list.items ≡ [] }
-    ensures keeper { IsKeeper J.roll (slice_set keeper.old.me.0.rows seat.client.0 []) keeper.new }
+    ensures keeper { IsKeeper J.roll (slice_set (rows_of keeper.old) seat.client.0 []) keeper.new }
 {
     let Seat {
         client,
@@ -59,13 +59,13 @@ fn all_emptied<J: Naming>(
     keeper: &mut Token<Entry>,
     mut seats: Vec<Seat<J>>,
 ) -> Vec<Seat<J>>
-    requires roll { roll.now.table.shared.table_id ≡ J.roll }
-    requires keeper { IsKeeper J.roll keeper.old.me.0.rows keeper.old }
-    requires clients { length keeper.old.me.0.rows ≡ J.clients }
+    requires roll { roll.now ≡ J.roll }
+    requires keeper { IsKeeper J.roll (rows_of keeper.old) keeper.old }
+    requires clients { length (rows_of keeper.old) ≡ J.clients }
     requires order { AreAllInOrder (λ seat. seat.client) J.clients seats.items }
-    ensures keeper { IsKeeper J.roll keeper.new.me.0.rows keeper.new }
-    ensures clients { length keeper.new.me.0.rows ≡ J.clients }
-    ensures rows { AreEmpty (λ row. row) keeper.new.me.0.rows }
+    ensures keeper { IsKeeper J.roll (rows_of keeper.new) keeper.new }
+    ensures clients { length (rows_of keeper.new) ≡ J.clients }
+    ensures rows { AreEmpty (λ row. row) (rows_of keeper.new) }
     ensures order { AreAllInOrder (λ seat. seat.client) J.clients result.items }
     ensures empty { AreEmpty (λ seat. seat.list.items) result.items }
 {
@@ -82,7 +82,7 @@ fn rotate_all<J: Naming>(
     roll: &Roll<Entry>,
     seats: Vec<Seat<J>>,
 ) -> (Vec<Seat<J>>, Result<(), Refusal>)
-    requires roll { roll.now.table.shared.table_id ≡ J.roll }
+    requires roll { roll.now ≡ J.roll }
     requires order { AreAllInOrder (λ seat. seat.client) J.clients seats.items }
     ensures order { AreAllInOrder (λ seat. seat.client) J.clients result.0.items }
     ensures empty { OnOk result.1 (AreEmpty (λ seat. seat.list.items) result.0.items) }

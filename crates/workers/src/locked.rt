@@ -1,7 +1,7 @@
 //! What lies under the lock.
 
 ghost use Rattle.std.specs.Prelude.{◌≡◌, ◌<◌, false, length, true, vec_capacity, vec_len};
-ghost use Rattle.roll.specs.Rule.{IsKeeper};
+ghost use Rattle.roll.specs.Rule.{IsKeeper, rows_of};
 ghost use Rattle.session.specs.Promises.{KeepsNumbers};
 ghost use Rattle.workers.specs.Answers.{IsListAfter, IsListBegun};
 ghost use Rattle.workers.specs.Creating.{IsCreationKnown};
@@ -37,9 +37,9 @@ pub(crate) struct Locked<J: Naming> {
     /// Whether the histories have ended since the seats were given.
     pub(crate) rotated: bool,
     pub(crate) of: PhantomData<J>,
-    pub(crate) ghost kept: { IsKeeper J.roll keeper.me.0.rows keeper },
-    pub(crate) ghost clients: { length keeper.me.0.rows ≡ J.clients },
-    pub(crate) ghost followed: { AreFollowed (beginnings J.given rotated) session keeper.me.0.rows },
+    pub(crate) ghost kept: { IsKeeper J.roll (rows_of keeper) keeper },
+    pub(crate) ghost clients: { length (rows_of keeper) ≡ J.clients },
+    pub(crate) ghost followed: { AreFollowed (beginnings J.given rotated) session (rows_of keeper) },
     pub(crate) ghost promises: { KeepsNumbers session },
     pub(crate) ghost creation: { IsCreationKnown session.broker creating },
 }
@@ -62,7 +62,7 @@ impl<J: Naming> Locked<J> {
         seat: Seat<J>,
         request: Request,
     ) -> (Seat<J>, Result<Option<Reply>, Refusal>)
-        requires roll { roll.now.table.shared.table_id ≡ J.roll }
+        requires roll { roll.now ≡ J.roll }
         requires idle { ends_open seat.list.items ≡ false }
         requires room { vec_len seat.list < vec_capacity seat.list }
         ensures client { result.0.client ≡ seat.client }
@@ -101,7 +101,7 @@ impl<J: Naming> Locked<J> {
 
     /// One step of the seat's open call.
     pub(crate) fn step(&mut self, roll: &Roll<Entry>, seat: Seat<J>) -> (Seat<J>, Took)
-        requires roll { roll.now.table.shared.table_id ≡ J.roll }
+        requires roll { roll.now ≡ J.roll }
         requires open { ends_open seat.list.items ≡ true }
         ensures client { result.0.client ≡ seat.client }
         ensures step { IsListAfter seat.list.items result.1 result.0.list.items }

@@ -3,7 +3,7 @@
 ghost use Rattle.std.specs.Prelude.{◌≡◌, ◌≤◌, ◌⊎◌, ℕ, false, length, true, IfErr, IfOk, Ok, OnOk, Some, None, vec_capacity, vec_len, []};
 ghost use Rattle.interleave.specs.Verdicts.{number_under_way};
 ghost use Rattle.named.specs.Brokers.{answer_at, is_creating};
-ghost use Rattle.roll.specs.Rule.{IsHolder, IsKeeper};
+ghost use Rattle.roll.specs.Rule.{IsHolder, IsKeeper, rows_of};
 ghost use Rattle.session.specs.Promises.{KeepsNumbers};
 ghost use Rattle.workers.specs.Lists.{events_at};
 ghost use Rattle.workers.specs.Seats.{AreAllInOrder, AreEmpty};
@@ -32,14 +32,14 @@ pub struct Opened {
 
 impl Model for Opened {
     ghost use Rattle.std.specs.Prelude.{[]};
-    ghost use Rattle.roll.specs.Rule.{IsKeeper};
+    ghost use Rattle.roll.specs.Rule.{IsKeeper, rows_of};
     ghost use Rattle.workers.specs.Opening.{Unnamed};
 
     ghost Value = { Unnamed };
 
-    ghost view = { λ o. record { roll = o.roll.table.shared.table_id; session = o.session } };
+    ghost view = { λ o. record { roll = o.roll; session = o.session } };
 
-    ghost invariant = { λ o. IsKeeper o.roll.table.shared.table_id [] o.keeper };
+    ghost invariant = { λ o. IsKeeper o.roll [] o.keeper };
 }
 
 /// Why a session is not shared; it is handed back.
@@ -80,11 +80,11 @@ fn is_in_use(session: &Session) -> bool
 
 /// What is shared under a name, where no seat has been used yet.
 fn shared_of<J: Naming>(session: Session, roll: Roll<Entry>, keeper: Token<Entry>) -> Shared<J>
-    requires roll { roll.table.shared.table_id ≡ J.roll }
-    requires keeper { IsKeeper J.roll keeper.me.0.rows keeper }
-    requires clients { length keeper.me.0.rows ≡ J.clients }
+    requires roll { roll ≡ J.roll }
+    requires keeper { IsKeeper J.roll (rows_of keeper) keeper }
+    requires clients { length (rows_of keeper) ≡ J.clients }
     requires given { (slot : ℕ) → J.given slot ≡ length (events_at session.broker slot) }
-    requires empty { AreEmpty (λ row. row) keeper.me.0.rows }
+    requires empty { AreEmpty (λ row. row) (rows_of keeper) }
     requires promises { KeepsNumbers session }
 {
     let locked = Locked {

@@ -1,7 +1,7 @@
 //! Seats.
 
 ghost use Rattle.std.specs.Prelude.{◌≡◌, ◌<◌, ◌++◌, ◌∷◌, [], slice_get, slice_set, Some, true, vec_capacity, vec_len};
-ghost use Rattle.roll.specs.Rule.{IsHolder, IsKeeper};
+ghost use Rattle.roll.specs.Rule.{IsHolder, IsKeeper, rows_of};
 ghost use Rattle.workers.specs.Lists.{ends_open, with_end};
 
 use crate::entry::{End, Entry, end_last};
@@ -93,13 +93,13 @@ pub(crate) fn with_entry<J: Naming>(
     seat: Seat<J>,
     entry: Entry,
 ) -> Seat<J>
-    requires roll { roll.now.table.shared.table_id ≡ J.roll }
-    requires keeper { IsKeeper J.roll keeper.old.me.0.rows keeper.old }
+    requires roll { roll.now ≡ J.roll }
+    requires keeper { IsKeeper J.roll (rows_of keeper.old) keeper.old }
     requires room { vec_len seat.list < vec_capacity seat.list }
-    ensures before { slice_get keeper.old.me.0.rows seat.client.0 ≡ Some seat.list.items }
+    ensures before { slice_get (rows_of keeper.old) seat.client.0 ≡ Some seat.list.items }
     ensures client { result.client ≡ seat.client }
     ensures list { result.list.items ≡ seat.list.items ++ entry ∷ [] }
-    ensures keeper { IsKeeper J.roll (slice_set keeper.old.me.0.rows seat.client.0 (seat.list.items ++ entry ∷ []))
+    ensures keeper { IsKeeper J.roll (slice_set (rows_of keeper.old) seat.client.0 (seat.list.items ++ entry ∷ []))
         keeper.new }
 {
     let Seat {
@@ -127,13 +127,13 @@ pub(crate) fn with_last<J: Naming>(
     seat: Seat<J>,
     end: End,
 ) -> Seat<J>
-    requires roll { roll.now.table.shared.table_id ≡ J.roll }
-    requires keeper { IsKeeper J.roll keeper.old.me.0.rows keeper.old }
+    requires roll { roll.now ≡ J.roll }
+    requires keeper { IsKeeper J.roll (rows_of keeper.old) keeper.old }
     requires open { ends_open seat.list.items ≡ true }
-    ensures before { slice_get keeper.old.me.0.rows seat.client.0 ≡ Some seat.list.items }
+    ensures before { slice_get (rows_of keeper.old) seat.client.0 ≡ Some seat.list.items }
     ensures client { result.client ≡ seat.client }
     ensures list { result.list.items ≡ with_end end seat.list.items }
-    ensures keeper { IsKeeper J.roll (slice_set keeper.old.me.0.rows seat.client.0 (with_end end seat.list.items))
+    ensures keeper { IsKeeper J.roll (slice_set (rows_of keeper.old) seat.client.0 (with_end end seat.list.items))
         keeper.new }
 {
     let Seat {

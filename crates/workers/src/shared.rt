@@ -23,7 +23,7 @@ use words::{Call, Client, Kind, Refusal, Reply, Told};
 pub struct Shared<J: Naming> {
     pub(crate) roll: Roll<Entry>,
     pub(crate) locked: Mutex<Locked<J>>,
-    pub(crate) ghost same: { roll.table.shared.table_id ≡ J.roll },
+    pub(crate) ghost same: { roll ≡ J.roll },
 }
 
 /// What became of a creation.
