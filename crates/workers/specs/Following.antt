@@ -2,10 +2,13 @@
 use Rattle.std.specs.Prelude.{◌≡◌, ◌≤◌, ℕ, Bool, true, false, length, List, Some, slice_get}
 use Rattle.words.specs.declared.call.Client.{Client}
 use Rattle.named.specs.Brokers.{is_down}
+use Rattle.session.specs.Promises.{KeepsNumbers}
 use Rattle.session.specs.Sessions.{Sessioned}
+use Rattle.workers.specs.Creating.{IsCreationKnown}
 use Rattle.workers.specs.Lists.{IsCutOff, IsRecorded, OnlyLastIsOpen, RanAt, events_at}
 use Rattle.workers.specs.declared.entry.End.TheVariants.{Open}
 use Rattle.workers.specs.declared.entry.Entry.{Entry}
+use Rattle.workers.specs.declared.locked.Creating.{Creating}
 
 -- where the seats' lists begin in each history: at what it had when the seats were given, or, since a rotation, at 0
 abbrev pub beginnings : (ℕ → ℕ) → Bool → ℕ → ℕ
@@ -27,3 +30,19 @@ pub record IsFollowed (since : ℕ → ℕ) (s : Sessioned) (client : Client) (r
 pub record AreFollowed (since : ℕ → ℕ) (s : Sessioned) (rows : List (List Entry)) : Type 0 where
   pub begun : (slot : ℕ) → since slot ≤ length (events_at s.broker slot)
   pub each : (t : ℕ) (row : List Entry) → slice_get rows t ≡ Some row → IsFollowed since s (record { 0 = t }) row
+
+-- what lies under the lock: the session, the rows that the keeper knows, the creation that threads know of, and whether
+-- the histories have ended since the seats were given
+pub record Guarded : Type 0 where
+  pub session : Sessioned
+  pub rows : List (List Entry)
+  pub creating : Creating
+  pub rotated : Bool
+
+-- what holds of it whenever the lock is free, where there are so many clients, and the histories had these lengths when
+-- the seats were given
+pub record IsGuardedWell (all : ℕ) (given : ℕ → ℕ) (g : Guarded) : Type 0 where
+  pub clients : length g.rows ≡ all
+  pub followed : AreFollowed (beginnings given g.rotated) g.session g.rows
+  pub promises : KeepsNumbers g.session
+  pub creation : IsCreationKnown g.session.broker g.creating

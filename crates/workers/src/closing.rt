@@ -76,30 +76,25 @@ fn all_emptied<J: Naming>(
     seats
 }
 
-/// The histories of all queues end, and with them the lists of all seats.
-fn rotate_all<J: Naming>(
-    locked: &mut Locked<J>,
-    roll: &Roll<Entry>,
-    seats: Vec<Seat<J>>,
-) -> (Vec<Seat<J>>, Result<(), Refusal>)
-    requires roll { roll.now ≡ J.roll }
-    requires order { AreAllInOrder (λ seat. seat.client) J.clients seats.items }
-    ensures order { AreAllInOrder (λ seat. seat.client) J.clients result.0.items }
-    ensures empty { OnOk result.1 (AreEmpty (λ seat. seat.list.items) result.0.items) }
-    ensures same { OnErr result.1 (result.0.items ≡ seats.items) }
-{
-    let Locked {
-        session,
-        keeper,
-        creating: _,
-        rotated,
-        of: _,
-    } = locked;
-    if let Err(refusal) = session.rotate() {
-        return (seats, Err(refusal));
+impl<J: Naming> Locked<J> {
+    /// The histories of all queues end, and with them the lists of all seats.
+    fn rotate(
+        &mut self,
+        roll: &Roll<Entry>,
+        seats: Vec<Seat<J>>,
+    ) -> (Vec<Seat<J>>, Result<(), Refusal>)
+        requires roll { roll.now ≡ J.roll }
+        requires order { AreAllInOrder (λ seat. seat.client) J.clients seats.items }
+        ensures order { AreAllInOrder (λ seat. seat.client) J.clients result.0.items }
+        ensures empty { OnOk result.1 (AreEmpty (λ seat. seat.list.items) result.0.items) }
+        ensures same { OnErr result.1 (result.0.items ≡ seats.items) }
+    {
+        if let Err(refusal) = self.session.rotate() {
+            return (seats, Err(refusal));
+        }
+        self.rotated = true;
+        (all_emptied(roll, &mut self.keeper, seats), Ok(()))
     }
-    *rotated = true;
-    (all_emptied(roll, keeper, seats), Ok(()))
 }
 
 impl<J: Naming> Shared<J> {
@@ -117,7 +112,7 @@ impl<J: Naming> Shared<J> {
         ensures empty { OnOk result.1 (AreEmpty (λ seat. seat.list.items) result.0.items) }
         ensures same { OnErr result.1 (result.0.items ≡ seats.items) }
     {
-        rotate_all(&mut *self.locked.lock(rt), &self.roll, seats)
+        self.locked.lock(rt).rotate(&self.roll, seats)
     }
 
     /// Takes the session back. The seats are all that were given, in client order: the list of each is what the
@@ -128,13 +123,7 @@ impl<J: Naming> Shared<J> {
         ensures promises { KeepsNumbers result }
     {
         let Shared { roll, locked } = self;
-        let Locked {
-            session,
-            mut keeper,
-            creating: _,
-            rotated: _,
-            of: _,
-        } = locked.into_inner();
+        let (session, mut keeper) = locked.into_inner().into_parts();
         let mut seats = seats;
         while let Some(seat) = seats.pop() {
             hand_back(&roll, &mut keeper, seat);

@@ -1,12 +1,12 @@
 //! What lies under the lock.
 
-ghost use Rattle.std.specs.Prelude.{◌≡◌, ◌<◌, false, length, true, vec_capacity, vec_len};
+ghost use Rattle.std.specs.Prelude.{◌≡◌, ◌<◌, ℕ, false, length, true, vec_capacity, vec_len};
 ghost use Rattle.roll.specs.Rule.{IsKeeper, rows_of};
 ghost use Rattle.session.specs.Promises.{KeepsNumbers};
 ghost use Rattle.workers.specs.Answers.{IsListAfter, IsListBegun};
-ghost use Rattle.workers.specs.Creating.{IsCreationKnown};
-ghost use Rattle.workers.specs.Following.{beginnings, AreFollowed};
+ghost use Rattle.workers.specs.Following.{IsGuardedWell};
 ghost use Rattle.workers.specs.Lists.{ends_open, events_at};
+ghost use Rattle.workers.specs.Seats.{AreEmpty};
 
 use crate::entry::{End, Entry, Request, Took};
 use crate::naming::Naming;
@@ -14,7 +14,7 @@ use crate::seat::{Seat, with_entry, with_last};
 use arena::SlotId;
 use roll::{Roll, Token};
 use session::Session;
-use std::marker::PhantomData;
+use std::marker::{Model, PhantomData};
 use words::{Refusal, Reply};
 
 /// The creation that threads know of.
@@ -36,12 +36,29 @@ pub(crate) struct Locked<J: Naming> {
     pub(crate) creating: Creating,
     /// Whether the histories have ended since the seats were given.
     pub(crate) rotated: bool,
-    pub(crate) of: PhantomData<J>,
-    pub(crate) ghost kept: { IsKeeper J.roll (rows_of keeper) keeper },
-    pub(crate) ghost clients: { length (rows_of keeper) ≡ J.clients },
-    pub(crate) ghost followed: { AreFollowed (beginnings J.given rotated) session (rows_of keeper) },
-    pub(crate) ghost promises: { KeepsNumbers session },
-    pub(crate) ghost creation: { IsCreationKnown session.broker creating },
+    of: PhantomData<J>,
+}
+
+impl<J: Naming> Model for Locked<J> {
+    ghost use Rattle.roll.specs.Rule.{IsKeeper, rows_of};
+    ghost use Rattle.workers.specs.Following.{Guarded, IsGuardedWell};
+
+    ghost Value = { Guarded };
+
+    ghost view = { λ l. record {
+      session = l.session;
+      rows = rows_of l.keeper;
+      creating = l.creating;
+      rotated = l.rotated;
+    } };
+
+    ghost invariant = { λ l. IsKeeper J.roll (rows_of l.keeper) l.keeper
+        × IsGuardedWell J.clients J.given (record {
+          session = l.session;
+          rows = rows_of l.keeper;
+          creating = l.creating;
+          rotated = l.rotated;
+        }) };
 }
 
 /// How many events the history of a slot has; 0 where the slot is closed.
@@ -55,6 +72,32 @@ pub(crate) fn events_in(session: &Session, queue: SlotId) -> usize
 }
 
 impl<J: Naming> Locked<J> {
+    /// What is to lie under the lock, where no seat has been used yet.
+    pub(crate) fn new(session: Session, keeper: Token<Entry>) -> Self
+        requires keeper { IsKeeper J.roll (rows_of keeper) keeper }
+        requires clients { length (rows_of keeper) ≡ J.clients }
+        requires given { (slot : ℕ) → J.given slot ≡ length (events_at session.broker slot) }
+        requires empty { AreEmpty (λ row. row) (rows_of keeper) }
+        requires promises { KeepsNumbers session }
+    {
+        Locked {
+            session,
+            keeper,
+            creating: Creating::Nothing,
+            rotated: false,
+            of: PhantomData,
+        }
+    }
+
+    /// The session, and the keeper of the seats' lists.
+    pub(crate) fn into_parts(self) -> (Session, Token<Entry>)
+        ensures session { result.0 ≡ self.session }
+        ensures keeper { IsKeeper J.roll self.rows result.1 }
+        ensures well { IsGuardedWell J.clients J.given self }
+    {
+        (self.session, self.keeper)
+    }
+
     /// Begins a call of the seat's client. Its entry is written in the same event, so that list and history never part.
     pub(crate) fn begin(
         &mut self,
@@ -68,20 +111,13 @@ impl<J: Naming> Locked<J> {
         ensures client { result.0.client ≡ seat.client }
         ensures begun { IsListBegun seat.list.items request result.1 result.0.list.items }
     {
-        let Locked {
-            session,
-            keeper,
-            creating: _,
-            rotated: _,
-            of: _,
-        } = self;
         let Request {
             queue,
             number,
             call,
         } = request;
-        let next = events_in(session, queue);
-        let began = match session.begin(seat.client, queue, number, call) {
+        let next = events_in(&self.session, queue);
+        let began = match self.session.begin(seat.client, queue, number, call) {
             Ok(began) => began,
             Err(refusal) => return (seat, Err(refusal)),
         };
@@ -96,7 +132,7 @@ impl<J: Naming> Locked<J> {
             place,
             end,
         };
-        (with_entry(roll, keeper, seat, entry), Ok(began))
+        (with_entry(roll, &mut self.keeper, seat, entry), Ok(began))
     }
 
     /// One step of the seat's open call.
@@ -106,24 +142,17 @@ impl<J: Naming> Locked<J> {
         ensures client { result.0.client ≡ seat.client }
         ensures step { IsListAfter seat.list.items result.1 result.0.list.items }
     {
-        let Locked {
-            session,
-            keeper,
-            creating: _,
-            rotated: _,
-            of: _,
-        } = self;
         let queue = seat.list[seat.list.len() - 1].queue;
-        match session.advance(seat.client, queue) {
+        match self.session.advance(seat.client, queue) {
             Ok(None) => (seat, Took::More),
             Ok(Some(reply)) => (
-                with_last(roll, keeper, seat, End::Answered(reply)),
+                with_last(roll, &mut self.keeper, seat, End::Answered(reply)),
                 Took::Answered(reply),
             ),
             Err(Refusal::NoMemory) => (seat, Took::NoMemory),
             // No call of the client is under way any more, or the broker recovers: a crash ended it.
             Err(_) => (
-                with_last(roll, keeper, seat, End::Interrupted),
+                with_last(roll, &mut self.keeper, seat, End::Interrupted),
                 Took::Interrupted,
             ),
         }

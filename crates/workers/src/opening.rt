@@ -10,7 +10,7 @@ ghost use Rattle.workers.specs.Seats.{AreAllInOrder, AreEmpty};
 ghost use Rattle.workers.specs.Opening.{IsInUse, IsNameOf, IsNotInUse, HasNoCall};
 
 use crate::entry::Entry;
-use crate::locked::{Creating, Locked};
+use crate::locked::Locked;
 use crate::naming::Naming;
 use crate::seat::{Seat, seat_of};
 use crate::shared::Shared;
@@ -18,7 +18,7 @@ use arena::{SLOTS, SlotId};
 use roll::{Roll, Token};
 use session::Session;
 use std::alloc::Global;
-use std::marker::{Model, PhantomData};
+use std::marker::Model;
 use std::sync::Mutex;
 use words::{Client, Refusal};
 
@@ -78,28 +78,6 @@ fn is_in_use(session: &Session) -> bool
     false
 }
 
-/// What is shared under a name, where no seat has been used yet.
-fn shared_of<J: Naming>(session: Session, roll: Roll<Entry>, keeper: Token<Entry>) -> Shared<J>
-    requires roll { roll ≡ J.roll }
-    requires keeper { IsKeeper J.roll (rows_of keeper) keeper }
-    requires clients { length (rows_of keeper) ≡ J.clients }
-    requires given { (slot : ℕ) → J.given slot ≡ length (events_at session.broker slot) }
-    requires empty { AreEmpty (λ row. row) (rows_of keeper) }
-    requires promises { KeepsNumbers session }
-{
-    let locked = Locked {
-        session,
-        keeper,
-        creating: Creating::Nothing,
-        rotated: false,
-        of: PhantomData,
-    };
-    Shared {
-        roll,
-        locked: Mutex::new(locked),
-    }
-}
-
 impl Opened {
     /// Opens a session to threads, before it is named. It is refused, in this order, where a client has a call under way
     /// or a creation is (Busy), and for want of memory (NoMemory).
@@ -155,6 +133,7 @@ impl Opened {
             let token = roll.enroll(&mut keeper, &list);
             seats.push_reserved(seat_of(Client(client as u8), list, token));
         }
-        Ok((shared_of(session, roll, keeper), seats))
+        let locked = Mutex::new(Locked::new(session, keeper));
+        Ok((Shared { roll, locked }, seats))
     }
 }

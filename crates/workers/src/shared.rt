@@ -191,7 +191,7 @@ impl<J: Naming> Shared<J> {
     pub fn list<R: Wait>(&self, rt: &R) -> Result<Places, Refusal> {
         let locked = self.locked.lock(rt);
         let places = locked.session.broker().list()?;
-        Ok(*places)
+        Ok(places.clone())
     }
 
     /// What the client was last told in the queue of a slot. It is refused as [`named::Broker::told`] is.
