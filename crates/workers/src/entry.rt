@@ -1,6 +1,6 @@
 //! What a seat remembers of its calls, and what its caller is told.
 
-ghost use Rattle.std.specs.Prelude.{◌≡◌, ◌-◌, length};
+ghost use Rattle.std.specs.Prelude.{◌≡◌, ◌-◌, length, true};
 ghost use Rattle.workers.specs.Lists.{ends_open, is_open, with_end};
 
 use arena::SlotId;
