@@ -10,7 +10,7 @@ use crate::gate::Gate;
 use crate::locked::Locked;
 use crate::naming::Naming;
 use crate::seat::Seat;
-use arena::SlotId;
+use arena::{SLOTS, SlotId};
 use directory::{Name, Places};
 use roll::Roll;
 use std::sync::{Mutex, Wait};
@@ -191,7 +191,11 @@ impl<J: Naming> Shared<J> {
     pub fn list<R: Wait>(&self, rt: &R) -> Result<Places, Refusal> {
         let locked = self.locked.lock(rt);
         let places = locked.session.broker().list()?;
-        Ok(places.clone())
+        let mut copied: Places = [None; SLOTS];
+        for slot in 0..SLOTS {
+            copied[slot] = places[slot];
+        }
+        Ok(copied)
     }
 
     /// What the client was last told in the queue of a slot. It is refused as [`named::Broker::told`] is.
