@@ -1,3 +1,4 @@
 pub mod Carried
 pub mod SlotsOn
 pub mod Starts
+pub mod Steps
