@@ -1,5 +1,5 @@
 -- What an act makes of a slot: its history goes on by some events, and the replies of numbers stay.
-use Rattle.std.proofs.Common.{◌≡◌, ◌≢◌, ◌⊎◌, inl, inr, ◌++◌, ℕ, zero, suc, Bool, List, [], ◌∷◌, Option, Some, None, Result, Ok, Err, is_ok, if◌then◌else◌, slice_get, refl, sym, ap, subst, ◌∙◌}
+use Rattle.std.proofs.Common.{◌≡◌, inl, inr, ◌++◌, ℕ, zero, suc, Bool, List, [], ◌∷◌, Option, Some, None, Result, Ok, Err, is_ok, if◌then◌else◌, slice_get, refl, sym, ap, subst, ◌∙◌}
 use Rattle.std.specs.Prelude.{is_some}
 use Rattle.std.proofs.lemmas.Bool.{cases_eq}
 use Rattle.std.proofs.lemmas.List.{append-nil}
@@ -18,7 +18,7 @@ use Rattle.named.specs.Slots.{acted}
 use Rattle.named.specs.declared.recovery.BrokerRecovery.{BrokerRecovery}
 use Rattle.named.proofs.GoingOn.{on_by_act, on_if_quiet, world_holds}
 use Rattle.named.proofs.Kept.{some_is}
-use Rattle.session.specs.Promises.{IsReplyIn, KeepsNumbers}
+use Rattle.session.specs.Promises.{IsReplyIn}
 use Rattle.session.specs.Requests.{AreOthersAlike}
 use Rattle.session.specs.Sessions.{Sessioned}
 use Rattle.session.proofs.Worlds.{none_some}

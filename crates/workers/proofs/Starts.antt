@@ -1,5 +1,5 @@
 -- What a start makes of the histories.
-use Rattle.std.proofs.Common.{◌≡◌, ◌++◌, ℕ, is_ok, ◌==◌, Bool, true, false, List, [], ◌∷◌, Option, Some, None, Result, Ok, Err, if◌then◌else◌, slice_index, refl, sym, ap, subst, ◌∙◌}
+use Rattle.std.proofs.Common.{◌≡◌, ◌++◌, ℕ, is_ok, ◌==◌, Bool, true, false, [], ◌∷◌, Option, Some, None, Result, Ok, Err, if◌then◌else◌, slice_index, refl, sym, ap, subst, ◌∙◌}
 use Rattle.std.specs.Prelude.{is_some}
 use Rattle.words.specs.declared.call.Call.{Call}
 use Rattle.words.specs.declared.call.Client.{Client}
@@ -9,20 +9,18 @@ use Rattle.words.specs.declared.call.Reply.{Reply}
 use Rattle.words.specs.declared.refusal.Refusal.{Refusal}
 use Rattle.words.specs.declared.refusal.Refusal.TheVariants.{Busy, NoMemory, NoRoom, StaleNumber, WrongKind}
 use Rattle.logqueue.specs.Numbers.{is_stale}
-use Rattle.events.specs.declared.event.Event.{Event}
 use Rattle.events.specs.declared.event.Event.TheVariants.{Call as call_event}
 use Rattle.protocol.specs.declared.acts.Act.TheVariants.{Start}
-use Rattle.interleave.specs.Calls.{idle_result, is_no_memory}
+use Rattle.interleave.specs.Calls.{is_no_memory}
 use Rattle.interleave.specs.OneEvent.{call_events}
-use Rattle.interleave.specs.Queue.{number_check}
 use Rattle.interleave.specs.Ranges.{IsOfKind}
-use Rattle.interleave.specs.State.{State, after_bump_load, after_call_began, after_start, is_down, number_of_idle, number_to_start}
+use Rattle.interleave.specs.State.{State, after_bump_load, after_call_began, after_start, number_of_idle, number_to_start}
 use Rattle.interleave.specs.State.{start_result, start_result_with, start_with, used_by}
 use Rattle.interleave.specs.Verdicts.{number_under_way}
 use Rattle.interleave.specs.declared.queue.Queue.{Queue}
 use Rattle.interleave.specs.declared.queue.Queue.TheVariants.{Durable, Log}
 use Rattle.interleave.proofs.EveryAct.{act_adds_one}
-use Rattle.named.specs.Brokers.{Brokered, IsWell, admission, answer_at, answer_if, world_at}
+use Rattle.named.specs.Brokers.{Brokered, admission, answer_if, world_at}
 use Rattle.named.specs.Slots.{acted, answered}
 use Rattle.named.proofs.Kept.{some_is}
 use Rattle.session.specs.Promises.{KeepsNumbers}
@@ -31,7 +29,6 @@ use Rattle.session.specs.Requests.{request_admission}
 use Rattle.session.specs.Sessions.{Sessioned}
 use Rattle.session.proofs.Calling.{IsAnsweredAt, answered_at}
 use Rattle.session.proofs.Worlds.{holds_there}
-use Rattle.workers.specs.Lists.{events_at}
 use Rattle.workers.proofs.Carried.{HasNext, IsCarriedFor}
 use Rattle.workers.proofs.SlotsOn.{IsOnBy, goes_by_act, next_came, nothing_carried, quiet_carried, stays_by_client}
 
@@ -151,7 +148,7 @@ module _ (old new : Sessioned) (slot : ℕ) (client : Client) (number : ℕ) (ca
   kept_if_answered (Ok (Some kept)) reply begun = (begun.1, sym begun.0)
   kept_if_answered (Ok None) reply begun =
       let at = answered_at (λ w. as_begun (start_result false w client number)) old.broker slot client (Some reply)
-          (sym begun.0.result_is) in
+      (sym begun.0.result_is) in
       absurd (never_begun (start_result false at.world client number) reply at.says)
 
   -- a refused start leaves the histories
@@ -193,7 +190,7 @@ begun_run old new slot client number call keeps begun =
     let runs = run_if_started old new slot client (number_or_zero number) call (answer_to old slot client number) begun in
     let started = runs.1 in
     let at = answered_at (λ w. as_begun (start_result false w client (number_or_zero number))) old.broker slot client None
-        (sym started.result_is) in
+    (sym started.result_is) in
     next_came old new slot started.others (call_event client (number_or_zero number) call)
     (came started runs.0 at) at.up
   where

@@ -1,5 +1,5 @@
 -- What a step of a client's call makes of the histories, and what it says of the call where it is refused.
-use Rattle.std.proofs.Common.{◌≡◌, ◌≢◌, ◌⊎◌, inl, inr, ◌++◌, ◌<◌, ℕ, Bool, true, false, List, [], ◌∷◌, length, Option, Some, None, Result, Ok, Err, is_ok, nat_lt, if◌then◌else◌, slice_get, slice_index_or, refl, sym, ap, subst, ◌∙◌, arith}
+use Rattle.std.proofs.Common.{◌≡◌, ◌≢◌, inl, inr, ◌<◌, ℕ, Bool, true, false, [], ◌∷◌, length, Option, Some, None, Result, Ok, Err, is_ok, if◌then◌else◌, slice_get, slice_index_or, refl, sym, ap, subst, ◌∙◌, arith}
 use Rattle.std.specs.Prelude.{is_some, unwrap_or}
 use Rattle.std.proofs.lemmas.Bool.{lt-ltb}
 use Rattle.std.proofs.lemmas.Option.{get_or_from_slice_get, slice_get_within, unwrap_or-slice_get}
@@ -9,7 +9,6 @@ use Rattle.words.specs.declared.refusal.Refusal.{Refusal}
 use Rattle.words.specs.declared.refusal.Refusal.TheVariants.{NoClient, NoMemory, NotReady}
 use Rattle.recover.specs.declared.recovery.Recovery.{Recovery}
 use Rattle.events.specs.History.{IsOpenFrom}
-use Rattle.events.specs.declared.event.Event.{Event}
 use Rattle.events.specs.declared.event.Event.TheVariants.{Return as return_event}
 use Rattle.protocol.specs.declared.UnderWay.{UnderWay}
 use Rattle.protocol.specs.declared.acts.Act.TheVariants.{Step}
@@ -19,7 +18,7 @@ use Rattle.interleave.specs.Holds.{Holds, from_invariant}
 use Rattle.interleave.specs.State.{State, after_step, is_down, machine, step_result, step_result_with, step_with}
 use Rattle.interleave.proofs.HoldsKept.{waiting_is}
 use Rattle.interleave.proofs.TurnLaws.{step_adds, step_adds_none}
-use Rattle.named.specs.Brokers.{Brokered, IsWell, admission, answer_at, answer_if, has_client, world_after, world_at}
+use Rattle.named.specs.Brokers.{IsWell, admission, answer_if, world_at}
 use Rattle.named.specs.Slots.{acted, answered}
 use Rattle.named.specs.declared.recovery.BrokerRecovery.{BrokerRecovery}
 use Rattle.named.proofs.Kept.{some_is}
@@ -27,7 +26,7 @@ use Rattle.session.specs.Promises.{KeepsNumbers}
 use Rattle.session.specs.Requests.{IsAdvanced}
 use Rattle.session.specs.Sessions.{Sessioned}
 use Rattle.session.proofs.Calling.{answered_at}
-use Rattle.session.proofs.Worlds.{clients_there, holds_there, none_some, up_there}
+use Rattle.session.proofs.Worlds.{clients_there, holds_there, up_there}
 use Rattle.workers.specs.Lists.{events_at, events_of}
 use Rattle.workers.proofs.Carried.{CallsNow, HasNext, IsCarriedFor, IsLost}
 use Rattle.workers.proofs.SlotsOn.{goes_by_act, next_came, quiet_carried, stays_by_client, stays_if_same}
@@ -46,7 +45,7 @@ calls_now w holds up client u at =
     let working = working_there w holds up in
     let waits : slice_index_or w.calls client.0 None ≡ Some u = get_or_from_slice_get w.calls client.0 (Some u) None at in
     let knows = subst (KnowsCall w.shape (machine w).memory (ledger_of (machine w)) w.log.events client.0) waits
-        (working.calls client.0) in
+    (working.calls client.0) in
     let calling : IsCalling w.log.events client.0 u = knows.1 in
     let who : u.begun.client ≡ client = ap (λ (n : ℕ). let x : Client = record { 0 = n } in x) calling.who in
     record {
@@ -101,18 +100,17 @@ module _ (old new : Sessioned) (slot : ℕ) (client : Client) (keeps : KeepsNumb
   advanced_answered reply advanced =
       let at = answered_at (λ w. step_result false w client) old.broker slot client (Some reply) (sym advanced.result_is) in
       let holds = holds_there old.broker keeps.broker.well slot at.world at.here in
-      let waits = waits_if_stepped at.world client (Some reply) at.says in
-      (
+      let waits = waits_if_stepped at.world client (Some reply) at.says in (
         next_came old new slot advanced.others (return_event client reply)
-        (goes_by_act false at.world (Step client) (return_event client reply ∷ []) (world_at old.broker slot)
-        (world_at new.broker slot) holds at.here
-        (advanced.world
-        ∙ ap (λ (a : Result Unit Refusal). if is_ok a then acted (λ v. after_step false v client) (world_at old.broker slot) else world_at old.broker slot) at.admitted
-        ∙ ap (acted (λ v. after_step false v client)) at.here)
-        (step_adds at.world client (Some reply) at.says))
-        at.up,
+            (goes_by_act false at.world (Step client) (return_event client reply ∷ []) (world_at old.broker slot)
+            (world_at new.broker slot) holds at.here
+            (advanced.world
+            ∙ ap (λ (a : Result Unit Refusal). if is_ok a then acted (λ v. after_step false v client) (world_at old.broker slot) else world_at old.broker slot) at.admitted
+            ∙ ap (acted (λ v. after_step false v client)) at.here)
+            (step_adds at.world client (Some reply) at.says))
+            at.up,
         subst (λ (o : Option State). CallsNow (events_of o) client) (sym at.here)
-        (calls_now at.world holds (up_there old.broker keeps.broker.well slot at.world at.here at.up) client waits.u waits.at),
+            (calls_now at.world holds (up_there old.broker keeps.broker.well slot at.world at.here at.up) client waits.u waits.at),
       )
 
   -- it is refused: the world of the slot stays
@@ -196,7 +194,10 @@ module _ (old new : Sessioned) (slot : ℕ) (client : Client) (keeps : KeepsNumb
           go None e = inr (in_slot e (world_at old.broker slot) refl)
 
       pub advanced_lost : IsLost old slot client × IsLost new slot client
-      advanced_lost = (lost_then, elim lost_then [
-        | inl down ↦ inl (ap (λ (o : Option BrokerRecovery). is_some o) advanced.others.recovery ∙ down)
-        | inr none ↦ inr (subst (λ (o : Option State). CallsNow (events_of o) client → ⊥) (sym left_alone) none)
-      ])
+      advanced_lost = (
+        lost_then,
+        elim lost_then [
+          | inl down ↦ inl (ap (λ (o : Option BrokerRecovery). is_some o) advanced.others.recovery ∙ down)
+          | inr none ↦ inr (subst (λ (o : Option State). CallsNow (events_of o) client → ⊥) (sym left_alone) none)
+        ],
+      )
