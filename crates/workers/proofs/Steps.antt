@@ -1,5 +1,7 @@
 -- What a step of a client's call makes of the histories, and what it says of the call where it is refused.
-use Rattle.std.proofs.Common.{◌≡◌, ◌≢◌, inl, inr, ◌<◌, ℕ, Bool, true, false, [], ◌∷◌, length, Option, Some, None, Result, Ok, Err, is_ok, if◌then◌else◌, slice_get, slice_index_or, refl, sym, ap, subst, ◌∙◌, arith}
+use Rattle.std.proofs.Common.{◌≡◌, ◌≢◌, inl, inr, ◌<◌, ℕ, Bool, true, false, [], ◌∷◌, length, Option, Some, None}
+use Rattle.std.proofs.Common.{Result, Ok, Err, is_ok, if◌then◌else◌, slice_get, slice_index_or, refl, sym, ap, subst}
+use Rattle.std.proofs.Common.{◌∙◌, arith}
 use Rattle.std.specs.Prelude.{is_some, unwrap_or}
 use Rattle.std.proofs.lemmas.Bool.{lt-ltb}
 use Rattle.std.proofs.lemmas.Option.{get_or_from_slice_get, slice_get_within, unwrap_or-slice_get}
@@ -26,6 +28,7 @@ use Rattle.session.specs.Promises.{KeepsNumbers}
 use Rattle.session.specs.Requests.{IsAdvanced}
 use Rattle.session.specs.Sessions.{Sessioned}
 use Rattle.session.proofs.Calling.{answered_at}
+use Rattle.session.proofs.Opens.{open_after, open_answer}
 use Rattle.session.proofs.Worlds.{clients_there, holds_there, up_there}
 use Rattle.workers.specs.Lists.{events_at, events_of}
 use Rattle.workers.proofs.Carried.{CallsNow, HasNext, IsCarriedFor, IsLost}
@@ -43,7 +46,8 @@ calls_now : (w : State) → Holds w → w.recovery ≡ None → (client : Client
     → slice_get w.calls client.0 ≡ Some (Some u) → CallsNow w.log.events client
 calls_now w holds up client u at =
     let working = working_there w holds up in
-    let waits : slice_index_or w.calls client.0 None ≡ Some u = get_or_from_slice_get w.calls client.0 (Some u) None at in
+    let waits : slice_index_or w.calls client.0 None ≡ Some u =
+    get_or_from_slice_get w.calls client.0 (Some u) None at in
     let knows = subst (KnowsCall w.shape (machine w).memory (ledger_of (machine w)) w.log.events client.0) waits
     (working.calls client.0) in
     let calling : IsCalling w.log.events client.0 u = knows.1 in
@@ -98,19 +102,22 @@ module _ (old new : Sessioned) (slot : ℕ) (client : Client) (keeps : KeepsNumb
   pub advanced_answered : (reply : Reply) → IsAdvanced old.broker new.broker slot client (Ok (Some reply))
       → HasNext old new slot (return_event client reply) × CallsNow (events_at old.broker slot) client
   advanced_answered reply advanced =
-      let at = answered_at (λ w. step_result false w client) old.broker slot client (Some reply) (sym advanced.result_is) in
-      let holds = holds_there old.broker keeps.broker.well slot at.world at.here in
-      let waits = waits_if_stepped at.world client (Some reply) at.says in (
+      let at =
+      answered_at (λ w. step_result false w client) old.broker slot client (Some reply) (sym advanced.result_is) in
+      let w : State = at.world in
+      let holds = holds_there old.broker keeps.broker.well slot w at.here in
+      let up = up_there old.broker keeps.broker.well slot w at.here at.up in
+      let waits = waits_if_stepped w client (Some reply) at.says in (
         next_came old new slot advanced.others (return_event client reply)
-            (goes_by_act false at.world (Step client) (return_event client reply ∷ []) (world_at old.broker slot)
+            (goes_by_act false w (Step client) (return_event client reply ∷ []) (world_at old.broker slot)
             (world_at new.broker slot) holds at.here
             (advanced.world
-            ∙ ap (λ (a : Result Unit Refusal). if is_ok a then acted (λ v. after_step false v client) (world_at old.broker slot) else world_at old.broker slot) at.admitted
-            ∙ ap (acted (λ v. after_step false v client)) at.here)
-            (step_adds at.world client (Some reply) at.says))
+            ∙ open_after (λ v. after_step false v client) old.broker slot client
+            (record { world = w; here = at.here; admitted = at.admitted }))
+            (step_adds w client (Some reply) at.says))
             at.up,
         subst (λ (o : Option State). CallsNow (events_of o) client) (sym at.here)
-            (calls_now at.world holds (up_there old.broker keeps.broker.well slot at.world at.here at.up) client waits.u waits.at),
+            (calls_now w holds up client waits.u waits.at),
       )
 
   -- it is refused: the world of the slot stays
@@ -141,8 +148,8 @@ module _ (old new : Sessioned) (slot : ℕ) (client : Client) (keeps : KeepsNumb
           → slice_get w.calls client.0 ≡ Some (Some u) → ⊥
       none_waits up w here u at =
           other (by full (advanced.result_is
-          ∙ ap (λ (a : Result Unit Refusal). answer_if a (answered (λ v. step_result full v client) (world_at old.broker slot))) admitted
-          ∙ ap (answered (λ v. step_result full v client)) here
+          ∙ open_answer (λ v. step_result full v client) old.broker slot client
+          (record { world = w; here = here; admitted = admitted })
           ∙ ap (λ (o : Option (Option UnderWay)). step_result_with full w (waiting_result (is_down w) o)) at
           ∙ ap (λ (r : Option Recovery). step_result_with full w (waiting_result (is_some r) (Some (Some u)))) ready))
         where
@@ -175,9 +182,11 @@ module _ (old new : Sessioned) (slot : ℕ) (client : Client) (keeps : KeepsNumb
       lost_then = go old.broker.recovery refl
         where
           none_calls : old.broker.recovery ≡ None → (w : State) → world_at old.broker slot ≡ Some w
-              → (o : Option (Option UnderWay)) → slice_get w.calls client.0 ≡ o → slice_index_or w.calls client.0 None ≡ None
+              → (o : Option (Option UnderWay)) → slice_get w.calls client.0 ≡ o
+              → slice_index_or w.calls client.0 None ≡ None
           none_calls up w here None at =
-              sym (unwrap_or-slice_get w.calls client.0 None) ∙ ap (λ (o : Option (Option UnderWay)). unwrap_or o None) at
+              sym (unwrap_or-slice_get w.calls client.0 None)
+              ∙ ap (λ (o : Option (Option UnderWay)). unwrap_or o None) at
           none_calls up w here (Some None) at = get_or_from_slice_get w.calls client.0 None None at
           none_calls up w here (Some (Some u)) at = absurd (none_waits up w here u at)
 

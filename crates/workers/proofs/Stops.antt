@@ -1,5 +1,6 @@
 -- What creations, crashes, recovery and rotations make of the histories.
-use Rattle.std.proofs.Common.{◌≡◌, ◌≢◌, inl, inr, ◌++◌, ℕ, Bool, true, false, List, [], ◌∷◌, Option, Some, None, Result, Ok, Err, IfOk, IfSome, OnErr, slice_get, refl, sym, ap, subst, ◌∙◌}
+use Rattle.std.proofs.Common.{◌≡◌, ◌≢◌, inl, inr, ◌++◌, ℕ, Bool, true, false, List, [], ◌∷◌, Option, Some, None, Result}
+use Rattle.std.proofs.Common.{Ok, Err, IfOk, IfSome, OnErr, slice_get, refl, sym, ap, subst, ◌∙◌}
 use Rattle.std.specs.Prelude.{◌||◌, IsSome, is_some, if◌then◌else◌}
 use Rattle.std.specs.List.{list_any}
 use Rattle.std.proofs.lemmas.Bool.{cases_eq}
@@ -29,7 +30,8 @@ use Rattle.interleave.proofs.EveryAct.{act_adds_one}
 use Rattle.named.specs.Brokers.{Brokered, IsStepCreated, IsWell, is_down, quiet, world_at, world_of}
 use Rattle.named.specs.Rotating.{IsRotated, has_calls_in, rotate_result}
 use Rattle.named.specs.Slots.{acted, kind_in, world_in}
-use Rattle.named.specs.Stopping.{IsFound, IsFoundIn, IsQueueRecovered, IsRecoveryStep, IsSameButRoom, IsStopped, found_by}
+use Rattle.named.specs.Stopping.{IsFound, IsFoundIn, IsQueueRecovered, IsRecoveryStep, IsSameButRoom, IsStopped}
+use Rattle.named.specs.Stopping.{found_by}
 use Rattle.named.specs.declared.recovery.BrokerRecovery.{BrokerRecovery}
 use Rattle.named.specs.declared.recovery.BrokerRecovery.TheVariants.{ReadDirectory, RecoverQueue}
 use Rattle.named.specs.declared.slot.Slot.{Slot}
@@ -99,7 +101,8 @@ module _ (old new : Sessioned) (keeps : KeepsNumbers old) (up : old.broker.recov
           → quiet (world_at new.broker other) ≡ quiet (world_at old.broker other)
       where_apart answer e other apart =
           others other
-          (subst (λ (r : Result (Option SlotId) Refusal). IfOk r (λ opened. IfSome opened (λ slot. other ≢ slot.0))) (sym e) apart)
+          (subst (λ (r : Result (Option SlotId) Refusal). IfOk r (λ opened. IfSome opened (λ slot. other ≢ slot.0)))
+          (sym e) apart)
 
       go : (a : After Creation SlotId) → successor creation ≡ a
           → IsStepCreated old.broker new.broker creation result a → IsCarriedFor client old new
@@ -195,7 +198,8 @@ recovered_slot full w client was now holds there is = go full refl w.recovery re
         nothing_of client was now (made true same [] (stays w.recovery ∙ sym (append-nil w.log.events)))
     go false same None e =
         nothing_of client was now
-        (made false same [] (act_adds_one w Recover ∙ ap (λ (r : Option Recovery). w.log.events ++ ready_events_by w r) e))
+        (made false same []
+        (act_adds_one w Recover ∙ ap (λ (r : Option Recovery). w.log.events ++ ready_events_by w r) e))
     go false same (Some r) e =
         by_told same (next_recovery (machine w) r)
         (act_adds_one w Recover ∙ ap (λ (o : Option Recovery). w.log.events ++ ready_events_by w o) e)
@@ -263,7 +267,8 @@ rotate_up full old new ok rotated = ap (λ (b : Brokered). is_down b) rotated.sa
   where
     ready : (down : Bool)
         → (if down then (let r : Result Unit Refusal = Err NotReady in r)
-        else (if is_some old.creation || list_any has_calls_in old.slots then Err Busy else (if full then Err NoMemory else Ok tt)))
+        else (if is_some old.creation || list_any has_calls_in old.slots then Err Busy
+        else (if full then Err NoMemory else Ok tt)))
         ≡ Ok tt → down ≡ false
     ready true e = absurd (cc (e))
     ready false e = refl
