@@ -3,3 +3,7 @@ pub mod Endings
 pub mod Follows
 pub mod Histories
 pub mod Lists
+pub mod SlotsOn
+pub mod Starts
+pub mod Steps
+pub mod Stops
