@@ -1,9 +1,11 @@
 pub mod Carried
 pub mod Endings
 pub mod Follows
+pub mod Guarded
 pub mod Histories
 pub mod Lists
 pub mod SlotsOn
 pub mod Starts
 pub mod Steps
 pub mod Stops
+pub mod Turns

@@ -34,6 +34,10 @@ with_end end (x ∷ y ∷ more) = x ∷ with_end end (y ∷ more)
 abbrev pub OnlyLastIsOpen : List Entry → Type 0
 OnlyLastIsOpen list = (k : ℕ) (e : Entry) → slice_get list k ≡ Some e → suc k < length list → is_open e.end ≡ false
 
+-- the last call of the list was made in the queue of this slot
+abbrev pub LastIsOf : ℕ → List Entry → Type 0
+LastIsOf slot list = (k : ℕ) (e : Entry) → slice_get list k ≡ Some e → suc k ≡ length list → e.queue.0 ≡ slot
+
 -- the client's call at this place returned this
 pub record HasReturned (events : List Event) (client : Client) (place : ℕ) (reply : Reply) : Type 0 where
   pub end : ℕ
