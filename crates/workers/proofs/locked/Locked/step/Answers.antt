@@ -1,4 +1,4 @@
-use Rattle.std.proofs.Common.{sym, ap, ◌∙◌, subst, None, Some, Ok, Err, []}
+use Rattle.std.proofs.Common.{refl, sym, ap, ◌∙◌, []}
 use Rattle.roll.specs.Rule.{keeper, rows_of}
 use Rattle.words.specs.declared.refusal.Refusal.TheVariants.{NoMemory}
 use Rattle.workers.proofs.Guarded.{with_rows}
@@ -43,5 +43,5 @@ invariant_of-self-in-Err g c =
           (guarded_interrupted g.J.Naming.clients g.J.Naming.given _ c.self.invariant.1 c.advance.new.self
           c.advance.ensures.promises c.args.seat.client list w.before c.last_queue-queue.result.0 c.requires.open
           (rw c.as_slice.ensures.value at c.last_queue-queue.ensures) c.in-Err.refusal
-          c.if-is_want_of_memory.ensures.other c.in-Err.ensures.advanced),
+          (c.if-is_want_of_memory.ensures.other refl) c.in-Err.ensures.advanced),
     )
