@@ -1,3 +1,4 @@
+pub mod Answering
 pub mod Carried
 pub mod Endings
 pub mod Follows
@@ -7,3 +8,4 @@ pub mod SlotsOn
 pub mod Starts
 pub mod Steps
 pub mod Stops
+pub mod Turning
