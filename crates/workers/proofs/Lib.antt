@@ -3,7 +3,9 @@ pub mod Carried
 pub mod Endings
 pub mod Follows
 pub mod Histories
+pub mod Idling
 pub mod Lists
+pub mod Seating
 pub mod SlotsOn
 pub mod Starts
 pub mod Steps
