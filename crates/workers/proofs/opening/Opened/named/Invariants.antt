@@ -11,4 +11,4 @@ invariant-loop-client g l =
     × AreEmpty (λ row. row) rows
     × AreAllInOrder (λ seat. seat.client) l.client l.seats.items
     × AreEmpty (λ seat. seat.list.items) l.seats.items
-    × (l.client-end ≤ vec_capacity l.seats)
+    × (l.clients ≤ vec_capacity l.seats)
