@@ -6,7 +6,8 @@ use Rattle.workers.proofs.Lists.{ends_open_push, with_end_push}
 use Rattle.workers.specs.Answers.{Finishes, IsListBegun, IsUnderWay, Remembers, entry_of}
 use Rattle.workers.specs.Lists.{ends_open, with_end}
 use Rattle.workers.specs.declared.entry.Answer.{Answer}
-use Rattle.workers.specs.declared.entry.Answer.TheVariants.{Refused, Reply, Interrupted as answer_interrupted, Unfinished}
+use Rattle.workers.specs.declared.entry.Answer.TheVariants.{Interrupted as answer_interrupted, Refused, Reply}
+use Rattle.workers.specs.declared.entry.Answer.TheVariants.{Unfinished}
 use Rattle.workers.specs.declared.entry.End.TheVariants.{Answered, Interrupted, Open}
 use Rattle.workers.specs.declared.entry.Entry.{Entry}
 use Rattle.workers.specs.declared.entry.Request.{Request}

@@ -1,6 +1,6 @@
 -- Seats that are given in the order of their clients, and handed back from the last on.
-use Rattle.std.proofs.Common.{◌≡◌, ◌⊎◌, ℕ, ◌+◌, List, [], ◌∷◌, ◌++◌, length, Some, slice_get, sym, ap, ◌∙◌, inl, inr}
-use Rattle.std.proofs.Common.{⊎_elim, arith, length-append, subst}
+use Rattle.std.proofs.Common.{◌≡◌, ◌⊎◌, ℕ, ◌+◌, List, [], ◌∷◌, ◌++◌, Some, slice_get, sym, ap, ◌∙◌, inl, inr}
+use Rattle.std.proofs.Common.{⊎_elim, length-append, subst}
 use Rattle.words.specs.declared.call.Client.{Client}
 use Rattle.events.proofs.Lists.{get_push_cases}
 use Rattle.session.specs.Sessions.{Sessioned}
@@ -14,14 +14,8 @@ pub record AreLeft {S : Type 0} (list : S → List Entry) (rows : List (List Ent
   pub each : (k : ℕ) (seat : S) → slice_get seats k ≡ Some seat
       → (slice_get now k ≡ Some seat) ⊎ (slice_get rows k ≡ Some (list seat))
 
-abbrev client_of : ℕ → Client
+abbrev pub client_of : ℕ → Client
 client_of k = record { 0 = k }
-
-pub order_none : {S : Type 0} (client : S → Client) → AreAllInOrder client 0 []
-order_none client = record { all = omega arith; each = λ k seat at. absurd cc }
-
-pub empty_none : {S : Type 0} (list : S → List Entry) → AreEmpty list []
-empty_none list = record { each = λ k seat at. absurd cc }
 
 -- the next client's seat is given
 pub order_pushed : {S : Type 0} (client : S → Client) (n : ℕ) (seats : List S) (seat : S)
@@ -29,21 +23,17 @@ pub order_pushed : {S : Type 0} (client : S → Client) (n : ℕ) (seats : List 
 order_pushed client n seats seat order is = record {
   all = length-append seats (seat ∷ []) ∙ ap (λ k. k + 1) order.all;
   each = λ k x at. ⊎_elim
-    (λ old. order.each k x old)
-    (λ new. sym (ap client new.1) ∙ (is ∙ ap client_of (sym order.all ∙ sym new.0)))
-    (get_push_cases seats seat k x at);
+      (λ old. order.each k x old)
+      (λ new. sym (ap client new.1) ∙ (is ∙ ap client_of (sym order.all ∙ sym new.0)))
+      (get_push_cases seats seat k x at);
 }
 
 pub empty_pushed : {S : Type 0} (list : S → List Entry) (seats : List S) (seat : S) → AreEmpty list seats
     → list seat ≡ [] → AreEmpty list (seats ++ seat ∷ [])
 empty_pushed list seats seat empty is = record {
   each = λ k x at. ⊎_elim (λ old. empty.each k x old) (λ new. sym (ap list new.1) ∙ is)
-    (get_push_cases seats seat k x at);
+      (get_push_cases seats seat k x at);
 }
-
-pub left_all : {S : Type 0} (list : S → List Entry) (rows : List (List Entry)) (seats : List S)
-    → AreLeft list rows seats seats
-left_all list rows seats = record { each = λ k seat at. inl at }
 
 -- the last seat that is left is handed back
 pub left_popped : {S : Type 0} (client : S → Client) (list : S → List Entry) (clients : ℕ) (rows : List (List Entry))
@@ -51,10 +41,10 @@ pub left_popped : {S : Type 0} (client : S → Client) (list : S → List Entry)
     → was ≡ now ++ popped ∷ [] → slice_get rows (client popped).0 ≡ Some (list popped) → AreLeft list rows seats now
 left_popped {S} client list clients rows seats was now popped order left is known = record {
   each = λ k seat at. ⊎_elim
-    (λ stood. ⊎_elim (λ old. inl old) (λ new. inr (mine k seat at new.1))
+      (λ stood. ⊎_elim (λ old. inl old) (λ new. inr (mine k seat at new.1))
       (get_push_cases now popped k seat (subst (λ (l : List S). slice_get l k ≡ Some seat) is stood)))
-    (λ row. inr row)
-    (left.each k seat at);
+      (λ row. inr row)
+      (left.each k seat at);
 }
   where
     mine : (k : ℕ) (seat : S) → slice_get seats k ≡ Some seat → popped ≡ seat → slice_get rows k ≡ Some (list seat)
@@ -83,6 +73,6 @@ pub accounted_by_rows : {S : Type 0} (list : S → List Entry) (clients : ℕ) (
 accounted_by_rows list clients given g s seats is well each = record {
   rotated = g.rotated;
   each = λ k seat at.
-    subst (λ (t : Sessioned). IsRecorded (beginnings given g.rotated) t (client_of k) (list seat)) (sym is)
-    (well.followed.each k (list seat) (each k seat at)).recorded;
+      subst (λ (t : Sessioned). IsRecorded (beginnings given g.rotated) t (client_of k) (list seat)) (sym is)
+      (well.followed.each k (list seat) (each k seat at)).recorded;
 }

@@ -1,5 +1,5 @@
 -- Seats that are taken from the front in turn, each of which goes behind the others with an empty list.
-use Rattle.std.proofs.Common.{◌≡◌, ◌≢◌, ℕ, zero, suc, ◌+◌, ◌<◌, ◌≤◌, List, [], ◌∷◌, ◌++◌, length, set, Some}
+use Rattle.std.proofs.Common.{◌≡◌, ℕ, zero, suc, ◌+◌, ◌<◌, List, [], ◌∷◌, ◌++◌, length, set, Some}
 use Rattle.std.proofs.Common.{slice_get, get_or, drop, refl, sym, ap, ◌∙◌, ⊎_elim, arith, length-append}
 use Rattle.std.proofs.lemmas.Option.{same_Some, slice_get_within}
 use mathlib.Core.Logic.{dite}
@@ -7,6 +7,7 @@ use native.Mathlib.Decide.{ℕ_discrete}
 use Rattle.words.specs.declared.call.Client.{Client}
 use Rattle.events.proofs.Lists.{get_push_cases}
 use Rattle.roll.proofs.Places.{get_set_else}
+use Rattle.workers.proofs.Seating.{client_of}
 use Rattle.workers.specs.Seats.{AreAllInOrder, AreEmpty}
 use Rattle.workers.specs.declared.entry.Entry.{Entry}
 
@@ -34,9 +35,6 @@ get_set_same [] k x y at = absurd cc
 get_set_same (z ∷ zs) zero x y at = sym (same_Some x y at)
 get_set_same (z ∷ zs) (suc k) x y at = get_set_same zs k x y at
 
-pub empty_below_none : (rows : List (List Entry)) → AreEmptyBelow 0 rows
-empty_below_none rows = record { each = λ t row less at. absurd (omega (arith, less)) }
-
 -- one row more is emptied
 pub empty_below_more : (n : ℕ) (rows : List (List Entry)) → AreEmptyBelow n rows → AreEmptyBelow (n + 1) (set rows n [])
 empty_below_more n rows below = record {
@@ -57,20 +55,12 @@ pub front_taken : {S : Type 0} (was : List S) (taken : S) → 0 < length was →
 front_taken [] taken some is = absurd (omega (arith, some))
 front_taken (x ∷ xs) taken some is = ap (λ z. z ∷ xs) (sym is)
 
-pub turned_none : {S : Type 0} (client : S → Client) (list : S → List Entry) (clients : ℕ) (seats : List S)
-    → AreAllInOrder client clients seats → AreTurned client list clients 0 seats
-turned_none client list clients seats order = record {
-  all = order.all;
-  rest = λ k seat at less. order.each k seat at ∙ ap (λ (n : ℕ). let c : Client = record { 0 = n } in c) (omega arith);
-  done = λ k j seat at is. absurd (omega (arith, slice_get_within seats k seat at, order.all, is));
-}
-
 -- the seat that is taken is the next client's
 pub turned_first : {S : Type 0} (client : S → Client) (list : S → List Entry) (clients n : ℕ) (seat : S) (rest : List S)
     → n < clients → AreTurned client list clients n (seat ∷ rest) → client seat ≡ record { 0 = n }
 turned_first client list clients n seat rest less turned =
     turned.rest 0 seat refl (omega (arith, less))
-    ∙ ap (λ (n : ℕ). let c : Client = record { 0 = n } in c) (omega arith)
+    ∙ ap client_of (omega arith)
 
 pub turned_more : {S : Type 0} (client : S → Client) (list : S → List Entry) (clients n : ℕ) (seat emptied : S)
     (rest : List S) → n < clients → AreTurned client list clients n (seat ∷ rest) → client emptied ≡ client seat
@@ -79,14 +69,14 @@ turned_more {S} client list clients n seat emptied rest less turned same empty =
   all = let p = length-append rest (emptied ∷ []) in let q = turned.all in omega (arith, p, q);
   rest = λ k x at below. ⊎_elim
       (λ old. turned.rest (suc k) x old (omega (arith, below))
-      ∙ ap (λ (n : ℕ). let c : Client = record { 0 = n } in c) (omega arith))
+      ∙ ap client_of (omega arith))
       (λ new. absurd (omega (arith, turned.all, new.0, below)))
       (get_push_cases rest emptied k x at);
   done = λ k j x at is. ⊎_elim
       (λ old. turned.done (suc k) j x old (omega (arith, is)))
       (λ new. (
         ap client (sym new.1) ∙ (same ∙ (turned_first client list clients n seat rest less turned
-            ∙ ap (λ (n : ℕ). let c : Client = record { 0 = n } in c) (next k j new.0 is))),
+            ∙ ap client_of (next k j new.0 is))),
         ap list (sym new.1) ∙ empty,
       ))
       (get_push_cases rest emptied k x at);

@@ -1,8 +1,8 @@
-use Rattle.std.proofs.Common.{◌≡◌, ◌<◌, ℕ, sym, ap, ◌∙◌, [], ◌∷◌, arith, drop, length, List, subst, set}
+use Rattle.std.proofs.Common.{◌≡◌, ◌<◌, sym, ap, ◌∙◌, [], arith, drop, length, List, subst}
 use Rattle.std.proofs.lemmas.List.{length-set}
 use Rattle.roll.specs.Rule.{keeper}
 use Rattle.workers.specs.declared.entry.Entry.{Entry}
-use Rattle.workers.proofs.Turning.{AreEmptyBelow, AreTurned, empty_below_more, empty_from_below, front_taken}
+use Rattle.workers.proofs.Turning.{AreTurned, empty_below_more, empty_from_below, front_taken}
 use Rattle.workers.proofs.Turning.{turned_empty, turned_first, turned_more, turned_order}
 use Rattle.workers.proofs.closing.all_emptied.Goals as goal
 

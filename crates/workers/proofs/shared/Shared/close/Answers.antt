@@ -13,7 +13,9 @@ loop-seat-preserved g c =
     let now = rows_of c.loop-seat.keeper in
     let was = rows_of c.into_parts-session.result.1 in
     let same : now ≡ was = ap (λ me. me.0.rows) i.0.1 in
-    let known = subst (λ (rows : List (List Entry)). slice_get rows seat.client.0 ≡ Some seat.list.items) same handed.known in (
+    let place = seat.client.0 in
+    let list = seat.list.items in
+    let known = subst (λ (rows : List (List Entry)). slice_get rows place ≡ Some list) same handed.known in (
       (handed.keeper.0, handed.keeper.1 ∙ ap (λ (rows : List (List Entry)). (keeper rows, [])) same),
       left_popped _ _ _ was _ _ _ seat c.requires i.1 c.in-Some.ensures.items known,
     )
@@ -27,4 +29,4 @@ returns-clause-lists g c =
     accounted_by_rows (λ seat. seat.list.items) g.J.Naming.clients g.J.Naming.given under_lock _ c.args.seats.items
     parts.session parts.well
     (λ k seat at. subst (λ (rows : List (List Entry)). slice_get rows k ≡ Some seat.list.items) same
-      (rows_from_none_left _ _ _ _ c.loop-seat.invariant.1 none k seat at))
+    (rows_from_none_left _ _ _ _ c.loop-seat.invariant.1 none k seat at))
