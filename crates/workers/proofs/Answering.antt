@@ -1,5 +1,5 @@
 -- What a call leaves in its seat's list, from its start to its answer.
-use Rattle.std.proofs.Common.{◌≡◌, true, List, [], ◌∷◌, ◌++◌, Option, Some, None, Result, Ok, ap, ◌∙◌, subst}
+use Rattle.std.proofs.Common.{◌≡◌, true, List, Option, Some, None, Result, Ok, ap, ◌∙◌, subst}
 use Rattle.words.specs.declared.call.Reply.{Reply as AnyReply}
 use Rattle.words.specs.declared.refusal.Refusal.{Refusal}
 use Rattle.workers.proofs.Lists.{ends_open_push, with_end_push}

@@ -1,10 +1,8 @@
 -- What lies under the lock stays well over each act.
-use Rattle.std.proofs.Common.{◌≡◌, ◌≢◌, inl, inr, ℕ, ◌≤◌, ◌++◌, ◌∷◌, [], Bool, true, false, length, length-append, List, Option, Some, None, Result, Ok, Err, slice_get, refl, sym, ap, ◌∙◌, subst, arith}
+use Rattle.std.proofs.Common.{◌≡◌, ◌≢◌, inl, inr, ℕ, ◌≤◌, Bool, true, false, length, List, Option, Some, None, Result, Ok, Err, refl, sym, ap, ◌∙◌, subst, arith}
 use Rattle.std.proofs.lemmas.List.{length-set}
 use Rattle.std.specs.Prelude.{IfErr, IfSome, IsSome, slice_set, ◌⊎◌}
-use Rattle.words.specs.declared.call.Call.{Call}
 use Rattle.words.specs.declared.call.Client.{Client}
-use Rattle.words.specs.declared.call.Reply.{Reply}
 use Rattle.arena.specs.declared.broker.SlotId.{SlotId}
 use Rattle.session.specs.Promises.{KeepsNumbers}
 use Rattle.session.specs.Sessions.{Sessioned}
@@ -121,9 +119,10 @@ known_after_step old new result is known step = go old.creation known.1 (step kn
   where
     more : (creation : Creation) (after : After Creation SlotId) → IsStepCreated old new creation result after
         → IsCreationKnown new UnderWay
-    more creation (More next) made =
-        (ap (λ (b : Brokered). b.recovery) made.1 ∙ known.0,
-        subst (λ (b : Brokered). IsSome b.creation) (sym made.1) refl)
+    more creation (More next) made = (
+      ap (λ (b : Brokered). b.recovery) made.1 ∙ known.0,
+      subst (λ (b : Brokered). IsSome b.creation) (sym made.1) refl,
+    )
     more creation (Done slot) made = absurd (none_is_more slot (sym is ∙ made.0))
 
     go : (o : Option Creation) → IsSome o

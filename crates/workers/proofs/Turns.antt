@@ -1,5 +1,5 @@
 -- What lies under the lock stays well as a seat's call begins and makes its steps.
-use Rattle.std.proofs.Common.{inl, inr, ◌+◌, length-append, ◌≡◌, ◌≢◌, ℕ, ◌≤◌, ◌++◌, ◌∷◌, [], Bool, true, false, length, List, Option, Some, None, Result, Ok, Err, slice_get, refl, sym, ap, ◌∙◌, subst, arith}
+use Rattle.std.proofs.Common.{inl, inr, ◌+◌, length-append, ◌≡◌, ◌≢◌, ℕ, ◌≤◌, ◌++◌, ◌∷◌, [], true, false, length, List, Option, Some, None, Result, Ok, Err, slice_get, refl, sym, ap, ◌∙◌, subst, arith}
 use Rattle.std.proofs.lemmas.Bool.{cases_eq}
 use Rattle.std.specs.Prelude.{IfSome, slice_set}
 use Rattle.words.specs.declared.call.Call.{Call}
@@ -10,7 +10,7 @@ use Rattle.words.specs.declared.refusal.Refusal.TheVariants.{NoMemory}
 use Rattle.events.specs.declared.event.Event.{Event}
 use Rattle.events.specs.declared.event.Event.TheVariants.{Call as call_event, Return as return_event}
 use Rattle.session.specs.Promises.{IsReplyAt, IsReplyIfNumbered, KeepsNumbers}
-use Rattle.session.specs.Requests.{AreOthersAlike, IsAdvanced, IsBegunBy, answer_to, number_or_zero}
+use Rattle.session.specs.Requests.{IsAdvanced, IsBegunBy, answer_to, number_or_zero}
 use Rattle.session.specs.Sessions.{Sessioned}
 use Rattle.workers.specs.Answers.{entry_begun, entry_of}
 use Rattle.workers.specs.Creating.{IsCreationKnown}

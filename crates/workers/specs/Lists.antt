@@ -1,11 +1,11 @@
 -- A seat's list: the calls of its client, and what the histories of the queues say of them.
-use Rattle.std.specs.Prelude.{◌≡◌, ◌<◌, ◌≤◌, ℕ, suc, Bool, true, false, if◌then◌else◌, length, List, [], ◌∷◌, Option, Some, None, slice_get}
+use Rattle.std.specs.Prelude.{◌≡◌, ◌<◌, ◌≤◌, ℕ, suc, Bool, true, false, length, List, [], ◌∷◌, Option, Some, None, slice_get}
 use Rattle.words.specs.declared.call.Client.{Client}
 use Rattle.words.specs.declared.call.Reply.{Reply}
 use Rattle.events.specs.History.{BeginsAt, CallAt, CrashAt, IsEnd, ReturnAt}
 use Rattle.events.specs.declared.event.Event.{Event}
 use Rattle.interleave.specs.State.{State}
-use Rattle.named.specs.Brokers.{Brokered, is_down, world_at}
+use Rattle.named.specs.Brokers.{Brokered, world_at}
 use Rattle.session.specs.Promises.{IsReplyAt}
 use Rattle.session.specs.Requests.{number_or_zero}
 use Rattle.session.specs.Sessions.{Sessioned}

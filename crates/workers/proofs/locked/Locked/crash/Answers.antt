@@ -1,6 +1,6 @@
 use Rattle.std.proofs.Common.{ap, refl, sym, subst}
 use Rattle.named.specs.Brokers.{Brokered}
-use Rattle.workers.specs.Creating.{IsCreationKnown, creating_after_crash}
+use Rattle.workers.specs.Creating.{IsCreationKnown}
 use Rattle.workers.specs.declared.locked.Creating.{Creating}
 use Rattle.workers.proofs.Guarded.{guarded_still, known_after_crash, known_if_same}
 use Rattle.workers.proofs.Stops.{crash_refused_carried, crashed_carried}

@@ -1,7 +1,7 @@
-use Rattle.std.proofs.Common.{subst, sym, ap, ◌∙◌, None, Some, Ok}
+use Rattle.std.proofs.Common.{subst, sym, ap, ◌∙◌, Ok}
 use Rattle.workers.specs.Creating.{IsCreationKnown}
 use Rattle.workers.specs.declared.locked.Creating.{Creating}
-use Rattle.workers.specs.declared.locked.Creating.TheVariants.{Nothing, UnderWay}
+use Rattle.workers.specs.declared.locked.Creating.TheVariants.{Nothing}
 use Rattle.workers.proofs.Guarded.{guarded_still, known_after_step}
 use Rattle.workers.proofs.Stops.{creation_carried}
 use Rattle.workers.proofs.locked.Locked.create_step.Goals as goal

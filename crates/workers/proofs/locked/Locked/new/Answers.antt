@@ -1,6 +1,3 @@
-use Rattle.std.proofs.Common.{subst, sym, List}
-use Rattle.workers.specs.declared.entry.Entry.{Entry}
-use Rattle.workers.specs.Following.{IsFollowed}
 use Rattle.workers.proofs.Guarded.{rows_begun}
 use Rattle.workers.proofs.locked.Locked.new.Goals as goal
 

@@ -1,6 +1,5 @@
 use Rattle.std.proofs.Common.{refl, sym, ap, ◌∙◌, []}
 use Rattle.roll.specs.Rule.{keeper, rows_of}
-use Rattle.words.specs.declared.refusal.Refusal.TheVariants.{NoMemory}
 use Rattle.workers.proofs.Guarded.{with_rows}
 use Rattle.workers.proofs.Turns.{guarded_answered, guarded_interrupted, guarded_more, guarded_unstepped}
 use Rattle.workers.proofs.locked.Locked.step.Goals as goal
