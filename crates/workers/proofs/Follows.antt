@@ -19,8 +19,8 @@ use Rattle.session.specs.Promises.{IsReplyAt, KeepsNumbers}
 use Rattle.session.specs.Requests.{number_or_zero}
 use Rattle.session.specs.Sessions.{Sessioned}
 use Rattle.workers.specs.Answers.{entry_of}
-use Rattle.workers.specs.Following.{AreFollowed, IsFollowed, IsStopped}
-use Rattle.workers.specs.Lists.{HasEndedAs, HasNotReturned, IsCutOff, IsKeptReply, IsListOf, LastIsOf, OnlyLastIsOpen, RanAt, ends_open, events_at, events_of, is_open, with_end}
+use Rattle.workers.specs.Following.{AreFollowed, IsFollowed, AreOpenCutOff}
+use Rattle.workers.specs.Lists.{HasEndedAs, HasNoNumberZero, HasNotReturned, IsCutOff, IsKeptReply, IsListOf, LastIsOf, OnlyLastIsOpen, RanAt, ends_open, events_at, events_of, is_open, with_end}
 use Rattle.workers.specs.declared.entry.End.{End}
 use Rattle.workers.specs.declared.entry.End.TheVariants.{Answered, Interrupted, Open}
 use Rattle.workers.specs.declared.entry.Entry.{Entry}
@@ -90,6 +90,7 @@ followed_carried since client old new row carried is = record {
         list_longer (since slot) slot client (events_at old.broker slot) (events_at new.broker slot) row
         (carried.events slot) (is.recorded.ran slot);
     kept = λ k e at none. kept_stays old new client e carried.replies (is.recorded.kept k e at none);
+    numbered = is.recorded.numbered;
   };
   only_last = is.only_last;
   stopped = λ down k slot place e at ran opens. elim (carried.down down) [
@@ -122,18 +123,33 @@ by_slot P old new slot event next here others other = elim (cases_eq other slot)
 
 -- while the broker is ready nothing is stopped
 up_stops_none : (s : Sessioned) (client : Client) (row : List Entry) → is_down s.broker ≡ false
-    → IsStopped s client row
+    → AreOpenCutOff s client row
 up_stops_none s client row up down = absurd (true≢false (sym down ∙ up))
+
+-- a number from 1 on comes to the list
+numbered_push : (row : List Entry) (added : Entry) → (added.number ≡ Some 0 → ⊥) → HasNoNumberZero row
+    → HasNoNumberZero (row ++ added ∷ [])
+numbered_push row added above numbered k e at none = elim (get_push_cases row added k e at) [
+  | inl was ↦ numbered k e was none
+  | inr it ↦ above (ap (λ (z : Entry). z.number) it.1 ∙ none)
+]
+
+-- another end leaves the numbers
+numbered_with_end : (end : End) (row : List Entry) → HasNoNumberZero row → HasNoNumberZero (with_end end row)
+numbered_with_end end row numbered k e at none = elim (with_end_at end row k e at) [
+  | inl same ↦ numbered k e same.0 none
+  | inr last ↦ numbered k last.was last.at (ap (λ (z : Entry). z.number) (sym last.is) ∙ none)
+]
 
 -- a call of the client's begins
 pub followed_called : (since : ℕ → ℕ) (client : Client) (old new : Sessioned) (row : List Entry) (slot : ℕ)
     (queue : SlotId) (number : Option ℕ) (call : Call)
     → HasNext old new slot (call_event client (number_or_zero number) call)
     → since slot ≤ length (events_at old.broker slot) → ends_open row ≡ false → queue.0 ≡ slot
-    → IsFollowed since old client row
+    → (number ≡ Some 0 → ⊥) → IsFollowed since old client row
     → IsFollowed since new client
     (row ++ entry_of queue number call (Some (length (events_at old.broker slot))) Open ∷ [])
-followed_called since client old new row slot queue number call next late ended here is = record {
+followed_called since client old new row slot queue number call next late ended here above is = record {
   recorded = record {
     ran = by_slot (λ other es. IsListOf (since other) other es client (row ++ added ∷ [])) old new slot
         (call_event client (number_or_zero number) call) next
@@ -146,6 +162,7 @@ followed_called since client old new row slot queue number call next late ended 
       | inl was ↦ kept_stays old new client e next.replies (is.recorded.kept k e was none)
       | inr it ↦ absurd (cc (ap (λ (z : Entry). z.place) it.1, none))
     ];
+    numbered = numbered_push row added above is.recorded.numbered;
   };
   only_last = only_last_push row added is.only_last ended;
   stopped = up_stops_none new client (row ++ added ∷ []) next.up;
@@ -157,9 +174,9 @@ followed_called since client old new row slot queue number call next late ended 
 -- a call that was answered with the reply that was kept for its number
 pub followed_kept : (since : ℕ → ℕ) (client : Client) (s : Sessioned) (row : List Entry) (queue : SlotId) (number : ℕ)
     (call : Call) (reply : Reply) → IsReplyAt s queue.0 client number reply → ends_open row ≡ false
-    → IsFollowed since s client row
+    → (number ≡ 0 → ⊥) → IsFollowed since s client row
     → IsFollowed since s client (row ++ entry_of queue (Some number) call None (Answered reply) ∷ [])
-followed_kept since client s row queue number call reply right ended is = record {
+followed_kept since client s row queue number call reply right ended above is = record {
   recorded = record {
     ran = λ slot.
         list_elsewhere (since slot) slot client (events_at s.broker slot) row added (λ place ran. cc (ran.1))
@@ -168,6 +185,7 @@ followed_kept since client s row queue number call reply right ended is = record
       | inl was ↦ is.recorded.kept k e was none
       | inr it ↦ subst (IsKeptReply s client) it.1 kept_now
     ];
+    numbered = numbered_push row added (λ none. above (cc none)) is.recorded.numbered;
   };
   only_last = only_last_push row added is.only_last ended;
   stopped = λ down k slot place e at ran opens. elim (get_push_cases row added k e at) [
@@ -230,6 +248,7 @@ module _ (since : ℕ → ℕ) (client : Client) (old : Sessioned) (row : List E
           (histories old keeps slot) is.only_last way next.here (is.recorded.ran slot))
           (ran_elsewhere (Answered reply) slot last_of);
       kept = kept_with_end (Answered reply) new next.replies;
+      numbered = numbered_with_end (Answered reply) row is.recorded.numbered;
     };
     only_last = only_last_ended row (Answered reply) is.only_last;
     stopped = up_stops_none new client (with_end (Answered reply) row) next.up;
@@ -243,7 +262,7 @@ module _ (since : ℕ → ℕ) (client : Client) (old : Sessioned) (row : List E
       cut_off_if_lost (since slot) (events_at old.broker slot) client e place
       ((is.recorded.ran slot).right k place e at ran) (last_opens k e at last) idle
 
-  stopped_with_end : (end : End) → is_open end ≡ false → IsStopped old client (with_end end row)
+  stopped_with_end : (end : End) → is_open end ≡ false → AreOpenCutOff old client (with_end end row)
   stopped_with_end end ended down k slot place e at ran open_end = elim (with_end_at end row k e at) [
     | inl same ↦ is.stopped down k slot place e same.0 ran open_end
     | inr it ↦
@@ -265,6 +284,7 @@ module _ (since : ℕ → ℕ) (client : Client) (old : Sessioned) (row : List E
         | inr apart ↦ ran_elsewhere Interrupted slot last_of other apart
       ];
       kept = kept_with_end Interrupted old (λ at number who reply right. right);
+      numbered = numbered_with_end Interrupted row is.recorded.numbered;
     };
     only_last = only_last_ended row Interrupted is.only_last;
     stopped = stopped_with_end Interrupted refl;
@@ -301,6 +321,7 @@ followed_empty since s client ends = record {
           absurd (omega (arith, within, late, ends slot));
     };
     kept = λ k e at none. cc at;
+    numbered = λ k e at none. cc at;
   };
   only_last = λ k e at less. cc at;
   stopped = λ down k slot place e at ran opens. cc at;

@@ -1,26 +1,29 @@
 -- What lies under the lock stays well over each act.
 use Rattle.std.proofs.Common.{◌≡◌, ◌≢◌, inl, inr, ℕ, ◌≤◌, Bool, true, false, length, List, Option, Some, None, Result, Ok, Err, refl, sym, ap, ◌∙◌, subst, arith}
 use Rattle.std.proofs.lemmas.List.{length-set}
-use Rattle.std.specs.Prelude.{IfErr, IfSome, IsSome, slice_set, ◌⊎◌}
+use Rattle.std.specs.Prelude.{IfErr, IfSome, is_some, not, ◌&&◌, IsSome, slice_set, ◌⊎◌}
 use Rattle.words.specs.declared.call.Client.{Client}
 use Rattle.arena.specs.declared.broker.SlotId.{SlotId}
+use Rattle.session.specs.Keeping.{SessionGoesOn}
 use Rattle.session.specs.Promises.{KeepsNumbers}
 use Rattle.session.specs.Sessions.{Sessioned}
-use Rattle.named.specs.Brokers.{Brokered, IsStepCreated, IsWell, world_at}
+use Rattle.named.specs.Brokers.{Brokered, IsStepCreated, IsWell, is_creating, is_down, world_at}
 use Rattle.named.specs.Slots.{answered}
 use Rattle.named.proofs.Begun.{listed_open}
 use Rattle.named.proofs.Queues.{its_queue}
 use Rattle.interleave.specs.Calls.{is_no_memory}
 use Rattle.interleave.specs.State.{State, recover_result, recover_result_with}
 use Rattle.recover.specs.declared.recovery.Recovery.{Recovery}
-use Rattle.named.specs.Stopping.{IsQueueOn, IsRecoveryStep}
+use Rattle.named.specs.Stopping.{IsQueueOn, IsReadOn, IsRecoveryStep, creation_after, found_by}
 use Rattle.named.specs.declared.recovery.BrokerRecovery.{BrokerRecovery}
 use Rattle.named.specs.declared.recovery.BrokerRecovery.TheVariants.{ReadDirectory, RecoverQueue}
 use Rattle.words.specs.declared.refusal.Refusal.{Refusal}
 use Rattle.words.specs.declared.refusal.Refusal.TheVariants.{AlreadyReady, NoMemory}
-use Rattle.workers.specs.Creating.{IsCreationKnown, creating_after_crash}
+use Rattle.workers.specs.Creating.{IsCreationKnown, creating_after_crash, is_under_way}
 use Rattle.directory.specs.Creation.{successor}
+use Rattle.directory.specs.Directory.{Directory}
 use Rattle.directory.specs.declared.creation.Creation.{Creation}
+use Rattle.directory.specs.declared.recovery.DirectoryRecovery.{DirectoryRecovery}
 use Rattle.stepper.specs.declared.resume.After.{After}
 use Rattle.stepper.specs.declared.resume.After.TheVariants.{Done, More}
 use Rattle.workers.specs.Following.{AreFollowed, Guarded, IsFollowed, IsGuardedWell, beginnings}
@@ -32,44 +35,59 @@ use Rattle.workers.specs.Seats.{AreEmpty}
 use Rattle.workers.proofs.Carried.{IsCarriedFor}
 use Rattle.workers.proofs.Follows.{followed_empty, row_changed, rows_carried}
 
--- with the same rows, as the keeper knows them
-pub with_rows : (all : ℕ) (given : ℕ → ℕ) (g : Guarded) (rows : List (List Entry)) → rows ≡ g.rows
-    → IsGuardedWell all given g → IsGuardedWell all given (record g { rows = rows })
-with_rows all given g rows same well =
-    subst (λ (rs : List (List Entry)). IsGuardedWell all given (record g { rows = rs })) (sym same) well
+-- what was settled once stays so over two acts
+pub session_further : (old now new : Sessioned) → SessionGoesOn old now → SessionGoesOn now new → SessionGoesOn old new
+session_further old now new one other = record {
+  clients = λ slot client is. other.clients slot client (one.clients slot client is);
+  answers = λ slot client number reply is settled.
+      other.answers slot client number reply (one.clients slot client is)
+      (one.answers slot client number reply is settled);
+}
 
-module _ (all : ℕ) (given : ℕ → ℕ) (old : Guarded) (well : IsGuardedWell all given old) where
+-- and over none
+pub session_stays : (s : Sessioned) → SessionGoesOn s s
+session_stays s = record { clients = λ slot client is. is; answers = λ slot client number reply is settled. settled }
+
+-- with the same rows, as the keeper knows them
+pub with_rows : (all : ℕ) (first : Sessioned) (g : Guarded) (rows : List (List Entry)) → rows ≡ g.rows
+    → IsGuardedWell all first g → IsGuardedWell all first (record g { rows = rows })
+with_rows all first g rows same well =
+    subst (λ (rs : List (List Entry)). IsGuardedWell all first (record g { rows = rs })) (sym same) well
+
+module _ (all : ℕ) (first : Sessioned) (old : Guarded) (well : IsGuardedWell all first old) where
   -- an act of no seat
   pub guarded_still : (new : Sessioned) (creating : Creating) → ((u : Client) → IsCarriedFor u old.session new)
-      → KeepsNumbers new → IsCreationKnown new.broker creating
-      → IsGuardedWell all given (record { session = new; rows = old.rows; creating = creating; rotated = old.rotated })
-  guarded_still new creating carried keeps known = record {
+      → KeepsNumbers new → SessionGoesOn old.session new → IsCreationKnown new.broker creating
+      → IsGuardedWell all first (record { session = new; rows = old.rows; creating = creating; rotated = old.rotated })
+  guarded_still new creating carried keeps goes_on known = record {
     clients = well.clients;
     followed =
-        rows_carried (beginnings given old.rotated) old.session new old.rows (λ t. carried (record { 0 = t }))
+        rows_carried (beginnings first old.rotated) old.session new old.rows (λ t. carried (record { 0 = t }))
         well.followed;
     promises = keeps;
     creation = known;
+    goes_on = session_further first old.session new well.goes_on goes_on;
   }
 
   -- an act of the seat at t, whose row changes with it
   pub guarded_of : (new : Sessioned) (t : ℕ) (row : List Entry)
-      → ((slot : ℕ) → beginnings given old.rotated slot ≤ length (events_at new.broker slot))
+      → ((slot : ℕ) → beginnings first old.rotated slot ≤ length (events_at new.broker slot))
       → ((u : ℕ) → u ≢ t → IsCarriedFor (record { 0 = u }) old.session new)
-      → IsFollowed (beginnings given old.rotated) new (record { 0 = t }) row
-      → KeepsNumbers new → IsCreationKnown new.broker old.creating
-      → IsGuardedWell all given (record {
+      → IsFollowed (beginnings first old.rotated) new (record { 0 = t }) row
+      → KeepsNumbers new → SessionGoesOn old.session new → IsCreationKnown new.broker old.creating
+      → IsGuardedWell all first (record {
         session = new;
         rows = slice_set old.rows t row;
         creating = old.creating;
         rotated = old.rotated;
       })
-  guarded_of new t row begun carried its keeps known = record {
+  guarded_of new t row begun carried its keeps goes_on known = record {
     clients = length-set old.rows t row ∙ well.clients;
     followed =
-        row_changed (beginnings given old.rotated) old.session new old.rows t row begun carried its well.followed;
+        row_changed (beginnings first old.rotated) old.session new old.rows t row begun carried its well.followed;
     promises = keeps;
     creation = known;
+    goes_on = session_further first old.session new well.goes_on goes_on;
   }
 
 -- rows that have no calls yet, since histories of these lengths
@@ -83,53 +101,153 @@ rows_begun since s rows lengths empty = record {
       (followed_empty since s (record { 0 = t }) lengths);
 }
 
--- a creation that threads know of is not under way while the broker recovers
-pub known_after_recovery : (old new : Brokered) (result : Result Bool Refusal) (creating : Creating)
-    → IsRecoveryStep old new result old.recovery → IsCreationKnown old creating → IsCreationKnown new creating
-known_after_recovery old new result Nothing step known = tt
-known_after_recovery old new result Interrupted step known = tt
-known_after_recovery old new result UnderWay step known =
-    let same : new ≡ old =
-    (subst (λ (o : Option BrokerRecovery). IsRecoveryStep old new result o) known.0 step).1 in
-    (ap (λ (b : Brokered). b.recovery) same ∙ known.0, subst (λ (b : Brokered). IsSome b.creation) (sym same) known.1)
+-- whether a creation is under way, by the recovery and the creation that a broker has
+creating_by : (b : Brokered) (recovery : Option BrokerRecovery) (creation : Option Creation) → b.recovery ≡ recovery
+    → b.creation ≡ creation → is_creating b ≡ (not (is_some recovery) && is_some creation)
+creating_by b recovery creation up some =
+    ap (λ (o : Option BrokerRecovery). not (is_some o) && is_some b.creation) up
+    ∙ ap (λ (o : Option Creation). not (is_some recovery) && is_some o) some
 
--- nor after a crash; one that is refused leaves it
-pub known_after_crash : (b : Brokered) (creating : Creating) → IsCreationKnown b (creating_after_crash creating)
-known_after_crash b Nothing = tt
-known_after_crash b UnderWay = tt
-known_after_crash b Interrupted = tt
-
+-- it stays as it is known where both stay
 pub known_if_same : (old new : Brokered) (creating : Creating) → new.recovery ≡ old.recovery
     → new.creation ≡ old.creation → IsCreationKnown old creating → IsCreationKnown new creating
-known_if_same old new Nothing recovery creation known = tt
-known_if_same old new Interrupted recovery creation known = tt
-known_if_same old new UnderWay recovery creation known =
-    (recovery ∙ known.0, subst (λ (o : Option Creation). IsSome o) (sym creation) known.1)
+known_if_same old new creating recovery creation known = creating_by new old.recovery old.creation recovery creation ∙ known
+
+-- one that began is under way
+pub known_if_begun : (b : Brokered) → b.recovery ≡ None → IsSome b.creation → IsCreationKnown b UnderWay
+known_if_begun b up some =
+    ap (λ (o : Option BrokerRecovery). not (is_some o) && is_some b.creation) up ∙ some
+
+-- none is under way while the broker is down, or where it has none
+pub known_if_down : (b : Brokered) (creating : Creating) → is_down b ≡ true → is_under_way creating ≡ false
+    → IsCreationKnown b creating
+known_if_down b creating down none = ap (λ (d : Bool). not d && is_some b.creation) down ∙ sym none
+
+false_last : (x : Bool) → (x && false) ≡ false
+false_last true = refl
+false_last false = refl
+
+pub known_if_none : (b : Brokered) → b.creation ≡ None → IsCreationKnown b Nothing
+known_if_none b none =
+    ap (λ (o : Option Creation). not (is_down b) && is_some o) none ∙ false_last (not (is_down b))
+
+-- after a crash none is
+pub known_after_crash : (b : Brokered) (creating : Creating) → is_down b ≡ true
+    → IsCreationKnown b (creating_after_crash creating)
+known_after_crash b creating down = known_if_down b (creating_after_crash creating) down (ended creating)
+  where
+    ended : (c : Creating) → is_under_way (creating_after_crash c) ≡ false
+    ended Nothing = refl
+    ended UnderWay = refl
+    ended Interrupted = refl
+
+-- one that its caller steps: the broker is ready, and has it
+pub under_way_is : (b : Brokered) → IsCreationKnown b UnderWay → (b.recovery ≡ None) × IsSome b.creation
+under_way_is b known = go b.recovery b.creation refl refl (sym (creating_by b b.recovery b.creation refl refl) ∙ known)
+  where
+    go : (recovery : Option BrokerRecovery) (creation : Option Creation) → b.recovery ≡ recovery → b.creation ≡ creation
+        → (not (is_some recovery) && is_some creation) ≡ true → (b.recovery ≡ None) × IsSome b.creation
+    go None None up some is = absurd (cc (is))
+    go None (Some creation) up some is = (up, subst (λ (o : Option Creation). IsSome o) (sym some) refl)
+    go (Some recovery) creation up some is = absurd (cc (is))
 
 none_is_more : (slot : SlotId) → (let r : Result (Option SlotId) Refusal = Ok None in r) ≡ Ok (Some slot) → ⊥
 none_is_more slot e = absurd (cc (e))
 
--- a step that is not the last one leaves it under way
-pub known_after_step : (old new : Brokered) (result : Result (Option SlotId) Refusal) → result ≡ Ok None
-    → IsCreationKnown old UnderWay
-    → (old.recovery ≡ None → IfSome old.creation
-    (λ creation. IsStepCreated old new creation result (successor creation)))
-    → IsCreationKnown new UnderWay
-known_after_step old new result is known step = go old.creation known.1 (step known.0)
-  where
-    more : (creation : Creation) (after : After Creation SlotId) → IsStepCreated old new creation result after
-        → IsCreationKnown new UnderWay
-    more creation (More next) made = (
-      ap (λ (b : Brokered). b.recovery) made.1 ∙ known.0,
-      subst (λ (b : Brokered). IsSome b.creation) (sym made.1) refl,
-    )
-    more creation (Done slot) made = absurd (none_is_more slot (sym is ∙ made.0))
+-- a step that is not the last one leaves it under way, and the last one opens its slot
+module _ (old new : Brokered) (known : IsCreationKnown old UnderWay) where
+  abbrev Steps : Result (Option SlotId) Refusal → Type 0
+  Steps result =
+      old.recovery ≡ None
+      → IfSome old.creation (λ creation. IsStepCreated old new creation result (successor creation))
 
-    go : (o : Option Creation) → IsSome o
-        → IfSome o (λ creation. IsStepCreated old new creation result (successor creation))
-        → IsCreationKnown new UnderWay
-    go None some made = absurd (cc (some))
-    go (Some creation) some made = more creation (successor creation) made
+  by_creation : {P : Type 0} (result : Result (Option SlotId) Refusal) → Steps result
+      → ((creation : Creation) → IsStepCreated old new creation result (successor creation) → P) → P
+  by_creation {P} result step how =
+      let is = under_way_is old known in go old.creation is.1 (step is.0)
+    where
+      go : (o : Option Creation) → IsSome o
+          → IfSome o (λ creation. IsStepCreated old new creation result (successor creation)) → P
+      go None some made = absurd (cc (some))
+      go (Some creation) some made = how creation made
+
+  pub known_after_step : (result : Result (Option SlotId) Refusal) → result ≡ Ok None → Steps result
+      → IsCreationKnown new UnderWay
+  known_after_step result is step = by_creation result step (λ creation made. more creation (successor creation) made)
+    where
+      more : (creation : Creation) (after : After Creation SlotId) → IsStepCreated old new creation result after
+          → IsCreationKnown new UnderWay
+      more creation (More next) made =
+          known_if_begun new (ap (λ (b : Brokered). b.recovery) made.1 ∙ (under_way_is old known).0)
+          (subst (λ (b : Brokered). IsSome b.creation) (sym made.1) refl)
+      more creation (Done slot) made = absurd (none_is_more slot (sym is ∙ made.0))
+
+  pub known_after_last : (result : Result (Option SlotId) Refusal) (slot : SlotId) → result ≡ Ok (Some slot)
+      → Steps result → IsCreationKnown new Nothing × IsSome (world_at new slot.0)
+  known_after_last result slot is step = by_creation result step (λ creation made. last creation (successor creation) made)
+    where
+      last : (creation : Creation) (after : After Creation SlotId) → IsStepCreated old new creation result after
+          → IsCreationKnown new Nothing × IsSome (world_at new slot.0)
+      last creation (More next) made = absurd (none_is_more slot (sym made.0 ∙ is))
+      last creation (Done other) made =
+          let same : other ≡ slot = cc (sym made.0 ∙ is) in (
+            known_if_none new made.1.ended,
+            subst (λ (s : SlotId). IsSome (world_at new s.0)) same
+                (subst (λ (o : Option State). IsSome o) (sym made.1.world) refl),
+          )
+
+  -- none is refused
+  pub step_is_made : (result : Result (Option SlotId) Refusal) (refusal : Refusal) → result ≡ Err refusal → Steps result
+      → ⊥
+  step_is_made result refusal is step = by_creation result step (λ creation made. none creation (successor creation) made)
+    where
+      none : (creation : Creation) (after : After Creation SlotId) → IsStepCreated old new creation result after → ⊥
+      none creation (More next) made = absurd (cc (sym is ∙ made.0))
+      none creation (Done slot) made = absurd (cc (sym is ∙ made.0))
+
+-- a step of recovery leaves none under way, as there was none
+pub known_after_recovery : (old new : Brokered) (result : Result Bool Refusal) (creating : Creating)
+    → IsRecoveryStep old new result old.recovery → IsCreationKnown old creating → IsCreationKnown new creating
+known_after_recovery old new result creating step known = go old.recovery refl step
+  where
+    was_none : (r : BrokerRecovery) → old.recovery ≡ Some r → is_under_way creating ≡ false
+    was_none r e =
+        sym known ∙ ap (λ (o : Option BrokerRecovery). not (is_some o) && is_some old.creation) e
+
+    -- once the broker is ready the creation is gone
+    done : (o : Option BrokerRecovery) → new.recovery ≡ o → new.creation ≡ creation_after old.creation o
+        → is_under_way creating ≡ false → IsCreationKnown new creating
+    done None e gone none = known_if_none new gone ∙ sym none
+    done (Some r) e gone none =
+        known_if_down new creating (ap (λ (o : Option BrokerRecovery). is_some o) e) none
+
+    still : (r : BrokerRecovery) → old.recovery ≡ Some r → new.recovery ≡ old.recovery → IsCreationKnown new creating
+    still r e same =
+        known_if_down new creating (ap (λ (o : Option BrokerRecovery). is_some o) (same ∙ e)) (was_none r e)
+
+    ended : (r : BrokerRecovery) → old.recovery ≡ Some r → new.creation ≡ creation_after old.creation new.recovery
+        → IsCreationKnown new creating
+    ended r e gone = done new.recovery refl gone (was_none r e)
+
+    read_on : (r : BrokerRecovery) → old.recovery ≡ Some r → (a : After DirectoryRecovery Directory)
+        → IsReadOn old new a → IsCreationKnown new creating
+    read_on r e (More next) on =
+        known_if_down new creating (ap (λ (o : Option BrokerRecovery). is_some o) on.0) (was_none r e)
+    read_on r e (Done places) on = ended r e on.2
+
+    queue_on : (r : BrokerRecovery) → old.recovery ≡ Some r → (slot : ℕ) (answer : Result Bool Refusal)
+        → IsQueueOn old new slot result answer → IsCreationKnown new creating
+    queue_on r e slot (Err refusal) on = still r e on.1
+    queue_on r e slot (Ok false) on = still r e on.1
+    queue_on r e slot (Ok true) on = ended r e on.2
+
+    go : (o : Option BrokerRecovery) → old.recovery ≡ o → IsRecoveryStep old new result o
+        → IsCreationKnown new creating
+    go None e same = subst (λ (b : Brokered). IsCreationKnown b creating) (sym same.1) known
+    go (Some (ReadDirectory at)) e read =
+        read_on (ReadDirectory at) e (found_by old at).after read.next
+    go (Some (RecoverQueue slot)) e recovered =
+        queue_on (RecoverQueue slot) e slot.0 _ recovered.next
 
 -- a step of recovery is refused where there is none, or for want of memory
 abbrev IsRecoveryError : Refusal → Type 0

@@ -1,12 +1,12 @@
 -- Seats that are given in the order of their clients, and handed back from the last on.
-use Rattle.std.proofs.Common.{◌≡◌, ◌⊎◌, ℕ, ◌+◌, List, [], ◌∷◌, ◌++◌, Some, slice_get, sym, ap, ◌∙◌, inl, inr}
+use Rattle.std.proofs.Common.{length, ◌≤◌, ◌≡◌, ◌⊎◌, ℕ, ◌+◌, List, [], ◌∷◌, ◌++◌, Some, slice_get, sym, ap, ◌∙◌, inl, inr}
 use Rattle.std.proofs.Common.{⊎_elim, length-append, subst}
 use Rattle.words.specs.declared.call.Client.{Client}
 use Rattle.events.proofs.Lists.{get_push_cases}
 use Rattle.session.specs.Sessions.{Sessioned}
 use Rattle.workers.specs.Following.{Guarded, IsGuardedWell, beginnings}
-use Rattle.workers.specs.Lists.{IsRecorded}
-use Rattle.workers.specs.Seats.{AreAccountedFor, AreAllInOrder, AreEmpty}
+use Rattle.workers.specs.Lists.{IsRecorded, events_at}
+use Rattle.workers.specs.Seats.{AreSeatsRecorded, AreAllInOrder, AreEmpty}
 use Rattle.workers.specs.declared.entry.Entry.{Entry}
 
 -- of all seats these are left, and each of the others has its list among the rows
@@ -66,13 +66,15 @@ rows_from_none_left {S} list rows seats now left none k seat at =
     gone stood = cc
 
 -- what lies under the lock says of each row what the histories have
-pub accounted_by_rows : {S : Type 0} (list : S → List Entry) (clients : ℕ) (given : ℕ → ℕ) (g : Guarded) (s : Sessioned)
-    (seats : List S) → s ≡ g.session → IsGuardedWell clients given g
+pub accounted_by_rows : {S : Type 0} (list : S → List Entry) (clients : ℕ) (first : Sessioned) (g : Guarded) (s : Sessioned)
+    (seats : List S) → s ≡ g.session → IsGuardedWell clients first g
     → ((k : ℕ) (seat : S) → slice_get seats k ≡ Some seat → slice_get g.rows k ≡ Some (list seat))
-    → AreAccountedFor list given seats s
-accounted_by_rows list clients given g s seats is well each = record {
+    → AreSeatsRecorded list first seats s
+accounted_by_rows list clients first g s seats is well each = record {
+  begun = subst (λ (t : Sessioned). (slot : ℕ) → beginnings first g.rotated slot ≤ length (events_at t.broker slot)) (sym is)
+      well.followed.begun;
   rotated = g.rotated;
   each = λ k seat at.
-      subst (λ (t : Sessioned). IsRecorded (beginnings given g.rotated) t (client_of k) (list seat)) (sym is)
+      subst (λ (t : Sessioned). IsRecorded (beginnings first g.rotated) t (client_of k) (list seat)) (sym is)
       (well.followed.each k (list seat) (each k seat at)).recorded;
 }

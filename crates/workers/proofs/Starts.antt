@@ -8,7 +8,7 @@ use Rattle.words.specs.declared.call.Kind.{Kind}
 use Rattle.words.specs.declared.call.Kind.TheVariants.{Durable as durable_kind, Log as log_kind}
 use Rattle.words.specs.declared.call.Reply.{Reply}
 use Rattle.words.specs.declared.refusal.Refusal.{Refusal}
-use Rattle.words.specs.declared.refusal.Refusal.TheVariants.{Busy, NoMemory, NoRoom, StaleNumber, WrongKind}
+use Rattle.words.specs.declared.refusal.Refusal.TheVariants.{Busy, NoMemory, NoRoom, Old, StaleNumber, WrongKind}
 use Rattle.logqueue.specs.Numbers.{is_stale}
 use Rattle.events.specs.declared.event.Event.{Event}
 use Rattle.events.specs.declared.event.Event.TheVariants.{Call as call_event}
@@ -26,9 +26,10 @@ use Rattle.interleave.proofs.EveryAct.{act_adds_one}
 use Rattle.named.specs.Brokers.{Brokered, admission, answer_if, world_at}
 use Rattle.named.proofs.Kept.{some_is}
 use Rattle.session.specs.Promises.{KeepsNumbers}
+use Rattle.session.specs.Numbers.{by_number}
 use Rattle.session.specs.Requests.{IsBegunBy, IsStarted, answer_to, as_begun, is_kind, number_or_zero, queue_admission}
 use Rattle.session.specs.Requests.{request_admission}
-use Rattle.session.specs.Sessions.{Sessioned}
+use Rattle.session.specs.Sessions.{Sessioned, kept_at}
 use Rattle.session.proofs.Calling.{IsAnsweredAt, answered_at}
 use Rattle.session.proofs.Opens.{open_after, open_answer}
 use Rattle.session.proofs.Worlds.{holds_there}
@@ -245,3 +246,29 @@ begun_kept old new slot client number call reply begun =
     has_number : (o : Option ℕ) → answer_to old slot client o ≡ Ok (Some reply) → (n : ℕ) × (o ≡ Some n)
     has_number (Some n) e = (n, refl)
     has_number None e = absurd (plain (request_admission durable_kind old.broker slot client) e)
+
+-- a request with the number 0 is Old: it neither runs nor is answered
+pub never_zero : (old new : Sessioned) (slot : ℕ) (client : Client) (number : Option ℕ) (call : Call)
+    (began : Option Reply)
+    → IsBegunBy old new slot client (number_or_zero number) call (Ok began) (answer_to old slot client number)
+    → number ≡ Some 0 → ⊥
+never_zero old new slot client number call began begun none =
+    old_one (request_admission log_kind old.broker slot client)
+    (subst
+    (λ (n : Option ℕ).
+    IsBegunBy old new slot client (number_or_zero number) call (Ok began) (answer_to old slot client n)) none begun)
+  where
+    refused : (r : Result (Option Reply) Refusal) (refusal : Refusal) → r ≡ Err refusal
+        → IsBegunBy old new slot client (number_or_zero number) call (Ok began) r → ⊥
+    refused r refusal is made =
+        let it =
+        (subst
+        (λ (x : Result (Option Reply) Refusal).
+        IsBegunBy old new slot client (number_or_zero number) call (Ok began) x) is made).0 in
+        cc it
+
+    old_one : (r : Result Unit Refusal)
+        → IsBegunBy old new slot client (number_or_zero number) call (Ok began)
+        (answer_if r (by_number (kept_at old slot client) 0)) → ⊥
+    old_one (Ok u) made = refused (Err Old) Old refl made
+    old_one (Err refusal) made = refused (Err refusal) refusal refl made

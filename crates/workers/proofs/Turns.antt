@@ -9,6 +9,7 @@ use Rattle.words.specs.declared.refusal.Refusal.{Refusal}
 use Rattle.words.specs.declared.refusal.Refusal.TheVariants.{NoMemory}
 use Rattle.events.specs.declared.event.Event.{Event}
 use Rattle.events.specs.declared.event.Event.TheVariants.{Call as call_event, Return as return_event}
+use Rattle.session.specs.Keeping.{SessionGoesOn}
 use Rattle.session.specs.Promises.{IsReplyAt, IsReplyIfNumbered, KeepsNumbers}
 use Rattle.session.specs.Requests.{IsAdvanced, IsBegunBy, answer_to, number_or_zero}
 use Rattle.session.specs.Sessions.{Sessioned}
@@ -22,7 +23,7 @@ use Rattle.workers.specs.declared.entry.Request.{Request}
 use Rattle.workers.proofs.Carried.{HasNext, IsCarriedFor, IsNotOf}
 use Rattle.workers.proofs.Follows.{followed_answered, followed_called, followed_carried, followed_interrupted, followed_kept, next_carried, same_carried, still_grows}
 use Rattle.workers.proofs.Guarded.{guarded_of, guarded_still, known_if_same}
-use Rattle.workers.proofs.Starts.{begun_kept, begun_refused, begun_run}
+use Rattle.workers.proofs.Starts.{begun_kept, begun_refused, begun_run, never_zero}
 use Rattle.workers.proofs.Steps.{advanced_answered, advanced_lost, advanced_more, advanced_refused}
 
 -- another client than the one at t
@@ -41,30 +42,30 @@ begun_beside old new slot client number call result (Ok None) begun =
     (begun.0.others.recovery, begun.0.others.creation)
 
 -- a start that is refused, and a step that is, or that does not answer, leave the lists
-module _ (all : ℕ) (given : ℕ → ℕ) (old : Guarded) (well : IsGuardedWell all given old) (new : Sessioned)
-    (keeps : KeepsNumbers new) (slot : ℕ) (client : Client) where
+module _ (all : ℕ) (first : Sessioned) (old : Guarded) (well : IsGuardedWell all first old) (new : Sessioned)
+    (keeps : KeepsNumbers new) (goes_on : SessionGoesOn old.session new) (slot : ℕ) (client : Client) where
   abbrev as_it_was : Guarded
   as_it_was = record { session = new; rows = old.rows; creating = old.creating; rotated = old.rotated }
 
   pub guarded_unbegun : (number : ℕ) (call : Call) (refusal : Refusal) (answer : Result (Option Reply) Refusal)
-      → IsBegunBy old.session new slot client number call (Err refusal) answer → IsGuardedWell all given as_it_was
+      → IsBegunBy old.session new slot client number call (Err refusal) answer → IsGuardedWell all first as_it_was
   guarded_unbegun number call refusal answer begun =
       let beside = begun_beside old.session new slot client number call (Err refusal) answer begun in
-      guarded_still all given old well new old.creating
-      (λ u. begun_refused old.session new slot client number call refusal answer well.promises begun u) keeps
+      guarded_still all first old well new old.creating
+      (λ u. begun_refused old.session new slot client number call refusal answer well.promises begun u) keeps goes_on
       (known_if_same old.session.broker new.broker old.creating beside.0 beside.1 well.creation)
 
   stepped_still : (result : Result (Option Reply) Refusal) → IsAdvanced old.session.broker new.broker slot client result
-      → ((u : Client) → IsCarriedFor u old.session new) → IsGuardedWell all given as_it_was
+      → ((u : Client) → IsCarriedFor u old.session new) → IsGuardedWell all first as_it_was
   stepped_still result made carried =
-      guarded_still all given old well new old.creating carried keeps
+      guarded_still all first old well new old.creating carried keeps goes_on
       (known_if_same old.session.broker new.broker old.creating made.others.recovery made.others.creation well.creation)
 
-  pub guarded_more : IsAdvanced old.session.broker new.broker slot client (Ok None) → IsGuardedWell all given as_it_was
+  pub guarded_more : IsAdvanced old.session.broker new.broker slot client (Ok None) → IsGuardedWell all first as_it_was
   guarded_more made = stepped_still (Ok None) made (advanced_more old.session new slot client well.promises made)
 
   pub guarded_unstepped : (refusal : Refusal) → IsAdvanced old.session.broker new.broker slot client (Err refusal)
-      → IsGuardedWell all given as_it_was
+      → IsGuardedWell all first as_it_was
   guarded_unstepped refusal made =
       stepped_still (Err refusal) made (advanced_refused old.session new slot client well.promises refusal made)
 
@@ -98,11 +99,11 @@ next_begun since old new slot event next begun other = elim (cases_eq other slot
       subst (λ (es : List Event). since other ≤ length es) (sym (next.others other apart)) (begun other)
 ]
 
-module _ (all : ℕ) (given : ℕ → ℕ) (old : Guarded) (well : IsGuardedWell all given old) (new : Sessioned)
-    (keeps : KeepsNumbers new) (client : Client) (list : List Entry)
+module _ (all : ℕ) (first : Sessioned) (old : Guarded) (well : IsGuardedWell all first old) (new : Sessioned)
+    (keeps : KeepsNumbers new) (goes_on : SessionGoesOn old.session new) (client : Client) (list : List Entry)
     (at : slice_get old.rows client.0 ≡ Some list) where
   abbrev since : ℕ → ℕ
-  since = beginnings given old.rotated
+  since = beginnings first old.rotated
 
   abbrev with_row : List Entry → Guarded
   with_row row = record {
@@ -118,11 +119,11 @@ module _ (all : ℕ) (given : ℕ → ℕ) (old : Guarded) (well : IsGuardedWell
   -- an event of the client came, and its row fits the longer history
   guarded_by_event : (slot : ℕ) (event : Event) → ((other : Client) → other ≢ client → IsNotOf other event)
       → HasNext old.session new slot event → (row : List Entry) → IsFollowed since new client row
-      → IsCreationKnown new.broker old.creating → IsGuardedWell all given (with_row row)
+      → IsCreationKnown new.broker old.creating → IsGuardedWell all first (with_row row)
   guarded_by_event slot event of next row its known =
-      guarded_of all given old well new client.0 row
+      guarded_of all first old well new client.0 row
       (next_begun since old.session new slot event next well.followed.begun)
-      (others_carried old.session new slot event client of next) its keeps known
+      (others_carried old.session new slot event client of next) its keeps goes_on known
 
   -- a call begins
   module _ (r : Request) (next : ℕ) (ended : ends_open list ≡ false)
@@ -139,7 +140,7 @@ module _ (all : ℕ) (given : ℕ → ℕ) (old : Guarded) (well : IsGuardedWell
         (answer_to old.session r.queue.0 client r.number) begun in
         known_if_same old.session.broker new.broker old.creating beside.0 beside.1 well.creation
 
-    begun_by_run : Begun (Ok None) → IsGuardedWell all given (with_row (list ++ entry_begun r next None ∷ []))
+    begun_by_run : Begun (Ok None) → IsGuardedWell all first (with_row (list ++ entry_begun r next None ∷ []))
     begun_by_run begun =
         let came = begun_run old.session new r.queue.0 client r.number r.call well.promises begun in
         guarded_by_event r.queue.0 (call_event client (number_or_zero r.number) r.call) (λ other apart same. apart (sym same)) came
@@ -148,11 +149,12 @@ module _ (all : ℕ) (given : ℕ → ℕ) (old : Guarded) (well : IsGuardedWell
         (λ (n : ℕ). IsFollowed since new client (list ++ entry_of r.queue r.number r.call (Some n) Open ∷ []))
         (sym next_is)
         (followed_called since client old.session new list r.queue.0 r.queue r.number r.call came
-        (well.followed.begun r.queue.0) ended refl was_followed))
+        (well.followed.begun r.queue.0) ended refl
+        (never_zero old.session new r.queue.0 client r.number r.call None begun) was_followed))
         (known_begun (Ok None) begun)
 
     begun_by_kept : (reply : Reply) → Begun (Ok (Some reply)) → IsReplyIfNumbered new r.queue.0 client r.number reply
-        → IsGuardedWell all given (with_row (list ++ entry_begun r next (Some reply) ∷ []))
+        → IsGuardedWell all first (with_row (list ++ entry_begun r next (Some reply) ∷ []))
     begun_by_kept reply begun right =
         let kept = begun_kept old.session new r.queue.0 client r.number r.call reply begun in
         let number = kept.1.0 in
@@ -161,7 +163,7 @@ module _ (all : ℕ) (given : ℕ → ℕ) (old : Guarded) (well : IsGuardedWell
         subst (λ (s : Sessioned). IsFollowed since s client list) (sym kept.0) was_followed in
         let right_of : IsReplyAt new r.queue.0 client number reply =
         subst (λ (n : Option ℕ). IsReplyIfNumbered new r.queue.0 client n reply) is right in
-        guarded_of all given old well new client.0 (list ++ entry_begun r next (Some reply) ∷ [])
+        guarded_of all first old well new client.0 (list ++ entry_begun r next (Some reply) ∷ [])
         (subst (λ (s : Sessioned). (slot : ℕ) → since slot ≤ length (events_at s.broker slot)) (sym kept.0)
         well.followed.begun)
         (λ u apart.
@@ -169,12 +171,15 @@ module _ (all : ℕ) (given : ℕ → ℕ) (old : Guarded) (well : IsGuardedWell
         (same_carried (record { 0 = u }) old.session))
         (subst
         (λ (n : Option ℕ). IsFollowed since new client (list ++ entry_of r.queue n r.call None (Answered reply) ∷ []))
-        (sym is) (followed_kept since client new list r.queue number r.call reply right_of ended its))
-        keeps (known_begun (Ok (Some reply)) begun)
+        (sym is) (followed_kept since client new list r.queue number r.call reply right_of ended
+        (λ none.
+        never_zero old.session new r.queue.0 client r.number r.call (Some reply) begun
+        (is ∙ ap (λ (n : ℕ). Some n) none)) its))
+        keeps goes_on (known_begun (Ok (Some reply)) begun)
 
     pub guarded_begun : (began : Option Reply) → Begun (Ok began)
         → IfSome began (IsReplyIfNumbered new r.queue.0 client r.number)
-        → IsGuardedWell all given (with_row (list ++ entry_begun r next began ∷ []))
+        → IsGuardedWell all first (with_row (list ++ entry_begun r next began ∷ []))
     guarded_begun None begun right = begun_by_run begun
     guarded_begun (Some reply) begun right = begun_by_kept reply begun right
 
@@ -188,7 +193,7 @@ module _ (all : ℕ) (given : ℕ → ℕ) (old : Guarded) (well : IsGuardedWell
 
     pub guarded_answered : (reply : Reply)
         → IsAdvanced old.session.broker new.broker slot client (Ok (Some reply))
-        → IsGuardedWell all given (with_row (with_end (Answered reply) list))
+        → IsGuardedWell all first (with_row (with_end (Answered reply) list))
     guarded_answered reply made =
         let came = advanced_answered old.session new slot client well.promises reply made in
         guarded_by_event slot (return_event client reply) (λ other apart same. apart (sym same)) came.0
@@ -200,13 +205,13 @@ module _ (all : ℕ) (given : ℕ → ℕ) (old : Guarded) (well : IsGuardedWell
     -- a crash ended it: the step was refused, and not for want of memory
     pub guarded_interrupted : (refusal : Refusal) → refusal ≢ NoMemory
         → IsAdvanced old.session.broker new.broker slot client (Err refusal)
-        → IsGuardedWell all given (with_row (with_end Interrupted list))
+        → IsGuardedWell all first (with_row (with_end Interrupted list))
     guarded_interrupted refusal other made =
         let carried = advanced_refused old.session new slot client well.promises refusal made in
         let lost = advanced_lost old.session new slot client well.promises refusal made other in
-        guarded_of all given old well new client.0 (with_end Interrupted list)
+        guarded_of all first old well new client.0 (with_end Interrupted list)
         (still_begun since old.session new client (carried client) well.followed.begun)
         (λ u apart. carried (record { 0 = u }))
         (followed_interrupted since client new list slot lost.1 opens last
         (followed_carried since client old.session new list (carried client) was_followed))
-        keeps (known_advanced (Err refusal) made)
+        keeps goes_on (known_advanced (Err refusal) made)

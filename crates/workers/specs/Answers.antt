@@ -1,5 +1,5 @@
 -- What a call leaves in its seat's list.
-use Rattle.std.specs.Prelude.{◌≡◌, ◌++◌, ℕ, List, [], ◌∷◌, Option, Some, None, Result, Ok, Err}
+use Rattle.std.specs.Prelude.{◌≡◌, ◌++◌, IsSome, ℕ, List, [], ◌∷◌, Option, Some, None, Result, Ok, Err}
 use Rattle.words.specs.declared.call.Call.{Call}
 use Rattle.words.specs.declared.call.Reply.{Reply}
 use Rattle.words.specs.declared.refusal.Refusal.{Refusal}
@@ -29,10 +29,17 @@ abbrev pub entry_begun : Request → ℕ → Option Reply → Entry
 entry_begun r next (Some reply) = entry_of r.queue r.number r.call None (Answered reply)
 entry_begun r next None = entry_of r.queue r.number r.call (Some next) Open
 
+-- a call that is not answered ran
+abbrev pub RanIfOpen : End → Option ℕ → Type 0
+RanIfOpen (Answered reply) place = Unit {0}
+RanIfOpen Interrupted place = IsSome place
+RanIfOpen Open place = IsSome place
+
 -- the list has one entry more, of this call
 pub record HasOneMore (old : List Entry) (queue : SlotId) (number : Option ℕ) (call : Call) (end : End)
     (new : List Entry) : Type 0 where
   pub place : Option ℕ
+  pub ran : RanIfOpen end place
   pub is : new ≡ old ++ entry_of queue number call place end ∷ []
 
 -- exactly one entry more, with what was asked for and what is answered; or none, where it is refused
@@ -57,7 +64,7 @@ IsListAfter old took_interrupted new = new ≡ with_end Interrupted old
 IsListAfter old took_no_memory new = new ≡ old
 
 -- the list has one entry more, of an open call that ran from some place
-pub record IsUnderWay (old : List Entry) (r : Request) (new : List Entry) : Type 0 where
+pub record IsAddedOpen (old : List Entry) (r : Request) (new : List Entry) : Type 0 where
   pub place : ℕ
   pub is : new ≡ old ++ entry_of r.queue r.number r.call (Some place) Open ∷ []
 
@@ -66,4 +73,4 @@ abbrev pub IsListBegun : List Entry → Request → Result (Option Reply) Refusa
 IsListBegun old r (Err refusal) new = new ≡ old
 IsListBegun old r (Ok (Some reply)) new =
     new ≡ old ++ entry_of r.queue r.number r.call None (Answered reply) ∷ []
-IsListBegun old r (Ok None) new = IsUnderWay old r new
+IsListBegun old r (Ok None) new = IsAddedOpen old r new

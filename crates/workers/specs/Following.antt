@@ -2,6 +2,7 @@
 use Rattle.std.specs.Prelude.{◌≡◌, ◌≤◌, ℕ, Bool, true, false, length, List, Some, slice_get}
 use Rattle.words.specs.declared.call.Client.{Client}
 use Rattle.named.specs.Brokers.{is_down}
+use Rattle.session.specs.Keeping.{SessionGoesOn}
 use Rattle.session.specs.Promises.{KeepsNumbers}
 use Rattle.session.specs.Sessions.{Sessioned}
 use Rattle.workers.specs.Creating.{IsCreationKnown}
@@ -11,20 +12,20 @@ use Rattle.workers.specs.declared.entry.Entry.{Entry}
 use Rattle.workers.specs.declared.locked.Creating.{Creating}
 
 -- where the seats' lists begin in each history: at what it had when the seats were given, or, since a rotation, at 0
-abbrev pub beginnings : (ℕ → ℕ) → Bool → ℕ → ℕ
-beginnings given true slot = 0
-beginnings given false slot = given slot
+abbrev pub beginnings : Sessioned → Bool → ℕ → ℕ
+beginnings first true slot = 0
+beginnings first false slot = length (events_at first.broker slot)
 
 -- while the broker is down, a crash has ended each open call
-abbrev pub IsStopped : Sessioned → Client → List Entry → Type 0
-IsStopped s client list =
+abbrev pub AreOpenCutOff : Sessioned → Client → List Entry → Type 0
+AreOpenCutOff s client list =
     is_down s.broker ≡ true → (k slot place : ℕ) (e : Entry) → slice_get list k ≡ Some e → RanAt e slot place
     → e.end ≡ Open → IsCutOff (events_at s.broker slot) client place
 
 pub record IsFollowed (since : ℕ → ℕ) (s : Sessioned) (client : Client) (row : List Entry) : Type 0 where
   pub recorded : IsRecorded since s client row
   pub only_last : OnlyLastIsOpen row
-  pub stopped : IsStopped s client row
+  pub stopped : AreOpenCutOff s client row
 
 -- each row is its client's list
 pub record AreFollowed (since : ℕ → ℕ) (s : Sessioned) (rows : List (List Entry)) : Type 0 where
@@ -39,10 +40,11 @@ pub record Guarded : Type 0 where
   pub creating : Creating
   pub rotated : Bool
 
--- what holds of it whenever the lock is free, where there are so many clients, and the histories had these lengths when
--- the seats were given
-pub record IsGuardedWell (all : ℕ) (given : ℕ → ℕ) (g : Guarded) : Type 0 where
+-- what holds of it whenever the lock is free, where there are so many clients, and the session was this one when the
+-- seats were given: what was settled then, and its queues, are so still
+pub record IsGuardedWell (all : ℕ) (first : Sessioned) (g : Guarded) : Type 0 where
   pub clients : length g.rows ≡ all
-  pub followed : AreFollowed (beginnings given g.rotated) g.session g.rows
+  pub followed : AreFollowed (beginnings first g.rotated) g.session g.rows
   pub promises : KeepsNumbers g.session
   pub creation : IsCreationKnown g.session.broker g.creating
+  pub goes_on : SessionGoesOn first g.session

@@ -13,12 +13,13 @@ use Rattle.workers.specs.declared.entry.End.{End}
 use Rattle.workers.specs.declared.entry.End.TheVariants.{Answered, Interrupted, Open}
 use Rattle.workers.specs.declared.entry.Entry.{Entry}
 
--- the last call of a list is open
+-- the call has not been answered, as far as its seat knows
 abbrev pub is_open : End → Bool
 is_open Open = true
 is_open Interrupted = false
 is_open (Answered reply) = false
 
+-- the last call of a list is open
 abbrev pub ends_open : List Entry → Bool
 ends_open [] = false
 ends_open (x ∷ []) = is_open x.end
@@ -102,7 +103,12 @@ pub record IsKeptReply (s : Sessioned) (client : Client) (e : Entry) : Type 0 wh
   pub end_is : e.end ≡ Answered reply
   pub right : IsReplyAt s e.queue.0 client number reply
 
+-- a number of the list is from 1 on: a call without one has none
+abbrev pub HasNoNumberZero : List Entry → Type 0
+HasNoNumberZero list = (k : ℕ) (e : Entry) → slice_get list k ≡ Some e → e.number ≡ Some 0 → ⊥
+
 -- the client's list fits the histories of all queues, since these places
 pub record IsRecorded (since : ℕ → ℕ) (s : Sessioned) (client : Client) (list : List Entry) : Type 0 where
   pub ran : (slot : ℕ) → IsListOf (since slot) slot (events_at s.broker slot) client list
   pub kept : (k : ℕ) (e : Entry) → slice_get list k ≡ Some e → e.place ≡ None → IsKeptReply s client e
+  pub numbered : HasNoNumberZero list

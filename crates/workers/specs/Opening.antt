@@ -34,8 +34,8 @@ pub record Unnamed : Type 0 where
   pub roll : TableId
   pub session : Sessioned
 
--- the name says which roll it is, how many clients there are, and how long each history is
-pub record IsNameOf (roll : TableId) (clients : ℕ) (given : ℕ → ℕ) (o : Unnamed) : Type 0 where
+-- the name says which roll it is, how many clients there are, and what the session was
+pub record IsNameOf (roll : TableId) (clients : ℕ) (first : Sessioned) (o : Unnamed) : Type 0 where
   pub same : o.roll ≡ roll
   pub all : o.session.broker.counts.clients ≡ clients
-  pub lengths : (slot : ℕ) → given slot ≡ length (events_at o.session.broker slot)
+  pub session : o.session ≡ first

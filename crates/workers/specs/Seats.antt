@@ -1,15 +1,10 @@
 -- Seats in the order of their clients.
-use Rattle.std.specs.Prelude.{◌≡◌, ℕ, Bool, length, List, Some, slice_get, []}
-use Rattle.atomic_table.specs.Seated.{TableId}
+use Rattle.std.specs.Prelude.{◌≡◌, ◌≤◌, ℕ, Bool, length, List, Some, slice_get, []}
 use Rattle.words.specs.declared.call.Client.{Client}
 use Rattle.session.specs.Sessions.{Sessioned}
 use Rattle.workers.specs.Following.{beginnings}
-use Rattle.workers.specs.Lists.{IsRecorded}
+use Rattle.workers.specs.Lists.{IsRecorded, events_at}
 use Rattle.workers.specs.declared.entry.Entry.{Entry}
-
--- the name of no roll
-abbrev pub no_roll : TableId
-no_roll = record { words = 0; slots = 0; views_name = 0; atom = 0; block = 0; offset = 0; slot_names = [] }
 
 -- all seats, in the order of their clients
 pub record AreAllInOrder {S : Type 0} (client : S → Client) (clients : ℕ) (seats : List S) : Type 0 where
@@ -21,8 +16,9 @@ pub record AreEmpty {S : Type 0} (list : S → List Entry) (seats : List S) : Ty
   pub each : (k : ℕ) (seat : S) → slice_get seats k ≡ Some seat → list seat ≡ []
 
 -- each seat's list is what the histories have of its client, since the seats were given or the histories ended last
-pub record AreAccountedFor {S : Type 0} (list : S → List Entry) (given : ℕ → ℕ) (seats : List S) (s : Sessioned)
+pub record AreSeatsRecorded {S : Type 0} (list : S → List Entry) (first : Sessioned) (seats : List S) (s : Sessioned)
     : Type 0 where
   pub rotated : Bool
+  pub begun : (slot : ℕ) → beginnings first rotated slot ≤ length (events_at s.broker slot)
   pub each : (k : ℕ) (seat : S) → slice_get seats k ≡ Some seat
-      → IsRecorded (beginnings given rotated) s (record { 0 = k }) (list seat)
+      → IsRecorded (beginnings first rotated) s (record { 0 = k }) (list seat)

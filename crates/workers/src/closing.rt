@@ -1,9 +1,11 @@
 //! How the histories end, and how a shared session is taken back.
 
 ghost use Rattle.std.specs.Prelude.{◌≡◌, [], length, OnErr, OnOk, slice_get, slice_set, Some};
+ghost use Rattle.named.specs.Rotating.{IsRotated};
 ghost use Rattle.roll.specs.Rule.{IsKeeper, rows_of};
+ghost use Rattle.session.specs.Keeping.{SessionGoesOn};
 ghost use Rattle.session.specs.Promises.{KeepsNumbers};
-ghost use Rattle.workers.specs.Seats.{AreAccountedFor, AreAllInOrder, AreEmpty};
+ghost use Rattle.workers.specs.Seats.{AreSeatsRecorded, AreAllInOrder, AreEmpty};
 
 use crate::entry::Entry;
 use crate::locked::Locked;
@@ -88,6 +90,8 @@ impl<J: Naming> Locked<J> {
         ensures order { AreAllInOrder (λ seat. seat.client) J.clients result.0.items }
         ensures empty { OnOk result.1 (AreEmpty (λ seat. seat.list.items) result.0.items) }
         ensures same { OnErr result.1 (result.0.items ≡ seats.items) }
+        ensures rotated { OnOk result.1 (IsRotated self.old.session.broker self.new.session.broker) }
+        ensures kept { self.new.session.kept ≡ self.old.session.kept }
     {
         if let Err(refusal) = self.session.rotate() {
             return (seats, Err(refusal));
@@ -101,7 +105,8 @@ impl<J: Naming> Shared<J> {
     /// The histories of all queues end, and others begin, as [`session::Session::rotate`] makes them; the seats' lists
     /// begin anew with them. The seats are all that were given, in client order, and come back so. It is refused,
     /// in this order, while the broker recovers (NotReady), where a call or a creation is under way (Busy), and for want
-    /// of memory (NoMemory); then the lists stay.
+    /// of memory (NoMemory); then the lists stay. An open entry whose call a crash ended goes too: a caller that wants to
+    /// hear of it calls [`Shared::finish`] first.
     pub fn rotate<R: Wait>(
         &self,
         rt: &R,
@@ -115,11 +120,12 @@ impl<J: Naming> Shared<J> {
         self.locked.lock(rt).rotate(&self.roll, seats)
     }
 
-    /// Takes the session back. The seats are all that were given, in client order: the list of each is what the
+    /// Takes the session back, and the seats with their lists: what a caller wants of these he copies before. The seats are all that were given, in client order: the list of each is what the
     /// histories have of its client, since the seats were given or the histories ended last.
     pub fn close(self, seats: Vec<Seat<J>>) -> Session
         requires { AreAllInOrder (λ seat. seat.client) J.clients seats.items }
-        ensures lists { AreAccountedFor (λ seat. seat.list.items) J.given seats.items result }
+        ensures lists { AreSeatsRecorded (λ seat. seat.list.items) J.first seats.items result }
+        ensures goes_on { SessionGoesOn J.first result }
         ensures promises { KeepsNumbers result }
     {
         let Shared { roll, locked } = self;

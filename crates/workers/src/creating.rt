@@ -1,11 +1,16 @@
 //! Crashes, recoveries, and creations, under the lock.
 
-ghost use Rattle.std.specs.Prelude.{◌≡◌, ◌⊎◌, IfErr};
+ghost use Rattle.std.specs.Prelude.{◌≡◌, ◌⊎◌, IfErr, IfSome, IsSome, OnErr, OnOk};
+ghost use Rattle.named.specs.Brokers.{world_at, MayCreate};
+ghost use Rattle.named.specs.Stopping.{IsRecoveryStep, IsStopped};
 ghost use Rattle.workers.specs.Creating.{creating_after_crash};
+ghost use Rattle.workers.specs.Made.{IsMade};
+ghost use Rattle.workers.specs.declared.locked.Creating.{Creating as AnyCreating};
 
 use crate::locked::{Creating, Locked};
 use crate::naming::Naming;
 use crate::shared::Created;
+use directory::Name;
 use words::{Kind, Refusal};
 
 impl Creating {
@@ -22,8 +27,13 @@ impl Creating {
 
 impl<J: Naming> Locked<J> {
     /// Begins to create a queue. One that a crash ended is not over until its caller has seen that.
-    pub(crate) fn create(&mut self, name: &[u8], kind: Kind) -> Result<(), Refusal> {
+    pub(crate) fn create(&mut self, name: &[u8], kind: Kind) -> Result<(), Refusal>
+        ensures may { OnOk result (MayCreate self.old.session.broker name.now) }
+        ensures same { OnErr result (self.new ≡ self.old) }
+    {
         if matches!(self.creating, Creating::Interrupted) {
+            let _good = Name::make(name)?;
+            let _ready = self.session.broker().list()?;
             return Err(Refusal::Busy);
         }
         self.session.create(name, kind)?;
@@ -32,11 +42,24 @@ impl<J: Naming> Locked<J> {
     }
 
     /// One step of the creation, for its caller: what became of it, once it is over.
-    pub(crate) fn create_step(&mut self) -> Option<Created> {
-        let Creating::UnderWay = self.creating else {
-            self.creating = Creating::Nothing;
-            return Some(Created::Interrupted);
-        };
+    pub(crate) fn create_step(&mut self) -> Option<Created>
+        ensures { IfSome result (IsMade self.new.session.broker) }
+    {
+        match self.creating {
+            Creating::UnderWay => self.make_step(),
+            Creating::Interrupted => {
+                self.creating = Creating::Nothing;
+                Some(Created::Interrupted)
+            }
+            Creating::Nothing => Some(Created::Interrupted),
+        }
+    }
+
+    /// One step of the creation that is under way.
+    fn make_step(&mut self) -> Option<Created>
+        requires { self.old.creating ≡ AnyCreating.UnderWay }
+        ensures { IfSome result (IsMade self.new.session.broker) }
+    {
         match self.session.create_step() {
             Ok(None) => None,
             Ok(Some(slot)) => {
@@ -50,7 +73,8 @@ impl<J: Naming> Locked<J> {
 
     /// The whole system stops: calls under way end, and so does a creation.
     pub(crate) fn crash(&mut self) -> Result<(), Refusal>
-        ensures { IfErr result (λ refusal. refusal ≡ Refusal.NoMemory) }
+        ensures stopped { OnOk result (IsStopped self.old.session.broker self.new.session.broker) }
+        ensures errors { IfErr result (λ refusal. refusal ≡ Refusal.NoMemory) }
     {
         self.session.crash()?;
         self.creating = self.creating.stopped();
@@ -59,7 +83,9 @@ impl<J: Naming> Locked<J> {
 
     /// One step of recovery: whether the broker is ready by it.
     pub(crate) fn recover_step(&mut self) -> Result<bool, Refusal>
-        ensures { IfErr result (λ refusal. (refusal ≡ Refusal.AlreadyReady) ⊎ (refusal ≡ Refusal.NoMemory)) }
+        ensures step { IsRecoveryStep self.old.session.broker self.new.session.broker result
+            self.old.session.broker.recovery }
+        ensures errors { IfErr result (λ refusal. (refusal ≡ Refusal.AlreadyReady) ⊎ (refusal ≡ Refusal.NoMemory)) }
     {
         self.session.recover_step()
     }

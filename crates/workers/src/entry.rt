@@ -36,7 +36,8 @@ pub enum Answer {
     Reply(Reply),
     /// It was not made.
     Refused(Refusal),
-    /// A crash came before the answer. Whether it took effect is told once the broker is ready.
+    /// A crash came before the answer. In a log queue the client is told whether it took effect, once the broker is
+    /// ready.
     Interrupted,
     /// A step was refused memory. The call stays under way.
     Unfinished,

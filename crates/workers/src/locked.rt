@@ -1,8 +1,10 @@
 //! What lies under the lock.
 
 ghost use Rattle.std.specs.Prelude.{◌≡◌, ◌≢◌, ◌<◌, ℕ, false, length, true, vec_capacity, vec_len};
+ghost use Rattle.named.specs.Brokers.{is_creating};
 ghost use Rattle.roll.specs.Rule.{IsKeeper, rows_of};
 ghost use Rattle.session.specs.Promises.{KeepsNumbers};
+ghost use Rattle.session.specs.Requests.{answer_to, number_or_zero, IsBegunBy};
 ghost use Rattle.workers.specs.Answers.{IsListAfter, IsListBegun};
 ghost use Rattle.workers.specs.Following.{IsGuardedWell};
 ghost use Rattle.workers.specs.Lists.{ends_open, events_at};
@@ -53,7 +55,7 @@ impl<J: Naming> Model for Locked<J> {
     } };
 
     ghost invariant = { λ l. IsKeeper J.roll (rows_of l.keeper) l.keeper
-        × IsGuardedWell J.clients J.given (record {
+        × IsGuardedWell J.clients J.first (record {
           session = l.session;
           rows = rows_of l.keeper;
           creating = l.creating;
@@ -84,7 +86,8 @@ impl<J: Naming> Locked<J> {
     pub(crate) fn new(session: Session, keeper: Token<Entry>) -> Self
         requires keeper { IsKeeper J.roll (rows_of keeper) keeper }
         requires clients { length (rows_of keeper) ≡ J.clients }
-        requires given { (slot : ℕ) → J.given slot ≡ length (events_at session.broker slot) }
+        requires first { session ≡ J.first }
+        requires idle { is_creating session.broker ≡ false }
         requires empty { AreEmpty (λ row. row) (rows_of keeper) }
         requires promises { KeepsNumbers session }
     {
@@ -101,7 +104,7 @@ impl<J: Naming> Locked<J> {
     pub(crate) fn into_parts(self) -> (Session, Token<Entry>)
         ensures session { result.0 ≡ self.session }
         ensures keeper { IsKeeper J.roll self.rows result.1 }
-        ensures well { IsGuardedWell J.clients J.given self }
+        ensures well { IsGuardedWell J.clients J.first self }
     {
         (self.session, self.keeper)
     }
@@ -118,6 +121,9 @@ impl<J: Naming> Locked<J> {
         requires room { vec_len seat.list < vec_capacity seat.list }
         ensures client { result.0.client ≡ seat.client }
         ensures begun { IsListBegun seat.list.items request result.1 result.0.list.items }
+        ensures act { IsBegunBy self.old.session self.new.session request.queue.0 seat.client
+            (number_or_zero request.number) request.call result.1
+            (answer_to self.old.session request.queue.0 seat.client request.number) }
     {
         let Request {
             queue,

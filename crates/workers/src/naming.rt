@@ -7,6 +7,7 @@ use std::marker::Brand;
 pub trait Naming {
     ghost use Rattle.std.specs.Prelude.{ℕ};
     ghost use Rattle.atomic_table.specs.Seated.{TableId};
+    ghost use Rattle.session.specs.Sessions.{Sessioned};
 
     /// The roll of the seats' lists.
     ghost roll: { TableId };
@@ -14,16 +15,16 @@ pub trait Naming {
     /// How many clients, and so seats, there are.
     ghost clients: { ℕ };
 
-    /// How many events each slot's history had when the seats were given.
-    ghost given: { ℕ → ℕ };
+    /// The session as it was when the seats were given.
+    ghost first: { Sessioned };
 }
 
 impl Naming for Brand {
-    ghost use Rattle.workers.specs.Seats.{no_roll};
+    ghost use Rattle.workers.specs.Naming.{no_roll, no_session};
 
     ghost roll = { no_roll };
 
     ghost clients = { 0 };
 
-    ghost given = { λ slot. 0 };
+    ghost first = { no_session };
 }

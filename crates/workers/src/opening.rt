@@ -33,13 +33,13 @@ pub struct Opened {
 impl Model for Opened {
     ghost use Rattle.std.specs.Prelude.{[]};
     ghost use Rattle.roll.specs.Rule.{IsKeeper, rows_of};
-    ghost use Rattle.workers.specs.Opening.{Unnamed};
+    ghost use Rattle.workers.specs.Opening.{IsNotInUse, Unnamed};
 
     ghost Value = { Unnamed };
 
     ghost view = { λ o. record { roll = o.roll; session = o.session } };
 
-    ghost invariant = { λ o. IsKeeper o.roll [] o.keeper };
+    ghost invariant = { λ o. IsKeeper o.roll [] o.keeper × IsNotInUse o.session.broker };
 }
 
 /// Why a session is not shared; it is handed back.
@@ -110,7 +110,7 @@ impl Opened {
     /// The shared session under its name, and a seat for each client, in client order, which remembers no call yet. It
     /// is refused for want of memory (NoMemory). The name is one that the caller's caller picked for this value.
     pub fn named<J: Naming>(self, alloc: Global) -> Result<(Shared<J>, Vec<Seat<J>>), NotOpened>
-        requires name { IsNameOf J.roll J.clients J.given self }
+        requires name { IsNameOf J.roll J.clients J.first self }
         ensures order { IfOk result (λ r. AreAllInOrder (λ seat. seat.client) J.clients r.1.items) }
         ensures empty { IfOk result (λ r. AreEmpty (λ seat. seat.list.items) r.1.items) }
         ensures errors { IfErr result (λ not. (not.refusal ≡ Refusal.NoMemory) × (not.session ≡ self.session)) }

@@ -4,14 +4,15 @@ ghost use Rattle.std.specs.Prelude.{◌≡◌, ◌<◌, ◌++◌, ◌∷◌, [],
 ghost use Rattle.roll.specs.Rule.{IsHolder, IsKeeper, rows_of};
 ghost use Rattle.workers.specs.Lists.{ends_open, with_end};
 
-use crate::entry::{End, Entry, end_last};
+use crate::entry::{End, Entry, end_last, has_open_call};
 use crate::naming::Naming;
 use roll::{Roll, Token};
 use std::marker::PhantomData;
 use words::Client;
 
 /// A client's seat, which remembers the client's calls. Calls take it by value and give it back, so that a client makes
-/// one at a time.
+/// one at a time. A seat that is dropped leaves an open call under way until a crash, and its session is neither rotated
+/// nor closed again.
 #[derive(Drop)]
 pub struct Seat<J: Naming> {
     /// Whose seat it is.
@@ -27,6 +28,13 @@ pub struct Seat<J: Naming> {
 }
 
 impl<J: Naming> Seat<J> {
+    /// Whether the client's last call is open: it was left Unfinished, and [`crate::Shared::finish`] goes on with it.
+    pub fn is_open(&self) -> bool
+        ensures { result ≡ ends_open self.now.list.items }
+    {
+        has_open_call(self.list.as_slice())
+    }
+
     /// The seat, whose open call has made one step more.
     pub(crate) fn with_step(self) -> Self
         ensures client { result.client ≡ self.client }

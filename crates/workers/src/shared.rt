@@ -5,7 +5,7 @@ ghost use Rattle.workers.specs.Answers.{Finishes, IsListAfter, IsListBegun, Reme
 ghost use Rattle.workers.specs.Lists.{ends_open};
 ghost use Rattle.workers.specs.declared.entry.Answer.{Answer as AnyAnswer};
 
-use crate::entry::{Answer, Entry, Request, Took, has_open_call};
+use crate::entry::{Answer, Entry, Request, Took};
 use crate::gate::Gate;
 use crate::locked::Locked;
 use crate::naming::Naming;
@@ -104,7 +104,7 @@ impl<J: Naming> Shared<J> {
         ensures entry { Remembers seat.list.items queue number call result.1 result.0.list.items }
         ensures busy { ends_open seat.list.items ≡ true → result ≡ (seat, AnyAnswer.Refused Refusal.Busy) }
     {
-        if has_open_call(seat.list.as_slice()) {
+        if seat.is_open() {
             return (seat, Answer::Refused(Refusal::Busy));
         }
         let (seat, room) = seat.with_room();
@@ -127,22 +127,22 @@ impl<J: Naming> Shared<J> {
         }
     }
 
-    /// Goes on with the seat's open call, which was left Unfinished: to its answer, or as [`Shared::call`] would. It is
+    /// Goes on with the seat's open call, which was left Unfinished, and answers as [`Shared::call`] does. It is
     /// Interrupted where a crash came meanwhile, and refused where the seat has no open call (Idle).
     pub fn finish<R: Wait, G: Gate>(&self, rt: &R, seat: Seat<J>, gate: &G) -> (Seat<J>, Answer)
         ensures client { result.0.client ≡ seat.client }
         ensures finishes { ends_open seat.list.items ≡ true → Finishes seat.list.items result.1 result.0.list.items }
         ensures idle { ends_open seat.list.items ≡ false → result ≡ (seat, AnyAnswer.Refused Refusal.Idle) }
     {
-        if !has_open_call(seat.list.as_slice()) {
+        if !seat.is_open() {
             return (seat, Answer::Refused(Refusal::Idle));
         }
         self.go_on(rt, seat, gate)
     }
 
     /// Creates a queue, one act a step. It is Interrupted where a crash came between, and refused as
-    /// [`session::Session::create`] is; and, before all else, where a crash ended another creation whose caller has not
-    /// seen that yet (Busy).
+    /// [`session::Session::create`] is; Busy also where a crash ended another creation whose caller has not seen that
+    /// yet.
     pub fn create<R: Wait>(&self, rt: &R, name: &[u8], kind: Kind) -> Created {
         if let Err(refusal) = self.locked.lock(rt).create(name, kind) {
             return Created::Refused(refusal);
@@ -183,12 +183,16 @@ impl<J: Naming> Shared<J> {
     }
 
     /// The slot with the queue of this name, if there is one. It is refused as [`named::Broker::find`] is.
-    pub fn find<R: Wait>(&self, rt: &R, name: &Name) -> Result<Option<SlotId>, Refusal> {
+    pub fn find<R: Wait>(&self, rt: &R, name: &Name) -> Result<Option<SlotId>, Refusal>
+        ensures { IfErr result (λ refusal. refusal ≡ Refusal.NotReady) }
+    {
         self.locked.lock(rt).session.broker().find(name)
     }
 
-    /// What each slot has. It is refused as [`named::Broker::list`] is.
-    pub fn list<R: Wait>(&self, rt: &R) -> Result<Places, Refusal> {
+    /// What each slot has, as it is now: a copy. It is refused as [`named::Broker::list`] is.
+    pub fn list<R: Wait>(&self, rt: &R) -> Result<Places, Refusal>
+        ensures { IfErr result (λ refusal. refusal ≡ Refusal.NotReady) }
+    {
         let locked = self.locked.lock(rt);
         let places = locked.session.broker().list()?;
         let mut copied: Places = [None; SLOTS];

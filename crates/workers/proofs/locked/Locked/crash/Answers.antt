@@ -1,5 +1,5 @@
 use Rattle.std.proofs.Common.{ap, refl, sym, subst}
-use Rattle.named.specs.Brokers.{Brokered}
+use Rattle.named.specs.Brokers.{Brokered, is_down}
 use Rattle.workers.specs.Creating.{IsCreationKnown}
 use Rattle.workers.specs.declared.locked.Creating.{Creating}
 use Rattle.workers.proofs.Guarded.{guarded_still, known_after_crash, known_if_same}
@@ -13,8 +13,8 @@ invariant_of-self g c =
     let new = c.crash.new.self in
     let well = c.self.invariant.1 in (
       c.self.invariant.0,
-      guarded_still g.J.Naming.clients g.J.Naming.given _ well new c.self.inside.creating
-          (λ u. crash_refused_carried old new e.same u) e.promises
+      guarded_still g.J.Naming.clients g.J.Naming.first _ well new c.self.inside.creating
+          (λ u. crash_refused_carried old new e.same u) e.promises e.goes_on
           (known_if_same old.broker new.broker c.self.inside.creating (ap (λ (b : Brokered). b.recovery) e.same.same)
           (ap (λ (b : Brokered). b.creation) e.same.same) well.creation),
     )
@@ -26,8 +26,9 @@ invariant_of-self-2 g c =
     let new = c.crash.new.self in
     let well = c.self.invariant.1 in (
       c.self.invariant.0,
-      guarded_still g.J.Naming.clients g.J.Naming.given _ well new c.stopped-self-inside.result
-          (λ u. crashed_carried old new well.promises (e.stopped refl) u) e.promises
+      guarded_still g.J.Naming.clients g.J.Naming.first _ well new c.stopped-self-inside.result
+          (λ u. crashed_carried old new well.promises (e.stopped refl) u) e.promises e.goes_on
           (subst (λ (creating : Creating). IsCreationKnown new.broker creating) (sym c.stopped-self-inside.ensures)
-          (known_after_crash new.broker c.self.inside.creating)),
+          (known_after_crash new.broker c.self.inside.creating
+          (ap (λ (b : Brokered). is_down b) (e.stopped refl).same))),
     )

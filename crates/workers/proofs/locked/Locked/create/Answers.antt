@@ -1,7 +1,7 @@
 use Rattle.std.proofs.Common.{ap, ◌∙◌}
 use Rattle.workers.specs.declared.locked.Creating.TheVariants.{UnderWay}
 use Rattle.session.specs.Sessions.{Sessioned}
-use Rattle.workers.proofs.Guarded.{guarded_still}
+use Rattle.workers.proofs.Guarded.{guarded_still, known_if_begun}
 use Rattle.workers.proofs.Stops.{created_carried}
 use Rattle.workers.proofs.locked.Locked.create.Goals as goal
 
@@ -10,7 +10,9 @@ invariant_of-self-2 g c =
     let e = c.in_ok-create.ensures in
     let new = c.create.new.self in (
       c.self.invariant.0,
-      guarded_still g.J.Naming.clients g.J.Naming.given _ c.self.invariant.1 new UnderWay
+      guarded_still g.J.Naming.clients g.J.Naming.first _ c.self.invariant.1 new UnderWay
           (λ u. created_carried c.self.inside.session new c.create.ensures.others u) c.create.ensures.promises
-          (ap (λ (s : Sessioned). s.broker.recovery) c.create.ensures.others ∙ e.may.ready, e.under_way),
+          c.create.ensures.goes_on
+          (known_if_begun new.broker (ap (λ (s : Sessioned). s.broker.recovery) c.create.ensures.others ∙ e.may.ready)
+          e.under_way),
     )

@@ -1,4 +1,9 @@
-use Rattle.workers.proofs.Guarded.{rows_begun}
+use Rattle.std.proofs.Common.{ap, sym, subst, ◌≡◌, ◌∙◌, refl, length, false}
+use Rattle.session.specs.Sessions.{Sessioned}
+use Rattle.session.specs.Keeping.{SessionGoesOn}
+use Rattle.workers.specs.Following.{beginnings}
+use Rattle.workers.specs.Lists.{events_at}
+use Rattle.workers.proofs.Guarded.{rows_begun, session_stays}
 use Rattle.workers.proofs.locked.Locked.new.Goals as goal
 
 pub invariant_of-result : goal.invariant_of-result
@@ -7,8 +12,10 @@ invariant_of-result g c =
       r.keeper,
       record {
         clients = r.clients;
-        followed = rows_begun g.J.Naming.given c.args.session _ r.given r.empty;
+        followed = rows_begun (beginnings g.J.Naming.first false) c.args.session _
+            (λ slot. ap (λ (s : Sessioned). length (events_at s.broker slot)) (sym r.first)) r.empty;
         promises = r.promises;
-        creation = tt;
+        creation = r.idle;
+        goes_on = subst (λ (s : Sessioned). SessionGoesOn s c.args.session) r.first (session_stays c.args.session);
       },
     )

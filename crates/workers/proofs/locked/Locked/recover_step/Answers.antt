@@ -9,12 +9,12 @@ invariant_of-self g c =
     let new = c.recover_step.new.self in
     let well = c.self.invariant.1 in (
       c.self.invariant.0,
-      guarded_still g.J.Naming.clients g.J.Naming.given _ well new c.self.inside.creating
-          (λ u. recovered_carried old new well.promises c.recover_step.result e.step u) e.promises
+      guarded_still g.J.Naming.clients g.J.Naming.first _ well new c.self.inside.creating
+          (λ u. recovered_carried old new well.promises c.recover_step.result e.step u) e.promises e.goes_on
           (known_after_recovery old.broker new.broker c.recover_step.result c.self.inside.creating e.step well.creation),
     )
 
-pub returns : goal.returns
-returns g c =
+pub returns-clause-errors : goal.returns-clause-errors
+returns-clause-errors g c =
     recovery_errors c.self.inside.session.broker c.recover_step.new.self.broker c.recover_step.result
     c.self.invariant.1.promises.broker.well c.recover_step.ensures.step

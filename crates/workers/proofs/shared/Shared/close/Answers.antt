@@ -26,7 +26,7 @@ returns-clause-lists g c =
     let parts = c.into_parts-session.ensures in
     let none : c.loop-seat.seats.items ≡ [] = search rules in
     let same : rows_of c.into_parts-session.result.1 ≡ under_lock.rows = ap (λ me. me.0.rows) parts.keeper.1 in
-    accounted_by_rows (λ seat. seat.list.items) g.J.Naming.clients g.J.Naming.given under_lock _ c.args.seats.items
+    accounted_by_rows (λ seat. seat.list.items) g.J.Naming.clients g.J.Naming.first under_lock _ c.args.seats.items
     parts.session parts.well
     (λ k seat at. subst (λ (rows : List (List Entry)). slice_get rows k ≡ Some seat.list.items) same
     (rows_from_none_left _ _ _ _ c.loop-seat.invariant.1 none k seat at))

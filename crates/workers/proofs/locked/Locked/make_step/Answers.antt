@@ -1,0 +1,51 @@
+use Rattle.std.proofs.Common.{subst, sym, ap, ◌∙◌, Ok}
+use Rattle.workers.specs.Creating.{IsCreationKnown}
+use Rattle.workers.specs.Following.{Guarded}
+use Rattle.workers.specs.declared.locked.Creating.{Creating}
+use Rattle.workers.specs.declared.locked.Creating.TheVariants.{Nothing, UnderWay}
+use Rattle.workers.proofs.Guarded.{guarded_still, known_after_last, known_after_step, step_is_made, under_way_is}
+use Rattle.workers.proofs.Stops.{creation_carried}
+use Rattle.workers.proofs.locked.Locked.make_step.Goals as goal
+
+pub invariant_of-self : goal.invariant_of-self
+invariant_of-self g c =
+    let e = c.create_step.ensures in
+    let old = c.self.inside.session in
+    let new = c.create_step.new.self in
+    let well = c.self.invariant.1 in
+    let under_way = ap (λ (s : Guarded). s.creating) c.self.view_is ∙ c.requires in
+    let known = subst (λ (creating : Creating). IsCreationKnown old.broker creating) under_way well.creation in
+    let has = under_way_is old.broker known in
+    let is = c.in-Ok-None.is ∙ ap Ok c.in-Ok-None.field-0-is in (
+      c.self.invariant.0,
+      guarded_still g.J.Naming.clients g.J.Naming.first _ well new c.self.inside.creating
+          (λ u. creation_carried old new well.promises has.0 c.create_step.result e.others has.1 e.step u) e.promises
+          e.goes_on
+          (subst (λ (creating : Creating). IsCreationKnown new.broker creating) (sym under_way)
+          (known_after_step old.broker new.broker known c.create_step.result is e.step)),
+    )
+
+pub invariant_of-self-in-Ok-Some : goal.invariant_of-self-in-Ok-Some
+invariant_of-self-in-Ok-Some g c =
+    let e = c.create_step.ensures in
+    let old = c.self.inside.session in
+    let new = c.create_step.new.self in
+    let well = c.self.invariant.1 in
+    let under_way = ap (λ (s : Guarded). s.creating) c.self.view_is ∙ c.requires in
+    let known = subst (λ (creating : Creating). IsCreationKnown old.broker creating) under_way well.creation in
+    let has = under_way_is old.broker known in
+    let is = c.in-Ok-Some.is ∙ ap Ok c.in-Ok-Some.field-0-is in (
+      c.self.invariant.0,
+      guarded_still g.J.Naming.clients g.J.Naming.first _ well new Nothing
+          (λ u. creation_carried old new well.promises has.0 c.create_step.result e.others has.1 e.step u) e.promises
+          e.goes_on (known_after_last old.broker new.broker known c.create_step.result c.in-Ok-Some.slot is e.step).0,
+    )
+
+pub returns-in-Ok-Some : goal.returns-in-Ok-Some
+returns-in-Ok-Some g c =
+    let under_way = ap (λ (s : Guarded). s.creating) c.self.view_is ∙ c.requires in
+    let known =
+    subst (λ (creating : Creating). IsCreationKnown c.self.inside.session.broker creating) under_way
+    c.self.invariant.1.creation in
+    (known_after_last c.self.inside.session.broker c.create_step.new.self.broker known c.create_step.result
+    c.in-Ok-Some.slot (c.in-Ok-Some.is ∙ ap Ok c.in-Ok-Some.field-0-is) c.create_step.ensures.step).1

@@ -1,0 +1,28 @@
+use Rattle.std.proofs.Common.{ap, sym, true, length, List}
+use Rattle.events.specs.declared.event.Event.{Event}
+use Rattle.named.specs.Brokers.{Brokered}
+use Rattle.roll.specs.Rule.{rows_of}
+use Rattle.workers.specs.Following.{beginnings}
+use Rattle.workers.proofs.Guarded.{known_if_same, rows_begun, session_further}
+use Rattle.workers.proofs.Stops.{rotated_empty}
+use Rattle.workers.proofs.locked.Locked.rotate.Goals as goal
+
+pub invariant_of-self-2 : goal.invariant_of-self-2
+invariant_of-self-2 g c =
+    let e = c.in_default.ensures in
+    let a = c.all_emptied.ensures in
+    let well = c.self.invariant.1 in
+    let old = c.self.inside.session in
+    let new = c.rotate.new.self in (
+      a.keeper,
+      record {
+        clients = a.clients;
+        followed = rows_begun (beginnings g.J.Naming.first true) new (rows_of c.all_emptied.new.keeper)
+            (λ slot. sym (ap (λ (es : List Event). length es) (rotated_empty old.broker new.broker e.rotated slot))) a.rows;
+        promises = e.promises;
+        creation = known_if_same old.broker new.broker c.self.inside.creating
+            (ap (λ (b : Brokered). b.recovery) e.rotated.same) (ap (λ (b : Brokered). b.creation) e.rotated.same)
+            well.creation;
+        goes_on = session_further g.J.Naming.first old new well.goes_on e.goes_on;
+      },
+    )

@@ -1,0 +1,22 @@
+-- The name of nothing: no roll, and a session that has no queue.
+use Rattle.std.specs.Prelude.{[], None}
+use Rattle.atomic_table.specs.Seated.{TableId}
+use Rattle.persist.specs.Memory.{words_at_rest}
+use Rattle.named.specs.Brokers.{Brokered}
+use Rattle.session.specs.Sessions.{Sessioned}
+
+abbrev pub no_roll : TableId
+no_roll = record { words = 0; slots = 0; views_name = 0; atom = 0; block = 0; offset = 0; slot_names = [] }
+
+abbrev pub no_broker : Brokered
+no_broker = record {
+  counts = record { clients = 0; records = 0 };
+  words = words_at_rest [];
+  slots = [];
+  directory = [];
+  creation = None;
+  recovery = None;
+}
+
+abbrev pub no_session : Sessioned
+no_session = record { broker = no_broker; kept = [] }
