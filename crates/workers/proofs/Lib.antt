@@ -1,5 +1,6 @@
 pub mod Answering
 pub mod Carried
+pub mod Counting
 pub mod Endings
 pub mod Follows
 pub mod Guarded
@@ -11,5 +12,6 @@ pub mod SlotsOn
 pub mod Starts
 pub mod Steps
 pub mod Stops
+pub mod Telling
 pub mod Turning
 pub mod Turns

@@ -1,4 +1,5 @@
 pub mod Lists
+pub mod Accounts
 pub mod Following
 pub mod Answers
 pub mod Made

@@ -6,6 +6,7 @@ mod closing;
 mod creating;
 mod entry;
 mod gate;
+mod laws;
 mod locked;
 mod naming;
 mod opening;
@@ -14,6 +15,7 @@ mod shared;
 
 pub use entry::{Answer, End, Entry};
 pub use gate::{Gate, OpenGate};
+pub use laws::{calls_are_counted, interrupted_calls_are_told};
 pub use naming::Naming;
 pub use opening::{NotOpened, Opened};
 pub use seat::Seat;

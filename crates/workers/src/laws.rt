@@ -1,0 +1,40 @@
+//! What the lists of a shared session and the histories of its queues say of each other.
+
+ghost use Rattle.std.specs.Prelude.{◌≡◌, ℕ, List, Some};
+ghost use Rattle.words.specs.declared.call.Client.{Client};
+ghost use Rattle.words.specs.declared.call.Kind.{Kind};
+ghost use Rattle.words.specs.declared.call.Reply.{Reply};
+ghost use Rattle.events.specs.declared.event.Event.{Event};
+ghost use Rattle.interleave.specs.State.{State};
+ghost use Rattle.named.specs.Brokers.{world_at};
+ghost use Rattle.session.specs.Promises.{KeepsNumbers};
+ghost use Rattle.session.specs.Requests.{number_or_zero};
+ghost use Rattle.session.specs.Sessions.{Sessioned};
+ghost use Rattle.workers.specs.Accounts.{call_count, ran_count, IsAnsweredAs, IsToldOfCall};
+ghost use Rattle.workers.specs.Lists.{events_at, HasEntryAt, IsListOf, IsRecorded};
+ghost use Rattle.workers.specs.declared.entry.End.{End};
+ghost use Rattle.workers.specs.declared.entry.Entry.{Entry};
+
+/// A list has exactly as many calls that ran in a queue as the queue's history has calls of the client, from where the
+/// list begins.
+pub fn calls_are_counted()
+    ensures slot { (since slot : ℕ) (events : List Event) (client : Client) (list : List Entry)
+        → IsListOf since slot events client list → ran_count slot list ≡ call_count since client events }
+    ensures all { (since : ℕ → ℕ) (s : Sessioned) (client : Client) (list : List Entry)
+        → IsRecorded since s client list → (slot : ℕ)
+        → ran_count slot list ≡ call_count (since slot) client (events_at s.broker slot) }
+{}
+
+/// Where a list says that a call of a log queue was interrupted, a crash ended it, and it took effect only where the
+/// next Ready told the client so. Where it says that a call was answered, in a queue of either kind, the call returned
+/// that reply and took effect with it.
+pub fn interrupted_calls_are_told()
+    ensures interrupted { (since : ℕ → ℕ) (s : Sessioned) (client : Client) (list : List Entry) (slot place : ℕ)
+        (w : State) → KeepsNumbers s → IsRecorded since s client list → world_at s.broker slot ≡ Some w
+        → w.shape.kind ≡ Kind.Log → (has : HasEntryAt list slot place) → has.entry.end ≡ End.Interrupted
+        → IsToldOfCall w client place (number_or_zero has.entry.number) }
+    ensures answered { (since : ℕ → ℕ) (s : Sessioned) (client : Client) (list : List Entry) (slot place : ℕ)
+        (w : State) (reply : Reply) → KeepsNumbers s → IsRecorded since s client list
+        → world_at s.broker slot ≡ Some w → (has : HasEntryAt list slot place)
+        → has.entry.end ≡ End.Answered reply → IsAnsweredAs w client place reply }
+{}
