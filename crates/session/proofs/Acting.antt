@@ -21,14 +21,16 @@ use Rattle.arena.specs.Shape.{Shape}
 use Rattle.named.specs.declared.recovery.BrokerRecovery.{BrokerRecovery}
 use Rattle.session.specs.Keeping.{IsSettled, IsKeptNow, SessionGoesOn}
 use Rattle.session.specs.Promises.{IsReplyIfNumbered, IsReplyIn}
-use Rattle.session.proofs.Going.{answered_below, answers_go_on, clients_go_on, shape_by_client}
+use Rattle.session.proofs.Clients.{laid_out_act}
+use Rattle.session.proofs.Going.{answers_go_on}
+use Rattle.session.proofs.Numbering.{answered_by_floor}
 use Rattle.named.proofs.Kept.{some_is}
 use Rattle.interleave.proofs.verdicts.Last.{answered}
 use Rattle.session.specs.Requests.{AreOthersAlike, IsAdvanced, call_number, last_after, numbered}
 use Rattle.session.specs.Sessions.{IsLogClient, IsRight, IsSlotRight, Sessioned, is_up, kept_in}
 use Rattle.session.proofs.Calling.{IsAnsweredAt, IsKeptNew, admitted_up, answered_at, right_answered, right_by_client, right_if_durable, right_stepped, up_is}
 use Rattle.session.proofs.SlotLaws.{right_if_quiet}
-use Rattle.session.proofs.Worlds.{holds_there, up_there}
+use Rattle.session.proofs.Worlds.{client_stays, holds_there, up_there}
 
 -- the same verdicts
 pub right_alike : (up : Bool) (o : Option State) (f g : ℕ → Option Verdict) → ((c : ℕ) → g c ≡ f c)
@@ -239,9 +241,9 @@ module _ (old new : Brokered) (slot : ℕ) (client : Client) (was is : List (Lis
       (last_after (call_number (world_at old slot) client) result (kept_in was slot client.0))
       → SessionGoesOn before (record { broker = new; kept = is })
   advanced_on result right made kept = record {
-    clients = clients_go_on old new slot made.others
-        (shape_by_client (λ v. after_step (is_no_memory result) v client)
-        (λ v. (step_alike (is_no_memory result) v client).0) old new slot client made.world);
+    clients = client_stays old new
+        (laid_out_act (λ v. after_step (is_no_memory result) v client)
+        (λ v. (step_alike (is_no_memory result) v client).0) old new slot client made.world made.others.worlds);
     answers = answers_go_on old new was is slot client kept.others (λ number reply its answers.
         subst (λ (v : Option Verdict). IsSettled v number reply) (sym kept.here) (stays result made number reply its answers));
   }
@@ -270,7 +272,8 @@ module _ (old new : Brokered) (slot : ℕ) (client : Client) (was is : List (Lis
           (subst (λ (o : Option State). IsSlotRight (is_up old) o (kept_in was slot)) at.here (right.slots slot)) in
           let last : IsLast at.world client (kept_in was slot client.0) =
           (rights log).last refl client (subst (λ (v : State). client.0 < v.shape.clients) same its.few) in
-          let low = answered_below (kept_in was slot client.0) n.0 k own (omega (arith, given.above, last.floor)) answers in
+          let low : k < n.0 =
+          omega (arith, answered_by_floor (kept_in was slot client.0) k own answers, given.above, last.floor) in
           let has : call_number (world_at old slot) client ≡ Some n.0 =
           ap (λ (o : Option State). call_number o client) at.here
           ∙ ap (λ (k : Kind). numbered k (number_under_way at.world client)) log ∙ n.1 in

@@ -17,6 +17,7 @@ use Rattle.directory.specs.declared.creation.Creation.{Creation}
 use Rattle.interleave.specs.Calls.{is_no_memory}
 use Rattle.interleave.specs.Rotation.{after_rotation, rotate_result as rotate_world}
 use Rattle.interleave.specs.State.{State, world_over}
+use Rattle.interleave.proofs.HoldsKept.{is_none}
 use Rattle.named.specs.Blocks.{state_in}
 use Rattle.named.specs.Brokers.{Brokered, IsStepCreated, IsWell, block_words, is_down, quiet, world_at, world_of}
 use Rattle.named.specs.Promises.{KeepsPromises}
@@ -30,13 +31,9 @@ use Rattle.named.proofs.Rotated.{all_quiet, may_rotate}
 use Rattle.session.specs.Sessions.{IsRight, IsSlotRight, Sessioned, is_up, kept_in}
 use Rattle.session.specs.Keeping.{SessionGoesOn}
 use Rattle.session.proofs.Calling.{up_is}
-use Rattle.session.proofs.Going.{client_goes_on, shape_if_quiet}
+use Rattle.session.proofs.Clients.{goes_on_kept}
 use Rattle.session.proofs.SlotLaws.{right_if_new, right_if_quiet, right_rotated}
-use Rattle.session.proofs.Worlds.{holds_there, none_some}
-
-no_broker_recovery : (o : Option BrokerRecovery) → is_some o ≡ false → o ≡ None
-no_broker_recovery None e = refl
-no_broker_recovery (Some r) e = cc
+use Rattle.session.proofs.Worlds.{holds_there, laid_out_quiet, none_some}
 
 -- where the histories may end, nobody calls any queue
 free_to : (down busy : Bool) (c : Option Creation) → Ok tt ≡ (let r : Result Unit Refusal = if down then Err NotReady
@@ -49,7 +46,7 @@ free_to false false None e = (refl, refl)
 
 pub up_rotates : (b : Brokered) → rotate_result false b ≡ Ok tt → b.recovery ≡ None
 up_rotates b rotates =
-    no_broker_recovery b.recovery (free_to (is_down b) (list_any has_calls_in b.slots) b.creation (sym rotates)).0
+    is_none b.recovery (free_to (is_down b) (list_any has_calls_in b.slots) b.creation (sym rotates)).0
 
 quiet_world : (ws : Words) (slot : Slot) (w : State) → IsQuietIn slot → world_in ws slot ≡ Some w
     → rotate_world false w ≡ Ok tt
@@ -209,12 +206,9 @@ module _ (old new : Brokered) (kept : List (List (Option Verdict))) (right : IsR
   creation_on (Err refusal) down idle same step others =
       subst (λ (b : Brokered). SessionGoesOn before (record { broker = b; kept = kept })) (sym same)
       (record { clients = λ at client is. is; answers = λ at client number reply is answered. answered })
-  creation_on (Ok opened) down idle same step others = record {
-    clients = λ at client is.
-        client_goes_on old new at client is
-        (λ w there. shape_if_quiet w (world_at new at) (others at (apart at w there) ∙ ap quiet there));
-    answers = λ at client number reply is answered. answered;
-  }
+  creation_on (Ok opened) down idle same step others =
+      goes_on_kept before after refl (λ at w there.
+      laid_out_quiet w (world_at new at) (others at (apart at w there) ∙ ap quiet there))
     where
       stepped : old.recovery ≡ None → (creation : Creation) → old.creation ≡ Some creation → (a : After Creation SlotId)
           → successor creation ≡ a → IsStepCreated old new creation (Ok opened) a → (at : ℕ) (w : State)

@@ -19,7 +19,7 @@ use Rattle.interleave.specs.Calls.{idle_result, is_no_memory}
 use Rattle.interleave.specs.Holds.{Holds}
 use Rattle.interleave.specs.State.{State, after_alone, after_start, is_down as is_world_down, number_of_idle, start_result, start_result_with}
 use Rattle.interleave.specs.Verdicts.{number_under_way, taken_as}
-use Rattle.interleave.proofs.HoldsKept.{holds_after_start}
+use Rattle.interleave.proofs.HoldsKept.{holds_after_start, is_none}
 use Rattle.interleave.proofs.verdicts.Alone.{answered_alone}
 use Rattle.named.specs.Brokers.{Brokered, IsWell, answer_if, room_at, world_after, world_at}
 use Rattle.named.proofs.Kept.{some_is}
@@ -31,7 +31,7 @@ use Rattle.session.specs.Requests.{AreOthersAlike, IsRun, IsServed, IsStarted, I
 use Rattle.session.specs.Sessions.{IsRight, IsSlotRight, Sessioned, is_up, kept_at, kept_in}
 use Rattle.session.proofs.Acting.{kept_beside, kept_new, right_beside}
 use Rattle.session.proofs.Calling.{IsAnsweredAt, admitted_has, admitted_up, answered_at, right_by_client, right_if_durable, right_served, right_started, up_is}
-use Rattle.session.proofs.Worlds.{clients_there, holds_there, no_recovery, up_there}
+use Rattle.session.proofs.Worlds.{clients_there, holds_there, up_there}
 
 -- the kept reply is that of the last number, and has it
 kept_by_reply : (last number : ℕ) (own reply : Reply) → by_reply own last number ≡ Ok (Some reply)
@@ -100,7 +100,7 @@ start_up w client number is = go (is_world_down w) refl (slice_get w.calls clien
         → (w.recovery ≡ None) × (client.0 < length w.calls)
     go down e None at answer = absurd (cc (answer))
     go true e (Some call) at answer = absurd (cc (answer))
-    go false e (Some None) at answer = (no_recovery w.recovery e, slice_get_within w.calls client.0 None at)
+    go false e (Some None) at answer = (is_none w.recovery e, slice_get_within w.calls client.0 None at)
     go false e (Some (Some u)) at answer = absurd (cc (answer))
 
 -- a call that ran to its end
