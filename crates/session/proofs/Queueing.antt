@@ -1,5 +1,5 @@
 -- A session stays right while queues are created and histories end.
-use Rattle.std.proofs.Common.{◌≡◌, ◌≢◌, ◌⊎◌, inl, inr, ℕ, Bool, true, false, not, is_some, ◌||◌, if◌then◌else◌, List, Option, Some, None, Result, Ok, Err, slice_get, refl, sym, ap, subst, ◌∙◌}
+use Rattle.std.proofs.Common.{◌≡◌, ◌≢◌, ◌⊎◌, inl, inr, ℕ, Bool, true, false, is_some, ◌||◌, if◌then◌else◌, List, Option, Some, None, Result, Ok, Err, slice_get, refl, sym, ap, subst, ◌∙◌}
 use Rattle.std.specs.Prelude.{IfOk, IfSome, OnErr, OnOk}
 use Rattle.std.specs.List.{list_any}
 use Rattle.std.proofs.lemmas.Bool.{cases_eq}
@@ -32,6 +32,7 @@ use Rattle.session.specs.Sessions.{IsRight, IsSlotRight, Sessioned, is_up, kept_
 use Rattle.session.specs.Keeping.{SessionGoesOn}
 use Rattle.session.proofs.Calling.{up_is}
 use Rattle.session.proofs.Clients.{goes_on_kept}
+use Rattle.session.proofs.Downs.{right_quiet}
 use Rattle.session.proofs.SlotLaws.{right_if_new, right_if_quiet, right_rotated}
 use Rattle.session.proofs.Worlds.{holds_there, laid_out_quiet, none_some}
 
@@ -83,13 +84,7 @@ module _ (old new : Brokered) (kept : List (List (Option Verdict))) (right : IsR
   -- nothing that the worlds have
   pub alike_right : IsWell new → new.recovery ≡ old.recovery → ((at : ℕ) → world_at new at ≡ world_at old at)
       → IsRight after
-  alike_right well recovery worlds = record {
-    well = well;
-    slots = λ at.
-        subst (λ (o : Option State). IsSlotRight (is_up new) o (kept_in kept at)) (sym (worlds at))
-        (subst (λ (b : Bool). IsSlotRight b (world_at old at) (kept_in kept at))
-        (ap (λ (o : Option BrokerRecovery). not (is_some o)) (sym recovery)) (right.slots at));
-  }
+  alike_right well recovery worlds = right_quiet before new right well recovery (λ at. ap quiet (worlds at))
 
   -- a creation began, or did not
   pub created_right : (result : Result Unit Refusal) → OnOk result (KeepsPromises new) → OnErr result (new ≡ old)
