@@ -133,7 +133,11 @@ module _ (old new : Brokered) (slot : ℕ) (client : Client) (was is : List (Lis
       each w here admitted r =
           right_stepped full w client (holds_there old right.well slot w here)
           (up_there old right.well slot w here (admitted_up old client admitted))
-          (λ reply answers. none reply (made.result_is ∙ open_answer (λ v. step_result full v client) old slot client (record { world = w; here = here; admitted = admitted }) ∙ answers))
+          (λ reply answers.
+          none reply
+          (made.result_is
+          ∙ open_answer (λ v. step_result full v client) old slot client
+          (record { world = w; here = here; admitted = admitted }) ∙ answers))
           (kept_in was slot) r
 
   pub advanced_right : (result : Result (Option Reply) Refusal) → IsRight before → IsWell new

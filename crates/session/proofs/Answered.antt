@@ -26,7 +26,7 @@ use Rattle.session.proofs.Clients.{laid_out_each}
 use Rattle.session.proofs.Downs.{up_same}
 use Rattle.session.proofs.Heard.{kept_there, right_heard}
 use Rattle.session.proofs.Recovering.{IsAsFar, IsStepDown, recovered_shape, step_down}
-use Rattle.session.proofs.Worlds.{IsLaidOutAs, client_stays, holds_there, laid_out_quiet, none_some, up_there}
+use Rattle.session.proofs.Worlds.{IsLaidOutAs, client_stays, few_there, laid_out_quiet, none_some, up_there}
 
 -- a slot's queue is still there, laid out as it was
 module _ (old new : Brokered) (slot : ℕ) (w : State) (here : world_at old slot ≡ Some w) where
@@ -158,7 +158,7 @@ module _ (s : Sessioned) (new : Brokered) (result : Result Bool Refusal) (right 
           let w : State = on.world in
           let r = verdicts_at slot w on.here on.log in
           let rested = r.rested refl (up_there new well slot w on.here up) in
-          let few : client.0 < MAX_CLIENTS = omega (arith, on.few, (holds_there new well slot w on.here).safe.few) in
+          let few : client.0 < MAX_CLIENTS = omega (arith, on.few, few_there new well slot w on.here) in
           let last : Option Verdict = kept_in s.kept slot client.0 in
           let now : Option Verdict = verdict_of (slice_get (told_in w.queue) client.0) in
           let told : (told_as now ≡ told_as last) ⊎ IsToldAbove (floor_by last) (told_as now) =

@@ -20,7 +20,7 @@ use Rattle.named.specs.declared.recovery.BrokerRecovery.{BrokerRecovery}
 use Rattle.session.specs.Keeping.{AreKeptAsHeard, told_when_asked, verdict_heard}
 use Rattle.session.specs.Sessions.{IsRight, IsSlotRight, kept_in}
 use Rattle.session.proofs.SlotLaws.{right_as_told, right_if_untold}
-use Rattle.session.proofs.Worlds.{clients_there, holds_there, open_below, up_there}
+use Rattle.session.proofs.Worlds.{clients_there, few_there, holds_there, open_below, up_there}
 
 -- what a client is told in a world
 abbrev told_at : State → Client → Result Told Refusal
@@ -95,7 +95,7 @@ module _ (b : Brokered) (well : IsWell b) (kept : List (List (Option Verdict))) 
       → client.0 < w.shape.clients → kept_in kept slot client.0 ≡ verdict_of (slice_get (told_in w.queue) client.0)
   kept_there slot w client up here lt =
       heard.each slot client.0 (open_below b well slot w here)
-      (omega (arith, lt, (holds_there b well slot w here).safe.few)) ∙ heard_there b well slot w client up here lt
+      (omega (arith, lt, few_there b well slot w here)) ∙ heard_there b well slot w client up here lt
 
   -- once the broker is ready, where nobody called since its clients were told
   pub right_heard : b.recovery ≡ None

@@ -35,7 +35,8 @@ module _ (s : Sessioned) (right : IsRight s) where
       there : IsSlotRight true (Some w) (kept_in s.kept slot)
       there =
           subst (λ (o : Option State). IsSlotRight true o (kept_in s.kept slot)) here
-          (subst (λ (u : Bool). IsSlotRight u (world_at s.broker slot) (kept_in s.kept slot)) (up_is s.broker up) (right.slots slot))
+          (subst (λ (u : Bool). IsSlotRight u (world_at s.broker slot) (kept_in s.kept slot)) (up_is s.broker up)
+          (right.slots slot))
 
   kept_right : (slot : ℕ) (w : State) (client : Client) → s.broker.recovery ≡ None → world_at s.broker slot ≡ Some w
       → w.shape.kind ≡ log_kind → client.0 < w.shape.clients → IsIdle w client

@@ -70,6 +70,34 @@ world_at_rest b well rotates at w here = go (slice_get b.slots at) refl here
     go None e there = absurd (none_some there)
     go (Some s) e there = quiet_world b.words s w (all_quiet b well (up_rotates b rotates) nobody at s e).1 there
 
+-- a step that was not refused is one of a creation that is under way
+record IsCreationStepped (old new : Brokered) (opened : Option SlotId) : Type 0 where
+  pub up : old.recovery ≡ None
+  pub creation : Creation
+  pub there : old.creation ≡ Some creation
+  pub step : IsStepCreated old new creation (Ok opened) (successor creation)
+
+creation_stepped : (old new : Brokered) (opened : Option SlotId)
+    → (is_down old ≡ true → (let r : Result (Option SlotId) Refusal = Ok opened in r) ≡ Err NotReady)
+    → (old.recovery ≡ None → old.creation ≡ None → (let r : Result (Option SlotId) Refusal = Ok opened in r) ≡ Err Idle)
+    → (old.recovery ≡ None
+    → IfSome old.creation (λ creation. IsStepCreated old new creation (Ok opened) (successor creation)))
+    → IsCreationStepped old new opened
+creation_stepped old new opened down idle step = go old.recovery refl old.creation refl
+  where
+    go : (recovery : Option BrokerRecovery) → old.recovery ≡ recovery → (creation : Option Creation)
+        → old.creation ≡ creation → IsCreationStepped old new opened
+    go (Some r) e creation c = absurd (cc (down (ap (λ (o : Option BrokerRecovery). is_some o) e)))
+    go None e None c = absurd (cc (idle e c))
+    go None e (Some creation) c = record {
+      up = e;
+      creation = creation;
+      there = c;
+      step =
+          subst (λ (o : Option Creation). IfSome o (λ k. IsStepCreated old new k (Ok opened) (successor k))) c
+          (step e);
+    }
+
 module _ (old new : Brokered) (kept : List (List (Option Verdict))) (right : IsRight (record { broker = old; kept = kept })) where
   abbrev before : Sessioned
   before = record { broker = old; kept = kept }
@@ -137,7 +165,9 @@ module _ (old new : Brokered) (kept : List (List (Option Verdict))) (right : IsR
       → ((other : ℕ) → IfOk result (λ opened. IfSome opened (λ slot. other ≢ slot.0))
       → quiet (world_at new other) ≡ quiet (world_at old other)) → IsRight after
   creation_right (Err refusal) well down idle same step others = unchanged_right same
-  creation_right (Ok opened) well down idle same step others = go old.recovery refl old.creation refl
+  creation_right (Ok opened) well down idle same step others =
+      let its = creation_stepped old new opened down idle step in
+      stepped its.up its.creation its.there (successor its.creation) refl its.step
     where
       stepped : old.recovery ≡ None → (creation : Creation) → old.creation ≡ Some creation → (a : After Creation SlotId)
           → successor creation ≡ a → IsStepCreated old new creation (Ok opened) a → IsRight after
@@ -157,14 +187,6 @@ module _ (old new : Brokered) (kept : List (List (Option Verdict))) (right : IsR
         where
           still : new.recovery ≡ None
           still = is.recovery ∙ up
-
-      go : (recovery : Option BrokerRecovery) → old.recovery ≡ recovery → (creation : Option Creation)
-          → old.creation ≡ creation → IsRight after
-      go (Some r) e creation c = absurd (cc (down (ap (λ (o : Option BrokerRecovery). is_some o) e)))
-      go None e None c = absurd (cc (idle e c))
-      go None e (Some creation) c =
-          stepped e creation c (successor creation) refl
-          (subst (λ (o : Option Creation). IfSome o (λ k. IsStepCreated old new k (Ok opened) (successor k))) c (step e))
 
   -- another history for each queue
   pub rotated_right : (result : Result Unit Refusal) → IsWell new → result ≡ rotate_result (is_no_memory result) old
@@ -216,13 +238,7 @@ module _ (old new : Brokered) (kept : List (List (Option Verdict))) (right : IsR
           (λ same. none_some
           (sym (none_where_free slot.0 (is_free old creation right.well up there slot e)) ∙ ap (world_at old) (sym same) ∙ here))
 
-      go : (recovery : Option BrokerRecovery) → old.recovery ≡ recovery → (creation : Option Creation)
-          → old.creation ≡ creation → (at : ℕ) (w : State) → world_at old at ≡ Some w → IfSome opened (λ slot. at ≢ slot.0)
-      go (Some r) e creation c = absurd (cc (down (ap (λ (o : Option BrokerRecovery). is_some o) e)))
-      go None e None c = absurd (cc (idle e c))
-      go None e (Some creation) c =
-          stepped e creation c (successor creation) refl
-          (subst (λ (o : Option Creation). IfSome o (λ k. IsStepCreated old new k (Ok opened) (successor k))) c (step e))
-
       apart : (at : ℕ) (w : State) → world_at old at ≡ Some w → IfSome opened (λ slot. at ≢ slot.0)
-      apart = go old.recovery refl old.creation refl
+      apart =
+          let its = creation_stepped old new opened down idle step in
+          stepped its.up its.creation its.there (successor its.creation) refl its.step

@@ -1,5 +1,5 @@
--- The worlds of a broker that is well: each holds, and all are ready once the broker is. And that queues are laid out as
--- they were.
+-- The worlds of a broker that is well: each holds, and all are ready once the broker is. And what it is that a slot's
+-- queue is laid out as it was.
 use Rattle.std.proofs.Common.{◌≡◌, ℕ, ◌<◌, ◌≤◌, true, Option, Some, None, slice_get, sym, ap, subst, ◌∙◌, refl, arith}
 use Rattle.std.proofs.lemmas.Option.{slice_get_within}
 use Rattle.words.specs.declared.call.Client.{Client}
@@ -25,8 +25,10 @@ none_some e = cc
 -- a ready slot's world is ready
 up_in : (ws : Words) (slot : Slot) (w : State) → IsReadyIn true slot → world_in ws slot ≡ Some w → w.recovery ≡ None
 up_in ws Closed w ready e = absurd (cc)
-up_in ws (Durable block) w ready e = let same : w.recovery ≡ block.core.trace.recovery = cc in same ∙ is_none block.core.trace.recovery ready
-up_in ws (Log block) w ready e = let same : w.recovery ≡ block.core.trace.recovery = cc in same ∙ is_none block.core.trace.recovery ready
+up_in ws (Durable block) w ready e =
+    let same : w.recovery ≡ block.core.trace.recovery = cc in same ∙ is_none block.core.trace.recovery ready
+up_in ws (Log block) w ready e =
+    let same : w.recovery ≡ block.core.trace.recovery = cc in same ∙ is_none block.core.trace.recovery ready
 
 module _ (b : Brokered) (well : IsWell b) (slot : ℕ) (w : State) (here : world_at b slot ≡ Some w) where
   pub holds_there : Holds w

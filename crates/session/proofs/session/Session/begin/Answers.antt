@@ -42,8 +42,8 @@ returns-in_err-start-clause-goes_on c =
     subst (λ (s : Sessioned). SessionGoesOn s new) c.self.view_is
     (goes_on_kept old new refl
     (laid_out_act (λ w. after_start (is_no_memory c.start.result) w c.args.client c.unwrap_or.result c.args.call)
-    (λ w. (start_alike (is_no_memory c.start.result) w c.args.client c.unwrap_or.result c.args.call).0) old.broker new.broker
-    c.args.queue.0 c.args.client c.start.ensures.world c.start.ensures.others))
+    (λ w. (start_alike (is_no_memory c.start.result) w c.args.client c.unwrap_or.result c.args.call).0)
+    old.broker new.broker c.args.queue.0 c.args.client c.start.ensures.world c.start.ensures.others))
 
 pub returns-clause-goes_on : goal.returns-clause-goes_on
 returns-clause-goes_on c =
@@ -52,8 +52,8 @@ returns-clause-goes_on c =
     subst (λ (s : Sessioned). SessionGoesOn s new) c.self.view_is
     (goes_on_kept old new refl
     (laid_out_act (λ w. after_start (is_no_memory c.start.result) w c.args.client c.unwrap_or.result c.args.call)
-    (λ w. (start_alike (is_no_memory c.start.result) w c.args.client c.unwrap_or.result c.args.call).0) old.broker new.broker
-    c.args.queue.0 c.args.client c.start.ensures.world c.start.ensures.others))
+    (λ w. (start_alike (is_no_memory c.start.result) w c.args.client c.unwrap_or.result c.args.call).0)
+    old.broker new.broker c.args.queue.0 c.args.client c.start.ensures.world c.start.ensures.others))
 
 pub returns-in_err-reply-clause-promises : goal.returns-in_err-reply-clause-promises
 returns-in_err-reply-clause-promises c = numbers_shown _ _ c.self.invariant c.self.view_is
