@@ -1,5 +1,5 @@
 -- A session stays right over its clients' calls.
-use Rattle.std.proofs.Common.{◌≡◌, ◌≢◌, ◌⊎◌, inl, inr, ℕ, ◌<◌, Bool, true, false, not, is_ok, is_some, if◌then◌else◌, length, List, Option, Some, None, Result, Ok, Err, slice_get, slice_index_or, refl, sym, ap, subst, ◌∙◌, arith}
+use Rattle.std.proofs.Common.{◌≡◌, ◌≢◌, ◌⊎◌, inl, inr, ℕ, ◌<◌, Bool, true, false, length, List, Option, Some, None, Result, Ok, Err, slice_get, slice_index_or, refl, sym, ap, subst, ◌∙◌, arith}
 use Rattle.std.proofs.lemmas.Bool.{cases_eq}
 use Rattle.std.proofs.lemmas.Option.{get_or_from_slice_get, slice_get_within}
 use Rattle.words.specs.declared.call.Client.{Client}
@@ -14,21 +14,23 @@ use Rattle.interleave.specs.Holds.{Holds}
 use Rattle.interleave.specs.State.{State, after_step, is_down as is_world_down, step_result, step_result_with}
 use Rattle.interleave.specs.Verdicts.{number_of_call, number_under_way, taken_as, IsLast, IsRecalled}
 use Rattle.interleave.proofs.HoldsKept.{waiting_is}
-use Rattle.named.specs.Brokers.{Brokered, IsWell, admission, answer_at, answer_if, world_after, world_at}
-use Rattle.named.specs.Slots.{acted, answered as answer_in}
+use Rattle.named.specs.Brokers.{Brokered, IsWell, admission, answer_at, world_at}
 use Rattle.named.proofs.Stays.{step_alike}
 use Rattle.arena.specs.Shape.{Shape}
-use Rattle.named.specs.declared.recovery.BrokerRecovery.{BrokerRecovery}
 use Rattle.session.specs.Keeping.{IsSettled, IsKeptNow, SessionGoesOn}
 use Rattle.session.specs.Promises.{IsReplyIfNumbered, IsReplyIn}
-use Rattle.session.proofs.Going.{answered_below, answers_go_on, clients_go_on, shape_by_client}
+use Rattle.session.proofs.Clients.{laid_out_act}
+use Rattle.session.proofs.Going.{answers_go_on}
+use Rattle.session.proofs.Numbering.{answered_by_floor}
 use Rattle.named.proofs.Kept.{some_is}
 use Rattle.interleave.proofs.verdicts.Last.{answered}
 use Rattle.session.specs.Requests.{AreOthersAlike, IsAdvanced, call_number, last_after, numbered}
 use Rattle.session.specs.Sessions.{IsLogClient, IsRight, IsSlotRight, Sessioned, is_up, kept_in}
 use Rattle.session.proofs.Calling.{IsAnsweredAt, IsKeptNew, admitted_up, answered_at, right_answered, right_by_client, right_if_durable, right_stepped, up_is}
+use Rattle.session.proofs.Downs.{up_same}
+use Rattle.session.proofs.Opens.{open_after, open_answer}
 use Rattle.session.proofs.SlotLaws.{right_if_quiet}
-use Rattle.session.proofs.Worlds.{holds_there, up_there}
+use Rattle.session.proofs.Worlds.{client_stays, holds_there, up_there}
 
 -- the same verdicts
 pub right_alike : (up : Bool) (o : Option State) (f g : ℕ → Option Verdict) → ((c : ℕ) → g c ≡ f c)
@@ -54,7 +56,7 @@ module _ (old new : Brokered) (slot : ℕ) (was is : List (List (Option Verdict)
   }
     where
       up : is_up new ≡ is_up old
-      up = ap (λ (o : Option BrokerRecovery). not (is_some o)) others.recovery
+      up = up_same old new others.recovery
 
       go : (at : ℕ) → (at ≡ slot) ⊎ (at ≢ slot) → IsSlotRight (is_up old) (world_at new at) (kept_in is at)
       go at (inl same) =
@@ -108,18 +110,6 @@ last_same (Some n) (Err refusal) last none = refl
 last_same (Some n) (Ok None) last none = refl
 last_same (Some n) (Ok (Some reply)) last none = absurd (none reply refl)
 
--- a client that is let in is answered by the slot's world, and acts on it
-answer_here : {T : Type 0} (g : State → Result T Refusal) (b : Brokered) (slot : ℕ) (client : Client) (w : State)
-    → admission b client ≡ Ok tt → world_at b slot ≡ Some w → answer_at g b slot client ≡ g w
-answer_here g b slot client w admitted here =
-    ap (λ (r : Result Unit Refusal). answer_if r (answer_in g (world_at b slot))) admitted ∙ ap (answer_in g) here
-
-world_here : (f : State → State) (b : Brokered) (slot : ℕ) (client : Client) (w : State) → admission b client ≡ Ok tt
-    → world_at b slot ≡ Some w → world_after f b slot client ≡ Some (f w)
-world_here f b slot client w admitted here =
-    ap (λ (r : Result Unit Refusal). if is_ok r then acted f (world_at b slot) else world_at b slot) admitted
-    ∙ ap (acted f) here
-
 -- a step
 module _ (old new : Brokered) (slot : ℕ) (client : Client) (was is : List (List (Option Verdict))) where
   abbrev before : Sessioned
@@ -143,7 +133,11 @@ module _ (old new : Brokered) (slot : ℕ) (client : Client) (was is : List (Lis
       each w here admitted r =
           right_stepped full w client (holds_there old right.well slot w here)
           (up_there old right.well slot w here (admitted_up old client admitted))
-          (λ reply answers. none reply (made.result_is ∙ answer_here (λ v. step_result full v client) old slot client w admitted here ∙ answers))
+          (λ reply answers.
+          none reply
+          (made.result_is
+          ∙ open_answer (λ v. step_result full v client) old slot client
+          (record { world = w; here = here; admitted = admitted }) ∙ answers))
           (kept_in was slot) r
 
   pub advanced_right : (result : Result (Option Reply) Refusal) → IsRight before → IsWell new
@@ -173,7 +167,9 @@ module _ (old new : Brokered) (slot : ℕ) (client : Client) (was is : List (Lis
       w = at.world
 
       now : world_at new slot ≡ Some (after_step false w client)
-      now = made.world ∙ world_here (λ v. after_step false v client) old slot client w at.admitted at.here
+      now = made.world
+          ∙ open_after (λ v. after_step false v client) old slot client
+          (record { world = w; here = at.here; admitted = at.admitted })
 
       was_right : IsSlotRight true (Some w) (kept_in was slot)
       was_right =
@@ -216,7 +212,9 @@ module _ (old new : Brokered) (slot : ℕ) (client : Client) (was is : List (Lis
       w = at.world
 
       now : world_at new slot ≡ Some (after_step false w client)
-      now = made.world ∙ world_here (λ v. after_step false v client) old slot client w at.admitted at.here
+      now = made.world
+          ∙ open_after (λ v. after_step false v client) old slot client
+          (record { world = w; here = at.here; admitted = at.admitted })
 
       n : (n : ℕ) × (number_under_way w client ≡ Some n) × (client.0 < length w.calls)
       n = step_numbered false w client reply at.says
@@ -239,9 +237,9 @@ module _ (old new : Brokered) (slot : ℕ) (client : Client) (was is : List (Lis
       (last_after (call_number (world_at old slot) client) result (kept_in was slot client.0))
       → SessionGoesOn before (record { broker = new; kept = is })
   advanced_on result right made kept = record {
-    clients = clients_go_on old new slot made.others
-        (shape_by_client (λ v. after_step (is_no_memory result) v client)
-        (λ v. (step_alike (is_no_memory result) v client).0) old new slot client made.world);
+    clients = client_stays old new
+        (laid_out_act (λ v. after_step (is_no_memory result) v client)
+        (λ v. (step_alike (is_no_memory result) v client).0) old new slot client made.world made.others.worlds);
     answers = answers_go_on old new was is slot client kept.others (λ number reply its answers.
         subst (λ (v : Option Verdict). IsSettled v number reply) (sym kept.here) (stays result made number reply its answers));
   }
@@ -270,7 +268,8 @@ module _ (old new : Brokered) (slot : ℕ) (client : Client) (was is : List (Lis
           (subst (λ (o : Option State). IsSlotRight (is_up old) o (kept_in was slot)) at.here (right.slots slot)) in
           let last : IsLast at.world client (kept_in was slot client.0) =
           (rights log).last refl client (subst (λ (v : State). client.0 < v.shape.clients) same its.few) in
-          let low = answered_below (kept_in was slot client.0) n.0 k own (omega (arith, given.above, last.floor)) answers in
+          let low : k < n.0 =
+          omega (arith, answered_by_floor (kept_in was slot client.0) k own answers, given.above, last.floor) in
           let has : call_number (world_at old slot) client ≡ Some n.0 =
           ap (λ (o : Option State). call_number o client) at.here
           ∙ ap (λ (k : Kind). numbered k (number_under_way at.world client)) log ∙ n.1 in

@@ -1,6 +1,5 @@
 -- A step of recovery leaves what is kept right, and each number that was answered stays so.
 use Rattle.std.proofs.Common.{◌≡◌, ◌≢◌, ℕ, ◌<◌, ◌≤◌, ◌⊎◌, inl, inr, Bool, true, false, not, is_some, List, Option, Some, None, Result, Ok, Err, slice_get, refl, sym, ap, subst, ◌∙◌, arith}
-use Rattle.std.proofs.lemmas.Bool.{cases_eq}
 use Rattle.words.specs.declared.call.Client.{Client}
 use Rattle.words.specs.declared.call.Kind.TheVariants.{Log as log_kind}
 use Rattle.words.specs.declared.call.Reply.{Reply}
@@ -11,13 +10,11 @@ use Rattle.words.specs.declared.told.Outcome.TheVariants.{NotTaken, Taken}
 use Rattle.words.specs.declared.told.Told.{Told}
 use Rattle.words.specs.declared.told.Verdict.{Verdict}
 use Rattle.logqueue.specs.Numbers.{floor_from, verdict_of}
-use Rattle.arena.specs.Shape.{Shape}
 use Rattle.arena.specs.declared.broker.SlotId.{SlotId}
 use Rattle.interleave.specs.Calls.{is_no_memory}
 use Rattle.interleave.specs.Queue.{told_in}
 use Rattle.interleave.specs.State.{State, after_recover}
 use Rattle.interleave.specs.Verdicts.{IsToldAbove, floor_by, taken_as, told_as}
-use Rattle.interleave.proofs.verdicts.Carried.{uncounted}
 use Rattle.named.specs.Brokers.{Brokered, IsWell, is_down, quiet, world_at}
 use Rattle.named.specs.Slots.{acted}
 use Rattle.named.specs.Stopping.{IsFound, IsFoundIn, IsRecoveryStep, found_by}
@@ -25,74 +22,45 @@ use Rattle.named.specs.declared.recovery.BrokerRecovery.{BrokerRecovery}
 use Rattle.named.specs.declared.recovery.BrokerRecovery.TheVariants.{ReadDirectory, RecoverQueue}
 use Rattle.session.specs.Keeping.{AreKeptAsHeard, IsSettled, SessionGoesOn}
 use Rattle.session.specs.Sessions.{AreVerdictsRight, IsLogClient, IsRight, IsSlotRight, Sessioned, is_up, kept_in}
+use Rattle.session.proofs.Clients.{laid_out_each}
 use Rattle.session.proofs.Downs.{up_same}
 use Rattle.session.proofs.Heard.{kept_there, right_heard}
 use Rattle.session.proofs.Recovering.{IsAsFar, IsStepDown, recovered_shape, step_down}
-use Rattle.session.proofs.Worlds.{holds_there, none_some, up_there}
+use Rattle.session.proofs.Worlds.{IsLaidOutAs, client_stays, few_there, laid_out_quiet, none_some, up_there}
 
 -- a slot's queue is still there, laid out as it was
-pub record IsShapedOn (w : State) (now : Option State) : Type 0 where
-  pub world : State
-  pub is : now ≡ Some world
-  pub shape : world.shape ≡ w.shape
-
-pub shaped_quiet : (w : State) (now : Option State) → quiet now ≡ quiet (Some w) → IsShapedOn w now
-shaped_quiet w (Some v) same =
-    let one : uncounted v ≡ uncounted w = cc (same) in
-    record { world = v; is = refl; shape = ap (λ (x : State). x.shape) one }
-shaped_quiet w None same = absurd (cc (same))
-
--- so its clients are still there
-pub client_on : (old new : Brokered) (slot : ℕ) (client : Client)
-    → ((w : State) → world_at old slot ≡ Some w → IsShapedOn w (world_at new slot)) → IsLogClient old slot client
-    → IsLogClient new slot client
-client_on old new slot client shaped is =
-    let on = shaped is.world is.here in
-    record {
-      world = on.world;
-      here = on.is;
-      log = ap (λ (s : Shape). s.kind) on.shape ∙ is.log;
-      few = subst (λ (s : Shape). client.0 < s.clients) (sym on.shape) is.few;
-    }
-
 module _ (old new : Brokered) (slot : ℕ) (w : State) (here : world_at old slot ≡ Some w) where
-  shaped_same : quiet (world_at new slot) ≡ quiet (world_at old slot) → IsShapedOn w (world_at new slot)
-  shaped_same same = shaped_quiet w (world_at new slot) (same ∙ ap quiet here)
+  laid_out_still : quiet (world_at new slot) ≡ quiet (world_at old slot) → IsLaidOutAs w (world_at new slot)
+  laid_out_still same = laid_out_quiet w (world_at new slot) (same ∙ ap quiet here)
 
-  shaped_in : (at : SlotId) (o : Option State) → world_at old at.0 ≡ o → IsFoundIn old new at o
-      → IsShapedOn w (world_at new slot)
-  shaped_in at (Some v) is found = shaped_same (found.worlds slot)
-  shaped_in at None is found = go (cases_eq slot at.0)
-    where
-      go : (slot ≡ at.0) ⊎ (slot ≡ at.0 → ⊥) → IsShapedOn w (world_at new slot)
-      go (inl same) = absurd (none_some (sym is ∙ ap (world_at old) (sym same) ∙ here))
-      go (inr ne) = shaped_same (found.others slot ne)
+  laid_out_in : (at : SlotId) (o : Option State) → world_at old at.0 ≡ o → IsFoundIn old new at o
+      → IsLaidOutAs w (world_at new slot)
+  laid_out_in at (Some v) is found = laid_out_still (found.worlds slot)
+  laid_out_in at None is found =
+      laid_out_each old new at.0 found.others (λ v there. absurd (none_some (sym is ∙ there))) slot w here
 
-  shaped_found : (o : Option SlotId) → IsFound old new o → IsShapedOn w (world_at new slot)
-  shaped_found None found = shaped_same (found.worlds slot)
-  shaped_found (Some at) found = shaped_in at (world_at old at.0) refl found
+  laid_out_found : (o : Option SlotId) → IsFound old new o → IsLaidOutAs w (world_at new slot)
+  laid_out_found None found = laid_out_still (found.worlds slot)
+  laid_out_found (Some at) found = laid_out_in at (world_at old at.0) refl found
 
-  shaped_recovered : (at : ℕ) (full : Bool) → world_at new at ≡ acted (after_recover full) (world_at old at)
+  laid_out_recovered : (at : ℕ) (full : Bool) → world_at new at ≡ acted (after_recover full) (world_at old at)
       → ((other : ℕ) → other ≢ at → quiet (world_at new other) ≡ quiet (world_at old other))
-      → IsShapedOn w (world_at new slot)
-  shaped_recovered at full is others = go (cases_eq slot at)
+      → IsLaidOutAs w (world_at new slot)
+  laid_out_recovered at full is others = laid_out_each old new at others own slot w here
     where
-      go : (slot ≡ at) ⊎ (slot ≡ at → ⊥) → IsShapedOn w (world_at new slot)
-      go (inl same) = record {
-        world = after_recover full w;
-        is =
-            ap (world_at new) same ∙ is
-            ∙ ap (acted (after_recover full)) (ap (world_at old) (sym same) ∙ here);
-        shape = recovered_shape full w;
+      own : (v : State) → world_at old at ≡ Some v → IsLaidOutAs v (world_at new at)
+      own v there = record {
+        world = after_recover full v;
+        is = is ∙ ap (acted (after_recover full)) there;
+        shape = recovered_shape full v;
       }
-      go (inr ne) = shaped_same (others slot ne)
 
-  pub shaped_step : (result : Result Bool Refusal) (o : Option BrokerRecovery) → IsRecoveryStep old new result o
-      → IsShapedOn w (world_at new slot)
-  shaped_step result None step = shaped_same (ap (λ (b : Brokered). quiet (world_at b slot)) step.1)
-  shaped_step result (Some (ReadDirectory at)) step = shaped_found (found_by old at).opened step.found
-  shaped_step result (Some (RecoverQueue at)) step =
-      shaped_recovered at.0 (is_no_memory result) step.world step.others
+  pub laid_out_step : (result : Result Bool Refusal) (o : Option BrokerRecovery) → IsRecoveryStep old new result o
+      → IsLaidOutAs w (world_at new slot)
+  laid_out_step result None step = laid_out_still (ap (λ (b : Brokered). quiet (world_at b slot)) step.1)
+  laid_out_step result (Some (ReadDirectory at)) step = laid_out_found (found_by old at).opened step.found
+  laid_out_step result (Some (RecoverQueue at)) step =
+      laid_out_recovered at.0 (is_no_memory result) step.world step.others
 
 -- what is told now is what was kept, or is of a later number: so a number that was answered is answered still
 answered_on : (last now : Option Verdict) (number : ℕ) (reply : Reply)
@@ -147,8 +115,9 @@ module _ (s : Sessioned) (new : Brokered) (result : Result Bool Refusal) (right 
           }
 
   clients_on : (slot : ℕ) (client : Client) → IsLogClient s.broker slot client → IsLogClient new slot client
-  clients_on slot client =
-      client_on s.broker new slot client (λ w here. shaped_step s.broker new slot w here result s.broker.recovery step)
+  clients_on =
+      client_stays s.broker new (λ slot w here.
+      laid_out_step s.broker new slot w here result s.broker.recovery step)
 
   pub unready_goes_on : SessionGoesOn s (record s { broker = new })
   unready_goes_on = record { clients = clients_on; answers = λ slot client number reply is answered. answered }
@@ -189,7 +158,7 @@ module _ (s : Sessioned) (new : Brokered) (result : Result Bool Refusal) (right 
           let w : State = on.world in
           let r = verdicts_at slot w on.here on.log in
           let rested = r.rested refl (up_there new well slot w on.here up) in
-          let few : client.0 < MAX_CLIENTS = omega (arith, on.few, (holds_there new well slot w on.here).safe.few) in
+          let few : client.0 < MAX_CLIENTS = omega (arith, on.few, few_there new well slot w on.here) in
           let last : Option Verdict = kept_in s.kept slot client.0 in
           let now : Option Verdict = verdict_of (slice_get (told_in w.queue) client.0) in
           let told : (told_as now ≡ told_as last) ⊎ IsToldAbove (floor_by last) (told_as now) =

@@ -1,7 +1,6 @@
 -- What is kept is right where it is what each client is told when asked.
 use Rattle.std.proofs.Common.{◌≡◌, ℕ, ◌<◌, ◌≤◌, inl, inr, Bool, true, false, not, is_some, if◌then◌else◌, List, Option, Some, None, Result, Ok, Err, slice_get, refl, sym, ap, subst, ◌∙◌, arith}
 use Rattle.std.proofs.lemmas.Bool.{cases_lt, lt-ltb}
-use Rattle.std.proofs.lemmas.Option.{slice_get_within}
 use Rattle.words.specs.declared.call.Client.{Client}
 use Rattle.words.specs.declared.call.Kind.TheVariants.{Log as log_kind}
 use Rattle.words.specs.declared.limits.TheConstants.{MAX_CLIENTS}
@@ -11,20 +10,17 @@ use Rattle.words.specs.declared.told.Told.{Told}
 use Rattle.words.specs.declared.told.Told.TheVariants.{None as told_none, Verdict as told_verdict, Row as told_row}
 use Rattle.words.specs.declared.told.Verdict.{Verdict}
 use Rattle.logqueue.specs.Numbers.{verdict_of}
-use Rattle.arena.specs.Shape.{Shape}
 use Rattle.arena.specs.declared.broker.TheConstants.{SLOTS}
 use Rattle.interleave.specs.Queue.{told_in, told_to}
 use Rattle.interleave.specs.State.{State}
 use Rattle.interleave.specs.Verdicts.{IsRested}
-use Rattle.named.specs.Brokers.{Brokered, IsSlotAt, IsWell, admission, answer_if, has_client, is_down, world_at, world_of}
-use Rattle.named.specs.Slots.{answered, world_in}
+use Rattle.named.specs.Brokers.{Brokered, IsWell, admission, answer_if, has_client, is_down, world_at}
+use Rattle.named.specs.Slots.{answered}
 use Rattle.named.specs.declared.recovery.BrokerRecovery.{BrokerRecovery}
-use Rattle.named.specs.declared.slot.Slot.{Slot}
-use Rattle.named.specs.declared.slot.Slot.TheVariants.{Closed, Durable, Log}
 use Rattle.session.specs.Keeping.{AreKeptAsHeard, told_when_asked, verdict_heard}
 use Rattle.session.specs.Sessions.{IsRight, IsSlotRight, kept_in}
 use Rattle.session.proofs.SlotLaws.{right_as_told, right_if_untold}
-use Rattle.session.proofs.Worlds.{holds_there, none_some, up_there}
+use Rattle.session.proofs.Worlds.{clients_there, few_there, holds_there, open_below, up_there}
 
 -- what a client is told in a world
 abbrev told_at : State → Client → Result Told Refusal
@@ -53,33 +49,7 @@ heard_down : (has : Bool) (o : Option State) (client : Client)
 heard_down true o client = refl
 heard_down false o client = refl
 
--- each queue has the broker's clients
-clients_in : (b : Brokered) (slot : ℕ) (s : Slot) (w : State) → IsSlotAt b.counts b.words slot s
-    → world_in b.words s ≡ Some w → w.shape.clients ≡ b.counts.clients
-clients_in b slot Closed w here is = absurd (none_some is)
-clients_in b slot (Durable block) w here is =
-    let same : w.shape ≡ block.core.shape = cc (is) in
-    ap (λ (x : Shape). x.clients) (same ∙ here.shape)
-clients_in b slot (Log block) w here is =
-    let same : w.shape ≡ block.core.shape = cc (is) in
-    ap (λ (x : Shape). x.clients) (same ∙ here.shape)
-
 module _ (b : Brokered) (well : IsWell b) where
-  pub clients_there : (slot : ℕ) (w : State) → world_at b slot ≡ Some w → w.shape.clients ≡ b.counts.clients
-  clients_there slot w here = go (slice_get b.slots slot) refl here
-    where
-      go : (o : Option Slot) → slice_get b.slots slot ≡ o → world_of b.words o ≡ Some w
-          → w.shape.clients ≡ b.counts.clients
-      go None at is = absurd (none_some is)
-      go (Some s) at is = clients_in b slot s w (well.slots slot s at) is
-
-  open_below : (slot : ℕ) (w : State) → world_at b slot ≡ Some w → slot < SLOTS
-  open_below slot w here = go (slice_get b.slots slot) refl here
-    where
-      go : (o : Option Slot) → slice_get b.slots slot ≡ o → world_of b.words o ≡ Some w → slot < SLOTS
-      go None at is = absurd (none_some is)
-      go (Some s) at is = omega (arith, slice_get_within b.slots slot s at, well.count)
-
   admitted : (client : Client) → b.recovery ≡ None → client.0 < b.counts.clients → admission b client ≡ Ok tt
   admitted client up lt =
       ap (λ (has : Bool). if has then (if is_down b then Err NotReady else Ok tt) else Err NoClient)
@@ -91,7 +61,7 @@ module _ (b : Brokered) (well : IsWell b) where
       → client.0 < w.shape.clients → told_when_asked b slot client.0 ≡ verdict_of (slice_get (told_in w.queue) client.0)
   heard_there slot w client up here lt =
       let asks : Client = record { 0 = client.0 } in
-      let few : client.0 < b.counts.clients = omega (arith, lt, clients_there slot w here) in
+      let few : client.0 < b.counts.clients = omega (arith, lt, clients_there b well slot w here) in
       ap (λ (a : Result Unit Refusal). heard_by a (world_at b slot) asks) (admitted asks up few)
       ∙ ap (λ (o : Option State). heard_by (Ok tt) o asks) here
       ∙ heard_verdict (slice_get (told_in w.queue) client.0) (told_in w.queue) asks refl
@@ -125,7 +95,7 @@ module _ (b : Brokered) (well : IsWell b) (kept : List (List (Option Verdict))) 
       → client.0 < w.shape.clients → kept_in kept slot client.0 ≡ verdict_of (slice_get (told_in w.queue) client.0)
   kept_there slot w client up here lt =
       heard.each slot client.0 (open_below b well slot w here)
-      (omega (arith, lt, (holds_there b well slot w here).safe.few)) ∙ heard_there b well slot w client up here lt
+      (omega (arith, lt, few_there b well slot w here)) ∙ heard_there b well slot w client up here lt
 
   -- once the broker is ready, where nobody called since its clients were told
   pub right_heard : b.recovery ≡ None

@@ -14,10 +14,11 @@ use Rattle.interleave.specs.Verdicts.{floor_by}
 use Rattle.session.specs.Keeping.{IsSettled}
 use Rattle.session.specs.Numbers.{by_last, by_number, by_outcome, by_reply, missed}
 
-misses : (last number : ℕ) → missed last number ≡ Ok None → ⊥
-misses last number e = go (nat_lt number last) e
+-- a number that is not served is refused
+pub misses : (last number : ℕ) (answer : Option Reply) → missed last number ≡ Ok answer → ⊥
+misses last number answer e = go (nat_lt number last) e
   where
-    go : (b : Bool) → (if b then (let r : Result (Option Reply) Refusal = Err Old in r) else Err Gap) ≡ Ok None → ⊥
+    go : (b : Bool) → (if b then (let r : Result (Option Reply) Refusal = Err Old in r) else Err Gap) ≡ Ok answer → ⊥
     go true e = absurd (cc)
     go false e = absurd (cc)
 
@@ -30,7 +31,7 @@ next_by_reply kept last number e = go (number == last) (number == last + 1) refl
         → number ≡ last + 1
     go true b is e = absurd (cc)
     go false true is e = eqb-true number (last + 1) is
-    go false false is e = absurd (misses last number e)
+    go false false is e = absurd (misses last number None e)
 
 same_by_none : (last number : ℕ) → by_outcome NotTaken last number ≡ Ok None → number ≡ last
 same_by_none last number e = go (number == last) refl e
@@ -38,7 +39,7 @@ same_by_none last number e = go (number == last) refl e
     go : (a : Bool) → (number == last) ≡ a
         → (if a then (let r : Result (Option Reply) Refusal = Ok None in r) else missed last number) ≡ Ok None → number ≡ last
     go true is e = eqb-true number last is
-    go false is e = absurd (misses last number e)
+    go false is e = absurd (misses last number None e)
 
 by_last_of : (last : Option Verdict) (number : ℕ) → by_number last number ≡ Ok None → by_last last number ≡ Ok None
 by_last_of last number e = go (number == 0) e

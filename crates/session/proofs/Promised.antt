@@ -1,5 +1,5 @@
 -- What follows of a session's invariant: what is promised of the numbers of its clients.
-use Rattle.std.proofs.Common.{◌≡◌, ℕ, ◌<◌, ◌⊎◌, inl, inr, Bool, true, not, is_some, Option, Some, None, refl, sym, ap}
+use Rattle.std.proofs.Common.{◌≡◌, ℕ, ◌<◌, ◌⊎◌, inl, inr, Bool, true, Option, Some, None, refl, sym}
 use Rattle.std.proofs.Common.{subst, arith}
 use Rattle.words.specs.declared.call.Client.{Client}
 use Rattle.words.specs.declared.call.Kind.TheVariants.{Log as log_kind}
@@ -11,11 +11,11 @@ use Rattle.interleave.specs.Verdicts.{IsIdle, IsToldAbove, taken_as, told_as}
 use Rattle.interleave.proofs.verdicts.Given.{none_above}
 use Rattle.interleave.proofs.verdicts.Settled.{base_below, settled}
 use Rattle.named.specs.Brokers.{world_at}
-use Rattle.named.specs.declared.recovery.BrokerRecovery.{BrokerRecovery}
 use Rattle.named.proofs.Promises.{promises_well}
 use Rattle.session.specs.Keeping.{IsSettled}
 use Rattle.session.specs.Promises.{IsKeptRight, IsReplyAt, IsReplyIn, KeepsNumbers}
 use Rattle.session.specs.Sessions.{AreVerdictsRight, IsLogClient, IsRight, IsSlotRight, Sessioned, is_up, kept_at, kept_in}
+use Rattle.session.proofs.Calling.{up_is}
 use Rattle.session.proofs.Worlds.{few_there, holds_there}
 
 -- a number that the last verdict says, or that is below it, is settled
@@ -32,13 +32,11 @@ module _ (s : Sessioned) (right : IsRight s) where
       → w.shape.kind ≡ log_kind → AreVerdictsRight true w (kept_in s.kept slot)
   right_at slot w up here log = there log
     where
-      ready : is_up s.broker ≡ true
-      ready = ap (λ (r : Option BrokerRecovery). not (is_some r)) up
-
       there : IsSlotRight true (Some w) (kept_in s.kept slot)
       there =
           subst (λ (o : Option State). IsSlotRight true o (kept_in s.kept slot)) here
-          (subst (λ (u : Bool). IsSlotRight u (world_at s.broker slot) (kept_in s.kept slot)) ready (right.slots slot))
+          (subst (λ (u : Bool). IsSlotRight u (world_at s.broker slot) (kept_in s.kept slot)) (up_is s.broker up)
+          (right.slots slot))
 
   kept_right : (slot : ℕ) (w : State) (client : Client) → s.broker.recovery ≡ None → world_at s.broker slot ≡ Some w
       → w.shape.kind ≡ log_kind → client.0 < w.shape.clients → IsIdle w client

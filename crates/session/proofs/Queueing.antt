@@ -1,5 +1,5 @@
 -- A session stays right while queues are created and histories end.
-use Rattle.std.proofs.Common.{◌≡◌, ◌≢◌, ◌⊎◌, inl, inr, ℕ, Bool, true, false, not, is_some, ◌||◌, if◌then◌else◌, List, Option, Some, None, Result, Ok, Err, slice_get, refl, sym, ap, subst, ◌∙◌}
+use Rattle.std.proofs.Common.{◌≡◌, ◌≢◌, ◌⊎◌, inl, inr, ℕ, Bool, true, false, is_some, ◌||◌, if◌then◌else◌, List, Option, Some, None, Result, Ok, Err, slice_get, refl, sym, ap, subst, ◌∙◌}
 use Rattle.std.specs.Prelude.{IfOk, IfSome, OnErr, OnOk}
 use Rattle.std.specs.List.{list_any}
 use Rattle.std.proofs.lemmas.Bool.{cases_eq}
@@ -17,6 +17,7 @@ use Rattle.directory.specs.declared.creation.Creation.{Creation}
 use Rattle.interleave.specs.Calls.{is_no_memory}
 use Rattle.interleave.specs.Rotation.{after_rotation, rotate_result as rotate_world}
 use Rattle.interleave.specs.State.{State, world_over}
+use Rattle.interleave.proofs.HoldsKept.{is_none}
 use Rattle.named.specs.Blocks.{state_in}
 use Rattle.named.specs.Brokers.{Brokered, IsStepCreated, IsWell, block_words, is_down, quiet, world_at, world_of}
 use Rattle.named.specs.Promises.{KeepsPromises}
@@ -30,13 +31,10 @@ use Rattle.named.proofs.Rotated.{all_quiet, may_rotate}
 use Rattle.session.specs.Sessions.{IsRight, IsSlotRight, Sessioned, is_up, kept_in}
 use Rattle.session.specs.Keeping.{SessionGoesOn}
 use Rattle.session.proofs.Calling.{up_is}
-use Rattle.session.proofs.Going.{client_goes_on, shape_if_quiet}
+use Rattle.session.proofs.Clients.{goes_on_kept}
+use Rattle.session.proofs.Downs.{right_quiet}
 use Rattle.session.proofs.SlotLaws.{right_if_new, right_if_quiet, right_rotated}
-use Rattle.session.proofs.Worlds.{holds_there, none_some}
-
-no_broker_recovery : (o : Option BrokerRecovery) → is_some o ≡ false → o ≡ None
-no_broker_recovery None e = refl
-no_broker_recovery (Some r) e = cc
+use Rattle.session.proofs.Worlds.{holds_there, laid_out_quiet, none_some}
 
 -- where the histories may end, nobody calls any queue
 free_to : (down busy : Bool) (c : Option Creation) → Ok tt ≡ (let r : Result Unit Refusal = if down then Err NotReady
@@ -49,7 +47,7 @@ free_to false false None e = (refl, refl)
 
 pub up_rotates : (b : Brokered) → rotate_result false b ≡ Ok tt → b.recovery ≡ None
 up_rotates b rotates =
-    no_broker_recovery b.recovery (free_to (is_down b) (list_any has_calls_in b.slots) b.creation (sym rotates)).0
+    is_none b.recovery (free_to (is_down b) (list_any has_calls_in b.slots) b.creation (sym rotates)).0
 
 quiet_world : (ws : Words) (slot : Slot) (w : State) → IsQuietIn slot → world_in ws slot ≡ Some w
     → rotate_world false w ≡ Ok tt
@@ -72,6 +70,34 @@ world_at_rest b well rotates at w here = go (slice_get b.slots at) refl here
     go None e there = absurd (none_some there)
     go (Some s) e there = quiet_world b.words s w (all_quiet b well (up_rotates b rotates) nobody at s e).1 there
 
+-- a step that was not refused is one of a creation that is under way
+record IsCreationStepped (old new : Brokered) (opened : Option SlotId) : Type 0 where
+  pub up : old.recovery ≡ None
+  pub creation : Creation
+  pub there : old.creation ≡ Some creation
+  pub step : IsStepCreated old new creation (Ok opened) (successor creation)
+
+creation_stepped : (old new : Brokered) (opened : Option SlotId)
+    → (is_down old ≡ true → (let r : Result (Option SlotId) Refusal = Ok opened in r) ≡ Err NotReady)
+    → (old.recovery ≡ None → old.creation ≡ None → (let r : Result (Option SlotId) Refusal = Ok opened in r) ≡ Err Idle)
+    → (old.recovery ≡ None
+    → IfSome old.creation (λ creation. IsStepCreated old new creation (Ok opened) (successor creation)))
+    → IsCreationStepped old new opened
+creation_stepped old new opened down idle step = go old.recovery refl old.creation refl
+  where
+    go : (recovery : Option BrokerRecovery) → old.recovery ≡ recovery → (creation : Option Creation)
+        → old.creation ≡ creation → IsCreationStepped old new opened
+    go (Some r) e creation c = absurd (cc (down (ap (λ (o : Option BrokerRecovery). is_some o) e)))
+    go None e None c = absurd (cc (idle e c))
+    go None e (Some creation) c = record {
+      up = e;
+      creation = creation;
+      there = c;
+      step =
+          subst (λ (o : Option Creation). IfSome o (λ k. IsStepCreated old new k (Ok opened) (successor k))) c
+          (step e);
+    }
+
 module _ (old new : Brokered) (kept : List (List (Option Verdict))) (right : IsRight (record { broker = old; kept = kept })) where
   abbrev before : Sessioned
   before = record { broker = old; kept = kept }
@@ -86,13 +112,7 @@ module _ (old new : Brokered) (kept : List (List (Option Verdict))) (right : IsR
   -- nothing that the worlds have
   pub alike_right : IsWell new → new.recovery ≡ old.recovery → ((at : ℕ) → world_at new at ≡ world_at old at)
       → IsRight after
-  alike_right well recovery worlds = record {
-    well = well;
-    slots = λ at.
-        subst (λ (o : Option State). IsSlotRight (is_up new) o (kept_in kept at)) (sym (worlds at))
-        (subst (λ (b : Bool). IsSlotRight b (world_at old at) (kept_in kept at))
-        (ap (λ (o : Option BrokerRecovery). not (is_some o)) (sym recovery)) (right.slots at));
-  }
+  alike_right well recovery worlds = right_quiet before new right well recovery (λ at. ap quiet (worlds at))
 
   -- a creation began, or did not
   pub created_right : (result : Result Unit Refusal) → OnOk result (KeepsPromises new) → OnErr result (new ≡ old)
@@ -145,7 +165,9 @@ module _ (old new : Brokered) (kept : List (List (Option Verdict))) (right : IsR
       → ((other : ℕ) → IfOk result (λ opened. IfSome opened (λ slot. other ≢ slot.0))
       → quiet (world_at new other) ≡ quiet (world_at old other)) → IsRight after
   creation_right (Err refusal) well down idle same step others = unchanged_right same
-  creation_right (Ok opened) well down idle same step others = go old.recovery refl old.creation refl
+  creation_right (Ok opened) well down idle same step others =
+      let its = creation_stepped old new opened down idle step in
+      stepped its.up its.creation its.there (successor its.creation) refl its.step
     where
       stepped : old.recovery ≡ None → (creation : Creation) → old.creation ≡ Some creation → (a : After Creation SlotId)
           → successor creation ≡ a → IsStepCreated old new creation (Ok opened) a → IsRight after
@@ -165,14 +187,6 @@ module _ (old new : Brokered) (kept : List (List (Option Verdict))) (right : IsR
         where
           still : new.recovery ≡ None
           still = is.recovery ∙ up
-
-      go : (recovery : Option BrokerRecovery) → old.recovery ≡ recovery → (creation : Option Creation)
-          → old.creation ≡ creation → IsRight after
-      go (Some r) e creation c = absurd (cc (down (ap (λ (o : Option BrokerRecovery). is_some o) e)))
-      go None e None c = absurd (cc (idle e c))
-      go None e (Some creation) c =
-          stepped e creation c (successor creation) refl
-          (subst (λ (o : Option Creation). IfSome o (λ k. IsStepCreated old new k (Ok opened) (successor k))) c (step e))
 
   -- another history for each queue
   pub rotated_right : (result : Result Unit Refusal) → IsWell new → result ≡ rotate_result (is_no_memory result) old
@@ -209,12 +223,9 @@ module _ (old new : Brokered) (kept : List (List (Option Verdict))) (right : IsR
   creation_on (Err refusal) down idle same step others =
       subst (λ (b : Brokered). SessionGoesOn before (record { broker = b; kept = kept })) (sym same)
       (record { clients = λ at client is. is; answers = λ at client number reply is answered. answered })
-  creation_on (Ok opened) down idle same step others = record {
-    clients = λ at client is.
-        client_goes_on old new at client is
-        (λ w there. shape_if_quiet w (world_at new at) (others at (apart at w there) ∙ ap quiet there));
-    answers = λ at client number reply is answered. answered;
-  }
+  creation_on (Ok opened) down idle same step others =
+      goes_on_kept before after refl (λ at w there.
+      laid_out_quiet w (world_at new at) (others at (apart at w there) ∙ ap quiet there))
     where
       stepped : old.recovery ≡ None → (creation : Creation) → old.creation ≡ Some creation → (a : After Creation SlotId)
           → successor creation ≡ a → IsStepCreated old new creation (Ok opened) a → (at : ℕ) (w : State)
@@ -227,13 +238,7 @@ module _ (old new : Brokered) (kept : List (List (Option Verdict))) (right : IsR
           (λ same. none_some
           (sym (none_where_free slot.0 (is_free old creation right.well up there slot e)) ∙ ap (world_at old) (sym same) ∙ here))
 
-      go : (recovery : Option BrokerRecovery) → old.recovery ≡ recovery → (creation : Option Creation)
-          → old.creation ≡ creation → (at : ℕ) (w : State) → world_at old at ≡ Some w → IfSome opened (λ slot. at ≢ slot.0)
-      go (Some r) e creation c = absurd (cc (down (ap (λ (o : Option BrokerRecovery). is_some o) e)))
-      go None e None c = absurd (cc (idle e c))
-      go None e (Some creation) c =
-          stepped e creation c (successor creation) refl
-          (subst (λ (o : Option Creation). IfSome o (λ k. IsStepCreated old new k (Ok opened) (successor k))) c (step e))
-
       apart : (at : ℕ) (w : State) → world_at old at ≡ Some w → IfSome opened (λ slot. at ≢ slot.0)
-      apart = go old.recovery refl old.creation refl
+      apart =
+          let its = creation_stepped old new opened down idle step in
+          stepped its.up its.creation its.there (successor its.creation) refl its.step

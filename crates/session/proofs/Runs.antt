@@ -16,6 +16,7 @@ use Rattle.interleave.proofs.AloneLaws.{get_set}
 use Rattle.named.specs.Blocks.{waiting_in}
 use Rattle.named.specs.Brokers.{Brokered, IsWell, admission, answer_at, quiet, room_at, world_after, world_at}
 use Rattle.named.specs.Slots.{IfWorld, acted}
+use Rattle.named.proofs.Stays.{start_alike}
 use Rattle.session.specs.Requests.{AreOthersAlike, IsOpenTo, IsRun, IsServed}
 use Rattle.session.proofs.Opens.{alike_further, open_after, open_answer, still_admitted}
 
@@ -77,11 +78,6 @@ goes_on_once_started w client number call refusal started refused =
     waiting (is_down w) (slice_get (after_call_began w client begun.n call).calls client.0) u begun.startable.up calls in
     let here : waiting_in (after_start false w client number call) client ≡ Ok u = ap (λ v. waiting_in v client) begun.is ∙ waits in
     absurd (cc)
-
--- a start leaves the queue laid out as it was
-pub shape_started : (w : State) (client : Client) (number : ℕ) (call : Call) → start_result false w client number ≡ Ok tt
-    → (after_start false w client number call).shape ≡ w.shape
-shape_started w client number call started = ap (λ v. v.shape) (begun_by w client number call started).is
 
 -- memory was not refused where there was room
 pub not_full : {T : Type 0} (result : Result T Refusal) (room : ℕ) → (is_no_memory result ≡ true → room ≡ 0) → 1 ≤ room
@@ -191,7 +187,7 @@ module _ (old made now : Brokered) (slot : ℕ) (client : Client) (number : ℕ)
         world = v;
         here = left;
         admitted = still_admitted old now client slot opened.world v well tried.well opened.here left
-            (shape_started opened.world client number call (was_started ok)) (tried.others.recovery ∙ m.recovery) opened.admitted;
+            (start_alike false opened.world client number call).0 (tried.others.recovery ∙ m.recovery) opened.admitted;
       } in
       goes_on_once_started opened.world client number call refusal (was_started ok)
       (sym (open_answer (λ w. waiting_in w client) now slot client open_now) ∙ refused)

@@ -1,5 +1,5 @@
 -- A session stays right over its clients' requests, and each reply is that of its number.
-use Rattle.std.proofs.Common.{◌≡◌, ◌≢◌, inl, inr, ℕ, ◌<◌, ◌≤◌, ◌+◌, ◌==◌, Bool, true, false, is_some, if◌then◌else◌, nat_lt, length, List, Option, Some, None, Result, Ok, Err, slice_get, refl, sym, ap, subst, ◌∙◌, arith}
+use Rattle.std.proofs.Common.{◌≡◌, ◌≢◌, inl, inr, ℕ, ◌<◌, ◌≤◌, ◌+◌, ◌==◌, Bool, true, false, is_some, if◌then◌else◌, List, Option, Some, None, Result, Ok, Err, refl, sym, ap, subst, ◌∙◌, arith}
 use Rattle.std.proofs.lemmas.Bool.{eqb-true, ltb-true}
 use Rattle.std.proofs.lemmas.Option.{slice_get_within}
 use Rattle.words.specs.declared.call.Call.{Call}
@@ -14,10 +14,9 @@ use Rattle.words.specs.declared.told.Outcome.TheVariants.{NotTaken, Taken}
 use Rattle.words.specs.declared.told.Verdict.{Verdict}
 use Rattle.arena.specs.Shape.{Shape}
 use Rattle.protocol.specs.Machine.{FitsCall}
-use Rattle.protocol.specs.declared.UnderWay.{UnderWay}
-use Rattle.interleave.specs.Calls.{idle_result, is_no_memory}
+use Rattle.interleave.specs.Calls.{is_no_memory}
 use Rattle.interleave.specs.Holds.{Holds}
-use Rattle.interleave.specs.State.{State, after_alone, after_start, is_down as is_world_down, number_of_idle, start_result, start_result_with}
+use Rattle.interleave.specs.State.{State, after_alone, after_start}
 use Rattle.interleave.specs.Verdicts.{number_under_way, taken_as}
 use Rattle.interleave.proofs.HoldsKept.{holds_after_start}
 use Rattle.interleave.proofs.verdicts.Alone.{answered_alone}
@@ -31,28 +30,26 @@ use Rattle.session.specs.Requests.{AreOthersAlike, IsRun, IsServed, IsStarted, I
 use Rattle.session.specs.Sessions.{IsRight, IsSlotRight, Sessioned, is_up, kept_at, kept_in}
 use Rattle.session.proofs.Acting.{kept_beside, kept_new, right_beside}
 use Rattle.session.proofs.Calling.{IsAnsweredAt, admitted_has, admitted_up, answered_at, right_by_client, right_if_durable, right_served, right_started, up_is}
-use Rattle.session.proofs.Worlds.{clients_there, holds_there, no_recovery, up_there}
+use Rattle.session.proofs.Numbering.{misses}
+use Rattle.session.proofs.Runs.{begun_by}
+use Rattle.session.proofs.Worlds.{clients_there, holds_there, up_there}
+
+-- a number that runs, or is refused, has no reply
+runs_or_missed : (b : Bool) (last number : ℕ) (reply : Reply)
+    → (let r : Result (Option Reply) Refusal = if b then Ok None else missed last number in r) ≡ Ok (Some reply) → ⊥
+runs_or_missed true last number reply e = cc
+runs_or_missed false last number reply e = misses last number (Some reply) e
 
 -- the kept reply is that of the last number, and has it
 kept_by_reply : (last number : ℕ) (own reply : Reply) → by_reply own last number ≡ Ok (Some reply)
     → (last ≡ number) × (own ≡ reply)
 kept_by_reply last number own reply is = go (number == last) refl is
   where
-    later : (b : Bool) → (let r : Result (Option Reply) Refusal = if b then Ok None else missed last number in r)
-        ≡ Ok (Some reply) → ⊥
-    later true e = cc
-    later false e = other (nat_lt number last) e
-      where
-        other : (b : Bool) → (let r : Result (Option Reply) Refusal = if b then Err Old else Err Gap in r)
-            ≡ Ok (Some reply) → ⊥
-        other true e = cc
-        other false e = cc
-
     go : (b : Bool) → (number == last) ≡ b → (let r : Result (Option Reply) Refusal = if b then Ok (Some own)
         else (if number == last + 1 then Ok None else missed last number) in r) ≡ Ok (Some reply)
         → (last ≡ number) × (own ≡ reply)
     go true same e = (sym (eqb-true number last same), cc (e))
-    go false same e = absurd (later (number == last + 1) e)
+    go false same e = absurd (runs_or_missed (number == last + 1) last number reply e)
 
 -- a start
 module _ (old new : Brokered) (slot : ℕ) (client : Client) (number : ℕ) (call : Call)
@@ -90,19 +87,6 @@ module _ (old new : Brokered) (slot : ℕ) (client : Client) (number : ℕ) (cal
   unserved_right refusal right well (inl none, room, others) = same_right right well others (none.2 slot)
   unserved_right refusal right well (inr refused, room, others) = begun_right false right well others refused.1
 
--- a client that starts a call is one of a ready queue
-start_up : (w : State) (client : Client) (number : ℕ) → start_result false w client number ≡ Ok tt
-    → (w.recovery ≡ None) × (client.0 < length w.calls)
-start_up w client number is = go (is_world_down w) refl (slice_get w.calls client.0) refl is
-  where
-    go : (down : Bool) → is_world_down w ≡ down → (o : Option (Option UnderWay)) → slice_get w.calls client.0 ≡ o
-        → start_result_with false w client (number_of_idle w.queue client number (idle_result down o)) ≡ Ok tt
-        → (w.recovery ≡ None) × (client.0 < length w.calls)
-    go down e None at answer = absurd (cc (answer))
-    go true e (Some call) at answer = absurd (cc (answer))
-    go false e (Some None) at answer = (no_recovery w.recovery e, slice_get_within w.calls client.0 None at)
-    go false e (Some (Some u)) at answer = absurd (cc (answer))
-
 -- a call that ran to its end
 module _ (old new : Brokered) (slot : ℕ) (client : Client) (number : ℕ) (call : Call) (reply : Reply)
     (was : List (List (Option Verdict))) (right : IsRight (record { broker = old; kept = was })) (well : IsWell new)
@@ -123,7 +107,9 @@ module _ (old new : Brokered) (slot : ℕ) (client : Client) (number : ℕ) (cal
   started = holds_after_start false w client number call holds fits
 
   few : client.0 < 16
-  few = let at = (start_up w client number made.started).1 in omega (arith, at, holds.safe.clients, holds.safe.few)
+  few =
+      let idle = (begun_by w client number call made.started).startable.idle in
+      omega (arith, slice_get_within w.calls client.0 None idle, holds.safe.clients, holds.safe.few)
 
   alike : (done.shape ≡ w.shape) × (done.recovery ≡ w.recovery)
   alike =
@@ -173,18 +159,6 @@ module _ (old new : Brokered) (slot : ℕ) (client : Client) (number : ℕ) (cal
       (answered_alone false w client number call holds log few started made.started made.steps reply made.answered).reply_of
 
 -- what is kept where a number's reply is
-missed_none : (last number : ℕ) (reply : Reply) → missed last number ≡ Ok (Some reply) → ⊥
-missed_none last number reply = go (nat_lt number last)
-  where
-    go : (b : Bool) → (let r : Result (Option Reply) Refusal = if b then Err Old else Err Gap in r) ≡ Ok (Some reply) → ⊥
-    go true e = cc
-    go false e = cc
-
-runs_or_missed : (b : Bool) (last number : ℕ) (reply : Reply)
-    → (let r : Result (Option Reply) Refusal = if b then Ok None else missed last number in r) ≡ Ok (Some reply) → ⊥
-runs_or_missed true last number reply e = cc
-runs_or_missed false last number reply e = missed_none last number reply e
-
 pub kept_by_number : (last : Option Verdict) (number : ℕ) (reply : Reply) → by_number last number ≡ Ok (Some reply)
     → last ≡ Some (taken_as number reply)
 kept_by_number last number reply is = go (number == 0) last is

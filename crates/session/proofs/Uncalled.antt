@@ -26,11 +26,10 @@ use Rattle.named.specs.declared.recovery.BrokerRecovery.TheVariants.{ReadDirecto
 use Rattle.named.specs.declared.slot.Slot.{Slot}
 use Rattle.named.specs.declared.slot.Slot.TheVariants.{Closed}
 use Rattle.session.specs.Sessions.{IsUncalled}
-use Rattle.session.proofs.Going.{open_below}
 use Rattle.session.proofs.Queueing.{world_at_rest}
 use Rattle.session.proofs.Recovering.{recovered_shape}
 use Rattle.session.proofs.SlotLaws.{rested_recovered}
-use Rattle.session.proofs.Worlds.{holds_there, none_some}
+use Rattle.session.proofs.Worlds.{holds_there, none_some, open_below}
 
 -- a world where nobody has called, if it is that of a ready log queue
 abbrev pub IsRestedIf : State → Type 0

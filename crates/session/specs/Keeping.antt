@@ -48,7 +48,7 @@ AreKeptAfter old new (Ok true) = AreKeptAsHeard new.broker new.kept
 AreKeptAfter old new (Ok false) = new.kept ≡ old.kept
 AreKeptAfter old new (Err refusal) = new.kept ≡ old.kept
 
--- a number that was answered stays so
+-- what is settled stays so, and clients of log queues stay
 pub record SessionGoesOn (old new : Sessioned) : Type 0 where
   pub clients : (slot : ℕ) (client : Client) → IsLogClient old.broker slot client → IsLogClient new.broker slot client
   pub answers : (slot : ℕ) (client : Client) (number : ℕ) (reply : Reply) → IsLogClient old.broker slot client

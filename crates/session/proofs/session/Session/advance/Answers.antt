@@ -8,8 +8,8 @@ use Rattle.session.specs.Requests.{IsAdvanced, call_number, last_after}
 use Rattle.session.specs.Sessions.{Sessioned, kept_in}
 use Rattle.session.proofs.Acting.{advanced_on, advanced_reply, advanced_right, kept_heard, kept_refused, number_heard}
 use Rattle.session.proofs.Calling.{answered_at}
-use Rattle.session.proofs.Going.{open_below}
 use Rattle.session.proofs.Promised.{numbers_kept, numbers_shown}
+use Rattle.session.proofs.Worlds.{open_below}
 use Rattle.session.proofs.session.Session.advance.Goals as goal
 
 pub returns-in_err-number-clause-promises : goal.returns-in_err-number-clause-promises

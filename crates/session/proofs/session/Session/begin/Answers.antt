@@ -3,12 +3,13 @@ use Rattle.words.specs.declared.call.Reply.{Reply}
 use Rattle.words.specs.declared.refusal.Refusal.{Refusal}
 use Rattle.interleave.specs.Calls.{is_no_memory}
 use Rattle.interleave.specs.State.{after_start}
+use Rattle.named.proofs.Stays.{start_alike}
 use Rattle.session.specs.Keeping.{SessionGoesOn}
 use Rattle.session.specs.Requests.{IsBegunBy, answer_to, as_begun, number_or_zero}
 use Rattle.session.specs.Sessions.{IsRight, Sessioned}
 use Rattle.session.proofs.Promised.{numbers_kept, numbers_shown}
 use Rattle.session.proofs.Serving.{answered_reply, started_right}
-use Rattle.session.proofs.Clients.{goes_on_kept, laid_out_act, shape_after_start}
+use Rattle.session.proofs.Clients.{goes_on_kept, laid_out_act}
 use Rattle.session.proofs.Starts.{begun_if_runs, number_is, started_by}
 use Rattle.session.proofs.session.Session.begin.Goals as goal
 
@@ -41,8 +42,8 @@ returns-in_err-start-clause-goes_on c =
     subst (λ (s : Sessioned). SessionGoesOn s new) c.self.view_is
     (goes_on_kept old new refl
     (laid_out_act (λ w. after_start (is_no_memory c.start.result) w c.args.client c.unwrap_or.result c.args.call)
-    (λ w. shape_after_start (is_no_memory c.start.result) w c.args.client c.unwrap_or.result c.args.call) old.broker new.broker
-    c.args.queue.0 c.args.client c.start.ensures.world c.start.ensures.others))
+    (λ w. (start_alike (is_no_memory c.start.result) w c.args.client c.unwrap_or.result c.args.call).0)
+    old.broker new.broker c.args.queue.0 c.args.client c.start.ensures.world c.start.ensures.others))
 
 pub returns-clause-goes_on : goal.returns-clause-goes_on
 returns-clause-goes_on c =
@@ -51,8 +52,8 @@ returns-clause-goes_on c =
     subst (λ (s : Sessioned). SessionGoesOn s new) c.self.view_is
     (goes_on_kept old new refl
     (laid_out_act (λ w. after_start (is_no_memory c.start.result) w c.args.client c.unwrap_or.result c.args.call)
-    (λ w. shape_after_start (is_no_memory c.start.result) w c.args.client c.unwrap_or.result c.args.call) old.broker new.broker
-    c.args.queue.0 c.args.client c.start.ensures.world c.start.ensures.others))
+    (λ w. (start_alike (is_no_memory c.start.result) w c.args.client c.unwrap_or.result c.args.call).0)
+    old.broker new.broker c.args.queue.0 c.args.client c.start.ensures.world c.start.ensures.others))
 
 pub returns-in_err-reply-clause-promises : goal.returns-in_err-reply-clause-promises
 returns-in_err-reply-clause-promises c = numbers_shown _ _ c.self.invariant c.self.view_is

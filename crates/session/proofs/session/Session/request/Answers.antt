@@ -10,8 +10,9 @@ use Rattle.session.specs.Requests.{request_admission, request_answer}
 use Rattle.session.specs.Sessions.{IsRight, Sessioned, kept_at}
 use Rattle.session.proofs.Promised.{numbers_kept, numbers_shown}
 use Rattle.session.proofs.Serving.{kept_reply, run_reply, run_right, runs_admitted, unserved_right}
-use Rattle.session.proofs.Clients.{goes_on_kept, goes_on_kept_now, laid_out_each, laid_out_run, others_run, slot_within}
+use Rattle.session.proofs.Clients.{goes_on_kept, goes_on_kept_now, laid_out_each, laid_out_run, others_run}
 use Rattle.session.proofs.Numbering.{answer_runs, answered_below}
+use Rattle.session.proofs.Worlds.{open_below}
 use Rattle.session.proofs.session.Session.request.Goals as goal
 
 pub returns-in_err-reply-2-clause-goes_on : goal.returns-in_err-reply-2-clause-goes_on
@@ -26,7 +27,7 @@ returns-in_err-reply-2-clause-goes_on c =
 pub hear-requires-clause-slot : goal.hear-requires-clause-slot
 hear-requires-clause-slot c =
     let ran = c.in_ok-reply-2.ensures.run in
-    slot_within c.self.inside.broker c.args.queue.0 ran.world c.self.invariant.well ran.was
+    open_below c.self.inside.broker c.self.invariant.well c.args.queue.0 ran.world ran.was
 
 pub returns-clause-goes_on : goal.returns-clause-goes_on
 returns-clause-goes_on c =
