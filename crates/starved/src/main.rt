@@ -3,13 +3,13 @@
 //! with `again`, `unfinished` or `busy` say what was refused.
 #![tactic(auto)]
 
+mod acts;
 mod calls;
 mod opening;
 mod seats;
-mod stops;
 
+use crate::acts::play;
 use crate::opening::{MOST_TRIES, opened};
-use crate::stops::play;
 use anyhow::Result;
 use std::marker::Brand;
 use words::Refusal;

@@ -87,12 +87,24 @@ impl<'a, J: Naming> Gate for Stopping<'a, J> {
     }
 }
 
-/// What is held, once the session is taken back.
-fn show_queue<R: Print>(rt: &R, session: &Session) -> Result<()> {
+/// How many calls took effect since the histories began, and what the queue holds.
+fn left(session: &Session) -> Result<(usize, Vec<u32>), Refusal> {
     let effects = session.broker().order(QUEUE)?.entries.len();
-    let values = session.broker().content(QUEUE)?.len();
-    println!(rt; "{effects} calls took effect, {values} values are held")?;
-    Ok(())
+    Ok((effects, session.broker().content(QUEUE)?))
+}
+
+/// Prints what is left, once the session is taken back.
+fn show_left<R: Print>(rt: &R, session: &Session) -> Result<()> {
+    for _ in 0..MOST_TRIES {
+        match left(session) {
+            Ok((effects, values)) => {
+                println!(rt; "calls that took effect: {effects}, values: {values:?}")?;
+                return Ok(());
+            }
+            Err(refusal) => println!(rt; "again: what is left, {}", refusal.name())?,
+        }
+    }
+    Err(Refusal::NoMemory.into())
 }
 
 /// The acts, once the session has its name. Where memory for the seats was refused it is handed back.
@@ -111,7 +123,14 @@ pub(crate) fn play<J: Naming, R: Wait + Print + AllocGlobal>(
     let seat = call(rt, &shared, seat, 2, Call::Enq(8), &OpenGate)?;
     crash(rt, &shared)?;
     recover(rt, &shared)?;
-    let seat = call(rt, &shared, seat, 3, Call::Deq, &Stopping { shared: &shared })?;
+    let seat = call(
+        rt,
+        &shared,
+        seat,
+        3,
+        Call::Deq,
+        &Stopping { shared: &shared },
+    )?;
     recover(rt, &shared)?;
     let seat = call(rt, &shared, seat, 3, Call::Deq, &OpenGate)?;
     let seat = call(rt, &shared, seat, 4, Call::Enq(9), &OpenGate)?;
@@ -119,6 +138,6 @@ pub(crate) fn play<J: Naming, R: Wait + Print + AllocGlobal>(
     let seat = rotate(rt, &shared, seat)?;
     let seat = call(rt, &shared, seat, 5, Call::Deq, &OpenGate)?;
     show(rt, &seat)?;
-    show_queue(rt, &shared.close(all(rt, seat)?))?;
+    show_left(rt, &shared.close(all(rt, seat)?))?;
     Ok(None)
 }
