@@ -18,20 +18,21 @@ pub(crate) const QUEUE: SlotId = SlotId(0);
 
 pub(crate) const CLIENT: Client = Client(0);
 
-/// A new broker, made again where it was refused memory.
-fn broker<R: Print + AllocGlobal>(rt: &R) -> Result<Broker> {
+/// A session over a new broker, which is made again where it was refused memory.
+fn over_a_broker<R: Print + AllocGlobal>(rt: &R) -> Result<Session> {
     for _ in 0..MOST_TRIES {
         match Broker::make(rt.alloc(), 1, 16) {
+            Ok(broker) => return Ok(Session::open(broker)),
             Err(Refusal::NoMemory) => println!(rt; "again: the broker")?,
-            made => return Ok(made?),
+            Err(refusal) => return Err(refusal.into()),
         }
     }
     Err(Refusal::NoMemory.into())
 }
 
-/// A session over a new broker with the queue.
+/// One with the queue.
 fn session<R: Print + AllocGlobal>(rt: &R) -> Result<Session> {
-    let mut session = Session::open(broker(rt)?);
+    let mut session = over_a_broker(rt)?;
     session.create(b"orders", Kind::Log)?;
     for _ in 0..MOST_STEPS {
         match session.create_step() {
