@@ -1,6 +1,5 @@
 //! What is played, and on what.
 
-use anyhow::Result;
 use arena::SlotId;
 use named::Broker;
 use session::Session;
@@ -50,6 +49,11 @@ pub(crate) fn call_of(number: u32) -> Call {
 }
 
 impl Load {
+    /// How many queues there are.
+    fn count(&self) -> usize {
+        self.queues as usize
+    }
+
     /// A client's queue, or another thing's that is dealt out to the queues in turn.
     pub(crate) fn queue(&self, of: u32) -> SlotId {
         SlotId((of % self.queues.clamp(1, 8)) as u8)
@@ -67,11 +71,16 @@ fn create(session: &mut Session, name: &[u8]) -> Result<(), Refusal> {
     Err(Refusal::NoQueue)
 }
 
+/// A session over a new broker, with no queue yet.
+fn over_a_broker(alloc: Global) -> Result<Session, Refusal> {
+    Ok(Session::open(Broker::make(alloc, CLIENTS, RECORDS)?))
+}
+
 /// A session over a new broker with as many durable queues.
 pub(crate) fn session_for(alloc: Global, load: Load) -> Result<Session, Refusal> {
-    let mut session = Session::open(Broker::make(alloc, CLIENTS, RECORDS)?);
+    let mut session = over_a_broker(alloc)?;
     let names: [&[u8]; 8] = [b"a", b"b", b"c", b"d", b"e", b"f", b"g", b"h"];
-    for name in names.iter().take(load.queues as usize) {
+    for name in names.iter().take(load.count()) {
         create(&mut session, name)?;
     }
     Ok(session)
