@@ -1,0 +1,87 @@
+//! What is played, and on what.
+
+use arena::SlotId;
+use named::Broker;
+use session::Session;
+use std::alloc::Global;
+use words::{Call, Kind, Refusal};
+
+/// How many clients the broker has, and how many records each of them has in a queue.
+const CLIENTS: u32 = 16;
+
+const RECORDS: u32 = 4_096;
+
+/// How many steps the creation of a queue may take here.
+const MOST_STEPS: u32 = 100;
+
+/// On how many queues, and how many calls each client makes.
+#[derive(Clone, Copy)]
+pub(crate) struct Load {
+    pub(crate) queues: u32,
+    pub(crate) calls: u32,
+}
+
+/// The nanoseconds of a turn, how many calls were answered in it, and how many acts on the session they were; 0 where
+/// that was not counted.
+#[derive(Clone, Copy)]
+pub(crate) struct Figures {
+    pub(crate) nanoseconds: u128,
+    pub(crate) answered: u64,
+    pub(crate) acts: u64,
+}
+
+/// The better figures of two turns.
+pub(crate) fn better(one: Figures, other: Figures) -> Figures {
+    if other.nanoseconds < one.nanoseconds {
+        other
+    } else {
+        one
+    }
+}
+
+/// A client's call with this number, from 0 on: in turn it puts a value in and takes one out.
+pub(crate) fn call_of(number: u32) -> Call {
+    if number % 2 == 0 {
+        Call::Enq(number)
+    } else {
+        Call::Deq
+    }
+}
+
+impl Load {
+    /// How many queues there are.
+    fn count(&self) -> usize {
+        self.queues as usize
+    }
+
+    /// A client's queue, or another thing's that is dealt out to the queues in turn.
+    pub(crate) fn queue(&self, of: u32) -> SlotId {
+        SlotId((of % self.queues.clamp(1, 8)) as u8)
+    }
+}
+
+/// A new queue.
+fn create(session: &mut Session, name: &[u8]) -> Result<(), Refusal> {
+    session.create(name, Kind::Durable)?;
+    for _ in 0..MOST_STEPS {
+        if session.create_step()?.is_some() {
+            return Ok(());
+        }
+    }
+    Err(Refusal::NoQueue)
+}
+
+/// A session over a new broker, with no queue yet.
+fn over_a_broker(alloc: Global) -> Result<Session, Refusal> {
+    Ok(Session::open(Broker::make(alloc, CLIENTS, RECORDS)?))
+}
+
+/// A session over a new broker with as many durable queues.
+pub(crate) fn session_for(alloc: Global, load: Load) -> Result<Session, Refusal> {
+    let mut session = over_a_broker(alloc)?;
+    let names: [&[u8]; 8] = [b"a", b"b", b"c", b"d", b"e", b"f", b"g", b"h"];
+    for name in names.iter().take(load.count()) {
+        create(&mut session, name)?;
+    }
+    Ok(session)
+}

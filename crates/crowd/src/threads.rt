@@ -1,0 +1,64 @@
+//! Clients of a shared session, each in a thread of its own.
+
+ghost use Rattle.workers.specs.Opening.{IsNameOf};
+
+use crate::load::{Figures, Load, call_of, session_for};
+use anyhow::Result;
+use std::marker::Brand;
+use std::sync::Wait;
+use std::thread::{Threads, map_vec};
+use std::time::{Clock, Instant};
+use words::Refusal;
+use workers::{Answer, Naming, OpenGate, Opened, Seat, Shared};
+
+/// The calls of a seat's client, all on its own queue. How many were answered.
+fn answered<J: Naming, R: Wait>(rt: &R, shared: &Shared<J>, seat: Seat<J>, load: Load) -> u64 {
+    let queue = load.queue(u32::from(seat.client.0));
+    let mut seat = seat;
+    let mut answered = 0u64;
+    for number in 0..load.calls {
+        let (next, answer) = shared.call(rt, seat, queue, None, call_of(number), &OpenGate);
+        seat = next;
+        if matches!(answer, Answer::Reply(_)) {
+            answered = answered.saturating_add(1);
+        }
+    }
+    answered
+}
+
+/// A turn of so many clients, once the session has its name.
+fn turn<J: Naming + Send + Sync, R: Threads + Wait + Clock + AllocGlobal + Sync>(
+    rt: &R,
+    opened: Opened,
+    threads: u32,
+    load: Load,
+) -> Result<Figures>
+    requires { IsNameOf J.roll J.clients J.given opened }
+{
+    let (shared, mut seats) = match opened.named::<J>(rt.alloc()) {
+        Ok(named) => named,
+        Err(not) => return Err(not.refusal.into()),
+    };
+    seats.truncate(threads as usize);
+    let begun = Instant::now(rt)?;
+    let counts = map_vec(rt, seats, &|seat| answered(rt, &shared, seat, load))?;
+    Ok(Figures {
+        nanoseconds: begun.elapsed(rt)?.as_nanos(),
+        answered: counts
+            .iter()
+            .fold(0u64, |sum, count| sum.saturating_add(*count)),
+        acts: 0,
+    })
+}
+
+/// A turn of so many clients on a new session.
+pub(crate) fn shared<R: Threads + Wait + Clock + AllocGlobal + Sync>(
+    rt: &R,
+    threads: u32,
+    load: Load,
+) -> Result<Figures> {
+    match Opened::new(rt.alloc(), session_for(rt.alloc(), load)?) {
+        Ok(opened) => turn::<Brand, R>(rt, opened, threads, load),
+        Err(not) => Err(not.refusal.into()),
+    }
+}

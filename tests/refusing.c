@@ -1,0 +1,29 @@
+// Stands before a program's allocations, and refuses the one whose number REFUSED has. With 0 it refuses none, and says
+// at the end how many there were. It needs no header, so that the kit's compiler is enough.
+typedef unsigned long size;
+extern void *__libc_malloc(size);
+extern void *__libc_realloc(void *, size);
+extern char *getenv(const char *);
+extern long strtol(const char *, char **, int);
+extern int dprintf(int, const char *, ...);
+
+static long made, refused;
+
+__attribute__((constructor)) static void begin(void) {
+    const char *number = getenv("REFUSED");
+    refused = number ? strtol(number, 0, 10) : 0;
+    made = 0;
+}
+
+__attribute__((destructor)) static void end(void) {
+    if (refused == 0)
+        dprintf(2, "%ld\n", made);
+}
+
+void *malloc(size bytes) {
+    return ++made == refused ? 0 : __libc_malloc(bytes);
+}
+
+void *realloc(void *block, size bytes) {
+    return ++made == refused ? 0 : __libc_realloc(block, bytes);
+}
