@@ -33,7 +33,7 @@ fn turn<J: Naming + Send + Sync, R: Threads + Wait + Clock + AllocGlobal + Sync>
     threads: u32,
     load: Load,
 ) -> Result<Figures>
-    requires { IsNameOf J.roll J.clients J.given opened }
+    requires { IsNameOf J.roll J.clients J.first opened }
 {
     let (shared, mut seats) = match opened.named::<J>(rt.alloc()) {
         Ok(named) => named,

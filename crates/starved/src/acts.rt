@@ -112,7 +112,7 @@ pub(crate) fn play<J: Naming, R: Wait + Print + AllocGlobal>(
     rt: &R,
     opened: Opened,
 ) -> Result<Option<Session>>
-    requires { IsNameOf J.roll J.clients J.given opened }
+    requires { IsNameOf J.roll J.clients J.first opened }
 {
     let (shared, seats) = match opened.named::<J>(rt.alloc()) {
         Ok(named) => named,

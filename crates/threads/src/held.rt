@@ -46,7 +46,7 @@ fn enqueue_held<J: Naming + Send + Sync, R: Threads + Wait + Clock + Abort + Syn
     alloc: Global,
     opened: Opened,
 ) -> Result<(), Fail>
-    requires { IsNameOf J.roll J.clients J.given opened }
+    requires { IsNameOf J.roll J.clients J.first opened }
 {
     let Ok((shared, seats)) = opened.named::<J>(alloc) else {
         return Err(Fail::new("no seats"));
