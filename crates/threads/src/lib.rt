@@ -2,6 +2,8 @@
 #![tactic(auto)]
 
 #[cfg(test)]
+mod asking;
+#[cfg(test)]
 mod crashes;
 #[cfg(test)]
 mod gates;
@@ -11,5 +13,7 @@ mod held;
 mod lists;
 #[cfg(test)]
 mod making;
+#[cfg(test)]
+mod scenes;
 #[cfg(test)]
 mod seats;

@@ -3,18 +3,62 @@
 use arena::{SLOTS, SlotId};
 use history::{Event, check, replay};
 use session::Session;
-use std::alloc::Global;
+use std::alloc::{AllocError, Global};
 use words::{Client, Refusal};
-use workers::{End, Entry};
+use workers::{End, Entry, Naming, Seat};
 
-/// What a client was last asked in a queue, as its history has it.
+/// How many events the history of each slot has; 0 where the slot is closed.
+pub(crate) type Lengths = [usize; SLOTS];
+
+/// How long histories are that have just begun.
+const NEW: Lengths = [0; SLOTS];
+
+/// How long the history of a slot is.
+fn length_of(session: &Session, queue: SlotId) -> usize {
+    match session.broker().history(queue) {
+        Ok(history) => history.events.len(),
+        Err(_) => 0,
+    }
+}
+
+/// How long all histories are.
+pub(crate) fn lengths(session: &Session) -> Lengths {
+    let mut lengths = NEW;
+    for slot in 0..SLOTS {
+        lengths[slot] = length_of(session, SlotId(slot as u8));
+    }
+    lengths
+}
+
+/// A list that no seat holds.
+fn copy(alloc: Global, list: &[Entry]) -> Result<Vec<Entry>, AllocError> {
+    let mut copy = Vec::new(alloc);
+    for entry in list {
+        copy.push(*entry)?;
+    }
+    Ok(copy)
+}
+
+/// The lists of all seats.
+pub(crate) fn copied<J: Naming>(
+    alloc: Global,
+    seats: &[Seat<J>],
+) -> Result<Vec<Vec<Entry>>, AllocError> {
+    let mut lists = Vec::new(alloc);
+    for seat in seats {
+        lists.push(copy(alloc, seat.list.as_slice())?)?;
+    }
+    Ok(lists)
+}
+
+/// Whether the client's call at a place ended so.
 fn ends_as(events: &[Event], client: Client, place: usize, end: End) -> bool {
     for event in events.iter().skip(place.saturating_add(1)) {
         match *event {
             Event::Return { client: who, reply } if who == client => {
                 return end == End::Answered(reply);
             }
-            Event::Crash => return end != End::Open && !matches!(end, End::Answered(_)),
+            Event::Crash => return end == End::Interrupted,
             Event::Call { .. } | Event::Return { .. } | Event::Ready { .. } => {}
         }
     }
@@ -36,47 +80,72 @@ fn stands(events: &[Event], client: Client, entry: &Entry, place: usize) -> bool
     is_call && ends_as(events, client, place, entry.end)
 }
 
-/// How many calls of the client a history has.
-fn calls_of(events: &[Event], client: Client) -> usize {
+/// How many calls of the client a history has from this place on.
+fn calls_of(events: &[Event], client: Client, since: usize) -> usize {
     events
         .iter()
+        .skip(since)
         .filter(|event| matches!(event, Event::Call { client: who, .. } if *who == client))
         .count()
 }
 
-/// Whether the part of a client's list that ran in a queue is all that its history has of the client, in its order.
-fn fits_in(
-    session: &Session,
-    client: Client,
-    list: &[Entry],
-    queue: SlotId,
-) -> Result<bool, Refusal> {
-    let history = session.broker().history(queue)?;
-    let events = history.events.as_slice();
-    let (mut from, mut ran) = (0usize, 0usize);
+/// Whether the calls of a list that ran in one queue are all that its history has of the client from this place on, in
+/// its order. A call that did not run there has a number, and was answered.
+fn fits_in(events: &[Event], client: Client, list: &[Entry], queue: SlotId, since: usize) -> bool {
+    let (mut from, mut ran) = (since, 0usize);
     for entry in list.iter().filter(|entry| entry.queue == queue) {
         let Some(place) = entry.place else {
+            if entry.number.is_none() || !matches!(entry.end, End::Answered(_)) {
+                return false;
+            }
             continue;
         };
         if place < from || !stands(events, client, entry, place) {
-            return Ok(false);
+            return false;
         }
         from = place.saturating_add(1);
         ran = ran.saturating_add(1);
     }
-    Ok(ran == calls_of(events, client))
+    ran == calls_of(events, client, since)
 }
 
-/// Whether a client's list fits the histories of all queues.
-pub(crate) fn fits(session: &Session, client: Client, list: &[Entry]) -> Result<bool, Refusal> {
-    let mut right = true;
-    for slot in 0..SLOTS as u8 {
-        right &= match fits_in(session, client, list, SlotId(slot)) {
-            Err(Refusal::NoQueue) => true,
-            fits => fits?,
-        };
+/// Whether a client's list fits the history of a slot from this place on; that of a closed slot has no calls.
+fn fits_slot(
+    session: &Session,
+    client: Client,
+    list: &[Entry],
+    queue: SlotId,
+    since: usize,
+) -> bool {
+    match session.broker().history(queue) {
+        Ok(history) => fits_in(history.events.as_slice(), client, list, queue, since),
+        Err(_) => list.iter().all(|entry| entry.queue != queue),
     }
-    Ok(right)
+}
+
+/// Whether a client's list fits the histories of all queues, each from its place on.
+fn fits(session: &Session, client: Client, list: &[Entry], since: &Lengths) -> bool {
+    let mut right = true;
+    for slot in 0..SLOTS {
+        right &= fits_slot(session, client, list, SlotId(slot as u8), since[slot]);
+    }
+    right
+}
+
+/// Whether each client's list fits the histories, each from its place on.
+fn fit(session: &Session, lists: &[Vec<Entry>], since: &Lengths) -> bool {
+    let (mut client, mut right) = (0u8, true);
+    for list in lists {
+        right &= fits(session, Client(client), list.as_slice(), since);
+        client = client.saturating_add(1);
+    }
+    right
+}
+
+/// Whether each client's list is what the histories have of it, since they had these lengths or, where they have ended
+/// since, since they began.
+pub(crate) fn are_accounted_for(session: &Session, lists: &[Vec<Entry>], since: &Lengths) -> bool {
+    fit(session, lists, since) || fit(session, lists, &NEW)
 }
 
 /// Whether the order explains the history of a queue, and the queue holds what the replay of that leaves.
