@@ -14,6 +14,8 @@ mod lists;
 #[cfg(test)]
 mod making;
 #[cfg(test)]
+mod numbers;
+#[cfg(test)]
 mod scenes;
 #[cfg(test)]
 mod seats;

@@ -14,6 +14,9 @@ const MOST_STEPS: u32 = 10_000;
 /// The slot of the first queue, of which most tests have no other.
 pub(crate) const A: SlotId = SlotId(0);
 
+/// The slot of the second queue.
+pub(crate) const B: SlotId = SlotId(1);
+
 /// A new queue.
 pub(crate) fn create(session: &mut Session, name: &[u8], kind: Kind) -> Result<SlotId, Refusal> {
     session.create(name, kind)?;
@@ -43,14 +46,4 @@ pub(crate) fn opened(alloc: Global, session: Session) -> Result<Opened, Refusal>
         Ok(opened) => Ok(opened),
         Err(not) => Err(not.refusal),
     }
-}
-
-/// A new broker's session with one queue, about to be shared.
-pub(crate) fn opened_with(
-    alloc: Global,
-    kind: Kind,
-    clients: u32,
-    records: u32,
-) -> Result<Opened, Refusal> {
-    opened(alloc, with_queue(alloc, kind, clients, records)?)
 }
