@@ -6,6 +6,8 @@ mod asking;
 #[cfg(test)]
 mod crashes;
 #[cfg(test)]
+mod creations;
+#[cfg(test)]
 mod gates;
 #[cfg(test)]
 mod held;
@@ -15,6 +17,10 @@ mod lists;
 mod making;
 #[cfg(test)]
 mod numbers;
+#[cfg(test)]
+mod opening;
+#[cfg(test)]
+mod rotations;
 #[cfg(test)]
 mod scenes;
 #[cfg(test)]

@@ -5,7 +5,7 @@ use named::Broker;
 use session::Session;
 use std::alloc::Global;
 use std::test::Fail;
-use words::{Client, Kind, Refusal};
+use words::{Client, Kind, Refusal, Reply};
 use workers::Opened;
 
 /// The most steps that a creation, a call or a recovery takes here.
@@ -46,4 +46,18 @@ pub(crate) fn opened(alloc: Global, session: Session) -> Result<Opened, Refusal>
         Ok(opened) => Ok(opened),
         Err(not) => Err(not.refusal),
     }
+}
+
+/// A call that is under way goes on to its reply.
+pub(crate) fn finished(
+    session: &mut Session,
+    client: Client,
+    queue: SlotId,
+) -> Result<Reply, Refusal> {
+    for _ in 0..MOST_STEPS {
+        if let Some(reply) = session.advance(client, queue)? {
+            return Ok(reply);
+        }
+    }
+    Err(Refusal::Busy)
 }
