@@ -8,6 +8,8 @@ mod crashes;
 #[cfg(test)]
 mod creations;
 #[cfg(test)]
+mod crowd;
+#[cfg(test)]
 mod gates;
 #[cfg(test)]
 mod held;
@@ -25,3 +27,5 @@ mod rotations;
 mod scenes;
 #[cfg(test)]
 mod seats;
+#[cfg(test)]
+mod taken;
