@@ -18,16 +18,16 @@ use std::sync::atomic::{AtomicU64, Ordering};
 use std::test::*;
 use std::thread::{join, map_vec};
 use words::{Call, Kind, MAX_CLIENTS, Refusal};
-use workers::{Answer, Naming, Seat, Shared};
+use workers::{Answer, End, Entry, Naming, Seat, Shared};
 
 /// How many calls each client makes.
-const CALLS: u32 = 2_000;
+const CALLS: u32 = 400;
 
 /// The values that clients put are below this.
 const VALUES: u32 = CALLS * MAX_CLIENTS as u32;
 
 /// How many records each client has in each queue.
-const RECORDS: u32 = 1_024;
+const RECORDS: u32 = 256;
 
 /// The queues of the slots below this one are log queues, and the others durable ones.
 const LOGS: usize = 4;
@@ -75,11 +75,14 @@ fn sent_once<J: Naming, R: Host>(
     ask: Ask,
 ) -> (Seat<J>, bool) {
     let (seat, answer) = asked(rt, shared, seat, ask);
-    let right = match answer {
-        Answer::Reply(_) | Answer::Interrupted | Answer::Refused(Refusal::NotReady) => true,
-        Answer::Refused(_) | Answer::Unfinished => false,
-    };
-    (seat, right)
+    if answer == Answer::Refused(Refusal::NotReady) {
+        rest(rt, 1);
+        return (seat, true);
+    }
+    (
+        seat,
+        matches!(answer, Answer::Reply(_) | Answer::Interrupted),
+    )
 }
 
 /// The call in a log queue, which is sent again until it is answered: whether it was, and was refused for nothing but a
@@ -116,11 +119,29 @@ fn all_sent<J: Naming, R: Host>(rt: &R, shared: &Shared<J>, seat: Seat<J>) -> (S
             Some(number) => {
                 *number = number.saturating_add(1);
                 let number = Some(*number);
-                sent_until_answered(rt, shared, seat, Ask { queue, number, call })
+                sent_until_answered(
+                    rt,
+                    shared,
+                    seat,
+                    Ask {
+                        queue,
+                        number,
+                        call,
+                    },
+                )
             }
             None => {
                 let number = None;
-                sent_once(rt, shared, seat, Ask { queue, number, call })
+                sent_once(
+                    rt,
+                    shared,
+                    seat,
+                    Ask {
+                        queue,
+                        number,
+                        call,
+                    },
+                )
             }
         };
         seat = after;
@@ -185,6 +206,8 @@ fn a_crowd_of_clients_takes_effect_once_beside_crashes(rt: HostRuntime) -> Resul
     let session = with_all_queues(alloc)?;
     let left = stage(&rt, alloc, session, &Crowd)?;
     let lists = left.lists.as_slice();
+    let was_cut_off = |list: &Vec<Entry>| list.iter().any(|entry| entry.end == End::Interrupted);
+    assert!(rt; lists.iter().any(was_cut_off), "no crash came between");
     for slot in 0..LOGS as u8 {
         let right = are_once(alloc, &left.session, lists, SlotId(slot), VALUES)?;
         assert!(rt; right, "{slot}");

@@ -13,19 +13,11 @@ pub(crate) type Lengths = [usize; SLOTS];
 /// How long histories are that have just begun.
 const NEW: Lengths = [0; SLOTS];
 
-/// How long the history of a slot is.
-fn length_of(session: &Session, queue: SlotId) -> usize {
-    match session.broker().history(queue) {
-        Ok(history) => history.events.len(),
-        Err(_) => 0,
-    }
-}
-
 /// How long all histories are.
 pub(crate) fn lengths(session: &Session) -> Lengths {
     let mut lengths = NEW;
     for slot in 0..SLOTS {
-        lengths[slot] = length_of(session, SlotId(slot as u8));
+        lengths[slot] = events_of(session, SlotId(slot as u8)).len();
     }
     lengths
 }
@@ -51,101 +43,113 @@ pub(crate) fn copied<J: Naming>(
     Ok(lists)
 }
 
-/// Whether the client's call at a place ended so.
-fn ends_as(events: &[Event], client: Client, place: usize, end: End) -> bool {
-    for event in events.iter().skip(place.saturating_add(1)) {
-        match *event {
-            Event::Return { client: who, reply } if who == client => {
-                return end == End::Answered(reply);
-            }
-            Event::Crash => return end == End::Interrupted,
-            Event::Call { .. } | Event::Return { .. } | Event::Ready { .. } => {}
+/// Writes what became of a client's last call, where that was open.
+fn end_last(calls: &mut Vec<Entry>, end: End) {
+    if let Some(last) = calls.last_mut() {
+        if last.end == End::Open {
+            last.end = end;
         }
     }
-    end == End::Open
 }
 
-/// Whether a call stands at its place in the history of its queue, and ended so.
-fn stands(events: &[Event], client: Client, entry: &Entry, place: usize) -> bool {
-    let is_call = match events.get(place) {
-        Some(
+/// The client's calls that a history has from this place on, as a seat remembers them.
+fn remembered(
+    alloc: Global,
+    events: &[Event],
+    client: Client,
+    queue: SlotId,
+    since: usize,
+) -> Result<Vec<Entry>, AllocError> {
+    let mut calls = Vec::new(alloc);
+    for (place, event) in events.iter().enumerate() {
+        match *event {
             Event::Call {
                 client: who,
                 number,
                 call,
-            },
-        ) => *who == client && *number == entry.number.unwrap_or(0) && *call == entry.call,
-        _ => false,
-    };
-    is_call && ends_as(events, client, place, entry.end)
-}
-
-/// How many calls of the client a history has from this place on.
-fn calls_of(events: &[Event], client: Client, since: usize) -> usize {
-    events
-        .iter()
-        .skip(since)
-        .filter(|event| matches!(event, Event::Call { client: who, .. } if *who == client))
-        .count()
-}
-
-/// Whether the calls of a list that ran in one queue are all that its history has of the client from this place on, in
-/// its order. A call that did not run there has a number, and was answered.
-fn fits_in(events: &[Event], client: Client, list: &[Entry], queue: SlotId, since: usize) -> bool {
-    let (mut from, mut ran) = (since, 0usize);
-    for entry in list.iter().filter(|entry| entry.queue == queue) {
-        let Some(place) = entry.place else {
-            if entry.number.is_none() || !matches!(entry.end, End::Answered(_)) {
-                return false;
+            } if who == client && place >= since => calls.push(Entry {
+                queue,
+                number: if number == 0 { None } else { Some(number) },
+                call,
+                place: Some(place),
+                end: End::Open,
+            })?,
+            Event::Return { client: who, reply } if who == client => {
+                end_last(&mut calls, End::Answered(reply));
             }
-            continue;
-        };
-        if place < from || !stands(events, client, entry, place) {
-            return false;
+            Event::Crash => end_last(&mut calls, End::Interrupted),
+            Event::Call { .. } | Event::Return { .. } | Event::Ready { .. } => {}
         }
-        from = place.saturating_add(1);
-        ran = ran.saturating_add(1);
     }
-    ran == calls_of(events, client, since)
+    Ok(calls)
 }
 
-/// Whether a client's list fits the history of a slot from this place on; that of a closed slot has no calls.
-fn fits_slot(
+/// The calls of a list that ran in one queue; nothing, where one that did not run has no number or no answer.
+fn ran(alloc: Global, list: &[Entry], queue: SlotId) -> Result<Option<Vec<Entry>>, AllocError> {
+    let mut calls = Vec::new(alloc);
+    for entry in list.iter().filter(|entry| entry.queue == queue) {
+        if entry.place.is_some() {
+            calls.push(*entry)?;
+        } else if entry.number.is_none() || !matches!(entry.end, End::Answered(_)) {
+            return Ok(None);
+        }
+    }
+    Ok(Some(calls))
+}
+
+/// What happened in the queue of a slot; in a closed slot, nothing.
+fn events_of(session: &Session, queue: SlotId) -> &[Event] {
+    match session.broker().history(queue) {
+        Ok(history) => history.events.as_slice(),
+        Err(_) => &[],
+    }
+}
+
+/// Whether a client's list has just what the histories of all queues have of it, each from its place on.
+fn fits(
+    alloc: Global,
     session: &Session,
     client: Client,
     list: &[Entry],
-    queue: SlotId,
-    since: usize,
-) -> bool {
-    match session.broker().history(queue) {
-        Ok(history) => fits_in(history.events.as_slice(), client, list, queue, since),
-        Err(_) => list.iter().all(|entry| entry.queue != queue),
-    }
-}
-
-/// Whether a client's list fits the histories of all queues, each from its place on.
-fn fits(session: &Session, client: Client, list: &[Entry], since: &Lengths) -> bool {
+    since: &Lengths,
+) -> Result<bool, AllocError> {
     let mut right = true;
     for slot in 0..SLOTS {
-        right &= fits_slot(session, client, list, SlotId(slot as u8), since[slot]);
+        let queue = SlotId(slot as u8);
+        let events = events_of(session, queue);
+        let calls = remembered(alloc, events, client, queue, since[slot])?;
+        right &= match ran(alloc, list, queue)? {
+            Some(ran) => ran.as_slice() == calls.as_slice(),
+            None => false,
+        };
     }
-    right
+    Ok(right)
 }
 
 /// Whether each client's list fits the histories, each from its place on.
-fn fit(session: &Session, lists: &[Vec<Entry>], since: &Lengths) -> bool {
+fn fit(
+    alloc: Global,
+    session: &Session,
+    lists: &[Vec<Entry>],
+    since: &Lengths,
+) -> Result<bool, AllocError> {
     let (mut client, mut right) = (0u8, true);
     for list in lists {
-        right &= fits(session, Client(client), list.as_slice(), since);
+        right &= fits(alloc, session, Client(client), list.as_slice(), since)?;
         client = client.saturating_add(1);
     }
-    right
+    Ok(right)
 }
 
 /// Whether each client's list is what the histories have of it, since they had these lengths or, where they have ended
 /// since, since they began.
-pub(crate) fn are_accounted_for(session: &Session, lists: &[Vec<Entry>], since: &Lengths) -> bool {
-    fit(session, lists, since) || fit(session, lists, &NEW)
+pub(crate) fn are_accounted_for(
+    alloc: Global,
+    session: &Session,
+    lists: &[Vec<Entry>],
+    since: &Lengths,
+) -> Result<bool, AllocError> {
+    Ok(fit(alloc, session, lists, since)? || fit(alloc, session, lists, &NEW)?)
 }
 
 /// Whether the order explains the history of a queue, and the queue holds what the replay of that leaves.

@@ -70,7 +70,7 @@ fn stage_named<J: Naming + Send + Sync, S: Scene, R: Host>(
     let lists = copied(alloc, seats.as_slice())?;
     let session = shared.close(seats);
     assert!(rt;
-        are_accounted_for(&session, lists.as_slice(), since),
+        are_accounted_for(alloc, &session, lists.as_slice(), since)?,
         "lists"
     );
     assert!(rt; are_explained(alloc, &session)?, "orders");

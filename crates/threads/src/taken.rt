@@ -47,11 +47,7 @@ fn call_at(events: &[Event], place: usize) -> Option<(usize, u64)> {
 }
 
 /// Whether the order of a log queue has each number of each client once, in turn, with the reply that the client got.
-fn are_in_turn(
-    session: &Session,
-    all: &[Vec<Reply>],
-    queue: SlotId,
-) -> Result<bool, Refusal> {
+fn are_in_turn(session: &Session, all: &[Vec<Reply>], queue: SlotId) -> Result<bool, Refusal> {
     let history = session.broker().history(queue)?;
     let order = session.broker().order(queue)?;
     let mut counts = [0usize; MAX_CLIENTS];
@@ -70,7 +66,11 @@ fn are_in_turn(
             return Ok(false);
         }
     }
-    Ok(all.iter().zip(counts.iter()).all(|(replies, count)| replies.len() == *count))
+    Ok(
+        all.iter()
+            .zip(counts.iter())
+            .all(|(replies, count)| replies.len() == *count),
+    )
 }
 
 /// Which values were put into a queue and which were taken out of it, each once, by what clients were answered.
