@@ -3,7 +3,7 @@
 ghost use Rattle.std.specs.Prelude.{◌≡◌, IfOk};
 ghost use Rattle.workers.specs.Seats.{AreAllInOrder};
 
-use crate::gates::{TURNS, rest, tell};
+use crate::gates::{TURNS, rest, tell, wait_for};
 use crate::making::{A, B, with_queue};
 use crate::scenes::{Host, Scene, stage};
 use arena::SlotId;
@@ -84,11 +84,13 @@ const SECOND: [u8; 4] = [b'f', b'g', b'h', b'i'];
 /// What the creation of a queue came to at last: it was sent again as long as a crash, a recovery or another creation
 /// came between.
 fn created<J: Naming, R: Host>(rt: &R, shared: &Shared<J>, letter: u8) -> Option<Created> {
-    for _ in 0..TURNS {
+    for turn in 0..TURNS {
         let created = shared.create(rt, &[letter], Kind::Log);
         match created {
             Created::Interrupted | Created::Refused(Refusal::NotReady | Refusal::Busy) => {
-                rest(rt, u32::from(letter % 2));
+                if turn % 16 == 15 {
+                    rest(rt, 1);
+                }
             }
             Created::Queue(_) | Created::Refused(_) => return Some(created),
         }
@@ -109,15 +111,42 @@ fn all_created<J: Naming, R: Host>(
     made
 }
 
-/// The system stops and recovers again and again, until this is said twice; whether it always could.
-fn restarts<J: Naming, R: Host>(rt: &R, shared: &Shared<J>, over: &AtomicU64) -> bool {
+/// What the threads of a scene tell one another.
+#[derive(Drop)]
+struct Signals {
+    /// Whether the first crash came.
+    begun: AtomicU64,
+    /// How many threads made their queues.
+    over: AtomicU64,
+}
+
+/// What the creations of some queues came to, from the first crash on.
+fn created_beside<J: Naming, R: Host>(
+    rt: &R,
+    shared: &Shared<J>,
+    signals: &Signals,
+    letters: &[u8; 4],
+) -> [Option<Created>; 4] {
+    wait_for(rt, &signals.begun);
+    let made = all_created(rt, shared, letters);
+    signals.over.fetch_add(1, Ordering::SeqCst);
+    made
+}
+
+/// The system stops and recovers again and again, until both threads have made their queues; whether it always could.
+/// Mostly it stops again at once, so that few creations come to their end.
+fn restarts<J: Naming, R: Host>(rt: &R, shared: &Shared<J>, signals: &Signals) -> bool {
     let mut right = true;
     for turn in 0..TURNS {
-        if over.load(Ordering::SeqCst) == 2 {
+        if signals.over.load(Ordering::SeqCst) == 2 {
             return right;
         }
-        right &= shared.crash(rt) == Ok(()) && shared.recover(rt) == Ok(());
-        rest(rt, turn % 2);
+        right &= shared.crash(rt) == Ok(());
+        tell(&signals.begun);
+        right &= shared.recover(rt) == Ok(());
+        if turn % 4 == 3 {
+            rest(rt, 1);
+        }
     }
     false
 }
@@ -150,16 +179,20 @@ impl Scene for Beside {
         shared: &Shared<J>,
         seats: Vec<Seat<J>>,
     ) -> Result<Vec<Seat<J>>, Fail> {
-        let over = AtomicU64::new(0);
-        let creates = |letters: &[u8; 4]| {
-            let made = all_created(rt, shared, letters);
-            over.fetch_add(1, Ordering::SeqCst);
-            made
+        let signals = Signals {
+            begun: AtomicU64::new(0),
+            over: AtomicU64::new(0),
         };
         let ((first, second), right) = join(
             rt,
-            || join(rt, || creates(&FIRST), || creates(&SECOND)),
-            || restarts(rt, shared, &over),
+            || {
+                join(
+                    rt,
+                    || created_beside(rt, shared, &signals, &FIRST),
+                    || created_beside(rt, shared, &signals, &SECOND),
+                )
+            },
+            || restarts(rt, shared, &signals),
         );
         assert!(rt; right, "restarts");
         for place in 0..4 {

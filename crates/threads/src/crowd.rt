@@ -21,7 +21,7 @@ use words::{Call, Kind, MAX_CLIENTS, Refusal};
 use workers::{Answer, End, Entry, Naming, Seat, Shared};
 
 /// How many calls each client makes.
-const CALLS: u32 = 400;
+const CALLS: u32 = 500;
 
 /// The values that clients put are below this.
 const VALUES: u32 = CALLS * MAX_CLIENTS as u32;
