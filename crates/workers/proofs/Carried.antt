@@ -1,6 +1,5 @@
 -- What an act of a session carries on for the clients that it is not of, and what it does for the one that it is of.
-use Rattle.std.specs.Prelude.{◌≡◌, ◌≢◌, ◌⊎◌, ◌++◌, ℕ, Bool, true, false, length, List, [], ◌∷◌, Some, slice_get}
-use Rattle.words.specs.declared.call.Call.{Call}
+use Rattle.std.specs.Prelude.{◌≡◌, ◌≢◌, ◌⊎◌, ◌++◌, ℕ, true, false, length, List, [], ◌∷◌, Some, slice_get}
 use Rattle.words.specs.declared.call.Client.{Client}
 use Rattle.words.specs.declared.call.Reply.{Reply}
 use Rattle.events.specs.History.{IsUnderWay}

@@ -20,7 +20,7 @@ use Rattle.session.specs.Requests.{number_or_zero}
 use Rattle.session.specs.Sessions.{Sessioned}
 use Rattle.workers.specs.Answers.{entry_of}
 use Rattle.workers.specs.Following.{AreFollowed, IsFollowed, IsStopped}
-use Rattle.workers.specs.Lists.{HasEndedAs, HasNotReturned, IsCutOff, IsKeptReply, IsListOf, OnlyLastIsOpen, RanAt, ends_open, events_at, events_of, is_open, with_end}
+use Rattle.workers.specs.Lists.{HasEndedAs, HasNotReturned, IsCutOff, IsKeptReply, IsListOf, LastIsOf, OnlyLastIsOpen, RanAt, ends_open, events_at, events_of, is_open, with_end}
 use Rattle.workers.specs.declared.entry.End.{End}
 use Rattle.workers.specs.declared.entry.End.TheVariants.{Answered, Interrupted, Open}
 use Rattle.workers.specs.declared.entry.Entry.{Entry}
@@ -189,10 +189,6 @@ only_last_ended row end only_last k e at less = elim (with_end_at end row k e at
   | inr it ↦ absurd (omega (arith, it.last, less, length_with_end end row))
 ]
 
--- the last call of a row ran in this slot
-abbrev pub LastIsOf : ℕ → List Entry → Type 0
-LastIsOf slot row = (k : ℕ) (e : Entry) → slice_get row k ≡ Some e → suc k ≡ length row → e.queue.0 ≡ slot
-
 -- a row whose last call is open, with another end of it
 module _ (since : ℕ → ℕ) (client : Client) (old : Sessioned) (row : List Entry) (opens : ends_open row ≡ true)
     (is : IsFollowed since old client row) where
@@ -311,7 +307,7 @@ followed_empty since s client ends = record {
 }
 
 -- a history that goes on is not shorter
-still_grows : (client : Client) (old new : List Event) → IsStillFor client old new → length old ≤ length new
+pub still_grows : (client : Client) (old new : List Event) → IsStillFor client old new → length old ≤ length new
 still_grows client old new still =
     omega (arith, ap (λ (es : List Event). length es) still.is, length-append old still.rest)
 

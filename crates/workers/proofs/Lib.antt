@@ -1,9 +1,15 @@
+pub mod Answering
 pub mod Carried
 pub mod Endings
 pub mod Follows
+pub mod Guarded
 pub mod Histories
+pub mod Idling
 pub mod Lists
+pub mod Seating
 pub mod SlotsOn
 pub mod Starts
 pub mod Steps
 pub mod Stops
+pub mod Turning
+pub mod Turns

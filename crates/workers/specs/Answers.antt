@@ -24,6 +24,11 @@ entry_of queue number call place end = record {
   end = end;
 }
 
+-- the entry of a call that begins: it is open from the next place, or it has the reply that was kept
+abbrev pub entry_begun : Request → ℕ → Option Reply → Entry
+entry_begun r next (Some reply) = entry_of r.queue r.number r.call None (Answered reply)
+entry_begun r next None = entry_of r.queue r.number r.call (Some next) Open
+
 -- the list has one entry more, of this call
 pub record HasOneMore (old : List Entry) (queue : SlotId) (number : Option ℕ) (call : Call) (end : End)
     (new : List Entry) : Type 0 where

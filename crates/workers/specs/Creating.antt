@@ -9,3 +9,9 @@ abbrev pub IsCreationKnown : Brokered → Creating → Type 0
 IsCreationKnown b Nothing = Unit {0}
 IsCreationKnown b UnderWay = (b.recovery ≡ None) × IsSome b.creation
 IsCreationKnown b Interrupted = Unit {0}
+
+-- a crash ends it, and its caller has not seen that
+abbrev pub creating_after_crash : Creating → Creating
+creating_after_crash Nothing = Nothing
+creating_after_crash UnderWay = Interrupted
+creating_after_crash Interrupted = Interrupted

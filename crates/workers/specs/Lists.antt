@@ -1,11 +1,11 @@
 -- A seat's list: the calls of its client, and what the histories of the queues say of them.
-use Rattle.std.specs.Prelude.{◌≡◌, ◌<◌, ◌≤◌, ℕ, suc, Bool, true, false, if◌then◌else◌, length, List, [], ◌∷◌, Option, Some, None, slice_get}
+use Rattle.std.specs.Prelude.{◌≡◌, ◌<◌, ◌≤◌, ℕ, suc, Bool, true, false, length, List, [], ◌∷◌, Option, Some, None, slice_get}
 use Rattle.words.specs.declared.call.Client.{Client}
 use Rattle.words.specs.declared.call.Reply.{Reply}
 use Rattle.events.specs.History.{BeginsAt, CallAt, CrashAt, IsEnd, ReturnAt}
 use Rattle.events.specs.declared.event.Event.{Event}
 use Rattle.interleave.specs.State.{State}
-use Rattle.named.specs.Brokers.{Brokered, is_down, world_at}
+use Rattle.named.specs.Brokers.{Brokered, world_at}
 use Rattle.session.specs.Promises.{IsReplyAt}
 use Rattle.session.specs.Requests.{number_or_zero}
 use Rattle.session.specs.Sessions.{Sessioned}
@@ -33,6 +33,10 @@ with_end end (x ∷ y ∷ more) = x ∷ with_end end (y ∷ more)
 -- no call of the list but the last is open
 abbrev pub OnlyLastIsOpen : List Entry → Type 0
 OnlyLastIsOpen list = (k : ℕ) (e : Entry) → slice_get list k ≡ Some e → suc k < length list → is_open e.end ≡ false
+
+-- the last call of the list was made in the queue of this slot
+abbrev pub LastIsOf : ℕ → List Entry → Type 0
+LastIsOf slot list = (k : ℕ) (e : Entry) → slice_get list k ≡ Some e → suc k ≡ length list → e.queue.0 ≡ slot
 
 -- the client's call at this place returned this
 pub record HasReturned (events : List Event) (client : Client) (place : ℕ) (reply : Reply) : Type 0 where

@@ -1,5 +1,5 @@
 -- Which sessions may be shared, and under which name.
-use Rattle.std.specs.Prelude.{◌≡◌, ◌≢◌, ◌⊎◌, ℕ, true, false, length, Ok, Some}
+use Rattle.std.specs.Prelude.{◌≡◌, ◌⊎◌, ℕ, true, false, length, Ok, Some}
 use Rattle.atomic_table.specs.Seated.{TableId}
 use Rattle.words.specs.declared.call.Client.{Client}
 use Rattle.interleave.specs.Verdicts.{number_under_way}

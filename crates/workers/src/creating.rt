@@ -1,16 +1,29 @@
 //! Crashes, recoveries, and creations, under the lock.
 
 ghost use Rattle.std.specs.Prelude.{◌≡◌, ◌⊎◌, IfErr};
+ghost use Rattle.workers.specs.Creating.{creating_after_crash};
 
 use crate::locked::{Creating, Locked};
 use crate::naming::Naming;
 use crate::shared::Created;
 use words::{Kind, Refusal};
 
+impl Creating {
+    /// After a crash.
+    fn stopped(self) -> Self
+        ensures { result ≡ creating_after_crash self }
+    {
+        match self {
+            Creating::UnderWay => Creating::Interrupted,
+            Creating::Nothing | Creating::Interrupted => self,
+        }
+    }
+}
+
 impl<J: Naming> Locked<J> {
     /// Begins to create a queue. One that a crash ended is not over until its caller has seen that.
     pub(crate) fn create(&mut self, name: &[u8], kind: Kind) -> Result<(), Refusal> {
-        if self.creating == Creating::Interrupted {
+        if matches!(self.creating, Creating::Interrupted) {
             return Err(Refusal::Busy);
         }
         self.session.create(name, kind)?;
@@ -20,10 +33,10 @@ impl<J: Naming> Locked<J> {
 
     /// One step of the creation, for its caller: what became of it, once it is over.
     pub(crate) fn create_step(&mut self) -> Option<Created> {
-        if self.creating != Creating::UnderWay {
+        let Creating::UnderWay = self.creating else {
             self.creating = Creating::Nothing;
             return Some(Created::Interrupted);
-        }
+        };
         match self.session.create_step() {
             Ok(None) => None,
             Ok(Some(slot)) => {
@@ -40,9 +53,7 @@ impl<J: Naming> Locked<J> {
         ensures { IfErr result (λ refusal. refusal ≡ Refusal.NoMemory) }
     {
         self.session.crash()?;
-        if self.creating == Creating::UnderWay {
-            self.creating = Creating::Interrupted;
-        }
+        self.creating = self.creating.stopped();
         Ok(())
     }
 

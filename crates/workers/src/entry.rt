@@ -1,7 +1,8 @@
 //! What a seat remembers of its calls, and what its caller is told.
 
 ghost use Rattle.std.specs.Prelude.{◌≡◌, length, true};
-ghost use Rattle.workers.specs.Lists.{ends_open, is_open, with_end};
+ghost use Rattle.workers.specs.Answers.{entry_begun};
+ghost use Rattle.workers.specs.Lists.{ends_open, is_open, with_end, LastIsOf};
 
 use arena::SlotId;
 use words::{Call, Refusal, Reply};
@@ -49,6 +50,25 @@ pub(crate) struct Request {
     pub(crate) call: Call,
 }
 
+impl Request {
+    /// The entry of the call that begins at this place, or that was answered with the reply that was kept.
+    pub(crate) fn entry(self, next: usize, kept: Option<Reply>) -> Entry
+        ensures { result ≡ entry_begun self next kept }
+    {
+        let (place, end) = match kept {
+            Some(reply) => (None, End::Answered(reply)),
+            None => (Some(next), End::Open),
+        };
+        Entry {
+            queue: self.queue,
+            number: self.number,
+            call: self.call,
+            place,
+            end,
+        }
+    }
+}
+
 /// What one step of a call came to.
 #[derive(Clone, Copy)]
 pub(crate) enum Took {
@@ -73,6 +93,14 @@ pub(crate) fn has_open_call(list: &[Entry]) -> bool
         return false;
     }
     is_open_end(list[list.len() - 1].end)
+}
+
+/// The queue of the last call of a list.
+pub(crate) fn last_queue(list: &[Entry]) -> SlotId
+    requires { ends_open list.now ≡ true }
+    ensures { LastIsOf result.0 list.now }
+{
+    list[list.len() - 1].queue
 }
 
 /// Writes what became of the last call of a list.

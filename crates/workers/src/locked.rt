@@ -1,6 +1,6 @@
 //! What lies under the lock.
 
-ghost use Rattle.std.specs.Prelude.{◌≡◌, ◌<◌, ℕ, false, length, true, vec_capacity, vec_len};
+ghost use Rattle.std.specs.Prelude.{◌≡◌, ◌≢◌, ◌<◌, ℕ, false, length, true, vec_capacity, vec_len};
 ghost use Rattle.roll.specs.Rule.{IsKeeper, rows_of};
 ghost use Rattle.session.specs.Promises.{KeepsNumbers};
 ghost use Rattle.workers.specs.Answers.{IsListAfter, IsListBegun};
@@ -8,7 +8,7 @@ ghost use Rattle.workers.specs.Following.{IsGuardedWell};
 ghost use Rattle.workers.specs.Lists.{ends_open, events_at};
 ghost use Rattle.workers.specs.Seats.{AreEmpty};
 
-use crate::entry::{End, Entry, Request, Took};
+use crate::entry::{End, Entry, Request, Took, last_queue};
 use crate::naming::Naming;
 use crate::seat::{Seat, with_entry, with_last};
 use arena::SlotId;
@@ -18,7 +18,7 @@ use std::marker::{Model, PhantomData};
 use words::{Refusal, Reply};
 
 /// The creation that threads know of.
-#[derive(Clone, Copy, Debug, PartialEq, Eq)]
+#[derive(Clone, Copy)]
 pub(crate) enum Creating {
     /// None, or one that a crash ended before the seats were given.
     Nothing,
@@ -71,6 +71,14 @@ pub(crate) fn events_in(session: &Session, queue: SlotId) -> usize
     }
 }
 
+/// Whether a call was refused for want of memory.
+fn is_want_of_memory(refusal: Refusal) -> bool
+    ensures memory { result ≡ true → refusal ≡ Refusal.NoMemory }
+    ensures other { result ≡ false → refusal ≢ Refusal.NoMemory }
+{
+    matches!(refusal, Refusal::NoMemory)
+}
+
 impl<J: Naming> Locked<J> {
     /// What is to lie under the lock, where no seat has been used yet.
     pub(crate) fn new(session: Session, keeper: Token<Entry>) -> Self
@@ -117,22 +125,13 @@ impl<J: Naming> Locked<J> {
             call,
         } = request;
         let next = events_in(&self.session, queue);
-        let began = match self.session.begin(seat.client, queue, number, call) {
-            Ok(began) => began,
-            Err(refusal) => return (seat, Err(refusal)),
-        };
-        let (place, end) = match began {
-            Some(reply) => (None, End::Answered(reply)),
-            None => (Some(next), End::Open),
-        };
-        let entry = Entry {
-            queue,
-            number,
-            call,
-            place,
-            end,
-        };
-        (with_entry(roll, &mut self.keeper, seat, entry), Ok(began))
+        match self.session.begin(seat.client, queue, number, call) {
+            Ok(began) => {
+                let entry = request.entry(next, began);
+                (with_entry(roll, &mut self.keeper, seat, entry), Ok(began))
+            }
+            Err(refusal) => (seat, Err(refusal)),
+        }
     }
 
     /// One step of the seat's open call.
@@ -142,19 +141,21 @@ impl<J: Naming> Locked<J> {
         ensures client { result.0.client ≡ seat.client }
         ensures step { IsListAfter seat.list.items result.1 result.0.list.items }
     {
-        let queue = seat.list[seat.list.len() - 1].queue;
+        let queue = last_queue(seat.list.as_slice());
         match self.session.advance(seat.client, queue) {
             Ok(None) => (seat, Took::More),
             Ok(Some(reply)) => (
                 with_last(roll, &mut self.keeper, seat, End::Answered(reply)),
                 Took::Answered(reply),
             ),
-            Err(Refusal::NoMemory) => (seat, Took::NoMemory),
-            // No call of the client is under way any more, or the broker recovers: a crash ended it.
-            Err(_) => (
-                with_last(roll, &mut self.keeper, seat, End::Interrupted),
-                Took::Interrupted,
-            ),
+            Err(refusal) => {
+                if is_want_of_memory(refusal) {
+                    return (seat, Took::NoMemory);
+                }
+                // No call of the client is under way any more, or the broker recovers: a crash ended it.
+                let seat = with_last(roll, &mut self.keeper, seat, End::Interrupted);
+                (seat, Took::Interrupted)
+            }
         }
     }
 }

@@ -1,0 +1,40 @@
+-- What a call leaves in its seat's list, from its start to its answer.
+use Rattle.std.proofs.Common.{◌≡◌, true, List, Option, Some, None, Result, Ok, ap, ◌∙◌, subst}
+use Rattle.words.specs.declared.call.Reply.{Reply as AnyReply}
+use Rattle.words.specs.declared.refusal.Refusal.{Refusal}
+use Rattle.workers.proofs.Lists.{ends_open_push, with_end_push}
+use Rattle.workers.specs.Answers.{Finishes, IsListBegun, IsUnderWay, Remembers, entry_of}
+use Rattle.workers.specs.Lists.{ends_open, with_end}
+use Rattle.workers.specs.declared.entry.Answer.{Answer}
+use Rattle.workers.specs.declared.entry.Answer.TheVariants.{Interrupted as answer_interrupted, Refused, Reply}
+use Rattle.workers.specs.declared.entry.Answer.TheVariants.{Unfinished}
+use Rattle.workers.specs.declared.entry.End.TheVariants.{Answered, Interrupted, Open}
+use Rattle.workers.specs.declared.entry.Entry.{Entry}
+use Rattle.workers.specs.declared.entry.Request.{Request}
+
+-- where a start has neither a reply nor a refusal its call is under way
+pub under_way_begun : (old : List Entry) (r : Request) (began : Result (Option AnyReply) Refusal) (begun : List Entry)
+    → began ≡ Ok None → IsListBegun old r began begun → IsUnderWay old r begun
+under_way_begun old r began begun is way = subst (λ result. IsListBegun old r result begun) is way
+
+-- a call that was started is open
+pub begun_open : (old : List Entry) (r : Request) (begun : List Entry) → IsUnderWay old r begun
+    → ends_open begun ≡ true
+begun_open old r begun way =
+    ap ends_open way.is ∙ ends_open_push old (entry_of r.queue r.number r.call (Some way.place) Open)
+
+-- with its answer the list has one entry more
+pub remembers : (old : List Entry) (r : Request) (begun new : List Entry) (answer : Answer) → IsUnderWay old r begun
+    → Finishes begun answer new → Remembers old r.queue r.number r.call answer new
+remembers old r begun new (Reply reply) way is = record {
+  place = Some way.place;
+  is = is ∙ (ap (with_end (Answered reply)) way.is
+      ∙ with_end_push (Answered reply) old (entry_of r.queue r.number r.call (Some way.place) Open));
+}
+remembers old r begun new (Refused refusal) way is = absurd is
+remembers old r begun new answer_interrupted way is = record {
+  place = Some way.place;
+  is = is ∙ (ap (with_end Interrupted) way.is
+      ∙ with_end_push Interrupted old (entry_of r.queue r.number r.call (Some way.place) Open));
+}
+remembers old r begun new Unfinished way is = record { place = Some way.place; is = is ∙ way.is }

@@ -1,0 +1,29 @@
+use Rattle.std.proofs.Common.{sym, ap, ◌∙◌, []}
+use Rattle.roll.specs.Rule.{keeper, rows_of}
+use Rattle.session.specs.Requests.{answer_to, number_or_zero}
+use Rattle.workers.proofs.Guarded.{with_rows}
+use Rattle.workers.proofs.Turns.{guarded_begun, guarded_unbegun}
+use Rattle.workers.proofs.locked.Locked.begin.Goals as goal
+
+pub invariant_of-self : goal.invariant_of-self
+invariant_of-self g c =
+    let e = c.in-Ok.ensures in
+    let w = c.with_entry.ensures in
+    let list = c.args.seat.list.items in (
+      (w.keeper.0, w.keeper.1 ∙ sym (ap (λ m. (keeper m.0.rows, [])) w.keeper.1)),
+      with_rows g.J.Naming.clients g.J.Naming.given _ (rows_of c.with_entry.new.keeper) (ap (λ m. m.0.rows) w.keeper.1)
+          (rw c.entry-entry.ensures
+          (guarded_begun g.J.Naming.clients g.J.Naming.given _ c.self.invariant.1 c.begin.new.self e.promises
+          c.args.seat.client list w.before c.args.request c.events_in-next.result c.requires.idle
+          c.events_in-next.ensures c.in-Ok.began e.begun e.reply)),
+    )
+
+pub invariant_of-self-in-Err : goal.invariant_of-self-in-Err
+invariant_of-self-in-Err g c =
+    let e = c.in-Err.ensures in
+    let r = c.args.request in (
+      c.self.invariant.0,
+      guarded_unbegun g.J.Naming.clients g.J.Naming.given _ c.self.invariant.1 c.begin.new.self e.promises r.queue.0
+          c.args.seat.client (number_or_zero r.number) r.call c.in-Err.refusal
+          (answer_to c.self.inside.session r.queue.0 c.args.seat.client r.number) e.begun,
+    )

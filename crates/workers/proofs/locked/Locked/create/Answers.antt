@@ -1,0 +1,16 @@
+use Rattle.std.proofs.Common.{ap, ◌∙◌}
+use Rattle.workers.specs.declared.locked.Creating.TheVariants.{UnderWay}
+use Rattle.session.specs.Sessions.{Sessioned}
+use Rattle.workers.proofs.Guarded.{guarded_still}
+use Rattle.workers.proofs.Stops.{created_carried}
+use Rattle.workers.proofs.locked.Locked.create.Goals as goal
+
+pub invariant_of-self-2 : goal.invariant_of-self-2
+invariant_of-self-2 g c =
+    let e = c.in_ok-create.ensures in
+    let new = c.create.new.self in (
+      c.self.invariant.0,
+      guarded_still g.J.Naming.clients g.J.Naming.given _ c.self.invariant.1 new UnderWay
+          (λ u. created_carried c.self.inside.session new c.create.ensures.others u) c.create.ensures.promises
+          (ap (λ (s : Sessioned). s.broker.recovery) c.create.ensures.others ∙ e.may.ready, e.under_way),
+    )
