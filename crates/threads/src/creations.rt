@@ -88,7 +88,7 @@ fn created<J: Naming, R: Host>(rt: &R, shared: &Shared<J>, letter: u8) -> Option
         let created = shared.create(rt, &[letter], Kind::Log);
         match created {
             Created::Interrupted | Created::Refused(Refusal::NotReady | Refusal::Busy) => {
-                if turn % 16 == 15 {
+                if turn % 4 == 3 {
                     rest(rt, 1);
                 }
             }
@@ -144,7 +144,7 @@ fn restarts<J: Naming, R: Host>(rt: &R, shared: &Shared<J>, signals: &Signals) -
         right &= shared.crash(rt) == Ok(());
         tell(&signals.begun);
         right &= shared.recover(rt) == Ok(());
-        if turn % 4 == 3 {
+        if turn % 64 == 63 {
             rest(rt, 1);
         }
     }
