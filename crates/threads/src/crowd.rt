@@ -57,14 +57,25 @@ fn with_all_queues(alloc: Global) -> Result<Session, Refusal> {
     Ok(session)
 }
 
-/// A drawn call in a drawn queue: it puts this value, or takes one.
-fn drawn(rng: &mut Pcg32, value: u32) -> (usize, Call) {
+/// A drawn call in a drawn queue, with the client's next number in a log queue: it puts this value, or takes one.
+fn drawn(rng: &mut Pcg32, numbers: &mut [u64; LOGS], value: u32) -> Ask {
     let slot = below(rng, SLOTS as u32) as usize;
     let call = match below(rng, 2) {
         0 => Call::Enq(value),
         _ => Call::Deq,
     };
-    (slot, call)
+    let number = match numbers.get_mut(slot) {
+        Some(number) => {
+            *number = number.saturating_add(1);
+            Some(*number)
+        }
+        None => None,
+    };
+    Ask {
+        queue: SlotId(slot as u8),
+        number,
+        call,
+    }
 }
 
 /// The call in a durable queue, which is sent once: whether it was answered, or a crash or a recovery came between.
@@ -106,46 +117,30 @@ fn sent_until_answered<J: Naming, R: Host>(
     (seat, false)
 }
 
+/// The call, as it is sent in a queue of its kind: whether it was answered as it may be.
+fn sent<J: Naming, R: Host>(
+    rt: &R,
+    shared: &Shared<J>,
+    seat: Seat<J>,
+    ask: Ask,
+) -> (Seat<J>, bool) {
+    match ask.number {
+        Some(_) => sent_until_answered(rt, shared, seat, ask),
+        None => sent_once(rt, shared, seat, ask),
+    }
+}
+
 /// All calls of a client, drawn from a seed of its own: whether each was answered as it may be.
 fn all_sent<J: Naming, R: Host>(rt: &R, shared: &Shared<J>, seat: Seat<J>) -> (Seat<J>, bool) {
     let client = u32::from(seat.client.0);
     let mut rng = Pcg32::new(u64::from(client), 31);
-    let (mut seat, mut right) = (seat, true);
-    let mut numbers = [0u64; LOGS];
-    for value in 0..CALLS {
-        let (slot, call) = drawn(&mut rng, client.saturating_mul(CALLS).saturating_add(value));
-        let queue = SlotId(slot as u8);
-        let (after, sent) = match numbers.get_mut(slot) {
-            Some(number) => {
-                *number = number.saturating_add(1);
-                let number = Some(*number);
-                sent_until_answered(
-                    rt,
-                    shared,
-                    seat,
-                    Ask {
-                        queue,
-                        number,
-                        call,
-                    },
-                )
-            }
-            None => {
-                let number = None;
-                sent_once(
-                    rt,
-                    shared,
-                    seat,
-                    Ask {
-                        queue,
-                        number,
-                        call,
-                    },
-                )
-            }
-        };
+    let (mut seat, mut right, mut numbers) = (seat, true, [0u64; LOGS]);
+    for call in 0..CALLS {
+        let value = client.saturating_mul(CALLS).saturating_add(call);
+        let ask = drawn(&mut rng, &mut numbers, value);
+        let (after, was_right) = sent(rt, shared, seat, ask);
         seat = after;
-        right &= sent;
+        right &= was_right;
     }
     (seat, right)
 }
