@@ -157,8 +157,8 @@ fn holds_the_rest(
     Ok(counted.are_left(session.broker().content(queue)?.as_slice()))
 }
 
-/// Whether each number of each client took effect once in a log queue, with the reply that the client got, and the queue
-/// holds what is left by these replies.
+/// Whether each number of each client took effect once in a log queue, with the reply that the client got, and the
+/// queue holds what is left by these replies.
 pub(crate) fn are_once(
     alloc: Global,
     session: &Session,
