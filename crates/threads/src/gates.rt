@@ -8,7 +8,12 @@ use words::Client;
 use workers::Gate;
 
 /// How many turns of a millisecond a test waits at most.
-const TURNS: u32 = 10_000;
+pub(crate) const TURNS: u32 = 10_000;
+
+/// Waits for so many milliseconds.
+pub(crate) fn rest<C: Clock>(clock: &C, milliseconds: u32) {
+    thread::sleep(clock, Duration::from_millis(u64::from(milliseconds)));
+}
 
 /// Says that something is so.
 pub(crate) fn tell(word: &AtomicU64) {
@@ -21,7 +26,7 @@ pub(crate) fn wait_for<C: Clock>(clock: &C, word: &AtomicU64) -> bool {
         if word.load(Ordering::SeqCst) == 1 {
             return true;
         }
-        thread::sleep(clock, Duration::from_millis(1));
+        rest(clock, 1);
     }
     false
 }

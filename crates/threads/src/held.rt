@@ -1,84 +1,87 @@
 //! Calls that a gate holds back while others are answered: no lock is held between two steps.
 
-ghost use Rattle.std.specs.Prelude.{◌≡◌};
-ghost use Rattle.workers.specs.Opening.{IsNameOf};
+ghost use Rattle.std.specs.Prelude.{◌≡◌, IfOk};
+ghost use Rattle.workers.specs.Seats.{AreAllInOrder};
 
-use crate::gates::{Held, tell, wait_for};
-use crate::lists::{are_explained, fits};
-use crate::making::{A, opened_with};
-use crate::seats::{only, put_together, taken_apart};
-use session::Session;
+use crate::asking::{Ask, DONE, asked, held};
+use crate::making::{A, with_queue};
+use crate::scenes::{Host, Scene, stage};
+use crate::seats::{put_together, taken_apart};
 use std::alloc::Global;
-use std::marker::Brand;
-use std::process::Abort;
-use std::sync::Wait;
-use std::sync::atomic::{AtomicU64, Ordering};
 use std::test::*;
-use std::thread::{Threads, join};
-use std::time::Clock;
-use words::{Call, Client, Kind, Reply};
-use workers::{Answer, End, Entry, Naming, OpenGate, Opened, Seat, Shared};
+use words::{Call, Kind, Reply};
+use workers::{Answer, Naming, Seat, Shared};
 
-/// An entry of a call that was answered.
-fn answered(
-    number: Option<u64>,
-    call: Call,
-    place: Option<usize>,
-    reply: Reply,
-) -> Entry {
-    Entry {
-        queue: A,
-        number,
-        call,
-        place,
-        end: End::Answered(reply),
+/// Client 0's enqueue stands still until client 1's is answered.
+struct EnqueueHeld;
+
+impl Scene for EnqueueHeld {
+    fn play<J: Naming + Send + Sync, R: Host>(
+        &self,
+        rt: &R,
+        alloc: Global,
+        shared: &Shared<J>,
+        seats: Vec<Seat<J>>,
+    ) -> Result<Vec<Seat<J>>, Fail> {
+        let (zero, one) = taken_apart(seats).ok_or("two seats")?;
+        let (five, seven) = (Ask::plain(Call::Enq(5)), Ask::plain(Call::Enq(7)));
+        let other = || asked(rt, shared, one, seven);
+        let ((zero, first), (one, second)) = held(rt, shared, zero, five, 8, other);
+        assert_eq!(rt; second, DONE);
+        assert_eq!(rt; first, DONE);
+        assert!(rt; zero.list.as_slice() == [five.ran(0, Reply::Done)].as_slice());
+        assert!(rt; one.list.as_slice() == [seven.ran(1, Reply::Done)].as_slice());
+        Ok(put_together(alloc, zero, one)?)
     }
 }
 
 #[test]
 fn an_enqueue_that_stands_still_is_helped(rt: HostRuntime) -> Result<(), Fail> {
-    let opened = opened_with(rt.alloc(), Kind::Durable, 2, 3)?;
-    enqueue_held::<Brand, _>(&rt, rt.alloc(), opened)
+    let alloc = rt.alloc();
+    let session = with_queue(alloc, Kind::Durable, 2, 3)?;
+    let session = stage(&rt, alloc, session, &EnqueueHeld)?.session;
+    assert!(rt; session.broker().content(A)?.as_slice() == [5u32, 7].as_slice());
+    Ok(())
 }
 
-fn enqueue_held<J: Naming + Send + Sync, R: Threads + Wait + Clock + Abort + Sync>(
-    rt: &R,
-    alloc: Global,
-    opened: Opened,
-) -> Result<(), Fail>
-    requires { IsNameOf J.roll J.clients J.first opened }
-{
-    let Ok((shared, seats)) = opened.named::<J>(alloc) else {
-        return Err(Fail::new("no seats"));
-    };
-    let (zero, one) = taken_apart(seats).ok_or("two seats")?;
-    let (there, done, late) = (AtomicU64::new(0), AtomicU64::new(0), AtomicU64::new(0));
-    let gate = Held {
-        clock: rt,
-        steps: 8,
-        there: &there,
-        done: &done,
-        late: &late,
-    };
-    let ((zero, first), (one, second)) = join(
-        rt,
-        || shared.call(rt, zero, A, None, Call::Enq(5), &gate),
-        || {
-            wait_for(rt, &there);
-            let (one, answer) = shared.call(rt, one, A, None, Call::Enq(7), &OpenGate);
-            tell(&done);
-            (one, answer)
-        },
-    );
-    assert_eq!(rt; second, Answer::Reply(Reply::Done));
-    assert_eq!(rt; first, Answer::Reply(Reply::Done));
-    assert_eq!(rt; late.load(Ordering::SeqCst), 0);
-    let of_zero = [answered(None, Call::Enq(5), Some(0), Reply::Done)];
-    assert!(rt; zero.list.as_slice() == of_zero.as_slice());
-    let of_one = [answered(None, Call::Enq(7), Some(1), Reply::Done)];
-    assert!(rt; one.list.as_slice() == of_one.as_slice());
-    let session = shared.close(put_together(alloc, zero, one)?);
-    assert!(rt; session.broker().content(A)?.as_slice() == [5u32, 7].as_slice());
-    assert!(rt; are_explained(alloc, &session)?);
+/// Client 0 puts 7 and 8. Its dequeue stands still until client 1's is answered.
+struct DequeueHeld;
+
+impl Scene for DequeueHeld {
+    fn play<J: Naming + Send + Sync, R: Host>(
+        &self,
+        rt: &R,
+        alloc: Global,
+        shared: &Shared<J>,
+        seats: Vec<Seat<J>>,
+    ) -> Result<Vec<Seat<J>>, Fail> {
+        let (zero, one) = taken_apart(seats).ok_or("two seats")?;
+        let (seven, eight) = (Ask::plain(Call::Enq(7)), Ask::plain(Call::Enq(8)));
+        let (zero, first) = asked(rt, shared, zero, seven);
+        assert_eq!(rt; first, DONE);
+        let (zero, second) = asked(rt, shared, zero, eight);
+        assert_eq!(rt; second, DONE);
+        let out = Ask::plain(Call::Deq);
+        let other = || asked(rt, shared, one, out);
+        let ((zero, first), (one, second)) = held(rt, shared, zero, out, 10, other);
+        assert_eq!(rt; second, Answer::Reply(Reply::Got(8)));
+        assert_eq!(rt; first, Answer::Reply(Reply::Got(7)));
+        let of_zero = [
+            seven.ran(0, Reply::Done),
+            eight.ran(2, Reply::Done),
+            out.ran(4, Reply::Got(7)),
+        ];
+        assert!(rt; zero.list.as_slice() == of_zero.as_slice());
+        assert!(rt; one.list.as_slice() == [out.ran(5, Reply::Got(8))].as_slice());
+        Ok(put_together(alloc, zero, one)?)
+    }
+}
+
+#[test]
+fn a_dequeue_that_stands_still_gets_its_value(rt: HostRuntime) -> Result<(), Fail> {
+    let alloc = rt.alloc();
+    let session = with_queue(alloc, Kind::Durable, 2, 3)?;
+    let session = stage(&rt, alloc, session, &DequeueHeld)?.session;
+    assert!(rt; session.broker().content(A)?.as_slice().is_empty());
     Ok(())
 }

@@ -2,7 +2,13 @@
 #![tactic(auto)]
 
 #[cfg(test)]
+mod asking;
+#[cfg(test)]
 mod crashes;
+#[cfg(test)]
+mod creations;
+#[cfg(test)]
+mod crowd;
 #[cfg(test)]
 mod gates;
 #[cfg(test)]
@@ -12,4 +18,14 @@ mod lists;
 #[cfg(test)]
 mod making;
 #[cfg(test)]
+mod numbers;
+#[cfg(test)]
+mod opening;
+#[cfg(test)]
+mod rotations;
+#[cfg(test)]
+mod scenes;
+#[cfg(test)]
 mod seats;
+#[cfg(test)]
+mod taken;

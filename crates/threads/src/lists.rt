@@ -3,80 +3,153 @@
 use arena::{SLOTS, SlotId};
 use history::{Event, check, replay};
 use session::Session;
-use std::alloc::Global;
+use std::alloc::{AllocError, Global};
 use words::{Client, Refusal};
-use workers::{End, Entry};
+use workers::{End, Entry, Naming, Seat};
 
-/// What a client was last asked in a queue, as its history has it.
-fn ends_as(events: &[Event], client: Client, place: usize, end: End) -> bool {
-    for event in events.iter().skip(place.saturating_add(1)) {
-        match *event {
-            Event::Return { client: who, reply } if who == client => {
-                return end == End::Answered(reply);
-            }
-            Event::Crash => return end != End::Open && !matches!(end, End::Answered(_)),
-            Event::Call { .. } | Event::Return { .. } | Event::Ready { .. } => {}
-        }
+/// How many events the history of each slot has; 0 where the slot is closed.
+pub(crate) type Lengths = [usize; SLOTS];
+
+/// How long histories are that have just begun.
+const NEW: Lengths = [0; SLOTS];
+
+/// How long all histories are.
+pub(crate) fn lengths(session: &Session) -> Lengths {
+    let mut lengths = NEW;
+    for slot in 0..SLOTS {
+        lengths[slot] = events_of(session, SlotId(slot as u8)).len();
     }
-    end == End::Open
+    lengths
 }
 
-/// Whether a call stands at its place in the history of its queue, and ended so.
-fn stands(events: &[Event], client: Client, entry: &Entry, place: usize) -> bool {
-    let is_call = match events.get(place) {
-        Some(
+/// A list that no seat holds.
+fn copy(alloc: Global, list: &[Entry]) -> Result<Vec<Entry>, AllocError> {
+    let mut copy = Vec::new(alloc);
+    for entry in list {
+        copy.push(*entry)?;
+    }
+    Ok(copy)
+}
+
+/// The lists of all seats.
+pub(crate) fn copied<J: Naming>(
+    alloc: Global,
+    seats: &[Seat<J>],
+) -> Result<Vec<Vec<Entry>>, AllocError> {
+    let mut lists = Vec::new(alloc);
+    for seat in seats {
+        lists.push(copy(alloc, seat.list.as_slice())?)?;
+    }
+    Ok(lists)
+}
+
+/// Writes what became of a client's last call, where that was open.
+fn end_last(calls: &mut Vec<Entry>, end: End) {
+    if let Some(last) = calls.last_mut() {
+        if last.end == End::Open {
+            last.end = end;
+        }
+    }
+}
+
+/// The client's calls that a history has from this place on, as a seat remembers them.
+fn remembered(
+    alloc: Global,
+    events: &[Event],
+    client: Client,
+    queue: SlotId,
+    since: usize,
+) -> Result<Vec<Entry>, AllocError> {
+    let mut calls = Vec::new(alloc);
+    for (place, event) in events.iter().enumerate() {
+        match *event {
             Event::Call {
                 client: who,
                 number,
                 call,
-            },
-        ) => *who == client && *number == entry.number.unwrap_or(0) && *call == entry.call,
-        _ => false,
-    };
-    is_call && ends_as(events, client, place, entry.end)
+            } if who == client && place >= since => calls.push(Entry {
+                queue,
+                number: if number == 0 { None } else { Some(number) },
+                call,
+                place: Some(place),
+                end: End::Open,
+            })?,
+            Event::Return { client: who, reply } if who == client => {
+                end_last(&mut calls, End::Answered(reply));
+            }
+            Event::Crash => end_last(&mut calls, End::Interrupted),
+            Event::Call { .. } | Event::Return { .. } | Event::Ready { .. } => {}
+        }
+    }
+    Ok(calls)
 }
 
-/// How many calls of the client a history has.
-fn calls_of(events: &[Event], client: Client) -> usize {
-    events
-        .iter()
-        .filter(|event| matches!(event, Event::Call { client: who, .. } if *who == client))
-        .count()
+/// The calls of a list that ran in one queue; nothing, where one that did not run has no number or no answer.
+fn ran(alloc: Global, list: &[Entry], queue: SlotId) -> Result<Option<Vec<Entry>>, AllocError> {
+    let mut calls = Vec::new(alloc);
+    for entry in list.iter().filter(|entry| entry.queue == queue) {
+        if entry.place.is_some() {
+            calls.push(*entry)?;
+        } else if entry.number.is_none() || !matches!(entry.end, End::Answered(_)) {
+            return Ok(None);
+        }
+    }
+    Ok(Some(calls))
 }
 
-/// Whether the part of a client's list that ran in a queue is all that its history has of the client, in its order.
-fn fits_in(
+/// What happened in the queue of a slot; in a closed slot, nothing.
+fn events_of(session: &Session, queue: SlotId) -> &[Event] {
+    match session.broker().history(queue) {
+        Ok(history) => history.events.as_slice(),
+        Err(_) => &[],
+    }
+}
+
+/// Whether a client's list has just what the histories of all queues have of it, each from its place on.
+fn fits(
+    alloc: Global,
     session: &Session,
     client: Client,
     list: &[Entry],
-    queue: SlotId,
-) -> Result<bool, Refusal> {
-    let history = session.broker().history(queue)?;
-    let events = history.events.as_slice();
-    let (mut from, mut ran) = (0usize, 0usize);
-    for entry in list.iter().filter(|entry| entry.queue == queue) {
-        let Some(place) = entry.place else {
-            continue;
-        };
-        if place < from || !stands(events, client, entry, place) {
-            return Ok(false);
-        }
-        from = place.saturating_add(1);
-        ran = ran.saturating_add(1);
-    }
-    Ok(ran == calls_of(events, client))
-}
-
-/// Whether a client's list fits the histories of all queues.
-pub(crate) fn fits(session: &Session, client: Client, list: &[Entry]) -> Result<bool, Refusal> {
+    since: &Lengths,
+) -> Result<bool, AllocError> {
     let mut right = true;
-    for slot in 0..SLOTS as u8 {
-        right &= match fits_in(session, client, list, SlotId(slot)) {
-            Err(Refusal::NoQueue) => true,
-            fits => fits?,
+    for slot in 0..SLOTS {
+        let queue = SlotId(slot as u8);
+        let events = events_of(session, queue);
+        let calls = remembered(alloc, events, client, queue, since[slot])?;
+        right &= match ran(alloc, list, queue)? {
+            Some(ran) => ran.as_slice() == calls.as_slice(),
+            None => false,
         };
     }
     Ok(right)
+}
+
+/// Whether each client's list fits the histories, each from its place on.
+fn fit(
+    alloc: Global,
+    session: &Session,
+    lists: &[Vec<Entry>],
+    since: &Lengths,
+) -> Result<bool, AllocError> {
+    let (mut client, mut right) = (0u8, true);
+    for list in lists {
+        right &= fits(alloc, session, Client(client), list.as_slice(), since)?;
+        client = client.saturating_add(1);
+    }
+    Ok(right)
+}
+
+/// Whether each client's list is what the histories have of it, since they had these lengths or, where they have ended
+/// since, since they began.
+pub(crate) fn are_accounted_for(
+    alloc: Global,
+    session: &Session,
+    lists: &[Vec<Entry>],
+    since: &Lengths,
+) -> Result<bool, AllocError> {
+    Ok(fit(alloc, session, lists, since)? || fit(alloc, session, lists, &NEW)?)
 }
 
 /// Whether the order explains the history of a queue, and the queue holds what the replay of that leaves.

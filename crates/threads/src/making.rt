@@ -5,7 +5,7 @@ use named::Broker;
 use session::Session;
 use std::alloc::Global;
 use std::test::Fail;
-use words::{Client, Kind, Refusal};
+use words::{Client, Kind, Refusal, Reply};
 use workers::Opened;
 
 /// The most steps that a creation, a call or a recovery takes here.
@@ -13,6 +13,9 @@ const MOST_STEPS: u32 = 10_000;
 
 /// The slot of the first queue, of which most tests have no other.
 pub(crate) const A: SlotId = SlotId(0);
+
+/// The slot of the second queue.
+pub(crate) const B: SlotId = SlotId(1);
 
 /// A new queue.
 pub(crate) fn create(session: &mut Session, name: &[u8], kind: Kind) -> Result<SlotId, Refusal> {
@@ -45,12 +48,16 @@ pub(crate) fn opened(alloc: Global, session: Session) -> Result<Opened, Refusal>
     }
 }
 
-/// A new broker's session with one queue, about to be shared.
-pub(crate) fn opened_with(
-    alloc: Global,
-    kind: Kind,
-    clients: u32,
-    records: u32,
-) -> Result<Opened, Refusal> {
-    opened(alloc, with_queue(alloc, kind, clients, records)?)
+/// A call that is under way goes on to its reply.
+pub(crate) fn finished(
+    session: &mut Session,
+    client: Client,
+    queue: SlotId,
+) -> Result<Reply, Refusal> {
+    for _ in 0..MOST_STEPS {
+        if let Some(reply) = session.advance(client, queue)? {
+            return Ok(reply);
+        }
+    }
+    Err(Refusal::Busy)
 }

@@ -1,0 +1,213 @@
+//! Creations of queues: alone, and beside another thread's and crashes.
+
+ghost use Rattle.std.specs.Prelude.{◌≡◌, IfOk};
+ghost use Rattle.workers.specs.Seats.{AreAllInOrder};
+
+use crate::gates::{TURNS, rest, tell, wait_for};
+use crate::making::{A, B, with_queue};
+use crate::scenes::{Host, Scene, stage};
+use arena::SlotId;
+use directory::{Name, Places, Queue};
+use std::alloc::Global;
+use std::sync::Wait;
+use std::sync::atomic::{AtomicU64, Ordering};
+use std::test::*;
+use std::thread::join;
+use words::{Kind, Refusal};
+use workers::{Created, Naming, Seat, Shared};
+
+/// The slot of the queue whose name is this letter, if it is there.
+fn found<J: Naming, R: Wait>(
+    rt: &R,
+    shared: &Shared<J>,
+    letter: u8,
+) -> Result<Option<SlotId>, Refusal> {
+    shared.find(rt, &Name::make(&[letter])?)
+}
+
+/// How many queues there are.
+fn count(places: &Places) -> usize {
+    places.iter().filter(|place| place.is_some()).count()
+}
+
+/// A queue is created, and found and listed; others are refused.
+struct Alone;
+
+impl Scene for Alone {
+    fn play<J: Naming + Send + Sync, R: Host>(
+        &self,
+        rt: &R,
+        _alloc: Global,
+        shared: &Shared<J>,
+        seats: Vec<Seat<J>>,
+    ) -> Result<Vec<Seat<J>>, Fail> {
+        let name = Name::make(b"b")?;
+        assert_eq!(rt; shared.find(rt, &name), Ok(None));
+        assert_eq!(rt; shared.create(rt, b"b", Kind::Log), Created::Queue(B));
+        assert_eq!(rt; shared.find(rt, &name), Ok(Some(B)));
+        let places = shared.list(rt)?;
+        let kind = Kind::Log;
+        assert!(rt; places[1] == Some(Queue { name, kind }) && count(&places) == 2);
+        for taken in [b'a', b'b'] {
+            let again = shared.create(rt, &[taken], Kind::Durable);
+            assert_eq!(rt; again, Created::Refused(Refusal::Exists));
+        }
+        let unnamed = shared.create(rt, b"B", Kind::Log);
+        assert_eq!(rt; unnamed, Created::Refused(Refusal::BadName));
+        shared.crash(rt)?;
+        let down = shared.create(rt, b"c", Kind::Log);
+        assert_eq!(rt; down, Created::Refused(Refusal::NotReady));
+        assert_eq!(rt; shared.find(rt, &name), Err(Refusal::NotReady));
+        assert!(rt; matches!(shared.list(rt), Err(Refusal::NotReady)));
+        shared.recover(rt)?;
+        assert_eq!(rt; shared.find(rt, &name), Ok(Some(B)));
+        Ok(seats)
+    }
+}
+
+#[test]
+fn a_queue_that_is_created_is_found(rt: HostRuntime) -> Result<(), Fail> {
+    let alloc = rt.alloc();
+    let session = with_queue(alloc, Kind::Durable, 1, 1)?;
+    let left = stage(&rt, alloc, session, &Alone)?;
+    let broker = left.session.broker();
+    assert_eq!(rt; broker.kind(A), Ok(Kind::Durable));
+    assert_eq!(rt; broker.kind(B), Ok(Kind::Log));
+    Ok(())
+}
+
+/// The names, of a letter each, that a thread gives to new queues. Two threads have one name more than there are slots.
+const FIRST: [u8; 4] = [b'b', b'c', b'd', b'e'];
+
+const SECOND: [u8; 4] = [b'f', b'g', b'h', b'i'];
+
+/// What the creation of a queue came to at last: it was sent again as long as a crash, a recovery or another creation
+/// came between.
+fn created<J: Naming, R: Host>(rt: &R, shared: &Shared<J>, letter: u8) -> Option<Created> {
+    for turn in 0..TURNS {
+        let created = shared.create(rt, &[letter], Kind::Log);
+        match created {
+            Created::Interrupted | Created::Refused(Refusal::NotReady | Refusal::Busy) => {
+                if turn % 4 == 3 {
+                    rest(rt, 1);
+                }
+            }
+            Created::Queue(_) | Created::Refused(_) => return Some(created),
+        }
+    }
+    None
+}
+
+/// What the creations of some queues came to.
+fn all_created<J: Naming, R: Host>(
+    rt: &R,
+    shared: &Shared<J>,
+    letters: &[u8; 4],
+) -> [Option<Created>; 4] {
+    let mut made = [None; 4];
+    for place in 0..4 {
+        made[place] = created(rt, shared, letters[place]);
+    }
+    made
+}
+
+/// What the threads of a scene tell one another.
+#[derive(Drop)]
+struct Signals {
+    /// Whether the first crash came.
+    begun: AtomicU64,
+    /// How many threads made their queues.
+    over: AtomicU64,
+}
+
+/// What the creations of some queues came to, from the first crash on.
+fn created_beside<J: Naming, R: Host>(
+    rt: &R,
+    shared: &Shared<J>,
+    signals: &Signals,
+    letters: &[u8; 4],
+) -> [Option<Created>; 4] {
+    wait_for(rt, &signals.begun);
+    let made = all_created(rt, shared, letters);
+    signals.over.fetch_add(1, Ordering::SeqCst);
+    made
+}
+
+/// The system stops and recovers again and again, until both threads have made their queues; whether it always could.
+/// Mostly it stops again at once, so that few creations come to their end.
+fn restarts<J: Naming, R: Host>(rt: &R, shared: &Shared<J>, signals: &Signals) -> bool {
+    let mut right = true;
+    for turn in 0..TURNS {
+        if signals.over.load(Ordering::SeqCst) == 2 {
+            return right;
+        }
+        right &= shared.crash(rt) == Ok(());
+        tell(&signals.begun);
+        right &= shared.recover(rt) == Ok(());
+        if turn % 64 == 63 {
+            rest(rt, 1);
+        }
+    }
+    false
+}
+
+/// Whether what a creation came to is so: a queue that was created is in its slot, one that was there is found, and
+/// where the directory is full there is none.
+fn is_so<J: Naming, R: Wait>(
+    rt: &R,
+    shared: &Shared<J>,
+    letter: u8,
+    made: Option<Created>,
+) -> Result<bool, Refusal> {
+    let found = found(rt, shared, letter)?;
+    Ok(match made {
+        Some(Created::Queue(slot)) => found == Some(slot),
+        Some(Created::Refused(Refusal::Exists)) => found.is_some(),
+        Some(Created::Refused(Refusal::DirectoryFull)) => found.is_none(),
+        Some(Created::Refused(_) | Created::Interrupted) | None => false,
+    })
+}
+
+/// Two threads create queues, while a third crashes the broker and recovers it.
+struct Beside;
+
+impl Scene for Beside {
+    fn play<J: Naming + Send + Sync, R: Host>(
+        &self,
+        rt: &R,
+        _alloc: Global,
+        shared: &Shared<J>,
+        seats: Vec<Seat<J>>,
+    ) -> Result<Vec<Seat<J>>, Fail> {
+        let signals = Signals {
+            begun: AtomicU64::new(0),
+            over: AtomicU64::new(0),
+        };
+        let ((first, second), right) = join(
+            rt,
+            || {
+                join(
+                    rt,
+                    || created_beside(rt, shared, &signals, &FIRST),
+                    || created_beside(rt, shared, &signals, &SECOND),
+                )
+            },
+            || restarts(rt, shared, &signals),
+        );
+        assert!(rt; right, "restarts");
+        for place in 0..4 {
+            assert!(rt; is_so(rt, shared, FIRST[place], first[place])?, "{place}");
+            assert!(rt; is_so(rt, shared, SECOND[place], second[place])?, "{place}");
+        }
+        assert_eq!(rt; count(&shared.list(rt)?), 8, "queues");
+        Ok(seats)
+    }
+}
+
+#[test]
+fn creations_are_whole_or_not_at_all_beside_crashes(rt: HostRuntime) -> Result<(), Fail> {
+    let alloc = rt.alloc();
+    let session = with_queue(alloc, Kind::Durable, 1, 1)?;
+    stage(&rt, alloc, session, &Beside)?;
+    Ok(())
+}
