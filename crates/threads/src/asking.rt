@@ -1,13 +1,14 @@
 //! What the tests ask of a shared session.
 
+ghost use Rattle.std.specs.Prelude.{◌≡◌};
+
 use crate::gates::{Held, tell, wait_for};
 use crate::making::A;
-use crate::scenes::Host;
 use arena::SlotId;
 use std::sync::Wait;
 use std::sync::atomic::{AtomicU64, Ordering};
-use std::test::*;
-use std::thread::join;
+use std::thread::{Threads, join};
+use std::time::Clock;
 use words::{Call, Refusal, Reply};
 use workers::{Answer, End, Entry, Naming, OpenGate, Seat, Shared};
 
@@ -74,7 +75,9 @@ pub(crate) fn asked<J: Naming, R: Wait>(
     shared: &Shared<J>,
     seat: Seat<J>,
     ask: Ask,
-) -> (Seat<J>, Answer) {
+) -> (Seat<J>, Answer)
+    ensures { result.0.client ≡ seat.client }
+{
     shared.call(rt, seat, ask.queue, ask.number, ask.call, &OpenGate)
 }
 
@@ -85,41 +88,93 @@ pub(crate) fn is_refused<J: Naming, R: Wait>(
     seat: Seat<J>,
     ask: Ask,
     wanted: Refusal,
-) -> (Seat<J>, bool) {
+) -> (Seat<J>, bool)
+    ensures { result.0.client ≡ seat.client }
+{
     let before = seat.list.len();
     let (seat, answer) = asked(rt, shared, seat, ask);
     let right = answer == Answer::Refused(wanted) && seat.list.len() == before;
     (seat, right)
 }
 
-/// A call that a gate holds back after so many steps, while another thread does something else.
-pub(crate) fn held<J: Naming + Send + Sync, R: Host, X: Send + Drop, F: FnOnce() -> X + Send>(
+/// A call that a gate holds back after so many steps.
+#[derive(Clone, Copy)]
+pub(crate) struct Hold {
+    pub(crate) ask: Ask,
+    pub(crate) steps: u64,
+}
+
+/// One seat's call is held back until another seat's is answered: both seats with their answers, and whether it was held
+/// back in time.
+pub(crate) fn held_beside<J: Naming + Send + Sync, R: Threads + Wait + Clock + Sync>(
     rt: &R,
     shared: &Shared<J>,
-    seat: Seat<J>,
-    ask: Ask,
-    steps: u64,
-    other: F,
-) -> ((Seat<J>, Answer), X) {
+    zero: Seat<J>,
+    hold: Hold,
+    one: Seat<J>,
+    other: Ask,
+) -> ((Seat<J>, Answer), (Seat<J>, Answer), bool)
+    ensures zero { result.0.0.client ≡ zero.client }
+    ensures one { result.1.0.client ≡ one.client }
+{
     let (there, done, late) = (AtomicU64::new(0), AtomicU64::new(0), AtomicU64::new(0));
     let gate = Held {
         clock: rt,
-        steps,
+        steps: hold.steps,
         there: &there,
         done: &done,
         late: &late,
     };
-    let held = join(
+    let Hold { ask, steps: _ } = hold;
+    let (first, second) = join(
+        rt,
+        || shared.call(rt, zero, ask.queue, ask.number, ask.call, &gate),
+        || {
+            wait_for(rt, &there);
+            let (one, answer) = asked(rt, shared, one, other);
+            tell(&done);
+            (one, answer)
+        },
+    );
+    let in_time = there.load(Ordering::SeqCst) == 1 && late.load(Ordering::SeqCst) == 0;
+    (first, second, in_time)
+}
+
+/// The system stops, and recovers.
+pub(crate) fn restarted<J: Naming, R: Wait>(rt: &R, shared: &Shared<J>) -> Result<(), Refusal> {
+    shared.crash(rt)?;
+    shared.recover(rt)
+}
+
+/// A seat's call is held back until the system has stopped and recovered: the seat with its answer, and whether it was
+/// held back in time and the system did.
+pub(crate) fn held_over_a_crash<J: Naming + Send + Sync, R: Threads + Wait + Clock + Sync>(
+    rt: &R,
+    shared: &Shared<J>,
+    seat: Seat<J>,
+    hold: Hold,
+) -> ((Seat<J>, Answer), bool)
+    ensures { result.0.0.client ≡ seat.client }
+{
+    let (there, done, late) = (AtomicU64::new(0), AtomicU64::new(0), AtomicU64::new(0));
+    let gate = Held {
+        clock: rt,
+        steps: hold.steps,
+        there: &there,
+        done: &done,
+        late: &late,
+    };
+    let Hold { ask, steps: _ } = hold;
+    let (first, restart) = join(
         rt,
         || shared.call(rt, seat, ask.queue, ask.number, ask.call, &gate),
         || {
             wait_for(rt, &there);
-            let made = other();
+            let restart = restarted(rt, shared);
             tell(&done);
-            made
+            restart
         },
     );
-    assert_eq!(rt; there.load(Ordering::SeqCst), 1, "held");
-    assert_eq!(rt; late.load(Ordering::SeqCst), 0, "late");
-    held
+    let in_time = there.load(Ordering::SeqCst) == 1 && late.load(Ordering::SeqCst) == 0;
+    (first, in_time && restart.is_ok())
 }

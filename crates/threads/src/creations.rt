@@ -1,20 +1,24 @@
 //! Creations of queues: alone, and beside another thread's and crashes.
 
-ghost use Rattle.std.specs.Prelude.{◌≡◌, IfOk};
-ghost use Rattle.workers.specs.Seats.{AreAllInOrder};
+ghost use Rattle.std.specs.Prelude.{◌≡◌};
+ghost use Rattle.workers.specs.Opening.{IsNameOf};
 
 use crate::gates::{TURNS, rest, tell, wait_for};
-use crate::making::{A, B, with_queue};
-use crate::scenes::{Host, Scene, stage};
+use crate::lists::{Lengths, lengths};
+use crate::making::{A, B, opened, with_queue};
+use crate::staging::{Played, begun, ended};
 use arena::SlotId;
 use directory::{Name, Places, Queue};
 use std::alloc::Global;
+use std::marker::Brand;
+use std::process::Abort;
 use std::sync::Wait;
 use std::sync::atomic::{AtomicU64, Ordering};
 use std::test::*;
-use std::thread::join;
+use std::thread::{Threads, join};
+use std::time::Clock;
 use words::{Kind, Refusal};
-use workers::{Created, Naming, Seat, Shared};
+use workers::{Created, Naming, Opened, Shared};
 
 /// The slot of the queue whose name is this letter, if it is there.
 fn found<J: Naming, R: Wait>(
@@ -31,45 +35,45 @@ fn count(places: &Places) -> usize {
 }
 
 /// A queue is created, and found and listed; others are refused.
-struct Alone;
-
-impl Scene for Alone {
-    fn play<J: Naming + Send + Sync, R: Host>(
-        &self,
-        rt: &R,
-        _alloc: Global,
-        shared: &Shared<J>,
-        seats: Vec<Seat<J>>,
-    ) -> Result<Vec<Seat<J>>, Fail> {
-        let name = Name::make(b"b")?;
-        assert_eq!(rt; shared.find(rt, &name), Ok(None));
-        assert_eq!(rt; shared.create(rt, b"b", Kind::Log), Created::Queue(B));
-        assert_eq!(rt; shared.find(rt, &name), Ok(Some(B)));
-        let places = shared.list(rt)?;
-        let kind = Kind::Log;
-        assert!(rt; places[1] == Some(Queue { name, kind }) && count(&places) == 2);
-        for taken in [b'a', b'b'] {
-            let again = shared.create(rt, &[taken], Kind::Durable);
-            assert_eq!(rt; again, Created::Refused(Refusal::Exists));
-        }
-        let unnamed = shared.create(rt, b"B", Kind::Log);
-        assert_eq!(rt; unnamed, Created::Refused(Refusal::BadName));
-        shared.crash(rt)?;
-        let down = shared.create(rt, b"c", Kind::Log);
-        assert_eq!(rt; down, Created::Refused(Refusal::NotReady));
-        assert_eq!(rt; shared.find(rt, &name), Err(Refusal::NotReady));
-        assert!(rt; matches!(shared.list(rt), Err(Refusal::NotReady)));
-        shared.recover(rt)?;
-        assert_eq!(rt; shared.find(rt, &name), Ok(Some(B)));
-        Ok(seats)
+fn created_alone<J: Naming + Send + Sync, R: Threads + Wait + Clock + Abort + Sync>(
+    rt: &R,
+    alloc: Global,
+    opened: Opened,
+    since: &Lengths,
+) -> Result<Played, Fail>
+    requires { IsNameOf J.roll J.clients J.first opened }
+{
+    let (shared, seats) = begun::<J>(alloc, opened)?;
+    let name = Name::make(b"b")?;
+    assert_eq!(rt; shared.find(rt, &name), Ok(None));
+    assert_eq!(rt; shared.create(rt, b"b", Kind::Log), Created::Queue(B));
+    assert_eq!(rt; shared.find(rt, &name), Ok(Some(B)));
+    let places = shared.list(rt)?;
+    let kind = Kind::Log;
+    assert!(rt; places[1] == Some(Queue { name, kind }) && count(&places) == 2);
+    for taken in [b'a', b'b'] {
+        let again = shared.create(rt, &[taken], Kind::Durable);
+        assert_eq!(rt; again, Created::Refused(Refusal::Exists));
     }
+    let unnamed = shared.create(rt, b"B", Kind::Log);
+    assert_eq!(rt; unnamed, Created::Refused(Refusal::BadName));
+    shared.crash(rt)?;
+    let down = shared.create(rt, b"c", Kind::Log);
+    assert_eq!(rt; down, Created::Refused(Refusal::NotReady));
+    assert_eq!(rt; shared.find(rt, &name), Err(Refusal::NotReady));
+    assert!(rt; matches!(shared.list(rt), Err(Refusal::NotReady)));
+    shared.recover(rt)?;
+    assert_eq!(rt; shared.find(rt, &name), Ok(Some(B)));
+    ended(alloc, shared, seats, since)
 }
 
 #[test]
 fn a_queue_that_is_created_is_found(rt: HostRuntime) -> Result<(), Fail> {
     let alloc = rt.alloc();
     let session = with_queue(alloc, Kind::Durable, 1, 1)?;
-    let left = stage(&rt, alloc, session, &Alone)?;
+    let since = lengths(&session);
+    let opened = opened(alloc, session)?;
+    let left = created_alone::<Brand, _>(&rt, alloc, opened, &since)?;
     let broker = left.session.broker();
     assert_eq!(rt; broker.kind(A), Ok(Kind::Durable));
     assert_eq!(rt; broker.kind(B), Ok(Kind::Log));
@@ -83,7 +87,7 @@ const SECOND: [u8; 4] = [b'f', b'g', b'h', b'i'];
 
 /// What the creation of a queue came to at last: it was sent again as long as a crash, a recovery or another creation
 /// came between.
-fn created<J: Naming, R: Host>(rt: &R, shared: &Shared<J>, letter: u8) -> Option<Created> {
+fn created<J: Naming, R: Wait + Clock>(rt: &R, shared: &Shared<J>, letter: u8) -> Option<Created> {
     for turn in 0..TURNS {
         let created = shared.create(rt, &[letter], Kind::Log);
         match created {
@@ -99,7 +103,7 @@ fn created<J: Naming, R: Host>(rt: &R, shared: &Shared<J>, letter: u8) -> Option
 }
 
 /// What the creations of some queues came to.
-fn all_created<J: Naming, R: Host>(
+fn all_created<J: Naming, R: Wait + Clock>(
     rt: &R,
     shared: &Shared<J>,
     letters: &[u8; 4],
@@ -121,7 +125,7 @@ struct Signals {
 }
 
 /// What the creations of some queues came to, from the first crash on.
-fn created_beside<J: Naming, R: Host>(
+fn created_beside<J: Naming, R: Wait + Clock>(
     rt: &R,
     shared: &Shared<J>,
     signals: &Signals,
@@ -135,7 +139,7 @@ fn created_beside<J: Naming, R: Host>(
 
 /// The system stops and recovers again and again, until both threads have made their queues; whether it always could.
 /// Mostly it stops again at once, so that few creations come to their end.
-fn restarts<J: Naming, R: Host>(rt: &R, shared: &Shared<J>, signals: &Signals) -> bool {
+fn restarts<J: Naming, R: Wait + Clock>(rt: &R, shared: &Shared<J>, signals: &Signals) -> bool {
     let mut right = true;
     for turn in 0..TURNS {
         if signals.over.load(Ordering::SeqCst) == 2 {
@@ -169,45 +173,45 @@ fn is_so<J: Naming, R: Wait>(
 }
 
 /// Two threads create queues, while a third crashes the broker and recovers it.
-struct Beside;
-
-impl Scene for Beside {
-    fn play<J: Naming + Send + Sync, R: Host>(
-        &self,
-        rt: &R,
-        _alloc: Global,
-        shared: &Shared<J>,
-        seats: Vec<Seat<J>>,
-    ) -> Result<Vec<Seat<J>>, Fail> {
-        let signals = Signals {
-            begun: AtomicU64::new(0),
-            over: AtomicU64::new(0),
-        };
-        let ((first, second), right) = join(
-            rt,
-            || {
-                join(
-                    rt,
-                    || created_beside(rt, shared, &signals, &FIRST),
-                    || created_beside(rt, shared, &signals, &SECOND),
-                )
-            },
-            || restarts(rt, shared, &signals),
-        );
-        assert!(rt; right, "restarts");
-        for place in 0..4 {
-            assert!(rt; is_so(rt, shared, FIRST[place], first[place])?, "{place}");
-            assert!(rt; is_so(rt, shared, SECOND[place], second[place])?, "{place}");
-        }
-        assert_eq!(rt; count(&shared.list(rt)?), 8, "queues");
-        Ok(seats)
+fn created_beside_crashes<J: Naming + Send + Sync, R: Threads + Wait + Clock + Abort + Sync>(
+    rt: &R,
+    alloc: Global,
+    opened: Opened,
+    since: &Lengths,
+) -> Result<Played, Fail>
+    requires { IsNameOf J.roll J.clients J.first opened }
+{
+    let (shared, seats) = begun::<J>(alloc, opened)?;
+    let signals = Signals {
+        begun: AtomicU64::new(0),
+        over: AtomicU64::new(0),
+    };
+    let ((first, second), right) = join(
+        rt,
+        || {
+            join(
+                rt,
+                || created_beside(rt, &shared, &signals, &FIRST),
+                || created_beside(rt, &shared, &signals, &SECOND),
+            )
+        },
+        || restarts(rt, &shared, &signals),
+    );
+    assert!(rt; right, "restarts");
+    for place in 0..4 {
+        assert!(rt; is_so(rt, &shared, FIRST[place], first[place])?, "{place}");
+        assert!(rt; is_so(rt, &shared, SECOND[place], second[place])?, "{place}");
     }
+    assert_eq!(rt; count(&shared.list(rt)?), 8, "queues");
+    ended(alloc, shared, seats, since)
 }
 
 #[test]
 fn creations_are_whole_or_not_at_all_beside_crashes(rt: HostRuntime) -> Result<(), Fail> {
     let alloc = rt.alloc();
     let session = with_queue(alloc, Kind::Durable, 1, 1)?;
-    stage(&rt, alloc, session, &Beside)?;
+    let since = lengths(&session);
+    let opened = opened(alloc, session)?;
+    created_beside_crashes::<Brand, _>(&rt, alloc, opened, &since)?;
     Ok(())
 }

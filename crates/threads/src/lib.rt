@@ -24,7 +24,7 @@ mod opening;
 #[cfg(test)]
 mod rotations;
 #[cfg(test)]
-mod scenes;
+mod staging;
 #[cfg(test)]
 mod seats;
 #[cfg(test)]

@@ -28,6 +28,11 @@ pub(crate) fn create(session: &mut Session, name: &[u8], kind: Kind) -> Result<S
     Err(Refusal::NoQueue)
 }
 
+/// A session over a new broker, which has no queue.
+pub(crate) fn new_session(alloc: Global, clients: u32, records: u32) -> Result<Session, Refusal> {
+    Ok(Session::open(Broker::make(alloc, clients, records)?))
+}
+
 /// A session over a new broker with one queue, `a`.
 pub(crate) fn with_queue(
     alloc: Global,
@@ -35,7 +40,7 @@ pub(crate) fn with_queue(
     clients: u32,
     records: u32,
 ) -> Result<Session, Refusal> {
-    let mut session = Session::open(Broker::make(alloc, clients, records)?);
+    let mut session = new_session(alloc, clients, records)?;
     create(&mut session, b"a", kind)?;
     Ok(session)
 }

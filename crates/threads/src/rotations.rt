@@ -1,16 +1,23 @@
 //! Rotations of shared sessions: histories end, and lists with them.
 
 ghost use Rattle.std.specs.Prelude.{◌≡◌, IfOk};
+ghost use Rattle.workers.specs.Opening.{IsNameOf};
 ghost use Rattle.workers.specs.Seats.{AreAllInOrder};
 
 use crate::asking::{Ask, DONE, asked};
-use crate::making::{A, with_queue};
-use crate::scenes::{Host, Scene, stage};
+use crate::lists::{Lengths, lengths};
+use crate::making::{A, opened, with_queue};
 use crate::seats::{put_together, taken_apart};
+use crate::staging::{Played, begun, ended};
 use std::alloc::Global;
+use std::marker::Brand;
+use std::process::Abort;
+use std::sync::Wait;
 use std::test::*;
+use std::thread::Threads;
+use std::time::Clock;
 use words::{Call, Client, Kind, Outcome, Refusal, Reply, Told, Verdict};
-use workers::{Answer, Naming, Seat, Shared};
+use workers::{Answer, Naming, Opened, Seat, Shared};
 
 /// Client 0's number 1, and client 1's.
 const FIVE: Call = Call::Enq(5);
@@ -26,101 +33,110 @@ fn taken(number: u64, reply: Reply) -> Result<Told, Refusal> {
 }
 
 /// Client 0 puts 5, client 1 puts 6, and client 0 takes 5; then a crash, recovery, and a rotation.
-struct Begun;
-
-impl Scene for Begun {
-    fn play<J: Naming + Send + Sync, R: Host>(
-        &self,
-        rt: &R,
-        alloc: Global,
-        shared: &Shared<J>,
-        seats: Vec<Seat<J>>,
-    ) -> Result<Vec<Seat<J>>, Fail> {
-        let (zero, one) = taken_apart(seats).ok_or("two seats")?;
-        let (zero, first) = asked(rt, shared, zero, Ask::numbered(1, FIVE));
-        let (one, second) = asked(rt, shared, one, Ask::numbered(1, SIX));
-        let (zero, third) = asked(rt, shared, zero, Ask::numbered(2, Call::Deq));
-        assert!(rt; first == DONE && second == DONE);
-        assert_eq!(rt; third, Answer::Reply(Reply::Got(5)));
-        shared.crash(rt)?;
-        shared.recover(rt)?;
-        let (seats, rotated) = shared.rotate(rt, put_together(alloc, zero, one)?);
-        assert_eq!(rt; rotated, Ok(()));
-        assert!(rt; seats.iter().all(|seat| seat.list.is_empty()));
-        assert_eq!(rt; shared.told(rt, Client(0), A), taken(2, Reply::Got(5)));
-        assert_eq!(rt; shared.told(rt, Client(1), A), taken(1, Reply::Done));
-        Ok(seats)
-    }
+fn rotated<J: Naming, R: Wait + Abort>(
+    rt: &R,
+    alloc: Global,
+    shared: &Shared<J>,
+    seats: Vec<Seat<J>>,
+) -> Result<Vec<Seat<J>>, Fail>
+    requires { AreAllInOrder (λ seat. seat.client) J.clients seats.items }
+    ensures { IfOk result (λ seats. AreAllInOrder (λ seat. seat.client) J.clients seats.items) }
+{
+    let (zero, one) = taken_apart(seats).ok_or("two seats")?;
+    let (zero, first) = asked(rt, shared, zero, Ask::numbered(1, FIVE));
+    let (one, second) = asked(rt, shared, one, Ask::numbered(1, SIX));
+    let (zero, third) = asked(rt, shared, zero, Ask::numbered(2, Call::Deq));
+    assert!(rt; first == DONE && second == DONE);
+    assert_eq!(rt; third, Answer::Reply(Reply::Got(5)));
+    shared.crash(rt)?;
+    shared.recover(rt)?;
+    let (seats, rotated) = shared.rotate(rt, put_together(alloc, zero, one)?);
+    assert_eq!(rt; rotated, Ok(()));
+    assert!(rt; seats.iter().all(|seat| seat.list.is_empty()));
+    assert_eq!(rt; shared.told(rt, Client(0), A), taken(2, Reply::Got(5)));
+    assert_eq!(rt; shared.told(rt, Client(1), A), taken(1, Reply::Done));
+    Ok(seats)
 }
 
 /// What goes on after a rotation: client 0 sends its last number again, client 1 takes 6, and client 0 puts 8.
-struct GoneOn;
-
-impl Scene for GoneOn {
-    fn play<J: Naming + Send + Sync, R: Host>(
-        &self,
-        rt: &R,
-        alloc: Global,
-        shared: &Shared<J>,
-        seats: Vec<Seat<J>>,
-    ) -> Result<Vec<Seat<J>>, Fail> {
-        let (zero, one) = taken_apart(seats).ok_or("two seats")?;
-        let (last, next) = (Ask::numbered(2, Call::Deq), Ask::numbered(3, Call::Enq(8)));
-        let (zero, again) = asked(rt, shared, zero, last);
-        assert_eq!(rt; again, Answer::Reply(Reply::Got(5)));
-        let (one, takes) = asked(rt, shared, one, last);
-        assert_eq!(rt; takes, Answer::Reply(Reply::Got(6)));
-        let (zero, puts) = asked(rt, shared, zero, next);
-        assert_eq!(rt; puts, DONE);
-        let of_zero = [last.repeated(Reply::Got(5)), next.ran(2, Reply::Done)];
-        assert!(rt; zero.list.as_slice() == of_zero.as_slice());
-        assert!(rt; one.list.as_slice() == [last.ran(0, Reply::Got(6))].as_slice());
-        Ok(put_together(alloc, zero, one)?)
-    }
+fn gone_on<J: Naming, R: Wait + Abort>(
+    rt: &R,
+    alloc: Global,
+    shared: &Shared<J>,
+    seats: Vec<Seat<J>>,
+) -> Result<Vec<Seat<J>>, Fail>
+    requires { AreAllInOrder (λ seat. seat.client) J.clients seats.items }
+    ensures { IfOk result (λ seats. AreAllInOrder (λ seat. seat.client) J.clients seats.items) }
+{
+    let (zero, one) = taken_apart(seats).ok_or("two seats")?;
+    let (last, next) = (Ask::numbered(2, Call::Deq), Ask::numbered(3, Call::Enq(8)));
+    let (zero, again) = asked(rt, shared, zero, last);
+    assert_eq!(rt; again, Answer::Reply(Reply::Got(5)));
+    let (one, takes) = asked(rt, shared, one, last);
+    assert_eq!(rt; takes, Answer::Reply(Reply::Got(6)));
+    let (zero, puts) = asked(rt, shared, zero, next);
+    assert_eq!(rt; puts, DONE);
+    let of_zero = [last.repeated(Reply::Got(5)), next.ran(2, Reply::Done)];
+    assert!(rt; zero.list.as_slice() == of_zero.as_slice());
+    assert!(rt; one.list.as_slice() == [last.ran(0, Reply::Got(6))].as_slice());
+    Ok(put_together(alloc, zero, one)?)
 }
 
 /// A rotation is refused while the broker recovers, and leaves the lists.
-struct Refused;
-
-impl Scene for Refused {
-    fn play<J: Naming + Send + Sync, R: Host>(
-        &self,
-        rt: &R,
-        alloc: Global,
-        shared: &Shared<J>,
-        seats: Vec<Seat<J>>,
-    ) -> Result<Vec<Seat<J>>, Fail> {
-        let seats = GoneOn.play(rt, alloc, shared, seats)?;
-        shared.crash(rt)?;
-        let (seats, rotated) = shared.rotate(rt, seats);
-        assert_eq!(rt; rotated, Err(Refusal::NotReady));
-        assert!(rt; seats.iter().map(|seat| seat.list.len()).sum::<usize>() == 3);
-        shared.recover(rt)?;
-        Ok(seats)
-    }
+fn not_rotated<J: Naming, R: Wait + Abort>(
+    rt: &R,
+    alloc: Global,
+    shared: &Shared<J>,
+    seats: Vec<Seat<J>>,
+) -> Result<Vec<Seat<J>>, Fail>
+    requires { AreAllInOrder (λ seat. seat.client) J.clients seats.items }
+    ensures { IfOk result (λ seats. AreAllInOrder (λ seat. seat.client) J.clients seats.items) }
+{
+    let seats = gone_on(rt, alloc, shared, seats)?;
+    shared.crash(rt)?;
+    let (seats, rotated) = shared.rotate(rt, seats);
+    assert_eq!(rt; rotated, Err(Refusal::NotReady));
+    assert!(rt; seats.iter().all(|seat| !seat.list.is_empty()));
+    shared.recover(rt)?;
+    Ok(seats)
 }
 
 /// A rotation, and what goes on after it.
-struct Whole;
+fn whole<J: Naming + Send + Sync, R: Threads + Wait + Clock + Abort + Sync>(
+    rt: &R,
+    alloc: Global,
+    opened: Opened,
+    since: &Lengths,
+) -> Result<Played, Fail>
+    requires { IsNameOf J.roll J.clients J.first opened }
+{
+    let (shared, seats) = begun::<J>(alloc, opened)?;
+    let seats = rotated(rt, alloc, &shared, seats)?;
+    let seats = not_rotated(rt, alloc, &shared, seats)?;
+    ended(alloc, shared, seats, since)
+}
 
-impl Scene for Whole {
-    fn play<J: Naming + Send + Sync, R: Host>(
-        &self,
-        rt: &R,
-        alloc: Global,
-        shared: &Shared<J>,
-        seats: Vec<Seat<J>>,
-    ) -> Result<Vec<Seat<J>>, Fail> {
-        let seats = Begun.play(rt, alloc, shared, seats)?;
-        Refused.play(rt, alloc, shared, seats)
-    }
+/// A rotation alone.
+fn rotated_alone<J: Naming + Send + Sync, R: Threads + Wait + Clock + Abort + Sync>(
+    rt: &R,
+    alloc: Global,
+    opened: Opened,
+    since: &Lengths,
+) -> Result<Played, Fail>
+    requires { IsNameOf J.roll J.clients J.first opened }
+{
+    let (shared, seats) = begun::<J>(alloc, opened)?;
+    let seats = rotated(rt, alloc, &shared, seats)?;
+    ended(alloc, shared, seats, since)
 }
 
 #[test]
 fn a_rotation_empties_lists_and_nothing_else(rt: HostRuntime) -> Result<(), Fail> {
     let alloc = rt.alloc();
     let session = with_queue(alloc, Kind::Log, 2, 3)?;
-    let left = stage(&rt, alloc, session, &Begun)?;
+    let since = lengths(&session);
+    let opened = opened(alloc, session)?;
+    let left = rotated_alone::<Brand, _>(&rt, alloc, opened, &since)?;
     let broker = left.session.broker();
     assert_eq!(rt; broker.history(A)?.events.len(), 0, "events");
     assert!(rt; broker.content(A)?.as_slice() == [6u32].as_slice());
@@ -131,7 +147,9 @@ fn a_rotation_empties_lists_and_nothing_else(rt: HostRuntime) -> Result<(), Fail
 fn places_begin_anew_after_a_rotation(rt: HostRuntime) -> Result<(), Fail> {
     let alloc = rt.alloc();
     let session = with_queue(alloc, Kind::Log, 2, 3)?;
-    let left = stage(&rt, alloc, session, &Whole)?;
+    let since = lengths(&session);
+    let opened = opened(alloc, session)?;
+    let left = whole::<Brand, _>(&rt, alloc, opened, &since)?;
     let broker = left.session.broker();
     assert_eq!(rt;
         broker.history(A)?.events.len(),
