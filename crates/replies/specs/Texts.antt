@@ -31,11 +31,13 @@ reply_text reply.Empty = codes "{\"reply\":\"empty\"}"
 
 -- the call of this number took effect, with this reply
 abbrev pub taken_text : ℕ → Reply → List ℕ
-taken_text number reply.Done = codes "{\"number\":" ++ decimal number ++ codes ",\"reply\":\"done\",\"told\":\"taken\"}"
+taken_text number reply.Done =
+    codes "{\"number\":" ++ decimal number ++ codes ",\"reply\":\"done\",\"told\":\"taken\"}"
 taken_text number (reply.Got value) =
     codes "{\"got\":" ++ decimal value ++ codes ",\"number\":" ++ decimal number
     ++ codes ",\"reply\":\"got\",\"told\":\"taken\"}"
-taken_text number reply.Empty = codes "{\"number\":" ++ decimal number ++ codes ",\"reply\":\"empty\",\"told\":\"taken\"}"
+taken_text number reply.Empty =
+    codes "{\"number\":" ++ decimal number ++ codes ",\"reply\":\"empty\",\"told\":\"taken\"}"
 
 abbrev pub outcome_text : ℕ → Outcome → List ℕ
 outcome_text number NotTaken = codes "{\"number\":" ++ decimal number ++ codes ",\"told\":\"nottaken\"}"

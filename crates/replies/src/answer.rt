@@ -15,7 +15,7 @@ use words::Refusal;
 /// A row that holds any reply.
 pub type Text = ArrayVec<u8, MAX_REPLY>;
 
-/// The text of an answer. A newline fits behind it.
+/// The text of an answer. Its newline fits behind it.
 pub fn text_of(answer: &Answer) -> Text
     ensures text { result.items ≡ answer_text answer.now }
     ensures short { array_vec_len result < MAX_REPLY }
@@ -25,7 +25,7 @@ pub fn text_of(answer: &Answer) -> Text
     text
 }
 
-/// The text of a refusal. A newline fits behind it.
+/// The text of a refusal, as where a line is none that is served. Its newline fits behind it.
 pub fn refusal_text(refusal: Refusal) -> Text
     ensures text { result.items ≡ refusal_text refusal }
     ensures short { array_vec_len result < MAX_REPLY }
@@ -35,7 +35,7 @@ pub fn refusal_text(refusal: Refusal) -> Text
     text
 }
 
-/// Appends the text of an answer and its newline.
+/// Appends the text of an answer and its newline. The fault of a line is answered `Refused`.
 pub fn append_line<const N: usize>(out: &mut ArrayVec<u8, N>, answer: &Answer)
     requires { array_vec_len out.old + MAX_REPLY ≤ N }
     ensures line { out.new.items ≡ out.old.items ++ answer_line answer.now }

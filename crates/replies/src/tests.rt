@@ -1,42 +1,43 @@
+//! Answers and their texts.
+
 use super::*;
-use arena::SlotId;
+use arena::{SLOTS, SlotId};
 use arrayvec::ArrayVec;
-use directory::{Name, Places, Queue};
+use directory::{Name, Queue};
+use std::process::Abort;
 use wire::Answer;
 use words::{Kind, Outcome, Refusal, Reply, Row, Rule, Told, Verdict};
 
-fn told(number: u64, outcome: Outcome) -> Answer {
-    Answer::Told(Told::Verdict(Verdict { number, outcome }))
-}
-
-/// A queue of this name and kind in slot 2, and one in slot 7.
-fn two_queues(first: (&[u8], Kind), second: (&[u8], Kind)) -> Places {
-    let mut places = [None; 8];
-    for (slot, (bytes, kind)) in [(2, first), (7, second)] {
-        places[slot] = Name::make(bytes).ok().map(|name| Queue { name, kind });
+fn assert_texts<A: Abort>(rt: &A, rows: &[(Answer, &[u8])]) {
+    for (answer, text) in rows {
+        assert!(rt; text_of(answer).as_slice() == *text);
     }
-    places
 }
 
 #[test]
-fn answers_have_their_texts(rt: HostRuntime) {
-    let log: (&[u8], Kind) = (b"a", Kind::Log);
-    let durable: (&[u8], Kind) = (b"orders-2_x", Kind::Durable);
-    let rows: [(Answer, &[u8]); 27] = [
+fn answers_of_all_kinds(rt: HostRuntime) {
+    let rows: [(Answer, &[u8]); 9] = [
         (
-            Answer::Created(SlotId(0)),
-            br#"{"reply":"created","slot":0}"#,
-        ),
-        (Answer::Queues([None; 8]), br#"{"queues":[]}"#),
-        (
-            Answer::Queues(two_queues(log, durable)),
-            br#"{"queues":[{"kind":"log","queue":"a"},{"kind":"durable","queue":"orders-2_x"}]}"#,
+            Answer::Created(SlotId(7)),
+            br#"{"reply":"created","slot":7}"#,
         ),
         (Answer::Reply(Reply::Done), br#"{"reply":"done"}"#),
         (Answer::Reply(Reply::Got(5)), br#"{"got":5,"reply":"got"}"#),
         (Answer::Reply(Reply::Empty), br#"{"reply":"empty"}"#),
         (Answer::Interrupted, br#"{"reply":"interrupted"}"#),
         (Answer::Unfinished, br#"{"reply":"unfinished"}"#),
+        (Answer::Crashed, br#"{"reply":"crashed"}"#),
+        (Answer::Ready, br#"{"reply":"ready"}"#),
+        (Answer::Stopping, br#"{"reply":"stopping"}"#),
+    ];
+    assert_texts(&rt, &rows);
+}
+
+#[test]
+fn what_clients_are_told(rt: HostRuntime) {
+    let told = |number, outcome| Answer::Told(Told::Verdict(Verdict { number, outcome }));
+    let row = |row| Answer::Told(Told::Row(row));
+    let rows: [(Answer, &[u8]); 9] = [
         (Answer::Told(Told::None), br#"{"told":"none"}"#),
         (
             told(1, Outcome::NotTaken),
@@ -47,27 +48,27 @@ fn answers_have_their_texts(rt: HostRuntime) {
             br#"{"number":1,"reply":"done","told":"taken"}"#,
         ),
         (
-            told(2, Outcome::Taken(Reply::Got(9))),
-            br#"{"got":9,"number":2,"reply":"got","told":"taken"}"#,
+            told(u64::MAX, Outcome::Taken(Reply::Got(9))),
+            br#"{"got":9,"number":18446744073709551615,"reply":"got","told":"taken"}"#,
         ),
         (
             told(2, Outcome::Taken(Reply::Empty)),
             br#"{"number":2,"reply":"empty","told":"taken"}"#,
         ),
+        (row(Row::NoCall), br#"{"row":"nocall"}"#),
+        (row(Row::Open), br#"{"row":"open"}"#),
+        (row(Row::Empty), br#"{"row":"empty"}"#),
         (
-            told(u64::MAX, Outcome::Taken(Reply::Got(u32::MAX))),
-            br#"{"got":4294967295,"number":18446744073709551615,"reply":"got","told":"taken"}"#,
+            row(Row::Got(u32::MAX)),
+            br#"{"got":4294967295,"row":"got"}"#,
         ),
-        (Answer::Told(Told::Row(Row::NoCall)), br#"{"row":"nocall"}"#),
-        (Answer::Told(Told::Row(Row::Open)), br#"{"row":"open"}"#),
-        (Answer::Told(Told::Row(Row::Empty)), br#"{"row":"empty"}"#),
-        (
-            Answer::Told(Told::Row(Row::Got(5))),
-            br#"{"got":5,"row":"got"}"#,
-        ),
-        (Answer::Crashed, br#"{"reply":"crashed"}"#),
-        (Answer::Ready, br#"{"reply":"ready"}"#),
-        (Answer::Stopping, br#"{"reply":"stopping"}"#),
+    ];
+    assert_texts(&rt, &rows);
+}
+
+#[test]
+fn refusals(rt: HostRuntime) {
+    let rows: [(Answer, &[u8]); 4] = [
         (
             Answer::Refused(Refusal::NoMemory),
             br#"{"error":6,"name":"NoMemory"}"#,
@@ -75,14 +76,6 @@ fn answers_have_their_texts(rt: HostRuntime) {
         (
             Answer::Refused(Refusal::Gap),
             br#"{"error":19,"name":"Gap"}"#,
-        ),
-        (
-            Answer::Refused(Refusal::TooLong),
-            br#"{"error":23,"name":"TooLong"}"#,
-        ),
-        (
-            Answer::Refused(Refusal::BadJson),
-            br#"{"error":24,"name":"BadJson"}"#,
         ),
         (
             Answer::Refused(Refusal::BadLine(3)),
@@ -93,19 +86,43 @@ fn answers_have_their_texts(rt: HostRuntime) {
             br#"{"error":29,"name":"Damaged"}"#,
         ),
     ];
-    for (answer, text) in &rows {
-        assert_eq!(rt; text_of(answer).as_slice(), *text);
-    }
+    assert_texts(&rt, &rows);
+    assert!(rt;
+        refusal_text(Refusal::Gap).as_slice() == br#"{"error":19,"name":"Gap"}"#.as_slice()
+    );
+}
+
+fn queue(bytes: &[u8], kind: Kind) -> Option<Queue> {
+    let name = Name::make(bytes).ok()?;
+    Some(Queue { name, kind })
 }
 
 #[test]
-fn the_longest_list_fits(rt: HostRuntime) {
-    let queue = Name::make(b"sixteen-letters_").ok().map(|name| Queue {
-        name,
-        kind: Kind::Durable,
-    });
-    let text = text_of(&Answer::Queues([queue; 8]));
-    assert_eq!(rt; text.len(), 380);
+fn lists_of_queues(rt: HostRuntime) {
+    let none = [None; SLOTS];
+    assert_texts(&rt, &[(Answer::Queues(none), br#"{"queues":[]}"#)]);
+    let last = [
+        None,
+        None,
+        None,
+        None,
+        None,
+        None,
+        None,
+        queue(b"a", Kind::Log),
+    ];
+    let one = br#"{"queues":[{"kind":"log","queue":"a"}]}"#;
+    assert_texts(&rt, &[(Answer::Queues(last), one)]);
+    let (first, second) = (queue(b"b-2_z", Kind::Durable), queue(b"a", Kind::Log));
+    let some = [None, first, None, None, second, None, None, None];
+    let two = br#"{"queues":[{"kind":"durable","queue":"b-2_z"},{"kind":"log","queue":"a"}]}"#;
+    assert_texts(&rt, &[(Answer::Queues(some), two)]);
+}
+
+#[test]
+fn the_longest_list(rt: HostRuntime) {
+    let places = [queue(b"sixteen-letters_", Kind::Durable); SLOTS];
+    assert!(rt; text_of(&Answer::Queues(places)).len() == 380);
 }
 
 #[test]
@@ -113,11 +130,6 @@ fn lines_follow_each_other(rt: HostRuntime) {
     let mut out = ArrayVec::<u8, 1_024>::new();
     append_line(&mut out, &Answer::Ready);
     append_line(&mut out, &Answer::Refused(Refusal::Old));
-    assert_eq!(rt;
-        out.as_slice(),
-        b"{\"reply\":\"ready\"}\n{\"error\":20,\"name\":\"Old\"}\n".as_slice()
-    );
-    assert!(rt;
-        refusal_text(Refusal::Old).as_slice() == br#"{"error":20,"name":"Old"}"#.as_slice()
-    );
+    let lines = b"{\"reply\":\"ready\"}\n{\"error\":20,\"name\":\"Old\"}\n";
+    assert!(rt; out.as_slice() == lines.as_slice());
 }
