@@ -1,0 +1,13 @@
+//! The text of each answer: one JSON object a line.
+#![tactic(auto)]
+
+mod answer;
+mod limits;
+mod pieces;
+mod queues;
+#[cfg(test)]
+mod tests;
+mod told;
+
+pub use answer::{Text, append_line, refusal_text, text_of};
+pub use limits::MAX_REPLY;

@@ -1,0 +1,10 @@
+//! How long a reply may be.
+
+/// The most bytes of a reply: of its text, and its newline.
+pub const MAX_REPLY: usize = 512;
+
+/// No text but a list of queues has more bytes.
+pub(crate) const MAX_SHORT: usize = 128;
+
+/// The most digits of a number.
+pub(crate) const MAX_DIGITS: usize = 20;

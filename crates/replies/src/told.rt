@@ -1,0 +1,89 @@
+//! The texts of replies, and of what clients are told.
+
+ghost use Rattle.std.specs.Prelude.{◌≡◌, ◌≤◌, ◌+◌, ◌++◌};
+ghost use Rattle.arrayvec.specs.ArrayVec.{array_vec_len};
+ghost use Rattle.replies.specs.Texts.{reply_text, taken_text, outcome_text, row_text, told_text};
+
+use crate::limits::MAX_SHORT;
+use crate::pieces::{put, put_around, put_number};
+use arrayvec::ArrayVec;
+use words::{Outcome, Reply, Row, Told};
+
+pub(crate) fn put_reply<const N: usize>(out: &mut ArrayVec<u8, N>, reply: Reply)
+    requires { array_vec_len out.old + MAX_SHORT ≤ N }
+    ensures text { out.new.items ≡ out.old.items ++ reply_text reply }
+    ensures short { array_vec_len out.new ≤ array_vec_len out.old + MAX_SHORT }
+{
+    match reply {
+        Reply::Done => put(out, br#"{"reply":"done"}"#),
+        Reply::Got(value) => put_around(
+            out,
+            br#"{"got":"#,
+            u64::from(value),
+            br#","reply":"got"}"#,
+        ),
+        Reply::Empty => put(out, br#"{"reply":"empty"}"#),
+    }
+}
+
+pub(crate) fn put_told<const N: usize>(out: &mut ArrayVec<u8, N>, told: Told)
+    requires { array_vec_len out.old + MAX_SHORT ≤ N }
+    ensures text { out.new.items ≡ out.old.items ++ told_text told }
+    ensures short { array_vec_len out.new ≤ array_vec_len out.old + MAX_SHORT }
+{
+    match told {
+        Told::None => put(out, br#"{"told":"none"}"#),
+        Told::Verdict(verdict) => put_outcome(out, verdict.number, verdict.outcome),
+        Told::Row(row) => put_row(out, row),
+    }
+}
+
+fn put_outcome<const N: usize>(out: &mut ArrayVec<u8, N>, number: u64, outcome: Outcome)
+    requires { array_vec_len out.old + MAX_SHORT ≤ N }
+    ensures text { out.new.items ≡ out.old.items ++ outcome_text number outcome }
+    ensures short { array_vec_len out.new ≤ array_vec_len out.old + MAX_SHORT }
+{
+    match outcome {
+        Outcome::NotTaken => put_around(out, br#"{"number":"#, number, br#","told":"nottaken"}"#),
+        Outcome::Taken(reply) => put_taken(out, number, reply),
+    }
+}
+
+fn put_taken<const N: usize>(out: &mut ArrayVec<u8, N>, number: u64, reply: Reply)
+    requires { array_vec_len out.old + MAX_SHORT ≤ N }
+    ensures text { out.new.items ≡ out.old.items ++ taken_text number reply }
+    ensures short { array_vec_len out.new ≤ array_vec_len out.old + MAX_SHORT }
+{
+    match reply {
+        Reply::Done => put_around(
+            out,
+            br#"{"number":"#,
+            number,
+            br#","reply":"done","told":"taken"}"#,
+        ),
+        Reply::Got(value) => {
+            put_around(out, br#"{"got":"#, u64::from(value), br#","number":"#);
+            put_number(out, number);
+            put(out, br#","reply":"got","told":"taken"}"#);
+        }
+        Reply::Empty => put_around(
+            out,
+            br#"{"number":"#,
+            number,
+            br#","reply":"empty","told":"taken"}"#,
+        ),
+    }
+}
+
+fn put_row<const N: usize>(out: &mut ArrayVec<u8, N>, row: Row)
+    requires { array_vec_len out.old + MAX_SHORT ≤ N }
+    ensures text { out.new.items ≡ out.old.items ++ row_text row }
+    ensures short { array_vec_len out.new ≤ array_vec_len out.old + MAX_SHORT }
+{
+    match row {
+        Row::NoCall => put(out, br#"{"row":"nocall"}"#),
+        Row::Open => put(out, br#"{"row":"open"}"#),
+        Row::Empty => put(out, br#"{"row":"empty"}"#),
+        Row::Got(value) => put_around(out, br#"{"got":"#, u64::from(value), br#","row":"got"}"#),
+    }
+}
