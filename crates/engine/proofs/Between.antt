@@ -1,5 +1,5 @@
 -- Between two reads.
-use Rattle.std.proofs.Common.{◌≡◌, ℕ, ◌+◌, Bool, true, false, List, [], ◌∷◌, ◌++◌, length, take, drop, Option, Some, None, refl, sym, ap, subst, ◌∙◌, append_assoc}
+use Rattle.std.proofs.Common.{◌≡◌, ℕ, Bool, true, false, List, [], ◌++◌, take, drop, Option, Some, None, refl, sym, ap, subst, ◌∙◌, append_assoc}
 use Rattle.std.specs.Prelude.{IfSome}
 use Rattle.std.proofs.lemmas.List.{append-nil, nil_from_length}
 use Rattle.std.proofs.KnownBytes.{Appends-nil, Appends-trans}
@@ -14,8 +14,8 @@ use Rattle.engine.specs.Handled.{Handled, RepliesTo, RepliesAsFar, RepliesUntilF
 use Rattle.engine.specs.Serving.{Answers, Serves, ServesWhatWasRead}
 use Rattle.engine.proofs.Fitting.{Answers-append, Answers-stopped, Answers-some, made_of-append}
 use Rattle.engine.proofs.Handling.{both_handled}
-use Rattle.engine.proofs.Long.{HandledWhole, handled_whole, last_whole}
-use Rattle.engine.proofs.Newlines.{HasNoNewline-append, HasNoNewline-take}
+use Rattle.engine.proofs.Long.{handled_whole, last_whole}
+use Rattle.engine.proofs.Newlines.{HasNoNewline-take}
 use Rattle.engine.proofs.Replying.{none_replied, output_of-append}
 use Rattle.engine.proofs.WholeLines.{lines_of-ended, lines_of-last}
 

@@ -1,8 +1,8 @@
 -- Replies that fit their lines.
-use Rattle.std.proofs.Common.{◌≡◌, ◌⊎◌, ℕ, ◌<◌, ◌≤◌, Bool, true, false, List, [], ◌∷◌, ◌++◌, length, Result, Ok, Err, refl, sym, ap, subst, ◌∙◌, arith, inl, inr}
+use Rattle.std.proofs.Common.{◌≡◌, ℕ, ◌<◌, Bool, true, false, List, [], ◌∷◌, ◌++◌, length, Err, refl, sym, ap, ◌∙◌, arith, inl, inr}
 use Rattle.std.specs.Prelude.{MatchBool}
 use Rattle.std.proofs.lemmas.Bool.{lt-ltb}
-use Rattle.words.specs.declared.refusal.Refusal.TheVariants.{TooLong, NoMemory}
+use Rattle.words.specs.declared.refusal.Refusal.TheVariants.{TooLong}
 use Rattle.engine.specs.declared.reply.Reply.{Reply}
 use Rattle.engine.specs.declared.reply.Reply.TheVariants.{Made, Fault}
 use Rattle.engine.specs.Replies.{Meaning, Served, Fits, meant, is_stop, made_of}

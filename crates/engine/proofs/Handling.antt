@@ -1,5 +1,5 @@
 -- Lines that are handled one after the other.
-use Rattle.std.proofs.Common.{◌≡◌, ℕ, ◌+◌, Bool, true, false, List, [], ◌∷◌, ◌++◌, length, refl, sym, ap, ◌∙◌, append_assoc}
+use Rattle.std.proofs.Common.{◌≡◌, ℕ, Bool, false, List, [], ◌∷◌, ◌++◌, refl, sym, ap, ◌∙◌, append_assoc}
 use Rattle.engine.specs.declared.reply.Reply.{Reply}
 use Rattle.engine.specs.Lines.{HasNoNewline, ended_lines}
 use Rattle.engine.specs.Replies.{Meaning, Fits, is_stop}

@@ -1,15 +1,15 @@
 -- A part of a line, of which no more is kept than tells that the line is too long.
-use Rattle.std.proofs.Common.{◌≡◌, ℕ, ◌+◌, ◌<◌, ◌≤◌, ◌⊎◌, Bool, true, false, List, [], ◌∷◌, ◌++◌, length, take, refl, sym, ap, subst, ◌∙◌, append_assoc, arith, inl, inr}
+use Rattle.std.proofs.Common.{◌≡◌, ℕ, ◌<◌, Bool, List, [], ◌∷◌, ◌++◌, length, take, refl, sym, ap, subst, ◌∙◌, append_assoc, arith, inl, inr}
 use Rattle.std.proofs.lemmas.Bool.{cases_lt}
 use Rattle.std.proofs.lemmas.List.{length-append, length-take, take_all, take-take, take-append-le}
 use Rattle.engine.specs.declared.reply.Reply.{Reply}
 use Rattle.engine.specs.Lines.{HasNoNewline, HaveNoNewline, ended_lines, last_line_of}
-use Rattle.engine.specs.Replies.{Meaning, Fits}
+use Rattle.engine.specs.Replies.{Meaning}
 use Rattle.engine.specs.Handled.{Matches, Handled}
 use Rattle.engine.specs.Serving.{Answers}
 use Rattle.engine.proofs.Fitting.{Fits-long}
 use Rattle.engine.proofs.Newlines.{HasNoNewline-append, HasNoNewline-back}
-use Rattle.engine.proofs.WholeLines.{EndsBehind, ends_behind}
+use Rattle.engine.proofs.WholeLines.{ends_behind}
 
 -- what was handled of the kept bytes and a piece is handled of the part and the piece
 pub record HandledWhole (m : Meaning) (stopped : Bool) (bytes rest : List ℕ) (replies : List Reply) : Type 0 where

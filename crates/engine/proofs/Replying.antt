@@ -1,19 +1,15 @@
 -- Replies, one after the other.
-use Rattle.std.proofs.Common.{◌≡◌, ◌≢◌, ℕ, ◌+◌, Bool, true, false, List, [], ◌∷◌, ◌++◌, take, drop, Option, Some, Result, Ok, Err, refl, sym, ap, subst, ◌∙◌, append_assoc}
+use Rattle.std.proofs.Common.{◌≡◌, ◌≢◌, ℕ, ◌+◌, Bool, true, false, List, [], ◌∷◌, ◌++◌, take, drop, Some, Result, Ok, Err, refl, sym, ap, subst, ◌∙◌, append_assoc}
 use Rattle.std.specs.Prelude.{OnOk, OnErr, MatchBool}
 use Rattle.std.proofs.lemmas.List.{append-nil}
 use Rattle.std.proofs.lemmas.List.Concat.{flat_map-append}
-use Rattle.std.proofs.KnownBytes.{Appends-nil}
-use Rattle.devices.specs.Devices.{AppendsBeginning}
 use Rattle.engine.specs.declared.lines.Progress.{Progress}
 use Rattle.engine.specs.declared.lines.Progress.TheVariants.{Replied, Stopped}
 use Rattle.engine.specs.declared.reply.Reply.{Reply}
 use Rattle.engine.specs.Lines.{last_line_of, IsFirstNewline}
-use Rattle.engine.specs.Output.{Moves}
 use Rattle.engine.specs.Replies.{Meaning, Served, Fits, is_stop, reply_line, output_of, made_of}
 use Rattle.engine.specs.Handled.{RepliesTo, RepliesAsFar, RepliesUntilFault}
 use Rattle.engine.specs.Serving.{Serves}
-use Rattle.engine.proofs.Buffers.{Moves-none, Moves-trans, some_sent, part_sent}
 use Rattle.engine.proofs.Fitting.{made_of-append}
 use Rattle.engine.proofs.Handling.{none_handled, line_handled}
 

@@ -1,5 +1,5 @@
 -- Whole lines, and the lines of an input that begins with them.
-use Rattle.std.proofs.Common.{◌≡◌, ◌≢◌, ℕ, List, [], ◌∷◌, ◌++◌, drop, get_or, refl, sym, ap, ◌∙◌, append_assoc}
+use Rattle.std.proofs.Common.{◌≡◌, ℕ, List, [], ◌∷◌, ◌++◌, drop, get_or, refl, sym, ap, ◌∙◌, append_assoc}
 use Rattle.std.proofs.lemmas.Bool.{ne_eqb}
 use Rattle.engine.specs.Lines.{before_first, lines_of, last_line_of, HasNoNewline, HaveNoNewline, ended_lines}
 

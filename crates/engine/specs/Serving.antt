@@ -1,7 +1,7 @@
 -- What a run of the server does.
-use Rattle.std.specs.Prelude.{◌≡◌, ℕ, Bool, true, false, List, [], ◌∷◌, ◌++◌, Option, Some, MatchBool}
+use Rattle.std.specs.Prelude.{◌≡◌, ℕ, Bool, false, List, [], ◌∷◌, ◌++◌, Option, Some, MatchBool}
 use Rattle.engine.specs.declared.reply.Reply.{Reply}
-use Rattle.engine.specs.Lines.{lines_of, HasNoNewline}
+use Rattle.engine.specs.Lines.{HasNoNewline}
 use Rattle.engine.specs.Replies.{Meaning, Served, Fits, is_stop, output_of, made_of}
 use Rattle.engine.specs.Handled.{RepliesTo}
 

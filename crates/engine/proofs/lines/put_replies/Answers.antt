@@ -1,4 +1,4 @@
-use Rattle.std.proofs.Common.{◌≡◌, ℕ, ◌+◌, ◌++◌, Bool, List, drop, subst, sym, ◌∙◌, arith, false, true}
+use Rattle.std.proofs.Common.{ℕ, ◌+◌, ◌++◌, Bool, List, drop, subst, sym, ◌∙◌, arith}
 use Rattle.devices.specs.Devices.{AppendsBeginning}
 use Rattle.engine.specs.Output.{Moves}
 use Rattle.engine.specs.Replies.{Fits, reply_line}

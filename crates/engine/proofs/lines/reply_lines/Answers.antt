@@ -1,9 +1,8 @@
-use Rattle.std.proofs.Common.{◌≡◌, ℕ, ◌++◌, List, [], subst, sym, ◌∙◌}
+use Rattle.std.proofs.Common.{ℕ, ◌++◌, List, subst}
 use Rattle.devices.specs.Devices.{AppendsBeginning}
-use Rattle.std.specs.Io.KnownBytes.{Appends}
 use Rattle.engine.specs.Output.{Moves}
-use Rattle.engine.proofs.Buffers.{all_sent, part_sent}
-use Rattle.engine.proofs.Replying.{on_err, change_written, change_as_far, until_fault}
+use Rattle.engine.proofs.Buffers.{part_sent}
+use Rattle.engine.proofs.Replying.{on_err, change_written, until_fault}
 use Rattle.engine.proofs.lines.reply_lines.Goals as goal
 
 pub returns-in_err-progress-clause-fault : goal.returns-in_err-progress-clause-fault

@@ -1,4 +1,4 @@
-use Rattle.std.proofs.Common.{◌≡◌, ℕ, List, length, drop, refl, sym, ap, subst, ◌∙◌, arith}
+use Rattle.std.proofs.Common.{length, drop, refl, ap, arith}
 use Rattle.std.proofs.lemmas.List.{length-take}
 use Rattle.engine.specs.Input.{held}
 use Rattle.engine.proofs.Between.{if_some, begun, read_failed, went_on, stopped, broken, ended, broken_at_end}

@@ -1,5 +1,4 @@
-use Rattle.std.proofs.Common.{◌<◌, ◌≤◌, length, take, sym, arith, rules}
-use Rattle.std.proofs.lemmas.List.{length-take}
+use Rattle.std.proofs.Common.{take, sym, rules}
 use Rattle.engine.proofs.Buffers.{filled}
 use Rattle.engine.proofs.input.Input.fill.Goals as goal
 

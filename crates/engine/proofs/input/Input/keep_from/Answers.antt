@@ -1,4 +1,4 @@
-use Rattle.std.proofs.Common.{◌≡◌, ◌∙◌, ap, take, arith, rules}
+use Rattle.std.proofs.Common.{◌∙◌, ap, take, arith, rules}
 use Rattle.std.proofs.lemmas.List.{length-take}
 use Rattle.engine.proofs.Buffers.{moved}
 use Rattle.engine.proofs.input.Input.keep_from.Goals as goal
