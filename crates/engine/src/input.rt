@@ -8,8 +8,8 @@ use crate::limits::INPUT_BYTES;
 /// Bytes that were read, and of which no use was made yet.
 #[derive(Drop)]
 pub struct Input {
-    pub bytes: [u8; INPUT_BYTES],
+    pub(crate) bytes: [u8; INPUT_BYTES],
     /// How many they are.
-    pub len: usize,
+    pub(crate) len: usize,
     ghost within: { len ≤ INPUT_BYTES },
 }

@@ -3,7 +3,7 @@
 /// The most bytes of a line that is read.
 pub const MAX_LINE: usize = 512;
 
-/// The bytes that are kept of a line whose end did not come yet: one more than a line may have tell that it is too long.
+/// The bytes that are kept of a line whose end did not come yet: one too many tells that the line is too long.
 pub(crate) const KEPT_BYTES: usize = MAX_LINE + 1;
 
 /// The bytes of input that are held at once.

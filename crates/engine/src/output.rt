@@ -10,6 +10,7 @@ use crate::reply::Reply;
 use arrayvec::ArrayVec;
 use devices::{Failed, MAX_FAILURES, Writer, send};
 use replies::{MAX_REPLY, append_line};
+use wire::Answer;
 
 /// Replies that were not written yet.
 pub type Output = ArrayVec<u8, OUTPUT_BYTES>;
@@ -27,6 +28,9 @@ pub fn put<W: Writer>(writer: &mut W, output: &mut Output, reply: &Reply) -> Res
         send(writer, output.as_slice())?;
         output.clear();
     }
-    append_line(output, &reply.answer());
+    match reply {
+        Reply::Made(_, answer) => append_line(output, answer),
+        Reply::Fault(refusal) => append_line(output, &Answer::Refused(*refusal)),
+    }
     Ok(())
 }

@@ -1,7 +1,7 @@
 //! What a line is replied.
 
 ghost use Rattle.std.specs.Prelude.{◌≡◌, ◌++◌, ◌∷◌, []};
-ghost use Rattle.engine.specs.Replies.{Fits, is_stop, answer_of, made_of};
+ghost use Rattle.engine.specs.Replies.{Fits, is_stop, made_of};
 
 use crate::desk::Desk;
 use crate::limits::MAX_LINE;
@@ -26,16 +26,6 @@ impl Reply {
         ensures { result ≡ is_stop self.now }
     {
         matches!(self, Reply::Made(Request::Stop, Answer::Stopping))
-    }
-
-    /// What is written.
-    pub fn answer(&self) -> Answer
-        ensures { result ≡ answer_of self.now }
-    {
-        match self {
-            Reply::Made(_, answer) => *answer,
-            Reply::Fault(refusal) => Answer::Refused(*refusal),
-        }
     }
 }
 

@@ -21,7 +21,9 @@ use words::Refusal;
 struct Words;
 
 impl Reading for Words {
-    ghost meaning = { λ line. if bytes_eq line (codes "stop") then Ok Stop else (if bytes_eq line (codes "list") then Ok List else Err BadJson) };
+    ghost meaning = { λ line.
+        if bytes_eq line (codes "stop") then Ok Stop
+        else (if bytes_eq line (codes "list") then Ok List else Err BadJson) };
 
     fn request(_alloc: Global, line: &[u8]) -> Result<Request, Refusal> {
         if line == b"stop".as_slice() {
@@ -118,8 +120,13 @@ fn repeated(alloc: Global, bytes: &[u8], count: usize) -> Result<Vec<u8>, AllocE
     Ok(all)
 }
 
-const EVERY_KIND: &[u8] =
-    b"{\"reply\":\"created\",\"slot\":0}\n{\"error\":24,\"name\":\"BadJson\"}\n{\"error\":24,\"name\":\"BadJson\"}\n{\"error\":23,\"name\":\"TooLong\"}\n{\"error\":23,\"name\":\"TooLong\"}\n{\"reply\":\"created\",\"slot\":1}\n";
+const EVERY_KIND: &[u8] = br#"{"reply":"created","slot":0}
+{"error":24,"name":"BadJson"}
+{"error":24,"name":"BadJson"}
+{"error":23,"name":"TooLong"}
+{"error":23,"name":"TooLong"}
+{"reply":"created","slot":1}
+"#;
 
 #[test]
 fn pieces_of_every_size(rt: HostRuntime) -> Result<(), Fail> {
