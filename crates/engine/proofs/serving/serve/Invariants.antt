@@ -1,0 +1,18 @@
+use Rattle.std.proofs.Common.{◌≡◌, ◌≤◌, ℕ, List, [], length, Some}
+use Rattle.engine.specs.Input.{held}
+use Rattle.engine.proofs.Between.{IsBetween}
+use Rattle.engine.proofs.serving.serve.Given as goal
+
+-- no device failed, no reply is held, and there is room for more input
+abbrev pub invariant-loop : goal.invariant-loop
+invariant-loop g l = record {
+  next : (goal.iterator-loop g).can_next l.iterator';
+  finite : (goal.iterator-loop g).is_finite l.iterator';
+  reads : g.R.Reader.failures l.reader ≡ g.R.Reader.failures l.fn.reader;
+  writes : g.W.Writer.failures l.writer ≡ g.W.Writer.failures l.fn.writer;
+  empty : l.output.items ≡ [];
+  room : length (held l.input) ≤ 513;
+  so_far : (input : List ℕ) → g.R.Reader.left l.fn.reader ≡ Some input
+      → IsBetween g.P.Reading.meaning input (held l.input) (g.R.Reader.left l.reader) (g.D.Desk.served l.fn.desk) (g.D.Desk.served l.desk)
+      (g.W.Writer.written l.fn.writer) (g.W.Writer.written l.writer);
+}

@@ -1,0 +1,20 @@
+//! Requests a line, answers a line, between a reader, a writer and a desk.
+#![tactic(auto)]
+
+mod desk;
+mod filling;
+mod input;
+mod limits;
+mod lines;
+mod output;
+mod reading;
+mod reply;
+mod serving;
+#[cfg(test)]
+mod tests;
+
+pub use desk::Desk;
+pub use limits::MAX_LINE;
+pub use reading::Reading;
+pub use reply::Reply;
+pub use serving::serve;
