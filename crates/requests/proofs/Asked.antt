@@ -15,11 +15,11 @@ unfolding request_in create_in put_in numbered_put_in take_in numbered_take_in t
 asked text (Create q Durable) may = ap (λ name. Some (Create name Durable)) may
 asked text (Create q Log) may = ap (λ name. Some (Create name Log)) may
 asked text ListAll may = refl
-asked text (Put c q v None) may = rw (leb-zero v, le-leb v MAX_VALUE may.1) (ap (λ name. Some (Put c name v None)) may.0)
-asked text (Put c q v (Some n)) may = rw (leb-zero v, le-leb v MAX_VALUE may.1, le-leb 1 n may.2, le-leb n MAX_CALL_NUMBER may.3) (ap (λ name. Some (Put c name v (Some n))) may.0)
-asked text (Take c q None) may = ap (λ name. Some (Take c name None)) may
-asked text (Take c q (Some n)) may = rw (le-leb 1 n may.1, le-leb n MAX_CALL_NUMBER may.2) (ap (λ name. Some (Take c name (Some n))) may.0)
-asked text (Told c q) may = ap (λ name. Some (Told c name)) may
+asked text (Put c q v None) may = rw (leb-zero v, le-leb v MAX_VALUE may.2) (ap (λ name. Some (Put c name v None)) may.0)
+asked text (Put c q v (Some n)) may = rw (leb-zero v, le-leb v MAX_VALUE may.2, le-leb 1 n may.3, le-leb n MAX_CALL_NUMBER may.4) (ap (λ name. Some (Put c name v (Some n))) may.0)
+asked text (Take c q None) may = ap (λ name. Some (Take c name None)) may.0
+asked text (Take c q (Some n)) may = rw (le-leb 1 n may.2, le-leb n MAX_CALL_NUMBER may.3) (ap (λ name. Some (Take c name (Some n))) may.0)
+asked text (Told c q) may = ap (λ name. Some (Told c name)) may.0
 asked text Crash may = refl
 asked text Recover may = refl
 asked text Stop may = refl

@@ -22,6 +22,7 @@ has_keys keys json = (key_count json == length keys) && list_all (λ key. is_som
 abbrev pub text_at : List ℕ → Data → Option (List ℕ)
 text_at key json = option_and_then as_str (get key json)
 
--- the whole number at a key: it has no sign, fraction or exponent, and is below 2^64, since any other is a float
+-- the whole number at a key, below 2^64 and written without sign, fraction or exponent: what has a sign is read as a
+-- negative number or a float, and any other as a float
 abbrev pub whole_at : List ℕ → Data → Option ℕ
 whole_at key json = option_and_then as_u64 (option_and_then as_number (get key json))

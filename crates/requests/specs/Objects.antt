@@ -1,6 +1,7 @@
 -- The JSON object that asks each request.
-use Rattle.std.specs.Prelude.{◌≡◌, ◌≤◌, ℕ, List, codes, Some, None}
-use Rattle.serde_json.specs.Data.{unsigned, number, string, Members, no_members, member}
+use Rattle.std.specs.Prelude.{◌≡◌, ◌≤◌, ◌<◌, ◌^◌, ℕ, List, codes, Some, None}
+use Rattle.serde_json.specs.Data.{unsigned, number, string, object, Members, no_members, member}
+use Rattle.serde_json.specs.Written.{compact_text}
 use Rattle.words.specs.declared.call.Kind.{Kind}
 use Rattle.words.specs.declared.call.Kind.TheVariants.{Durable, Log}
 use Rattle.words.specs.declared.limits.TheConstants.{MAX_CALL_NUMBER, MAX_VALUE}
@@ -44,15 +45,20 @@ members_asking text Crash = op (codes "crash") no_members
 members_asking text Recover = op (codes "recover") no_members
 members_asking text Stop = op (codes "stop") no_members
 
--- whether a client may ask it so: the text names its queue, if any, and its value and its number are within limits
+-- the line that asks a request: the compact text of that object
+abbrev pub line_asking : List ℕ → Request → List ℕ
+line_asking text request = compact_text (object (members_asking text request))
+
+-- the text at `queue` names the request's queue, or is no name where it has none, and its numbers are within limits
 abbrev pub MayAsk : List ℕ → Request → Type 0
 MayAsk text (Create q k) = name_in text ≡ q
 MayAsk text ListAll = Unit {0}
-MayAsk text (Put c q v None) = (name_in text ≡ q) × (v ≤ MAX_VALUE)
-MayAsk text (Put c q v (Some n)) = (name_in text ≡ q) × (v ≤ MAX_VALUE) × (1 ≤ n) × (n ≤ MAX_CALL_NUMBER)
-MayAsk text (Take c q None) = name_in text ≡ q
-MayAsk text (Take c q (Some n)) = (name_in text ≡ q) × (1 ≤ n) × (n ≤ MAX_CALL_NUMBER)
-MayAsk text (Told c q) = name_in text ≡ q
+MayAsk text (Put c q v None) = (name_in text ≡ q) × (c < 2 ^ 64) × (v ≤ MAX_VALUE)
+MayAsk text (Put c q v (Some n)) =
+    (name_in text ≡ q) × (c < 2 ^ 64) × (v ≤ MAX_VALUE) × (1 ≤ n) × (n ≤ MAX_CALL_NUMBER)
+MayAsk text (Take c q None) = (name_in text ≡ q) × (c < 2 ^ 64)
+MayAsk text (Take c q (Some n)) = (name_in text ≡ q) × (c < 2 ^ 64) × (1 ≤ n) × (n ≤ MAX_CALL_NUMBER)
+MayAsk text (Told c q) = (name_in text ≡ q) × (c < 2 ^ 64)
 MayAsk text Crash = Unit {0}
 MayAsk text Recover = Unit {0}
 MayAsk text Stop = Unit {0}
