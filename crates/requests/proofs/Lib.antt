@@ -1,0 +1,5 @@
+mod Asked
+mod Keys
+mod Lines
+mod Texts
+mod Written

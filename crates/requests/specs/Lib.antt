@@ -1,0 +1,4 @@
+pub mod Line
+pub mod Members
+pub mod Objects
+pub mod Rows
