@@ -119,7 +119,11 @@ fn holds(session: &Session, values: &[u32]) -> Result<bool, Refusal> {
 }
 
 /// A session after a crash that came after so many steps of the put of 5 in a durable queue.
-fn put_cut_off<R: Threads + Wait + Clock + Abort + Sync>(rt: &R, alloc: Global, steps: u64) -> Result<Session, Fail> {
+fn put_cut_off<R: Threads + Wait + Clock + Abort + Sync>(
+    rt: &R,
+    alloc: Global,
+    steps: u64,
+) -> Result<Session, Fail> {
     let scene = CutOff {
         ask: Ask::plain(Call::Enq(5)),
         steps,
@@ -165,7 +169,11 @@ fn wanted(steps: u64) -> (Told, bool) {
 }
 
 /// Number 1 is cut off after so many steps, and sent again.
-fn number_cut_off<R: Threads + Wait + Clock + Abort + Sync>(rt: &R, alloc: Global, steps: u64) -> Result<(), Fail> {
+fn number_cut_off<R: Threads + Wait + Clock + Abort + Sync>(
+    rt: &R,
+    alloc: Global,
+    steps: u64,
+) -> Result<(), Fail> {
     let ask = Ask::numbered(1, Call::Enq(9));
     let (told, is_taken) = wanted(steps);
     let session = with_queue(alloc, Kind::Log, 1, 2)?;

@@ -200,7 +200,10 @@ fn created_beside_crashes<J: Naming + Send + Sync, R: Threads + Wait + Clock + A
     assert!(rt; right, "restarts");
     for place in 0..4 {
         assert!(rt; is_so(rt, &shared, FIRST[place], first[place])?, "{place}");
-        assert!(rt; is_so(rt, &shared, SECOND[place], second[place])?, "{place}");
+        assert!(rt;
+            is_so(rt, &shared, SECOND[place], second[place])?,
+            "{place}"
+        );
     }
     assert_eq!(rt; count(&shared.list(rt)?), 8, "queues");
     ended(alloc, shared, seats, since)

@@ -145,7 +145,11 @@ fn sent<J: Naming, R: Wait + Clock>(
 }
 
 /// All calls of a client, drawn from a seed of its own: whether each was answered as it may be.
-fn all_sent<J: Naming, R: Wait + Clock>(rt: &R, shared: &Shared<J>, seat: Seat<J>) -> (Seat<J>, bool)
+fn all_sent<J: Naming, R: Wait + Clock>(
+    rt: &R,
+    shared: &Shared<J>,
+    seat: Seat<J>,
+) -> (Seat<J>, bool)
     ensures { result.0.client ≡ seat.client }
 {
     let client = u32::from(seat.client.0);
@@ -204,14 +208,18 @@ fn all_play<J: Naming + Send + Sync, R: Threads + Wait + Clock + Sync>(
     ensures { IfSome result (λ seats. AreAllInOrder (λ seat. seat.client) J.clients seats.items) }
 {
     let clients = seats.len();
-    let seats = map_vec(rt, seats, &|seat: Seat<J>| {
-        let (seat, right) = all_sent(rt, shared, seat);
-        if !right {
-            wrong.fetch_add(1, Ordering::SeqCst);
-        }
-        done.fetch_add(1, Ordering::SeqCst);
-        seat
-    })
+    let seats = map_vec(
+        rt,
+        seats,
+        &|seat: Seat<J>| {
+            let (seat, right) = all_sent(rt, shared, seat);
+            if !right {
+                wrong.fetch_add(1, Ordering::SeqCst);
+            }
+            done.fetch_add(1, Ordering::SeqCst);
+            seat
+        },
+    )
     .ok()?;
     if seats.len() != clients || !are_in_order(seats.as_slice()) {
         return None;
@@ -233,7 +241,10 @@ fn crowded<J: Naming + Send + Sync, R: Threads + Wait + Clock + Abort + Sync>(
     let clients = seats.len() as u64;
     let (seats, right) = join(
         rt,
-        || all_play(rt, &shared, seats, &done, &wrong),
+        || -> Option<Vec<Seat<J>>>
+            requires { AreAllInOrder (λ seat. seat.client) J.clients seats.items }
+            ensures { IfSome result (λ seats. AreAllInOrder (λ seat. seat.client) J.clients seats.items) }
+        { all_play(rt, &shared, seats, &done, &wrong) },
         || restarts(rt, &shared, &done, clients),
     );
     assert!(rt; right, "restarts");

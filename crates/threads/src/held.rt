@@ -34,8 +34,7 @@ fn enqueue_held<J: Naming + Send + Sync, R: Threads + Wait + Clock + Abort + Syn
         ask: five,
         steps: 8,
     };
-    let ((zero, first), (one, second), in_time) =
-        held_beside(rt, &shared, zero, hold, one, seven);
+    let ((zero, first), (one, second), in_time) = held_beside(rt, &shared, zero, hold, one, seven);
     assert!(rt; in_time);
     assert_eq!(rt; second, DONE);
     assert_eq!(rt; first, DONE);
@@ -76,8 +75,7 @@ fn dequeue_held<J: Naming + Send + Sync, R: Threads + Wait + Clock + Abort + Syn
         ask: out,
         steps: 10,
     };
-    let ((zero, first), (one, second), in_time) =
-        held_beside(rt, &shared, zero, hold, one, out);
+    let ((zero, first), (one, second), in_time) = held_beside(rt, &shared, zero, hold, one, out);
     assert!(rt; in_time);
     assert_eq!(rt; second, Answer::Reply(Reply::Got(8)));
     assert_eq!(rt; first, Answer::Reply(Reply::Got(7)));

@@ -24,8 +24,8 @@ mod opening;
 #[cfg(test)]
 mod rotations;
 #[cfg(test)]
-mod staging;
-#[cfg(test)]
 mod seats;
+#[cfg(test)]
+mod staging;
 #[cfg(test)]
 mod taken;
