@@ -1,5 +1,5 @@
-//! Calls on a broker that clients in threads of their own share, and the same calls by one client on the session itself.
-//! bench/workers.sh times them. Without a subcommand it makes a few of each.
+//! Calls on a broker that clients in threads of their own share, and the same calls by one client on the session
+//! itself. bench/workers.sh times them. Without a subcommand it makes a few of each.
 #![tactic(auto)]
 
 mod asked;

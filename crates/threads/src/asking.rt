@@ -104,8 +104,8 @@ pub(crate) struct Hold {
     pub(crate) steps: u64,
 }
 
-/// One seat's call is held back until another seat's is answered: both seats with their answers, and whether it was held
-/// back in time.
+/// One seat's call is held back until another seat's is answered: both seats with their answers, and whether it was
+/// held back in time.
 pub(crate) fn held_beside<J: Naming + Send + Sync, R: Threads + Wait + Clock + Sync>(
     rt: &R,
     shared: &Shared<J>,

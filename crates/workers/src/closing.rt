@@ -103,10 +103,10 @@ impl<J: Naming> Locked<J> {
 
 impl<J: Naming> Shared<J> {
     /// The histories of all queues end, and others begin, as [`session::Session::rotate`] makes them; the seats' lists
-    /// begin anew with them. The seats are all that were given, in client order, and come back so. It is refused,
-    /// in this order, while the broker recovers (NotReady), where a call or a creation is under way (Busy), and for want
-    /// of memory (NoMemory); then the lists stay. An open entry whose call a crash ended goes too: a caller that wants to
-    /// hear of it calls [`Shared::finish`] first.
+    /// begin anew with them. The seats are all that were given, in client order, and come back so. It is refused, in
+    /// this order, while the broker recovers (NotReady), where a call or a creation is under way (Busy), and for want
+    /// of memory (NoMemory); then the lists stay. An open entry whose call a crash ended goes too: a caller that wants
+    /// to hear of it calls [`Shared::finish`] first.
     pub fn rotate<R: Wait>(
         &self,
         rt: &R,
@@ -120,8 +120,9 @@ impl<J: Naming> Shared<J> {
         self.locked.lock(rt).rotate(&self.roll, seats)
     }
 
-    /// Takes the session back, and the seats with their lists: what a caller wants of these he copies before. The seats are all that were given, in client order: the list of each is what the
-    /// histories have of its client, since the seats were given or the histories ended last.
+    /// Takes the session back, and the seats with their lists: what a caller wants of these he copies before. The seats
+    /// are all that were given, in client order: the list of each is what the histories have of its client, since the
+    /// seats were given or the histories ended last.
     pub fn close(self, seats: Vec<Seat<J>>) -> Session
         requires { AreAllInOrder (λ seat. seat.client) J.clients seats.items }
         ensures lists { AreSeatsRecorded (λ seat. seat.list.items) J.first seats.items result }

@@ -79,8 +79,8 @@ fn is_in_use(session: &Session) -> bool
 }
 
 impl Opened {
-    /// Opens a session to threads, before it is named. It is refused, in this order, where a client has a call under way
-    /// or a creation is (Busy), and for want of memory (NoMemory).
+    /// Opens a session to threads, before it is named. It is refused, in this order, where a client has a call under
+    /// way or a creation is (Busy), and for want of memory (NoMemory).
     pub fn new(alloc: Global, session: Session) -> Result<Opened, NotOpened>
         ensures session { IfOk result (λ opened. opened.session ≡ session) }
         ensures quiet { OnOk result (IsNotInUse session.broker) }

@@ -11,8 +11,8 @@ use std::marker::PhantomData;
 use words::Client;
 
 /// A client's seat, which remembers the client's calls. Calls take it by value and give it back, so that a client makes
-/// one at a time. A seat that is dropped leaves an open call under way until a crash, and its session is neither rotated
-/// nor closed again.
+/// one at a time. A seat that is dropped leaves an open call under way until a crash, and its session is neither
+/// rotated nor closed again.
 #[derive(Drop)]
 pub struct Seat<J: Naming> {
     /// Whose seat it is.

@@ -87,8 +87,8 @@ impl<J: Naming> Shared<J> {
 
     /// Makes a call of the seat's client: with a number in a log queue, where it is answered from what is kept if it is
     /// the client's last number, and without one in a durable queue. The seat remembers just this call, with the answer
-    /// that is given. It passes the gate after its start and after each step that does not answer. It is refused, before
-    /// all else, where the seat has an open call (Busy), for want of memory for its entry (NoMemory), and as
+    /// that is given. It passes the gate after its start and after each step that does not answer. It is refused,
+    /// before all else, where the seat has an open call (Busy), for want of memory for its entry (NoMemory), and as
     /// [`session::Session::begin`] is; then nothing is remembered. A step that is refused memory leaves the call under
     /// way (Unfinished), for [`Shared::finish`].
     pub fn call<R: Wait, G: Gate>(
