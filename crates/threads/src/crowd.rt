@@ -27,13 +27,13 @@ use words::{Call, Kind, MAX_CLIENTS, Refusal};
 use workers::{Answer, End, Entry, Naming, Opened, Seat, Shared};
 
 /// How many calls each client makes.
-const CALLS: u32 = 500;
+const CALLS: u32 = 2_000;
 
 /// The values that clients put are below this.
 const VALUES: u32 = CALLS * MAX_CLIENTS as u32;
 
 /// How many records each client has in each queue.
-const RECORDS: u32 = 256;
+const RECORDS: u32 = 1_024;
 
 /// The queues of the slots below this one are log queues, and the others durable ones.
 const LOGS: usize = 4;
@@ -174,7 +174,7 @@ fn restarts<J: Naming, R: Wait + Clock>(
 ) -> bool {
     let (mut rng, mut right) = (Pcg32::new(1, 32), true);
     for _ in 0..TURNS {
-        rest(rt, below(&mut rng, 5).saturating_add(1));
+        rest(rt, below(&mut rng, 20).saturating_add(5));
         if done.load(Ordering::SeqCst) == clients {
             return right;
         }
