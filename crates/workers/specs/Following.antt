@@ -41,7 +41,7 @@ pub record Guarded : Type 0 where
   pub rotated : Bool
 
 -- what holds of it whenever the lock is free, where there are so many clients, and the session was this one when the
--- seats were given: what was settled then, and its queues, are so still
+-- seats were given: what was settled then is so still, and the clients of its log queues are such clients still
 pub record IsGuardedWell (all : ℕ) (first : Sessioned) (g : Guarded) : Type 0 where
   pub clients : length g.rows ≡ all
   pub followed : AreFollowed (beginnings first g.rotated) g.session g.rows

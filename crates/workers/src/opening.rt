@@ -1,13 +1,8 @@
 //! How a session comes to be shared.
 
-ghost use Rattle.std.specs.Prelude.{◌≡◌, ◌≤◌, ◌⊎◌, ℕ, false, length, true, IfErr, IfOk, Ok, OnOk, Some, None, vec_capacity, vec_len, []};
-ghost use Rattle.interleave.specs.Verdicts.{number_under_way};
-ghost use Rattle.named.specs.Brokers.{answer_at, is_creating};
-ghost use Rattle.roll.specs.Rule.{IsHolder, IsKeeper, rows_of};
-ghost use Rattle.session.specs.Promises.{KeepsNumbers};
-ghost use Rattle.workers.specs.Lists.{events_at};
-ghost use Rattle.workers.specs.Seats.{AreAllInOrder, AreEmpty};
+ghost use Rattle.std.specs.Prelude.{◌≡◌, ◌⊎◌, false, true, IfErr, IfOk, OnOk};
 ghost use Rattle.workers.specs.Opening.{IsInUse, IsNameOf, IsNotInUse, HasNoCall};
+ghost use Rattle.workers.specs.Seats.{AreAllInOrder, AreEmpty};
 
 use crate::entry::Entry;
 use crate::locked::Locked;
@@ -32,7 +27,7 @@ pub struct Opened {
 
 impl Model for Opened {
     ghost use Rattle.std.specs.Prelude.{[]};
-    ghost use Rattle.roll.specs.Rule.{IsKeeper, rows_of};
+    ghost use Rattle.roll.specs.Rule.{IsKeeper};
     ghost use Rattle.workers.specs.Opening.{IsNotInUse, Unnamed};
 
     ghost Value = { Unnamed };
