@@ -1,0 +1,132 @@
+//! What each request is answered.
+
+ghost use Rattle.std.specs.Prelude.{◌≡◌};
+ghost use Rattle.desk.specs.Requests.{MayAnswer};
+
+use crate::calls::{Asked, call_at_seat, slot_of};
+use crate::seating::Seating;
+use directory::Name;
+use std::sync::Wait;
+use wire::{Answer, Request};
+use words::{Call, Client, Kind, Refusal};
+use workers::{Created, Naming, Shared};
+
+/// What a connection is told of a queue to be created.
+fn create<J: Naming, R: Wait>(
+    rt: &R,
+    shared: &Shared<J>,
+    queue: Option<Name>,
+    kind: Kind,
+) -> Answer {
+    let Some(name) = queue else {
+        return Answer::Refused(Refusal::BadName);
+    };
+    match shared.create(rt, name.as_bytes(), kind) {
+        Created::Queue(slot) => Answer::Created(slot),
+        Created::Refused(refusal) => Answer::Refused(refusal),
+        Created::Interrupted => Answer::Interrupted,
+    }
+}
+
+/// All queues.
+fn list<J: Naming, R: Wait>(rt: &R, shared: &Shared<J>) -> Answer {
+    match shared.list(rt) {
+        Ok(places) => Answer::Queues(places),
+        Err(refusal) => Answer::Refused(refusal),
+    }
+}
+
+/// A put or a take of a client. It is refused where there is no such client (NoClient), where another connection is
+/// using the client's seat (Busy), and as [`call_at_seat`] is.
+fn call<J: Naming, R: Wait>(
+    rt: &R,
+    shared: &Shared<J>,
+    seats: &Seating<J>,
+    client: u64,
+    asked: Asked,
+) -> Answer {
+    if !seats.has_client(client) {
+        return Answer::Refused(Refusal::NoClient);
+    }
+    let Some(seat) = seats.take(rt, Client(client as u8)) else {
+        return Answer::Refused(Refusal::Busy);
+    };
+    let (seat, answer) = call_at_seat(rt, shared, seat, asked);
+    seats.put(rt, seat);
+    answer
+}
+
+/// What the client was last told in a queue. It is refused where there is no such client (NoClient), while the broker
+/// recovers (NotReady), and where there is no such queue (NoQueue).
+fn told<J: Naming, R: Wait>(
+    rt: &R,
+    shared: &Shared<J>,
+    seats: &Seating<J>,
+    client: u64,
+    queue: Option<Name>,
+) -> Answer {
+    if !seats.has_client(client) {
+        return Answer::Refused(Refusal::NoClient);
+    }
+    let told = slot_of(rt, shared, queue).and_then(|slot| shared.told(
+        rt,
+        Client(client as u8),
+        slot,
+    ));
+    match told {
+        Ok(told) => Answer::Told(told),
+        Err(refusal) => Answer::Refused(refusal),
+    }
+}
+
+/// The answer, where what was asked for was done.
+fn done(outcome: Result<(), Refusal>, answer: Answer) -> Answer {
+    match outcome {
+        Ok(()) => answer,
+        Err(refusal) => Answer::Refused(refusal),
+    }
+}
+
+/// What a request is answered, once it was made.
+pub(crate) fn answer_to<J: Naming, R: Wait>(
+    rt: &R,
+    shared: &Shared<J>,
+    seats: &Seating<J>,
+    request: Request,
+) -> Answer {
+    match request {
+        Request::Create { queue, kind } => create(rt, shared, queue, kind),
+        Request::List => list(rt, shared),
+        Request::Put {
+            client,
+            queue,
+            value,
+            number,
+        } => {
+            let call = Call::Enq(value);
+            let asked = Asked {
+                queue,
+                number,
+                call,
+            };
+            self::call(rt, shared, seats, client, asked)
+        }
+        Request::Take {
+            client,
+            queue,
+            number,
+        } => {
+            let call = Call::Deq;
+            let asked = Asked {
+                queue,
+                number,
+                call,
+            };
+            self::call(rt, shared, seats, client, asked)
+        }
+        Request::Told { client, queue } => told(rt, shared, seats, client, queue),
+        Request::Crash => done(shared.crash(rt), Answer::Crashed),
+        Request::Recover => done(shared.recover(rt), Answer::Ready),
+        Request::Stop => Answer::Stopping,
+    }
+}

@@ -1,0 +1,95 @@
+//! Puts and takes, each with its client's seat.
+
+ghost use Rattle.std.specs.Prelude.{◌≡◌, false, IfErr, OnErr, OnOk, true};
+ghost use Rattle.desk.specs.Calls.{answer_of, AnswersCall, IsSettled};
+ghost use Rattle.workers.specs.Lists.{ends_open};
+
+use arena::SlotId;
+use directory::Name;
+use std::sync::Wait;
+use wire::Answer;
+use words::{Call, Refusal};
+use workers::{Naming, OpenGate, Seat, Shared};
+
+/// A put or a take, as it is asked for: in the queue of this name, and with a number in a log queue. A queue that is
+/// none is a text that is no name.
+#[derive(Clone, Copy, Debug, PartialEq, Eq)]
+pub struct Asked {
+    pub queue: Option<Name>,
+    pub number: Option<u64>,
+    pub call: Call,
+}
+
+/// What a connection is told of what its seat was answered.
+fn told_of(answer: workers::Answer) -> Answer
+    ensures { result ≡ answer_of answer }
+{
+    match answer {
+        workers::Answer::Reply(reply) => Answer::Reply(reply),
+        workers::Answer::Refused(refusal) => Answer::Refused(refusal),
+        workers::Answer::Interrupted => Answer::Interrupted,
+        workers::Answer::Unfinished => Answer::Unfinished,
+    }
+}
+
+/// The slot with the queue of this name. It is refused while the broker recovers (NotReady), and where there is no such
+/// queue (NoQueue).
+pub(crate) fn slot_of<J: Naming, R: Wait>(
+    rt: &R,
+    shared: &Shared<J>,
+    queue: Option<Name>,
+) -> Result<SlotId, Refusal> {
+    let Some(name) = queue else {
+        // A queue of no name is not there, which is said once the broker is ready.
+        shared.list(rt)?;
+        return Err(Refusal::NoQueue);
+    };
+    shared.find(rt, &name)?.ok_or(Refusal::NoQueue)
+}
+
+/// The seat with no open call: one that was left Unfinished is finished first. It is refused where that was refused
+/// memory once more (Busy).
+fn settled<J: Naming, R: Wait>(
+    rt: &R,
+    shared: &Shared<J>,
+    seat: Seat<J>,
+) -> (Seat<J>, Result<(), Refusal>)
+    ensures client { result.0.client ≡ seat.client }
+    ensures settled { OnOk result.1 (IsSettled seat.list.items result.0.list.items) }
+    ensures same { OnErr result.1 (result.0.list.items ≡ seat.list.items) }
+    ensures open { OnErr result.1 (ends_open seat.list.items ≡ true) }
+    ensures errors { IfErr result.1 (λ e. e ≡ Refusal.Busy) }
+{
+    if !seat.is_open() {
+        return (seat, Ok(()));
+    }
+    let (seat, answer) = shared.finish(rt, seat, &OpenGate);
+    match answer {
+        workers::Answer::Unfinished => (seat, Err(Refusal::Busy)),
+        _ => (seat, Ok(())),
+    }
+}
+
+/// Makes a call with its client's seat, and answers what it was answered. A call of the client that was left Unfinished
+/// is finished first. It is refused where that was refused memory once more (Busy), while the broker recovers
+/// (NotReady), where there is no such queue (NoQueue), and as [`Shared::call`] is; then the seat remembers no call more.
+pub fn call_at_seat<J: Naming, R: Wait>(
+    rt: &R,
+    shared: &Shared<J>,
+    seat: Seat<J>,
+    asked: Asked,
+) -> (Seat<J>, Answer)
+    ensures client { result.0.client ≡ seat.client }
+    ensures entry { AnswersCall seat.list.items asked.number asked.call result.1 result.0.list.items }
+{
+    let (seat, finished) = settled(rt, shared, seat);
+    if let Err(refusal) = finished {
+        return (seat, Answer::Refused(refusal));
+    }
+    let queue = match slot_of(rt, shared, asked.queue) {
+        Ok(queue) => queue,
+        Err(refusal) => return (seat, Answer::Refused(refusal)),
+    };
+    let (seat, answer) = shared.call(rt, seat, queue, asked.number, asked.call, &OpenGate);
+    (seat, told_of(answer))
+}

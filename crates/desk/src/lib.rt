@@ -1,0 +1,11 @@
+//! Requests of connections answered by a broker that they share.
+#![tactic(auto)]
+
+mod answering;
+mod calls;
+mod desk;
+mod seating;
+
+pub use calls::{Asked, call_at_seat};
+pub use desk::BrokerDesk;
+pub use seating::Seating;

@@ -1,0 +1,122 @@
+//! Seats that no connection is using.
+
+ghost use Rattle.std.specs.Prelude.{◌≡◌, ◌⊎◌, IfErr, IfOk, IfSome};
+ghost use Rattle.workers.specs.Seats.{AreAllInOrder};
+ghost use Rattle.desk.specs.Seating.{AreInPlaces};
+
+use std::alloc::Global;
+use std::marker::Model;
+use std::sync::{Mutex, Wait};
+use words::{Client, Refusal};
+use workers::{Naming, Seat};
+
+/// Each client's seat in the client's place, or nothing there while a connection is using it.
+#[derive(Drop)]
+struct Places<J: Naming> {
+    seats: Vec<Option<Seat<J>>>,
+}
+
+impl<J: Naming> Model for Places<J> {
+    ghost use Rattle.std.specs.Prelude.{ℕ, length};
+    ghost use Rattle.desk.specs.Seating.{AreInPlaces};
+
+    ghost Value = { ℕ };
+
+    ghost view = { λ places. length places.seats.items };
+
+    ghost invariant = { λ places. AreInPlaces (λ seat. seat.client) J.clients places.seats.items };
+}
+
+impl<J: Naming> Places<J> {
+    /// The client's seat, if it is there.
+    fn take(&mut self, client: Client) -> Option<Seat<J>>
+        ensures { IfSome result (λ seat. seat.client ≡ client) }
+    {
+        let place = client.0 as usize;
+        if place >= self.seats.len() {
+            return None;
+        }
+        self.seats[place].take()
+    }
+
+    /// Puts a seat in its client's place.
+    fn put(&mut self, seat: Seat<J>) {
+        let place = seat.client.0 as usize;
+        if place < self.seats.len() {
+            self.seats[place] = Some(seat);
+        }
+    }
+
+    /// All seats, in the order of their clients.
+    fn all(self, alloc: Global) -> Result<Vec<Seat<J>>, Refusal>
+        ensures order { IfOk result (λ seats. AreAllInOrder (λ seat. seat.client) J.clients seats.items) }
+        ensures errors { IfErr result (λ e. (e ≡ Refusal.NoMemory) ⊎ (e ≡ Refusal.Busy)) }
+    {
+        let mut all = Vec::new(alloc);
+        if all.reserve(self.seats.len()).is_err() {
+            return Err(Refusal::NoMemory);
+        }
+        for place in self.seats {
+            match place {
+                Some(seat) => all.push_reserved(seat),
+                None => return Err(Refusal::Busy),
+            }
+        }
+        Ok(all)
+    }
+}
+
+/// The seats of a shared broker, for connections to use in turn. A client's seat is used by one connection at a time.
+#[derive(Drop)]
+pub struct Seating<J: Naming> {
+    /// How many clients there are.
+    clients: u64,
+    /// This lock and the broker's are never held together.
+    places: Mutex<Places<J>>,
+    ghost all: { clients ≡ J.clients },
+}
+
+impl<J: Naming> Seating<J> {
+    /// All seats that a shared broker gave, in client order. It is refused for want of memory (NoMemory).
+    pub fn new(alloc: Global, seats: Vec<Seat<J>>) -> Result<Self, Refusal>
+        requires { AreAllInOrder (λ seat. seat.client) J.clients seats.items }
+        ensures { IfErr result (λ e. e ≡ Refusal.NoMemory) }
+    {
+        let mut places = Vec::new(alloc);
+        if places.reserve(seats.len()).is_err() {
+            return Err(Refusal::NoMemory);
+        }
+        let clients = seats.len() as u64;
+        for seat in seats {
+            places.push_reserved(Some(seat));
+        }
+        let places = Mutex::new(Places { seats: places });
+        Ok(Seating { clients, places })
+    }
+
+    /// Whether there is such a client.
+    pub(crate) fn has_client(&self, client: u64) -> bool {
+        client < self.clients
+    }
+
+    /// The client's seat, unless another connection is using it.
+    pub(crate) fn take<R: Wait>(&self, rt: &R, client: Client) -> Option<Seat<J>>
+        ensures { IfSome result (λ seat. seat.client ≡ client) }
+    {
+        self.places.lock(rt).take(client)
+    }
+
+    /// The connection is not using the seat any more.
+    pub(crate) fn put<R: Wait>(&self, rt: &R, seat: Seat<J>) {
+        self.places.lock(rt).put(seat);
+    }
+
+    /// All seats, in client order. It is refused for want of memory (NoMemory), and where a seat is in use (Busy),
+    /// which is so of none once all connections have ended.
+    pub fn into_seats(self, alloc: Global) -> Result<Vec<Seat<J>>, Refusal>
+        ensures order { IfOk result (λ seats. AreAllInOrder (λ seat. seat.client) J.clients seats.items) }
+        ensures errors { IfErr result (λ e. (e ≡ Refusal.NoMemory) ⊎ (e ≡ Refusal.Busy)) }
+    {
+        self.places.into_inner().all(alloc)
+    }
+}
