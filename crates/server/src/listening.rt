@@ -16,7 +16,7 @@ use std::marker::Brand;
 use std::net::{Net, TcpListener, TcpStream};
 use std::sync::Wait;
 use std::sync::atomic::{AtomicBool, Ordering};
-use std::thread::{self, Threads};
+use std::thread::{Threads, join, map_indices, sleep};
 use std::time::{Clock, Duration};
 use words::Refusal;
 use workers::{Naming, Opened};
@@ -44,14 +44,14 @@ fn accept<R: Wait + Clock + Log>(
             }
             Err(error) => {
                 warn!(rt; "a connection could not be taken: {error}");
-                thread::sleep(rt, Duration::from_millis(REST_MILLIS));
+                sleep(rt, Duration::from_millis(REST_MILLIS));
             }
         }
     }
 }
 
-/// Takes connections for so many workers, as far as there are threads for them, until a stop is accepted and all
-/// connections have ended. Whether there was a worker.
+/// Takes connections for so many workers, until a stop is accepted and all connections have ended. It is refused for want
+/// of memory (NoMemory).
 fn work<J: Naming + Send + Sync, R: Threads + Wait + Net + Clock + Log + Sync>(
     rt: &R,
     alloc: Global,
@@ -59,22 +59,23 @@ fn work<J: Naming + Send + Sync, R: Threads + Wait + Net + Clock + Log + Sync>(
     workers: u32,
     listener: &TcpListener,
     connections: Sender<TcpStream>,
-) -> bool {
-    thread::scope(thread::scope_env(), rt, |scope| {
-        let mut has_worker = false;
-        for _ in 0..workers {
-            let worker = scope.spawn(move || serve_connections(rt, alloc, serving));
-            if worker.is_ok() {
-                has_worker = true;
-            } else {
-                warn!(rt; "there is no thread for a worker");
-            }
-        }
-        if has_worker {
-            accept(rt, listener, serving.stopping, connections);
-        }
-        has_worker
-    })
+) -> Result<(), Refusal>
+    ensures { IfErr result (λ e. e ≡ Refusal.NoMemory) }
+{
+    let ((), worked) = join(
+        rt,
+        || accept(rt, listener, serving.stopping, connections),
+        || map_indices(
+            rt,
+            alloc,
+            workers as usize,
+            &|_: usize| { serve_connections(rt, alloc, serving) },
+        ),
+    );
+    match worked {
+        Ok(_) => Ok(()),
+        Err(_) => Err(Refusal::NoMemory),
+    }
 }
 
 /// Serves, once the broker has its name.
@@ -106,17 +107,15 @@ fn served<J: Naming + Send + Sync, R: Threads + Wait + Net + Clock + Log + Sync>
         connections: &connections,
         address: listener.local_addr().ok(),
     };
-    if !work(rt, alloc, &serving, workers, listener, sender) {
-        return Err(Refusal::NoMemory);
-    }
+    work(rt, alloc, &serving, workers, listener, sender)?;
     image_left(alloc, shared, seats)
 }
 
 /// Serves each connection of a listener by one of so many worker threads, and by one at least, until a stop is accepted
 /// and all connections have ended; it answers the image of the broker as it is then. As many connections as there are
 /// workers wait to be served; those that wait at an accepted stop are closed unserved. It is refused before a connection
-/// is taken where a call or a creation is under way (Busy), and for want of memory or of a first thread (NoMemory); and
-/// for want of memory after all have ended.
+/// is taken where a call or a creation is under way (Busy), and for want of memory (NoMemory); for want of memory also
+/// after all have ended.
 pub fn net<R: Threads + Wait + Net + Clock + Log + Sync>(
     rt: &R,
     alloc: Global,
