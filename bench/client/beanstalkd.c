@@ -1,5 +1,5 @@
-/* beanstalkd: a pair is `put`, `reserve` and `delete` of a job, in a tube that the connection has for itself. A `delete`
- * names its job, so that it waits for the reply of its `reserve`. */
+/* beanstalkd: a pair is `put`, `reserve` and `delete` of a job, in a tube that the connection has for itself. A
+ * `delete` names its job, so that it waits for the reply of its `reserve`. */
 #include "client.h"
 #include <stdio.h>
 #include <stdlib.h>

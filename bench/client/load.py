@@ -59,7 +59,11 @@ class Server:
         control = Connection(self.port)
         control.ask(op="stop")
         control.close()
-        status = self.process.wait(60)
+        try:
+            status = self.process.wait(120)
+        except subprocess.TimeoutExpired:
+            self.process.kill()
+            raise Different("the server goes on after a stop") from None
         if status != 0:
             raise Different(f"the server ended with status {status}")
 

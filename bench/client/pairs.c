@@ -1,8 +1,9 @@
 /* pairs PROTOCOL PORT CONNECTIONS IN-FLIGHT PAIRS SECONDS PID
  *
  * Makes pairs of a put and a take on the loopback, at most so many on each connection and for at most so many seconds,
- * with so many requests in flight on each. Each connection has a thread. Prints pairs a second, the 50th, 99th and 99.9th
- * percentile of a request's latency in microseconds, and microseconds of processor time a pair of the process PID. */
+ * with so many requests in flight on each. Each connection has a thread. Prints pairs a second, the 50th, 99th and
+ * 99.9th percentile of a request's latency in microseconds, and microseconds of processor time a pair of the process
+ * PID. */
 #include "client.h"
 #include <arpa/inet.h>
 #include <netinet/tcp.h>
@@ -105,7 +106,8 @@ static size_t reply_at(struct connection *c, size_t place)
 {
     ssize_t length = c->protocol->reply(&c->lane, c->input + place, c->held - place);
     if (length < 0) {
-        fprintf(stderr, "pairs: a wrong reply of %s: %.*s\n", c->protocol->name, (int)(c->held - place), c->input + place);
+        fprintf(stderr, "pairs: a wrong reply of %s: %.*s\n", c->protocol->name, (int)(c->held - place),
+            c->input + place);
         exit(1);
     }
     return length;
@@ -238,8 +240,8 @@ static void print(struct connection **all, int connections, int64_t elapsed, int
     uint32_t *latencies = sorted(all, connections, &count);
     for (int i = 0; i < connections; i++)
         pairs += all[i]->lane.takes;
-    printf("%.0f %.1f %.1f %.1f %.2f\n", pairs * 1e9 / elapsed, latencies[count / 2] / 1e3, latencies[count * 99 / 100] / 1e3,
-        latencies[count * 999 / 1000] / 1e3, used / 1e3 / pairs);
+    printf("%.0f %.1f %.1f %.1f %.2f\n", pairs * 1e9 / elapsed, latencies[count / 2] / 1e3,
+        latencies[count * 99 / 100] / 1e3, latencies[count * 999 / 1000] / 1e3, used / 1e3 / pairs);
 }
 
 static const struct protocol *protocol_named(const char *name)
