@@ -1,7 +1,7 @@
 //! How a broker begins to serve.
 
 ghost use Rattle.std.specs.Prelude.{◌≡◌, IfOk, None};
-ghost use Rattle.session.specs.Opening.{IsUncalled};
+ghost use Rattle.session.specs.Sessions.{IsUncalled};
 
 use named::Broker;
 use persist::Memory;
