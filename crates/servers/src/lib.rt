@@ -2,6 +2,10 @@
 #![tactic(auto)]
 
 #[cfg(test)]
+mod calling;
+#[cfg(test)]
+mod connections;
+#[cfg(test)]
 mod errors;
 #[cfg(test)]
 mod failing;
@@ -19,3 +23,5 @@ mod sharing;
 mod story;
 #[cfg(test)]
 mod told;
+#[cfg(test)]
+mod waiting;

@@ -4,6 +4,7 @@ ghost use Rattle.std.specs.Prelude.{◌≡◌};
 ghost use Rattle.workers.specs.Opening.{IsNameOf};
 
 use crate::playing::fresh;
+use crate::waiting::{TURNS, rest};
 use desk::{BrokerDesk, Seating};
 use directory::Name;
 use engine::Desk;
@@ -15,6 +16,7 @@ use std::sync::Wait;
 use std::sync::atomic::{AtomicU64, Ordering};
 use std::test::*;
 use std::thread::{Threads, map_indices};
+use std::time::Clock;
 use wire::{Answer, Request};
 use words::{Kind, Refusal, Reply};
 use workers::{Naming, Opened, Shared};
@@ -28,9 +30,10 @@ const PUTS: u32 = 1_000;
 /// How many records the client has.
 const RECORDS: u32 = 4_096;
 
-/// How the puts of all connections were answered.
+/// How many connections are there, and how the puts of all were answered.
 #[derive(Drop)]
 struct Tally {
+    there: AtomicU64,
     done: AtomicU64,
     busy: AtomicU64,
     other: AtomicU64,
@@ -41,8 +44,19 @@ fn count(word: &AtomicU64) {
     word.fetch_add(1, Ordering::SeqCst);
 }
 
-/// Puts values of client 0 in queue `a` over a connection of its own.
-fn put_all<J: Naming, R: Wait>(
+/// Waits for the other connections, at most for the turns of a test.
+fn wait_for_all<C: Clock>(clock: &C, there: &AtomicU64) {
+    count(there);
+    for _ in 0..TURNS {
+        if there.load(Ordering::SeqCst) == CONNECTIONS as u64 {
+            return;
+        }
+        rest(clock, 1);
+    }
+}
+
+/// Puts values of client 0 in queue `a` over a connection of its own, once all connections are there.
+fn put_all<J: Naming, R: Wait + Clock>(
     rt: &R,
     alloc: Global,
     shared: &Shared<J>,
@@ -50,6 +64,7 @@ fn put_all<J: Naming, R: Wait>(
     tally: &Tally,
 ) {
     let mut desk = BrokerDesk::new(alloc, shared, seats);
+    wait_for_all(rt, &tally.there);
     for value in 0..PUTS {
         let put = Request::Put {
             client: 0,
@@ -66,7 +81,7 @@ fn put_all<J: Naming, R: Wait>(
 }
 
 /// All connections put at once, and one of them then takes what is there: how many values these are.
-fn shared_by_all<J: Naming + Send + Sync, R: Threads + Wait + Abort + Sync>(
+fn shared_by_all<J: Naming + Send + Sync, R: Threads + Wait + Clock + Abort + Sync>(
     rt: &R,
     alloc: Global,
     opened: Opened,
@@ -115,6 +130,7 @@ fn taken<J: Naming, R: Wait>(rt: &R, desk: &mut BrokerDesk<'_, J>) -> Result<u64
 fn a_seat_is_used_by_one_connection_at_a_time(rt: HostRuntime) -> Result<(), Fail> {
     let alloc = rt.alloc();
     let tally = Tally {
+        there: AtomicU64::new(0),
         done: AtomicU64::new(0),
         busy: AtomicU64::new(0),
         other: AtomicU64::new(0),
@@ -130,7 +146,7 @@ fn a_seat_is_used_by_one_connection_at_a_time(rt: HostRuntime) -> Result<(), Fai
     );
     assert_eq!(rt; tally.other.load(Ordering::SeqCst), 0, "other answers");
     assert_eq!(rt; done.saturating_add(busy), 4_000, "answers");
+    assert!(rt; done > 0 && busy > 0, "{done} done, {busy} busy");
     assert_eq!(rt; values, done, "values");
-    println!(rt; "busy {busy}")?;
     Ok(())
 }
