@@ -6,6 +6,8 @@ mod calling;
 #[cfg(test)]
 mod connections;
 #[cfg(test)]
+mod crowd;
+#[cfg(test)]
 mod errors;
 #[cfg(test)]
 mod failing;
