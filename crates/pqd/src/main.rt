@@ -1,37 +1,153 @@
-//! The broker as a program.
+//! A broker that serves standard input, or connections.
 #![tactic(auto)]
 
-use devices::{CountedReader, CountedWriter};
-use server::{net, opened, pipe};
-use std::env;
-use std::net::TcpListener;
-use std::process::ExitCode;
+ghost use Rattle.std.specs.Prelude.{◌≡◌};
+ghost use Rattle.std.specs.IoError.{error_kind};
+ghost use Rattle.words.specs.declared.refusal.Refusal.TheVariants.{NoMemory};
+ghost use Rattle.pqd.specs.Faults.{refusal_of_system};
+ghost use Rattle.pqd.specs.declared.Fault.TheVariants.{Refused};
 
-fn main(rt: HostRuntime) -> ExitCode {
-    let alloc = rt.alloc();
-    let Ok(broker) = opened(alloc, 16, 4096, None) else {
-        return ExitCode::from(1);
-    };
-    let Ok(words) = env::args(&rt) else {
-        return ExitCode::from(1);
-    };
-    let Ok(words) = words.collect::<Vec<String>>(alloc) else {
-        return ExitCode::from(1);
-    };
-    if words.len() > 1 {
-        let Ok(listener) = TcpListener::bind(&rt, "127.0.0.1:7070") else {
-            return ExitCode::from(1);
-        };
-        let _ = println!(rt; "listening 127.0.0.1:7070");
-        return match net(&rt, alloc, broker, 8, &listener) {
-            Ok(_) => ExitCode::SUCCESS,
-            Err(_) => ExitCode::from(1),
-        };
+mod image;
+
+use clap::error::ErrorKind;
+use devices::{CountedReader, CountedWriter};
+use log::Log;
+use named::Broker;
+use options::{Listening, Mode, Options, command_line};
+use server::{net, opened, pipe};
+use std::alloc::AllocError;
+use std::net::{Net, SocketAddr, TcpListener};
+use std::process::ExitCode;
+use std::sync::Wait;
+use std::thread::Threads;
+use std::time::Clock;
+use std::{env, io};
+use thiserror::Error;
+use words::Refusal;
+
+/// Why the broker does not serve, or not to its end.
+#[derive(Debug, Drop, Error)]
+enum Fault {
+    #[error("{0}")]
+    Refused(Refusal),
+    #[error("listen failed")]
+    Listen,
+}
+
+impl From<Refusal> for Fault {
+    ghost from_gives = { λ refusal fault. fault ≡ Refused refusal };
+
+    fn from(refusal: Refusal) -> Fault {
+        Fault::Refused(refusal)
     }
-    let mut reader = CountedReader::new(rt.stdin());
-    let mut writer = CountedWriter::new(rt.stdout());
-    match pipe(&rt, alloc, broker, &mut reader, &mut writer) {
-        Ok(_) => ExitCode::SUCCESS,
-        Err(_) => ExitCode::from(1),
+}
+
+impl From<AllocError> for Fault {
+    ghost from_gives = { λ _ fault. fault ≡ Refused NoMemory };
+
+    fn from(_: AllocError) -> Fault {
+        Fault::Refused(Refusal::NoMemory)
+    }
+}
+
+/// A fault of the system before anything is served: want of memory, or else a failed read.
+impl From<io::Error> for Fault {
+    ghost from_gives = { λ error fault. fault ≡ Refused (refusal_of_system (error_kind error)) };
+
+    fn from(error: io::Error) -> Fault {
+        Fault::Refused(image::refusal_of(&error))
+    }
+}
+
+/// The broker that the options ask for: the one that the image's file keeps, where there is such a file.
+fn broker_for(rt: &HostRuntime, asked: &Options<'_>) -> Result<Broker, Refusal> {
+    let kept = match asked.image {
+        Some(path) => image::read(rt, path)?,
+        None => None,
+    };
+    let bytes = kept.as_ref().map(|bytes| bytes.as_slice());
+    opened(rt.alloc(), asked.clients, asked.records, bytes)
+}
+
+/// Serves standard input to standard output. The image that it leaves.
+fn serve_input<T: Wait>(
+    waits: &T,
+    rt: &HostRuntime,
+    broker: Broker,
+) -> Result<Vec<u8>, Refusal> {
+    let mut reader = CountedReader::new(rt.reader());
+    let mut writer = CountedWriter::new(io::writer(rt));
+    pipe(waits, rt.alloc(), broker, &mut reader, &mut writer)
+}
+
+/// Serves connections of the loopback, once it has said where it listens. The image that it leaves.
+fn serve_connections<T: Threads + Wait + Net + Log + Clock + Sync>(
+    threads: &T,
+    rt: &HostRuntime,
+    broker: Broker,
+    at: Listening,
+) -> Result<Vec<u8>, Fault> {
+    let Ok(listener) = TcpListener::bind(rt, SocketAddr::from(([127u8, 0, 0, 1], at.port))) else {
+        return Err(Fault::Listen);
+    };
+    let Ok(address) = listener.local_addr() else {
+        return Err(Fault::Listen);
+    };
+    if println!(rt; "listening {address}").is_err() {
+        return Err(Fault::Refused(Refusal::WriteFailed));
+    }
+    Ok(net(threads, rt.alloc(), broker, at.workers, &listener)?)
+}
+
+/// Serves as the options ask, and writes the image's file at the end.
+fn serve<T: Threads + Wait + Net + Log + Clock + Sync>(
+    threads: &T,
+    rt: &HostRuntime,
+    asked: Options<'_>,
+) -> Result<(), Fault> {
+    let broker = broker_for(rt, &asked)?;
+    let image = match asked.mode {
+        Mode::Pipe => serve_input(threads, rt, broker)?,
+        Mode::Serve(at) => serve_connections(threads, rt, broker, at)?,
+    };
+    if let Some(path) = asked.image {
+        image::write(rt, path, &image)?;
+    }
+    Ok(())
+}
+
+/// Says what is wrong with a command line, or what it asks to know, and answers with which status to end.
+fn explained(rt: &HostRuntime, error: &clap::Error) -> Result<ExitCode, Fault> {
+    if let ErrorKind::OutOfMemory = error.kind() {
+        return Err(Fault::Refused(Refusal::NoMemory));
+    }
+    if error.print(rt).is_err() {
+        return Err(Fault::Refused(Refusal::WriteFailed));
+    }
+    Ok(ExitCode::from(error.exit_code() as u8))
+}
+
+/// Does what the command line asks for, and answers with which status to end.
+fn follow<T: Threads + Wait + Net + Log + Clock + Sync>(
+    threads: &T,
+    rt: &HostRuntime,
+) -> Result<ExitCode, Fault> {
+    let words: Vec<String> = env::args(rt)?.collect(rt.alloc())?;
+    match command_line(rt.alloc(), &words) {
+        Ok(asked) => {
+            serve(threads, rt, asked)?;
+            Ok(ExitCode::SUCCESS)
+        }
+        Err(error) => explained(rt, &error),
+    }
+}
+
+fn main(rt: HostRuntime) -> io::Result<ExitCode> {
+    match follow(&rt, &rt) {
+        Ok(status) => Ok(status),
+        Err(fault) => {
+            eprintln!(rt; "pqd: {fault}")?;
+            Ok(ExitCode::FAILURE)
+        }
     }
 }

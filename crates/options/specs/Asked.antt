@@ -1,0 +1,73 @@
+-- What the words of a command line ask.
+use Rattle.std.specs.Prelude.{◌≡◌, ◌⊎◌, ℕ, List, [], Option, Some, None, ⊤, codes, option_map, option_and_then}
+use Rattle.words.specs.declared.limits.TheConstants.{MAX_CLIENTS, MAX_RECORDS}
+use Rattle.clap.specs.Words.{Row, Text, IsAmong, fault_of, first_of, kind_of, subcommand_of}
+use Rattle.clap.specs.declared.error.Error.{Error}
+use Rattle.clap.specs.declared.error.kind.ErrorKind.TheVariants.{OutOfMemory, ValueValidation}
+use Rattle.options.specs.Commands.{pqd_app}
+use Rattle.options.specs.Limits.{default_clients, default_records, default_port, default_workers, greatest_port, most_workers}
+use Rattle.options.specs.Numbers.{Fits, number_of}
+use Rattle.options.specs.declared.asked.Options.{Options}
+use Rattle.options.specs.declared.asked.Listening.{Listening}
+use Rattle.options.specs.declared.asked.Mode.{Mode}
+use Rattle.options.specs.declared.asked.Mode.TheVariants.{Pipe, Serve}
+
+-- the name of the command that a parse met, with what its options were given
+abbrev pub name_in : Option (Text × List Row) → Option Text
+name_in = option_map (λ met. met.0)
+
+-- the value of an option of that command
+abbrev pub values_in : Option (Text × List Row) → Text → Option Text
+values_in met option = option_and_then (λ m. first_of option m.1) met
+
+-- the command that the words name
+abbrev pub command_name : List Text → Option Text
+command_name words = name_in (subcommand_of pqd_app words)
+
+-- the value that the words give an option of that command
+abbrev pub given : List Text → Text → Option Text
+given words = values_in (subcommand_of pqd_app words)
+
+-- the command is one of two
+abbrev pub IsKnown : Option Text → Type 0
+IsKnown command = (command ≡ Some (codes "pipe")) ⊎ (command ≡ Some (codes "serve"))
+
+-- each number that a server was given is a whole number in the range of its option
+abbrev pub ListeningFits : (Text → Option Text) → Type 0
+ListeningFits given = Fits 0 greatest_port (given (codes "port")) × Fits 1 most_workers (given (codes "workers"))
+
+-- the same of each number that any command was given
+pub record AllFit (command : Option Text) (given : Text → Option Text) : Type 0 where
+  pub clients : Fits 1 MAX_CLIENTS (given (codes "clients"))
+  pub records : Fits 1 MAX_RECORDS (given (codes "records"))
+  pub listening : command ≡ Some (codes "serve") → ListeningFits given
+
+-- a server listens where its options say, and has as many workers
+pub record ListensBy (given : Text → Option Text) (listening : Listening) : Type 0 where
+  pub fit : ListeningFits given
+  pub port : listening.port ≡ number_of default_port (given (codes "port"))
+  pub workers : listening.workers ≡ number_of default_workers (given (codes "workers"))
+
+-- the mode is that of the command, with what its options say
+abbrev pub IsModeOf : Option Text → (Text → Option Text) → Mode → Type 0
+IsModeOf command given Pipe = command ≡ Some (codes "pipe")
+IsModeOf command given (Serve listening) = (command ≡ Some (codes "serve")) × ListensBy given listening
+
+-- the command and the values of its options ask this
+pub record Asks (command : Option Text) (given : Text → Option Text) (o : Options) : Type 0 where
+  pub fit : AllFit command given
+  pub clients : o.clients ≡ number_of default_clients (given (codes "clients"))
+  pub records : o.records ≡ number_of default_records (given (codes "records"))
+  pub image : option_map (λ s. s.now) o.image ≡ given (codes "image")
+  pub mode : IsModeOf command given o.mode
+
+-- the words ask this, and clap finds no fault with them
+pub record IsAsked (words : List Text) (o : Options) : Type 0 where
+  pub faultless : fault_of pqd_app words ≡ []
+  pub asks : Asks (command_name words) (given words) o
+
+-- memory ran out, or the fault is one that clap finds with the words, or a number does not fit its option
+abbrev pub Refuses : List Text → Error → Type 0
+Refuses words e = (kind_of e ≡ OutOfMemory)
+    ⊎ (IsAmong (kind_of e) (fault_of pqd_app words)
+    ⊎ ((kind_of e ≡ ValueValidation) × ¬ (AllFit (command_name words) (given words))))

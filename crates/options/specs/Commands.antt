@@ -1,0 +1,32 @@
+-- The commands of `pqd`, and the options that each takes, as clap sees them.
+use Rattle.std.specs.Prelude.{Some, true, codes}
+use Rattle.clap.specs.Words.{App, Rule, Text, new_app, new_rule, with_rule, with_subcommand}
+use Rattle.clap.specs.Simple.{on_top}
+use Rattle.clap.specs.declared.builder.action.ArgAction.TheVariants.{Set}
+
+-- `--name VALUE`
+abbrev pub option_rule : Text → Rule
+option_rule name = record (new_rule name) { long = Some name; action = Some Set; value_names = 1 }
+
+-- a command with the options of a broker and its queues
+abbrev pub with_queue_rules : App → App
+with_queue_rules a = with_rule (with_rule (with_rule a
+    (option_rule (codes "clients")))
+    (option_rule (codes "records")))
+    (option_rule (codes "image"))
+
+abbrev pub pipe_app : App
+pipe_app = with_queue_rules (new_app (codes "pipe"))
+
+abbrev pub serve_app : App
+serve_app = with_rule (with_rule (with_queue_rules (new_app (codes "serve")))
+    (option_rule (codes "port")))
+    (option_rule (codes "workers"))
+
+-- `pqd` itself, which wants a command, and has none that is called help
+abbrev pub top_app : App
+top_app = on_top (λ s. record s { subcommand_required = true; disable_help_subcommand = true })
+    (new_app (codes "pqd"))
+
+abbrev pub pqd_app : App
+pqd_app = with_subcommand (with_subcommand top_app pipe_app.top) serve_app.top

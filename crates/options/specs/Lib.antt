@@ -1,0 +1,5 @@
+-- What the words of a command line ask.
+pub mod Limits
+pub mod Numbers
+pub mod Commands
+pub mod Asked

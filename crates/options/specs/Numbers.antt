@@ -1,0 +1,22 @@
+-- What an option that is a number comes to.
+use Rattle.std.specs.Prelude.{ℕ, ◌≤◌, List, Option, Some, None, ⊤}
+use Rattle.std.specs.Str.Parse.{IsNumeral, digits_value, without_leading_plus}
+
+-- the number that the digits of a text write, before which a plus may stand
+abbrev pub decimal_value : List ℕ → ℕ
+decimal_value text = digits_value 10 (without_leading_plus text)
+
+-- the text is a whole number from least to most
+abbrev pub IsWithin : ℕ → ℕ → List ℕ → Type 0
+IsWithin least most text =
+    IsNumeral 10 (without_leading_plus text) × (least ≤ decimal_value text) × (decimal_value text ≤ most)
+
+-- no text is given, or one that is a whole number from least to most
+abbrev pub Fits : ℕ → ℕ → Option (List ℕ) → Type 0
+Fits least most None = ⊤
+Fits least most (Some text) = IsWithin least most text
+
+-- the number that is given, and where none is the default
+abbrev pub number_of : ℕ → Option (List ℕ) → ℕ
+number_of default None = default
+number_of default (Some text) = decimal_value text

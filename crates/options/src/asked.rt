@@ -1,0 +1,42 @@
+//! What `pqd` is asked to do.
+
+ghost use Rattle.std.specs.Prelude.{◌≤◌};
+ghost use Rattle.words.specs.declared.limits.TheConstants.{MAX_CLIENTS, MAX_RECORDS};
+ghost use Rattle.options.specs.Limits.{most_workers};
+
+/// What `pqd` is asked to do.
+#[derive(Clone, Copy, Debug, PartialEq, Eq)]
+pub struct Options<'a> {
+    /// The clients of a queue, from 1 to `words::MAX_CLIENTS`.
+    pub clients: u32,
+    /// The records of one client in a queue, from 1 to `words::MAX_RECORDS`.
+    pub records: u32,
+    /// The path of the file that keeps the memory, if one is to keep it.
+    pub image: Option<&'a str>,
+    /// How clients reach the broker.
+    pub mode: Mode,
+    ghost some_clients: { 1 ≤ clients },
+    ghost few_clients: { clients ≤ MAX_CLIENTS },
+    ghost some_records: { 1 ≤ records },
+    ghost few_records: { records ≤ MAX_RECORDS },
+}
+
+/// How clients reach the broker.
+#[derive(Clone, Copy, Debug, PartialEq, Eq)]
+pub enum Mode {
+    /// By standard input and standard output.
+    Pipe,
+    /// By the network.
+    Serve(Listening),
+}
+
+/// Where a server listens, and how many connections it serves at once.
+#[derive(Clone, Copy, Debug, PartialEq, Eq)]
+pub struct Listening {
+    /// 0 lets the system choose.
+    pub port: u16,
+    /// The threads that serve, from 1 to `MAX_WORKERS`.
+    pub workers: u32,
+    ghost some_workers: { 1 ≤ workers },
+    ghost few_workers: { workers ≤ most_workers },
+}

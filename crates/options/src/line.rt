@@ -1,0 +1,119 @@
+//! What the words of a command line ask.
+
+ghost use Rattle.std.specs.Prelude.{◌≡◌, IfOk, IfErr, OnErr, Some, map};
+ghost use Rattle.clap.specs.Words.{first_value, found_of, kind_of, subcommand_rows_of};
+ghost use Rattle.options.specs.Asked.{AllFit, Asks, IsAsked, IsKnown, ListeningFits, ListensBy, Refuses};
+ghost use Rattle.options.specs.Asked.{name_in, values_in};
+
+use crate::asked::{Listening, Mode, Options};
+use crate::commands::pqd;
+use crate::limits::{
+    DEFAULT_CLIENTS, DEFAULT_PORT, DEFAULT_RECORDS, DEFAULT_WORKERS, MAX_PORT, MAX_WORKERS,
+};
+use crate::number::{Misfit, NumberOption};
+use clap::error::ErrorKind;
+use clap::{ArgMatches, Command, Error};
+use std::alloc::{AllocError, Global};
+use std::convert::AsStr;
+use words::{MAX_CLIENTS, MAX_RECORDS};
+
+const CLIENTS: NumberOption = NumberOption {
+    name: "clients",
+    least: 1,
+    most: MAX_CLIENTS as u32,
+    default: DEFAULT_CLIENTS,
+};
+
+const RECORDS: NumberOption = NumberOption {
+    name: "records",
+    least: 1,
+    most: MAX_RECORDS,
+    default: DEFAULT_RECORDS,
+};
+
+const PORT: NumberOption = NumberOption {
+    name: "port",
+    least: 0,
+    most: MAX_PORT,
+    default: DEFAULT_PORT,
+};
+
+const WORKERS: NumberOption = NumberOption {
+    name: "workers",
+    least: 1,
+    most: MAX_WORKERS,
+    default: DEFAULT_WORKERS,
+};
+
+/// Where `serve` listens.
+fn listening(given: &ArgMatches<'_>) -> Result<Listening, Misfit>
+    ensures asked { IfOk result (ListensBy (first_value (found_of given.now))) }
+    ensures misfit { OnErr result (¬ (ListeningFits (first_value (found_of given.now)))) }
+{
+    Ok(Listening {
+        port: PORT.read(given.get_str("port"))? as u16,
+        workers: WORKERS.read(given.get_str("workers"))?,
+    })
+}
+
+/// What a command asks with the options that it was given.
+fn options<'a>(command: &str, given: &ArgMatches<'a>) -> Result<Options<'a>, Misfit>
+    requires known { IsKnown (Some command.now) }
+    ensures asked { IfOk result (Asks (Some command.now) (first_value (found_of given.now))) }
+    ensures misfit { OnErr result (¬ (AllFit (Some command.now) (first_value (found_of given.now)))) }
+{
+    let clients = CLIENTS.read(given.get_str("clients"))?;
+    let records = RECORDS.read(given.get_str("records"))?;
+    let mode = match command {
+        "serve" => Mode::Serve(listening(given)?),
+        _ => Mode::Pipe,
+    };
+    Ok(Options {
+        clients,
+        records,
+        image: given.get_str("image"),
+        mode,
+    })
+}
+
+/// What a parse found to be asked.
+fn asked<'a>(matches: &ArgMatches<'a>) -> Result<Options<'a>, Misfit>
+    requires known { IsKnown (name_in (subcommand_rows_of matches.now)) }
+    ensures asked { IfOk result
+        (Asks (name_in (subcommand_rows_of matches.now)) (values_in (subcommand_rows_of matches.now))) }
+    ensures misfit { OnErr result
+        (¬ (AllFit (name_in (subcommand_rows_of matches.now)) (values_in (subcommand_rows_of matches.now)))) }
+{
+    let Some((command, given)) = matches.subcommand() else {
+        unreachable!();
+    };
+    options(command, given)
+}
+
+/// The error that tells of an option that does not fit.
+fn explained(
+    alloc: Global,
+    command: &mut Command<'_>,
+    misfit: Misfit,
+) -> Result<Error, AllocError>
+    ensures { IfOk result (λ e. kind_of e ≡ ErrorKind.ValueValidation) }
+{
+    let text = misfit.to_string(alloc)?;
+    command.error(ErrorKind::ValueValidation, text.as_str())
+}
+
+/// What the words of a command line ask, of which the first is the program's name.
+///
+/// An error that is no want of memory has the text for the user and the status to end with: 0 where the words ask for
+/// help, and else 2.
+pub fn command_line<'a, S: AsStr>(alloc: Global, words: &'a [S]) -> Result<Options<'a>, Error>
+    ensures asked { IfOk result (IsAsked (map S.text words.entry.now)) }
+    ensures refused { IfErr result (Refuses (map S.text words.entry.now)) }
+{
+    let mut command = pqd(alloc)?;
+    let matches = command.try_get_matches_from_mut(words)?;
+    match asked(&matches) {
+        Ok(options) => Ok(options),
+        Err(misfit) => Err(explained(alloc, &mut command, misfit)?),
+    }
+}

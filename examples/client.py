@@ -1,0 +1,13 @@
+#!/usr/bin/env python3
+"""A client of `pqd serve`: puts a value into a queue, and takes it out again."""
+import json, socket, sys
+
+lines = socket.create_connection(("127.0.0.1", int(sys.argv[1]))).makefile("rw")
+
+def ask(**request):
+    print(json.dumps(request), file=lines, flush=True)
+    return lines.readline().strip()
+
+print(ask(op="create", queue="jobs", kind="log"))
+print(ask(op="put", client=0, queue="jobs", number=1, value=42))
+print(ask(op="take", client=1, queue="jobs", number=1))

@@ -1,0 +1,54 @@
+#!/usr/bin/env bash
+# The examples as a user runs them: clients of one `pqd serve`, which is stopped at the end and leaves an image. What
+# each prints is compared to the letter with tests/examples/NAME.out. It takes the program that the last `rt ci`, or
+# `rt run` in crates/pqd, left. The client in shell needs `nc` (netcat-openbsd) and `jq`; where they are not there, it is
+# left out, which is said.
+set -eu
+cd "$(dirname "$0")/.."
+. tests/cases.sh
+pqd=${PQD:-$PWD/crates/pqd/out/pqd}
+[ -x "$pqd" ] || {
+    printf 'there is no %s: run rt ci, or rt run in crates/pqd\n' "$pqd"
+    failed=1
+    count
+}
+
+# Runs a client of the server at that port, and compares what it prints: NAME WORD..
+try() {
+    local name=$1 status=0
+    shift
+    timeout 60 "$@" "$port" > "$work/out" 2> "$work/err" || status=$?
+    compare "$name" 0 "$status" "tests/examples/$name.out" /dev/null
+}
+
+"$pqd" serve --port 0 --image "$work/image" > "$work/said" 2> "$work/warned" &
+server=$!
+port=
+for _ in $(seq 100); do
+    port=$(sed -n 's/^listening 127\.0\.0\.1:\([0-9]*\)$/\1/p' "$work/said")
+    [ -z "$port" ] || break
+    sleep 0.1
+done
+
+try client.py python3 examples/client.py
+try resume.py python3 examples/resume.py
+if command -v nc > /dev/null && command -v jq > /dev/null; then
+    try client.sh sh examples/client.sh
+else
+    printf 'left out: examples/client.sh, which needs nc and jq\n'
+fi
+
+exec 3<> "/dev/tcp/127.0.0.1/$port"
+printf '{"op":"stop"}\n' >&3
+cat <&3 > "$work/out"
+exec 3>&-
+status=0
+wait "$server" || status=$?
+cp "$work/warned" "$work/err"
+compare stop 0 "$status" tests/examples/stop.out /dev/null
+
+# The image is that of the queues that the clients made.
+status=0
+printf '{"op":"list"}\n' | "$pqd" pipe --image "$work/image" > "$work/out" 2> "$work/err" || status=$?
+compare image 0 "$status" tests/examples/image.out /dev/null
+count
