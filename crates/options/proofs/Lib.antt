@@ -1,0 +1,4 @@
+-- Lemmas that the answers cite.
+pub mod Subcommand
+pub mod Faultless
+pub mod ByWords

@@ -21,10 +21,7 @@ fn option<'a>(alloc: Global, name: &'a str, value: &'a str, help: &'a str) -> Ar
 }
 
 /// The command with the options of a broker and its queues.
-fn with_queue_options<'a>(
-    alloc: Global,
-    command: Command<'a>,
-) -> Result<Command<'a>, AllocError>
+fn with_queue_options<'a>(alloc: Global, command: Command<'a>) -> Result<Command<'a>, AllocError>
     ensures app { IfOk result (λ c. app_of c ≡ with_queue_rules (app_of command.entry)) }
     ensures local { (out-Command command.entry).has_globals ≡ false
         → IfOk result (λ c. (out-Command c).has_globals ≡ false) }
@@ -55,8 +52,9 @@ fn pipe<'a>(alloc: Global) -> Result<Command<'a>, AllocError>
     ensures app { IfOk result (λ c. app_of c ≡ pipe_app) }
     ensures local { IfOk result (λ c. (out-Command c).has_globals ≡ false) }
 {
-    let command = Command::new(alloc, "pipe")
-        .about("Answers the requests of standard input on standard output");
+    let command = Command::new(alloc, "pipe").about(
+        "Answers the requests of standard input on standard output",
+    );
     with_queue_options(alloc, command)
 }
 
@@ -65,8 +63,9 @@ fn serve<'a>(alloc: Global) -> Result<Command<'a>, AllocError>
     ensures app { IfOk result (λ c. app_of c ≡ serve_app) }
     ensures local { IfOk result (λ c. (out-Command c).has_globals ≡ false) }
 {
-    let command = Command::new(alloc, "serve")
-        .about("Answers the requests of connections to a port");
+    let command = Command::new(alloc, "serve").about(
+        "Answers the requests of connections to a port",
+    );
     let port = option(
         alloc,
         "port",

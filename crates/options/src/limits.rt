@@ -1,5 +1,8 @@
 //! What each option that is a number may be, and what it is where it is not given.
 
+use crate::number::NumberOption;
+use words::{MAX_CLIENTS, MAX_RECORDS};
+
 /// The clients of a queue where `--clients` is not given.
 pub const DEFAULT_CLIENTS: u32 = 4;
 
@@ -17,3 +20,35 @@ pub const DEFAULT_WORKERS: u32 = 4;
 
 /// The most workers of a server.
 pub const MAX_WORKERS: u32 = 16;
+
+/// `--clients T`
+pub(crate) const CLIENTS: NumberOption = NumberOption {
+    name: "clients",
+    least: 1,
+    most: MAX_CLIENTS as u32,
+    default: DEFAULT_CLIENTS,
+};
+
+/// `--records K`
+pub(crate) const RECORDS: NumberOption = NumberOption {
+    name: "records",
+    least: 1,
+    most: MAX_RECORDS,
+    default: DEFAULT_RECORDS,
+};
+
+/// `--port P`
+pub(crate) const PORT: NumberOption = NumberOption {
+    name: "port",
+    least: 0,
+    most: MAX_PORT,
+    default: DEFAULT_PORT,
+};
+
+/// `--workers N`
+pub(crate) const WORKERS: NumberOption = NumberOption {
+    name: "workers",
+    least: 1,
+    most: MAX_WORKERS,
+    default: DEFAULT_WORKERS,
+};

@@ -7,43 +7,12 @@ ghost use Rattle.options.specs.Asked.{name_in, values_in};
 
 use crate::asked::{Listening, Mode, Options};
 use crate::commands::pqd;
-use crate::limits::{
-    DEFAULT_CLIENTS, DEFAULT_PORT, DEFAULT_RECORDS, DEFAULT_WORKERS, MAX_PORT, MAX_WORKERS,
-};
-use crate::number::{Misfit, NumberOption};
+use crate::limits::{CLIENTS, PORT, RECORDS, WORKERS};
+use crate::number::Misfit;
 use clap::error::ErrorKind;
 use clap::{ArgMatches, Command, Error};
 use std::alloc::{AllocError, Global};
 use std::convert::AsStr;
-use words::{MAX_CLIENTS, MAX_RECORDS};
-
-const CLIENTS: NumberOption = NumberOption {
-    name: "clients",
-    least: 1,
-    most: MAX_CLIENTS as u32,
-    default: DEFAULT_CLIENTS,
-};
-
-const RECORDS: NumberOption = NumberOption {
-    name: "records",
-    least: 1,
-    most: MAX_RECORDS,
-    default: DEFAULT_RECORDS,
-};
-
-const PORT: NumberOption = NumberOption {
-    name: "port",
-    least: 0,
-    most: MAX_PORT,
-    default: DEFAULT_PORT,
-};
-
-const WORKERS: NumberOption = NumberOption {
-    name: "workers",
-    least: 1,
-    most: MAX_WORKERS,
-    default: DEFAULT_WORKERS,
-};
 
 /// Where `serve` listens.
 fn listening(given: &ArgMatches<'_>) -> Result<Listening, Misfit>
@@ -91,11 +60,7 @@ fn asked<'a>(matches: &ArgMatches<'a>) -> Result<Options<'a>, Misfit>
 }
 
 /// The error that tells of an option that does not fit.
-fn explained(
-    alloc: Global,
-    command: &mut Command<'_>,
-    misfit: Misfit,
-) -> Result<Error, AllocError>
+fn explained(alloc: Global, command: &mut Command<'_>, misfit: Misfit) -> Result<Error, AllocError>
     ensures { IfOk result (λ e. kind_of e ≡ ErrorKind.ValueValidation) }
 {
     let text = misfit.to_string(alloc)?;

@@ -3,8 +3,6 @@ use Rattle.std.specs.Prelude.{ℕ, List, [], ◌∷◌, ◌++◌, codes, decimal
 use Rattle.std.specs.List.{filter_map, join_with_byte}
 use Rattle.std.specs.Option.{option_map}
 use Rattle.words.specs.Refusal.{code_of, name_of}
-use Rattle.words.specs.declared.call.Kind.{Kind}
-use Rattle.words.specs.declared.call.Kind.TheVariants.{Durable, Log}
 use Rattle.words.specs.declared.call.Reply.{Reply}
 use Rattle.words.specs.declared.call.Reply.TheVariants as reply
 use Rattle.words.specs.declared.refusal.Refusal.{Refusal}
@@ -18,6 +16,7 @@ use Rattle.directory.specs.Directory.{Directory}
 use Rattle.directory.specs.declared.queue.Queue.{Queue}
 use Rattle.wire.specs.declared.answer.Answer.{Answer}
 use Rattle.wire.specs.declared.answer.Answer.TheVariants as answer
+use Rattle.wire.specs.Kinds.{kind_text}
 use Rattle.replies.specs.declared.pieces.TheConstants.{COMMA, NEWLINE}
 
 abbrev pub refusal_text : Refusal → List ℕ
@@ -53,10 +52,6 @@ abbrev pub told_text : Told → List ℕ
 told_text told.None = codes "{\"told\":\"none\"}"
 told_text (told.Verdict verdict) = outcome_text verdict.number verdict.outcome
 told_text (told.Row row) = row_text row
-
-abbrev pub kind_text : Kind → List ℕ
-kind_text Durable = codes "durable"
-kind_text Log = codes "log"
 
 abbrev pub queue_text : Queue → List ℕ
 queue_text queue =

@@ -9,8 +9,9 @@ use Rattle.words.specs.declared.refusal.Refusal.TheVariants.{BadJson, BadRequest
 use Rattle.wire.specs.declared.request.Request.{Request}
 use Rattle.wire.specs.declared.request.Request.TheVariants.{Create, List as ListAll, Put, Take, Told, Crash, Recover, Stop}
 use Rattle.json.proofs.Printed.Utf8.{IsUtf8-are_ascii}
+use Rattle.wire.specs.Kinds.{kind_text}
 use Rattle.requests.specs.Line.{meaning, value_meaning}
-use Rattle.requests.specs.Objects.{kind_text, members_asking, line_asking, MayAsk}
+use Rattle.requests.specs.Objects.{members_asking, line_asking, MayAsk}
 use Rattle.requests.proofs.Asked.{asked}
 use Rattle.requests.proofs.Texts.{text_meant}
 use Rattle.requests.proofs.Written.{ArePlain, put_all, object_utf8, read-compact_text}

@@ -3,15 +3,11 @@ use Rattle.std.specs.Prelude.{◌≡◌, ◌≤◌, ◌<◌, ◌^◌, ℕ, List,
 use Rattle.serde_json.specs.Data.{unsigned, number, string, object, Members, no_members, member}
 use Rattle.serde_json.specs.Written.{compact_text}
 use Rattle.words.specs.declared.call.Kind.{Kind}
-use Rattle.words.specs.declared.call.Kind.TheVariants.{Durable, Log}
 use Rattle.words.specs.declared.limits.TheConstants.{MAX_CALL_NUMBER, MAX_VALUE}
 use Rattle.wire.specs.declared.request.Request.{Request}
 use Rattle.wire.specs.declared.request.Request.TheVariants.{Create, List as ListAll, Put, Take, Told, Crash, Recover, Stop}
+use Rattle.wire.specs.Kinds.{kind_text}
 use Rattle.requests.specs.Rows.{name_in}
-
-abbrev pub kind_text : Kind → List ℕ
-kind_text Durable = codes "durable"
-kind_text Log = codes "log"
 
 -- one member each, with those whose keys come behind it
 abbrev pub client : ℕ → Members → Members

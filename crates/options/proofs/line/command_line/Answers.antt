@@ -1,0 +1,23 @@
+use Rattle.std.proofs.Common.{map}
+use Rattle.options.specs.Asked.{Asks, Refuses}
+use Rattle.options.proofs.ByWords.{faultless, held_by_words, known_met, passed_on, refused}
+use Rattle.options.proofs.line.command_line.Goals as goal
+
+pub returns-in_err-matches-clause-refused : goal.returns-in_err-matches-clause-refused
+returns-in_err-matches-clause-refused g c =
+    let words = map g.S.AsStr.text c.args.words.now in
+    let error = c.in_err-matches.field-0.0 in
+    passed_on _ error (Refuses words) c.from_residual-in_err-matches.ensures.1
+    (refused _ words error c.in_ok-command.ensures.app c.in_err-matches.ensures.kinds)
+
+pub asked-requires : goal.asked-requires
+asked-requires g c = record {
+  known = known_met _ _ c.in_ok-matches.matches c.in_ok-command.ensures.app c.in_ok-matches.ensures.ok.2 c.in_ok-matches.ensures.kinds;
+}
+
+pub returns-in-Ok-clause-asked : goal.returns-in-Ok-clause-asked
+returns-in-Ok-clause-asked g c = record {
+  faultless = faultless _ _ c.in_ok-command.ensures.app c.in_ok-matches.ensures.kinds;
+  asks = held_by_words (λ command values. Asks command values c.in-Ok.options) _ _ c.in_ok-matches.matches c.in_ok-command.ensures.app
+      c.in_ok-matches.ensures.ok.2 c.in-Ok.ensures.asked;
+}
