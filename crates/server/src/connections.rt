@@ -4,70 +4,107 @@ use crate::json_lines::JsonLines;
 use crossbeam_channel::Receiver;
 use desk::{BrokerDesk, Seating};
 use devices::{CountedReader, CountedWriter};
-use engine::serve;
+use engine::{Desk, serve};
 use log::{Log, warn};
-use std::alloc::Global;
+use std::alloc::{AllocError, Global};
 use std::net::{Net, SocketAddr, TcpStream};
 use std::sync::Wait;
 use std::sync::atomic::{AtomicBool, Ordering};
+use std::time::Duration;
+use wire::{Answer, Request};
 use workers::{Naming, Shared};
+
+/// How long a worker waits for the thread that takes connections to take its own.
+const WAKE_SECONDS: u64 = 1;
 
 /// What the workers share.
 #[derive(Drop)]
 pub(crate) struct Serving<'a, J: Naming> {
     pub(crate) shared: &'a Shared<J>,
     pub(crate) seats: &'a Seating<J>,
-    /// A stop was accepted.
+    /// A stop was accepted: connections that are not served yet will not be.
     pub(crate) stopping: &'a AtomicBool,
     pub(crate) connections: &'a Receiver<TcpStream>,
-    /// Where connections are taken.
+    /// Where connections are taken, if that is known.
     pub(crate) address: Option<SocketAddr>,
 }
 
-/// Serves a connection to its end. Whether it accepted a stop.
+impl<J: Naming> Serving<'_, J> {
+    fn is_stopping(&self) -> bool {
+        self.stopping.load(Ordering::SeqCst)
+    }
+}
+
+/// The desk of a connection, which says where it has accepted a stop.
+#[derive(Drop)]
+struct StoppingDesk<'a, J: Naming> {
+    desk: BrokerDesk<'a, J>,
+    stopping: &'a AtomicBool,
+}
+
+impl<J: Naming> Desk for StoppingDesk<'_, J> {
+    ghost served = { λ desk. desk.desk.served.items };
+
+    fn answer<R: Wait>(&mut self, rt: &R, request: Request) -> Result<Answer, AllocError> {
+        let answer = self.desk.answer(rt, request)?;
+        if self.desk.is_stopped() {
+            // It is said before the reply goes out: a client that has read it is not served on another connection.
+            self.stopping.store(true, Ordering::SeqCst);
+        }
+        Ok(answer)
+    }
+}
+
+/// Serves a connection to its end, and closes it.
 fn serve_connection<J: Naming, R: Wait + Log>(
     rt: &R,
     alloc: Global,
     serving: &Serving<'_, J>,
-    connection: &TcpStream,
-) -> bool {
+    connection: TcpStream,
+) {
     // A reply would wait for the next one else, to go out with it.
     if connection.set_nodelay(true).is_err() {
         warn!(rt; "a connection delays its replies");
     }
-    let mut reader = CountedReader::new(connection);
-    let mut writer = CountedWriter::new(connection);
-    let mut desk = BrokerDesk::new(alloc, serving.shared, serving.seats);
+    let mut reader = CountedReader::new(&connection);
+    let mut writer = CountedWriter::new(&connection);
+    let mut desk = StoppingDesk {
+        desk: BrokerDesk::new(alloc, serving.shared, serving.seats),
+        stopping: serving.stopping,
+    };
     let served = serve::<R, JsonLines, _, _, _>(rt, alloc, &mut reader, &mut writer, &mut desk);
     if let Err(refusal) = served {
         warn!(rt; "a connection ended: {refusal}");
     }
-    desk.is_stopped()
 }
 
-/// No more connections are taken: the thread that takes them wakes by one to its own port.
-fn stop<J: Naming, R: Net + Log>(rt: &R, serving: &Serving<'_, J>) {
-    serving.stopping.store(true, Ordering::SeqCst);
-    let Some(address) = serving.address else {
+/// Wakes the thread that takes connections, by one to its own port.
+fn wake<R: Net + Log>(rt: &R, address: Option<SocketAddr>) {
+    let Some(address) = address else {
+        warn!(rt; "the next connection is waited for");
         return;
     };
-    if TcpStream::connect(rt, address).is_err() {
+    // Where nobody takes it in time, others are waiting to be taken, and these wake the thread as well.
+    let second = Duration::from_secs(WAKE_SECONDS);
+    if TcpStream::connect_timeout(rt, &address, second).is_err() {
         warn!(rt; "the next connection is waited for");
     }
 }
 
-/// Serves one connection after another, until no more are taken.
+/// Serves one connection after another, until no more are taken. Those that come after an accepted stop are closed
+/// unserved.
 pub(crate) fn serve_connections<J: Naming, R: Wait + Net + Log>(
     rt: &R,
     alloc: Global,
     serving: &Serving<'_, J>,
 ) {
     for connection in serving.connections.iter(rt) {
-        if serving.stopping.load(Ordering::SeqCst) {
-            return;
+        if serving.is_stopping() {
+            continue;
         }
-        if serve_connection(rt, alloc, serving, &connection) {
-            stop(rt, serving);
+        serve_connection(rt, alloc, serving, connection);
+        if serving.is_stopping() {
+            wake(rt, serving.address);
         }
     }
 }

@@ -1,5 +1,10 @@
 //! How a shared broker begins, and what it leaves.
 
+ghost use Rattle.std.specs.Prelude.{◌≡◌, ◌⊎◌, IfErr, IfOk};
+ghost use Rattle.session.specs.Sessions.{IsUncalled};
+ghost use Rattle.workers.specs.Opening.{IsInUse};
+ghost use Rattle.server.specs.Image.{IsBusyOrNoMemory, IsImageAfter, IsOpenedOver};
+
 use desk::Seating;
 use named::Broker;
 use session::Session;
@@ -7,17 +12,30 @@ use std::alloc::Global;
 use words::Refusal;
 use workers::{Naming, Opened, Shared};
 
-/// A session over the broker, for connections to share.
-pub(crate) fn shareable(alloc: Global, broker: Broker) -> Result<Opened, Refusal> {
-    Opened::new(alloc, Session::open(broker)).map_err(|not| not.refusal)
+/// A session over the broker, for connections to share. It is refused where a call or a creation is under way (Busy),
+/// and for want of memory (NoMemory).
+pub(crate) fn shareable(alloc: Global, broker: Broker) -> Result<Opened, Refusal>
+    requires { IsUncalled broker }
+    ensures opened { IfOk result (λ opened. IsOpenedOver broker opened.session) }
+    ensures errors { IfErr result (λ e. (e ≡ Refusal.NoMemory) ⊎ ((e ≡ Refusal.Busy) × IsInUse broker)) }
+{
+    match Opened::new(alloc, Session::open(broker)) {
+        Ok(opened) => Ok(opened),
+        Err(not) => Err(not.refusal),
+    }
 }
 
-/// The image of the broker that connections shared, once they have all ended.
+/// The image of the broker that connections shared, once they have all ended. It is refused for want of memory
+/// (NoMemory), and where a seat is in use (Busy), which is so of none then.
 pub(crate) fn image_left<J: Naming>(
     alloc: Global,
     shared: Shared<J>,
     seats: Seating<J>,
-) -> Result<Vec<u8>, Refusal> {
+) -> Result<Vec<u8>, Refusal>
+    ensures image { IfOk result (λ bytes. IsImageAfter J.first bytes.items) }
+    ensures errors { IfErr result IsBusyOrNoMemory }
+{
     let seats = seats.into_seats(alloc)?;
-    shared.close(seats).broker().to_image()
+    let session = shared.close(seats);
+    session.broker().to_image()
 }

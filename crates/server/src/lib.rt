@@ -4,11 +4,11 @@
 mod connections;
 mod ending;
 mod json_lines;
-mod net;
+mod listening;
 mod opening;
-mod pipe;
+mod piping;
 
 pub use json_lines::JsonLines;
-pub use net::net;
+pub use listening::net;
 pub use opening::opened;
-pub use pipe::pipe;
+pub use piping::pipe;

@@ -1,0 +1,35 @@
+-- What is left of a broker that was served.
+use Rattle.std.specs.Prelude.{◌≡◌, ◌⊎◌, ℕ, List, Result, Ok}
+use Rattle.words.specs.declared.refusal.Refusal.{Refusal}
+use Rattle.words.specs.declared.refusal.Refusal.TheVariants.{Busy, NoMemory}
+use Rattle.persist.specs.Image.{image_of, reading}
+use Rattle.named.specs.Booting.{AreBootWords}
+use Rattle.named.specs.Brokers.{Brokered}
+use Rattle.session.specs.Keeping.{AreKeptAsHeard, SessionGoesOn}
+use Rattle.session.specs.Promises.{KeepsNumbers}
+use Rattle.session.specs.Sessions.{Sessioned}
+
+-- the session over the broker as it begins: it keeps what each client was told
+pub record IsOpenedOver (broker : Brokered) (s : Sessioned) : Type 0 where
+  pub same : s.broker ≡ broker
+  pub kept : AreKeptAsHeard broker s.kept
+
+-- The bytes are the image of the kept words that the session came to; they are read as these words, which boot. What
+-- was settled as the session began is so still, and no number took effect twice.
+pub record IsImageAfter (first : Sessioned) (bytes : List ℕ) : Type 0 where
+  pub last : Sessioned
+  pub goes_on : SessionGoesOn first last
+  pub promises : KeepsNumbers last
+  pub image : bytes ≡ image_of last.broker.words.kept
+  pub read : reading bytes ≡ Ok last.broker.words.kept
+  pub boots : AreBootWords last.broker.words.kept
+
+-- the image that a broker leaves, which a session over it served
+pub record IsImageLeftBy (broker : Brokered) (bytes : List ℕ) : Type 0 where
+  pub first : Sessioned
+  pub opened : IsOpenedOver broker first
+  pub left : IsImageAfter first bytes
+
+-- why a broker is not served, or leaves no image: a call, a creation or a seat is in use, or there is no memory
+abbrev pub IsBusyOrNoMemory : Refusal → Type 0
+IsBusyOrNoMemory refusal = (refusal ≡ NoMemory) ⊎ (refusal ≡ Busy)
