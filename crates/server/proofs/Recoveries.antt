@@ -63,7 +63,7 @@ pub recovering_goes_on : (start old new : Brokered) (ready : Bool) → IsRecover
 recovering_goes_on start old new ready so_far step tells promises =
     let kept = step_keeps old new so_far.creation ready so_far.promises.well step in
     record {
-      steps = next so_far.steps step;
+      steps = next ready so_far.steps step;
       promises = promises;
       counts = kept.counts ∙ so_far.counts;
       directory = kept.directory ∙ so_far.directory;

@@ -173,7 +173,7 @@ module _ (old new : Brokered) (none : old.creation ≡ None) where
         where
           by_slot : (slot : ℕ) (w : State) → (slot ≡ at.0) ⊎ (slot ≡ at.0 → ⊥) → IsAsKept w (world_at old slot)
               → IsAsKept w (world_at new slot)
-          by_slot slot w (inr apart) is =
+          by_slot slot w (inr apart) = λ is.
               kept_if_quiet w (world_at old slot) (world_at new slot) (made.others slot apart) is
           by_slot slot w (inl same) =
               subst (λ (i : ℕ). IsAsKept w (world_at old i) → IsAsKept w (world_at new i)) (sym same)

@@ -22,7 +22,7 @@ use Rattle.named.specs.Telling.{IsToldAtReady}
 -- steps of recovery alone, none of them refused, lead from the one broker to the other
 pub data Recovers (old : Brokered) : Brokered → Type 0 where
   nothing : Recovers old old
-  next : {now new : Brokered} {ready : Bool} (so_far : Recovers old now)
+  next : {now new : Brokered} (ready : Bool) (so_far : Recovers old now)
       (step : IsRecoveryStep now new (Ok ready) now.recovery) → Recovers old new
 
 -- a queue that recovered on the kept words of its block: it holds what they hold, each client was told what they tell,

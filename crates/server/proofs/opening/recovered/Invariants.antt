@@ -5,8 +5,8 @@ use Rattle.server.proofs.Recoveries.{IsRecovering}
 use Rattle.server.proofs.opening.recovered.Given as goal
 
 -- the broker that began recovers
-abbrev pub invariant-loop : goal.invariant-loop
-invariant-loop l = record { so_far : IsRecovering l.initial.broker l.broker; down : is_down l.broker ≡ true }
+abbrev pub invariant-loop-broker : goal.invariant-loop-broker
+invariant-loop-broker l = record { so_far : IsRecovering l.initial.broker l.broker; down : is_down l.broker ≡ true }
 
-abbrev pub decreases-loop : goal.decreases-loop
-decreases-loop l = steps_left l.broker
+abbrev pub decreases-loop-broker : goal.decreases-loop-broker
+decreases-loop-broker l = steps_left l.broker
