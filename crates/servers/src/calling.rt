@@ -9,6 +9,7 @@ use std::net::{Net, OpenStream, SocketAddr, TcpListener, TcpStream};
 use std::process::Abort;
 use std::sync::Wait;
 use std::thread::Threads;
+use std::time::Clock;
 use words::Refusal;
 
 /// More than any reply has, with its newline.
@@ -75,7 +76,7 @@ impl<S: Read + Write + OpenStream + Drop> Caller<S> {
 }
 
 /// Serves a new broker to its stop, and answers the image.
-pub(crate) fn served<R: Threads + Wait + Net + Log + Sync>(
+pub(crate) fn served<R: Threads + Wait + Net + Clock + Log + Sync>(
     rt: &R,
     alloc: Global,
     clients: u32,
