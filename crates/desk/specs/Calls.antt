@@ -1,5 +1,5 @@
 -- What is answered to a put or a take, and what its seat's list has of it.
-use Rattle.std.specs.Prelude.{◌≡◌, ◌⊎◌, ◌×◌, ℕ, true, false, List, Option, MatchBool}
+use Rattle.std.specs.Prelude.{◌≡◌, ◌⊎◌, ℕ, true, false, List, Option, MatchBool}
 use Rattle.words.specs.declared.call.Call.{Call}
 use Rattle.words.specs.declared.refusal.Refusal.TheVariants.{Busy}
 use Rattle.arena.specs.declared.broker.SlotId.{SlotId}
@@ -13,11 +13,11 @@ use Rattle.workers.specs.declared.entry.End.{End}
 use Rattle.workers.specs.declared.entry.Entry.{Entry}
 
 -- what a connection is told of what its seat was answered
-abbrev pub answer_of : SeatAnswer → Answer
-answer_of (seat_reply reply) = Reply reply
-answer_of (seat_refused refusal) = Refused refusal
-answer_of seat_interrupted = Interrupted
-answer_of seat_unfinished = Unfinished
+abbrev pub answer_on_wire : SeatAnswer → Answer
+answer_on_wire (seat_reply reply) = Reply reply
+answer_on_wire (seat_refused refusal) = Refused refusal
+answer_on_wire seat_interrupted = Interrupted
+answer_on_wire seat_unfinished = Unfinished
 
 -- the open call has its end
 pub record HasEnded (old new : List Entry) : Type 0 where
@@ -37,7 +37,7 @@ pub record RemembersCall (old : List Entry) (number : Option ℕ) (call : Call) 
   pub is_settled : IsSettled old settled
   pub queue : SlotId
   pub given : SeatAnswer
-  pub is : answer ≡ answer_of given
+  pub is : answer ≡ answer_on_wire given
   pub remembers : Remembers settled queue number call given new
 
 -- the open call could not be finished for want of memory, and stays

@@ -1,3 +1,4 @@
 pub mod Seating
 pub mod Calls
 pub mod Requests
+pub mod Serving

@@ -1,15 +1,90 @@
 -- Which answers a request may have.
-use Rattle.std.specs.Prelude.{◌≡◌, ◌⊎◌, ◌×◌, ◌≤◌, ◌→◌, ℕ, true}
-use Rattle.words.specs.declared.refusal.Refusal.TheVariants.{AlreadyReady, NoClient, NoMemory, NotReady}
+use Rattle.std.specs.Prelude.{◌≤◌, ℕ, Bool, true, false, None, Some, Result, Ok, Err, ⊤}
+use Rattle.words.specs.declared.refusal.Refusal.{Refusal}
+use Rattle.words.specs.declared.refusal.Refusal.TheVariants.{AlreadyReady, BadName, NoMemory, NotReady}
 use Rattle.wire.specs.declared.answer.Answer.{Answer}
 use Rattle.wire.specs.declared.answer.Answer.TheVariants.{Crashed, Created, Interrupted, Queues, Ready, Refused, Reply, Stopping, Told as told_answer, Unfinished}
 use Rattle.wire.specs.declared.request.Request.{Request}
 use Rattle.wire.specs.declared.request.Request.TheVariants.{Create, Crash, List as list_request, Put, Recover, Stop, Take, Told}
 
--- what a put or a take may be answered
-abbrev pub MayAnswerCall : Answer → Type 0
-MayAnswerCall (Reply reply) = Unit {0}
-MayAnswerCall (Refused refusal) = Unit {0}
-MayAnswerCall Interrupted = Unit {0}
-MayAnswerCall Unfinished = Unit {0}
-MayAnswerCall answer = ⊥
+-- the answer where it was done, else the refusal
+abbrev pub answer_where_done : Result ⊤ Refusal → Answer → Answer
+answer_where_done (Ok done) answer = answer
+answer_where_done (Err refusal) answer = Refused refusal
+
+-- whether it was refused
+abbrev pub is_refusal : Answer → Bool
+is_refusal (Refused refusal) = true
+is_refusal _ = false
+
+-- whether it was refused as no name
+abbrev pub is_bad_name : Answer → Bool
+is_bad_name (Refused BadName) = true
+is_bad_name _ = false
+
+-- whether a creation may be answered so
+abbrev pub is_creation_answer : Answer → Bool
+is_creation_answer (Created slot) = true
+is_creation_answer Interrupted = true
+is_creation_answer (Refused refusal) = true
+is_creation_answer _ = false
+
+-- whether a list of the queues may be answered so
+abbrev pub is_list_answer : Answer → Bool
+is_list_answer (Queues places) = true
+is_list_answer (Refused NotReady) = true
+is_list_answer _ = false
+
+-- whether a put or a take may be answered so
+abbrev pub is_call_answer : Answer → Bool
+is_call_answer (Reply reply) = true
+is_call_answer Interrupted = true
+is_call_answer Unfinished = true
+is_call_answer (Refused refusal) = true
+is_call_answer _ = false
+
+-- whether what a client was last told may be answered so
+abbrev pub is_told_answer : Answer → Bool
+is_told_answer (told_answer told) = true
+is_told_answer (Refused refusal) = true
+is_told_answer _ = false
+
+-- whether a crash may be answered so
+abbrev pub is_crash_answer : Answer → Bool
+is_crash_answer Crashed = true
+is_crash_answer (Refused NoMemory) = true
+is_crash_answer _ = false
+
+-- whether a recovery may be answered so
+abbrev pub is_recovery_answer : Answer → Bool
+is_recovery_answer Ready = true
+is_recovery_answer (Refused AlreadyReady) = true
+is_recovery_answer (Refused NoMemory) = true
+is_recovery_answer _ = false
+
+-- whether a stop may be answered so
+abbrev pub is_stop_answer : Answer → Bool
+is_stop_answer Stopping = true
+is_stop_answer _ = false
+
+-- whether the request may be answered so; where a queue has no name, it is refused
+abbrev pub is_answer_to : Request → Answer → Bool
+is_answer_to (Create None kind) answer = is_bad_name answer
+is_answer_to (Create (Some name) kind) answer = is_creation_answer answer
+is_answer_to list_request answer = is_list_answer answer
+is_answer_to (Put client None value number) answer = is_refusal answer
+is_answer_to (Put client (Some name) value number) answer = is_call_answer answer
+is_answer_to (Take client None number) answer = is_refusal answer
+is_answer_to (Take client (Some name) number) answer = is_call_answer answer
+is_answer_to (Told client None) answer = is_refusal answer
+is_answer_to (Told client (Some name)) answer = is_told_answer answer
+is_answer_to Crash answer = is_crash_answer answer
+is_answer_to Recover answer = is_recovery_answer answer
+is_answer_to Stop answer = is_stop_answer answer
+
+-- the request names a client that there is not, where there are so many clients
+abbrev pub NamesNoClient : ℕ → Request → Type 0
+NamesNoClient clients (Put client queue value number) = clients ≤ client
+NamesNoClient clients (Take client queue number) = clients ≤ client
+NamesNoClient clients (Told client queue) = clients ≤ client
+NamesNoClient clients _ = ⊥

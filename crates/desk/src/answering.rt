@@ -1,23 +1,23 @@
 //! What each request is answered.
 
-ghost use Rattle.std.specs.Prelude.{◌≡◌};
-ghost use Rattle.desk.specs.Requests.{MayAnswer};
+ghost use Rattle.std.specs.Prelude.{◌≡◌, ◌≤◌, IsErr, IsNone, IsTrue};
+ghost use Rattle.desk.specs.Requests.{answer_where_done, is_answer_to, is_call_answer, is_creation_answer};
+ghost use Rattle.desk.specs.Requests.{is_list_answer, is_refusal, NamesNoClient};
+ghost use Rattle.wire.specs.declared.answer.Answer.{Answer as AnyAnswer};
 
 use crate::calls::{Asked, call_at_seat, slot_of};
 use crate::seating::Seating;
 use directory::Name;
 use std::sync::Wait;
 use wire::{Answer, Request};
-use words::{Call, Client, Kind, Refusal};
+use words::{Call, Kind, Refusal, Told};
 use workers::{Created, Naming, Shared};
 
 /// What a connection is told of a queue to be created.
-fn create<J: Naming, R: Wait>(
-    rt: &R,
-    shared: &Shared<J>,
-    queue: Option<Name>,
-    kind: Kind,
-) -> Answer {
+fn create<J: Naming, R: Wait>(rt: &R, shared: &Shared<J>, queue: Option<Name>, kind: Kind) -> Answer
+    ensures fits { IsTrue (is_creation_answer result) }
+    ensures nameless { IsNone queue → result ≡ AnyAnswer.Refused Refusal.BadName }
+{
     let Some(name) = queue else {
         return Answer::Refused(Refusal::BadName);
     };
@@ -29,7 +29,9 @@ fn create<J: Naming, R: Wait>(
 }
 
 /// All queues.
-fn list<J: Naming, R: Wait>(rt: &R, shared: &Shared<J>) -> Answer {
+fn list<J: Naming, R: Wait>(rt: &R, shared: &Shared<J>) -> Answer
+    ensures { IsTrue (is_list_answer result) }
+{
     match shared.list(rt) {
         Ok(places) => Answer::Queues(places),
         Err(refusal) => Answer::Refused(refusal),
@@ -42,13 +44,17 @@ fn call<J: Naming, R: Wait>(
     rt: &R,
     shared: &Shared<J>,
     seats: &Seating<J>,
-    client: u64,
+    number: u64,
     asked: Asked,
-) -> Answer {
-    if !seats.has_client(client) {
+) -> Answer
+    ensures fits { IsTrue (is_call_answer result) }
+    ensures nameless { IsNone asked.queue → IsTrue (is_refusal result) }
+    ensures client { J.clients ≤ number → result ≡ AnyAnswer.Refused Refusal.NoClient }
+{
+    let Some(client) = seats.client(number) else {
         return Answer::Refused(Refusal::NoClient);
-    }
-    let Some(seat) = seats.take(rt, Client(client as u8)) else {
+    };
+    let Some(seat) = seats.take(rt, client) else {
         return Answer::Refused(Refusal::Busy);
     };
     let (seat, answer) = call_at_seat(rt, shared, seat, asked);
@@ -62,25 +68,23 @@ fn told<J: Naming, R: Wait>(
     rt: &R,
     shared: &Shared<J>,
     seats: &Seating<J>,
-    client: u64,
+    number: u64,
     queue: Option<Name>,
-) -> Answer {
-    if !seats.has_client(client) {
-        return Answer::Refused(Refusal::NoClient);
-    }
-    let told = slot_of(rt, shared, queue).and_then(|slot| shared.told(
-        rt,
-        Client(client as u8),
-        slot,
-    ));
-    match told {
-        Ok(told) => Answer::Told(told),
-        Err(refusal) => Answer::Refused(refusal),
-    }
+) -> Result<Told, Refusal>
+    ensures client { J.clients ≤ number → result ≡ Err Refusal.NoClient }
+    ensures nameless { IsNone queue → IsErr result }
+{
+    let Some(client) = seats.client(number) else {
+        return Err(Refusal::NoClient);
+    };
+    let slot = slot_of(rt, shared, queue)?;
+    shared.told(rt, client, slot)
 }
 
 /// The answer, where what was asked for was done.
-fn done(outcome: Result<(), Refusal>, answer: Answer) -> Answer {
+fn done(outcome: Result<(), Refusal>, answer: Answer) -> Answer
+    ensures { result ≡ answer_where_done outcome answer }
+{
     match outcome {
         Ok(()) => answer,
         Err(refusal) => Answer::Refused(refusal),
@@ -93,7 +97,10 @@ pub(crate) fn answer_to<J: Naming, R: Wait>(
     shared: &Shared<J>,
     seats: &Seating<J>,
     request: Request,
-) -> Answer {
+) -> Answer
+    ensures fits { IsTrue (is_answer_to request result) }
+    ensures client { NamesNoClient J.clients request → result ≡ AnyAnswer.Refused Refusal.NoClient }
+{
     match request {
         Request::Create { queue, kind } => create(rt, shared, queue, kind),
         Request::List => list(rt, shared),
@@ -124,7 +131,10 @@ pub(crate) fn answer_to<J: Naming, R: Wait>(
             };
             self::call(rt, shared, seats, client, asked)
         }
-        Request::Told { client, queue } => told(rt, shared, seats, client, queue),
+        Request::Told { client, queue } => match told(rt, shared, seats, client, queue) {
+            Ok(told) => Answer::Told(told),
+            Err(refusal) => Answer::Refused(refusal),
+        },
         Request::Crash => done(shared.crash(rt), Answer::Crashed),
         Request::Recover => done(shared.recover(rt), Answer::Ready),
         Request::Stop => Answer::Stopping,

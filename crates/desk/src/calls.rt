@@ -1,7 +1,8 @@
 //! Puts and takes, each with its client's seat.
 
-ghost use Rattle.std.specs.Prelude.{◌≡◌, false, IfErr, OnErr, OnOk, true};
-ghost use Rattle.desk.specs.Calls.{answer_of, AnswersCall, IsSettled};
+ghost use Rattle.std.specs.Prelude.{◌≡◌, ◌⊎◌, IfErr, IsErr, IsNone, IsTrue, OnErr, OnOk, true};
+ghost use Rattle.desk.specs.Calls.{answer_on_wire, AnswersCall, IsSettled};
+ghost use Rattle.desk.specs.Requests.{is_refusal};
 ghost use Rattle.workers.specs.Lists.{ends_open};
 
 use arena::SlotId;
@@ -21,8 +22,8 @@ pub struct Asked {
 }
 
 /// What a connection is told of what its seat was answered.
-fn told_of(answer: workers::Answer) -> Answer
-    ensures { result ≡ answer_of answer }
+fn on_wire(answer: workers::Answer) -> Answer
+    ensures { result ≡ answer_on_wire answer }
 {
     match answer {
         workers::Answer::Reply(reply) => Answer::Reply(reply),
@@ -38,7 +39,10 @@ pub(crate) fn slot_of<J: Naming, R: Wait>(
     rt: &R,
     shared: &Shared<J>,
     queue: Option<Name>,
-) -> Result<SlotId, Refusal> {
+) -> Result<SlotId, Refusal>
+    ensures errors { IfErr result (λ e. (e ≡ Refusal.NotReady) ⊎ (e ≡ Refusal.NoQueue)) }
+    ensures nameless { IsNone queue → IsErr result }
+{
     let Some(name) = queue else {
         // A queue of no name is not there, which is said once the broker is ready.
         shared.list(rt)?;
@@ -81,6 +85,7 @@ pub fn call_at_seat<J: Naming, R: Wait>(
 ) -> (Seat<J>, Answer)
     ensures client { result.0.client ≡ seat.client }
     ensures entry { AnswersCall seat.list.items asked.number asked.call result.1 result.0.list.items }
+    ensures nameless { IsNone asked.queue → IsTrue (is_refusal result.1) }
 {
     let (seat, finished) = settled(rt, shared, seat);
     if let Err(refusal) = finished {
@@ -91,5 +96,5 @@ pub fn call_at_seat<J: Naming, R: Wait>(
         Err(refusal) => return (seat, Answer::Refused(refusal)),
     };
     let (seat, answer) = shared.call(rt, seat, queue, asked.number, asked.call, &OpenGate);
-    (seat, told_of(answer))
+    (seat, on_wire(answer))
 }

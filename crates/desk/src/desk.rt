@@ -1,6 +1,7 @@
 //! The desk of a connection.
 
 ghost use Rattle.std.specs.Prelude.{◌≡◌, []};
+ghost use Rattle.desk.specs.Serving.{has_stopped, AreAnswered};
 
 use crate::answering::answer_to;
 use crate::seating::Seating;
@@ -18,6 +19,7 @@ pub struct BrokerDesk<'a, J: Naming> {
     seats: &'a Seating<J>,
     /// The requests that were made, with their answers, in order.
     pub served: Vec<(Request, Answer)>,
+    pub ghost answered: { AreAnswered J.clients served.items },
 }
 
 impl<'a, J: Naming> BrokerDesk<'a, J> {
@@ -33,7 +35,9 @@ impl<'a, J: Naming> BrokerDesk<'a, J> {
     }
 
     /// Whether it has accepted a stop, after which nothing is served.
-    pub fn is_stopped(&self) -> bool {
+    pub fn is_stopped(&self) -> bool
+        ensures { result ≡ has_stopped self.now.served.items }
+    {
         matches!(self.served.last(), Some((_, Answer::Stopping)))
     }
 }

@@ -1,11 +1,10 @@
 //! Seats that no connection is using.
 
-ghost use Rattle.std.specs.Prelude.{◌≡◌, ◌⊎◌, IfErr, IfOk, IfSome};
+ghost use Rattle.std.specs.Prelude.{◌≡◌, ◌≤◌, ◌↔◌, ◌⊎◌, IfErr, IfOk, IfSome, IsNone, slice_index_or, slice_set};
 ghost use Rattle.workers.specs.Seats.{AreAllInOrder};
 ghost use Rattle.desk.specs.Seating.{AreInPlaces};
 
 use std::alloc::Global;
-use std::marker::Model;
 use std::sync::{Mutex, Wait};
 use words::{Client, Refusal};
 use workers::{Naming, Seat};
@@ -14,23 +13,15 @@ use workers::{Naming, Seat};
 #[derive(Drop)]
 struct Places<J: Naming> {
     seats: Vec<Option<Seat<J>>>,
-}
-
-impl<J: Naming> Model for Places<J> {
-    ghost use Rattle.std.specs.Prelude.{ℕ, length};
-    ghost use Rattle.desk.specs.Seating.{AreInPlaces};
-
-    ghost Value = { ℕ };
-
-    ghost view = { λ places. length places.seats.items };
-
-    ghost invariant = { λ places. AreInPlaces (λ seat. seat.client) J.clients places.seats.items };
+    ghost in_places: { AreInPlaces (λ seat. seat.client) J.clients seats.items },
 }
 
 impl<J: Naming> Places<J> {
     /// The client's seat, if it is there.
     fn take(&mut self, client: Client) -> Option<Seat<J>>
-        ensures { IfSome result (λ seat. seat.client ≡ client) }
+        ensures client { IfSome result (λ seat. seat.client ≡ client) }
+        ensures taken { result ≡ slice_index_or self.old.seats.items client.0 None }
+        ensures left { self.new.seats.items ≡ slice_set self.old.seats.items client.0 None }
     {
         let place = client.0 as usize;
         if place >= self.seats.len() {
@@ -40,7 +31,9 @@ impl<J: Naming> Places<J> {
     }
 
     /// Puts a seat in its client's place.
-    fn put(&mut self, seat: Seat<J>) {
+    fn put(&mut self, seat: Seat<J>)
+        ensures { self.new.seats.items ≡ slice_set self.old.seats.items seat.client.0 (Some seat) }
+    {
         let place = seat.client.0 as usize;
         if place < self.seats.len() {
             self.seats[place] = Some(seat);
@@ -74,6 +67,7 @@ pub struct Seating<J: Naming> {
     /// This lock and the broker's are never held together.
     places: Mutex<Places<J>>,
     ghost all: { clients ≡ J.clients },
+    ghost numbered: { clients ≤ 256 },
 }
 
 impl<J: Naming> Seating<J> {
@@ -86,17 +80,24 @@ impl<J: Naming> Seating<J> {
         if places.reserve(seats.len()).is_err() {
             return Err(Refusal::NoMemory);
         }
-        let clients = seats.len() as u64;
+        let mut clients = 0;
         for seat in seats {
+            clients = u64::from(seat.client.0) + 1;
             places.push_reserved(Some(seat));
         }
         let places = Mutex::new(Places { seats: places });
         Ok(Seating { clients, places })
     }
 
-    /// Whether there is such a client.
-    pub(crate) fn has_client(&self, client: u64) -> bool {
-        client < self.clients
+    /// The client of this number, if there is one.
+    pub(crate) fn client(&self, number: u64) -> Option<Client>
+        ensures number { IfSome result (λ client. client.0 ≡ number) }
+        ensures none { IsNone result ↔ (J.clients ≤ number) }
+    {
+        if number >= self.clients {
+            return None;
+        }
+        Some(Client(number as u8))
     }
 
     /// The client's seat, unless another connection is using it.
