@@ -1,5 +1,8 @@
 //! Requests played through a pipe, and their replies compared to the letter.
 
+ghost use Rattle.std.specs.Prelude.{IfOk};
+ghost use Rattle.session.specs.Sessions.{IsUncalled};
+
 use devices::{FaultyReader, FaultyWriter};
 use named::Broker;
 use server::{opened, pipe};
@@ -13,12 +16,16 @@ use words::Refusal;
 pub(crate) type Row = (&'static str, &'static str);
 
 /// A new broker with so many clients and records.
-pub(crate) fn fresh(alloc: Global, clients: u32, records: u32) -> Result<Broker, Refusal> {
+pub(crate) fn fresh(alloc: Global, clients: u32, records: u32) -> Result<Broker, Refusal>
+    ensures { IfOk result IsUncalled }
+{
     opened(alloc, clients, records, None)
 }
 
 /// The broker that an image keeps, after recovery. It has the image's clients and records.
-pub(crate) fn booted(alloc: Global, image: &[u8]) -> Result<Broker, Refusal> {
+pub(crate) fn booted(alloc: Global, image: &[u8]) -> Result<Broker, Refusal>
+    ensures { IfOk result IsUncalled }
+{
     opened(alloc, 16, 4_096, Some(image))
 }
 
@@ -42,7 +49,9 @@ pub(crate) fn piped<T: Wait>(
     alloc: Global,
     broker: Broker,
     input: &[u8],
-) -> Result<Output, Fail> {
+) -> Result<Output, Fail>
+    requires { IsUncalled broker }
+{
     let mut reader = FaultyReader::new(input, usize::MAX);
     let mut writer = FaultyWriter::new(alloc, usize::MAX);
     let image = pipe(rt, alloc, broker, &mut reader, &mut writer)?;
@@ -81,7 +90,9 @@ pub(crate) fn played<T: Wait + Abort>(
     alloc: Global,
     broker: Broker,
     rows: &[Row],
-) -> Result<Vec<u8>, Fail> {
+) -> Result<Vec<u8>, Fail>
+    requires { IsUncalled broker }
+{
     let mut input = Vec::new(alloc);
     for (request, _) in rows {
         append_line(&mut input, request.as_bytes())?;
