@@ -42,10 +42,9 @@ has_bytes() {
 
 # Command lines. Those with a fault write to standard error alone, and end with status 2.
 try help 0 --help < /dev/null
-try help-command 0 help < /dev/null
+try short-help 0 -h < /dev/null
 try pipe-help 0 pipe --help < /dev/null
 try serve-help 0 serve --help < /dev/null
-try version 0 --version < /dev/null
 bad_option() {
     local status=0
     "$pqd" "$@" < /dev/null > "$work/out" 2> "$work/err" || status=$?
@@ -55,6 +54,8 @@ bad_option() {
 bad_option
 bad_option ''
 bad_option walk
+bad_option help
+bad_option --version
 bad_option --clients 1 pipe
 bad_option pipe word
 bad_option pipe --walk
@@ -155,19 +156,20 @@ failing_output 'help to a full output' "$status"
 
 # Begins to serve with these options, and waits for the line that says at which port.
 serve() {
-    : > "$work/out"
-    "$pqd" serve --port 0 "$@" < /dev/null > "$work/out" 2> "$work/err" &
+    : > "$work/said"
+    "$pqd" serve --port 0 "$@" < /dev/null > "$work/said" 2> "$work/warned" &
     server=$!
     port=
     for ((turn = 0; turn < 1000 && ${#port} == 0; turn++)); do
         sleep 0.01
-        port=$(sed -n 's/^listening 127\.0\.0\.1:\([1-9][0-9]*\)$/\1/p' "$work/out")
+        port=$(sed -n 's/^listening 127\.0\.0\.1:\([1-9][0-9]*\)$/\1/p' "$work/said")
     done
     [ -n "$port" ] || judge "serve $*" 'it does not say where it listens'
     printf 'listening 127.0.0.1:%s\n' "$port" > "$work/listening"
 }
 
-# Waits for the end of serving, for ten seconds at most; it is to be of this status: NAME STATUS.
+# Waits for the end of serving, for ten seconds at most; it is to be of this status, with this file of standard error:
+# NAME STATUS ERR-WANTED.
 ends() {
     local status=0
     for ((turn = 0; turn < 1000; turn++)); do
@@ -178,7 +180,9 @@ ends() {
         judge "$1" 'it did not end in time'
     fi
     wait "$server" || status=$?
-    compare "$1" "$2" "$status" "$work/listening" /dev/null
+    cp "$work/said" "$work/out"
+    cp "$work/warned" "$work/err"
+    compare "$1" "$2" "$status" "$work/listening" "$3"
 }
 
 # Sends the file of requests over a connection of its own, and compares the replies: NAME.
@@ -205,12 +209,12 @@ serve --clients 1 --records 2 --image "$image"
 over_connection first-run
 [ ! -e "$image" ] || judge 'serve' 'an image was written before the stop'
 stop
-ends 'serve to a stop' 0
+ends 'serve to a stop' 0 /dev/null
 cmp -s "$image" "$work/first" || judge 'serve' 'the image is another one than that of a pipe'
 serve --image "$image" --workers 1
 over_connection second-run
 stop
-ends 'serve again' 0
+ends 'serve again' 0 /dev/null
 try third-run 0 pipe --image "$image" < tests/pqd/third-run.in
 
 # A connection over which nothing comes holds up no other one, but the end: the image is written once it has ended.
@@ -223,7 +227,7 @@ sleep 0.2
 kill -0 "$server" 2> /dev/null || judge 'an open connection' 'it ended before'
 [ ! -e "$image" ] || judge 'an open connection' 'the image was written before'
 exec 4>&-
-ends 'serve with an open connection' 0
+ends 'serve with an open connection' 0 /dev/null
 cmp -s "$image" "$work/first" || judge 'an open connection' 'the image is another one than that of a pipe'
 
 # A connection that ends in the middle of a line, or without reading its replies, ends alone. What is said of it on
@@ -239,24 +243,20 @@ for ((turn = 0; turn < 20; turn++)); do
 done
 over_connection first-run
 stop
-[ "$(wc -l < "$work/err")" -le 40 ] || judge 'broken connections' 'more than a line for each on standard error'
-cp "$work/err" "$work/warned"
-: > "$work/err"
-ends 'serve broken connections' 0
+ends 'serve broken connections' 0 "$work/warned"
+[ "$(wc -l < "$work/warned")" -le 40 ] || judge 'broken connections' 'more than a line for each on standard error'
 
 # A port that is in use, and an image that cannot be begun on, which is found first.
 serve
 fault 'a port in use' 'listen failed' serve --port "$port" < /dev/null
 fault 'a folder before a port in use' '26 ReadFailed' serve --port "$port" --image tests < /dev/null
 stop
-ends 'serve without an image' 0
+ends 'serve without an image' 0 /dev/null
 
 # An image that cannot be written at the stop.
 serve --image "$work/none/image"
 stop
-status=0
-wait "$server" || status=$?
 printf 'pqd: 27 WriteFailed\n' > "$work/wanted"
-compare 'serve to no folder' 1 "$status" "$work/listening" "$work/wanted"
+ends 'serve to no folder' 1 "$work/wanted"
 
 count
