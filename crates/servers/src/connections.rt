@@ -118,8 +118,8 @@ fn a_connection_that_breaks_ends_alone(rt: HostRuntime) -> Result<(), Fail> {
 
 /// A connection that is still open when another one accepts a stop is served until it ends.
 fn open_at_the_stop<R: Net + Abort>(rt: &R, alloc: Global, address: SocketAddr) {
-    let mut open = called(rt, alloc, address);
-    assert!(rt; open.is_replied(CREATE, CREATED), "a creation");
+    let mut other = called(rt, alloc, address);
+    assert!(rt; other.is_replied(CREATE, CREATED), "a creation");
     let mut stopping = called(rt, alloc, address);
     assert!(rt; stopping.is_replied(STOP, STOPPING), "a stop");
     // Its connection is ended by the server.
@@ -128,7 +128,7 @@ fn open_at_the_stop<R: Net + Abort>(rt: &R, alloc: Global, address: SocketAddr) 
         "more than a stop"
     );
     let put = br#"{"op":"put","client":0,"queue":"a","number":1,"value":5}"#;
-    assert!(rt; open.is_replied(put, DONE), "a put after the stop");
+    assert!(rt; other.is_replied(put, DONE), "a put after the stop");
 }
 
 #[test]
