@@ -1,0 +1,4 @@
+pub mod Refused
+pub mod StepsKeep
+pub mod Recoveries
+pub mod Lines

@@ -1,36 +1,56 @@
 //! How a broker begins to serve.
 
-ghost use Rattle.std.specs.Prelude.{◌≡◌, IfOk, None};
+ghost use Rattle.std.specs.Prelude.{◌≡◌, ◌⊎◌, ◌<◌, ◌↔◌, Err, IfErr, IfNone, IfOk, IfSome, OnOk};
+ghost use Rattle.persist.specs.Image.{reading};
+ghost use Rattle.arena.specs.Limits.{AreCounts};
+ghost use Rattle.named.specs.Booting.{MayRefuse};
+ghost use Rattle.named.specs.Brokers.{IsNew};
+ghost use Rattle.named.specs.Promises.{KeepsPromises};
 ghost use Rattle.session.specs.Sessions.{IsUncalled};
+ghost use Rattle.server.specs.Opening.{IsOpened, IsOpenedFrom, IsWhyUnopened};
 
 use named::Broker;
 use persist::Memory;
 use std::alloc::Global;
-use words::Refusal;
+use words::{MAX_CLIENTS, Refusal};
 
-/// Recovers the broker, until it is ready.
-fn recover(broker: &mut Broker) -> Result<(), Refusal> {
-    for _ in 0..u64::MAX {
-        if broker.recover_step()? {
-            return Ok(());
-        }
-    }
-    unreachable!()
+/// The broker that a memory keeps, once it has recovered. It is refused as [`Broker::boot`] is, and recovery for want
+/// of memory alone (NoMemory).
+fn recovered(alloc: Global, memory: Memory) -> Result<Broker, Refusal>
+    ensures opened { IfOk result (IsOpened memory) }
+    ensures errors { IfErr result (MayRefuse memory.kept) }
+    ensures uncalled { IfOk result IsUncalled }
+    ensures promises { IfOk result KeepsPromises }
+{
+    let mut broker = Broker::boot(alloc, memory)?;
+    while !broker.recover_step()? {}
+    Ok(broker)
 }
 
 /// A broker with so many clients and records of each of them in each queue; or, where there is an image, the broker
-/// that the image keeps, which has as many as the image says, once it has recovered.
+/// that the image keeps, which has as many as the image says, once it has recovered. A new one is refused as
+/// [`Broker::make`] says. An image is refused, in this order, where the bytes are none (as [`Memory::from_image`] says),
+/// where its words break a rule (Damaged), and for want of memory (NoMemory).
 pub fn opened(
     alloc: Global,
     clients: u32,
     records: u32,
     image: Option<&[u8]>,
-) -> Result<Broker, Refusal> {
+) -> Result<Broker, Refusal>
+    ensures made { IfNone image.entry (IfOk result (IsNew (record { clients = clients; records = records }))) }
+    ensures counts { IfNone image.entry (OnOk result (AreCounts clients records)) }
+    ensures bad_clients { IfNone image.entry
+        (result ≡ Err Refusal.BadClients ↔ ((clients ≡ 0) ⊎ (MAX_CLIENTS < clients))) }
+    ensures unmade { IfNone image.entry
+        (IfErr result (λ e. (e ≡ Refusal.NoMemory) ⊎ (AreCounts clients records → ⊥))) }
+    ensures opened { IfSome image.entry (λ bytes. IfOk result (IsOpenedFrom bytes.now)) }
+    ensures unopened { IfSome image.entry (λ bytes. IfErr result (IsWhyUnopened (reading bytes.now))) }
+    ensures uncalled { IfOk result IsUncalled }
+    ensures promises { IfOk result KeepsPromises }
+{
     let Some(bytes) = image else {
         return Broker::make(alloc, clients, records);
     };
     let memory = Memory::from_image(alloc, bytes)?;
-    let mut broker = Broker::boot(alloc, memory)?;
-    recover(&mut broker)?;
-    Ok(broker)
+    recovered(alloc, memory)
 }

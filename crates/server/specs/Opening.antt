@@ -1,0 +1,62 @@
+-- How a broker begins to serve on the words that an image keeps.
+use Rattle.std.specs.Prelude.{◌≡◌, ◌⊎◌, ℕ, Bool, List, [], Option, Some, None, Result, Ok, Err}
+use Rattle.words.specs.declared.refusal.Refusal.{Refusal}
+use Rattle.words.specs.declared.refusal.Refusal.TheVariants.{NoMemory}
+use Rattle.persist.specs.Image.{reading}
+use Rattle.persist.specs.Memory.{Words, words_at_rest}
+use Rattle.arena.specs.Content.{kept_content as content_of}
+use Rattle.arena.specs.Shape.{Shape, shape_of}
+use Rattle.directory.specs.Directory.{HasQueue}
+use Rattle.directory.specs.Queue.{directory_of}
+use Rattle.directory.specs.Sound.{counts_in}
+use Rattle.directory.specs.declared.queue.Queue.{Queue}
+use Rattle.recover.specs.Told.{tells_by}
+use Rattle.interleave.specs.Queue.{told_in}
+use Rattle.interleave.specs.State.{State, kept_content, order_in}
+use Rattle.interleave.specs.Values.{value_of_place}
+use Rattle.named.specs.Booting.{AreBootWords, IsBooted, MayRefuse, kept_block}
+use Rattle.named.specs.Brokers.{Brokered, world_at}
+use Rattle.named.specs.Stopping.{IsRecoveryStep}
+use Rattle.named.specs.Telling.{IsToldAtReady}
+
+-- steps of recovery alone, none of them refused, lead from the one broker to the other
+pub data Recovers (old : Brokered) : Brokered → Type 0 where
+  nothing : Recovers old old
+  next : {now new : Brokered} (ready : Bool) (so_far : Recovers old now)
+      (step : IsRecoveryStep now new (Ok ready) now.recovery) → Recovers old new
+
+-- a queue that recovered on the kept words of its block: it holds what they hold, each client was told what they tell,
+-- and no call took effect yet
+pub record IsQueueOpened (s : Shape) (kept : List ℕ) (now : Option State) : Type 0 where
+  pub world : State
+  pub is : now ≡ Some world
+  pub shape : world.shape ≡ s
+  pub holds : kept_content world ≡ content_of s (value_of_place s kept)
+  pub told : told_in world.queue ≡ tells_by s (value_of_place s kept)
+  pub at_ready : IsToldAtReady world
+  pub none_yet : order_in world ≡ []
+
+-- the broker that began on these words, and is ready: it has their counts and the queues of their directory
+pub record IsOpened (ws : Words) (b : Brokered) : Type 0 where
+  pub sound : AreBootWords ws.kept
+  pub start : Brokered
+  pub booted : IsBooted ws start
+  pub steps : Recovers start b
+  pub ready : b.recovery ≡ None
+  pub counts : b.counts ≡ counts_in ws.kept
+  pub directory : b.directory ≡ directory_of ws.kept
+  pub queues : (slot : ℕ) (queue : Queue) → HasQueue (directory_of ws.kept) slot queue
+      → IsQueueOpened (shape_of queue.kind (counts_in ws.kept)) (kept_block (counts_in ws.kept) slot ws.kept)
+      (world_at b slot)
+
+-- the broker that an image keeps
+pub record IsOpenedFrom (image : List ℕ) (b : Brokered) : Type 0 where
+  pub words : List ℕ
+  pub read : reading image ≡ Ok words
+  pub opened : IsOpened (words_at_rest words) b
+
+-- why an image is refused, by what it is read as: its fault; or, where it has none, want of memory, or what is wrong
+-- with its words
+abbrev pub IsWhyUnopened : Result (List ℕ) Refusal → Refusal → Type 0
+IsWhyUnopened (Err fault) refusal = refusal ≡ fault
+IsWhyUnopened (Ok words) refusal = (refusal ≡ NoMemory) ⊎ MayRefuse words refusal

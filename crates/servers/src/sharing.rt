@@ -1,0 +1,152 @@
+//! Connections that use one client's seat at the same time.
+
+ghost use Rattle.std.specs.Prelude.{◌≡◌};
+ghost use Rattle.workers.specs.Opening.{IsNameOf};
+
+use crate::playing::fresh;
+use crate::waiting::{TURNS, rest};
+use desk::{BrokerDesk, Seating};
+use directory::Name;
+use engine::Desk;
+use session::Session;
+use std::alloc::Global;
+use std::marker::Brand;
+use std::process::Abort;
+use std::sync::Wait;
+use std::sync::atomic::{AtomicU64, Ordering};
+use std::test::*;
+use std::thread::{Threads, map_indices};
+use std::time::Clock;
+use wire::{Answer, Request};
+use words::{Kind, Refusal, Reply};
+use workers::{Naming, Opened, Shared};
+
+/// How many connections there are.
+const CONNECTIONS: usize = 4;
+
+/// How many puts each makes, all of one client.
+const PUTS: u32 = 1_000;
+
+/// How many records the client has.
+const RECORDS: u32 = 4_096;
+
+/// How many connections are there, and how the puts of all were answered.
+#[derive(Drop)]
+struct Tally {
+    there: AtomicU64,
+    done: AtomicU64,
+    busy: AtomicU64,
+    other: AtomicU64,
+}
+
+/// Counts one more.
+fn count(word: &AtomicU64) {
+    word.fetch_add(1, Ordering::SeqCst);
+}
+
+/// Waits for the other connections, at most for the turns of a test.
+fn wait_for_all<C: Clock>(clock: &C, there: &AtomicU64) {
+    count(there);
+    for _ in 0..TURNS {
+        if there.load(Ordering::SeqCst) == CONNECTIONS as u64 {
+            return;
+        }
+        rest(clock, 1);
+    }
+}
+
+/// Puts values of client 0 in queue `a` over a connection of its own, once all connections are there.
+fn put_all<J: Naming, R: Wait + Clock>(
+    rt: &R,
+    alloc: Global,
+    shared: &Shared<J>,
+    seats: &Seating<J>,
+    tally: &Tally,
+) {
+    let mut desk = BrokerDesk::new(alloc, shared, seats);
+    wait_for_all(rt, &tally.there);
+    for value in 0..PUTS {
+        let put = Request::Put {
+            client: 0,
+            queue: Name::make(b"a").ok(),
+            value,
+            number: None,
+        };
+        match desk.answer(rt, put) {
+            Ok(Answer::Reply(Reply::Done)) => count(&tally.done),
+            Ok(Answer::Refused(Refusal::Busy)) => count(&tally.busy),
+            _ => count(&tally.other),
+        }
+    }
+}
+
+/// All connections put at once, and one of them then takes what is there: how many values these are.
+fn shared_by_all<J: Naming + Send + Sync, R: Threads + Wait + Clock + Abort + Sync>(
+    rt: &R,
+    alloc: Global,
+    opened: Opened,
+    tally: &Tally,
+) -> Result<u64, Fail>
+    requires { IsNameOf J.roll J.clients J.first opened }
+{
+    let (shared, seats) = match opened.named::<J>(alloc) {
+        Ok(named) => named,
+        Err(not) => return Err(Fail::new(not.refusal)),
+    };
+    let seats = Seating::new(alloc, seats)?;
+    let mut desk = BrokerDesk::new(alloc, &shared, &seats);
+    let create = Request::Create {
+        queue: Name::make(b"a").ok(),
+        kind: Kind::Durable,
+    };
+    assert!(rt; matches!(desk.answer(rt, create)?, Answer::Created(_)));
+    map_indices(
+        rt,
+        alloc,
+        CONNECTIONS,
+        &|_: usize| { put_all(rt, alloc, &shared, &seats, tally) },
+    )?;
+    taken(rt, &mut desk)
+}
+
+/// How many values client 1 takes until the queue is empty.
+fn taken<J: Naming, R: Wait>(rt: &R, desk: &mut BrokerDesk<'_, J>) -> Result<u64, Fail> {
+    for count in 0..=u64::from(RECORDS) {
+        let take = Request::Take {
+            client: 1,
+            queue: Name::make(b"a").ok(),
+            number: None,
+        };
+        match desk.answer(rt, take)? {
+            Answer::Reply(Reply::Got(_)) => {}
+            Answer::Reply(Reply::Empty) => return Ok(count),
+            _ => return Err(Fail::new("another answer")),
+        }
+    }
+    Err(Fail::new("more values than there may be"))
+}
+
+#[test]
+fn a_seat_is_used_by_one_connection_at_a_time(rt: HostRuntime) -> Result<(), Fail> {
+    let alloc = rt.alloc();
+    let tally = Tally {
+        there: AtomicU64::new(0),
+        done: AtomicU64::new(0),
+        busy: AtomicU64::new(0),
+        other: AtomicU64::new(0),
+    };
+    let session = Session::open(fresh(alloc, 2, RECORDS)?);
+    let Ok(opened) = Opened::new(alloc, session) else {
+        return Err(Fail::new("it is in use"));
+    };
+    let values = shared_by_all::<Brand, _>(&rt, alloc, opened, &tally)?;
+    let (done, busy) = (
+        tally.done.load(Ordering::SeqCst),
+        tally.busy.load(Ordering::SeqCst),
+    );
+    assert_eq!(rt; tally.other.load(Ordering::SeqCst), 0, "other answers");
+    assert_eq!(rt; done.saturating_add(busy), 4_000, "answers");
+    assert!(rt; done > 0 && busy > 0, "{done} done, {busy} busy");
+    assert_eq!(rt; values, done, "values");
+    Ok(())
+}
