@@ -1,0 +1,57 @@
+use Rattle.std.proofs.Common.{rules, ◌≡◌, Bool, true, false, is_none, is_some, Option, Err, IfErr, sym, ap, subst, ◌∙◌}
+use Rattle.words.specs.declared.refusal.Refusal.TheVariants.{NoMemory}
+use Rattle.named.specs.Booting.{MayRefuse}
+use Rattle.named.specs.declared.recovery.BrokerRecovery.{BrokerRecovery}
+use Rattle.server.proofs.Recoveries.{IsRecovering, answers_ready, none_left, opened_by, recovering_begins, recovering_goes_on, some_left}
+use Rattle.server.proofs.Refused.{refused_for_memory}
+use Rattle.server.proofs.opening.recovered.Goals as goal
+
+pub loop-broker-init : goal.loop-broker-init
+loop-broker-init c = record {
+  so_far =
+      recovering_begins c.args.memory c.in_ok-broker.broker c.in_ok-broker.ensures.promises
+      c.in_ok-broker.ensures.booted;
+  down = ap (λ (r : Option BrokerRecovery). is_some r) c.in_ok-broker.ensures.booted.recovery;
+}
+
+pub returns-in_err-recover_step-clause-errors : goal.returns-in_err-recover_step-clause-errors
+returns-in_err-recover_step-clause-errors c =
+    let refused : c.in_err-recover_step.field-0.0 ≡ NoMemory =
+    refused_for_memory c.loop-broker.broker c.recover_step.new.self c.in_err-recover_step.field-0.0
+    c.loop-broker.invariant.so_far.promises.well c.loop-broker.invariant.down c.in_err-recover_step.ensures.step in
+    let answer : c.from_residual-in_err-recover_step.result ≡ Err c.in_err-recover_step.field-0.0 = search rules in
+    subst (λ r. IfErr r (MayRefuse c.args.memory.kept)) (sym answer)
+    (subst (MayRefuse c.args.memory.kept) (sym refused) c.in_ok-broker.ensures.sound)
+
+pub loop-broker-preserved : goal.loop-broker-preserved
+loop-broker-preserved c =
+    let now = c.in_ok-recover_step in
+    let going : now.field-0 ≡ false = search rules in
+    record {
+      so_far =
+          recovering_goes_on c.in_ok-broker.broker c.loop-broker.broker c.recover_step.new.self now.field-0
+          c.loop-broker.invariant.so_far now.ensures.step now.ensures.told now.ensures.promises;
+      down =
+          some_left c.recover_step.new.self.recovery
+          (answers_ready c.loop-broker.broker c.recover_step.new.self now.field-0 now.ensures.step ∙ going);
+    }
+
+pub returns-clause-opened : goal.returns-clause-opened
+returns-clause-opened c =
+    let now = c.in_ok-recover_step in
+    let over : now.field-0 ≡ true = search rules in
+    let so_far : IsRecovering c.in_ok-broker.broker c.recover_step.new.self =
+    recovering_goes_on c.in_ok-broker.broker c.loop-broker.broker c.recover_step.new.self now.field-0
+    c.loop-broker.invariant.so_far now.ensures.step now.ensures.told now.ensures.promises in
+    opened_by c.args.memory c.in_ok-broker.broker c.recover_step.new.self c.in_ok-broker.ensures.sound
+    c.in_ok-broker.ensures.promises c.in_ok-broker.ensures.booted so_far
+    (none_left c.recover_step.new.self.recovery
+    (answers_ready c.loop-broker.broker c.recover_step.new.self now.field-0 now.ensures.step ∙ over))
+
+pub returns-clause-uncalled : goal.returns-clause-uncalled
+returns-clause-uncalled c =
+    let now = c.in_ok-recover_step in
+    let so_far : IsRecovering c.in_ok-broker.broker c.recover_step.new.self =
+    recovering_goes_on c.in_ok-broker.broker c.loop-broker.broker c.recover_step.new.self now.field-0
+    c.loop-broker.invariant.so_far now.ensures.step now.ensures.told now.ensures.promises in
+    so_far.uncalled
