@@ -13,7 +13,7 @@ use Rattle.directory.proofs.Kept.{directory_at}
 use Rattle.interleave.specs.Booted.{booted_world}
 use Rattle.interleave.specs.State.{State, recover_result}
 use Rattle.named.specs.Booting.{AreBootWords, IsBooted, kept_block, world_booted}
-use Rattle.named.specs.Brokers.{Brokered, IsWell, block_words, is_down, is_ready_at, world_at}
+use Rattle.named.specs.Brokers.{Brokered, IsWell, block_words, is_ready_at, world_at}
 use Rattle.named.specs.Promises.{KeepsPromises}
 use Rattle.named.specs.Slots.{IfWorld, answered}
 use Rattle.named.specs.Stopping.{IsQueueOn, IsRecoveryStep}
@@ -23,7 +23,7 @@ use Rattle.named.specs.declared.recovery.BrokerRecovery.TheVariants.{ReadDirecto
 use Rattle.named.proofs.Begun.{listed_open}
 use Rattle.session.specs.Sessions.{IsUncalled}
 use Rattle.session.proofs.Uncalled.{uncalled_booted, uncalled_recovered}
-use Rattle.session.proofs.Worlds.{none_some, open_below}
+use Rattle.session.proofs.Worlds.{open_below}
 use Rattle.server.specs.Opening.{IsOpened, IsQueueOpened, Recovers}
 use Rattle.server.specs.Opening.Recovers.{nothing, next}
 use Rattle.server.proofs.StepsKeep.{IsAsKept, IsStepKept, step_keeps}

@@ -1,9 +1,9 @@
 -- A step of recovery that is under way is refused for want of memory alone.
-use Rattle.std.proofs.Common.{◌≡◌, ℕ, ◌≤◌, Bool, true, false, is_none, is_some, Option, Some, None, Result, Ok, Err, slice_get, refl, sym, ap, subst, ◌∙◌, arith}
+use Rattle.std.proofs.Common.{◌≡◌, ℕ, Bool, true, false, is_some, Option, Some, None, Result, Ok, Err, slice_get, refl, sym, ap, subst, ◌∙◌, arith}
 use Rattle.std.specs.Prelude.{IsSome, nat_lt}
 use Rattle.std.proofs.lemmas.Bool.{le-ltb}
 use Rattle.words.specs.declared.refusal.Refusal.{Refusal}
-use Rattle.words.specs.declared.refusal.Refusal.TheVariants.{NoMemory, AlreadyReady, NoQueue}
+use Rattle.words.specs.declared.refusal.Refusal.TheVariants.{NoMemory}
 use Rattle.arena.specs.declared.broker.SlotId.{SlotId}
 use Rattle.persist.specs.Memory.{Words}
 use Rattle.recover.specs.declared.recovery.Recovery.{Recovery}
