@@ -1,4 +1,3 @@
 pub mod Refused
 pub mod StepsKeep
 pub mod Recoveries
-pub mod Lines

@@ -13,7 +13,7 @@ use Rattle.directory.proofs.Kept.{directory_at}
 use Rattle.interleave.specs.Booted.{booted_world}
 use Rattle.interleave.specs.State.{State, recover_result}
 use Rattle.named.specs.Booting.{AreBootWords, IsBooted, kept_block, world_booted}
-use Rattle.named.specs.Brokers.{Brokered, IsWell, block_words, is_down, is_ready_at, world_at}
+use Rattle.named.specs.Brokers.{Brokered, IsWell, block_words, is_ready_at, world_at}
 use Rattle.named.specs.Promises.{KeepsPromises}
 use Rattle.named.specs.Slots.{IfWorld, answered}
 use Rattle.named.specs.Stopping.{IsQueueOn, IsRecoveryStep}
@@ -23,7 +23,7 @@ use Rattle.named.specs.declared.recovery.BrokerRecovery.TheVariants.{ReadDirecto
 use Rattle.named.proofs.Begun.{listed_open}
 use Rattle.session.specs.Sessions.{IsUncalled}
 use Rattle.session.proofs.Uncalled.{uncalled_booted, uncalled_recovered}
-use Rattle.session.proofs.Worlds.{none_some, open_below}
+use Rattle.session.proofs.Worlds.{open_below}
 use Rattle.server.specs.Opening.{IsOpened, IsQueueOpened, Recovers}
 use Rattle.server.specs.Opening.Recovers.{nothing, next}
 use Rattle.server.proofs.StepsKeep.{IsAsKept, IsStepKept, step_keeps}
@@ -79,15 +79,15 @@ recovering_goes_on start old new ready so_far step tells promises =
     told_now kept slot up false was = tells slot was up
 
 -- a step answers whether the broker is ready
-ready_read : (ready : Bool) (r : Option BrokerRecovery) → (let answer : Result Bool Refusal = Ok ready in answer) ≡ Ok (is_none r)
-    → is_none r ≡ ready
-ready_read ready r e = cc (e)
+ready_read : (ready : Bool) (r : Option BrokerRecovery) (answer : Result Bool Refusal) → answer ≡ Ok ready
+    → answer ≡ Ok (is_none r) → is_none r ≡ ready
+ready_read ready r answer is e = cc (is, e)
 
 module _ (old new : Brokered) (ready : Bool) where
   ready_recovered : (at : ℕ) (answer : Result Bool Refusal) → is_none old.recovery ≡ false
       → IsQueueOn old new at (Ok ready) answer → is_none new.recovery ≡ ready
   ready_recovered at (Err refusal) down on = absurd (cc (on.0))
-  ready_recovered at (Ok true) down on = ready_read ready new.recovery on.0
+  ready_recovered at (Ok true) down on = ready_read ready new.recovery (Ok ready) refl on.0
   ready_recovered at (Ok false) down on =
       let is : ready ≡ false = cc (on.0) in
       ap (λ (r : Option BrokerRecovery). is_none r) on.1 ∙ down ∙ sym is
@@ -98,7 +98,7 @@ module _ (old new : Brokered) (ready : Bool) where
       go : (r : Option BrokerRecovery) → old.recovery ≡ r → IsRecoveryStep old new (Ok ready) r
           → is_none new.recovery ≡ ready
       go None turn made = absurd (cc (made.0))
-      go (Some (ReadDirectory at)) turn made = ready_read ready new.recovery made.answer
+      go (Some (ReadDirectory at)) turn made = ready_read ready new.recovery (Ok ready) refl made.answer
       go (Some (RecoverQueue at)) turn made =
           ready_recovered at.0 (answered (recover_result false) (world_at old at.0))
           (ap (λ (r : Option BrokerRecovery). is_none r) turn) made.next

@@ -1,9 +1,9 @@
 -- A step of recovery that is under way is refused for want of memory alone.
-use Rattle.std.proofs.Common.{◌≡◌, ℕ, ◌≤◌, Bool, true, false, is_none, is_some, Option, Some, None, Result, Ok, Err, slice_get, refl, sym, ap, subst, ◌∙◌, arith}
+use Rattle.std.proofs.Common.{◌≡◌, ℕ, Bool, true, false, is_some, Option, Some, None, Result, Ok, Err, slice_get, refl, sym, ap, subst, ◌∙◌, arith}
 use Rattle.std.specs.Prelude.{IsSome, nat_lt}
 use Rattle.std.proofs.lemmas.Bool.{le-ltb}
 use Rattle.words.specs.declared.refusal.Refusal.{Refusal}
-use Rattle.words.specs.declared.refusal.Refusal.TheVariants.{NoMemory, AlreadyReady, NoQueue}
+use Rattle.words.specs.declared.refusal.Refusal.TheVariants.{NoMemory}
 use Rattle.arena.specs.declared.broker.SlotId.{SlotId}
 use Rattle.persist.specs.Memory.{Words}
 use Rattle.recover.specs.declared.recovery.Recovery.{Recovery}
@@ -43,8 +43,11 @@ module _ (old new : Brokered) (e : Refusal) (well : IsWell old) where
       go None is there = absurd (none_some there)
       go (Some slot) is there =
           let ready : IsReadyIn (nat_lt at.0 at.0) slot =
-          subst (λ (r : Option BrokerRecovery). IsReadyIn (is_ready_at r at.0) slot) turn (well.readiness at.0 slot is) in
-          recovers_in old.words slot w (subst (λ (b : Bool). IsReadyIn b slot) (le-ltb at.0 at.0 (omega arith)) ready) there
+          subst (λ (r : Option BrokerRecovery). IsReadyIn (is_ready_at r at.0) slot) turn
+          (well.readiness at.0 slot is) in
+          let down : IsReadyIn false slot =
+          subst (λ (b : Bool). IsReadyIn b slot) (le-ltb at.0 at.0 (omega arith)) ready in
+          recovers_in old.words slot w down there
 
   -- its step answers a refusal for want of memory alone
   by_answer : (at : ℕ) (answer : Bool) → IsQueueOn old new at (Err e) (Ok answer) → ⊥
@@ -68,7 +71,8 @@ module _ (old new : Brokered) (e : Refusal) (well : IsWell old) where
   refused_for_memory down step = go old.recovery refl step
     where
       go : (r : Option BrokerRecovery) → old.recovery ≡ r → IsRecoveryStep old new (Err e) r → e ≡ NoMemory
-      go None is made = let up : is_down old ≡ false = ap (λ (r : Option BrokerRecovery). is_some r) is in absurd (cc (up, down))
+      go None is made =
+          let up : is_down old ≡ false = ap (λ (r : Option BrokerRecovery). is_some r) is in absurd (cc (up, down))
       go (Some (ReadDirectory at)) is made = absurd (cc (made.answer))
       go (Some (RecoverQueue at)) is made =
           let it = its_queue old well at is in

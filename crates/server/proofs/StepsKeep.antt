@@ -1,20 +1,15 @@
 -- What a step of recovery leaves of a broker that has no creation in mind.
 use Rattle.std.proofs.Common.{◌≡◌, ◌⊎◌, inl, inr, ℕ, ◌<◌, Bool, true, false, Option, Some, None, Result, Ok, Err, refl, sym, ap, subst, ◌∙◌, arith}
-use Rattle.std.specs.Prelude.{nat_lt}
 use Rattle.std.proofs.lemmas.Bool.{cases_eq, ltb-true}
 use Rattle.words.specs.declared.refusal.Refusal.{Refusal}
 use Rattle.arena.specs.declared.broker.SlotId.{SlotId}
-use Rattle.events.specs.declared.event.Entry.{Entry}
 use Rattle.stepper.specs.declared.resume.After.{After}
 use Rattle.stepper.specs.declared.resume.After.TheVariants.{More, Done}
 use Rattle.directory.specs.Directory.{Directory}
 use Rattle.directory.specs.declared.creation.Creation.{Creation}
 use Rattle.directory.specs.declared.recovery.DirectoryRecovery.{DirectoryRecovery}
 use Rattle.recover.specs.declared.recovery.Recovery.{Recovery}
-use Rattle.arena.specs.Shape.{Shape}
-use Rattle.interleave.specs.Calls.{is_no_memory}
 use Rattle.interleave.specs.Holds.{Holds}
-use Rattle.interleave.specs.Standing.{GoesOn}
 use Rattle.interleave.specs.State.{State, after_recover, kept_content, kept_tells, order_in, recover_result, recover_with}
 use Rattle.interleave.proofs.KeptTells.{tells_on}
 use Rattle.named.specs.Brokers.{Brokered, IsWell, is_ready_at, quiet, world_at}

@@ -27,10 +27,10 @@ fn recovered(alloc: Global, memory: Memory) -> Result<Broker, Refusal>
     Ok(broker)
 }
 
-/// A broker with so many clients and records of each of them in each queue; or, where there is an image, the broker
-/// that the image keeps, which has as many as the image says, once it has recovered. A new one is refused as
-/// [`Broker::make`] says. An image is refused, in this order, where the bytes are none (as [`Memory::from_image`] says),
-/// where its words break a rule (Damaged), and for want of memory (NoMemory).
+/// A broker with so many clients, and so many records of each client in each queue; or, where there is an image, the
+/// broker that the image keeps, once it has recovered: it has as many as the image says. A new one is refused as
+/// [`Broker::make`] says. Bytes that are no image are refused as [`Memory::from_image`] says. An image is refused where
+/// its words break a rule (Damaged, with the first such rule), and for want of memory (NoMemory), which may come first.
 pub fn opened(
     alloc: Global,
     clients: u32,

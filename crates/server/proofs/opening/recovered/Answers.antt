@@ -1,4 +1,4 @@
-use Rattle.std.proofs.Common.{rules, ◌≡◌, Bool, true, false, is_none, is_some, Option, Err, IfErr, sym, ap, subst, ◌∙◌}
+use Rattle.std.proofs.Common.{rules, ◌≡◌, true, false, is_some, Option, Err, IfErr, sym, ap, subst, ◌∙◌}
 use Rattle.words.specs.declared.refusal.Refusal.TheVariants.{NoMemory}
 use Rattle.named.specs.Booting.{MayRefuse}
 use Rattle.named.specs.declared.recovery.BrokerRecovery.{BrokerRecovery}
