@@ -87,7 +87,7 @@ fn served<J: Naming + Send + Sync, R: Threads + Wait + Net + Clock + Log + Sync>
     listener: &TcpListener,
 ) -> Result<Vec<u8>, Refusal>
     requires { IsNameOf J.roll J.clients J.first opened }
-    ensures image { IfOk result (λ bytes. IsImageAfter opened.session bytes.items) }
+    ensures image { IfOk result (λ bytes. IsImageAfter J.first bytes.items) }
     ensures errors { IfErr result IsBusyOrNoMemory }
 {
     let (shared, seats) = match opened.named::<J>(alloc) {
