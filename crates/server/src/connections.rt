@@ -1,21 +1,17 @@
 //! Worker threads, each of which serves one connection at a time.
 
 use crate::json_lines::JsonLines;
-use crossbeam_channel::Receiver;
+use crossbeam_channel::{Receiver, Sender};
 use desk::{BrokerDesk, Seating};
 use devices::{CountedReader, CountedWriter};
 use engine::{Desk, serve};
 use log::{Log, warn};
 use std::alloc::{AllocError, Global};
-use std::net::{Net, SocketAddr, TcpStream};
+use std::net::TcpStream;
 use std::sync::Wait;
 use std::sync::atomic::{AtomicBool, Ordering};
-use std::time::Duration;
 use wire::{Answer, Request};
 use workers::{Naming, Shared};
-
-/// How long a worker waits for the thread that takes connections to take its own.
-const WAKE_SECONDS: u64 = 1;
 
 /// What the workers share.
 #[derive(Drop)]
@@ -25,8 +21,8 @@ pub(crate) struct Serving<'a, J: Naming> {
     /// A stop was accepted: connections that are not served yet will not be.
     pub(crate) stopping: &'a AtomicBool,
     pub(crate) connections: &'a Receiver<TcpStream>,
-    /// Where connections are taken, if that is known.
-    pub(crate) address: Option<SocketAddr>,
+    /// Where a worker says that it served a connection to an accepted stop. There is room for one word, which is enough.
+    pub(crate) stops: &'a Sender<()>,
 }
 
 impl<J: Naming> Serving<'_, J> {
@@ -78,22 +74,9 @@ fn serve_connection<J: Naming, R: Wait + Log>(
     }
 }
 
-/// Wakes the thread that takes connections, by one to its own port.
-fn wake<R: Net + Log>(rt: &R, address: Option<SocketAddr>) {
-    let Some(address) = address else {
-        warn!(rt; "the next connection is waited for");
-        return;
-    };
-    // Where nobody takes it in time, others are waiting to be taken, and these wake the thread as well.
-    let second = Duration::from_secs(WAKE_SECONDS);
-    if TcpStream::connect_timeout(rt, &address, second).is_err() {
-        warn!(rt; "the next connection is waited for");
-    }
-}
-
 /// Serves one connection after another, until no more are taken. Those that come after an accepted stop are closed
 /// unserved.
-pub(crate) fn serve_connections<J: Naming, R: Wait + Net + Log>(
+pub(crate) fn serve_connections<J: Naming, R: Wait + Log>(
     rt: &R,
     alloc: Global,
     serving: &Serving<'_, J>,
@@ -104,7 +87,8 @@ pub(crate) fn serve_connections<J: Naming, R: Wait + Net + Log>(
         }
         serve_connection(rt, alloc, serving, connection);
         if serving.is_stopping() {
-            wake(rt, serving.address);
+            // Where there is no room, another worker has said it.
+            let _ = serving.stops.try_send(rt, ());
         }
     }
 }

@@ -7,23 +7,26 @@ ghost use Rattle.server.specs.Image.{IsBusyOrNoMemory, IsImageAfter, IsImageLeft
 
 use crate::connections::{Serving, serve_connections};
 use crate::ending::{image_left, shareable};
-use crossbeam_channel::{Sender, bounded};
+use crossbeam_channel::{Receiver, Sender, bounded};
 use desk::Seating;
 use log::{Log, warn};
 use named::Broker;
-use std::alloc::Global;
+use std::alloc::{AllocError, Global};
 use std::marker::Brand;
-use std::net::{Net, TcpListener, TcpStream};
+use std::net::{Net, SocketAddr, TcpListener, TcpStream};
 use std::sync::Wait;
 use std::sync::atomic::{AtomicBool, Ordering};
 use std::thread::{Threads, join, map_indices, sleep};
 use std::time::{Clock, Duration};
 use words::Refusal;
-use workers::{Naming, Opened};
+use workers::{Naming, Opened, Shared};
 
 /// How long the thread that takes connections rests after one that it could not take. Where there are no descriptors
 /// left, each fails at once.
 const REST_MILLIS: u64 = 10;
+
+/// How long a connection that wakes this thread waits to be taken.
+const WAKE_SECONDS: u64 = 1;
 
 /// Takes connections and hands them to the workers, until one of these has accepted a stop.
 fn accept<R: Wait + Clock + Log>(
@@ -50,32 +53,83 @@ fn accept<R: Wait + Clock + Log>(
     }
 }
 
-/// Takes connections for so many workers, until a stop is accepted and all connections have ended. It is refused for want
-/// of memory (NoMemory).
-fn work<J: Naming + Send + Sync, R: Threads + Wait + Net + Clock + Log + Sync>(
+/// Wakes the thread that takes connections once a stop is accepted, by a connection to its own port.
+fn wake_at_stop<R: Wait + Net + Log>(rt: &R, stops: &Receiver<()>, address: Option<SocketAddr>) {
+    if stops.recv(rt).is_err() {
+        return;
+    }
+    let Some(address) = address else {
+        warn!(rt; "the next connection is waited for");
+        return;
+    };
+    // Where nobody takes it in time, others are waiting to be taken, and these wake the thread as well.
+    let second = Duration::from_secs(WAKE_SECONDS);
+    if TcpStream::connect_timeout(rt, &address, second).is_err() {
+        warn!(rt; "the next connection is waited for");
+    }
+}
+
+/// So many workers serve the connections that are taken, until no more are. At an `Err` there was no memory for their
+/// threads.
+fn serve_all<J: Naming + Send + Sync, R: Threads + Wait + Log + Sync>(
     rt: &R,
     alloc: Global,
     serving: &Serving<'_, J>,
     workers: u32,
+) -> Result<(), AllocError> {
+    map_indices(
+        rt,
+        alloc,
+        workers as usize,
+        &|_: usize| serve_connections(rt, alloc, serving),
+    )?;
+    Ok(())
+}
+
+/// The same, and beside them this thread waits for a stop.
+fn serve_until_stopped<J: Naming + Send + Sync, R: Threads + Wait + Net + Log + Sync>(
+    rt: &R,
+    alloc: Global,
+    serving: &Serving<'_, J>,
+    workers: u32,
+    stops: &Receiver<()>,
+    address: Option<SocketAddr>,
+) -> Result<(), AllocError> {
+    let (worked, ()) = join(
+        rt,
+        || serve_all(rt, alloc, serving, workers),
+        || wake_at_stop(rt, stops, address),
+    );
+    worked
+}
+
+/// Takes connections for so many workers, until a stop is accepted and all connections have ended. At an `Err` there was
+/// no memory.
+fn work<J: Naming + Send + Sync, R: Threads + Wait + Net + Clock + Log + Sync>(
+    rt: &R,
+    alloc: Global,
+    shared: &Shared<J>,
+    seats: &Seating<J>,
+    workers: u32,
     listener: &TcpListener,
-    connections: Sender<TcpStream>,
-) -> Result<(), Refusal>
-    ensures { IfErr result (λ e. e ≡ Refusal.NoMemory) }
-{
+) -> Result<(), AllocError> {
+    let (sender, connections) = bounded(alloc, workers as usize)?;
+    let (stops, stops_heard) = bounded(alloc, 1)?;
+    let stopping = AtomicBool::new(false);
+    let serving = Serving {
+        shared,
+        seats,
+        stopping: &stopping,
+        connections: &connections,
+        stops: &stops,
+    };
+    let address = listener.local_addr().ok();
     let ((), worked) = join(
         rt,
-        || accept(rt, listener, serving.stopping, connections),
-        || map_indices(
-            rt,
-            alloc,
-            workers as usize,
-            &|_: usize| { serve_connections(rt, alloc, serving) },
-        ),
+        || accept(rt, listener, &stopping, sender),
+        || serve_until_stopped(rt, alloc, &serving, workers, &stops_heard, address),
     );
-    match worked {
-        Ok(_) => Ok(()),
-        Err(_) => Err(Refusal::NoMemory),
-    }
+    worked
 }
 
 /// Serves, once the broker has its name.
@@ -87,7 +141,7 @@ fn served<J: Naming + Send + Sync, R: Threads + Wait + Net + Clock + Log + Sync>
     listener: &TcpListener,
 ) -> Result<Vec<u8>, Refusal>
     requires { IsNameOf J.roll J.clients J.first opened }
-    ensures image { IfOk result (λ bytes. IsImageAfter opened.session bytes.items) }
+    ensures image { IfOk result (λ bytes. IsImageAfter J.first bytes.items) }
     ensures errors { IfErr result IsBusyOrNoMemory }
 {
     let (shared, seats) = match opened.named::<J>(alloc) {
@@ -95,19 +149,9 @@ fn served<J: Naming + Send + Sync, R: Threads + Wait + Net + Clock + Log + Sync>
         Err(not) => return Err(not.refusal),
     };
     let seats = Seating::new(alloc, seats)?;
-    let workers = workers.max(1);
-    let Ok((sender, connections)) = bounded(alloc, workers as usize) else {
+    if work(rt, alloc, &shared, &seats, workers.max(1), listener).is_err() {
         return Err(Refusal::NoMemory);
-    };
-    let stopping = AtomicBool::new(false);
-    let serving = Serving {
-        shared: &shared,
-        seats: &seats,
-        stopping: &stopping,
-        connections: &connections,
-        address: listener.local_addr().ok(),
-    };
-    work(rt, alloc, &serving, workers, listener, sender)?;
+    }
     image_left(alloc, shared, seats)
 }
 
@@ -115,7 +159,7 @@ fn served<J: Naming + Send + Sync, R: Threads + Wait + Net + Clock + Log + Sync>
 /// and all connections have ended; it answers the image of the broker as it is then. As many connections as there are
 /// workers wait to be served; those that wait at an accepted stop are closed unserved. It is refused before a connection
 /// is taken where a call or a creation is under way (Busy), and for want of memory (NoMemory); for want of memory also
-/// after all have ended.
+/// after all have ended. Where the threads to take connections and to serve them cannot be made, it does not return.
 pub fn net<R: Threads + Wait + Net + Clock + Log + Sync>(
     rt: &R,
     alloc: Global,

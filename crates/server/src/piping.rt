@@ -31,14 +31,15 @@ fn served<J: Naming, T: Wait, R: Reader, W: Writer>(
     requires name { IsNameOf J.roll J.clients J.first opened }
     requires reader { R.failures reader.old < MAX_FAILURES }
     requires writer { W.failures writer.old < MAX_FAILURES }
-    ensures image { IfOk result (λ bytes. IsImageAfter opened.session bytes.items) }
+    ensures image { IfOk result (λ bytes. IsImageAfter J.first bytes.items) }
     ensures served { OnOk result (IfSome (R.left reader.old) (λ input.
-        ServesInput true input (Appends (W.written writer.old) (W.written writer.new)))) }
+        ServesInput J.clients true input (Appends (W.written writer.old) (W.written writer.new)))) }
     ensures flushed { OnOk result (IsFlushed (W.written writer.new) (W.flushed writer.new)) }
     ensures read_failed { IsErrOf result Refusal.ReadFailed → IfSome (R.left reader.old) (λ input.
-        ServesInputRead input (R.left reader.new) (Appends (W.written writer.old) (W.written writer.new))) }
+        ServesInputRead J.clients input (R.left reader.new)
+        (Appends (W.written writer.old) (W.written writer.new))) }
     ensures write_failed { IsErrOf result Refusal.WriteFailed → IfSome (R.left reader.old) (λ input.
-        ServesInput false input (AppendsBeginning (W.written writer.old) (W.written writer.new))) }
+        ServesInput J.clients false input (AppendsBeginning (W.written writer.old) (W.written writer.new))) }
     ensures read_fault { IsErrOf result Refusal.ReadFailed ↔ (R.failures reader.old < R.failures reader.new) }
     ensures write_fault { IsErrOf result Refusal.WriteFailed ↔ (W.failures writer.old < W.failures writer.new) }
     ensures errors { IfErr result MayEndPipe }
@@ -69,16 +70,19 @@ pub fn pipe<T: Wait, R: Reader, W: Writer>(
     requires reader { R.failures reader.old < MAX_FAILURES }
     requires writer { W.failures writer.old < MAX_FAILURES }
     ensures image { IfOk result (λ bytes. IsImageLeftBy broker bytes.items) }
-    // The text of one reply for each line was written, and nothing else.
+    // The text of one reply for each line was written, and nothing else; each request has an answer that it may have.
     ensures served { OnOk result (IfSome (R.left reader.old) (λ input.
-        ServesInput true input (Appends (W.written writer.old) (W.written writer.new)))) }
+        ServesInput broker.counts.clients true input
+        (Appends (W.written writer.old) (W.written writer.new)))) }
     ensures flushed { OnOk result (IsFlushed (W.written writer.new) (W.flushed writer.new)) }
     // The same for the whole lines of what was read.
     ensures read_failed { IsErrOf result Refusal.ReadFailed → IfSome (R.left reader.old) (λ input.
-        ServesInputRead input (R.left reader.new) (Appends (W.written writer.old) (W.written writer.new))) }
+        ServesInputRead broker.counts.clients input (R.left reader.new)
+        (Appends (W.written writer.old) (W.written writer.new))) }
     // A beginning of it was written.
     ensures write_failed { IsErrOf result Refusal.WriteFailed → IfSome (R.left reader.old) (λ input.
-        ServesInput false input (AppendsBeginning (W.written writer.old) (W.written writer.new))) }
+        ServesInput broker.counts.clients false input
+        (AppendsBeginning (W.written writer.old) (W.written writer.new))) }
     ensures read_fault { IsErrOf result Refusal.ReadFailed ↔ (R.failures reader.old < R.failures reader.new) }
     ensures write_fault { IsErrOf result Refusal.WriteFailed ↔ (W.failures writer.old < W.failures writer.new) }
     ensures errors { IfErr result MayEndPipe }
