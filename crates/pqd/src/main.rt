@@ -1,8 +1,9 @@
 //! A broker that serves standard input, or connections.
 #![tactic(auto)]
 
-ghost use Rattle.std.specs.Prelude.{◌≡◌};
+ghost use Rattle.std.specs.Prelude.{◌≡◌, IfOk};
 ghost use Rattle.std.specs.IoError.{error_kind};
+ghost use Rattle.session.specs.Sessions.{IsUncalled};
 ghost use Rattle.words.specs.declared.refusal.Refusal.TheVariants.{NoMemory};
 ghost use Rattle.pqd.specs.Faults.{refusal_of_system};
 ghost use Rattle.pqd.specs.declared.Fault.TheVariants.{Refused};
@@ -60,7 +61,9 @@ impl From<io::Error> for Fault {
 }
 
 /// The broker that the options ask for: the one that the image's file keeps, where there is such a file.
-fn broker_for(rt: &HostRuntime, asked: &Options<'_>) -> Result<Broker, Refusal> {
+fn broker_for(rt: &HostRuntime, asked: &Options<'_>) -> Result<Broker, Refusal>
+    ensures { IfOk result IsUncalled }
+{
     let kept = match asked.image {
         Some(path) => image::read(rt, path)?,
         None => None,
@@ -74,7 +77,9 @@ fn serve_input<T: Wait>(
     waits: &T,
     rt: &HostRuntime,
     broker: Broker,
-) -> Result<Vec<u8>, Refusal> {
+) -> Result<Vec<u8>, Refusal>
+    requires { IsUncalled broker }
+{
     let mut reader = CountedReader::new(rt.reader());
     let mut writer = CountedWriter::new(io::writer(rt));
     pipe(waits, rt.alloc(), broker, &mut reader, &mut writer)
@@ -86,7 +91,9 @@ fn serve_connections<T: Threads + Wait + Net + Log + Clock + Sync>(
     rt: &HostRuntime,
     broker: Broker,
     at: Listening,
-) -> Result<Vec<u8>, Fault> {
+) -> Result<Vec<u8>, Fault>
+    requires { IsUncalled broker }
+{
     let Ok(listener) = TcpListener::bind(rt, SocketAddr::from(([127u8, 0, 0, 1], at.port))) else {
         return Err(Fault::Listen);
     };
