@@ -138,59 +138,50 @@ fn restarts<R: Net + Clock + Abort>(
     panic!(rt; "clients that are not done in time")
 }
 
-/// Takes what is left.
-fn drained<R: Net + Clock + Abort>(rt: &R, alloc: Global, address: SocketAddr) -> Vec<u64> {
+/// Takes what is left, after these values.
+fn drained<R: Net + Clock + Abort>(
+    rt: &R,
+    alloc: Global,
+    address: SocketAddr,
+    mut all: Vec<u64>,
+) -> Vec<u64> {
     let mut caller = called(rt, alloc, address);
-    let mut got = Vec::new(alloc);
     for number in 1..=u64::from(RECORDS) {
         let take = take_of(alloc, LAST, number).expect(rt, "memory");
         match sent(rt, &mut caller, take.as_bytes()) {
-            Some(Outcome::Got(value)) => got.push(value).expect(rt, "memory"),
+            Some(Outcome::Got(value)) => all.push(value).expect(rt, "memory"),
             outcome => {
                 assert!(rt;
                     outcome == Some(Outcome::Empty),
                     "what is left: {outcome:?}"
                 );
-                return got;
+                return all;
             }
         }
     }
-    got
+    all
 }
 
-/// All clients at once, beside crashes. Then the broker is drained and stopped: the values that were taken, in order.
-fn crowded<R: Threads + Net + Clock + Abort + Sync>(
+/// Creates the queue.
+fn create<R: Net + Abort>(rt: &R, alloc: Global, address: SocketAddr) {
+    let create = br#"{"op":"create","queue":"a","kind":"log"}"#;
+    let created = br#"{"reply":"created","slot":0}"#;
+    let mut caller = called(rt, alloc, address);
+    assert!(rt; caller.is_replied(create, created), "a creation");
+}
+
+/// The broker is drained and stopped: the values that were taken by then, in order.
+fn ended<R: Net + Clock + Abort>(
     rt: &R,
     alloc: Global,
     address: SocketAddr,
+    taken: Vec<Vec<u64>>,
 ) -> Vec<u64> {
-    let create = br#"{"op":"create","queue":"a","kind":"log"}"#;
-    let mut first = called(rt, alloc, address);
-    assert!(rt;
-        first.is_replied(create, br#"{"reply":"created","slot":0}"#),
-        "a creation"
-    );
-    drop(first);
-    let done = AtomicU64::new(0);
-    let (taken, crashes) = join(
-        rt,
-        || map_indices(
-            rt,
-            alloc,
-            CLIENTS,
-            &|client: usize| {
-                let got = puts_and_takes(rt, alloc, address, client as u64);
-                done.fetch_add(1, Ordering::SeqCst);
-                got
-            },
-        ),
-        || restarts(rt, alloc, address, &done),
-    );
-    assert!(rt; crashes > 0, "{crashes} crashes");
-    let mut all = drained(rt, alloc, address);
-    for got in taken.expect(rt, "memory") {
+    let mut all = Vec::new(alloc);
+    for got in taken {
         all.extend_from_slice(got.as_slice()).expect(rt, "memory");
     }
+    let mut all = drained(rt, alloc, address, all);
     let mut last = called(rt, alloc, address);
     let stopped = last.is_replied(br#"{"op":"stop"}"#, br#"{"reply":"stopping"}"#);
     assert!(rt; stopped, "a stop");
@@ -203,10 +194,26 @@ fn no_value_is_lost_or_doubled_beside_crashes(rt: HostRuntime) -> Result<(), Fai
     let alloc = rt.alloc();
     let listener = TcpListener::bind(&rt, "127.0.0.1:0")?;
     let address = listener.local_addr()?;
+    let done = AtomicU64::new(0);
+    let client = |client: usize| {
+        let got = puts_and_takes(&rt, alloc, address, client as u64);
+        done.fetch_add(1, Ordering::SeqCst);
+        got
+    };
+    let all_beside_crashes = || {
+        create(&rt, alloc, address);
+        let (taken, crashes) = join(
+            &rt,
+            || map_indices(&rt, alloc, CLIENTS, &client),
+            || restarts(&rt, alloc, address, &done),
+        );
+        assert!(rt; crashes > 0, "{crashes} crashes");
+        ended(&rt, alloc, address, taken.expect(&rt, "memory"))
+    };
     let (image, taken) = join(
         &rt,
         || served(&rt, alloc, 9, RECORDS, WORKERS, &listener),
-        || crowded(&rt, alloc, address),
+        all_beside_crashes,
     );
     let wanted: Vec<u64> = (0..(CLIENTS as u64).saturating_mul(PUTS)).collect(alloc)?;
     assert!(rt; taken.as_slice() == wanted.as_slice(), "{taken:?}");

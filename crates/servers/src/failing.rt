@@ -99,10 +99,8 @@ fn a_writer_fails_after_each_byte(rt: HostRuntime) -> Result<(), Fail> {
         let found = served(&rt, rt.alloc(), limits)?;
         // All lines come at once, so the replies go at once too. A flush fails where all bytes were taken.
         assert!(rt; found.end == Err(Refusal::WriteFailed), "{writable}");
-        assert!(rt;
-            found.written.as_slice() == &OUTPUT[..writable],
-            "{writable}"
-        );
+        assert_eq!(rt; found.written.len(), writable);
+        assert!(rt; OUTPUT.starts_with(found.written.as_slice()), "{writable}");
         assert_eq!(rt; found.made, 3, "{writable}");
     }
     Ok(())
@@ -137,7 +135,7 @@ fn a_writer_fails_in_the_second_reply(rt: HostRuntime) -> Result<(), Fail> {
         readable: usize::MAX,
         writable: 30,
     };
-    let input = &INPUT[..107];
+    let input = INPUT.get(..107).ok_or("two lines")?;
     let found = exchanged::<Brand, _>(&rt, rt.alloc(), opened, input, limits)?;
     assert!(rt; found.end == Err(Refusal::WriteFailed));
     assert!(rt; found.written.as_slice() == b"{\"reply\":\"created\",\"slot\":0}\n{".as_slice());

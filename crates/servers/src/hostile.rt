@@ -96,7 +96,8 @@ fn drawn_line(alloc: Global, rng: &mut Pcg32) -> Result<Vec<u8>, AllocError> {
         if below(rng, 8) == 0 {
             line.push(drawn_byte(rng))?;
         } else {
-            line.extend_from_slice(PIECES[below(rng, PIECES.len() as u32) as usize])?;
+            let piece = PIECES.get(below(rng, PIECES.len() as u32) as usize);
+            line.extend_from_slice(piece.copied().unwrap_or_default())?;
         }
     }
     Ok(line)
