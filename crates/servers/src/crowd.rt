@@ -10,7 +10,7 @@ use std::process::Abort;
 use std::str;
 use std::sync::atomic::{AtomicU64, Ordering};
 use std::test::*;
-use std::thread::{Threads, join, map_indices};
+use std::thread::{join, map_indices};
 use std::time::Clock;
 
 /// How many clients put and take.
