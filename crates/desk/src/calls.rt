@@ -76,7 +76,7 @@ fn settled<J: Naming, R: Wait>(
 
 /// Makes a call with its client's seat, and answers what it was answered. A call of the client that was left Unfinished
 /// is finished first. It is refused where that was refused memory once more (Busy), while the broker recovers
-/// (NotReady), where there is no such queue (NoQueue), and as [`Shared::call`] is; then the seat remembers no call more.
+/// (NotReady), where there is no such queue (NoQueue), and as [`Shared::call`] is; then the seat remembers none more.
 pub fn call_at_seat<J: Naming, R: Wait>(
     rt: &R,
     shared: &Shared<J>,

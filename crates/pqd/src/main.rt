@@ -73,11 +73,7 @@ fn broker_for(rt: &HostRuntime, asked: &Options<'_>) -> Result<Broker, Refusal>
 }
 
 /// Serves standard input to standard output. The image that it leaves.
-fn serve_input<T: Wait>(
-    waits: &T,
-    rt: &HostRuntime,
-    broker: Broker,
-) -> Result<Vec<u8>, Refusal>
+fn serve_input<T: Wait>(waits: &T, rt: &HostRuntime, broker: Broker) -> Result<Vec<u8>, Refusal>
     requires { IsUncalled broker }
 {
     let mut reader = CountedReader::new(rt.reader());

@@ -21,7 +21,7 @@ pub(crate) struct Serving<'a, J: Naming> {
     /// A stop was accepted: connections that are not served yet will not be.
     pub(crate) stopping: &'a AtomicBool,
     pub(crate) connections: &'a Receiver<TcpStream>,
-    /// Where a worker says that it served a connection to an accepted stop. There is room for one word, which is enough.
+    /// Where a worker says that it served a connection to an accepted stop. There is room for one word.
     pub(crate) stops: &'a Sender<()>,
 }
 

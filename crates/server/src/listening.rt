@@ -103,8 +103,8 @@ fn serve_until_stopped<J: Naming + Send + Sync, R: Threads + Wait + Net + Log + 
     worked
 }
 
-/// Takes connections for so many workers, until a stop is accepted and all connections have ended. At an `Err` there was
-/// no memory.
+/// Takes connections for so many workers, until a stop is accepted and all connections have ended. At an `Err` there
+/// was no memory.
 fn work<J: Naming + Send + Sync, R: Threads + Wait + Net + Clock + Log + Sync>(
     rt: &R,
     alloc: Global,
@@ -157,8 +157,8 @@ fn served<J: Naming + Send + Sync, R: Threads + Wait + Net + Clock + Log + Sync>
 
 /// Serves each connection of a listener by one of so many worker threads, and by one at least, until a stop is accepted
 /// and all connections have ended; it answers the image of the broker as it is then. As many connections as there are
-/// workers wait to be served; those that wait at an accepted stop are closed unserved. It is refused before a connection
-/// is taken where a call or a creation is under way (Busy), and for want of memory (NoMemory); for want of memory also
+/// workers wait to be served; those that wait at an accepted stop are closed unserved. It is refused before any is
+/// taken where a call or a creation is under way (Busy), and for want of memory (NoMemory); for want of memory also
 /// after all have ended. Where the threads to take connections and to serve them cannot be made, it does not return.
 pub fn net<R: Threads + Wait + Net + Clock + Log + Sync>(
     rt: &R,
