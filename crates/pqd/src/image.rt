@@ -42,8 +42,8 @@ fn write_whole(rt: &HostRuntime, path: &str, bytes: &[u8]) -> io::Result<()> {
 }
 
 /// Writes the file beside, as `PATH.new`, and renames it, so that a process that is stopped in the middle leaves the
-/// old image or the new one. It is refused where that fails (WriteFailed), and for want of memory (NoMemory); then the old
-/// image stays.
+/// old image or the new one. It is refused where that fails (WriteFailed), and for want of memory (NoMemory); then the
+/// old image stays.
 pub(crate) fn write(rt: &HostRuntime, path: &str, bytes: &[u8]) -> Result<(), Refusal>
     ensures { IfErr result (λ e. (e ≡ Refusal.NoMemory) ⊎ (e ≡ Refusal.WriteFailed)) }
 {
