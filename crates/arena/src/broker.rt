@@ -11,7 +11,7 @@ use crate::durable::DurableLayout;
 use crate::layout::{MAX_LAYOUT_WORDS, check_counts};
 use crate::log::LogLayout;
 use std::marker::Model;
-use words::{MAX_CLIENTS, Refusal};
+use words::{MAX_CLIENTS, MAX_RECORDS, Refusal};
 
 /// How many slots a broker has, each for one queue.
 pub const SLOTS: usize = 8;
@@ -102,12 +102,14 @@ fn slot_from(slot: SlotId) -> usize
 }
 
 impl BrokerLayout {
-    /// A layout of queues for 1 to [`MAX_CLIENTS`] clients with 1 to [`words::MAX_RECORDS`] records each. It is
+    /// A layout of queues for 1 to [`MAX_CLIENTS`] clients with 1 to [`MAX_RECORDS`] records each. It is
     /// refused, in this order, where the clients are none or more (BadClients), and where the records are (BadRecords).
     pub fn make(clients: u32, records: u32) -> Result<Self, Refusal>
         ensures ok { IsOk result ↔ AreCounts clients records }
         ensures made { IfOk result (λ l. l ≡ record { clients = clients; records = records }) }
         ensures bad_clients { result ≡ Err Refusal.BadClients ↔ ((clients ≡ 0) ⊎ (MAX_CLIENTS < clients)) }
+        ensures bad_records { result ≡ Err Refusal.BadRecords ↔
+            ((1 ≤ clients) × (clients ≤ MAX_CLIENTS) × ((records ≡ 0) ⊎ (MAX_RECORDS < records))) }
         ensures errors { IfErr result (λ e. (e ≡ Refusal.BadClients) ⊎ (e ≡ Refusal.BadRecords)) }
     {
         check_counts(clients, records)?;

@@ -9,7 +9,7 @@ use crate::codes::{EMPTY_CELL, GOT_CELL};
 use crate::layout::{Layout, check_counts};
 use crate::place::{Place, Write};
 use std::marker::Model;
-use words::{Client, Kind, MAX_CLIENTS, MAX_RECORD_NUMBER, NodeId, Refusal, Token};
+use words::{Client, Kind, MAX_CLIENTS, MAX_RECORD_NUMBER, MAX_RECORDS, NodeId, Refusal, Token};
 
 /// The words of a durable queue.
 #[derive(Clone, Copy, Debug)]
@@ -32,12 +32,14 @@ impl Model for DurableLayout {
 }
 
 impl DurableLayout {
-    /// A layout for 1 to [`MAX_CLIENTS`] clients with 1 to [`words::MAX_RECORDS`] records each. It is refused, in this
+    /// A layout for 1 to [`MAX_CLIENTS`] clients with 1 to [`MAX_RECORDS`] records each. It is refused, in this
     /// order, where the clients are none or more (BadClients), and where the records are (BadRecords).
     pub fn make(clients: u32, records: u32) -> Result<Self, Refusal>
         ensures ok { IsOk result ↔ AreCounts clients records }
         ensures made { IfOk result (λ l. l ≡ record { clients = clients; records = records }) }
         ensures bad_clients { result ≡ Err Refusal.BadClients ↔ ((clients ≡ 0) ⊎ (MAX_CLIENTS < clients)) }
+        ensures bad_records { result ≡ Err Refusal.BadRecords ↔
+            ((1 ≤ clients) × (clients ≤ MAX_CLIENTS) × ((records ≡ 0) ⊎ (MAX_RECORDS < records))) }
         ensures errors { IfErr result (λ e. (e ≡ Refusal.BadClients) ⊎ (e ≡ Refusal.BadRecords)) }
     {
         check_counts(clients, records)?;

@@ -64,6 +64,8 @@ pub trait Layout {
 pub(crate) fn check_counts(clients: u32, records: u32) -> Result<(), Refusal>
     ensures ok { IsOk result ↔ AreCounts clients records }
     ensures bad_clients { result ≡ Err Refusal.BadClients ↔ ((clients ≡ 0) ⊎ (MAX_CLIENTS < clients)) }
+    ensures bad_records { result ≡ Err Refusal.BadRecords ↔
+        ((1 ≤ clients) × (clients ≤ MAX_CLIENTS) × ((records ≡ 0) ⊎ (MAX_RECORDS < records))) }
     ensures errors { IfErr result (λ e. (e ≡ Refusal.BadClients) ⊎ (e ≡ Refusal.BadRecords)) }
 {
     if clients == 0 || clients > MAX_CLIENTS as u32 {

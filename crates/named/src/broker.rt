@@ -25,7 +25,7 @@ use persist::{Memory, WordMemory};
 use std::alloc::Global;
 use std::marker::Model;
 use stepper::After;
-use words::{Call, Client, Kind, MAX_CLIENTS, Refusal, Reply, Told};
+use words::{Call, Client, Kind, MAX_CLIENTS, MAX_RECORDS, Refusal, Reply, Told};
 
 /// A broker: one memory, and up to eight queues in it, each of which has a name, a kind and a slot.
 #[derive(Drop)]
@@ -102,6 +102,8 @@ impl Broker {
         ensures made { IfOk result (IsNew (record { clients = clients; records = records })) }
         ensures counts { OnOk result (AreCounts clients records) }
         ensures bad_clients { result ≡ Err Refusal.BadClients ↔ ((clients ≡ 0) ⊎ (MAX_CLIENTS < clients)) }
+        ensures bad_records { result ≡ Err Refusal.BadRecords ↔
+            ((1 ≤ clients) × (clients ≤ MAX_CLIENTS) × ((records ≡ 0) ⊎ (MAX_RECORDS < records))) }
         ensures errors { IfErr result (λ e. (e ≡ Refusal.NoMemory) ⊎ (AreCounts clients records → ⊥)) }
         ensures promises { IfOk result KeepsPromises }
     {
