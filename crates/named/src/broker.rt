@@ -104,7 +104,8 @@ impl Broker {
         ensures bad_clients { result ≡ Err Refusal.BadClients ↔ ((clients ≡ 0) ⊎ (MAX_CLIENTS < clients)) }
         ensures bad_records { result ≡ Err Refusal.BadRecords ↔
             ((1 ≤ clients) × (clients ≤ MAX_CLIENTS) × ((records ≡ 0) ⊎ (MAX_RECORDS < records))) }
-        ensures errors { IfErr result (λ e. (e ≡ Refusal.NoMemory) ⊎ (AreCounts clients records → ⊥)) }
+        ensures errors { IfErr result (λ e. (e ≡ Refusal.BadClients) ⊎ (e ≡ Refusal.BadRecords) ⊎
+            (e ≡ Refusal.NoMemory)) }
         ensures promises { IfOk result KeepsPromises }
     {
         let layout = BrokerLayout::make(clients, records)?;

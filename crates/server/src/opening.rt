@@ -1,6 +1,6 @@
 //! How a broker begins to serve.
 
-ghost use Rattle.std.specs.Prelude.{◌≡◌, ◌⊎◌, ◌<◌, ◌↔◌, Err, IfErr, IfNone, IfOk, IfSome, OnOk};
+ghost use Rattle.std.specs.Prelude.{◌≡◌, ◌⊎◌, ◌<◌, ◌≤◌, ◌↔◌, Err, IfErr, IfNone, IfOk, IfSome, OnOk};
 ghost use Rattle.persist.specs.Image.{reading};
 ghost use Rattle.arena.specs.Limits.{AreCounts};
 ghost use Rattle.named.specs.Booting.{MayRefuse};
@@ -12,7 +12,7 @@ ghost use Rattle.server.specs.Opening.{IsOpened, IsOpenedFrom, IsWhyUnopened};
 use named::Broker;
 use persist::Memory;
 use std::alloc::Global;
-use words::{MAX_CLIENTS, Refusal};
+use words::{MAX_CLIENTS, MAX_RECORDS, Refusal};
 
 /// The broker that a memory keeps, once it has recovered. It is refused as [`Broker::boot`] is, and recovery for want
 /// of memory alone (NoMemory).
@@ -41,8 +41,10 @@ pub fn opened(
     ensures counts { IfNone image.entry (OnOk result (AreCounts clients records)) }
     ensures bad_clients { IfNone image.entry
         (result ≡ Err Refusal.BadClients ↔ ((clients ≡ 0) ⊎ (MAX_CLIENTS < clients))) }
-    ensures unmade { IfNone image.entry
-        (IfErr result (λ e. (e ≡ Refusal.NoMemory) ⊎ (AreCounts clients records → ⊥))) }
+    ensures bad_records { IfNone image.entry (result ≡ Err Refusal.BadRecords ↔
+        ((1 ≤ clients) × (clients ≤ MAX_CLIENTS) × ((records ≡ 0) ⊎ (MAX_RECORDS < records)))) }
+    ensures unmade { IfNone image.entry (IfErr result (λ e.
+        (e ≡ Refusal.BadClients) ⊎ (e ≡ Refusal.BadRecords) ⊎ (e ≡ Refusal.NoMemory))) }
     ensures opened { IfSome image.entry (λ bytes. IfOk result (IsOpenedFrom bytes.now)) }
     ensures unopened { IfSome image.entry (λ bytes. IfErr result (IsWhyUnopened (reading bytes.now))) }
     ensures uncalled { IfOk result IsUncalled }
