@@ -1,0 +1,184 @@
+"""devices.py WHAT WORD..: devices that a shell cannot make fail, for tests/devices.sh.
+
+cut COMMAND..            runs a command whose input fails behind what is given to it
+reset COMMAND..          runs a command whose output is a connection that was reset
+limited BYTES COMMAND..  runs a command that is ended by the system where it writes more to a file
+full BYTES COMMAND..     runs a command whose files are full at so many bytes
+connections PORT         connections that are cut off in every way, beside one that is not; it ends with a stop
+"""
+
+import json
+import os
+import pty
+import resource
+import signal
+import socket
+import struct
+import subprocess
+import sys
+import time
+import tty
+
+
+def limited(size, command, ignores):
+    """Runs it with files of so many bytes at most. A write beyond fails, or ends the process. Answers the status."""
+    def prepare():
+        signal.signal(signal.SIGXFSZ, signal.SIG_IGN if ignores else signal.SIG_DFL)
+        resource.setrlimit(resource.RLIMIT_CORE, (0, 0))
+        resource.setrlimit(resource.RLIMIT_FSIZE, (size, size))
+    return subprocess.run(command, preexec_fn=prepare, restore_signals=False).returncode
+
+
+def cut(command):
+    """Its input is a terminal whose other side is gone: what was sent is read, and then reading fails."""
+    near, far = pty.openpty()
+    tty.setraw(far)
+    os.write(far, sys.stdin.buffer.read())
+    os.close(far)
+    return subprocess.run(command, stdin=near).returncode
+
+
+def reset(sock):
+    """Ends a connection at once, without a last word."""
+    sock.setsockopt(socket.SOL_SOCKET, socket.SO_LINGER, struct.pack("ii", 1, 0))
+    sock.close()
+
+
+def to_reset(command):
+    """Its output is a connection whose other side has reset it."""
+    listener = socket.create_server(("127.0.0.1", 0))
+    ours = socket.create_connection(listener.getsockname())
+    theirs, _ = listener.accept()
+    reset(ours)
+    time.sleep(0.05)
+    return subprocess.run(command, stdout=theirs).returncode
+
+
+class Steady:
+    """A connection that nothing happens to: its replies are those of a plain list."""
+
+    def __init__(self, port):
+        self.socket = socket.create_connection(("127.0.0.1", port))
+        self.replies = self.socket.makefile("rb")
+        self.count = 0
+
+    def ask(self, wanted, **request):
+        self.socket.sendall(json.dumps(request).encode() + b"\n")
+        reply = self.replies.readline()
+        if reply != wanted + b"\n":
+            print(f"{request} was answered {reply}, and not {wanted}")
+
+    def go_on(self, after):
+        """A put and a take. What is in the queue beside is nobody's."""
+        self.count += 1
+        self.ask(b'{"reply":"done"}', op="put", client=0, queue="a", value=self.count)
+        self.ask(b'{"got":%d,"reply":"got"}' % self.count, op="take", client=0, queue="a")
+        self.ask(b'{"reply":"empty"}', op="take", client=0, queue="a")
+        print(f"{after}: the others go on")
+
+
+def connect(port, sent):
+    """A connection that is to be cut off."""
+    global cuts
+    cuts += 1
+    sock = socket.create_connection(("127.0.0.1", port))
+    sock.settimeout(20)
+    sock.sendall(sent)
+    return sock
+
+
+def read(sock, length):
+    """So many bytes, or what comes before the end."""
+    got = b""
+    while len(got) < length and (part := sock.recv(length - len(got))):
+        got += part
+    return got
+
+
+def read_all(sock):
+    """What comes to the end."""
+    parts = []
+    while part := sock.recv(65536):
+        parts.append(part)
+    sock.close()
+    return b"".join(parts)
+
+
+cuts = 0
+PUT = b'{"op":"put","client":1,"queue":"a","value":77}'
+LIST = b'{"op":"list"}\n'
+LISTED = b'{"queues":[{"kind":"durable","queue":"a"}]}\n'
+
+
+def cut_lines(port, steady):
+    """Connections that end in the middle of a line: what was whole has its reply, and the rest is served or not."""
+    reset(connect(port, b""))
+    steady.go_on("reset before a line")
+    for at in range(1, len(PUT)):
+        sock = connect(port, LIST + PUT[:at])
+        if read(sock, len(LISTED)) != LISTED:
+            print("the whole line has another reply")
+        reset(sock)
+    steady.go_on(f"reset within a line, at each of {len(PUT) - 1} places")
+    sock = connect(port, LIST + PUT[:-1])
+    sock.shutdown(socket.SHUT_WR)
+    print("closed for sending within a line:", read_all(sock).decode().split())
+    steady.go_on("closed for sending within a line")
+    sock = connect(port, LIST + LIST[:-1])
+    sock.shutdown(socket.SHUT_WR)
+    print("closed for sending behind a line:", read_all(sock) == LISTED + LISTED)
+    steady.go_on("closed for sending behind a line")
+
+
+def cut_replies(port, steady):
+    """Connections that end while replies are on their way."""
+    for length in range(1, len(LISTED)):
+        sock = connect(port, LIST * 3)
+        read(sock, length)
+        reset(sock)
+    steady.go_on(f"reset within a reply, at each of {len(LISTED) - 1} places")
+    for _ in range(3):
+        sock = connect(port, LIST * 3000)
+        read(sock, 10)
+        reset(sock)
+    steady.go_on("reset before 3,000 replies")
+    sock = connect(port, b"")
+    sock.shutdown(socket.SHUT_RD)
+    sock.sendall(LIST * 30)
+    sock.shutdown(socket.SHUT_WR)
+    sock.close()
+    steady.go_on("closed for replies")
+    sock = connect(port, LIST * 3000)
+    sock.shutdown(socket.SHUT_WR)
+    time.sleep(0.2)
+    print("replies that are read late:", read_all(sock) == LISTED * 3000)
+
+
+def connections(port):
+    steady = Steady(port)
+    steady.ask(b'{"reply":"created","slot":0}', op="create", queue="a", kind="durable")
+    steady.go_on("at first")
+    cut_lines(port, steady)
+    cut_replies(port, steady)
+    steady.socket.close()
+    steady.replies.close()
+    # The stop's own connection is reset within its reply: what was accepted is done.
+    sock = connect(port, b'{"op":"stop"}\n')
+    print("stop:", read(sock, 5).decode())
+    reset(sock)
+    print(f"cut off: {cuts}")
+    return 0
+
+
+def main(what, *words):
+    if what == "connections":
+        return connections(int(words[0]))
+    if what in ("limited", "full"):
+        return limited(int(words[0]), words[1:], what == "full")
+    return {"cut": cut, "reset": to_reset}[what](words)
+
+
+if __name__ == "__main__":
+    status = main(*sys.argv[1:])
+    # A process that a signal ended has the status that a shell gives it.
+    sys.exit(status if status >= 0 else 128 - status)
