@@ -16,6 +16,8 @@ for program in "$pqd" "$pqx"; do
     }
 done
 faults=0
+# Where a case's own output is closed or full, what is wrong is still said.
+exec 6>&1
 script=examples/crash.script
 requests=tests/pqd/first-run.in
 
@@ -27,7 +29,7 @@ fails() {
     shift 3
     faults=$((faults + 1))
     timeout 20 "$@" 2> "$work/err" || status=$?
-    compare "$name" "$wanted" "$status" "$work/replies" "$work/wanted"
+    compare "$name" "$wanted" "$status" "$work/replies" "$work/wanted" >&6
 }
 : > "$work/replies"
 : > "$work/out"
