@@ -1,7 +1,7 @@
 #!/usr/bin/env bash
 # bench/fuzz.sh for some seconds and with one seed: pqx and pqd say what the plain programs say. And plain programs that
-# are wrong in one place are seen to differ, by the same seed: so the comparison can fail. It takes the programs that the
-# last `rt ci`, or `rt run` in their folders, left, or those that PQD and PQX name.
+# are wrong in one place are seen to differ, by the same seed: so the comparison can fail. It takes the programs that
+# the last `rt ci`, or `rt run` in their folders, left, or those that PQD and PQX name.
 set -eu
 cd "$(dirname "$0")/.."
 . tests/cases.sh
@@ -17,7 +17,7 @@ tail -n 1 "$work/out" | grep -qE '^scripts [1-9][0-9]*, lines [1-9][0-9]*, image
     || said+=' the last line is not that of a run without a difference'
 judge 'the plain programs' "$said"
 
-# A copy of the plain programs with one place changed: FILE OLD NEW WHAT-DIFFERS. The text that is old stands there once.
+# A copy of the plain programs with one place changed: FILE OLD NEW WHAT-DIFFERS. The old text stands there once.
 wrong() {
     local status=0 said=
     rm -rf "$work/plain"
@@ -39,8 +39,8 @@ wrong broker.py 'if number < last:' 'if number <= last:' lines
 wrong broker.py 'self.is_down = True' 'self.is_down = False' lines
 wrong lines.py 'GREATEST_VALUE = 2**32 - 1' 'GREATEST_VALUE = 2**32 - 2' lines
 wrong image.py 'require(gate or not any(blocks[slot]), "Directory")' 'pass' image
-wrong image.py 'if not self.node(number)[3]]' 'if True]' ''
-wrong machine.py 'self.cached = list(self.kept)' 'pass' script
+wrong image.py 'if not self.node(number)[3]]' 'if True]' '(image|lines)'
+wrong machine.py 'self.cached = list(self.kept)' 'pass' '(script|points|alone)'
 wrong machine.py 'self.effects.append([self.takers[value], "done", True])' 'pass' script
 
 count

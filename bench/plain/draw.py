@@ -126,7 +126,7 @@ def odd_line(draw):
     return draw.choice([
         b"", b" ", b"\r", b"{}", b"[]", b"null", b"0", b'"op"', b"\xef\xbb\xbf{}", b'{"op":"list"}}',
         b'{"op":"list"}\x00',
-        b" " * draw.choice([498, 499, 500, 512, 513, 600, 5000]) + b'{"op":"list"}',
+        b" " * draw.choice([498, 499, 500, 512, 513, 600, 5000, 70000]) + b'{"op":"list"}',
         (opening * depth + ("1" if opening != "[" else "") + closing * depth).encode(),
         bytes(draw.randrange(256) for _ in range(draw.randrange(40))).replace(b"\n", b""),
         (f'{{"op":"create","kind":"log","queue":{draw.choice(ODD_STRINGS)}}}').encode(),

@@ -10,6 +10,7 @@ from collections import Counter
 import draw as lines
 import image
 import images
+import points
 import script
 import scripts
 from broker import Broker, replies
@@ -78,12 +79,23 @@ class Fuzz:
         text = scripts.drawn_script(draw)
         wanted, machine = script.transcript(text)
         self.tried["scripts"] += 1
-        self.tried["acts printed"] += wanted[0].count(b"\n")
+        self.tried["lines of transcripts"] += wanted[0].count(b"\n")
         found = ran([self.pqx, "run"], text)
         broken = script.check_orders(found[0])
         if broken:
             raise Different("order", text, broken)
         compare("script", text, wanted, found)
+
+    def play_report(self, draw):
+        """A crash at each point of a short script, or each stopped call alone."""
+        text = scripts.drawn_script(draw)
+        while len(text) > 500:
+            text = scripts.drawn_script(draw)
+        command = draw.choice([["points"], ["points", "--evict", "all"], ["alone"]])
+        wanted = points.report(text, command)
+        self.tried["scripts"] += 1
+        self.tried["points"] += wanted[0].count(b"\n")
+        compare(" ".join(command), text, wanted, ran([self.pqx, *command], text))
 
     def play_image(self, draw):
         """An image is refused, or what begins on it is the plain broker that it keeps."""
@@ -129,11 +141,12 @@ def questions_of(broker):
 
 
 def turns(fuzz, seed, until):
-    """Turns until the time is over, each drawn by its own seed."""
+    """Turns until the time is over, each drawn by its own seed; each kind comes once at least."""
+    plays = [fuzz.play_lines, fuzz.play_image, fuzz.play_script, fuzz.play_report, fuzz.play_image, fuzz.play_script]
     turn = 0
-    while time.monotonic() < until:
+    while turn < len(plays) or time.monotonic() < until:
         draw = random.Random(f"{seed} {turn}")
-        play = draw.choice([fuzz.play_lines, fuzz.play_image, fuzz.play_image, fuzz.play_script, fuzz.play_script])
+        play = plays[turn % len(plays)]
         try:
             play(draw)
         except Different as different:
@@ -153,6 +166,7 @@ def main(pqd, pqx, seconds, seed, folder):
     status = turns(fuzz, seed, time.monotonic() + float(seconds))
     tried = fuzz.tried
     rules = ", ".join(f"{rule[8:]} {count}" for rule, count in sorted(tried.items()) if rule.startswith("refused "))
+    print(f"lines of transcripts {tried['lines of transcripts']}, points {tried['points']}")
     print(f"images served {tried['images served']}, refused: {rules or 'none'}")
     print(f"scripts {tried['scripts']}, lines {tried['lines']}, images {tried['images']}, differences {status}")
     return status
