@@ -124,14 +124,20 @@ def drawn_words(draw):
 
 
 def change_words(draw, words):
-    """Some words have other values."""
+    """Some words have other values: none, one that stands elsewhere, one beside it, or one that is too great."""
     for _ in range(draw.choice([1, 1, 2, 4])):
         used = [at for at, word in enumerate(words) if word]
-        at = draw.choice(used if draw.random() < 0.6 else range(len(words)))
-        words[at] = draw.choice([
-            0, 1, 2, 3, words[draw.choice(used)] if used else 0, words[at] + 1, max(0, words[at] - 1),
-            draw.randrange(8), 2**32, 2**40, 2**40 + 1, 2**63, 2**64 - 1,
-        ]) % 2**64
+        at = draw.choice(used if draw.random() < 0.7 else range(len(words)))
+        how = draw.randrange(4)
+        if how == 0:
+            words[at] = 0
+        elif how == 1:
+            words[at] = words[draw.choice(used)]
+        elif how == 2:
+            words[at] = max(0, words[at] + draw.choice([-1, 1]))
+        else:
+            words[at] = draw.choice([1, 2, 3, draw.randrange(8), 2**32, 2**40, 2**40 + 1, 2**63, 2**64 - 1])
+        words[at] %= 2**64
 
 
 def change_bytes(draw, data):
