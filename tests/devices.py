@@ -5,6 +5,7 @@ reset COMMAND..          runs a command whose output is a connection that was re
 limited BYTES COMMAND..  runs a command that is ended by the system where it writes more to a file
 full BYTES COMMAND..     runs a command whose files are full at so many bytes
 connections PORT         connections that are cut off in every way, beside one that is not; it ends with a stop
+descriptors PQD          a server that has descriptors for a few connections alone
 """
 
 import json
@@ -170,9 +171,43 @@ def connections(port):
     return 0
 
 
+def is_answered(sock, seconds):
+    """Whether a reply comes in time."""
+    sock.settimeout(seconds)
+    try:
+        return sock.recv(100) == b'{"queues":[]}\n'
+    except TimeoutError:
+        return False
+
+
+def descriptors(pqd):
+    """Where none is left a connection waits for the end of another one, and the others go on; a stop is a stop."""
+    def prepare():
+        resource.setrlimit(resource.RLIMIT_NOFILE, (6, 6))
+    command = [pqd, "serve", "--port", "0", "--workers", "8"]
+    server = subprocess.Popen(command, stdout=subprocess.PIPE, stderr=subprocess.DEVNULL, preexec_fn=prepare)
+    port = int(server.stdout.readline().rsplit(b":", 1)[1])
+    socks = [connect(port, LIST)]
+    while len(socks) < 8 and is_answered(socks[-1], 1):
+        socks.append(connect(port, LIST))
+    print("one waits:", 2 < len(socks) < 8)
+    socks[0].close()
+    print("it is served once another one has ended:", is_answered(socks[-1], 20))
+    waiting = connect(port, LIST)
+    socks[1].sendall(LIST)
+    print("the others go on:", is_answered(socks[1], 20))
+    socks[1].sendall(b'{"op":"stop"}\n')
+    print("stop:", read(socks[1], 21).decode().strip())
+    for sock in [*socks[1:], waiting]:
+        sock.close()
+    return server.wait(20)
+
+
 def main(what, *words):
     if what == "connections":
         return connections(int(words[0]))
+    if what == "descriptors":
+        return descriptors(words[0])
     if what in ("limited", "full"):
         return limited(int(words[0]), words[1:], what == "full")
     return {"cut": cut, "reset": to_reset}[what](words)

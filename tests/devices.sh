@@ -28,7 +28,7 @@ fails() {
     if [ -z "$3" ]; then : > "$work/wanted"; else printf '%s\n' "$3" > "$work/wanted"; fi
     shift 3
     faults=$((faults + 1))
-    timeout 20 "$@" 2> "$work/err" || status=$?
+    timeout 60 "$@" 2> "$work/err" || status=$?
     compare "$name" "$wanted" "$status" "$work/replies" "$work/wanted" >&6
 }
 : > "$work/replies"
@@ -207,6 +207,18 @@ warning='\[WARN  server::connections\] a connection ended: \(26 ReadFailed\|27 W
 grep -vx "$warning" "$work/warned" > "$work/err" || true
 : > "$work/out"
 compare 'serve with connections that are cut off' 0 "$status" /dev/null /dev/null
+
+# A server that may open a few connections alone.
+cat > "$work/replies" << 'END'
+one waits: True
+it is served once another one has ended: True
+the others go on: True
+stop: {"reply":"stopping"}
+END
+fails 'serve without descriptors' 0 '' python3 -B tests/devices.py descriptors "$pqd" > "$work/out"
+: > "$work/replies"
+: > "$work/out"
+
 cuts=$(sed -n 's/^cut off: //p' tests/devices.out)
 [ "$(wc -l < "$work/warned")" -le "$cuts" ] || judge 'connections that are cut off' 'more than a warning for each'
 faults=$((faults + cuts))
