@@ -183,14 +183,14 @@ def is_answered(sock, seconds):
 def descriptors(pqd):
     """Where none is left a connection waits for the end of another one, and the others go on; a stop is a stop."""
     def prepare():
-        resource.setrlimit(resource.RLIMIT_NOFILE, (6, 6))
+        resource.setrlimit(resource.RLIMIT_NOFILE, (9, 9))
     command = [pqd, "serve", "--port", "0", "--workers", "8"]
     server = subprocess.Popen(command, stdout=subprocess.PIPE, stderr=subprocess.DEVNULL, preexec_fn=prepare)
     port = int(server.stdout.readline().rsplit(b":", 1)[1])
     socks = [connect(port, LIST)]
-    while len(socks) < 8 and is_answered(socks[-1], 1):
+    while len(socks) < 9 and is_answered(socks[-1], 1):
         socks.append(connect(port, LIST))
-    print("one waits:", 2 < len(socks) < 8)
+    print("one waits:", 2 < len(socks) < 9)
     socks[0].close()
     print("it is served once another one has ended:", is_answered(socks[-1], 20))
     waiting = connect(port, LIST)
