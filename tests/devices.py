@@ -2,6 +2,7 @@
 
 cut COMMAND..            runs a command whose input fails behind what is given to it
 reset COMMAND..          runs a command whose output is a connection that was reset
+nobody COMMAND..         runs a command as a user who has no rights
 limited BYTES COMMAND..  runs a command that is ended by the system where it writes more to a file
 full BYTES COMMAND..     runs a command whose files are full at so many bytes
 connections PORT         connections that are cut off in every way, beside one that is not; it ends with a stop
@@ -28,6 +29,10 @@ def limited(size, command, ignores):
         resource.setrlimit(resource.RLIMIT_CORE, (0, 0))
         resource.setrlimit(resource.RLIMIT_FSIZE, (size, size))
     return subprocess.run(command, preexec_fn=prepare, restore_signals=False).returncode
+
+
+def as_nobody(command):
+    return subprocess.run(command, user=65534, group=65534, extra_groups=[]).returncode
 
 
 def cut(command):
@@ -210,7 +215,7 @@ def main(what, *words):
         return descriptors(words[0])
     if what in ("limited", "full"):
         return limited(int(words[0]), words[1:], what == "full")
-    return {"cut": cut, "reset": to_reset}[what](words)
+    return {"cut": cut, "reset": to_reset, "nobody": as_nobody}[what](words)
 
 
 if __name__ == "__main__":
