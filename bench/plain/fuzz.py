@@ -91,7 +91,8 @@ class Fuzz:
         text = scripts.drawn_script(draw)
         while len(text) > 500:
             text = scripts.drawn_script(draw)
-        command = draw.choice([["points"], ["points", "--evict", "all"], ["alone"]])
+        drawn = ["points", "--evict", "drawn", "--draw", str(draw.randrange(2**64))]
+        command = draw.choice([["points"], ["points", "--evict", "all"], drawn, drawn, ["alone"]])
         wanted = points.report(text, command)
         self.tried["scripts"] += 1
         self.tried["points"] += wanted[0].count(b"\n")

@@ -4,6 +4,24 @@ from machine import Machine
 from script import parsed
 
 
+class Pcg32:
+    """The generator of O'Neill (2014) with 64 bits of state, as `rand_pcg` begins it."""
+
+    def __init__(self, state, stream):
+        self.increment = (2 * stream + 1) % 2**64
+        self.state = (state + self.increment) % 2**64
+        self.advance()
+
+    def advance(self):
+        self.state = (self.state * 6364136223846793005 + self.increment) % 2**64
+
+    def draw(self):
+        state, turns = self.state, self.state >> 59
+        self.advance()
+        mixed = ((state >> 18 ^ state) >> 27) % 2**32
+        return (mixed >> turns | mixed << (32 - turns)) % 2**32
+
+
 def attempt(machine, act):
     """Makes an act, or refuses it. Whether it was made."""
     what, numbers = act[0], act[1:]
@@ -55,9 +73,17 @@ def after(queue, acts):
     return machine
 
 
-def point(machine, at, is_evicted):
+def evicted(size, at, command):
+    """The words that the environment keeps just before a crash at this point."""
+    if "drawn" in command:
+        draws = Pcg32(int(command[-1]), at)
+        return [word for word in range(size) if draws.draw() % 2 == 1]
+    return range(size) if "all" in command else []
+
+
+def point(machine, at, command):
     """A line on a crash that comes now."""
-    for word in range(len(machine.kept) if is_evicted else 0):
+    for word in evicted(len(machine.kept), at, command):
         machine.keep(word)
     machine.crash()
     done = None
@@ -87,13 +113,14 @@ def stopped(queue, made):
     return [*lines, f"alone {len(lines)} most {most}"]
 
 
-def crashed(queue, made, is_evicted):
-    lines = [point(after(queue, made[:at]), at, is_evicted) for at in range(len(made) + 1)]
+def crashed(queue, made, command):
+    lines = [point(after(queue, made[:at]), at, command) for at in range(len(made) + 1)]
     return [*lines, f"points {len(lines)} bad 0"]
 
 
 def report(text, command):
-    """Standard output, standard error and the status of `points`, `points --evict all` or `alone`."""
+    """Standard output, standard error and the status of `alone`, `points`, `points --evict all`, or
+    `points --evict drawn --draw N`."""
     script = parsed(text)
     if isinstance(script, int):
         return b"", f"pqx: line {script}: 28 BadLine\n".encode(), 1
@@ -101,5 +128,5 @@ def report(text, command):
     if queue is None:
         return b"", b"", 0
     made = accepted(queue, acts)
-    lines = stopped(queue, made) if command[0] == "alone" else crashed(queue, made, "all" in command)
+    lines = stopped(queue, made) if command[0] == "alone" else crashed(queue, made, command)
     return "".join(line + "\n" for line in lines).encode(), b"", 0
