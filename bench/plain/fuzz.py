@@ -36,12 +36,11 @@ def first_difference(wanted, found):
 
 
 def compare(kind, data, wanted, found):
-    if wanted != found:
-        if isinstance(wanted[0], bytes) and wanted[0] != found[0]:
-            said = first_difference(wanted[0], found[0])
-        else:
-            said = f"plain {wanted[1:]}, program {found[1:]}"
-        raise Different(kind, data, said)
+    """Standard output, standard error and status, or whatever else they came to."""
+    for one, other in zip(wanted, found):
+        if one != other:
+            is_text = isinstance(one, bytes)
+            raise Different(kind, data, first_difference(one, other) if is_text else f"plain {one}, program {other}")
 
 
 class Fuzz:
