@@ -185,13 +185,19 @@ def is_answered(sock, seconds):
         return False
 
 
-def descriptors(pqd):
-    """Where none is left a connection waits for the end of another one, and the others go on; a stop is a stop."""
-    def prepare():
-        resource.setrlimit(resource.RLIMIT_NOFILE, (9, 9))
+def serving(pqd, prepare, play):
+    """Plays with the port of a server that began as it was prepared, and answers its status."""
     command = [pqd, "serve", "--port", "0", "--workers", "8"]
     server = subprocess.Popen(command, stdout=subprocess.PIPE, stderr=subprocess.DEVNULL, preexec_fn=prepare)
-    port = int(server.stdout.readline().rsplit(b":", 1)[1])
+    try:
+        play(int(server.stdout.readline().rsplit(b":", 1)[1]))
+        return server.wait(20)
+    finally:
+        server.kill()
+
+
+def descriptors(port):
+    """Where none is left a connection waits for the end of another one, and the others go on; a stop is a stop."""
     socks = [connect(port, LIST)]
     while len(socks) < 9 and is_answered(socks[-1], 1):
         socks.append(connect(port, LIST))
@@ -205,14 +211,14 @@ def descriptors(pqd):
     print("stop:", read(socks[1], 21).decode().strip())
     for sock in [*socks[1:], waiting]:
         sock.close()
-    return server.wait(20)
 
 
 def main(what, *words):
     if what == "connections":
         return connections(int(words[0]))
     if what == "descriptors":
-        return descriptors(words[0])
+        few = lambda: resource.setrlimit(resource.RLIMIT_NOFILE, (9, 9))
+        return serving(words[0], few, descriptors)
     if what in ("limited", "full"):
         return limited(int(words[0]), words[1:], what == "full")
     return {"cut": cut, "reset": to_reset, "nobody": as_nobody}[what](words)
