@@ -6,6 +6,13 @@ set -eu
 cd "$(dirname "$0")/.."
 . tests/cases.sh
 export TMPDIR=$work
+for program in "${PQD:-$PWD/crates/pqd/out/pqd}" "${PQX:-$PWD/crates/pqx/out/pqx}"; do
+    [ -x "$program" ] || {
+        printf 'there is no %s: run rt ci, or rt run in its folder\n' "$program"
+        failed=1
+        count
+    }
+done
 
 # The right ones agree, and something of each kind was tried.
 status=0
@@ -29,7 +36,9 @@ path, old, new = sys.argv[1:]
 text = open(path).read()
 open(path, "w").write(text.replace(old, new))
 PYTHON
-    PLAIN=$work/plain bench/fuzz.sh 0.5 1 > "$work/out" 2>&1 || status=$?
+    # It ends at the first difference; the time is what a machine that has much to do may need.
+    PLAIN=$work/plain bench/fuzz.sh 3 1 > "$work/out" 2>&1 || status=$?
+    sed -n 's/^.* differs at \(seed 1, turn [0-9]*\): .*/a wrong one differs at \1/p' "$work/out"
     if [ "$status" -ne 1 ] || ! grep -qE "^$4.* differs at seed 1, turn [0-9]+: " "$work/out"; then
         said+="status $status: $(cat "$work/out")"
     fi
@@ -38,7 +47,7 @@ PYTHON
 wrong broker.py 'if number < last:' 'if number <= last:' lines
 wrong broker.py 'self.is_down = True' 'self.is_down = False' lines
 wrong lines.py 'GREATEST_VALUE = 2**32 - 1' 'GREATEST_VALUE = 2**32 - 2' lines
-wrong image.py 'require(gate or not any(blocks[slot]), "Directory")' 'pass' image
+wrong image.py 'require(len(data) == 12 + 8 * count, "TrailingBytes")' 'pass' image
 wrong image.py 'if not self.node(number)[3]]' 'if True]' '(image|lines)'
 wrong machine.py 'self.cached = list(self.kept)' 'pass' '(script|points|alone)'
 wrong machine.py 'self.effects.append([self.takers[value], "done", True])' 'pass' script
