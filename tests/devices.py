@@ -7,6 +7,7 @@ limited BYTES COMMAND..  runs a command that is ended by the system where it wri
 full BYTES COMMAND..     runs a command whose files are full at so many bytes
 connections PORT         connections that are cut off in every way, beside one that is not; it ends with a stop
 descriptors PQD          a server that has descriptors for a few connections alone
+strays PQD               a server that was given no input and no standard error
 """
 
 import json
@@ -213,7 +214,28 @@ def descriptors(port):
         sock.close()
 
 
+def without_places():
+    """No standard input, and no standard error."""
+    os.close(0)
+    os.close(2)
+
+
+def strays(port):
+    """No connection is sent the warnings of another one."""
+    first = connect(port, LIST)
+    print("the first one is answered:", is_answered(first, 20))
+    for _ in range(5):
+        other = connect(port, LIST + LIST[:3])
+        is_answered(other, 20)
+        reset(other)
+    first.sendall(LIST + b'{"op":"stop"}\n')
+    first.shutdown(socket.SHUT_WR)
+    print(read_all(first).decode().split("\n"))
+
+
 def main(what, *words):
+    if what == "strays":
+        return serving(words[0], without_places, strays)
     if what == "connections":
         return connections(int(words[0]))
     if what == "descriptors":

@@ -216,6 +216,11 @@ the others go on: True
 stop: {"reply":"stopping"}
 END
 fails 'serve without descriptors' 0 '' python3 -B tests/devices.py descriptors "$pqd" > "$work/out"
+cat > "$work/replies" << 'END'
+the first one is answered: True
+['{"queues":[]}', '{"reply":"stopping"}', '']
+END
+fails 'serve without an input and a standard error' 0 '' python3 -B tests/devices.py strays "$pqd" > "$work/out"
 : > "$work/replies"
 : > "$work/out"
 
