@@ -190,6 +190,7 @@ killed rename pipe --clients 1 --records 2 --image "$image" < "$requests"
 cmp -s "$image.new" "$work/first" || judge 'killed at the renaming of a first image' 'the new one is not whole'
 
 # Connections that are cut off, beside one that is not. Of each that was cut off there is one line of warning at most.
+: > "$work/listening"
 "$pqd" serve --port 0 --workers 3 --image "$image" < /dev/null > "$work/listening" 2> "$work/warned" &
 server=$!
 until grep -q '^listening ' "$work/listening"; do
