@@ -47,8 +47,8 @@ class Connection:
 class Server:
     """A running `pqd serve`."""
 
-    def __init__(self, pqd, image):
-        words = [pqd, "serve", "--clients", str(CLIENTS), "--records", str(RECORDS), "--port", "0", "--workers", "8"]
+    def __init__(self, pqd, image, records=RECORDS):
+        words = [pqd, "serve", "--clients", str(CLIENTS), "--records", str(records), "--port", "0", "--workers", "8"]
         self.process = subprocess.Popen([*words, "--image", image], stdout=subprocess.PIPE)
         line = self.process.stdout.readline().decode()
         if not line.startswith("listening "):

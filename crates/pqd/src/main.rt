@@ -17,6 +17,7 @@ use named::Broker;
 use options::{Listening, Mode, Options, command_line};
 use server::{net, opened, pipe};
 use std::alloc::AllocError;
+use std::fs::File;
 use std::net::{Net, SocketAddr, TcpListener};
 use std::process::ExitCode;
 use std::sync::Wait;
@@ -81,6 +82,16 @@ fn serve_input<T: Wait>(waits: &T, rt: &HostRuntime, broker: Broker) -> Result<V
     pipe(waits, rt.alloc(), broker, &mut reader, &mut writer)
 }
 
+/// Files in place of an input, an output and an error that the process was not given. Else a connection would have the
+/// place of standard error, and be sent the warnings.
+fn fill_places(rt: &HostRuntime) -> [io::Result<File>; 3] {
+    [
+        File::open(rt, "/dev/null"),
+        File::open(rt, "/dev/null"),
+        File::open(rt, "/dev/null"),
+    ]
+}
+
 /// Serves connections of the loopback, once it has said where it listens. The image that it leaves.
 fn serve_connections<T: Threads + Wait + Net + Log + Clock + Sync>(
     threads: &T,
@@ -90,6 +101,7 @@ fn serve_connections<T: Threads + Wait + Net + Log + Clock + Sync>(
 ) -> Result<Vec<u8>, Fault>
     requires { IsUncalled broker }
 {
+    let _places = fill_places(rt);
     let Ok(listener) = TcpListener::bind(rt, SocketAddr::from(([127u8, 0, 0, 1], at.port))) else {
         return Err(Fault::Listen);
     };
