@@ -131,6 +131,7 @@ rm "$image.new"
 ln -s image "$work/loop"
 ln -sf loop "$work/loop"
 fails 'an image whose name goes round' 1 'pqd: 26 ReadFailed' "$pqd" pipe --image "$work/loop" < /dev/null
+fails 'an image that never ends' 1 'pqd: 2 BadMagic' "$pqd" pipe --image /dev/zero < /dev/null
 long=$work/$(printf '%0253d' 0)
 fails 'an image whose name has no room for more' 1 'pqd: 27 WriteFailed' "$pqd" pipe --image "$long" < /dev/null
 fails 'an image whose name is too long' 1 'pqd: 26 ReadFailed' "$pqd" pipe --image "${long}000" < /dev/null

@@ -4,8 +4,9 @@ ghost use Rattle.std.specs.Prelude.{◌≡◌, ◌⊎◌, IfErr};
 ghost use Rattle.std.specs.IoError.{error_kind};
 ghost use Rattle.pqd.specs.Faults.{refusal_of_system};
 
+use persist::MAX_WORDS;
 use std::fs::{self, File};
-use std::io::{self, ErrorKind, Write};
+use std::io::{self, ErrorKind, Read, Write};
 use words::Refusal;
 
 /// What a fault of the system is, where something was to be read.
@@ -18,12 +19,24 @@ pub(crate) fn refusal_of(error: &io::Error) -> Refusal
     }
 }
 
-/// The file's bytes; nothing, where there is no such file. It is refused where the file is there and cannot be read
-/// (ReadFailed), and for want of memory (NoMemory).
+/// How many bytes are read at most: one more than the longest image has, so that what goes on after it is still seen.
+const MOST_BYTES: u64 = 12 + 8 * MAX_WORDS as u64 + 1;
+
+/// The beginning of the file's bytes, and all of them where they could be an image's: a file that never ends is refused
+/// as one that is too long.
+fn read_beginning(rt: &HostRuntime, path: &str) -> io::Result<Vec<u8>> {
+    let file = File::open(rt, path)?;
+    let mut bytes = Vec::new(rt.alloc());
+    file.take(MOST_BYTES).read_to_end(&mut bytes)?;
+    Ok(bytes)
+}
+
+/// The file's bytes, as far as they decide which image they are or what is wrong with them; nothing, where there is no
+/// such file. It is refused where the file is there and cannot be read (ReadFailed), and for want of memory (NoMemory).
 pub(crate) fn read(rt: &HostRuntime, path: &str) -> Result<Option<Vec<u8>>, Refusal>
     ensures { IfErr result (λ e. (e ≡ Refusal.NoMemory) ⊎ (e ≡ Refusal.ReadFailed)) }
 {
-    match fs::read(rt, path) {
+    match read_beginning(rt, path) {
         Ok(bytes) => Ok(Some(bytes)),
         Err(error) => {
             if error.kind() == ErrorKind::NotFound {
