@@ -126,7 +126,7 @@ fn looked_at(memory: &Memory) -> Result<(), Refusal> {
 }
 
 /// The rule by which words are refused, if all agree: the plain reading, those who look, and a broker that is to begin.
-fn agreed(alloc: Global, words: &[u64]) -> Result<Option<Option<Rule>>, Refusal> {
+pub(crate) fn agreed(alloc: Global, words: &[u64]) -> Result<Option<Option<Rule>>, Refusal> {
     let image = image_of(alloc, words)?;
     let rule = PlainBroker { words }.broken(alloc)?;
     let said = match rule {

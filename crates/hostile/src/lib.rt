@@ -7,6 +7,8 @@ mod brokers;
 #[cfg(test)]
 mod changes;
 #[cfg(test)]
+mod damaged;
+#[cfg(test)]
 mod drawn;
 #[cfg(test)]
 mod images;
