@@ -1,6 +1,8 @@
 //! Drawn images near sound ones: a broker begins exactly on those whose words keep the rules, and each of the others is
 //! refused by the same rule, whoever looks.
 
+ghost use Rattle.std.specs.Prelude.{◌<◌};
+
 use crate::brokers::{begun, create, serves};
 use crate::plain_broker::{PlainBroker, image_of, words_in};
 use arena::{BrokerLayout, SLOTS, SlotId};
@@ -105,7 +107,9 @@ fn is_sound_block(
     memory: &Memory,
     slot: u8,
     kind: Kind,
-) -> Result<(), Refusal> {
+) -> Result<(), Refusal>
+    requires { slot < SLOTS }
+{
     let block = memory.view(layout.block(SlotId(slot)), layout.block_size())?;
     match kind {
         Kind::Durable => sound(&layout.durable(), &block),

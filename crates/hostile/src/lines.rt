@@ -91,9 +91,9 @@ fn every_byte_at_every_place(rt: HostRuntime) -> Result<(), Fail> {
     assert_eq!(rt;
         tried,
         Tried {
-            requests: 0,
-            bad_json: 0,
-            bad_requests: 0
+            requests: 7_134,
+            bad_json: 176_125,
+            bad_requests: 36_733
         }
     );
     Ok(())

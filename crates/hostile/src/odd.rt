@@ -78,6 +78,11 @@ static TEXTS: [(&str, Option<Refusal>); 20] = [
     (r#""queue":'a'"#, Some(Refusal::BadJson)),
 ];
 
+/// How a line is refused, if it is.
+fn refused(alloc: Global, line: &[u8]) -> Option<Refusal> {
+    request(alloc, line).err()
+}
+
 #[test]
 fn numbers_of_each_spelling(rt: HostRuntime) -> Result<(), Fail> {
     let alloc = rt.alloc();
@@ -85,7 +90,7 @@ fn numbers_of_each_spelling(rt: HostRuntime) -> Result<(), Fail> {
         let line = format!(in alloc;
             r#"{{"op":"put","client":0,"queue":"a","value":{spelling}}}"#
         )?;
-        let said = request(alloc, line.as_bytes()).err();
+        let said = refused(alloc, line.as_bytes());
         assert!(rt; said == refusal, "{spelling}: {said:?}");
     }
     Ok(())
@@ -96,7 +101,7 @@ fn texts_of_each_spelling(rt: HostRuntime) -> Result<(), Fail> {
     let alloc = rt.alloc();
     for (text, refusal) in TEXTS {
         let line = format!(in alloc; r#"{{"op":"take","client":0,{text}}}"#)?;
-        let said = request(alloc, line.as_bytes()).err();
+        let said = refused(alloc, line.as_bytes());
         assert!(rt; said == refusal, "{text}: {said:?}");
     }
     Ok(())
@@ -119,7 +124,7 @@ fn arrays_within_arrays(rt: HostRuntime) -> Result<(), Fail> {
     let alloc = rt.alloc();
     for depth in 1..=256 {
         let line = nested(alloc, depth)?;
-        let said = request(alloc, line.as_slice()).err();
+        let said = refused(alloc, line.as_slice());
         let wanted = match depth {
             1..=127 => Refusal::BadRequest,
             _ => Refusal::BadJson,
