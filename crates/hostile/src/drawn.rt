@@ -84,7 +84,7 @@ fn word(rng: &mut Pcg32, count: usize) -> usize {
     match below(rng, 16) {
         0 => below(rng, 2) as usize,
         1 => below(rng, 34) as usize,
-        2 => below(rng, count as u32) as usize,
+        2 => below(rng, u32::try_from(count).unwrap_or(u32::MAX)) as usize,
         _ => below(rng, 150) as usize,
     }
 }

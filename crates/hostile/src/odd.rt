@@ -80,7 +80,10 @@ static TEXTS: [(&str, Option<Refusal>); 20] = [
 
 /// How a line is refused, if it is.
 fn refused(alloc: Global, line: &[u8]) -> Option<Refusal> {
-    request(alloc, line).err()
+    match request(alloc, line) {
+        Ok(_) => None,
+        Err(refusal) => Some(refusal),
+    }
 }
 
 #[test]

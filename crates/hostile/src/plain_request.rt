@@ -147,8 +147,11 @@ pub(crate) fn plain_request(alloc: Global, line: &[u8]) -> Result<Request, Refus
     if str::from_utf8(line).is_err() {
         return Err(Refusal::BadJson);
     }
-    match members(alloc, line)? {
-        None => Err(Refusal::BadJson),
-        Some(members) => members.request().ok_or(Refusal::BadRequest),
+    let Some(members) = members(alloc, line)? else {
+        return Err(Refusal::BadJson);
+    };
+    match members.request() {
+        None => Err(Refusal::BadRequest),
+        Some(request) => Ok(request),
     }
 }
