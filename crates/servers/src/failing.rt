@@ -1,44 +1,72 @@
-//! Readers and writers that fail in the middle, and what stands then.
+//! Readers and writers that fail in the middle of the story, and what stands then.
 
 ghost use Rattle.std.specs.Prelude.{◌≡◌};
 ghost use Rattle.workers.specs.Opening.{IsNameOf};
 
-use crate::playing::fresh;
+use crate::playing::{append_line, fresh};
+use crate::slow::{SlowReader, SlowWriter};
+use crate::story::STORY;
 use desk::{BrokerDesk, Seating};
-use devices::{FaultyReader, FaultyWriter};
+use devices::{CountedWriter, FaultyReader, FaultyWriter};
 use engine::serve;
 use server::{JsonLines, pipe};
 use session::Session;
-use std::alloc::Global;
+use std::alloc::{AllocError, Global};
+use std::io::{self, Write};
 use std::marker::Brand;
 use std::sync::Wait;
 use std::test::*;
 use words::Refusal;
 use workers::{Naming, Opened};
 
-/// Requests of one client, a line each.
-const INPUT: &[u8] = br#"{"op":"create","queue":"a","kind":"log"}
-{"op":"put","client":0,"queue":"a","number":1,"value":4294967295}
-{"op":"take","client":0,"queue":"a","number":2}
-"#;
+/// How many bytes the story's requests have, and its replies.
+const REQUEST_BYTES: usize = 663;
 
-/// How many bytes the first line has, with its newline, the first two and all three.
-const LINES: [usize; 3] = [41, 107, 155];
+const REPLY_BYTES: usize = 418;
 
-/// All replies.
-const OUTPUT: &[u8] = br#"{"reply":"created","slot":0}
-{"reply":"done"}
-{"got":4294967295,"reply":"got"}
-"#;
+/// Lines, and after how many bytes each of them ends.
+#[derive(Drop)]
+struct Lines {
+    bytes: Vec<u8>,
+    ends: Vec<usize>,
+}
 
-/// How many bytes the first reply has, with its newline, the first two and all three.
-const REPLIES: [usize; 3] = [29, 46, 79];
+impl Lines {
+    fn new(alloc: Global) -> Self {
+        Lines {
+            bytes: Vec::new(alloc),
+            ends: Vec::new(alloc),
+        }
+    }
 
-/// How many bytes a device takes or gives before it fails.
-#[derive(Clone, Copy)]
+    fn add(&mut self, line: &str) -> Result<(), AllocError> {
+        append_line(&mut self.bytes, line.as_bytes())?;
+        self.ends.push(self.bytes.len())?;
+        Ok(())
+    }
+
+    /// How many of them end within so many bytes.
+    fn within(&self, bytes: usize) -> usize {
+        self.ends.iter().filter(|end| **end <= bytes).count()
+    }
+}
+
+/// The story's requests, and its replies.
+fn story(alloc: Global) -> Result<(Lines, Lines), AllocError> {
+    let (mut requests, mut replies) = (Lines::new(alloc), Lines::new(alloc));
+    for (request, reply) in &STORY {
+        requests.add(request)?;
+        replies.add(reply)?;
+    }
+    Ok((requests, replies))
+}
+
+/// How many bytes devices give and take before they fail, and at a time.
+#[derive(Clone, Copy, Debug)]
 struct Limits {
     readable: usize,
     writable: usize,
+    each: usize,
 }
 
 /// How serving ended, what was written, and how many requests were made.
@@ -65,61 +93,113 @@ fn exchanged<J: Naming, T: Wait>(
     };
     let seats = Seating::new(alloc, seats)?;
     let mut desk = BrokerDesk::new(alloc, &shared, &seats);
-    let mut reader = FaultyReader::new(input, limits.readable);
-    let mut writer = FaultyWriter::new(alloc, limits.writable);
+    let mut reader = SlowReader::new(input, limits.each, limits.readable);
+    let mut writer = SlowWriter::new(alloc, limits.each, limits.writable);
     let end = serve::<T, JsonLines, _, _, _>(rt, alloc, &mut reader, &mut writer, &mut desk);
     Ok(Exchange {
         end,
-        written: Vec::from_slice(alloc, writer.written())?,
+        written: writer.into_written(),
         made: desk.served.len(),
     })
 }
 
-/// The input served by a new broker of one client with two records.
-fn served<T: Wait>(rt: &T, alloc: Global, limits: Limits) -> Result<Exchange, Fail> {
-    let session = Session::open(fresh(alloc, 1, 2)?);
+/// The input served by a new broker of two clients with two records each.
+fn served<T: Wait>(rt: &T, alloc: Global, input: &[u8], limits: Limits) -> Result<Exchange, Fail> {
+    let session = Session::open(fresh(alloc, 2, 2)?);
     match Opened::new(alloc, session) {
-        Ok(opened) => exchanged::<Brand, T>(rt, alloc, opened, INPUT, limits),
+        Ok(opened) => exchanged::<Brand, T>(rt, alloc, opened, input, limits),
         Err(not) => Err(Fail::new(not.refusal)),
     }
 }
 
-/// How many of these are no more than the bytes that there are.
-fn how_many(ends: [usize; 3], bytes: usize) -> usize {
-    ends.iter().filter(|end| **end <= bytes).count()
+#[test]
+fn a_byte_at_a_time(rt: HostRuntime) -> Result<(), Fail> {
+    let (requests, replies) = story(rt.alloc())?;
+    assert_eq!(rt; requests.bytes.len(), REQUEST_BYTES);
+    assert_eq!(rt; replies.bytes.len(), REPLY_BYTES);
+    let limits = Limits {
+        readable: usize::MAX,
+        writable: usize::MAX,
+        each: 1,
+    };
+    let found = served(&rt, rt.alloc(), requests.bytes.as_slice(), limits)?;
+    assert!(rt; found.end == Ok(()));
+    assert!(rt; found.written.as_slice() == replies.bytes.as_slice());
+    assert_eq!(rt; found.made, STORY.len());
+    Ok(())
 }
 
+/// All lines come at once, so all requests are made before their replies go. A flush fails where all bytes were taken.
 #[test]
 fn a_writer_fails_after_each_byte(rt: HostRuntime) -> Result<(), Fail> {
-    for writable in 0..=OUTPUT.len() {
+    let (requests, replies) = story(rt.alloc())?;
+    for writable in 0..=REPLY_BYTES {
         let limits = Limits {
             readable: usize::MAX,
             writable,
+            each: usize::MAX,
         };
-        let found = served(&rt, rt.alloc(), limits)?;
-        // All lines come at once, so the replies go at once too. A flush fails where all bytes were taken.
+        let found = served(&rt, rt.alloc(), requests.bytes.as_slice(), limits)?;
         assert!(rt; found.end == Err(Refusal::WriteFailed), "{writable}");
         assert_eq!(rt; found.written.len(), writable);
-        assert!(rt; OUTPUT.starts_with(found.written.as_slice()), "{writable}");
-        assert_eq!(rt; found.made, 3, "{writable}");
+        assert!(rt;
+            replies.bytes.starts_with(found.written.as_slice()),
+            "{writable}"
+        );
+        assert_eq!(rt; found.made, STORY.len(), "{writable}");
     }
     Ok(())
 }
 
+/// Each line comes by itself, so its reply goes before the next request is made.
+#[test]
+fn a_slow_writer_fails_after_each_byte(rt: HostRuntime) -> Result<(), Fail> {
+    let (requests, replies) = story(rt.alloc())?;
+    for writable in 1..=REPLY_BYTES {
+        let limits = Limits {
+            readable: usize::MAX,
+            writable,
+            each: 1,
+        };
+        let found = served(&rt, rt.alloc(), requests.bytes.as_slice(), limits)?;
+        assert!(rt; found.end == Err(Refusal::WriteFailed), "{writable}");
+        assert_eq!(rt; found.written.len(), writable);
+        assert!(rt;
+            replies.bytes.starts_with(found.written.as_slice()),
+            "{writable}"
+        );
+        let whole = replies.within(writable.saturating_sub(1));
+        assert_eq!(rt; found.made, whole.saturating_add(1), "{writable}");
+    }
+    Ok(())
+}
+
+/// Whatever was read of a line that did not end, it is not served.
 #[test]
 fn a_reader_fails_after_each_byte(rt: HostRuntime) -> Result<(), Fail> {
-    for readable in 0..=INPUT.len() {
-        let limits = Limits {
-            readable,
-            writable: usize::MAX,
-        };
-        let found = served(&rt, rt.alloc(), limits)?;
-        let lines = how_many(LINES, readable);
-        assert!(rt; found.end == Err(Refusal::ReadFailed), "{readable}");
-        assert_eq!(rt; found.made, lines, "{readable}");
-        let replies = how_many(REPLIES, found.written.len());
-        assert_eq!(rt; replies, lines, "{readable}");
-        assert!(rt; OUTPUT.starts_with(found.written.as_slice()), "{readable}");
+    let (requests, replies) = story(rt.alloc())?;
+    for readable in 0..=REQUEST_BYTES {
+        for each in [1, 7, usize::MAX] {
+            let limits = Limits {
+                readable,
+                writable: usize::MAX,
+                each,
+            };
+            let found = served(&rt, rt.alloc(), requests.bytes.as_slice(), limits)?;
+            let lines = requests.within(readable);
+            assert!(rt; found.end == Err(Refusal::ReadFailed), "{limits:?}");
+            assert_eq!(rt; found.made, lines, "{limits:?}");
+            assert!(rt;
+                replies.bytes.starts_with(found.written.as_slice()),
+                "{limits:?}"
+            );
+            assert_eq!(rt; replies.within(found.written.len()), lines, "{limits:?}");
+            let ends = replies.ends.contains(&found.written.len());
+            assert!(rt;
+                ends || lines == 0 && found.written.is_empty(),
+                "{limits:?}"
+            );
+        }
     }
     Ok(())
 }
@@ -127,16 +207,14 @@ fn a_reader_fails_after_each_byte(rt: HostRuntime) -> Result<(), Fail> {
 /// The two first lines, and a writer that fails in the second reply.
 #[test]
 fn a_writer_fails_in_the_second_reply(rt: HostRuntime) -> Result<(), Fail> {
-    let session = Session::open(fresh(rt.alloc(), 2, 2)?);
-    let Ok(opened) = Opened::new(rt.alloc(), session) else {
-        return Err(Fail::new("it is in use"));
-    };
+    let (requests, _) = story(rt.alloc())?;
     let limits = Limits {
         readable: usize::MAX,
         writable: 30,
+        each: usize::MAX,
     };
-    let input = INPUT.get(..107).ok_or("two lines")?;
-    let found = exchanged::<Brand, _>(&rt, rt.alloc(), opened, input, limits)?;
+    let input = requests.bytes.as_slice().get(..107).ok_or("two lines")?;
+    let found = served(&rt, rt.alloc(), input, limits)?;
     assert!(rt; found.end == Err(Refusal::WriteFailed));
     assert!(rt; found.written.as_slice() == b"{\"reply\":\"created\",\"slot\":0}\n{".as_slice());
     assert_eq!(rt; found.made, 2);
@@ -146,20 +224,37 @@ fn a_writer_fails_in_the_second_reply(rt: HostRuntime) -> Result<(), Fail> {
 /// A reader that fails in the second line.
 #[test]
 fn a_reader_fails_in_the_second_line(rt: HostRuntime) -> Result<(), Fail> {
+    let (requests, _) = story(rt.alloc())?;
     let limits = Limits {
         readable: 50,
         writable: usize::MAX,
+        each: usize::MAX,
     };
-    let found = served(&rt, rt.alloc(), limits)?;
+    let found = served(&rt, rt.alloc(), requests.bytes.as_slice(), limits)?;
     assert!(rt; found.end == Err(Refusal::ReadFailed));
     assert!(rt; found.written.as_slice() == b"{\"reply\":\"created\",\"slot\":0}\n".as_slice());
     assert_eq!(rt; found.made, 1);
     Ok(())
 }
 
+/// A writer of std's that takes no byte, and says so.
+#[derive(Drop)]
+struct Full;
+
+impl Write for Full {
+    fn write(&mut self, _bytes: &[u8]) -> io::Result<usize> {
+        Ok(0)
+    }
+
+    fn flush(&mut self) -> io::Result<()> {
+        Ok(())
+    }
+}
+
 #[test]
 fn a_pipe_that_fails_leaves_no_image(rt: HostRuntime) -> Result<(), Fail> {
     let alloc = rt.alloc();
+    let (requests, _) = story(alloc)?;
     let cases = [
         (50, usize::MAX, Refusal::ReadFailed),
         (usize::MAX, 30, Refusal::WriteFailed),
@@ -167,10 +262,14 @@ fn a_pipe_that_fails_leaves_no_image(rt: HostRuntime) -> Result<(), Fail> {
         (50, 28, Refusal::WriteFailed),
     ];
     for (readable, writable, wanted) in cases {
-        let mut reader = FaultyReader::new(INPUT, readable);
+        let mut reader = FaultyReader::new(requests.bytes.as_slice(), readable);
         let mut writer = FaultyWriter::new(alloc, writable);
-        let left = pipe(&rt, alloc, fresh(alloc, 1, 2)?, &mut reader, &mut writer);
+        let left = pipe(&rt, alloc, fresh(alloc, 2, 2)?, &mut reader, &mut writer);
         assert!(rt; left.err() == Some(wanted), "{readable} {writable}");
     }
+    let mut reader = FaultyReader::new(requests.bytes.as_slice(), usize::MAX);
+    let mut writer = CountedWriter::new(Full);
+    let left = pipe(&rt, alloc, fresh(alloc, 2, 2)?, &mut reader, &mut writer);
+    assert!(rt; left.err() == Some(Refusal::WriteFailed));
     Ok(())
 }

@@ -22,6 +22,8 @@ mod playing;
 #[cfg(test)]
 mod sharing;
 #[cfg(test)]
+mod slow;
+#[cfg(test)]
 mod story;
 #[cfg(test)]
 mod told;

@@ -281,11 +281,17 @@ fn bytes_that_are_no_text(rt: HostRuntime) -> Result<(), Fail> {
 #[test]
 fn arrays_within_arrays(rt: HostRuntime) -> Result<(), Fail> {
     let alloc = rt.alloc();
-    let mut line = Vec::new(alloc);
-    for _ in 0..MAX_LINE {
-        line.push(b'[')?;
+    let cases = [
+        (MAX_LINE, "{\"error\":24,\"name\":\"BadJson\"}\n"),
+        (10_000, "{\"error\":23,\"name\":\"TooLong\"}\n"),
+    ];
+    for (depth, wanted) in cases {
+        let mut line = Vec::new(alloc);
+        for _ in 0..depth {
+            line.push(b'[')?;
+        }
+        let piped = piped(&rt, alloc, fresh(alloc, 1, 1)?, line.as_slice())?;
+        assert!(rt; piped.written.as_slice() == wanted.as_bytes(), "{depth}");
     }
-    let piped = piped(&rt, alloc, fresh(alloc, 1, 1)?, line.as_slice())?;
-    assert!(rt; piped.written.as_slice() == b"{\"error\":24,\"name\":\"BadJson\"}\n".as_slice());
     Ok(())
 }

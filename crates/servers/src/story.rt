@@ -3,7 +3,7 @@
 use crate::playing::{Row, fresh, played};
 use std::test::Fail;
 
-static STORY: [Row; 15] = [
+pub(crate) static STORY: [Row; 15] = [
     (
         r#"{"op":"create","queue":"a","kind":"log"}"#,
         r#"{"reply":"created","slot":0}"#,
