@@ -19,16 +19,16 @@ use std::sync::Wait;
 use words::{Client, Refusal};
 use workers::{Naming, Opened, Shared};
 
-/// A line, and what is done where the call that it asks for is left unfinished.
+/// What is done where the call that a line asks for is left unfinished.
 #[derive(Clone, Copy)]
-enum Line {
+enum Asks {
     /// It is sent again: a number is answered with its reply.
-    Numbered(&'static str),
+    Numbered,
     /// A put without a number is finished by the client's next request, and its reply was that it is done.
-    Put(&'static str),
+    Put,
     /// A take without a number is finished so too. Its reply is lost, so it is not shown: a crash comes next, after
     /// which the client is told it.
-    Take(&'static str),
+    Take,
 }
 
 /// A request that finishes the client's open call and is refused itself, since the queue is of the other kind.
@@ -41,31 +41,67 @@ static DONE: &[u8] = b"{\"reply\":\"done\"}\n";
 static UNFINISHED: &[u8] = b"{\"reply\":\"unfinished\"}\n";
 
 /// Both queues begin with an event, that they are ready, so that calls stop half way for want of memory too.
-static LINES: [Line; 24] = [
-    Line::Numbered(r#"{"op":"list"}"#),
-    Line::Numbered(r#"{"op":"put","client":0,"queue":"a","number":4,"value":1}"#),
-    Line::Numbered(r#"{"op":"put","client":0,"queue":"a","number":5,"value":2}"#),
-    Line::Numbered(r#"{"op":"take","client":1,"queue":"a","number":2}"#),
-    Line::Numbered(r#"{"op":"take","client":1,"queue":"a","number":3}"#),
-    Line::Numbered(r#"{"op":"take","client":1,"queue":"a","number":9}"#),
-    Line::Put(r#"{"op":"put","client":0,"queue":"b","value":3}"#),
-    Line::Put(r#"{"op":"put","client":0,"queue":"b","value":4}"#),
-    Line::Take(r#"{"op":"take","client":0,"queue":"b"}"#),
-    Line::Numbered(r#"{"op":"crash"}"#),
-    Line::Numbered(r#"{"op":"put","client":0,"queue":"a","number":6,"value":1}"#),
-    Line::Numbered(r#"{"op":"recover"}"#),
-    Line::Numbered(r#"{"op":"told","client":0,"queue":"b"}"#),
-    Line::Put(r#"{"op":"put","client":0,"queue":"b","value":5}"#),
-    Line::Take(r#"{"op":"take","client":0,"queue":"b"}"#),
-    Line::Numbered(r#"{"op":"crash"}"#),
-    Line::Numbered(r#"{"op":"recover"}"#),
-    Line::Numbered(r#"{"op":"told","client":0,"queue":"b"}"#),
-    Line::Numbered(r#"{"op":"create","queue":"c","kind":"log"}"#),
-    Line::Numbered(r#"{"op":"put","client":1,"queue":"c","number":1,"value":1}"#),
-    Line::Numbered(r#"{"op":"take","client":0,"queue":"c","number":1}"#),
-    Line::Numbered(r#"{"op":"told","client":0,"queue":"c"}"#),
-    Line::Numbered(r#"{"op":"told","client":2,"queue":"c"}"#),
-    Line::Numbered(r#"{"op":"stop"}"#),
+static LINES: [(Asks, &str); 24] = [
+    (Asks::Numbered, r#"{"op":"list"}"#),
+    (
+        Asks::Numbered,
+        r#"{"op":"put","client":0,"queue":"a","number":4,"value":1}"#,
+    ),
+    (
+        Asks::Numbered,
+        r#"{"op":"put","client":0,"queue":"a","number":5,"value":2}"#,
+    ),
+    (
+        Asks::Numbered,
+        r#"{"op":"take","client":1,"queue":"a","number":2}"#,
+    ),
+    (
+        Asks::Numbered,
+        r#"{"op":"take","client":1,"queue":"a","number":3}"#,
+    ),
+    (
+        Asks::Numbered,
+        r#"{"op":"take","client":1,"queue":"a","number":9}"#,
+    ),
+    (
+        Asks::Put,
+        r#"{"op":"put","client":0,"queue":"b","value":3}"#,
+    ),
+    (
+        Asks::Put,
+        r#"{"op":"put","client":0,"queue":"b","value":4}"#,
+    ),
+    (Asks::Take, r#"{"op":"take","client":0,"queue":"b"}"#),
+    (Asks::Numbered, r#"{"op":"crash"}"#),
+    (
+        Asks::Numbered,
+        r#"{"op":"put","client":0,"queue":"a","number":6,"value":1}"#,
+    ),
+    (Asks::Numbered, r#"{"op":"recover"}"#),
+    (Asks::Numbered, r#"{"op":"told","client":0,"queue":"b"}"#),
+    (
+        Asks::Put,
+        r#"{"op":"put","client":0,"queue":"b","value":5}"#,
+    ),
+    (Asks::Take, r#"{"op":"take","client":0,"queue":"b"}"#),
+    (Asks::Numbered, r#"{"op":"crash"}"#),
+    (Asks::Numbered, r#"{"op":"recover"}"#),
+    (Asks::Numbered, r#"{"op":"told","client":0,"queue":"b"}"#),
+    (
+        Asks::Numbered,
+        r#"{"op":"create","queue":"c","kind":"log"}"#,
+    ),
+    (
+        Asks::Numbered,
+        r#"{"op":"put","client":1,"queue":"c","number":1,"value":1}"#,
+    ),
+    (
+        Asks::Numbered,
+        r#"{"op":"take","client":0,"queue":"c","number":1}"#,
+    ),
+    (Asks::Numbered, r#"{"op":"told","client":0,"queue":"c"}"#),
+    (Asks::Numbered, r#"{"op":"told","client":2,"queue":"c"}"#),
+    (Asks::Numbered, r#"{"op":"stop"}"#),
 ];
 
 /// What can be seen of the broker beside the desk.
@@ -79,6 +115,11 @@ fn seen_beside<J: Naming, R: Wait + AllocGlobal>(rt: &R, shared: &Shared<J>) -> 
         }
     }
     Ok(text)
+}
+
+/// Whether a reply is this one.
+fn is_reply(found: &[u8], wanted: &[u8]) -> bool {
+    found == wanted
 }
 
 /// Serves a line, and writes its reply.
@@ -118,19 +159,20 @@ fn finished<J: Naming, R: Wait + Print + AllocGlobal>(
     rt: &R,
     shared: &Shared<J>,
     desk: &mut BrokerDesk<'_, J>,
-    line: Line,
+    asks: Asks,
+    line: &str,
 ) -> Result<()> {
     println!(rt; "unfinished: a request at a desk")?;
-    if let Line::Numbered(text) = line {
-        let reply = served_at_last(rt, shared, desk, text)?;
+    if matches!(asks, Asks::Numbered) {
+        let reply = served_at_last(rt, shared, desk, line)?;
         print!(rt; "{}", text_of(reply.written()))?;
         return Ok(());
     }
     let reply = served_at_last(rt, shared, desk, FINISHING)?;
-    if reply.written() != WRONG_KIND {
+    if !is_reply(reply.written(), WRONG_KIND) {
         println!(rt; "changed: the kind of the queue")?;
     }
-    if let Line::Put(_) = line {
+    if matches!(asks, Asks::Put) {
         print!(rt; "{}", text_of(DONE))?;
     }
     Ok(())
@@ -141,18 +183,15 @@ fn play_line<J: Naming, R: Wait + Print + AllocGlobal>(
     rt: &R,
     shared: &Shared<J>,
     desk: &mut BrokerDesk<'_, J>,
-    line: Line,
+    asks: Asks,
+    line: &str,
 ) -> Result<()> {
-    let (text, is_shown) = match line {
-        Line::Numbered(text) | Line::Put(text) => (text, true),
-        Line::Take(text) => (text, false),
-    };
-    println!(rt; "{text}")?;
-    let reply = served_at_last(rt, shared, desk, text)?;
-    if reply.written() == UNFINISHED {
-        return finished(rt, shared, desk, line);
+    println!(rt; "{line}")?;
+    let reply = served_at_last(rt, shared, desk, line)?;
+    if is_reply(reply.written(), UNFINISHED) {
+        return finished(rt, shared, desk, asks, line);
     }
-    if is_shown {
+    if !matches!(asks, Asks::Take) {
         print!(rt; "{}", text_of(reply.written()))?;
     }
     Ok(())
@@ -165,8 +204,8 @@ fn play_lines<J: Naming, R: Wait + Print + AllocGlobal>(
     seats: &Seating<J>,
 ) -> Result<()> {
     let mut desk = BrokerDesk::new(rt.alloc(), shared, seats);
-    for line in &LINES {
-        play_line(rt, shared, &mut desk, *line)?;
+    for (asks, line) in &LINES {
+        play_line(rt, shared, &mut desk, *asks, line)?;
     }
     println!(rt; "stopped: {}", desk.is_stopped())?;
     Ok(())

@@ -7,7 +7,7 @@ use anyhow::Result;
 use history::{Effect, Event, History, Order, Sequence, check, order, replay};
 use words::{Call, Client, Refusal, Reply, Told};
 
-static EVENTS: [Event; 7] = [
+const EVENTS: [Event; 7] = [
     Event::Call {
         client: Client(0),
         number: 1,
@@ -84,9 +84,10 @@ fn make_room<R: Print>(rt: &R, events: &mut Sequence<Event>) -> Result<()>
 /// The events one after another.
 fn filled<R: Print + AllocGlobal>(rt: &R) -> Result<Sequence<Event>> {
     let mut events = Sequence::new(rt.alloc());
-    for event in &EVENTS {
+    let all = EVENTS;
+    for event in all {
         make_room(rt, &mut events)?;
-        events.push(*event);
+        events.push(event);
     }
     Ok(events)
 }
