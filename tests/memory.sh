@@ -1,41 +1,76 @@
 #!/usr/bin/env bash
-# What no clause says of refused memory: each allocation of crates/starved is refused in turn, and the program ends as
-# where none is, but for the lines that say what was refused. Among the refused are a step of a call, which stays under
-# way, a crash, a recovery and a rotation. It takes the program that the last `rt ci`, or `rt run` in crates/starved,
-# left.
+# What no clause says of refused memory: each allocation of crates/refusals is refused in turn, and the program ends as
+# where none is, but for the lines that say what was refused. These name every call that can be refused memory, and each
+# is made again. The parts of its story are told one at a time, so that a refusal costs that part alone. It takes the
+# program that the last `rt ci`, or `rt run` in crates/refusals, left, or the one that REFUSALS names.
 set -eu
 cd "$(dirname "$0")/.."
 . tests/cases.sh
-starved=$PWD/crates/starved/out/starved
-[ -x "$starved" ] || {
-    printf 'there is no %s: run rt ci, or rt run in crates/starved\n' "$starved"
+refusals=${REFUSALS:-$PWD/crates/refusals/out/refusals}
+[ -x "$refusals" ] || {
+    printf 'there is no %s: run rt ci, or rt run in crates/refusals\n' "$refusals"
     failed=1
     count
 }
 "$(dirname "$(rt doc)")/toolchain/bin/clang" --target=x86_64-unknown-linux-gnu -shared -fPIC -nostdlib -fuse-ld=lld \
     -o "$work/refusing.so" tests/refusing.c
 
-# Runs the program with this allocation refused, and compares what it says, without the lines on what was refused, and
-# its status: NUMBER ERR-WANTED
-play() {
-    local status=0
-    REFUSED=$1 LD_PRELOAD=$work/refusing.so "$starved" > "$work/said" 2> "$work/err" || status=$?
-    cat "$work/said" >> "$work/all"
-    sed '/^\(again\|unfinished\|busy\)/d' "$work/said" > "$work/out"
-    compare "allocation-$1-refused" 0 "$status" crates/starved/stdout "$2"
+# What a part told, without the lines that say what was refused: FILE
+told() {
+    grep -vE '^(again|unfinished|busy)' "$1"
 }
 
-# With none refused it says how many there are.
-REFUSED=0 LD_PRELOAD=$work/refusing.so "$starved" 2> "$work/count" > /dev/null
-play 0 "$work/count"
-for ((number = 1; number <= $(cat "$work/count"); number++)); do
-    play $number /dev/null
-done
+# Tells a part with this allocation refused, and notes what differs from the part with none refused: PART NUMBER
+play() {
+    local status=0 said=$work/said.$2 err=$work/err.$2
+    REFUSED=$2 LD_PRELOAD=$work/refusing.so "$refusals" "$1" > "$said" 2> "$err" || status=$?
+    if [ "$status" -ne 0 ] || [ -s "$err" ] || ! told "$said" | cmp -s - "$work/wanted"; then
+        {
+            printf '%s: with allocation %d refused it ends with status %d\n' "$1" "$2" "$status"
+            told "$said" | diff --text "$work/wanted" - | head -n 4
+            head -n 2 "$err"
+        } > "$work/differs.$1.$(printf %06d "$2")"
+    fi
+}
 
-# Each of these was seen.
-for line in 'unfinished: 4' busy 'again: 1' 'again: the crash, NoMemory' 'again: the recovery, NoMemory' \
-    'again: the rotation, NoMemory'; do
-    judge "$line" "$(grep -qx "$line" "$work/all" || echo 'was never said')"
+# Tells a part with each of these allocations refused, and notes what was refused: PART NUMBER..
+play_all() {
+    local part=$1 number
+    shift
+    for number; do
+        play "$part" "$number"
+    done
+    (cd "$work" && cat "${@/#/said.}" | grep -E '^(again|changed|unfinished|busy)' > "seen.$part.$1" || true)
+    (cd "$work" && rm "${@/#/said.}" "${@/#/err.}")
+}
+export -f told play play_all
+export work refusals
+
+# A part with none refused, and then with each of its allocations refused, which it says how many there are: PART
+tell() {
+    local number
+    REFUSED=0 LD_PRELOAD=$work/refusing.so "$refusals" "$1" > "$work/wanted" 2> "$work/count"
+    cat "$work/wanted" >> "$work/out"
+    number=$(cat "$work/count")
+    seq 1 "$number" | xargs -P "$(nproc)" -n 32 bash -c 'play_all "$@"' bash "$1"
+    growths=$((growths + number))
+    judge "each allocation refused: $1" "$(cat "$work/differs.$1."* 2> /dev/null | head -n 20)"
+}
+
+growths=0
+: > "$work/out"
+for part in memories histories worlds brokers sessions shareds desks scripts; do
+    tell "$part"
 done
+: > "$work/err"
+compare 'none refused' 0 0 crates/refusals/stdout /dev/null
+printf 'growths refused: %d\n' "$growths"
+
+# Each call that can be refused was seen to be, and no other one.
+cat "$work"/seen.* | sort -u > "$work/seen"
+while read -r line; do
+    judge "$line" "$(grep -qx "$line" "$work/seen" || echo 'was never said')"
+done < tests/memory/again
+judge 'what was said' "$(grep -vxf tests/memory/again "$work/seen" || true)"
 
 count

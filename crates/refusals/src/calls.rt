@@ -1,22 +1,30 @@
-//! Calls that are made again where they were refused memory, and gone on with where a step of them was.
+//! Calls of a shared session that are made again where they were refused memory, and gone on with where a step of them
+//! was.
 
 ghost use Rattle.std.specs.Prelude.{◌≡◌, IfOk};
 
-use crate::opening::{MOST_TRIES, QUEUE};
-use crate::seats::{all, only};
+use crate::again::{MOST_TRIES, say_again};
+use crate::seats::{all, only, seen_beside};
 use anyhow::Result;
+use arena::SlotId;
 use std::sync::Wait;
 use words::{Call, Refusal};
 use workers::{Answer, Gate, Naming, OpenGate, Seat, Shared};
 
-/// Prints what a call came to, under its number.
-fn show<R: Print>(rt: &R, number: u64, answer: Answer) -> Result<()> {
-    match answer {
-        Answer::Reply(reply) => println!(rt; "{number}: {reply}")?,
-        Answer::Refused(refusal) => println!(rt; "{number}: refused, {}", refusal.name())?,
-        Answer::Interrupted => println!(rt; "{number}: interrupted")?,
-        Answer::Unfinished => println!(rt; "unfinished: {number}")?,
-    }
+/// A call as it is asked for.
+#[derive(Clone, Copy, Debug)]
+pub(crate) struct Asked {
+    pub(crate) queue: SlotId,
+    pub(crate) number: Option<u64>,
+    pub(crate) call: Call,
+}
+
+/// Prints what a call came to.
+fn show<R: Print>(rt: &R, asked: Asked, answer: Answer) -> Result<()> {
+    println!(rt;
+        "{:?} {:?} {:?}: {answer:?}",
+        asked.queue, asked.number, asked.call
+    )?;
     Ok(())
 }
 
@@ -30,12 +38,14 @@ fn rotate_too_early<J: Naming, R: Wait + Print + AllocGlobal>(
     requires clients { J.clients ≡ 1 }
     ensures { IfOk result (λ next. next.client ≡ seat.client) }
 {
-    let before = seat.list.clone()?;
+    let before = seen_beside(rt, shared, &seat.list)?;
     let (seats, rotated) = shared.rotate(rt, all(rt, seat)?);
     let seat = only(seats).ok_or(Refusal::NoClient)?;
-    match rotated {
-        Err(Refusal::Busy) if seat.list.as_slice() == before.as_slice() => println!(rt; "busy")?,
-        _ => println!(rt; "wrong: not busy, or another list")?,
+    let after = seen_beside(rt, shared, &seat.list)?;
+    if rotated == Err(Refusal::Busy) && before.as_str() == after.as_str() {
+        println!(rt; "busy")?;
+    } else {
+        println!(rt; "changed: Shared::rotate")?;
     }
     Ok(seat)
 }
@@ -45,7 +55,7 @@ fn finish<J: Naming, R: Wait + Print + AllocGlobal>(
     rt: &R,
     shared: &Shared<J>,
     seat: Seat<J>,
-    number: u64,
+    asked: Asked,
 ) -> Result<Seat<J>>
     requires client { seat.client ≡ record { 0 = 0 } }
     requires clients { J.clients ≡ 1 }
@@ -55,9 +65,9 @@ fn finish<J: Naming, R: Wait + Print + AllocGlobal>(
     for _ in 0..MOST_TRIES {
         seat = rotate_too_early(rt, shared, seat)?;
         let (next, answer) = shared.finish(rt, seat, &OpenGate);
-        show(rt, number, answer)?;
         seat = next;
         if answer != Answer::Unfinished {
+            show(rt, asked, answer)?;
             return Ok(seat);
         }
     }
@@ -69,8 +79,7 @@ pub(crate) fn call<J: Naming, G: Gate, R: Wait + Print + AllocGlobal>(
     rt: &R,
     shared: &Shared<J>,
     seat: Seat<J>,
-    number: u64,
-    call: Call,
+    asked: Asked,
     gate: &G,
 ) -> Result<Seat<J>>
     requires client { seat.client ≡ record { 0 = 0 } }
@@ -79,16 +88,20 @@ pub(crate) fn call<J: Naming, G: Gate, R: Wait + Print + AllocGlobal>(
 {
     let mut seat = seat;
     for _ in 0..MOST_TRIES {
-        let (next, answer) = shared.call(rt, seat, QUEUE, Some(number), call, gate);
+        let before = seen_beside(rt, shared, &seat.list)?;
+        let (next, answer) = shared.call(rt, seat, asked.queue, asked.number, asked.call, gate);
         seat = next;
         match answer {
-            Answer::Refused(Refusal::NoMemory) => println!(rt; "again: {number}")?,
+            Answer::Refused(Refusal::NoMemory) => {
+                let after = seen_beside(rt, shared, &seat.list)?;
+                say_again(rt, "Shared::call", before.as_str() == after.as_str())?;
+            }
             Answer::Unfinished => {
-                show(rt, number, answer)?;
-                return finish(rt, shared, seat, number);
+                println!(rt; "unfinished: Shared::call")?;
+                return finish(rt, shared, seat, asked);
             }
             _ => {
-                show(rt, number, answer)?;
+                show(rt, asked, answer)?;
                 return Ok(seat);
             }
         }

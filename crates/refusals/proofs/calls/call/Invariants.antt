@@ -1,5 +1,5 @@
 use Rattle.std.proofs.Common.{◌≡◌}
-use Rattle.starved.proofs.calls.call.Given as goal
+use Rattle.refusals.proofs.calls.call.Given as goal
 
 -- it is the same client's seat
 abbrev pub invariant-loop : goal.invariant-loop

@@ -1,5 +1,5 @@
 use Rattle.std.proofs.Common.{◌≡◌}
-use Rattle.starved.proofs.calls.finish.Given as goal
+use Rattle.refusals.proofs.calls.finish.Given as goal
 
 -- it is the same client's seat
 abbrev pub invariant-loop : goal.invariant-loop
