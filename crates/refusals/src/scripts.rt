@@ -1,10 +1,12 @@
 //! Scripts, and the reports on them.
 
+ghost use Rattle.std.specs.Prelude.{◌<◌};
+
 use crate::again::{MOST_TRIES, made, say_again};
 use crate::held::Held;
 use crate::pipes::text_of;
 use anyhow::Result;
-use devices::FaultyReader;
+use devices::{FaultyReader, MAX_FAILURES};
 use explore::{
     Evictions, Script, Watch, alone, parse_script, points, run, run_alone, run_page, run_points,
     transcript, watched_points,
@@ -57,7 +59,9 @@ fn worked<R: Threads + Sync>(
     work: Work,
     text: &str,
     writer: &mut Held,
-) -> Result<usize, Refusal> {
+) -> Result<usize, Refusal>
+    requires { writer.old.failures < MAX_FAILURES }
+{
     let mut reader = FaultyReader::new(text.as_bytes(), usize::MAX);
     let mut watch = Last { done: 0 };
     let evictions = Evictions::Drawn { state: 1 };
