@@ -22,8 +22,8 @@ pub(crate) fn refusal_of(error: &io::Error) -> Refusal
 /// How many bytes are read at most: one more than the longest image has, so that what goes on after it is still seen.
 const MOST_BYTES: u64 = 12 + 8 * MAX_WORDS as u64 + 1;
 
-/// The beginning of the file's bytes, and all of them where they could be an image's: a file that never ends is refused
-/// as one that is too long.
+/// The beginning of the file's bytes, and all of them where they could be an image's: what decides which image they are
+/// stands there, and a file that never ends is read no further.
 fn read_beginning(rt: &HostRuntime, path: &str) -> io::Result<Vec<u8>> {
     let file = File::open(rt, path)?;
     let mut bytes = Vec::new(rt.alloc());
