@@ -19,6 +19,7 @@ import socket
 import struct
 import subprocess
 import sys
+import tempfile
 import time
 import tty
 
@@ -186,10 +187,10 @@ def is_answered(sock, seconds):
         return False
 
 
-def serving(pqd, prepare, play):
+def serving(pqd, prepare, play, warned=subprocess.DEVNULL):
     """Plays with the port of a server that began as it was prepared, and answers its status."""
     command = [pqd, "serve", "--port", "0", "--workers", "8"]
-    server = subprocess.Popen(command, stdout=subprocess.PIPE, stderr=subprocess.DEVNULL, preexec_fn=prepare)
+    server = subprocess.Popen(command, stdout=subprocess.PIPE, stderr=warned, preexec_fn=prepare)
     try:
         play(int(server.stdout.readline().rsplit(b":", 1)[1]))
         return server.wait(20)
@@ -212,6 +213,16 @@ def descriptors(port):
     print("stop:", read(socks[1], 21).decode().strip())
     for sock in [*socks[1:], waiting]:
         sock.close()
+
+
+def with_few_descriptors(pqd):
+    """It warns once when no more can be opened, and not at each of the hundred tries a second that fail then."""
+    few = lambda: resource.setrlimit(resource.RLIMIT_NOFILE, (9, 9))
+    with tempfile.TemporaryFile() as warned:
+        status = serving(pqd, few, descriptors, warned)
+        warned.seek(0)
+        print("few warnings:", warned.read().count(b"could not be taken") in range(1, 5))
+    return status
 
 
 def without_places():
@@ -239,8 +250,7 @@ def main(what, *words):
     if what == "connections":
         return connections(int(words[0]))
     if what == "descriptors":
-        few = lambda: resource.setrlimit(resource.RLIMIT_NOFILE, (9, 9))
-        return serving(words[0], few, descriptors)
+        return with_few_descriptors(words[0])
     if what in ("limited", "full"):
         return limited(int(words[0]), words[1:], what == "full")
     return {"cut": cut, "reset": to_reset, "nobody": as_nobody}[what](words)

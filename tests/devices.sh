@@ -216,6 +216,7 @@ one waits: True
 it is served once another one has ended: True
 the others go on: True
 stop: {"reply":"stopping"}
+few warnings: True
 END
 fails 'serve without descriptors' 0 '' python3 -B tests/devices.py descriptors "$pqd" > "$work/out"
 cat > "$work/replies" << 'END'

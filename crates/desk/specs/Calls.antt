@@ -1,16 +1,25 @@
 -- What is answered to a put or a take, and what its seat's list has of it.
-use Rattle.std.specs.Prelude.{◌≡◌, ◌⊎◌, ℕ, true, false, List, Option, MatchBool}
-use Rattle.words.specs.declared.call.Call.{Call}
+use Rattle.std.specs.Prelude.{◌≡◌, ◌⊎◌, true, false, List, Option, None, Some, MatchBool}
+use Rattle.words.specs.declared.call.Call.TheVariants.{Enq, Deq}
 use Rattle.words.specs.declared.refusal.Refusal.TheVariants.{Busy}
 use Rattle.arena.specs.declared.broker.SlotId.{SlotId}
 use Rattle.wire.specs.declared.answer.Answer.{Answer}
 use Rattle.wire.specs.declared.answer.Answer.TheVariants.{Reply, Refused, Interrupted, Unfinished}
+use Rattle.wire.specs.declared.request.Request.{Request}
+use Rattle.wire.specs.declared.request.Request.TheVariants.{Put, Take}
 use Rattle.workers.specs.Answers.{Remembers}
 use Rattle.workers.specs.Lists.{ends_open, is_open, with_end}
 use Rattle.workers.specs.declared.entry.Answer.{Answer as SeatAnswer}
 use Rattle.workers.specs.declared.entry.Answer.TheVariants.{Reply as seat_reply, Refused as seat_refused, Interrupted as seat_interrupted, Unfinished as seat_unfinished}
 use Rattle.workers.specs.declared.entry.End.{End}
 use Rattle.workers.specs.declared.entry.Entry.{Entry}
+use Rattle.desk.specs.declared.calls.Asked.{Asked}
+
+-- what a put or a take asks for; another request asks for no call
+abbrev pub asked_in : Request → Option Asked
+asked_in (Put client queue value number) = Some (record { queue = queue; number = number; call = Enq value })
+asked_in (Take client queue number) = Some (record { queue = queue; number = number; call = Deq })
+asked_in _ = None
 
 -- what a connection is told of what its seat was answered
 abbrev pub answer_on_wire : SeatAnswer → Answer
@@ -31,14 +40,13 @@ IsSettled old new = MatchBool (ends_open old) (HasEnded old new) (new ≡ old)
 
 -- The list has exactly this call more, in some queue, with what is answered, or no more where the call is refused. A
 -- call that was left open is finished before.
-pub record RemembersCall (old : List Entry) (number : Option ℕ) (call : Call) (answer : Answer) (new : List Entry)
-    : Type 0 where
+pub record RemembersCall (old : List Entry) (asked : Asked) (answer : Answer) (new : List Entry) : Type 0 where
   pub settled : List Entry
   pub is_settled : IsSettled old settled
   pub queue : SlotId
   pub given : SeatAnswer
   pub is : answer ≡ answer_on_wire given
-  pub remembers : Remembers settled queue number call given new
+  pub remembers : Remembers settled queue asked.number asked.call given new
 
 -- the open call could not be finished for want of memory, and stays
 pub record StaysOpen (old : List Entry) (answer : Answer) (new : List Entry) : Type 0 where
@@ -46,5 +54,5 @@ pub record StaysOpen (old : List Entry) (answer : Answer) (new : List Entry) : T
   pub left_open : ends_open old ≡ true
   pub same : new ≡ old
 
-abbrev pub AnswersCall : List Entry → Option ℕ → Call → Answer → List Entry → Type 0
-AnswersCall old number call answer new = StaysOpen old answer new ⊎ RemembersCall old number call answer new
+abbrev pub AnswersCall : List Entry → Asked → Answer → List Entry → Type 0
+AnswersCall old asked answer new = StaysOpen old answer new ⊎ RemembersCall old asked answer new

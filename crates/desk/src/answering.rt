@@ -1,16 +1,17 @@
 //! What each request is answered.
 
-ghost use Rattle.std.specs.Prelude.{◌≡◌, ◌≤◌, IsErr, IsNone, IsTrue};
+ghost use Rattle.std.specs.Prelude.{◌≡◌, ◌≤◌, IfSome, IsErr, IsNone, IsTrue};
+ghost use Rattle.desk.specs.Calls.{asked_in};
 ghost use Rattle.desk.specs.Requests.{answer_where_done, is_answer_to, is_call_answer, is_creation_answer};
 ghost use Rattle.desk.specs.Requests.{is_list_answer, is_refusal, NamesNoClient};
 ghost use Rattle.wire.specs.declared.answer.Answer.{Answer as AnyAnswer};
 
-use crate::calls::{Asked, call_at_seat, slot_of};
+use crate::calls::{answer_at_seat, slot_of};
 use crate::seating::Seating;
 use directory::Name;
 use std::sync::Wait;
 use wire::{Answer, Request};
-use words::{Call, Kind, Refusal, Told};
+use words::{Kind, Refusal, Told};
 use workers::{Created, Naming, Shared};
 
 /// What a connection is told of a queue to be created.
@@ -39,16 +40,16 @@ fn list<J: Naming, R: Wait>(rt: &R, shared: &Shared<J>) -> Answer
 }
 
 /// A put or a take of a client. It is refused where there is no such client (NoClient), where another connection is
-/// using the client's seat (Busy), and as [`call_at_seat`] is.
+/// using the client's seat (Busy), and as [`answer_at_seat`] is.
 fn call<J: Naming, R: Wait>(
     rt: &R,
     shared: &Shared<J>,
     seats: &Seating<J>,
     number: u64,
-    asked: Asked,
+    request: Request,
 ) -> Answer
     ensures fits { IsTrue (is_call_answer result) }
-    ensures nameless { IsNone asked.queue → IsTrue (is_refusal result) }
+    ensures nameless { IfSome (asked_in request) (λ asked. IsNone asked.queue → IsTrue (is_refusal result)) }
     ensures client { J.clients ≤ number → result ≡ AnyAnswer.Refused Refusal.NoClient }
 {
     let Some(client) = seats.client(number) else {
@@ -57,7 +58,7 @@ fn call<J: Naming, R: Wait>(
     let Some(seat) = seats.take(rt, client) else {
         return Answer::Refused(Refusal::Busy);
     };
-    let (seat, answer) = call_at_seat(rt, shared, seat, asked);
+    let (seat, answer) = answer_at_seat(rt, shared, seat, request);
     seats.put(rt, seat);
     answer
 }
@@ -104,33 +105,8 @@ pub(crate) fn answer_to<J: Naming, R: Wait>(
     match request {
         Request::Create { queue, kind } => create(rt, shared, queue, kind),
         Request::List => list(rt, shared),
-        Request::Put {
-            client,
-            queue,
-            value,
-            number,
-        } => {
-            let call = Call::Enq(value);
-            let asked = Asked {
-                queue,
-                number,
-                call,
-            };
-            self::call(rt, shared, seats, client, asked)
-        }
-        Request::Take {
-            client,
-            queue,
-            number,
-        } => {
-            let call = Call::Deq;
-            let asked = Asked {
-                queue,
-                number,
-                call,
-            };
-            self::call(rt, shared, seats, client, asked)
-        }
+        Request::Put { client, .. } => call(rt, shared, seats, client, request),
+        Request::Take { client, .. } => call(rt, shared, seats, client, request),
         Request::Told { client, queue } => match told(rt, shared, seats, client, queue) {
             Ok(told) => Answer::Told(told),
             Err(refusal) => Answer::Refused(refusal),

@@ -1,14 +1,15 @@
 //! Puts and takes, each with its client's seat.
 
-ghost use Rattle.std.specs.Prelude.{◌≡◌, ◌⊎◌, IfErr, IsErr, IsNone, IsTrue, OnErr, OnOk, true};
-ghost use Rattle.desk.specs.Calls.{answer_on_wire, AnswersCall, IsSettled};
-ghost use Rattle.desk.specs.Requests.{is_refusal};
+ghost use Rattle.std.specs.Prelude.{◌≡◌, ◌⊎◌, IfErr, IfNone, IfSome, IsErr, IsNone, IsTrue, OnErr, OnOk, true};
+ghost use Rattle.desk.specs.Calls.{answer_on_wire, asked_in, AnswersCall, IsSettled};
+ghost use Rattle.wire.specs.declared.answer.Answer.{Answer as AnyAnswer};
+ghost use Rattle.desk.specs.Requests.{is_call_answer, is_refusal};
 ghost use Rattle.workers.specs.Lists.{ends_open};
 
 use arena::SlotId;
 use directory::Name;
 use std::sync::Wait;
-use wire::Answer;
+use wire::{Answer, Request};
 use words::{Call, Refusal};
 use workers::{Naming, OpenGate, Seat, Shared};
 
@@ -19,6 +20,30 @@ pub struct Asked {
     pub queue: Option<Name>,
     pub number: Option<u64>,
     pub call: Call,
+}
+
+/// What a put or a take asks for. Another request asks for no call.
+fn asked_in(request: Request) -> Option<Asked>
+    ensures { result ≡ asked_in request }
+{
+    match request {
+        Request::Put {
+            queue,
+            value,
+            number,
+            ..
+        } => Some(Asked {
+            queue,
+            number,
+            call: Call::Enq(value),
+        }),
+        Request::Take { queue, number, .. } => Some(Asked {
+            queue,
+            number,
+            call: Call::Deq,
+        }),
+        _ => None,
+    }
 }
 
 /// What a connection is told of what its seat was answered.
@@ -74,17 +99,15 @@ fn settled<J: Naming, R: Wait>(
     }
 }
 
-/// Makes a call with its client's seat, and answers what it was answered. A call of the client that was left Unfinished
-/// is finished first. It is refused where that was refused memory once more (Busy), while the broker recovers
-/// (NotReady), where there is no such queue (NoQueue), and as [`Shared::call`] is; then the seat remembers none more.
-pub fn call_at_seat<J: Naming, R: Wait>(
+/// Makes a call with its client's seat, and answers what it was answered.
+fn call_at_seat<J: Naming, R: Wait>(
     rt: &R,
     shared: &Shared<J>,
     seat: Seat<J>,
     asked: Asked,
 ) -> (Seat<J>, Answer)
     ensures client { result.0.client ≡ seat.client }
-    ensures entry { AnswersCall seat.list.items asked.number asked.call result.1 result.0.list.items }
+    ensures entry { AnswersCall seat.list.items asked result.1 result.0.list.items }
     ensures nameless { IsNone asked.queue → IsTrue (is_refusal result.1) }
 {
     let (seat, finished) = settled(rt, shared, seat);
@@ -97,4 +120,28 @@ pub fn call_at_seat<J: Naming, R: Wait>(
     };
     let (seat, answer) = shared.call(rt, seat, queue, asked.number, asked.call, &OpenGate);
     (seat, on_wire(answer))
+}
+
+/// Answers a put or a take with its client's seat. A call of the client that was left Unfinished is finished first. It
+/// is refused where that was refused memory once more (Busy), while the broker recovers (NotReady), where there is no
+/// such queue (NoQueue), and as [`Shared::call`] is; then the seat remembers none more. Another request is none that a
+/// seat answers (BadRequest).
+pub fn answer_at_seat<J: Naming, R: Wait>(
+    rt: &R,
+    shared: &Shared<J>,
+    seat: Seat<J>,
+    request: Request,
+) -> (Seat<J>, Answer)
+    ensures client { result.0.client ≡ seat.client }
+    ensures entry { IfSome (asked_in request) (λ asked.
+        AnswersCall seat.list.items asked result.1 result.0.list.items) }
+    ensures nameless { IfSome (asked_in request) (λ asked. IsNone asked.queue → IsTrue (is_refusal result.1)) }
+    ensures fits { IsTrue (is_call_answer result.1) }
+    ensures other { IfNone (asked_in request)
+        ((result.1 ≡ AnyAnswer.Refused Refusal.BadRequest) × (result.0.list.items ≡ seat.list.items)) }
+{
+    match asked_in(request) {
+        Some(asked) => call_at_seat(rt, shared, seat, asked),
+        None => (seat, Answer::Refused(Refusal::BadRequest)),
+    }
 }

@@ -6,6 +6,6 @@ mod calls;
 mod desk;
 mod seating;
 
-pub use calls::{Asked, call_at_seat};
+pub use calls::{Asked, answer_at_seat};
 pub use desk::BrokerDesk;
 pub use seating::Seating;

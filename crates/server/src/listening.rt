@@ -35,18 +35,24 @@ fn accept<R: Wait + Clock + Log>(
     stopping: &AtomicBool,
     connections: Sender<TcpStream>,
 ) {
+    let mut failing = false;
     for connection in listener.incoming() {
         if stopping.load(Ordering::SeqCst) {
             return;
         }
         match connection {
             Ok(connection) => {
+                failing = false;
                 if connections.send(rt, connection).is_err() {
                     warn!(rt; "a connection is not served");
                 }
             }
             Err(error) => {
-                warn!(rt; "a connection could not be taken: {error}");
+                // Told each time, it would fill a disk with lines as long as nothing can be taken.
+                if !failing {
+                    warn!(rt; "a connection could not be taken: {error}");
+                }
+                failing = true;
                 sleep(rt, Duration::from_millis(REST_MILLIS));
             }
         }
