@@ -7,6 +7,7 @@ pub mod Plays
 pub mod GoingAlone
 pub mod Recoveries
 pub mod InOrder
+pub mod Attempted
 pub mod Draws
 pub mod Shapes
 pub mod Crashes

@@ -1,5 +1,5 @@
 -- A world that follows commands.
-use Rattle.std.specs.Prelude.{ℕ, Bool, false, true, zero, suc, Option, Some, None, Result, Ok, Err, replicate, slice_set}
+use Rattle.std.specs.Prelude.{ℕ, Bool, false, true, zero, suc, List, [], ◌∷◌, Option, Some, None, Result, Ok, Err, replicate, slice_set}
 use Rattle.words.specs.declared.call.Call.{Call}
 use Rattle.words.specs.declared.call.Call.TheVariants.{Enq as enq_call, Deq as deq_call}
 use Rattle.words.specs.declared.call.Client.{Client}
@@ -98,3 +98,8 @@ after_command play Order = play
 -- a new world, in which no step was made
 abbrev pub new_play : Shape → Play
 new_play s = record { world = new_world s; steps = record { calls = replicate CLIENT_NUMBERS 0; recovery = 0 } }
+
+-- what some commands do, one after the other
+abbrev pub after_commands : Play → List Command → Play
+after_commands play [] = play
+after_commands play (command ∷ commands) = after_commands (after_command play command) commands

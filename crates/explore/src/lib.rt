@@ -32,7 +32,7 @@ pub use answered::Alone;
 pub use command::{Command, QueueLine};
 pub use crashing::Point;
 pub use evictions::Evictions;
-pub use laws::one_script_a_text;
+pub use laws::{one_script_a_text, transcripts_follow_attempts};
 pub use limits::{MAX_CLIENT_NUMBER, MAX_LINES, MAX_STEPS};
 pub use parse::parse_script;
 pub use play::transcript;

@@ -74,6 +74,16 @@ creation_step_goes_on old new creation result holds ready is step others = go (s
         opened_goes_on old new slot.0 creation.queue holds (is_free old creation holds ready is slot e) opened.directory (λ j ne.
         others j (subst (λ (r : Result (Option SlotId) Refusal). IfOk r (λ opened. IfSome opened (λ slot. j ≢ slot.0))) (sym answer) ne))
 
+-- so it is of the creation that a broker has
+pub made_goes_on : (old new : Brokered) (creation : Creation) (result : Result (Option SlotId) Refusal) → IsWell old → old.recovery ≡ None
+    → old.creation ≡ Some creation
+    → IfSome old.creation (λ k. IsStepCreated old new k result (successor k))
+    → ((other : ℕ) → IfOk result (λ opened. IfSome opened (λ slot. other ≢ slot.0)) → quiet (world_at new other) ≡ quiet (world_at old other))
+    → BrokerGoesOn old new
+made_goes_on old new creation result holds ready is step others =
+    creation_step_goes_on old new creation result holds ready is
+    (subst (λ (o : Option Creation). IfSome o (λ k. IsStepCreated old new k result (successor k))) is step) others
+
 pub crash_downtime : (old new : Brokered) → IsWell old → IsStopped old new → IsDowntime old new
 crash_downtime old new holds stopped =
     same_downtime old new (crash_goes_on old new holds stopped) (ap (λ (b : Brokered). b.directory) stopped.same)
@@ -134,7 +144,7 @@ found_downtime : (old new : Brokered) (slot : SlotId) (o : Option State) → IsW
 found_downtime old new slot (Some w) holds below e creation found = alike_downtime old new creation found
 found_downtime old new slot None holds below e creation found = first_downtime old new slot holds below e creation found
 
-directory_downtime : (old new : Brokered) (at : DirectoryRecovery) (result : Result Bool Refusal) → IsWell old → old.recovery ≡ Some (ReadDirectory at)
+pub directory_downtime : (old new : Brokered) (at : DirectoryRecovery) (result : Result Bool Refusal) → IsWell old → old.recovery ≡ Some (ReadDirectory at)
     → IsDirectoryRead old new at result → IsDowntime old new
 directory_downtime old new at result holds is read = go (found_by old at).opened refl read.found
   where
@@ -150,7 +160,7 @@ queue_creation old new slot result (Err refusal) on = inl on.2
 queue_creation old new slot result (Ok false) on = inl on.2
 queue_creation old new slot result (Ok true) on = creation_stays old.creation new.creation new.recovery on.2
 
-queue_downtime : (old new : Brokered) (slot : ℕ) (result : Result Bool Refusal) → IsWell old → IsQueueRecovered old new slot result → IsDowntime old new
+pub queue_downtime : (old new : Brokered) (slot : ℕ) (result : Result Bool Refusal) → IsWell old → IsQueueRecovered old new slot result → IsDowntime old new
 queue_downtime old new slot result holds step =
     same_downtime old new
     (slot_goes_on old new slot step.directory

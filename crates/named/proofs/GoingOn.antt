@@ -205,3 +205,18 @@ creation_stays creation now (Some recovery) e = inl e
 pub same_goes_on : (old new : Brokered) → new.directory ≡ old.directory → ((slot : ℕ) → world_at new slot ≡ world_at old slot) → BrokerGoesOn old new
 same_goes_on old new directory same =
     each_goes_on old new directory (λ slot w e. on_if_same w (world_at new slot) (same slot ∙ e))
+
+-- so it is where a creation begins
+pub begun_goes_on : (old new : Brokered) → new ≡ record old { creation = new.creation } → BrokerGoesOn old new
+begun_goes_on old new e =
+    same_goes_on old new (ap (λ (b : Brokered). b.directory) e) (λ slot. ap (λ (b : Brokered). world_at b slot) e)
+
+pub eviction_downtime : (old new : Brokered) (word : ℕ) → IsWell old → new ≡ record old { words = new.words; slots = new.slots }
+    → ((slot : ℕ) → world_at new slot ≡ acted (world_evicted old.counts slot word) (world_at old slot)) → IsDowntime old new
+eviction_downtime old new word holds same worlds =
+    let directory : new.directory ≡ old.directory = ap (λ (b : Brokered). b.directory) same in
+    same_downtime old new (eviction_goes_on old new word holds directory worlds) directory (inl (ap (λ (b : Brokered). b.creation) same))
+
+-- nor does an act that does nothing
+pub nothing_downtime : (b : Brokered) → IsDowntime b b
+nothing_downtime b = same_downtime b b (broker_stays b) refl (inl refl)

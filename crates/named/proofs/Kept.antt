@@ -137,6 +137,12 @@ slot_elsewhere c old new i j (Log was) ne here outside = block_elsewhere c old n
 pub has_directory : (c : Counts) (ws : Words) → HasRoom c ws → HasDirectory ws
 has_directory c ws room = record { cached = omega (arith, room.cached); kept = omega (arith, room.kept) }
 
+-- they are as they were where nothing was done
+pub directory_as_it_was : (b x : Brokered) → IsWell b → b ≡ x → HaveSameDirectory x.words x.words
+directory_as_it_was b x holds e =
+    subst (λ (y : Brokered). HaveSameDirectory y.words y.words) e
+    (record { room = has_directory b.counts b.words holds.room; cached = λ word below. refl; kept = λ word below. refl })
+
 block_past : (c : Counts) (old new : Words) (i : ℕ) (kind : Kind) (was : BlockState) → HasRoom c new → IsInBlock c old i kind was
     → IsSameOutside was.from was.len old new → HaveSameDirectory old new
 block_past c old new i kind was room here outside =

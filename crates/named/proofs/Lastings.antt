@@ -1,5 +1,5 @@
 -- A broker's recovery has fewer steps left after each.
-use Rattle.std.proofs.Common.{◌≡◌, ℕ, ◌+◌, ◌-◌, ◌<◌, ◌≤◌, Bool, List, Option, Some, None, Result, Ok, drop, slice_get, refl, sym, ap, ◌∙◌, subst, arith}
+use Rattle.std.proofs.Common.{◌≡◌, ℕ, ◌+◌, ◌-◌, ◌<◌, ◌≤◌, ◌⊎◌, inl, inr, Bool, true, false, if◌then◌else◌, List, Option, Some, None, Result, Ok, drop, slice_get, refl, sym, ap, ◌∙◌, subst, arith}
 use Rattle.std.specs.Prelude.{IfOk}
 use Rattle.std.specs.List.{sum_by}
 use Rattle.std.proofs.lemmas.List.{drop-drop}
@@ -9,7 +9,8 @@ use Rattle.words.specs.declared.call.Kind.{Kind}
 use Rattle.words.specs.declared.call.Kind.TheVariants.{Durable as durable_kind, Log as log_kind}
 use Rattle.words.specs.declared.refusal.Refusal.{Refusal}
 use Rattle.arena.specs.Shape.{Counts, Shape, shape_of}
-use Rattle.persist.specs.Memory.{Words}
+use Rattle.persist.specs.Memory.{Words, words_after_eviction}
+use Rattle.arena.specs.Broker.{block_from}
 use Rattle.stepper.specs.declared.resume.After.{After}
 use Rattle.stepper.specs.declared.resume.After.TheVariants.{More, Done}
 use Rattle.directory.specs.Directory.{Directory, HasQueue}
@@ -21,12 +22,13 @@ use Rattle.directory.specs.declared.queue.Queue.{Queue}
 use Rattle.directory.specs.declared.recovery.DirectoryPoint.{DirectoryPoint}
 use Rattle.directory.specs.declared.recovery.DirectoryPoint.TheVariants.{LoadGate, LoadFirstName, LoadSecondName, LoadKind}
 use Rattle.directory.specs.declared.recovery.DirectoryRecovery.{DirectoryRecovery}
-use Rattle.directory.proofs.Creations.{kept_directory}
+use Rattle.directory.proofs.Creations.{kept_directory, rest_evicted}
 use Rattle.directory.proofs.Recoveries.{one_less}
-use Rattle.interleave.specs.State.{State, after_recover, most_to_ready, recover_result, steps_to_ready}
-use Rattle.interleave.proofs.KeptTells.{falls_on, few_to_ready}
+use Rattle.interleave.specs.State.{State, after_evict, after_recover, most_to_ready, recover_result, steps_to_ready}
+use Rattle.interleave.proofs.KeptTells.{falls_on, few_to_ready, left_evicted as left_after_evict}
 use Rattle.named.specs.Blocks.{BlockState, state_in}
-use Rattle.named.specs.Brokers.{Brokered, IsDirectoryAt, IsInBlock, IsRecoveringQueue, IsSlotAt, IsWell, world_at, world_of}
+use Rattle.named.specs.Evicting.{is_in_block, world_evicted}
+use Rattle.named.specs.Brokers.{Brokered, IsDirectoryAt, IsInBlock, IsReading, IsRecoveringQueue, IsSlotAt, IsWell, world_at, world_of}
 use Rattle.named.specs.Lasting.{left_after_read, left_at, left_in, most_from, most_kept, most_of, steps_left}
 use Rattle.named.specs.Slots.{IsSlotWell, acted, answered, kind_in, world_in}
 use Rattle.named.specs.Stopping.{IsNext}
@@ -127,3 +129,44 @@ slot_falls full ws (Durable block) kind r ready well some is ok =
     block_falls full (state_in ws block) r ready is ok (falls_on full (state_in ws block) well.holds r is)
 slot_falls full ws (Log block) kind r ready well some is ok =
     block_falls full (state_in ws block) r ready is ok (falls_on full (state_in ws block) well.holds r is)
+
+-- an eviction leaves the recovery as many steps as it had: it changes nothing of a directory that is being read
+module _ (old new : Brokered) (word : ℕ) (holds : IsWell old) (same : new ≡ record old { words = new.words; slots = new.slots })
+    (kept : (new.words.kept ≡ (words_after_eviction word old.words).kept) ⊎ (new.words.kept ≡ old.words.kept))
+    (worlds : (slot : ℕ) → world_at new slot ≡ acted (world_evicted old.counts slot word) (world_at old slot)) where
+  counts_same : new.counts ≡ old.counts
+  counts_same = ap (λ (b : Brokered). b.counts) same
+
+  -- the directory that is kept
+  most_evicted : (whole : Directory) → IsAtRest old.words whole → most_kept new ≡ most_kept old
+  most_evicted whole rest =
+      let directory : directory_of new.words.kept ≡ directory_of old.words.kept = elim kept [
+        | inl was_kept ↦ ap directory_of was_kept ∙ kept_directory (words_after_eviction word old.words) whole (rest_evicted old.words word whole rest)
+            ∙ sym (kept_directory old.words whole rest)
+        | inr stayed ↦ ap directory_of stayed
+      ] in
+      ap (λ (c : Counts). most_from c (directory_of new.words.kept) 0) counts_same ∙ ap (λ (d : Directory). most_from old.counts d 0) directory
+
+  -- a queue that recovers
+  queue_evicted : (slot : ℕ) → left_in (world_at new slot) ≡ left_in (world_at old slot)
+  queue_evicted slot = ap left_in (worlds slot) ∙ go (world_at old slot)
+    where
+      one : (x : Bool) (w : State) → steps_to_ready (if x then after_evict w (word - block_from old.counts slot) else w) ≡ steps_to_ready w
+      one true w = left_after_evict w (word - block_from old.counts slot)
+      one false w = refl
+
+      go : (o : Option State) → left_in (acted (world_evicted old.counts slot word) o) ≡ left_in o
+      go None = refl
+      go (Some w) = one (is_in_block old.counts slot word) w
+
+  pub left_evicted : steps_left new ≡ steps_left old
+  left_evicted = ap (left_at new) (ap (λ (b : Brokered). b.recovery) same) ∙ go old.recovery refl
+    where
+      go : (r : Option BrokerRecovery) → old.recovery ≡ r → left_at new r ≡ left_at old r
+      go None e = refl
+      go (Some (ReadDirectory at)) e =
+          let it : IsReading old.words at old.creation old.directory = subst (λ (o : Option BrokerRecovery). IsDirectoryAt old.words o old.creation old.directory) e holds.directory in
+          ap (λ n. most_left at + n) (most_evicted it.whole it.recovering.rest)
+      go (Some (RecoverQueue slot)) e =
+          ap (λ n. n + most_from new.counts new.directory (slot.0 + 1)) (queue_evicted slot.0)
+          ∙ ap (λ (b : Brokered). left_in (world_at old slot.0) + most_from b.counts b.directory (slot.0 + 1)) same

@@ -1,5 +1,6 @@
 pub mod Downtimes
 pub mod GoingOn
+pub mod Comings
 pub mod EvictedWell
 pub mod Evicted
 pub mod Stays

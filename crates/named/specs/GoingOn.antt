@@ -1,11 +1,13 @@
 -- What stays of a broker over its acts: its queues, and their histories.
-use Rattle.std.specs.Prelude.{◌≡◌, ◌≢◌, ◌⊎◌, ℕ, Option, Some, None}
+use Rattle.std.specs.Prelude.{◌≡◌, ◌≢◌, ◌⊎◌, ℕ, Bool, true, false, Option, Some, None}
 use Rattle.directory.specs.Directory.{HasQueue}
 use Rattle.directory.specs.declared.creation.Creation.{Creation}
 use Rattle.directory.specs.declared.queue.Queue.{Queue}
 use Rattle.interleave.specs.Standing.{GoesOn}
 use Rattle.interleave.specs.State.{State}
 use Rattle.named.specs.Brokers.{Brokered, quiet, world_at}
+use Rattle.named.specs.Promises.{KeepsPromises}
+use Rattle.named.specs.Rotating.{IsRotated}
 
 -- a slot's queue is still there, and its history goes on: nothing is taken back, and calls that had ended stay as they
 -- are
@@ -41,3 +43,11 @@ pub record IsDowntime (old new : Brokered) : Type 0 where
 -- the worlds of the other slots are as they were, but for the count of accesses
 abbrev pub AreOthersQuiet : Brokered → Brokered → ℕ → Type 0
 AreOthersQuiet old new slot = (other : ℕ) → other ≢ slot → quiet (world_at new other) ≡ quiet (world_at old other)
+
+-- The one broker came of the other by any acts. Either no rotation was among them, and the queues and their histories
+-- went on; or there were some, and the histories went on from the last one, which had begun each on what the one before
+-- it left, by the order that explained it
+pub data CameOf (first : Brokered) : Bool → Brokered → Type 0 where
+  unrotated : {now : Brokered} (goes_on : BrokerGoesOn first now) → CameOf first false now
+  rotated : {was : Bool} {ended begun now : Brokered} (before : CameOf first was ended) (explained : KeepsPromises ended)
+      (rotation : IsRotated ended begun) (goes_on : BrokerGoesOn begun now) → CameOf first true now

@@ -7,6 +7,8 @@ ghost use Rattle.words.specs.declared.refusal.Refusal.{Refusal as AnyRefusal};
 ghost use Rattle.named.specs.Blocks.{waiting_in};
 ghost use Rattle.named.specs.Slots.{acted, IfWorld};
 ghost use Rattle.named.specs.Brokers.{admission, world_at, room_at, quiet, world_after, answer_at};
+ghost use Rattle.directory.specs.UnderWay.{HaveSameDirectory};
+ghost use Rattle.named.specs.GoingOn.{BrokerGoesOn};
 ghost use Rattle.named.specs.Promises.{KeepsPromises};
 
 use crate::broker::Broker;
@@ -46,6 +48,8 @@ impl Broker {
         ensures directory { self.new.directory ≡ self.old.directory }
         ensures creation { self.new.creation ≡ self.old.creation }
         ensures recovery { self.new.recovery ≡ self.old.recovery }
+        ensures directory_words { HaveSameDirectory self.old.words self.new.words }
+        ensures goes_on { BrokerGoesOn self.old self.new }
         ensures promises { KeepsPromises self.new }
     {
         self.admit(client)?;
@@ -69,6 +73,8 @@ impl Broker {
         ensures directory { self.new.directory ≡ self.old.directory }
         ensures creation { self.new.creation ≡ self.old.creation }
         ensures recovery { self.new.recovery ≡ self.old.recovery }
+        ensures directory_words { HaveSameDirectory self.old.words self.new.words }
+        ensures goes_on { BrokerGoesOn self.old self.new }
         ensures promises { KeepsPromises self.new }
     {
         self.admit(client)?;
@@ -99,6 +105,8 @@ impl Broker {
         ensures directory { self.new.directory ≡ self.old.directory }
         ensures creation { self.new.creation ≡ self.old.creation }
         ensures recovery { self.new.recovery ≡ self.old.recovery }
+        ensures directory_words { HaveSameDirectory self.old.words self.new.words }
+        ensures goes_on { BrokerGoesOn self.old self.new }
         ensures promises { KeepsPromises self.new }
     {
         self.admit(client)?;

@@ -6,6 +6,8 @@ ghost use Rattle.named.specs.Blocks.{IsSameWords};
 ghost use Rattle.named.specs.Slots.{acted};
 ghost use Rattle.named.specs.Brokers.{world_at, room_at};
 ghost use Rattle.named.specs.Evicting.{world_evicted, evict_result, IsInBlockOf, IsInNoBlock};
+ghost use Rattle.named.specs.GoingOn.{IsDowntime};
+ghost use Rattle.named.specs.Lasting.{steps_left};
 ghost use Rattle.named.specs.Promises.{KeepsPromises};
 
 use crate::broker::Broker;
@@ -36,6 +38,8 @@ impl Broker {
             → world_at self.new slot ≡ acted (world_evicted self.old.counts slot word) (world_at self.old slot) }
         ensures same { self.new ≡ record self.old { words = self.new.words; slots = self.new.slots } }
         ensures room { (slot : ℕ) → room_at self.new slot ≡ room_at self.old slot }
+        ensures left { steps_left self.new ≡ steps_left self.old }
+        ensures downtime { IsDowntime self.old self.new }
         ensures promises { KeepsPromises self.new }
     {
         // A word of an open queue is evicted through its window, so that the queue notices what takes effect.

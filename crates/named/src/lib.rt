@@ -16,5 +16,5 @@ mod slots;
 mod stopping;
 
 pub use broker::Broker;
-pub use laws::{acts_go_on, brokers_go_on, downtimes_go_on};
+pub use laws::{brokers_go_on, brokers_outlast_rotations, downtimes_go_on};
 pub use recovery::BrokerRecovery;

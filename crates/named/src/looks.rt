@@ -7,6 +7,7 @@ ghost use Rattle.interleave.specs.State.{kept_content, order_in};
 ghost use Rattle.interleave.specs.Verdicts.{number_under_way};
 ghost use Rattle.named.specs.Booting.{AreBootWords};
 ghost use Rattle.named.specs.Slots.{answered, world_in, IfWorld, IsSlotWell, IsWhyUnread};
+ghost use Rattle.named.specs.GoingOn.{BrokerGoesOn};
 ghost use Rattle.named.specs.Promises.{KeepsPromises};
 ghost use Rattle.named.specs.Brokers.{world_at, room_at, answer_at, IsWell};
 
@@ -122,6 +123,8 @@ impl Broker {
         ensures directory { self.new.directory ≡ self.old.directory }
         ensures creation { self.new.creation ≡ self.old.creation }
         ensures recovery { self.new.recovery ≡ self.old.recovery }
+        ensures words { self.new.words ≡ self.old.words }
+        ensures goes_on { BrokerGoesOn self.old self.new }
         ensures promises { KeepsPromises self.new }
     {
         if slot.0 as usize >= self.slots.len() {

@@ -4,6 +4,7 @@ ghost use Rattle.std.specs.Prelude.{◌≡◌, ◌≢◌, ◌↔◌, ◌⊎◌, 
 ghost use Rattle.directory.specs.Directory.{IsDirectory, IsNamed, HasName};
 ghost use Rattle.directory.specs.Creation.{successor};
 ghost use Rattle.named.specs.Brokers.{is_creating, is_down, world_at, quiet, IsBegun, IsNotCreated, MayCreate, IsStepCreated};
+ghost use Rattle.named.specs.GoingOn.{BrokerGoesOn};
 ghost use Rattle.named.specs.Promises.{KeepsPromises};
 
 use crate::broker::Broker;
@@ -58,6 +59,7 @@ impl Broker {
     /// Begins to create a queue of this name, in the lowest free slot. It is refused, in this order, where these bytes
     /// are no name (BadName), while recovery is under way (NotReady), where another creation is (Busy), where there is
     /// a queue of this name (Exists), and where there are eight queues (DirectoryFull).
+    #[tactic(auto, using(crate::proofs::GoingOn::broker_stays))]
     pub fn create(&mut self, name: &[u8], kind: Kind) -> Result<(), Refusal>
         ensures may { OnOk result (MayCreate self.old name.now) }
         ensures begun { OnOk result (IfSome self.new.creation (IsBegun self.old name.now kind)) }
@@ -65,6 +67,7 @@ impl Broker {
         ensures others { self.new ≡ record self.old { creation = self.new.creation } }
         ensures errors { IfErr result (IsNotCreated self.old name.now) }
         ensures same { OnErr result (self.new ≡ self.old) }
+        ensures goes_on { BrokerGoesOn self.old self.new }
         ensures promises { OnOk result (KeepsPromises self.new) }
     {
         let name = Name::make(name)?;
@@ -92,6 +95,7 @@ impl Broker {
             (λ creation. IsStepCreated self.old self.new creation result (successor creation)) }
         ensures others { (other : ℕ) → IfOk result (λ opened. IfSome opened (λ slot. other ≢ slot.0))
             → quiet (world_at self.new other) ≡ quiet (world_at self.old other) }
+        ensures goes_on { BrokerGoesOn self.old self.new }
         ensures promises { KeepsPromises self.new }
     {
         self.check_ready()?;

@@ -8,6 +8,7 @@ ghost use Rattle.directory.specs.Directory.{Directory as AnyDirectory, HasQueue}
 ghost use Rattle.named.specs.Brokers.{IsWell, room_at};
 ghost use Rattle.named.specs.Stopping.{HasFullQueue, IsDirectoryRead, IsFound, IsNext, IsQueueRecovered, IsReadOn};
 ghost use Rattle.named.specs.Stopping.{IsReadingDirectory, IsRecoveryStep, IsSameButRoom, IsStopped, MayReadOn, creation_after};
+ghost use Rattle.named.specs.GoingOn.{BrokerGoesOn, IsDowntime};
 ghost use Rattle.named.specs.Lasting.{left_after_read, most_kept, steps_left};
 ghost use Rattle.named.specs.Telling.{TellAtReady};
 ghost use Rattle.named.specs.Promises.{KeepsPromises};
@@ -57,6 +58,8 @@ impl Broker {
         ensures full { is_no_memory result ≡ true → HasFullQueue self.old }
         ensures room { (slot : ℕ) → room_at self.old slot ≤ room_at self.new slot + 1 }
         ensures left { result ≡ Ok tt → steps_left self.new ≡ 32 + most_kept self.new }
+        ensures downtime { result ≡ Ok tt → IsDowntime self.old self.new }
+        ensures goes_on { BrokerGoesOn self.old self.new }
         ensures promises { KeepsPromises self.new }
     {
         // A queue that had stopped while another's room is refused would have a crash that the other had not.
@@ -170,6 +173,7 @@ impl Broker {
         ensures told { TellAtReady self.old self.new }
         ensures few { steps_left self.old ≤ 32 + most_kept self.old }
         ensures falls { IfOk result (λ ready. steps_left self.new < steps_left self.old) }
+        ensures downtime { IsDowntime self.old self.new }
         ensures promises { KeepsPromises self.new }
     {
         match self.recovery {

@@ -1,10 +1,11 @@
 -- What is left of a broker that was served.
-use Rattle.std.specs.Prelude.{◌≡◌, ◌⊎◌, ℕ, List, Result, Ok}
+use Rattle.std.specs.Prelude.{◌≡◌, ◌⊎◌, ℕ, Bool, List, Result, Ok}
 use Rattle.words.specs.declared.refusal.Refusal.{Refusal}
 use Rattle.words.specs.declared.refusal.Refusal.TheVariants.{Busy, NoMemory}
 use Rattle.persist.specs.Image.{image_of, reading}
 use Rattle.named.specs.Booting.{AreBootWords}
 use Rattle.named.specs.Brokers.{Brokered}
+use Rattle.named.specs.GoingOn.{CameOf}
 use Rattle.session.specs.Keeping.{AreKeptAsHeard, SessionGoesOn}
 use Rattle.session.specs.Promises.{KeepsNumbers}
 use Rattle.session.specs.Sessions.{Sessioned}
@@ -15,10 +16,13 @@ pub record IsOpenedOver (broker : Brokered) (s : Sessioned) : Type 0 where
   pub kept : AreKeptAsHeard broker s.kept
 
 -- The bytes are the image of the kept words that the session came to; they are read as these words, which boot. What
--- was settled as the session began is so still, and no number took effect twice.
+-- was settled as the session began is so still, no number took effect twice, and the queues and their values came of
+-- those that there were.
 pub record IsImageAfter (first : Sessioned) (bytes : List ℕ) : Type 0 where
   pub last : Sessioned
   pub goes_on : SessionGoesOn first last
+  pub rotated : Bool
+  pub came : CameOf first.broker rotated last.broker
   pub promises : KeepsNumbers last
   pub image : bytes ≡ image_of last.broker.words.kept
   pub read : reading bytes ≡ Ok last.broker.words.kept

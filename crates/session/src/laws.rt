@@ -6,22 +6,18 @@ ghost use Rattle.persist.specs.Memory.{Words};
 ghost use Rattle.arena.specs.Shape.{Counts};
 ghost use Rattle.named.specs.Booting.{IsBooted};
 ghost use Rattle.named.specs.Brokers.{Brokered, IsNew, IsWell};
-ghost use Rattle.named.specs.GoingOn.{BrokerGoesOn};
 ghost use Rattle.named.specs.Rotating.{rotate_result, IsRotated};
 ghost use Rattle.named.specs.Stopping.{IsRecoveryStep, IsStopped};
-ghost use Rattle.words.specs.declared.call.Call.{Call};
 ghost use Rattle.words.specs.declared.call.Client.{Client};
 ghost use Rattle.words.specs.declared.call.Reply.{Reply};
 ghost use Rattle.words.specs.declared.limits.TheConstants.{MAX_CLIENTS};
 ghost use Rattle.words.specs.declared.told.Verdict.{Verdict};
-ghost use Rattle.protocol.specs.Machine.{FitsCall};
 ghost use Rattle.interleave.specs.Holds.{Holds};
 ghost use Rattle.interleave.specs.State.{State};
 ghost use Rattle.interleave.specs.Verdicts.{IsReplyOf};
 ghost use Rattle.words.specs.declared.call.Kind.{Kind};
 ghost use Rattle.session.specs.Keeping.{IsSettled, SessionGoesOn};
 ghost use Rattle.session.specs.Numbers.{by_number};
-ghost use Rattle.session.specs.Requests.{IsRun};
 ghost use Rattle.session.specs.Sessions.{IsUncalled, Sessioned};
 
 /// Each act's `goes_on` says that a settled number stays settled, and these chain: so it is over any list of acts, with
@@ -34,13 +30,6 @@ pub fn answers_last()
         → by_number last number ≡ Ok None → ⊥ }
     ensures same { (last : Option Verdict) (number : ℕ) (reply again : Reply) → IsSettled last number reply
         → by_number last number ≡ Ok (Some again) → again ≡ reply }
-{}
-
-/// A request that ran to its end, or that was refused on its way, goes on with the broker's queues (`brokers_go_on`).
-pub fn requests_go_on()
-    ensures { (old new : Brokered) (slot : ℕ) (client : Client) (number : ℕ) (call : Call)
-        (result : Result Reply Refusal) → IsWell old → FitsCall call
-        → IsRun old new slot client number call result → BrokerGoesOn old new }
 {}
 
 /// A client's number has one reply in a log queue.

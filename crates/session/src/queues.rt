@@ -4,6 +4,7 @@ ghost use Rattle.std.specs.Prelude.{◌≡◌, ◌≢◌, ◌<◌, ◌≤◌, �
 ghost use Rattle.directory.specs.Creation.{successor};
 ghost use Rattle.interleave.specs.Calls.{is_no_memory};
 ghost use Rattle.named.specs.Brokers.{is_down, quiet, room_at, world_at, IsBegun, IsNotCreated, IsStepCreated, MayCreate};
+ghost use Rattle.named.specs.GoingOn.{BrokerGoesOn};
 ghost use Rattle.named.specs.Rotating.{rotate_result, IsRotated};
 ghost use Rattle.named.specs.Slots.{IsWhyUnread};
 ghost use Rattle.session.specs.Keeping.{SessionGoesOn};
@@ -24,6 +25,7 @@ impl Session {
         ensures errors { IfErr result (IsNotCreated self.old.broker name.now) }
         ensures same { OnErr result (self.new ≡ self.old) }
         ensures goes_on { SessionGoesOn self.old self.new }
+        ensures queues { BrokerGoesOn self.old.broker self.new.broker }
         ensures promises { KeepsNumbers self.new }
     {
         self.broker.create(name, kind)
@@ -40,6 +42,7 @@ impl Session {
             → quiet (world_at self.new.broker other) ≡ quiet (world_at self.old.broker other) }
         ensures kept { self.new.kept ≡ self.old.kept }
         ensures goes_on { SessionGoesOn self.old self.new }
+        ensures queues { BrokerGoesOn self.old.broker self.new.broker }
         ensures promises { KeepsNumbers self.new }
     {
         self.broker.create_step()
@@ -58,8 +61,10 @@ impl Session {
         ensures directory { self.new.broker.directory ≡ self.old.broker.directory }
         ensures creation { self.new.broker.creation ≡ self.old.broker.creation }
         ensures recovery { self.new.broker.recovery ≡ self.old.broker.recovery }
+        ensures words { self.new.broker.words ≡ self.old.broker.words }
         ensures kept { self.new.kept ≡ self.old.kept }
         ensures goes_on { SessionGoesOn self.old self.new }
+        ensures queues { BrokerGoesOn self.old.broker self.new.broker }
         ensures promises { KeepsNumbers self.new }
     {
         self.broker.reserve(queue, acts)

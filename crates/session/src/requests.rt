@@ -3,6 +3,7 @@
 ghost use Rattle.std.specs.Prelude.{◌≡◌, Ok, Some, None, IfOk, IfSome, OnErr};
 ghost use Rattle.interleave.specs.Verdicts.{taken_as};
 ghost use Rattle.named.specs.Brokers.{answer_at, world_at};
+ghost use Rattle.named.specs.GoingOn.{BrokerGoesOn};
 ghost use Rattle.session.specs.Keeping.{IsKeptNow, SessionGoesOn};
 ghost use Rattle.session.specs.Promises.{IsReplyAt, IsReplyIfNumbered, KeepsNumbers};
 ghost use Rattle.session.specs.Requests.{answer_to, call_number, last_after, number_or_zero, plain_answer, request_admission, request_answer, IsAdvanced, IsBegunBy, IsServedBy};
@@ -72,6 +73,7 @@ impl Session {
             IsKeptNow self.old.kept self.new.kept queue.0 client.0 (Some (taken_as number reply))) }
         ensures same { OnErr result (self.new.kept ≡ self.old.kept) }
         ensures goes_on { SessionGoesOn self.old self.new }
+        ensures queues { BrokerGoesOn self.old.broker self.new.broker }
         ensures promises { KeepsNumbers self.new }
     {
         if let Some(reply) = self.look_up(client, queue, Some(number))? {
@@ -89,6 +91,7 @@ impl Session {
             (plain_answer self.old queue.0 client) }
         ensures same { self.new.kept ≡ self.old.kept }
         ensures goes_on { SessionGoesOn self.old self.new }
+        ensures queues { BrokerGoesOn self.old.broker self.new.broker }
         ensures promises { KeepsNumbers self.new }
     {
         self.admit(client, queue, Kind::Durable)?;
@@ -110,6 +113,7 @@ impl Session {
         ensures reply { IfOk result (λ answer. IfSome answer (IsReplyIfNumbered self.new queue.0 client number)) }
         ensures same { self.new.kept ≡ self.old.kept }
         ensures goes_on { SessionGoesOn self.old self.new }
+        ensures queues { BrokerGoesOn self.old.broker self.new.broker }
         ensures promises { KeepsNumbers self.new }
     {
         if let Some(reply) = self.look_up(client, queue, number)? {
@@ -138,6 +142,7 @@ impl Session {
         ensures kept { IsKeptNow self.old.kept self.new.kept queue.0 client.0
             (last_after (call_number (world_at self.old.broker queue.0) client) result (kept_at self.old queue.0 client)) }
         ensures goes_on { SessionGoesOn self.old self.new }
+        ensures queues { BrokerGoesOn self.old.broker self.new.broker }
         ensures promises { KeepsNumbers self.new }
     {
         let number = self.calling(client, queue)?;

@@ -1,6 +1,7 @@
 //! A call that is started and runs to its end.
 
 ghost use Rattle.named.specs.Brokers.{IsWell};
+ghost use Rattle.named.specs.GoingOn.{BrokerGoesOn};
 ghost use Rattle.named.specs.Promises.{KeepsPromises};
 ghost use Rattle.session.specs.Requests.{IsOpenTo, IsRun};
 
@@ -23,6 +24,7 @@ pub(crate) fn run(
     requires well { IsWell broker.old }
     requires open { IsOpenTo broker.old queue.0 client }
     ensures run { IsRun broker.old broker.new queue.0 client number call result }
+    ensures goes_on { BrokerGoesOn broker.old broker.new }
     ensures promises { KeepsPromises broker.new }
 {
     broker.reserve(queue, ACTS_OF_A_CALL)?;

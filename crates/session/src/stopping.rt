@@ -7,6 +7,7 @@ ghost use Rattle.interleave.specs.State.{crash_result};
 ghost use Rattle.named.specs.Blocks.{IsSameWords};
 ghost use Rattle.named.specs.Brokers.{room_at, world_at};
 ghost use Rattle.named.specs.Evicting.{evict_result, world_evicted};
+ghost use Rattle.named.specs.GoingOn.{BrokerGoesOn, IsDowntime};
 ghost use Rattle.named.specs.Lasting.{most_kept, steps_left};
 ghost use Rattle.named.specs.Slots.{acted};
 ghost use Rattle.named.specs.Stopping.{HasFullQueue, IsRecoveryStep, IsSameButRoom, IsStopped};
@@ -29,8 +30,10 @@ impl Session {
         ensures same { self.new.broker
             ≡ record self.old.broker { words = self.new.broker.words; slots = self.new.broker.slots } }
         ensures room { (slot : ℕ) → room_at self.new.broker slot ≡ room_at self.old.broker slot }
+        ensures left { steps_left self.new.broker ≡ steps_left self.old.broker }
         ensures kept { self.new.kept ≡ self.old.kept }
         ensures goes_on { SessionGoesOn self.old self.new }
+        ensures downtime { IsDowntime self.old.broker self.new.broker }
         ensures promises { KeepsNumbers self.new }
     {
         self.broker.evict(word)
@@ -47,6 +50,8 @@ impl Session {
         ensures left { result ≡ Ok tt → steps_left self.new.broker ≡ 32 + most_kept self.new.broker }
         ensures kept { self.new.kept ≡ self.old.kept }
         ensures goes_on { SessionGoesOn self.old self.new }
+        ensures queues { BrokerGoesOn self.old.broker self.new.broker }
+        ensures downtime { result ≡ Ok tt → IsDowntime self.old.broker self.new.broker }
         ensures promises { KeepsNumbers self.new }
     {
         self.broker.crash()
@@ -63,6 +68,7 @@ impl Session {
         ensures falls { IfOk result (λ ready. steps_left self.new.broker < steps_left self.old.broker) }
         ensures kept { AreKeptAfter self.old self.new result }
         ensures goes_on { SessionGoesOn self.old self.new }
+        ensures downtime { IsDowntime self.old.broker self.new.broker }
         ensures promises { KeepsNumbers self.new }
     {
         let ready = self.broker.recover_step()?;

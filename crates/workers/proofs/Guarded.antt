@@ -9,7 +9,9 @@ use Rattle.session.specs.Promises.{KeepsNumbers}
 use Rattle.session.specs.Sessions.{Sessioned}
 use Rattle.named.specs.Brokers.{Brokered, IsStepCreated, IsWell, is_creating, is_down, world_at}
 use Rattle.named.specs.Slots.{answered}
+use Rattle.named.specs.GoingOn.{BrokerGoesOn}
 use Rattle.named.proofs.Begun.{listed_open}
+use Rattle.named.proofs.Comings.{came_further}
 use Rattle.named.proofs.Queues.{its_queue}
 use Rattle.interleave.specs.Calls.{is_no_memory}
 use Rattle.interleave.specs.State.{State, recover_result, recover_result_with}
@@ -48,6 +50,11 @@ session_further old now new one other = record {
 pub session_stays : (s : Sessioned) → SessionGoesOn s s
 session_stays s = record { clients = λ slot client is. is; answers = λ slot client number reply is settled. settled }
 
+-- what an act says that is no rotation: what was settled stays so, and the queues and their histories go on
+pub record IsOn (old new : Sessioned) : Type 0 where
+  pub numbers : SessionGoesOn old new
+  pub queues : BrokerGoesOn old.broker new.broker
+
 -- with the same rows, as the keeper knows them
 pub with_rows : (all : ℕ) (first : Sessioned) (g : Guarded) (rows : List (List Entry)) → rows ≡ g.rows
     → IsGuardedWell all first g → IsGuardedWell all first (record g { rows = rows })
@@ -57,16 +64,17 @@ with_rows all first g rows same well =
 module _ (all : ℕ) (first : Sessioned) (old : Guarded) (well : IsGuardedWell all first old) where
   -- an act of no seat
   pub guarded_still : (new : Sessioned) (creating : Creating) → ((u : Client) → IsCarriedFor u old.session new)
-      → KeepsNumbers new → SessionGoesOn old.session new → IsCreationKnown new.broker creating
+      → KeepsNumbers new → IsOn old.session new → IsCreationKnown new.broker creating
       → IsGuardedWell all first (record { session = new; rows = old.rows; creating = creating; rotated = old.rotated })
-  guarded_still new creating carried keeps goes_on known = record {
+  guarded_still new creating carried keeps on known = record {
     clients = well.clients;
     followed =
         rows_carried (beginnings first old.rotated) old.session new old.rows (λ t. carried (record { 0 = t }))
         well.followed;
     promises = keeps;
     creation = known;
-    goes_on = session_further first old.session new well.goes_on goes_on;
+    goes_on = session_further first old.session new well.goes_on on.numbers;
+    came = came_further first.broker old.rotated old.session.broker new.broker well.came on.queues;
   }
 
   -- an act of the seat at t, whose row changes with it
@@ -74,20 +82,21 @@ module _ (all : ℕ) (first : Sessioned) (old : Guarded) (well : IsGuardedWell a
       → ((slot : ℕ) → beginnings first old.rotated slot ≤ length (events_at new.broker slot))
       → ((u : ℕ) → u ≢ t → IsCarriedFor (record { 0 = u }) old.session new)
       → IsFollowed (beginnings first old.rotated) new (record { 0 = t }) row
-      → KeepsNumbers new → SessionGoesOn old.session new → IsCreationKnown new.broker old.creating
+      → KeepsNumbers new → IsOn old.session new → IsCreationKnown new.broker old.creating
       → IsGuardedWell all first (record {
         session = new;
         rows = slice_set old.rows t row;
         creating = old.creating;
         rotated = old.rotated;
       })
-  guarded_of new t row begun carried its keeps goes_on known = record {
+  guarded_of new t row begun carried its keeps on known = record {
     clients = length-set old.rows t row ∙ well.clients;
     followed =
         row_changed (beginnings first old.rotated) old.session new old.rows t row begun carried its well.followed;
     promises = keeps;
     creation = known;
-    goes_on = session_further first old.session new well.goes_on goes_on;
+    goes_on = session_further first old.session new well.goes_on on.numbers;
+    came = came_further first.broker old.rotated old.session.broker new.broker well.came on.queues;
   }
 
 -- rows that have no calls yet, since histories of these lengths

@@ -9,7 +9,6 @@ use Rattle.words.specs.declared.refusal.Refusal.{Refusal}
 use Rattle.words.specs.declared.refusal.Refusal.TheVariants.{NoMemory}
 use Rattle.events.specs.declared.event.Event.{Event}
 use Rattle.events.specs.declared.event.Event.TheVariants.{Call as call_event, Return as return_event}
-use Rattle.session.specs.Keeping.{SessionGoesOn}
 use Rattle.session.specs.Promises.{IsReplyAt, IsReplyIfNumbered, KeepsNumbers}
 use Rattle.session.specs.Requests.{IsAdvanced, IsBegunBy, answer_to, number_or_zero}
 use Rattle.session.specs.Sessions.{Sessioned}
@@ -22,7 +21,7 @@ use Rattle.workers.specs.declared.entry.Entry.{Entry}
 use Rattle.workers.specs.declared.entry.Request.{Request}
 use Rattle.workers.proofs.Carried.{HasNext, IsCarriedFor, IsNotOf}
 use Rattle.workers.proofs.Follows.{followed_answered, followed_called, followed_carried, followed_interrupted, followed_kept, next_carried, same_carried, still_grows}
-use Rattle.workers.proofs.Guarded.{guarded_of, guarded_still, known_if_same}
+use Rattle.workers.proofs.Guarded.{IsOn, guarded_of, guarded_still, known_if_same}
 use Rattle.workers.proofs.Starts.{begun_kept, begun_refused, begun_run, never_zero}
 use Rattle.workers.proofs.Steps.{advanced_answered, advanced_lost, advanced_more, advanced_refused}
 
@@ -43,7 +42,7 @@ begun_beside old new slot client number call result (Ok None) begun =
 
 -- a start that is refused, and a step that is, or that does not answer, leave the lists
 module _ (all : ℕ) (first : Sessioned) (old : Guarded) (well : IsGuardedWell all first old) (new : Sessioned)
-    (keeps : KeepsNumbers new) (goes_on : SessionGoesOn old.session new) (slot : ℕ) (client : Client) where
+    (keeps : KeepsNumbers new) (on : IsOn old.session new) (slot : ℕ) (client : Client) where
   abbrev as_it_was : Guarded
   as_it_was = record { session = new; rows = old.rows; creating = old.creating; rotated = old.rotated }
 
@@ -52,13 +51,13 @@ module _ (all : ℕ) (first : Sessioned) (old : Guarded) (well : IsGuardedWell a
   guarded_unbegun number call refusal answer begun =
       let beside = begun_beside old.session new slot client number call (Err refusal) answer begun in
       guarded_still all first old well new old.creating
-      (λ u. begun_refused old.session new slot client number call refusal answer well.promises begun u) keeps goes_on
+      (λ u. begun_refused old.session new slot client number call refusal answer well.promises begun u) keeps on
       (known_if_same old.session.broker new.broker old.creating beside.0 beside.1 well.creation)
 
   stepped_still : (result : Result (Option Reply) Refusal) → IsAdvanced old.session.broker new.broker slot client result
       → ((u : Client) → IsCarriedFor u old.session new) → IsGuardedWell all first as_it_was
   stepped_still result made carried =
-      guarded_still all first old well new old.creating carried keeps goes_on
+      guarded_still all first old well new old.creating carried keeps on
       (known_if_same old.session.broker new.broker old.creating made.others.recovery made.others.creation well.creation)
 
   pub guarded_more : IsAdvanced old.session.broker new.broker slot client (Ok None) → IsGuardedWell all first as_it_was
@@ -100,7 +99,7 @@ next_begun since old new slot event next begun other = elim (cases_eq other slot
 ]
 
 module _ (all : ℕ) (first : Sessioned) (old : Guarded) (well : IsGuardedWell all first old) (new : Sessioned)
-    (keeps : KeepsNumbers new) (goes_on : SessionGoesOn old.session new) (client : Client) (list : List Entry)
+    (keeps : KeepsNumbers new) (on : IsOn old.session new) (client : Client) (list : List Entry)
     (at : slice_get old.rows client.0 ≡ Some list) where
   abbrev since : ℕ → ℕ
   since = beginnings first old.rotated
@@ -123,7 +122,7 @@ module _ (all : ℕ) (first : Sessioned) (old : Guarded) (well : IsGuardedWell a
   guarded_by_event slot event of next row its known =
       guarded_of all first old well new client.0 row
       (next_begun since old.session new slot event next well.followed.begun)
-      (others_carried old.session new slot event client of next) its keeps goes_on known
+      (others_carried old.session new slot event client of next) its keeps on known
 
   -- a call begins
   module _ (r : Request) (next : ℕ) (ended : ends_open list ≡ false)
@@ -175,7 +174,7 @@ module _ (all : ℕ) (first : Sessioned) (old : Guarded) (well : IsGuardedWell a
         (λ none.
         never_zero old.session new r.queue.0 client r.number r.call (Some reply) begun
         (is ∙ ap (λ (n : ℕ). Some n) none)) its))
-        keeps goes_on (known_begun (Ok (Some reply)) begun)
+        keeps on (known_begun (Ok (Some reply)) begun)
 
     pub guarded_begun : (began : Option Reply) → Begun (Ok began)
         → IfSome began (IsReplyIfNumbered new r.queue.0 client r.number)
@@ -214,4 +213,4 @@ module _ (all : ℕ) (first : Sessioned) (old : Guarded) (well : IsGuardedWell a
         (λ u apart. carried (record { 0 = u }))
         (followed_interrupted since client new list slot lost.1 opens last
         (followed_carried since client old.session new list (carried client) was_followed))
-        keeps goes_on (known_advanced (Err refusal) made)
+        keeps on (known_advanced (Err refusal) made)

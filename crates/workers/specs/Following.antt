@@ -2,6 +2,7 @@
 use Rattle.std.specs.Prelude.{◌≡◌, ◌≤◌, ℕ, Bool, true, false, length, List, Some, slice_get}
 use Rattle.words.specs.declared.call.Client.{Client}
 use Rattle.named.specs.Brokers.{is_down}
+use Rattle.named.specs.GoingOn.{CameOf}
 use Rattle.session.specs.Keeping.{SessionGoesOn}
 use Rattle.session.specs.Promises.{KeepsNumbers}
 use Rattle.session.specs.Sessions.{Sessioned}
@@ -41,10 +42,12 @@ pub record Guarded : Type 0 where
   pub rotated : Bool
 
 -- what holds of it whenever the lock is free, where there are so many clients, and the session was this one when the
--- seats were given: what was settled then is so still, and the clients of its log queues are such clients still
+-- seats were given: what was settled then is so still, the clients of its log queues are such clients still, and its
+-- queues and their values came of those that it had then
 pub record IsGuardedWell (all : ℕ) (first : Sessioned) (g : Guarded) : Type 0 where
   pub clients : length g.rows ≡ all
   pub followed : AreFollowed (beginnings first g.rotated) g.session g.rows
   pub promises : KeepsNumbers g.session
   pub creation : IsCreationKnown g.session.broker g.creating
   pub goes_on : SessionGoesOn first g.session
+  pub came : CameOf first.broker g.rotated g.session.broker

@@ -1,6 +1,7 @@
 -- Seats in the order of their clients.
 use Rattle.std.specs.Prelude.{◌≡◌, ◌≤◌, ℕ, Bool, length, List, Some, slice_get, []}
 use Rattle.words.specs.declared.call.Client.{Client}
+use Rattle.named.specs.GoingOn.{CameOf}
 use Rattle.session.specs.Sessions.{Sessioned}
 use Rattle.workers.specs.Following.{beginnings}
 use Rattle.workers.specs.Lists.{IsRecorded, events_at}
@@ -15,10 +16,12 @@ pub record AreAllInOrder {S : Type 0} (client : S → Client) (clients : ℕ) (s
 pub record AreEmpty {S : Type 0} (list : S → List Entry) (seats : List S) : Type 0 where
   pub each : (k : ℕ) (seat : S) → slice_get seats k ≡ Some seat → list seat ≡ []
 
--- each seat's list is what the histories have of its client, since the seats were given or the histories ended last
+-- each seat's list is what the histories have of its client: since the seats were given, where no rotation ended the
+-- histories, and else since the last one did
 pub record AreSeatsRecorded {S : Type 0} (list : S → List Entry) (first : Sessioned) (seats : List S) (s : Sessioned)
     : Type 0 where
   pub rotated : Bool
+  pub came : CameOf first.broker rotated s.broker
   pub begun : (slot : ℕ) → beginnings first rotated slot ≤ length (events_at s.broker slot)
   pub each : (k : ℕ) (seat : S) → slice_get seats k ≡ Some seat
       → IsRecorded (beginnings first rotated) s (record { 0 = k }) (list seat)

@@ -1,6 +1,7 @@
 use Rattle.std.proofs.Common.{rules, ◌≡◌, Err, sym, subst}
 use Rattle.session.specs.Requests.{IsRun}
 use Rattle.session.proofs.Runs.{IsRoomMade, IsStartTried, never_refused, served, start_was_refused}
+use Rattle.named.proofs.GoingOn.{broker_goes_further}
 use Rattle.session.proofs.running.run.Goals as goal
 
 pub returns-in_err-start-clause-run : goal.returns-in_err-start-clause-run
@@ -23,3 +24,14 @@ returns-clause-run c =
     let tried : IsStartTried c.reserve.new.self c.start.new.self c.args.queue.0 c.args.client c.args.number c.args.call c.start.result = record { world = c.start.ensures.world; result_is = c.start.ensures.result; full = c.start.ensures.full; room = c.start.ensures.room; others = record { worlds = c.start.ensures.others; rooms = c.start.ensures.other_rooms; directory = c.start.ensures.directory; creation = c.start.ensures.creation; recovery = c.start.ensures.recovery }; well = c.start.ensures.promises.well } in
     served c.args.broker.now c.reserve.new.self c.start.new.self c.args.queue.0 c.args.client c.args.number c.args.call c.requires.open c.requires.well made c.start.result tried c.run_alone.new.self c.in_ok-reply.reply c.in_ok-reply._steps c.in_ok-start.was c.in_ok-reply.ensures.steps c.in_ok-reply.ensures.answer c.in_ok-reply.ensures.world c.in_ok-reply.ensures.room
     (record { worlds = c.run_alone.ensures.others; rooms = c.run_alone.ensures.other_rooms; directory = c.run_alone.ensures.directory; creation = c.run_alone.ensures.creation; recovery = c.run_alone.ensures.recovery })
+
+pub returns-in_err-start-clause-goes_on : goal.returns-in_err-start-clause-goes_on
+returns-in_err-start-clause-goes_on c = broker_goes_further _ _ _ c.reserve.ensures.goes_on c.start.ensures.goes_on
+
+pub returns-in_err-reply-clause-goes_on : goal.returns-in_err-reply-clause-goes_on
+returns-in_err-reply-clause-goes_on c =
+    broker_goes_further _ _ _ c.reserve.ensures.goes_on (broker_goes_further _ _ _ c.start.ensures.goes_on c.run_alone.ensures.goes_on)
+
+pub returns-clause-goes_on : goal.returns-clause-goes_on
+returns-clause-goes_on c =
+    broker_goes_further _ _ _ c.reserve.ensures.goes_on (broker_goes_further _ _ _ c.start.ensures.goes_on c.run_alone.ensures.goes_on)

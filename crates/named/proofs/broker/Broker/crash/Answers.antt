@@ -1,4 +1,4 @@
-use Rattle.std.proofs.Common.{rules, ◌≡◌, ◌∙◌, List, Option, Some, slice_get, sym, ap, subst, arith}
+use Rattle.std.proofs.Common.{rules, ◌≡◌, ◌∙◌, List, Option, Some, slice_get, refl, sym, ap, subst, arith}
 use Rattle.std.proofs.lemmas.List.{with_items_is}
 use Rattle.std.specs.Vec.{with_items}
 use Rattle.persist.specs.Memory.{Words, words_after_crash}
@@ -6,10 +6,13 @@ use Rattle.interleave.specs.State.{after_stop}
 use Rattle.named.specs.Slots.{acted}
 use Rattle.named.specs.Each.{EachBecame, HasMoreRoom, HasStopped}
 use Rattle.named.specs.Brokers.{Brokered, IsWell, room_at, room_of, world_at, world_of}
+use Rattle.named.specs.GoingOn.{BrokerGoesOn}
 use Rattle.named.specs.Stopping.{IsSameButRoom, IsStopped, booting}
 use Rattle.named.specs.declared.recovery.BrokerRecovery.{BrokerRecovery}
 use Rattle.named.specs.declared.recovery.BrokerRecovery.TheVariants.{ReadDirectory}
 use Rattle.named.specs.declared.slot.Slot.{Slot}
+use Rattle.named.proofs.Downtimes.{crash_downtime}
+use Rattle.named.proofs.GoingOn.{crash_goes_on, same_goes_on}
 use Rattle.named.proofs.Stopped.{few_in_each, rooms_roomier, rooms_stopped, well_roomier, well_stopped, worlds_roomier, worlds_stopped}
 use Rattle.named.proofs.Promises.{promises_well}
 use Rattle.named.proofs.broker.Broker.crash.Goals as goal
@@ -104,3 +107,19 @@ returns-in_err-reserve_each-clause-promises c = promises_well _ (invariant_of-se
 
 pub returns-clause-promises : goal.returns-clause-promises
 returns-clause-promises c = promises_well _ (invariant_of-self-2 c)
+
+pub returns-in_err-reserve_each-clause-goes_on : goal.returns-in_err-reserve_each-clause-goes_on
+returns-in_err-reserve_each-clause-goes_on c =
+    let b : Brokered = record { counts = c.self.inside.layout; words = c.self.inside.memory; slots = c.self.inside.slots.items; directory = c.self.inside.directory; creation = c.self.inside.creation; recovery = c.self.inside.recovery } in
+    let more : List Slot = c.reserve_each.new.slots in
+    let each : EachBecame HasMoreRoom b.slots more = subst (λ (l : List Slot). EachBecame HasMoreRoom l more) c.deref_mut.ensures.value c.reserve_each.ensures.same in
+    let written : (with_items c.self.inside.slots more).items ≡ more = with_items_is c.self.inside.slots more (each.count ∙ sym c.self.inside.slots.ok.0) in
+    let new : Brokered = record b { slots = (with_items c.self.inside.slots more).items } in
+    subst (λ (x : Brokered). BrokerGoesOn x new) c.self.view_is
+    (same_goes_on b new refl (λ at. ap (λ (l : List Slot). world_of b.words (slice_get l at)) written ∙ worlds_roomier b more c.self.invariant each at))
+
+pub returns-clause-goes_on : goal.returns-clause-goes_on
+returns-clause-goes_on c = crash_goes_on _ _ (subst IsWell c.self.view_is c.self.invariant) (returns-clause-stopped c refl)
+
+pub returns-clause-downtime : goal.returns-clause-downtime
+returns-clause-downtime c = λ ok. crash_downtime _ _ (subst IsWell c.self.view_is c.self.invariant) (returns-clause-stopped c ok)

@@ -4,6 +4,7 @@ use Rattle.directory.specs.declared.creation.Creation.{Creation}
 use Rattle.directory.specs.declared.queue.Queue.{Queue}
 use Rattle.named.specs.Brokers.{Brokered, IsWell}
 use Rattle.named.proofs.Begun.{begun_well}
+use Rattle.named.proofs.GoingOn.{begun_goes_on}
 use Rattle.named.proofs.Kept.{ready_there}
 use Rattle.named.proofs.Promises.{promises_well}
 use Rattle.named.proofs.broker.Broker.create.Goals as goal
@@ -20,3 +21,15 @@ invariant_of-self c =
 
 pub returns-clause-promises : goal.returns-clause-promises
 returns-clause-promises c = promises_well _ (invariant_of-self c)
+
+pub returns-clause-goes_on : goal.returns-clause-goes_on
+returns-clause-goes_on c =
+    let new : Brokered = record {
+      counts = c.self.inside.layout;
+      words = c.self.inside.memory;
+      slots = c.self.inside.slots.items;
+      directory = c.self.inside.directory;
+      creation = Some c.begin.result;
+      recovery = c.self.inside.recovery;
+    } in
+    begun_goes_on c.args.self.now new (ap (λ (x : Brokered). let y : Brokered = record x { creation = Some c.begin.result } in y) c.self.view_is)

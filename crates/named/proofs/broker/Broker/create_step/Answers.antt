@@ -11,6 +11,8 @@ use Rattle.interleave.specs.State.{world_over}
 use Rattle.named.specs.Brokers.{Brokered, IsOpened, IsStepCreated, IsWell, block_words, quiet, words_created, world_at, world_of}
 use Rattle.named.proofs.Opened.{others_done, others_more, rest, room_now, unused, well_done, well_more, world_opened}
 use Rattle.named.specs.declared.recovery.BrokerRecovery.{BrokerRecovery}
+use Rattle.named.proofs.Downtimes.{creation_step_goes_on, made_goes_on}
+use Rattle.named.proofs.GoingOn.{broker_stays}
 use Rattle.named.proofs.Kept.{ready_there}
 use Rattle.named.proofs.Promises.{promises_kept, promises_well}
 use Rattle.named.proofs.broker.Broker.create_step.Goals as goal
@@ -98,3 +100,41 @@ returns-in-More-clause-promises c = promises_well _ (invariant_of-self c)
 
 pub returns-in-Done-clause-promises : goal.returns-in-Done-clause-promises
 returns-in-Done-clause-promises c = promises_well _ (invariant_of-self-in-Done c)
+
+pub returns-in_err-check_ready-clause-goes_on : goal.returns-in_err-check_ready-clause-goes_on
+returns-in_err-check_ready-clause-goes_on c = broker_stays _
+
+pub returns-in_default-clause-goes_on : goal.returns-in_default-clause-goes_on
+returns-in_default-clause-goes_on c = broker_stays _
+
+pub returns-in-More-clause-goes_on : goal.returns-in-More-clause-goes_on
+returns-in-More-clause-goes_on c =
+    let b : Brokered = record { counts = c.self.inside.layout; words = c.self.inside.memory; slots = c.self.inside.slots.items; directory = c.self.inside.directory; creation = c.self.inside.creation; recovery = c.self.inside.recovery } in
+    let k : Creation = c.in-Some.creation in
+    let ready : c.self.inside.recovery ≡ None = ap (λ (x : Brokered). x.recovery) c.self.view_is ∙ ready_there c.args.self.now.recovery c.check_ready.result c.check_ready.ensures c.in_ok-check_ready.was in
+    let is : c.self.inside.creation ≡ Some k = cc (c.in-Some.is) in
+    let went : successor k ≡ More c.in-More.next = cc (c.step-after.ensures.next, c.in-More.is) in
+    let new : Brokered = record b { words = c.step-after.new.memory; creation = Some c.in-More.next } in
+    let result : Result (Option SlotId) Refusal = Ok None in
+    let step : IsStepCreated b new k result (More c.in-More.next) = (refl, ap (λ (w : Words). let x : Brokered = record b { words = w; creation = Some c.in-More.next } in x) c.step-after.ensures.one_access) in
+    let made : IsStepCreated c.args.self.now new k result (successor k) =
+    subst (λ (x : Brokered). IsStepCreated x new k result (successor k)) c.self.view_is (subst (λ (a : After Creation SlotId). IsStepCreated b new k result a) (sym went) step) in
+    creation_step_goes_on c.args.self.now new k result (subst IsWell c.self.view_is c.self.invariant)
+    (sym (ap (λ (x : Brokered). x.recovery) c.self.view_is) ∙ ready) (sym (ap (λ (x : Brokered). x.creation) c.self.view_is) ∙ is) made
+    (returns-in-More-clause-others c)
+
+pub returns-in-Done-clause-goes_on : goal.returns-in-Done-clause-goes_on
+returns-in-Done-clause-goes_on c =
+    let k : Creation = c.in-Some.creation in
+    let ready : c.args.self.now.recovery ≡ None = ready_there c.args.self.now.recovery c.check_ready.result c.check_ready.ensures c.in_ok-check_ready.was in
+    let is : c.self.inside.creation ≡ Some k = cc (c.in-Some.is) in
+    let new : Brokered = record {
+      counts = c.self.inside.layout;
+      words = c.step-after.new.memory;
+      slots = slice_set c.self.inside.slots.items c.in-Done.slot.0 c.open-opened.result;
+      directory = c.open.new.self;
+      creation = None;
+      recovery = c.self.inside.recovery;
+    } in
+    made_goes_on c.args.self.now new k (Ok (Some c.in-Done.slot)) (subst IsWell c.self.view_is c.self.invariant) ready
+    (sym (ap (λ (x : Brokered). x.creation) c.self.view_is) ∙ is) (returns-in-Done-clause-step c ready) (returns-in-Done-clause-others c)

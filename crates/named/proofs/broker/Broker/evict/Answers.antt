@@ -1,11 +1,13 @@
 use Rattle.std.proofs.Common.{rules, arith, ◌≡◌, ◌⊎◌, ℕ, inl, inr, slice_get, slice_set, ap, sym, subst, ◌∙◌}
 use Rattle.std.proofs.lemmas.Option.{slice_get_read, slice_get_within}
 use Rattle.std.proofs.lemmas.Bool.{cases_eq}
-use Rattle.persist.specs.Memory.{Words}
+use Rattle.persist.specs.Memory.{Words, words_after_eviction}
 use Rattle.interleave.proofs.AloneLaws.{get_set}
 use Rattle.named.specs.Evicting.{IsInNoBlock, world_evicted}
 use Rattle.named.specs.Slots.{acted}
 use Rattle.named.specs.Brokers.{Brokered, IsWell, room_at, room_of, world_at, world_of}
+use Rattle.named.proofs.GoingOn.{eviction_downtime}
+use Rattle.named.proofs.Lastings.{left_evicted}
 use Rattle.named.proofs.Kept.{get_set_other, slot_is_well, still_well}
 use Rattle.named.proofs.EvictedWell.{outside_evicted, well_before, word_of_block, worlds_before, worlds_past, worlds_within}
 use Rattle.named.proofs.Promises.{promises_well}
@@ -81,3 +83,37 @@ returns-in-Some-clause-promises c = promises_well _ (invariant_of-self c)
 
 pub returns-in-None-clause-promises : goal.returns-in-None-clause-promises
 returns-in-None-clause-promises c = promises_well _ (invariant_of-self-in-None c)
+
+pub returns-in-Some-clause-left : goal.returns-in-Some-clause-left
+returns-in-Some-clause-left c =
+    let b : Brokered = record { counts = c.self.inside.layout; words = c.self.inside.memory; slots = c.self.inside.slots.items; directory = c.self.inside.directory; creation = c.self.inside.creation; recovery = c.self.inside.recovery } in
+    let new : Brokered = record b { words = c.evict.new.memory; slots = slice_set b.slots c.in-Some.slot.0 c.evict.new.self } in
+    let kept : new.words.kept ≡ (words_after_eviction c.args.word c.args.self.now.words).kept = c.evict.ensures.words.kept ∙ ap (λ (x : Brokered). (words_after_eviction c.args.word x.words).kept) c.self.view_is in
+    left_evicted c.args.self.now new c.args.word (subst IsWell c.self.view_is c.self.invariant)
+    (ap (λ (x : Brokered). let y : Brokered = record x { words = new.words; slots = new.slots } in y) c.self.view_is) (inl kept) (returns-in-Some-clause-worlds c)
+
+pub returns-in-Some-clause-downtime : goal.returns-in-Some-clause-downtime
+returns-in-Some-clause-downtime c =
+    let b : Brokered = record { counts = c.self.inside.layout; words = c.self.inside.memory; slots = c.self.inside.slots.items; directory = c.self.inside.directory; creation = c.self.inside.creation; recovery = c.self.inside.recovery } in
+    let new : Brokered = record b { words = c.evict.new.memory; slots = slice_set b.slots c.in-Some.slot.0 c.evict.new.self } in
+    eviction_downtime c.args.self.now new c.args.word (subst IsWell c.self.view_is c.self.invariant)
+    (ap (λ (x : Brokered). let y : Brokered = record x { words = new.words; slots = new.slots } in y) c.self.view_is) (returns-in-Some-clause-worlds c)
+
+pub returns-in-None-clause-left : goal.returns-in-None-clause-left
+returns-in-None-clause-left c =
+    let b : Brokered = record { counts = c.self.inside.layout; words = c.self.inside.memory; slots = c.self.inside.slots.items; directory = c.self.inside.directory; creation = c.self.inside.creation; recovery = c.self.inside.recovery } in
+    let new : Brokered = record b { words = c.evict-in-None.new.self } in
+    let outside : IsInNoBlock b.counts c.args.word = search rules in
+    let kept : (new.words.kept ≡ (words_after_eviction c.args.word c.args.self.now.words).kept) ⊎ (new.words.kept ≡ c.args.self.now.words.kept) = elim outside [
+      | inl low ↦ inl (ap (λ (w : Words). w.kept) (c.evict-in-None.ensures.done (omega (arith, low, c.self.invariant.room.cached))) ∙ ap (λ (x : Brokered). (words_after_eviction c.args.word x.words).kept) c.self.view_is)
+      | inr past ↦ inr (ap (λ (w : Words). w.kept) (c.evict-in-None.ensures.same (omega (arith, past, c.self.invariant.room.cached))) ∙ ap (λ (x : Brokered). x.words.kept) c.self.view_is)
+    ] in
+    left_evicted c.args.self.now new c.args.word (subst IsWell c.self.view_is c.self.invariant)
+    (ap (λ (x : Brokered). let y : Brokered = record x { words = new.words; slots = new.slots } in y) c.self.view_is) kept (returns-in-None-clause-worlds c)
+
+pub returns-in-None-clause-downtime : goal.returns-in-None-clause-downtime
+returns-in-None-clause-downtime c =
+    let b : Brokered = record { counts = c.self.inside.layout; words = c.self.inside.memory; slots = c.self.inside.slots.items; directory = c.self.inside.directory; creation = c.self.inside.creation; recovery = c.self.inside.recovery } in
+    let new : Brokered = record b { words = c.evict-in-None.new.self } in
+    eviction_downtime c.args.self.now new c.args.word (subst IsWell c.self.view_is c.self.invariant)
+    (ap (λ (x : Brokered). let y : Brokered = record x { words = new.words; slots = new.slots } in y) c.self.view_is) (returns-in-None-clause-worlds c)

@@ -1,6 +1,11 @@
-use Rattle.std.proofs.Common.{◌+◌, ◌≤◌, subst}
-use Rattle.named.specs.Brokers.{Brokered}
+use Rattle.std.proofs.Common.{rules, ◌≡◌, ◌+◌, ◌≤◌, Ok, Some, subst}
+use Rattle.arena.specs.declared.broker.SlotId.{SlotId}
+use Rattle.directory.specs.declared.recovery.DirectoryRecovery.{DirectoryRecovery}
+use Rattle.named.specs.Brokers.{Brokered, IsWell}
 use Rattle.named.specs.Lasting.{most_kept, steps_left}
+use Rattle.named.specs.declared.recovery.BrokerRecovery.TheVariants.{ReadDirectory, RecoverQueue}
+use Rattle.named.proofs.Downtimes.{directory_downtime, queue_downtime}
+use Rattle.named.proofs.GoingOn.{nothing_downtime}
 use Rattle.named.proofs.Lastings.{few_left}
 use Rattle.named.proofs.Promises.{promises_kept}
 use Rattle.named.proofs.broker.Broker.recover_step.Goals as goal
@@ -12,3 +17,18 @@ returns-in-Some-RecoverQueue-clause-few c =
 
 pub returns-in-None-clause-promises : goal.returns-in-None-clause-promises
 returns-in-None-clause-promises c = promises_kept _ _ c.self.invariant c.self.view_is
+
+pub returns-in-None-clause-downtime : goal.returns-in-None-clause-downtime
+returns-in-None-clause-downtime c = nothing_downtime _
+
+pub returns-in-Some-ReadDirectory-clause-downtime : goal.returns-in-Some-ReadDirectory-clause-downtime
+returns-in-Some-ReadDirectory-clause-downtime c =
+    let at : DirectoryRecovery = c.in-Some-ReadDirectory.at in
+    let is : c.args.self.now.recovery ≡ Some (ReadDirectory at) = search rules in
+    directory_downtime c.args.self.now c.read_directory.new.self at (Ok c.read_directory.result) (subst IsWell c.self.view_is c.self.invariant) is c.read_directory.ensures.read
+
+pub returns-in-Some-RecoverQueue-clause-downtime : goal.returns-in-Some-RecoverQueue-clause-downtime
+returns-in-Some-RecoverQueue-clause-downtime c =
+    let slot : SlotId = c.in-Some-RecoverQueue.slot in
+    let is : c.args.self.now.recovery ≡ Some (RecoverQueue slot) = search rules in
+    queue_downtime c.args.self.now c.recover_queue.new.self slot.0 c.recover_queue.result (subst IsWell c.self.view_is c.self.invariant) c.recover_queue.ensures.recovered

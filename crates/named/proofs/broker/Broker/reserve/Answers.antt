@@ -4,6 +4,7 @@ use Rattle.std.proofs.lemmas.Option.{slice_get_read}
 use Rattle.interleave.specs.State.{State}
 use Rattle.named.specs.Slots.{IsWhyUnread, world_in}
 use Rattle.named.specs.Brokers.{Brokered, room_at, room_of, world_at, world_of}
+use Rattle.named.proofs.GoingOn.{same_goes_on, broker_stays}
 use Rattle.named.proofs.Kept.{get_set_other, slot_is_well, still_well}
 use Rattle.named.proofs.Reserved.{few, room_here, rooms_kept, same_outside, slot_reserved, worlds_same}
 use Rattle.named.proofs.Promises.{promises_kept, promises_well}
@@ -69,3 +70,12 @@ returns-then-slot-len-clause-promises c = promises_kept _ _ c.self.invariant c.s
 
 pub returns-clause-promises : goal.returns-clause-promises
 returns-clause-promises c = promises_well _ (invariant_of-self c)
+
+pub returns-clause-goes_on : goal.returns-clause-goes_on
+returns-clause-goes_on c =
+    let b : Brokered = record { counts = c.self.inside.layout; words = c.self.inside.memory; slots = c.self.inside.slots.items; directory = c.self.inside.directory; creation = c.self.inside.creation; recovery = c.self.inside.recovery } in
+    let new : Brokered = record b { slots = slice_set b.slots c.args.slot.0 c.reserve.new.self } in
+    same_goes_on c.args.self.now new (ap (λ (x : Brokered). x.directory) c.self.view_is) (returns-clause-worlds c)
+
+pub returns-then-slot-len-clause-goes_on : goal.returns-then-slot-len-clause-goes_on
+returns-then-slot-len-clause-goes_on c = broker_stays _

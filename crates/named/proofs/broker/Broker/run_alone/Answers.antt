@@ -1,13 +1,15 @@
-use Rattle.std.proofs.Common.{◌≡◌, ap, sym, subst, ◌∙◌, Ok, Err, Option, Result, refl, IfErr, IfOk, ◌⊎◌, inr, arith}
+use Rattle.std.proofs.Common.{◌≡◌, slice_set, ap, sym, subst, ◌∙◌, Ok, Err, Option, Result, refl, IfErr, IfOk, ◌⊎◌, inr, arith}
 use Rattle.std.proofs.lemmas.Option.{slice_get_read}
+use Rattle.directory.specs.UnderWay.{HaveSameDirectory}
 use Rattle.words.specs.declared.refusal.Refusal.{Refusal}
 use Rattle.interleave.specs.State.{State, after_alone, IsAnsweredAlone}
 use Rattle.words.specs.declared.refusal.Refusal.TheVariants.{NoMemory, NoQueue}
 use Rattle.protocol.specs.declared.UnderWay.{UnderWay}
 use Rattle.named.specs.Blocks.{waiting_in}
 use Rattle.named.specs.Slots.{acted, IfWorld, world_in}
-use Rattle.named.specs.Brokers.{Brokered, admission, world_at, quiet, answer_at}
-use Rattle.named.proofs.Kept.{no_queue, world_now, world_was, slot_is_well, still_well, others_stay, answer_done}
+use Rattle.named.specs.Brokers.{Brokered, IsWell, admission, world_at, quiet, answer_at}
+use Rattle.named.proofs.GoingOn.{alone_goes_on, broker_stays}
+use Rattle.named.proofs.Kept.{directory_as_it_was, no_queue, same_directory, world_now, world_was, slot_is_well, still_well, others_stay, answer_done}
 use Rattle.named.proofs.Promises.{promises_kept, promises_well}
 use Rattle.named.proofs.broker.Broker.run_alone.Goals as goal
 
@@ -99,3 +101,35 @@ returns-then-slot-ge-SLOTS-clause-promises c = promises_kept _ _ c.self.invarian
 
 pub returns-clause-promises : goal.returns-clause-promises
 returns-clause-promises c = promises_well _ (invariant_of-self c)
+
+pub returns-in_err-admit-clause-directory_words : goal.returns-in_err-admit-clause-directory_words
+returns-in_err-admit-clause-directory_words c = directory_as_it_was _ _ c.self.invariant c.self.view_is
+
+pub returns-then-slot-ge-SLOTS-clause-directory_words : goal.returns-then-slot-ge-SLOTS-clause-directory_words
+returns-then-slot-ge-SLOTS-clause-directory_words c = directory_as_it_was _ _ c.self.invariant c.self.view_is
+
+pub returns-clause-directory_words : goal.returns-clause-directory_words
+returns-clause-directory_words c =
+    let here = slice_get_read c.self.inside.slots.items 8 c.args.slot.0 c.index_mut.result.now (sym c.self.invariant.count) c.if-slot-ge-SLOTS.false c.index_mut.ensures.value in
+    let b : Brokered = record { counts = c.self.inside.layout; words = c.self.inside.memory; slots = c.self.inside.slots.items; directory = c.self.inside.directory; creation = c.self.inside.creation; recovery = c.self.inside.recovery } in
+    subst (λ (x : Brokered). HaveSameDirectory x.words c.run_alone.new.memory) c.self.view_is
+    (same_directory b c.args.slot.0 c.index_mut.result.now c.run_alone.new.self c.run_alone.new.memory c.self.invariant here c.run_alone.ensures.well c.run_alone.ensures.outside c.run_alone.ensures.same)
+
+pub returns-in_err-admit-clause-goes_on : goal.returns-in_err-admit-clause-goes_on
+returns-in_err-admit-clause-goes_on c = broker_stays _
+
+pub returns-then-slot-ge-SLOTS-clause-goes_on : goal.returns-then-slot-ge-SLOTS-clause-goes_on
+returns-then-slot-ge-SLOTS-clause-goes_on c = broker_stays _
+
+pub returns-clause-goes_on : goal.returns-clause-goes_on
+returns-clause-goes_on c =
+    let new : Brokered = record {
+      counts = c.self.inside.layout;
+      words = c.run_alone.new.memory;
+      slots = slice_set c.self.inside.slots.items c.args.slot.0 c.run_alone.new.self;
+      directory = c.self.inside.directory;
+      creation = c.self.inside.creation;
+      recovery = c.self.inside.recovery;
+    } in
+    alone_goes_on c.args.client c.run_alone.result c.args.self.now new c.args.slot.0 (subst IsWell c.self.view_is c.self.invariant) (ap (λ (x : Brokered). x.directory) c.self.view_is)
+    (returns-clause-same c) (returns-clause-answer c) (returns-clause-world c) (returns-clause-others c)

@@ -1,11 +1,14 @@
-use Rattle.std.proofs.Common.{arith, slice_get, slice_set, ◌≡◌, ap, sym, ◌∙◌, Ok}
+use Rattle.std.proofs.Common.{arith, slice_get, slice_set, ◌≡◌, ap, sym, subst, ◌∙◌, Ok}
+use Rattle.directory.specs.UnderWay.{HaveSameDirectory}
+use Rattle.protocol.specs.declared.acts.Act.TheVariants.{Step}
 use Rattle.std.proofs.lemmas.Option.{slice_get_read, slice_get_within}
 use Rattle.interleave.specs.Calls.{is_no_memory}
 use Rattle.interleave.specs.State.{State, after_step, step_result}
 use Rattle.interleave.proofs.AloneLaws.{get_set}
 use Rattle.named.specs.Slots.{room_in}
-use Rattle.named.specs.Brokers.{Brokered, admission, room_at, room_of, world_at, quiet, world_after, answer_at}
-use Rattle.named.proofs.Kept.{get_set_other, slot_is_well, still_well, others_stay, world_done, answer_done}
+use Rattle.named.specs.Brokers.{Brokered, IsWell, admission, room_at, room_of, world_at, quiet, world_after, answer_at}
+use Rattle.named.proofs.GoingOn.{client_goes_on, broker_stays}
+use Rattle.named.proofs.Kept.{directory_as_it_was, get_set_other, same_directory, slot_is_well, still_well, others_stay, world_done, answer_done}
 use Rattle.named.proofs.Promises.{promises_kept, promises_well}
 use Rattle.named.proofs.broker.Broker.step.Goals as goal
 
@@ -68,3 +71,35 @@ returns-then-slot-ge-SLOTS-clause-promises c = promises_kept _ _ c.self.invarian
 
 pub returns-clause-promises : goal.returns-clause-promises
 returns-clause-promises c = promises_well _ (invariant_of-self c)
+
+pub returns-in_err-admit-clause-directory_words : goal.returns-in_err-admit-clause-directory_words
+returns-in_err-admit-clause-directory_words c = directory_as_it_was _ _ c.self.invariant c.self.view_is
+
+pub returns-then-slot-ge-SLOTS-clause-directory_words : goal.returns-then-slot-ge-SLOTS-clause-directory_words
+returns-then-slot-ge-SLOTS-clause-directory_words c = directory_as_it_was _ _ c.self.invariant c.self.view_is
+
+pub returns-clause-directory_words : goal.returns-clause-directory_words
+returns-clause-directory_words c =
+    let here = slice_get_read c.self.inside.slots.items 8 c.args.slot.0 c.index_mut.result.now (sym c.self.invariant.count) c.if-slot-ge-SLOTS.false c.index_mut.ensures.value in
+    let b : Brokered = record { counts = c.self.inside.layout; words = c.self.inside.memory; slots = c.self.inside.slots.items; directory = c.self.inside.directory; creation = c.self.inside.creation; recovery = c.self.inside.recovery } in
+    subst (λ (x : Brokered). HaveSameDirectory x.words c.step.new.memory) c.self.view_is
+    (same_directory b c.args.slot.0 c.index_mut.result.now c.step.new.self c.step.new.memory c.self.invariant here c.step.ensures.well c.step.ensures.outside c.step.ensures.same)
+
+pub returns-in_err-admit-clause-goes_on : goal.returns-in_err-admit-clause-goes_on
+returns-in_err-admit-clause-goes_on c = broker_stays _
+
+pub returns-then-slot-ge-SLOTS-clause-goes_on : goal.returns-then-slot-ge-SLOTS-clause-goes_on
+returns-then-slot-ge-SLOTS-clause-goes_on c = broker_stays _
+
+pub returns-clause-goes_on : goal.returns-clause-goes_on
+returns-clause-goes_on c =
+    let new : Brokered = record {
+      counts = c.self.inside.layout;
+      words = c.step.new.memory;
+      slots = slice_set c.self.inside.slots.items c.args.slot.0 c.step.new.self;
+      directory = c.self.inside.directory;
+      creation = c.self.inside.creation;
+      recovery = c.self.inside.recovery;
+    } in
+    client_goes_on (is_no_memory c.step.result) (Step c.args.client) c.args.self.now new c.args.slot.0 c.args.client (subst IsWell c.self.view_is c.self.invariant)
+    (ap (λ (x : Brokered). x.directory) c.self.view_is) (returns-clause-world c) (returns-clause-others c)

@@ -10,6 +10,8 @@ use Rattle.session.proofs.Acting.{advanced_on, advanced_reply, advanced_right, k
 use Rattle.session.proofs.Calling.{answered_at}
 use Rattle.session.proofs.Promised.{numbers_kept, numbers_shown}
 use Rattle.session.proofs.Worlds.{open_below}
+use Rattle.named.proofs.GoingOn.{broker_stays}
+use Rattle.session.proofs.GoneOn.{queues_on}
 use Rattle.session.proofs.session.Session.advance.Goals as goal
 
 pub returns-in_err-number-clause-promises : goal.returns-in_err-number-clause-promises
@@ -157,3 +159,12 @@ returns-clause-goes_on c =
 
 pub returns-clause-promises : goal.returns-clause-promises
 returns-clause-promises c = numbers_kept _ (invariant_of-self-2 c)
+
+pub returns-in_err-number-clause-queues : goal.returns-in_err-number-clause-queues
+returns-in_err-number-clause-queues c = broker_stays _
+
+pub returns-in_err-answer-clause-queues : goal.returns-in_err-answer-clause-queues
+returns-in_err-answer-clause-queues c = queues_on _ _ _ c.self.view_is c.step.ensures.goes_on
+
+pub returns-clause-queues : goal.returns-clause-queues
+returns-clause-queues c = queues_on _ _ _ c.self.view_is c.step.ensures.goes_on

@@ -11,6 +11,8 @@ use Rattle.session.proofs.Promised.{numbers_kept, numbers_shown}
 use Rattle.session.proofs.Serving.{answered_reply, started_right}
 use Rattle.session.proofs.Clients.{goes_on_kept, laid_out_act}
 use Rattle.session.proofs.Starts.{begun_if_runs, number_is, started_by}
+use Rattle.named.proofs.GoingOn.{broker_stays}
+use Rattle.session.proofs.GoneOn.{queues_on}
 use Rattle.session.proofs.session.Session.begin.Goals as goal
 
 pub returns-in_err-start-clause-begun : goal.returns-in_err-start-clause-begun
@@ -100,3 +102,15 @@ invariant_of-self-2 c =
 
 pub returns-clause-promises : goal.returns-clause-promises
 returns-clause-promises c = numbers_kept _ (invariant_of-self-2 c)
+
+pub returns-in_err-reply-clause-queues : goal.returns-in_err-reply-clause-queues
+returns-in_err-reply-clause-queues c = broker_stays _
+
+pub returns-in-Some-clause-queues : goal.returns-in-Some-clause-queues
+returns-in-Some-clause-queues c = broker_stays _
+
+pub returns-in_err-start-clause-queues : goal.returns-in_err-start-clause-queues
+returns-in_err-start-clause-queues c = queues_on _ _ _ c.self.view_is c.start.ensures.goes_on
+
+pub returns-clause-queues : goal.returns-clause-queues
+returns-clause-queues c = queues_on _ _ _ c.self.view_is c.start.ensures.goes_on

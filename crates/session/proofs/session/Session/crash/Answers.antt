@@ -5,6 +5,7 @@ use Rattle.named.specs.Stopping.{IsSameButRoom}
 use Rattle.session.specs.Sessions.{IsRight, Sessioned}
 use Rattle.session.proofs.Downs.{right_roomier, right_stopped}
 use Rattle.session.proofs.Promised.{numbers_kept}
+use Rattle.session.proofs.GoneOn.{downtime_on, queues_on}
 use Rattle.session.proofs.session.Session.crash.Goals as goal
 
 pub invariant_of-self : goal.invariant_of-self
@@ -22,3 +23,9 @@ invariant_of-self c =
 
 pub returns-clause-promises : goal.returns-clause-promises
 returns-clause-promises c = numbers_kept _ (invariant_of-self c)
+
+pub returns-clause-queues : goal.returns-clause-queues
+returns-clause-queues c = queues_on _ _ _ c.self.view_is c.crash.ensures.goes_on
+
+pub returns-clause-downtime : goal.returns-clause-downtime
+returns-clause-downtime c = λ ok. downtime_on _ _ _ c.self.view_is (c.crash.ensures.downtime ok)

@@ -1,5 +1,6 @@
 use Rattle.session.proofs.Promised.{numbers_kept}
 use Rattle.session.proofs.Queueing.{created_right}
+use Rattle.session.proofs.GoneOn.{queues_on}
 use Rattle.session.proofs.session.Session.create.Goals as goal
 
 pub returns-clause-promises : goal.returns-clause-promises
@@ -7,3 +8,6 @@ returns-clause-promises c =
     numbers_kept _
     (created_right c.self.inside.broker c.create.new.self c.self.inside.kept c.self.invariant c.create.result
     c.create.ensures.promises c.create.ensures.same c.create.ensures.others)
+
+pub returns-clause-queues : goal.returns-clause-queues
+returns-clause-queues c = queues_on _ _ _ c.self.view_is c.create.ensures.goes_on

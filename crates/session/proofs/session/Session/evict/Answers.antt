@@ -2,6 +2,7 @@ use Rattle.std.proofs.Common.{ap}
 use Rattle.named.specs.Brokers.{Brokered}
 use Rattle.session.proofs.Downs.{right_evicted}
 use Rattle.session.proofs.Promised.{numbers_kept}
+use Rattle.session.proofs.GoneOn.{downtime_on}
 use Rattle.session.proofs.session.Session.evict.Goals as goal
 
 pub invariant_of-self : goal.invariant_of-self
@@ -12,3 +13,6 @@ invariant_of-self c =
 
 pub returns-clause-promises : goal.returns-clause-promises
 returns-clause-promises c = numbers_kept _ (invariant_of-self c)
+
+pub returns-clause-downtime : goal.returns-clause-downtime
+returns-clause-downtime c = downtime_on _ _ _ c.self.view_is c.evict.ensures.downtime

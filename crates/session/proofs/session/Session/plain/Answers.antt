@@ -9,6 +9,8 @@ use Rattle.session.specs.Sessions.{Sessioned}
 use Rattle.session.proofs.Promised.{numbers_kept, numbers_shown}
 use Rattle.session.proofs.Serving.{plain_run_right}
 use Rattle.session.proofs.Clients.{goes_on_kept, laid_out_each, laid_out_run, others_run}
+use Rattle.named.proofs.GoingOn.{broker_stays}
+use Rattle.session.proofs.GoneOn.{queues_on}
 use Rattle.session.proofs.session.Session.plain.Goals as goal
 
 pub returns-clause-goes_on : goal.returns-clause-goes_on
@@ -35,3 +37,9 @@ invariant_of-self c =
 
 pub returns-clause-promises : goal.returns-clause-promises
 returns-clause-promises c = numbers_kept _ (invariant_of-self c)
+
+pub returns-in_err-admit-clause-queues : goal.returns-in_err-admit-clause-queues
+returns-in_err-admit-clause-queues c = broker_stays _
+
+pub returns-clause-queues : goal.returns-clause-queues
+returns-clause-queues c = queues_on _ _ _ c.self.view_is c.run.ensures.goes_on

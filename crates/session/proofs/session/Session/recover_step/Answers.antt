@@ -5,6 +5,7 @@ use Rattle.session.specs.Keeping.{SessionGoesOn}
 use Rattle.session.specs.Sessions.{Sessioned}
 use Rattle.session.proofs.Answered.{ready_goes_on, right_ready, right_unready, unready_goes_on}
 use Rattle.session.proofs.Promised.{numbers_kept}
+use Rattle.session.proofs.GoneOn.{downtime_on}
 use Rattle.session.proofs.session.Session.recover_step.Goals as goal
 
 -- the step is refused
@@ -78,3 +79,12 @@ returns-else-ready-clause-goes_on c =
 
 pub returns-else-ready-clause-promises : goal.returns-else-ready-clause-promises
 returns-else-ready-clause-promises c = numbers_kept _ (invariant_of-self-else-ready c)
+
+pub returns-in_err-ready-clause-downtime : goal.returns-in_err-ready-clause-downtime
+returns-in_err-ready-clause-downtime c = downtime_on _ _ _ c.self.view_is c.recover_step.ensures.downtime
+
+pub returns-then-ready-clause-downtime : goal.returns-then-ready-clause-downtime
+returns-then-ready-clause-downtime c = downtime_on _ _ _ c.self.view_is c.recover_step.ensures.downtime
+
+pub returns-else-ready-clause-downtime : goal.returns-else-ready-clause-downtime
+returns-else-ready-clause-downtime c = downtime_on _ _ _ c.self.view_is c.recover_step.ensures.downtime

@@ -13,6 +13,8 @@ use Rattle.session.proofs.Serving.{kept_reply, run_reply, run_right, runs_admitt
 use Rattle.session.proofs.Clients.{goes_on_kept, goes_on_kept_now, laid_out_each, laid_out_run, others_run}
 use Rattle.session.proofs.Numbering.{answer_runs, answered_below}
 use Rattle.session.proofs.Worlds.{open_below}
+use Rattle.named.proofs.GoingOn.{broker_stays}
+use Rattle.session.proofs.GoneOn.{queues_on}
 use Rattle.session.proofs.session.Session.request.Goals as goal
 
 pub returns-in_err-reply-2-clause-goes_on : goal.returns-in_err-reply-2-clause-goes_on
@@ -92,3 +94,15 @@ returns-clause-reply c =
 
 pub returns-clause-promises : goal.returns-clause-promises
 returns-clause-promises c = numbers_kept _ (invariant_of-self-2 c)
+
+pub returns-in_err-reply-clause-queues : goal.returns-in_err-reply-clause-queues
+returns-in_err-reply-clause-queues c = broker_stays _
+
+pub returns-in-Some-clause-queues : goal.returns-in-Some-clause-queues
+returns-in-Some-clause-queues c = broker_stays _
+
+pub returns-in_err-reply-2-clause-queues : goal.returns-in_err-reply-2-clause-queues
+returns-in_err-reply-2-clause-queues c = queues_on _ _ _ c.self.view_is c.run.ensures.goes_on
+
+pub returns-clause-queues : goal.returns-clause-queues
+returns-clause-queues c = queues_on _ _ _ c.self.view_is c.run.ensures.goes_on

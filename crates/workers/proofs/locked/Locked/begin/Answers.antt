@@ -13,7 +13,7 @@ invariant_of-self g c =
       (w.keeper.0, w.keeper.1 ∙ sym (ap (λ m. (keeper m.0.rows, [])) w.keeper.1)),
       with_rows g.J.Naming.clients g.J.Naming.first _ (rows_of c.with_entry.new.keeper) (ap (λ m. m.0.rows) w.keeper.1)
           (rw c.entry-entry.ensures
-          (guarded_begun g.J.Naming.clients g.J.Naming.first _ c.self.invariant.1 c.begin.new.self e.promises e.goes_on
+          (guarded_begun g.J.Naming.clients g.J.Naming.first _ c.self.invariant.1 c.begin.new.self e.promises (record { numbers = e.goes_on; queues = e.queues })
           c.args.seat.client list w.before c.args.request c.events_in-next.result c.requires.idle
           c.events_in-next.ensures c.in-Ok.began e.begun e.reply)),
     )
@@ -23,7 +23,8 @@ invariant_of-self-in-Err g c =
     let e = c.in-Err.ensures in
     let r = c.args.request in (
       c.self.invariant.0,
-      guarded_unbegun g.J.Naming.clients g.J.Naming.first _ c.self.invariant.1 c.begin.new.self e.promises e.goes_on r.queue.0
+      guarded_unbegun g.J.Naming.clients g.J.Naming.first _ c.self.invariant.1 c.begin.new.self e.promises (record { numbers = e.goes_on; queues = e.queues })
+          r.queue.0
           c.args.seat.client (number_or_zero r.number) r.call c.in-Err.refusal
           (answer_to c.self.inside.session r.queue.0 c.args.seat.client r.number) e.begun,
     )

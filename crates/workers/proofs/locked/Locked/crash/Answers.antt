@@ -14,7 +14,8 @@ invariant_of-self g c =
     let well = c.self.invariant.1 in (
       c.self.invariant.0,
       guarded_still g.J.Naming.clients g.J.Naming.first _ well new c.self.inside.creating
-          (λ u. crash_refused_carried old new e.same u) e.promises e.goes_on
+          (λ u. crash_refused_carried old new e.same u) e.promises
+          (record { numbers = e.goes_on; queues = e.queues })
           (known_if_same old.broker new.broker c.self.inside.creating (ap (λ (b : Brokered). b.recovery) e.same.same)
           (ap (λ (b : Brokered). b.creation) e.same.same) well.creation),
     )
@@ -27,7 +28,8 @@ invariant_of-self-2 g c =
     let well = c.self.invariant.1 in (
       c.self.invariant.0,
       guarded_still g.J.Naming.clients g.J.Naming.first _ well new c.stopped-self-inside.result
-          (λ u. crashed_carried old new well.promises (e.stopped refl) u) e.promises e.goes_on
+          (λ u. crashed_carried old new well.promises (e.stopped refl) u) e.promises
+          (record { numbers = e.goes_on; queues = e.queues })
           (subst (λ (creating : Creating). IsCreationKnown new.broker creating) (sym c.stopped-self-inside.ensures)
           (known_after_crash new.broker c.self.inside.creating
           (ap (λ (b : Brokered). is_down b) (e.stopped refl).same))),

@@ -12,7 +12,7 @@ invariant_of-self-2 g c =
       c.self.invariant.0,
       guarded_still g.J.Naming.clients g.J.Naming.first _ c.self.invariant.1 new UnderWay
           (λ u. created_carried c.self.inside.session new c.create.ensures.others u) c.create.ensures.promises
-          c.create.ensures.goes_on
+          (record { numbers = c.create.ensures.goes_on; queues = c.create.ensures.queues })
           (known_if_begun new.broker (ap (λ (s : Sessioned). s.broker.recovery) c.create.ensures.others ∙ e.may.ready)
           e.under_way),
     )

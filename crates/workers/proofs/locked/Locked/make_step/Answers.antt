@@ -20,7 +20,7 @@ invariant_of-self g c =
       c.self.invariant.0,
       guarded_still g.J.Naming.clients g.J.Naming.first _ well new c.self.inside.creating
           (λ u. creation_carried old new well.promises has.0 c.create_step.result e.others has.1 e.step u) e.promises
-          e.goes_on
+          (record { numbers = e.goes_on; queues = e.queues })
           (subst (λ (creating : Creating). IsCreationKnown new.broker creating) (sym under_way)
           (known_after_step old.broker new.broker known c.create_step.result is e.step)),
     )
@@ -38,7 +38,8 @@ invariant_of-self-in-Ok-Some g c =
       c.self.invariant.0,
       guarded_still g.J.Naming.clients g.J.Naming.first _ well new Nothing
           (λ u. creation_carried old new well.promises has.0 c.create_step.result e.others has.1 e.step u) e.promises
-          e.goes_on (known_after_last old.broker new.broker known c.create_step.result c.in-Ok-Some.slot is e.step).0,
+          (record { numbers = e.goes_on; queues = e.queues })
+          (known_after_last old.broker new.broker known c.create_step.result c.in-Ok-Some.slot is e.step).0,
     )
 
 pub returns-in-Ok-Some : goal.returns-in-Ok-Some

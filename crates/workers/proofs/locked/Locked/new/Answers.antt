@@ -1,4 +1,6 @@
 use Rattle.std.proofs.Common.{ap, sym, subst, ◌≡◌, ◌∙◌, refl, length, false}
+use Rattle.named.specs.GoingOn.{CameOf}
+use Rattle.named.proofs.Comings.{came_of_itself}
 use Rattle.session.specs.Sessions.{Sessioned}
 use Rattle.session.specs.Keeping.{SessionGoesOn}
 use Rattle.workers.specs.Following.{beginnings}
@@ -17,5 +19,6 @@ invariant_of-result g c =
         promises = r.promises;
         creation = r.idle;
         goes_on = subst (λ (s : Sessioned). SessionGoesOn s c.args.session) r.first (session_stays c.args.session);
+        came = subst (λ (s : Sessioned). CameOf s.broker false c.args.session.broker) r.first (came_of_itself c.args.session.broker);
       },
     )

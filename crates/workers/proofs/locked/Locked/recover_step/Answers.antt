@@ -10,7 +10,8 @@ invariant_of-self g c =
     let well = c.self.invariant.1 in (
       c.self.invariant.0,
       guarded_still g.J.Naming.clients g.J.Naming.first _ well new c.self.inside.creating
-          (λ u. recovered_carried old new well.promises c.recover_step.result e.step u) e.promises e.goes_on
+          (λ u. recovered_carried old new well.promises c.recover_step.result e.step u) e.promises
+          (record { numbers = e.goes_on; queues = e.downtime.goes_on })
           (known_after_recovery old.broker new.broker c.recover_step.result c.self.inside.creating e.step well.creation),
     )
 

@@ -1,6 +1,7 @@
 use Rattle.std.proofs.Common.{ap, sym, true, length, List}
 use Rattle.events.specs.declared.event.Event.{Event}
 use Rattle.named.specs.Brokers.{Brokered}
+use Rattle.named.proofs.Comings.{came_over_rotation}
 use Rattle.roll.specs.Rule.{rows_of}
 use Rattle.workers.specs.Following.{beginnings}
 use Rattle.workers.proofs.Guarded.{known_if_same, rows_begun, session_further}
@@ -24,5 +25,6 @@ invariant_of-self-2 g c =
             (ap (λ (b : Brokered). b.recovery) e.rotated.same) (ap (λ (b : Brokered). b.creation) e.rotated.same)
             well.creation;
         goes_on = session_further g.J.Naming.first old new well.goes_on e.goes_on;
+        came = came_over_rotation g.J.Naming.first.broker c.self.inside.rotated old.broker new.broker well.came well.promises.broker e.rotated;
       },
     )

@@ -9,7 +9,7 @@ invariant_of-self g c =
     let e = rw c.in-Ok-None.field-0-is at c.in-Ok-None.ensures.advanced in (
       c.self.invariant.0,
       guarded_more g.J.Naming.clients g.J.Naming.first _ c.self.invariant.1 c.advance.new.self
-          c.advance.ensures.promises c.advance.ensures.goes_on c.last_queue-queue.result.0 c.args.seat.client e,
+          c.advance.ensures.promises (record { numbers = c.advance.ensures.goes_on; queues = c.advance.ensures.queues }) c.last_queue-queue.result.0 c.args.seat.client e,
     )
 
 pub invariant_of-self-in-Ok-Some : goal.invariant_of-self-in-Ok-Some
@@ -20,7 +20,7 @@ invariant_of-self-in-Ok-Some g c =
       (w.keeper.0, w.keeper.1 ∙ sym (ap (λ m. (keeper m.0.rows, [])) w.keeper.1)),
       with_rows g.J.Naming.clients g.J.Naming.first _ (rows_of c.with_last.new.keeper) (ap (λ m. m.0.rows) w.keeper.1)
           (guarded_answered g.J.Naming.clients g.J.Naming.first _ c.self.invariant.1 c.advance.new.self
-          c.advance.ensures.promises c.advance.ensures.goes_on c.args.seat.client list w.before c.last_queue-queue.result.0 c.requires.open
+          c.advance.ensures.promises (record { numbers = c.advance.ensures.goes_on; queues = c.advance.ensures.queues }) c.args.seat.client list w.before c.last_queue-queue.result.0 c.requires.open
           (rw c.as_slice.ensures.value at c.last_queue-queue.ensures) c.in-Ok-Some.reply e),
     )
 
@@ -28,7 +28,7 @@ pub invariant_of-self-then-is_want_of_memory : goal.invariant_of-self-then-is_wa
 invariant_of-self-then-is_want_of_memory g c = (
   c.self.invariant.0,
   guarded_unstepped g.J.Naming.clients g.J.Naming.first _ c.self.invariant.1 c.advance.new.self
-      c.advance.ensures.promises c.advance.ensures.goes_on c.last_queue-queue.result.0 c.args.seat.client c.in-Err.refusal
+      c.advance.ensures.promises (record { numbers = c.advance.ensures.goes_on; queues = c.advance.ensures.queues }) c.last_queue-queue.result.0 c.args.seat.client c.in-Err.refusal
       c.in-Err.ensures.advanced,
 )
 
@@ -40,7 +40,7 @@ invariant_of-self-in-Err g c =
       with_rows g.J.Naming.clients g.J.Naming.first _ (rows_of c.with_last-seat.new.keeper)
           (ap (λ m. m.0.rows) w.keeper.1)
           (guarded_interrupted g.J.Naming.clients g.J.Naming.first _ c.self.invariant.1 c.advance.new.self
-          c.advance.ensures.promises c.advance.ensures.goes_on c.args.seat.client list w.before c.last_queue-queue.result.0 c.requires.open
+          c.advance.ensures.promises (record { numbers = c.advance.ensures.goes_on; queues = c.advance.ensures.queues }) c.args.seat.client list w.before c.last_queue-queue.result.0 c.requires.open
           (rw c.as_slice.ensures.value at c.last_queue-queue.ensures) c.in-Err.refusal
           (c.if-is_want_of_memory.ensures.other refl) c.in-Err.ensures.advanced),
     )
