@@ -7,10 +7,8 @@ use Rattle.words.specs.declared.call.Client.{Client}
 use Rattle.words.specs.declared.call.Reply.{Reply}
 use Rattle.words.specs.declared.refusal.Refusal.{Refusal}
 use Rattle.arena.specs.Shape.{Shape}
-use Rattle.helping.specs.declared.op.Op.{Op}
 use Rattle.stepper.specs.declared.resume.After.{After}
 use Rattle.stepper.specs.declared.resume.After.TheVariants.{More, Done}
-use Rattle.recover.specs.declared.recovery.Recovery.{Recovery}
 use Rattle.words.specs.declared.told.Told.{Told}
 use Rattle.protocol.specs.Machine.{next_of, next_recovery, with_next, recovery_left}
 use Rattle.protocol.specs.declared.UnderWay.{UnderWay}
@@ -45,7 +43,7 @@ steady_recovery w refused = go (recover_result false w) refl
 
 -- a client whose call was answered has none
 module _ (w : State) (client : Client) (reply : Reply) where
-  answered_by : (u : UnderWay) (a : After Op Reply) → next_of (machine w) u ≡ a → answer_of a ≡ Some reply → with_next u a ≡ None
+  answered_by : (u : UnderWay) (a : After _ Reply) → next_of (machine w) u ≡ a → answer_of a ≡ Some reply → with_next u a ≡ None
   answered_by u (More op) e is = absurd (cc (is))
   answered_by u (Done r) e is = refl
 
@@ -68,17 +66,17 @@ module _ (w : State) (client : Client) (reply : Reply) where
   answered_is_idle is = idle_after (is_down w) (slice_get w.calls client.0) refl refl is
 
 -- a queue that recovered is ready
-ready_after : (w : State) (o : Option Recovery) → w.recovery ≡ o → recover_result_with false w o ≡ Ok true
+ready_after : (w : State) (o : Option _) → w.recovery ≡ o → recover_result_with false w o ≡ Ok true
     → is_accepted (recover_with false w o) recover_act ≡ false
 ready_after w None down is = absurd (cc (is))
 ready_after w (Some r) down is = go (next_recovery (machine w) r) refl (cc (is))
   where
-    go : (a : After Recovery (List Told)) → next_recovery (machine w) r ≡ a → is_ready (next_recovery (machine w) r) ≡ true
+    go : (a : After _ (List Told)) → next_recovery (machine w) r ≡ a → is_ready (next_recovery (machine w) r) ≡ true
         → is_accepted (recover_with false w (Some r)) recover_act ≡ false
     go (More next) e ready = let not : is_ready (next_recovery (machine w) r) ≡ false = ap is_ready e in absurd (cc (not, ready))
     go (Done told) e ready =
         let v : State = recover_with false w (Some r) in
-        ap (λ (a : After Recovery (List Told)). is_ok (recover_result_with false v (recovery_left a))) e
+        ap (λ (a : After _ (List Told)). is_ok (recover_result_with false v (recovery_left a))) e
 
 -- steps of a call: those past its answer are refused
 steps_then : (most : ℕ) (client : Client) (play : Play)

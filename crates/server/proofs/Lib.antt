@@ -1,3 +1,4 @@
+pub mod Endings
 pub mod Refused
 pub mod StepsKeep
 pub mod Recoveries
