@@ -2,9 +2,9 @@
 
 ghost use Rattle.std.specs.Prelude.{◌<◌, OnOk};
 
-use crate::again::{MOST_TRIES, made, say_again};
 use anyhow::Result;
 use history::{Effect, Event, History, Order, Sequence, check, order, replay};
+use subjects::{MOST_TRIES, made, say_again};
 use words::{Call, Client, Refusal, Reply, Told};
 
 const EVENTS: [Event; 7] = [

@@ -2,9 +2,6 @@
 
 ghost use Rattle.std.specs.Prelude.{◌<◌};
 
-use crate::again::{MOST_TRIES, made, say_again};
-use crate::held::Held;
-use crate::pipes::text_of;
 use anyhow::Result;
 use devices::{FaultyReader, MAX_FAILURES};
 use explore::{
@@ -13,6 +10,7 @@ use explore::{
 };
 use std::alloc::Global;
 use std::thread::Threads;
+use subjects::{Held, MOST_TRIES, made, say_again, text_of};
 use words::Refusal;
 
 /// A script of either kind, as short as reports on each of their points allow.

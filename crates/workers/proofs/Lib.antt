@@ -1,3 +1,4 @@
+pub mod SeenStill
 pub mod Answering
 pub mod Carried
 pub mod Counting

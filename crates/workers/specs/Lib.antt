@@ -7,3 +7,4 @@ pub mod Naming
 pub mod Opening
 pub mod Creating
 pub mod Seats
+pub mod Looking

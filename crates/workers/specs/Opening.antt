@@ -1,11 +1,10 @@
 -- Which sessions may be shared, and under which name.
-use Rattle.std.specs.Prelude.{◌≡◌, ◌⊎◌, ℕ, true, false, length, Ok, Some}
+use Rattle.std.specs.Prelude.{◌≡◌, ◌⊎◌, ℕ, true, false, Ok, Some}
 use Rattle.atomic_table.specs.Seated.{TableId}
 use Rattle.words.specs.declared.call.Client.{Client}
 use Rattle.interleave.specs.Verdicts.{number_under_way}
 use Rattle.named.specs.Brokers.{Brokered, answer_at, is_creating}
 use Rattle.session.specs.Sessions.{Sessioned}
-use Rattle.workers.specs.Lists.{events_at}
 
 -- the client has a call with this number under way in the queue of a slot
 abbrev pub IsCalling : Brokered → ℕ → Client → ℕ → Type 0

@@ -1,6 +1,7 @@
 //! Crashes, recoveries, and creations, under the lock.
 
-ghost use Rattle.std.specs.Prelude.{◌≡◌, ◌⊎◌, IfErr, IfSome, IsSome, OnErr, OnOk};
+ghost use Rattle.std.specs.Prelude.{◌≡◌, ◌⊎◌, Err, IfErr, IfSome, IsSome, OnErr, OnOk};
+ghost use Rattle.directory.specs.Name.{IsName};
 ghost use Rattle.named.specs.Brokers.{world_at, MayCreate};
 ghost use Rattle.named.specs.Stopping.{IsRecoveryStep, IsStopped};
 ghost use Rattle.workers.specs.Creating.{creating_after_crash};
@@ -29,6 +30,7 @@ impl<J: Naming> Locked<J> {
     /// Begins to create a queue. One that a crash ended is not over until its caller has seen that.
     pub(crate) fn create(&mut self, name: &[u8], kind: Kind) -> Result<(), Refusal>
         ensures may { OnOk result (MayCreate self.old.session.broker name.now) }
+        ensures bad_name { (IsName name.now → ⊥) → result ≡ Err Refusal.BadName }
         ensures same { OnErr result (self.new ≡ self.old) }
     {
         if matches!(self.creating, Creating::Interrupted) {

@@ -8,6 +8,7 @@ mod entry;
 mod gate;
 mod laws;
 mod locked;
+mod looks;
 mod naming;
 mod opening;
 mod seat;

@@ -1,16 +1,19 @@
 //! A broker that threads share.
 
-ghost use Rattle.std.specs.Prelude.{◌≡◌, ◌<◌, ◌⊎◌, false, IfErr, true, vec_capacity, vec_len};
+ghost use Rattle.std.specs.Prelude.{◌≡◌, ◌<◌, ◌⊎◌, false, IfErr, IfOk, true, vec_capacity, vec_len};
 ghost use Rattle.workers.specs.Answers.{Finishes, IsListAfter, IsListBegun, Remembers};
 ghost use Rattle.workers.specs.Lists.{ends_open};
+ghost use Rattle.workers.specs.Looking.{HasQueuesOf, IsFoundOf};
+ghost use Rattle.directory.specs.Name.{IsName};
 ghost use Rattle.workers.specs.declared.entry.Answer.{Answer as AnyAnswer};
+ghost use Rattle.workers.specs.declared.shared.Created.{Created as AnyCreated};
 
 use crate::entry::{Answer, Entry, Request, Took};
 use crate::gate::Gate;
 use crate::locked::Locked;
 use crate::naming::Naming;
 use crate::seat::Seat;
-use arena::{SLOTS, SlotId};
+use arena::SlotId;
 use directory::{Name, Places};
 use roll::Roll;
 use std::sync::{Mutex, Wait};
@@ -143,7 +146,9 @@ impl<J: Naming> Shared<J> {
     /// Creates a queue, one act a step. It is Interrupted where a crash came between, and refused as
     /// [`session::Session::create`] is; Busy also where a crash ended another creation whose caller has not seen that
     /// yet.
-    pub fn create<R: Wait>(&self, rt: &R, name: &[u8], kind: Kind) -> Created {
+    pub fn create<R: Wait>(&self, rt: &R, name: &[u8], kind: Kind) -> Created
+        ensures { (IsName name.now → ⊥) → result ≡ AnyCreated.Refused Refusal.BadName }
+    {
         if let Err(refusal) = self.locked.lock(rt).create(name, kind) {
             return Created::Refused(refusal);
         }
@@ -182,24 +187,22 @@ impl<J: Naming> Shared<J> {
         unreachable!()
     }
 
-    /// The slot with the queue of this name, if there is one. It is refused as [`named::Broker::find`] is.
+    /// The slot with the queue of this name, if there is one. A queue that there was when the seats were given is found in
+    /// its slot for good. It is refused as [`named::Broker::find`] is.
     pub fn find<R: Wait>(&self, rt: &R, name: &Name) -> Result<Option<SlotId>, Refusal>
-        ensures { IfErr result (λ refusal. refusal ≡ Refusal.NotReady) }
+        ensures found { IfOk result (IsFoundOf J.first.broker.directory name.now) }
+        ensures errors { IfErr result (λ refusal. refusal ≡ Refusal.NotReady) }
     {
-        self.locked.lock(rt).session.broker().find(name)
+        self.locked.lock(rt).find(name)
     }
 
-    /// What each slot has, as it is now: a copy. It is refused as [`named::Broker::list`] is.
+    /// What each slot has, as it is now: a copy. The queues that there were when the seats were given are among them for
+    /// good. It is refused as [`named::Broker::list`] is.
     pub fn list<R: Wait>(&self, rt: &R) -> Result<Places, Refusal>
-        ensures { IfErr result (λ refusal. refusal ≡ Refusal.NotReady) }
+        ensures queues { IfOk result (HasQueuesOf J.first.broker.directory) }
+        ensures errors { IfErr result (λ refusal. refusal ≡ Refusal.NotReady) }
     {
-        let locked = self.locked.lock(rt);
-        let places = locked.session.broker().list()?;
-        let mut copied: Places = [None; SLOTS];
-        for slot in 0..SLOTS {
-            copied[slot] = places[slot];
-        }
-        Ok(copied)
+        self.locked.lock(rt).list()
     }
 
     /// What the client was last told in the queue of a slot. It is refused as [`named::Broker::told`] is.

@@ -2,8 +2,8 @@ use Rattle.std.proofs.Common.{subst, sym, ap, ◌∙◌, Ok}
 use Rattle.workers.specs.Creating.{IsCreationKnown}
 use Rattle.workers.specs.Following.{Guarded}
 use Rattle.workers.specs.declared.locked.Creating.{Creating}
-use Rattle.workers.specs.declared.locked.Creating.TheVariants.{Nothing, UnderWay}
-use Rattle.workers.proofs.Guarded.{guarded_still, known_after_last, known_after_step, step_is_made, under_way_is}
+use Rattle.workers.specs.declared.locked.Creating.TheVariants.{Nothing}
+use Rattle.workers.proofs.Guarded.{guarded_still, known_after_last, known_after_step, under_way_is}
 use Rattle.workers.proofs.Stops.{creation_carried}
 use Rattle.workers.proofs.locked.Locked.make_step.Goals as goal
 

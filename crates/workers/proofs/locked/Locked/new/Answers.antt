@@ -1,4 +1,4 @@
-use Rattle.std.proofs.Common.{ap, sym, subst, ◌≡◌, ◌∙◌, refl, length, false}
+use Rattle.std.proofs.Common.{ap, sym, subst, length, false}
 use Rattle.named.specs.GoingOn.{CameOf}
 use Rattle.named.proofs.Comings.{came_of_itself}
 use Rattle.session.specs.Sessions.{Sessioned}

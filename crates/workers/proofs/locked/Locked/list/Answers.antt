@@ -1,0 +1,16 @@
+use Rattle.std.proofs.Common.{◌∙◌, sym, subst, ap, slice_get}
+use Rattle.directory.specs.Directory.{Directory, IsDirectory}
+use Rattle.named.specs.Brokers.{Brokered}
+use Rattle.named.specs.GoingOn.{CameOf}
+use Rattle.workers.proofs.SeenStill.{listed_still}
+use Rattle.workers.proofs.locked.Locked.list.Goals as goal
+
+pub returns-clause-queues : goal.returns-clause-queues
+returns-clause-queues g c =
+    let first = g.J.Naming.first.broker in
+    let well = c.self.invariant.1 in
+    let same = sym c.broker.ensures.broker in
+    let came = subst (λ (b : Brokered). CameOf first c.self.inside.rotated b) same well.came in
+    let listed = subst (λ (b : Brokered). IsDirectory b.directory) same well.promises.broker.well.listed in
+    listed_still first c.broker.result.now c.self.inside.rotated c.copy_of.result came listed
+    (λ slot below. c.copy_of.ensures slot below ∙ ap (λ (d : Directory). slice_get d slot) c.in_ok-list.ensures.places)

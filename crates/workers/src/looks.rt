@@ -1,0 +1,42 @@
+//! What threads see of the queues.
+
+ghost use Rattle.std.specs.Prelude.{◌≡◌, ◌<◌, ℕ, IfErr, IfOk, slice_get};
+ghost use Rattle.arena.specs.declared.broker.TheConstants.{SLOTS};
+ghost use Rattle.workers.specs.Looking.{HasQueuesOf, IsFoundOf};
+
+use crate::locked::Locked;
+use crate::naming::Naming;
+use arena::{SLOTS, SlotId};
+use directory::{Name, Places};
+use words::Refusal;
+
+/// The same places.
+fn copy_of(places: &Places) -> Places
+    ensures { (slot : ℕ) → slot < SLOTS → slice_get result slot ≡ slice_get places.now slot }
+{
+    let mut copied: Places = [None; SLOTS];
+    for slot in 0..SLOTS {
+        copied[slot] = places[slot];
+    }
+    copied
+}
+
+impl<J: Naming> Locked<J> {
+    /// The slot with the queue of this name, if there is one.
+    pub(crate) fn find(&self, name: &Name) -> Result<Option<SlotId>, Refusal>
+        ensures found { IfOk result (IsFoundOf J.first.broker.directory name.now) }
+        ensures errors { IfErr result (λ refusal. refusal ≡ Refusal.NotReady) }
+    {
+        let _ = &self.session;
+        self.session.broker().find(name)
+    }
+
+    /// What each slot has: a copy.
+    pub(crate) fn list(&self) -> Result<Places, Refusal>
+        ensures queues { IfOk result (HasQueuesOf J.first.broker.directory) }
+        ensures errors { IfErr result (λ refusal. refusal ≡ Refusal.NotReady) }
+    {
+        let _ = &self.session;
+        Ok(copy_of(self.session.broker().list()?))
+    }
+}
