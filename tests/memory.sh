@@ -2,14 +2,16 @@
 # What no clause says of refused memory: each allocation of crates/refusals and crates/shared_refusals is refused in turn,
 # and the program ends as where none is, but for the lines that say what was refused. These name every call that can be
 # refused memory, and each is made again. The parts of a story are told one at a time, so that a refusal costs that part
-# alone. It takes the programs that the last `rt ci`, or `rt run` in their folders, left, or those that REFUSALS and
-# SHARED_REFUSALS name.
+# alone. Then pqx and pqd are run so: each does what it would, or says that there is no memory. It takes the programs that
+# the last `rt ci`, or `rt run` in their folders, left, or those that REFUSALS, SHARED_REFUSALS, PQX and PQD name.
 set -eu
 cd "$(dirname "$0")/.."
 . tests/cases.sh
 refusals=${REFUSALS:-$PWD/crates/refusals/out/refusals}
 shared_refusals=${SHARED_REFUSALS:-$PWD/crates/shared_refusals/out/shared_refusals}
-for program in "$refusals" "$shared_refusals"; do
+pqx=${PQX:-$PWD/crates/pqx/out/pqx}
+pqd=${PQD:-$PWD/crates/pqd/out/pqd}
+for program in "$refusals" "$shared_refusals" "$pqx" "$pqd"; do
     [ -x "$program" ] || {
         printf 'there is no %s: run rt ci, or rt run in its folder\n' "$program"
         failed=1
@@ -84,5 +86,45 @@ while read -r line; do
     judge "$line" "$(grep -qx "$line" "$work/seen" || echo 'was never said')"
 done < tests/memory/again
 judge 'what was said' "$(grep -vxf tests/memory/again "$work/seen" || true)"
+
+# Whether a program with an allocation refused wrote all that it writes with none refused: a line that tells of it may
+# stand for any line of a server's.
+is_whole() {
+    [ -s "$work/err" ] && return 1
+    cmp -s "$work/out" "$work/wanted" && return 0
+    grep -qE '^({"error":6,|{"reply":"unfinished"})' "$work/out" && [ "$(wc -l < "$work/out")" -eq "$(wc -l < "$work/wanted")" ]
+}
+
+# Whether what it wrote is a beginning of that.
+is_beginning() {
+    head -c "$(wc -c < "$work/out")" "$work/wanted" | cmp -s - "$work/out"
+}
+
+# A program with each of its allocations refused in turn: it writes all that it would, or a beginning of it and ends with
+# status 1, having said just that there is no memory; both are seen: NAME INPUT PROGRAM WORD..
+refuse() {
+    local name=$1 input=$2 number status refused=0 said=
+    shift 2
+    REFUSED=0 LD_PRELOAD=$work/refusing.so "$@" < "$input" > "$work/wanted" 2> "$work/count"
+    printf '%s: 6 NoMemory\n' "${1##*/}" > "$work/fault"
+    for ((number = 1; number <= $(cat "$work/count"); number++)); do
+        status=0
+        REFUSED=$number LD_PRELOAD=$work/refusing.so "$@" < "$input" > "$work/out" 2> "$work/err" || status=$?
+        if [ "$status" -eq 1 ] && is_beginning && cmp -s "$work/err" "$work/fault"; then
+            refused=$((refused + 1))
+        elif [ "$status" -ne 0 ] || ! is_whole; then
+            said+="with allocation $number refused it ends with status $status: $(head -n 2 "$work/err")"$'\n'
+        fi
+    done
+    [ "$refused" -gt 0 ] || said+='it never says that there is no memory'
+    judge "each allocation refused: $name" "$(head -n 20 <<< "$said")"
+    printf '%s: %d of %d allocations refused are said\n' "$name" "$refused" "$(cat "$work/count")"
+}
+refuse 'pqx run' examples/kept.script "$pqx" run
+refuse 'pqx points' crates/scenarios/data/points-log-enqueue.script "$pqx" points
+refuse 'pqx alone' crates/scenarios/data/points-log-enqueue.script "$pqx" alone
+printf '%s\n' '{"op":"create","queue":"a","kind":"log"}' '{"op":"put","client":0,"queue":"a","number":1,"value":9}' \
+    '{"op":"take","client":0,"queue":"a","number":2}' '{"op":"crash"}' '{"op":"recover"}' '{"op":"stop"}' > "$work/in"
+refuse 'pqd pipe' "$work/in" "$pqd" pipe
 
 count
