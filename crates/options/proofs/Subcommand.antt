@@ -1,5 +1,5 @@
 -- What a parse met, by the command that it gives.
-use Rattle.std.proofs.Common.{◌≡◌, List, Option, Some, None, sym, ap₂, subst}
+use Rattle.std.proofs.Common.{◌≡◌, List, Option, Some, None, refl, sym, ap₂, subst}
 use Rattle.std.specs.Prelude.{option_map}
 use Rattle.std.specs.Box.{box_value}
 use Rattle.std.proofs.lemmas.Option.{none-some, same_Some}
@@ -35,3 +35,13 @@ pub held_of_met : (P : Option Text → (Text → Option Text) → Type 0) (m : A
 held_of_met P m name f n rs p =
     let values : first_value f ≡ values_in (Some (name, rows_of f)) = λ i id. first_value-rows f id i in
     subst (λ met. P (name_in met) (values_in met)) (sym (met_is m name (rows_of f) n rs)) (subst (P (Some name)) values p)
+
+-- where no command was met
+no_rows : (o : Option (Text × List Row)) → None ≡ option_map (λ (p : Text × List Row). p.1) o → o ≡ None
+no_rows None e = refl
+no_rows (Some p) e = absurd (none-some p.1 e)
+
+pub held_of_none : (P : Option Text → (Text → Option Text) → Type 0) (m : ArgMatches)
+    → None ≡ option_map (λ (p : Text × List Row). p.1) (subcommand_rows_of m) → P None (λ option. None)
+    → P (name_in (subcommand_rows_of m)) (values_in (subcommand_rows_of m))
+held_of_none P m rows p = subst (λ met. P (name_in met) (values_in met)) (sym (no_rows (subcommand_rows_of m) rows)) p

@@ -3,3 +3,5 @@ pub mod Limits
 pub mod Numbers
 pub mod Commands
 pub mod Asked
+pub mod PqxCommands
+pub mod PqxAsked

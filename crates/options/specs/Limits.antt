@@ -21,3 +21,10 @@ default_workers = 4
 
 abbrev pub most_workers : ℕ
 most_workers = 16
+
+-- draws begin at state 1 where none is given, and a state is a number of 64 bits
+abbrev pub default_draw : ℕ
+default_draw = 1
+
+abbrev pub greatest_draw : ℕ
+greatest_draw = 18446744073709551615

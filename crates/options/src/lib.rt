@@ -1,4 +1,4 @@
-//! The command line of `pqd`: what may be asked of the program, and what the words of a command line ask.
+//! The command lines of `pqd` and of `pqx`: what may be asked of each program, and what the words of a command line ask.
 #![tactic(auto)]
 
 mod asked;
@@ -6,11 +6,17 @@ mod commands;
 mod limits;
 mod line;
 mod number;
+mod pqx;
+mod pqx_commands;
+mod pqx_line;
 #[cfg(test)]
 mod tests;
 
 pub use asked::{Listening, Mode, Options};
 pub use limits::{
-    DEFAULT_CLIENTS, DEFAULT_PORT, DEFAULT_RECORDS, DEFAULT_WORKERS, MAX_PORT, MAX_WORKERS,
+    DEFAULT_CLIENTS, DEFAULT_DRAW, DEFAULT_PORT, DEFAULT_RECORDS, DEFAULT_WORKERS, MAX_PORT,
+    MAX_WORKERS,
 };
 pub use line::command_line;
+pub use pqx::{Choice, PointOptions, PqxAsked};
+pub use pqx_line::pqx_command_line;

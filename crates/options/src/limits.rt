@@ -21,6 +21,9 @@ pub const DEFAULT_WORKERS: u32 = 4;
 /// The most workers of a server.
 pub const MAX_WORKERS: u32 = 16;
 
+/// The state at which draws of `pqx` begin where `--draw` is not given.
+pub const DEFAULT_DRAW: u64 = 1;
+
 /// `--clients T`
 pub(crate) const CLIENTS: NumberOption = NumberOption {
     name: "clients",

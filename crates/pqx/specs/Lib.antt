@@ -1,3 +1,3 @@
--- What a fault says.
+-- What a fault says, and what is evicted.
 pub mod Faults
-pub mod Options
+pub mod Evictions

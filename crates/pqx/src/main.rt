@@ -7,13 +7,14 @@ ghost use Rattle.words.specs.declared.refusal.Refusal.TheVariants.{NoMemory};
 ghost use Rattle.pqx.specs.Faults.{fault_of, fault_of_system};
 ghost use Rattle.pqx.specs.declared.Fault.TheVariants.{Refused};
 
-mod options;
+mod evictions;
 mod progress;
 
-use crate::options::{Asked, options};
+use crate::evictions::evictions;
 use crate::progress::Progress;
 use devices::{CountedReader, CountedWriter};
 use explore::Evictions;
+use options::{PointOptions, PqxAsked, pqx_command_line};
 use std::alloc::AllocError;
 use std::io::{self, ErrorKind};
 use std::process::ExitCode;
@@ -105,25 +106,31 @@ fn show_points<H: Threads + Sync>(
     fs::write(rt, path, &shown?).map_err(|_| Refusal::WriteFailed)
 }
 
+/// Reports on the points of a script.
+fn report<H: Threads + Sync>(
+    threads: &H,
+    rt: &HostRuntime,
+    points: PointOptions<'_>,
+) -> Result<(), Refusal> {
+    let evictions = evictions(points.choice, points.draw);
+    match points.page {
+        None => print_points(threads, rt, evictions),
+        Some(path) => show_points(threads, rt, evictions, path),
+    }
+}
+
 /// Does what was asked for.
 fn answer<H: Threads + Sync>(
     threads: &H,
     rt: &HostRuntime,
-    asked: Asked<'_>,
+    asked: PqxAsked<'_>,
 ) -> Result<(), Refusal> {
     let mut reader = CountedReader::new(rt.reader());
     let mut writer = CountedWriter::new(io::writer(rt));
     match asked {
-        Asked::Run => explore::run(rt.alloc(), &mut reader, &mut writer),
-        Asked::Alone => explore::run_alone(rt.alloc(), &mut reader, &mut writer),
-        Asked::Points {
-            evictions,
-            page: None,
-        } => print_points(threads, rt, evictions),
-        Asked::Points {
-            evictions,
-            page: Some(path),
-        } => show_points(threads, rt, evictions, path),
+        PqxAsked::Run => explore::run(rt.alloc(), &mut reader, &mut writer),
+        PqxAsked::Alone => explore::run_alone(rt.alloc(), &mut reader, &mut writer),
+        PqxAsked::Points(points) => report(threads, rt, points),
     }
 }
 
@@ -141,7 +148,7 @@ fn explained(rt: &HostRuntime, error: &clap::Error) -> Result<ExitCode, Fault> {
 /// Does what the command line asks for, and answers with which status to end.
 fn follow<H: Threads + Sync>(threads: &H, rt: &HostRuntime) -> Result<ExitCode, Fault> {
     let words: Vec<String> = env::args(rt)?.collect(rt.alloc())?;
-    match options(rt.alloc(), &words) {
+    match pqx_command_line(rt.alloc(), &words) {
         Ok(asked) => {
             answer(threads, rt, asked)?;
             Ok(ExitCode::SUCCESS)

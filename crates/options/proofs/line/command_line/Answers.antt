@@ -1,5 +1,6 @@
-use Rattle.std.proofs.Common.{map}
+use Rattle.std.proofs.Common.{map, refl}
 use Rattle.options.specs.Asked.{Asks, Refuses}
+use Rattle.options.specs.Commands.{pqd_app}
 use Rattle.options.proofs.ByWords.{faultless, held_by_words, known_met, passed_on, refused}
 use Rattle.options.proofs.line.command_line.Goals as goal
 
@@ -17,7 +18,7 @@ asked-requires g c = record {
 
 pub returns-in-Ok-clause-asked : goal.returns-in-Ok-clause-asked
 returns-in-Ok-clause-asked g c = record {
-  faultless = faultless _ _ c.in_ok-command.ensures.app c.in_ok-matches.ensures.kinds;
-  asks = held_by_words (λ command values. Asks command values c.in-Ok.options) _ _ c.in_ok-matches.matches c.in_ok-command.ensures.app
+  faultless = faultless pqd_app refl refl _ _ c.in_ok-command.ensures.app c.in_ok-matches.ensures.kinds;
+  asks = held_by_words pqd_app refl refl (λ command values. Asks command values c.in-Ok.options) _ _ c.in_ok-matches.matches c.in_ok-command.ensures.app
       c.in_ok-matches.ensures.ok.2 c.in-Ok.ensures.asked;
 }

@@ -1,0 +1,30 @@
+//! What `pqx` is asked to do.
+
+/// Which words are kept just before each crash.
+#[derive(Clone, Copy, Debug, PartialEq, Eq)]
+pub enum Choice {
+    None,
+    All,
+    Drawn,
+}
+
+/// What a report on points is of.
+#[derive(Clone, Copy, Debug, PartialEq, Eq)]
+pub struct PointOptions<'a> {
+    pub choice: Choice,
+    /// The state at which draws begin.
+    pub draw: u64,
+    /// The path of the file for the report's page, if there is to be one.
+    pub page: Option<&'a str>,
+}
+
+/// What `pqx` is asked to do.
+#[derive(Clone, Copy, Debug, PartialEq, Eq)]
+pub enum PqxAsked<'a> {
+    /// The transcript of a script.
+    Run,
+    /// What a crash at each point of a script comes to.
+    Points(PointOptions<'a>),
+    /// What becomes of each call that stopped at a point of a script, where it goes on alone.
+    Alone,
+}

@@ -1,0 +1,97 @@
+//! The commands of `pqx`, and the options that they take.
+
+ghost use Rattle.std.specs.Prelude.{◌≡◌, IfOk, false};
+ghost use Rattle.clap.specs.Words.{app_of, new_app};
+ghost use Rattle.clap.specs.declared.builder.command.Command.TheViews.{out-Command};
+ghost use Rattle.options.specs.PqxCommands.{points_app, pqx_app, top_app};
+
+use crate::commands::option;
+use clap::Command;
+use std::alloc::{AllocError, Global};
+
+/// What `--version` prints after the name.
+const VERSION: &str = "0.1.0";
+
+/// What help says of scripts.
+const SCRIPTS: &str = "\
+A script names a queue and then acts on it, a line for each act. An empty line, and one that begins with #, says
+nothing. This one has a client call, stops everything before the call's effect is kept, and recovers:
+
+  queue log 1 2    a log queue of 1 client, who can begin 2 calls
+  enq 0 1 9        client 0 calls: to enqueue 9, as its call number 1
+  step 0 18        the call goes on by 18 steps, and has then linked its node
+  crash            the whole system stops, and what is not kept is lost
+  recover          recovery goes on to its end, and client 0 is told that its call was not taken
+  content          prints what the queue holds: nothing
+
+The other lines: queue durable T K, deq C N, end C, evict W, recover M, order; on a durable queue enq C V and deq C.
+docs/SCRIPT.md has all of them, and every line that is printed.";
+
+/// `points [--evict none|all|drawn] [--draw N] [--page FILE]`
+fn points<'a>(alloc: Global) -> Result<Command<'a>, AllocError>
+    ensures app { IfOk result (λ c. app_of c ≡ points_app) }
+    ensures local { IfOk result (λ c. (out-Command c).has_globals ≡ false) }
+{
+    let command = Command::new(alloc, "points")
+        .about(
+            "Crashes at each point of the script that standard input has, and prints what each recovery finds",
+        )
+        .after_help(SCRIPTS);
+    let evict = option(
+        alloc,
+        "evict",
+        "WORDS",
+        "Which words are kept just before each crash: none, all or drawn [default: none]",
+    );
+    let draw = option(
+        alloc,
+        "draw",
+        "N",
+        "Where the draws of --evict drawn begin [default: 1]",
+    );
+    let page = option(
+        alloc,
+        "page",
+        "FILE",
+        "Shows the same on a page, which is written to this file",
+    );
+    command.arg(evict)?.arg(draw)?.arg(page)
+}
+
+/// A command that takes no option.
+fn plain<'a>(alloc: Global, name: &'a str, about: &'a str) -> Command<'a>
+    ensures app { app_of result ≡ new_app name.entry.now }
+    ensures local { (out-Command result).has_globals ≡ false }
+{
+    Command::new(alloc, name).about(about).after_help(SCRIPTS)
+}
+
+/// `pqx` without its commands.
+fn top<'a>(alloc: Global) -> Command<'a>
+    ensures app { app_of result ≡ top_app }
+    ensures local { (out-Command result).has_globals ≡ false }
+{
+    plain(alloc, "pqx", "Follows scripts of single steps on a queue")
+        .version(VERSION)
+        .subcommand_required(true)
+}
+
+/// `pqx run`, `pqx points`, `pqx alone`
+pub(crate) fn pqx<'a>(alloc: Global) -> Result<Command<'a>, AllocError>
+    ensures app { IfOk result (λ c. app_of c ≡ pqx_app) }
+{
+    let run = plain(
+        alloc,
+        "run",
+        "Follows the script that standard input has, and prints what happens",
+    );
+    let alone = plain(
+        alloc,
+        "alone",
+        "At each point of the script, lets each call under way go on alone, and prints its answer",
+    );
+    top(alloc)
+        .subcommand(run)?
+        .subcommand(points(alloc)?)?
+        .subcommand(alone)
+}

@@ -1,0 +1,120 @@
+//! What the words of a command line ask of `pqx`.
+
+ghost use Rattle.std.specs.Prelude.{◌≡◌, IfOk, IfErr, OnErr, Some, map, option_map};
+ghost use Rattle.std.specs.Result.{OkIff};
+ghost use Rattle.clap.specs.Words.{first_value, found_of, kind_of, subcommand_rows_of};
+ghost use Rattle.options.specs.Asked.{name_in, values_in};
+ghost use Rattle.options.specs.Limits.{default_draw, greatest_draw};
+ghost use Rattle.options.specs.Numbers.{Fits, number_of};
+ghost use Rattle.options.specs.PqxAsked.{AllFit, Asks, AsksPoints, Chooses, IsChoice, IsPqxAsked, RefusesPqx};
+
+use crate::limits::DEFAULT_DRAW;
+use crate::pqx::{Choice, PointOptions, PqxAsked};
+use crate::pqx_commands::pqx;
+use clap::error::ErrorKind;
+use clap::{ArgMatches, Command, Error};
+use std::alloc::{AllocError, Global};
+use std::convert::AsStr;
+
+/// An option was given what it does not take.
+#[derive(Clone, Copy, Debug)]
+enum Misfit {
+    Evict,
+    Draw,
+}
+
+/// What such an option takes.
+fn text_of(misfit: Misfit) -> &'static str {
+    match misfit {
+        Misfit::Evict => "the option '--evict' takes none, all or drawn",
+        Misfit::Draw => "the option '--draw' takes a whole number from 0 to 18446744073709551615",
+    }
+}
+
+/// The choice that is given, or none where none is.
+fn choice(given: Option<&str>) -> Result<Choice, Misfit>
+    ensures chosen { IfOk result (Chooses (option_map (λ s. s.now) given.entry)) }
+    ensures misfit { OnErr result (¬ (IsChoice (option_map (λ s. s.now) given.entry))) }
+{
+    let Some(text) = given else {
+        return Ok(Choice::None);
+    };
+    match text {
+        "none" => Ok(Choice::None),
+        "all" => Ok(Choice::All),
+        "drawn" => Ok(Choice::Drawn),
+        _ => Err(Misfit::Evict),
+    }
+}
+
+/// The state that is given, or the default where none is.
+fn draw(given: Option<&str>) -> Result<u64, Misfit>
+    ensures { OkIff result (Fits 0 greatest_draw (option_map (λ s. s.now) given.entry))
+        (number_of default_draw (option_map (λ s. s.now) given.entry)) }
+{
+    let Some(text) = given else {
+        return Ok(DEFAULT_DRAW);
+    };
+    text.parse::<u64>().map_err(|_| Misfit::Draw)
+}
+
+/// What a report on points is asked to be.
+fn point_options<'a>(given: &ArgMatches<'a>) -> Result<PointOptions<'a>, Misfit>
+    ensures asked { IfOk result (AsksPoints (first_value (found_of given.now))) }
+    ensures misfit { OnErr result (¬ (AllFit (first_value (found_of given.now)))) }
+{
+    let choice = choice(given.get_str("evict"))?;
+    let draw = draw(given.get_str("draw"))?;
+    Ok(PointOptions {
+        choice,
+        draw,
+        page: given.get_str("page"),
+    })
+}
+
+/// What a command asks with the options that it was given.
+fn asked_by<'a>(command: &str, given: &ArgMatches<'a>) -> Result<PqxAsked<'a>, Misfit>
+    ensures asked { IfOk result (Asks (Some command.now) (first_value (found_of given.now))) }
+    ensures misfit { OnErr result (¬ (AllFit (first_value (found_of given.now)))) }
+{
+    match command {
+        "points" => Ok(PqxAsked::Points(point_options(given)?)),
+        "alone" => Ok(PqxAsked::Alone),
+        _ => Ok(PqxAsked::Run),
+    }
+}
+
+/// What a parse found to be asked.
+fn asked<'a>(matches: &ArgMatches<'a>) -> Result<PqxAsked<'a>, Misfit>
+    ensures asked { IfOk result
+        (Asks (name_in (subcommand_rows_of matches.now)) (values_in (subcommand_rows_of matches.now))) }
+    ensures misfit { OnErr result (¬ (AllFit (values_in (subcommand_rows_of matches.now)))) }
+{
+    match matches.subcommand() {
+        Some((command, given)) => asked_by(command, given),
+        None => Ok(PqxAsked::Run),
+    }
+}
+
+/// The error that tells of an option that does not fit.
+fn explained(command: &mut Command<'_>, misfit: Misfit) -> Result<Error, AllocError>
+    ensures { IfOk result (λ e. kind_of e ≡ ErrorKind.ValueValidation) }
+{
+    command.error(ErrorKind::ValueValidation, text_of(misfit))
+}
+
+/// What the words of a command line ask of `pqx`, of which the first is the program's name.
+///
+/// An error that is no want of memory has the text for the user and the status to end with: 0 where the words ask for
+/// help or the version, and else 2.
+pub fn pqx_command_line<'a, S: AsStr>(alloc: Global, words: &'a [S]) -> Result<PqxAsked<'a>, Error>
+    ensures asked { IfOk result (IsPqxAsked (map S.text words.entry.now)) }
+    ensures refused { IfErr result (RefusesPqx (map S.text words.entry.now)) }
+{
+    let mut command = pqx(alloc)?;
+    let matches = command.try_get_matches_from_mut(words)?;
+    match asked(&matches) {
+        Ok(asked) => Ok(asked),
+        Err(misfit) => Err(explained(&mut command, misfit)?),
+    }
+}
