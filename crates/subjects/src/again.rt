@@ -34,7 +34,7 @@ pub enum Answer {
 
 impl Answer {
     /// What a step of a call answers.
-    pub fn step(reply: Option<Reply>) -> Self {
+    pub(crate) fn step(reply: Option<Reply>) -> Self {
         match reply {
             Some(reply) => Answer::Reply(reply),
             None => Answer::More,
@@ -42,7 +42,7 @@ impl Answer {
     }
 
     /// What a step of a creation answers.
-    pub fn slot(slot: Option<SlotId>) -> Self {
+    pub(crate) fn slot(slot: Option<SlotId>) -> Self {
         match slot {
             Some(slot) => Answer::Slot(slot),
             None => Answer::More,
@@ -50,7 +50,7 @@ impl Answer {
     }
 
     /// What a step of recovery answers.
-    pub fn recovery(is_ready: bool) -> Self {
+    pub(crate) fn recovery(is_ready: bool) -> Self {
         if is_ready {
             Answer::Ready
         } else {

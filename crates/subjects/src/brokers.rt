@@ -48,7 +48,7 @@ fn write_slot(broker: &Broker, slot: SlotId, text: &mut String) -> Result<(), Re
 }
 
 /// Writes all that can be seen of a broker.
-pub fn write_broker(broker: &Broker, text: &mut String) -> Result<(), Refusal> {
+pub(crate) fn write_broker(broker: &Broker, text: &mut String) -> Result<(), Refusal> {
     let image = Image(broker.to_image()?);
     let creating = broker.is_creating();
     let list = broker.list();

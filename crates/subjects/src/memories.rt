@@ -16,7 +16,7 @@ pub enum Act {
 }
 
 /// Writes the words of a memory: the kept ones, and those whose cached value is another.
-pub fn write_words(memory: &Memory, text: &mut String) -> Result<(), Refusal> {
+pub(crate) fn write_words(memory: &Memory, text: &mut String) -> Result<(), Refusal> {
     for word in 0..KeptWords::size(memory) {
         write!(text, "{} ", memory.kept(word)).map_err(|_| Refusal::NoMemory)?;
     }

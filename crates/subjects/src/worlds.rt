@@ -26,7 +26,7 @@ pub enum Act {
 }
 
 /// Writes what a history has.
-pub fn write_history(history: &History, text: &mut String) -> Result<(), Refusal> {
+pub(crate) fn write_history(history: &History, text: &mut String) -> Result<(), Refusal> {
     let base = history.base.as_slice();
     let told = history.told;
     let events = history.events.as_slice();
