@@ -3,9 +3,9 @@
 # over the time is at most 1.2. And calls a second of a log queue over those of a durable one: at least 0.6, its calls
 # having more steps. Printed, not tested.
 set -eu
-# Each turn has a new memory. What is freed stays with the program, so that no turn measures how the system hands out pages.
-export MALLOC_TRIM_THRESHOLD_=2000000000 MALLOC_MMAP_THRESHOLD_=2000000000 MALLOC_TOP_PAD_=64000000
-cd "$(dirname "$0")/../crates/load"
+cd "$(dirname "$0")"
+. ./keeping.sh
+cd "../crates/load"
 rt run > /dev/null 2>&1
 
 # Acts a second and calls a second, by the best of 300 turns of 4,000 acts in the best of four runs, as a run may share

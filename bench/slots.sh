@@ -4,9 +4,9 @@
 # client: it costs what was changed, so the one over the other is at most 1.5. And the memory of a broker of 16 clients
 # with 4,096 records each, by its largest resident size over the bytes of its words: at most 1.2. Printed, not tested.
 set -eu
-# Each turn has a new memory. What is freed stays with the program, so that no turn measures how the system hands out pages.
-export MALLOC_TRIM_THRESHOLD_=2000000000 MALLOC_MMAP_THRESHOLD_=2000000000 MALLOC_TOP_PAD_=64000000
-cd "$(dirname "$0")/../crates/load"
+cd "$(dirname "$0")"
+. ./keeping.sh
+cd "../crates/load"
 rt run > /dev/null 2>&1
 
 # Nanoseconds of 4,000 acts with 1,000 behind, by the best of 300 turns: acts or slots, KIND CLIENTS.

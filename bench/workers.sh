@@ -3,9 +3,9 @@
 # eight, over those that one client makes step by step on the session itself. What a lock and its release cost, each act
 # taking one. And calls a second with four threads over those with one: at least 1. Printed, not tested.
 set -eu
-# Each turn has a new memory. What is freed stays with the program, so that no turn measures how the system hands out pages.
-export MALLOC_TRIM_THRESHOLD_=2000000000 MALLOC_MMAP_THRESHOLD_=2000000000 MALLOC_TOP_PAD_=64000000
-cd "$(dirname "$0")/../crates/crowd"
+cd "$(dirname "$0")"
+. ./keeping.sh
+cd "../crates/crowd"
 rt run > /dev/null 2>&1
 
 # Nanoseconds, calls and acts of the best of ten turns of 4,000 calls a client, after QUEUES and who makes them. All in

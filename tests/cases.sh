@@ -34,3 +34,14 @@ count() {
     printf '%d passed, %d failed\n' "$passed" "$failed"
     [ "$failed" -eq 0 ]
 }
+
+# Ends the script, as one failure, where one of these programs is not there: PROGRAM..
+need() {
+    local program
+    for program in "$@"; do
+        [ ! -x "$program" ] || continue
+        printf 'there is no %s: run rt ci, or rt run in its folder\n' "$program"
+        failed=$((failed + 1))
+        count || exit 1
+    done
+}

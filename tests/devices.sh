@@ -8,13 +8,7 @@ cd "$(dirname "$0")/.."
 . tests/cases.sh
 pqd=${PQD:-$PWD/crates/pqd/out/pqd}
 pqx=${PQX:-$PWD/crates/pqx/out/pqx}
-for program in "$pqd" "$pqx"; do
-    [ -x "$program" ] || {
-        printf 'there is no %s: run rt ci, or rt run in its folder\n' "$program"
-        failed=1
-        count
-    }
-done
+need "$pqd" "$pqx"
 faults=0
 # Where a case's own output is closed or full, what is wrong is still said.
 exec 6>&1

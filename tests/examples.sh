@@ -7,11 +7,7 @@ set -eu
 cd "$(dirname "$0")/.."
 . tests/cases.sh
 pqd=${PQD:-$PWD/crates/pqd/out/pqd}
-[ -x "$pqd" ] || {
-    printf 'there is no %s: run rt ci, or rt run in crates/pqd\n' "$pqd"
-    failed=1
-    count
-}
+need "$pqd"
 
 # Runs a client of the server at that port, and compares what it prints: NAME WORD..
 try() {

@@ -6,13 +6,7 @@ set -eu
 cd "$(dirname "$0")/.."
 . tests/cases.sh
 export TMPDIR=$work
-for program in "${PQD:-$PWD/crates/pqd/out/pqd}" "${PQX:-$PWD/crates/pqx/out/pqx}"; do
-    [ -x "$program" ] || {
-        printf 'there is no %s: run rt ci, or rt run in its folder\n' "$program"
-        failed=1
-        count
-    }
-done
+need "${PQD:-$PWD/crates/pqd/out/pqd}" "${PQX:-$PWD/crates/pqx/out/pqx}"
 
 # The right ones agree, and something of each kind was tried.
 status=0

@@ -11,13 +11,7 @@ refusals=${REFUSALS:-$PWD/crates/refusals/out/refusals}
 shared_refusals=${SHARED_REFUSALS:-$PWD/crates/shared_refusals/out/shared_refusals}
 pqx=${PQX:-$PWD/crates/pqx/out/pqx}
 pqd=${PQD:-$PWD/crates/pqd/out/pqd}
-for program in "$refusals" "$shared_refusals" "$pqx" "$pqd"; do
-    [ -x "$program" ] || {
-        printf 'there is no %s: run rt ci, or rt run in its folder\n' "$program"
-        failed=1
-        count
-    }
-done
+need "$refusals" "$shared_refusals" "$pqx" "$pqd"
 "$(dirname "$(rt doc)")/toolchain/bin/clang" --target=x86_64-unknown-linux-gnu -shared -fPIC -nostdlib -fuse-ld=lld \
     -o "$work/refusing.so" tests/refusing.c
 

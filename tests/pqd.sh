@@ -6,11 +6,7 @@ set -eu
 cd "$(dirname "$0")/.."
 . tests/cases.sh
 pqd=${PQD:-$PWD/crates/pqd/out/pqd}
-[ -x "$pqd" ] || {
-    printf 'there is no %s: run rt ci, or rt run in crates/pqd\n' "$pqd"
-    failed=1
-    count
-}
+need "$pqd"
 
 # Runs pqd with these words on the standard input that it was given. What is wanted stands in tests/pqd/NAME.out and
 # NAME.err, where there is no such file nothing: NAME STATUS WORD..

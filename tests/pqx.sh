@@ -6,11 +6,7 @@ set -eu
 cd "$(dirname "$0")/.."
 . tests/cases.sh
 pqx=$PWD/crates/pqx/out/pqx
-[ -x "$pqx" ] || {
-    printf 'there is no %s: run rt ci, or rt run in crates/pqx\n' "$pqx"
-    failed=1
-    count
-}
+need "$pqx"
 data=crates/scenarios/data
 
 # Runs pqx with these words on the standard input that it was given. What is wanted stands in tests/pqx/NAME.out and

@@ -4,10 +4,7 @@
 # on a copy of the crate and of those below it. The last line is `N passed, M failed`.
 set -eu -o pipefail
 cd "$(dirname "$0")/.."
-room=$(mktemp -d)
-trap 'rm -r "$room"' EXIT
-passed=0
-failed=0
+. tests/cases.sh
 
 # Copies a crate and those that it stands on, with what earlier checks built: CRATE FOLDER
 copy() {
@@ -34,19 +31,17 @@ PYTHON
 
 for edit in crates/*/refused/*.edit; do
     crate=$(basename "$(dirname "$(dirname "$edit")")")
-    copy "$crate" "$room/copy"
-    folder=$room/copy/crates/$crate
+    copy "$crate" "$work/copy"
+    folder=$work/copy/crates/$crate
     change "$edit" "$folder"
     error=$(sed -n 's/^error: //p' "$edit")
     said=$(cd "$folder" && rt check 2>&1 || true)
     if grep -q "error\[$error\]" <<< "$said"; then
-        passed=$((passed + 1))
+        said=
     else
-        failed=$((failed + 1))
-        printf 'FAILED: %s was not refused with %s\n%s\n' "$edit" "$error" "$(head -n 5 <<< "$said")"
+        said="not refused with $error"$'\n'$(head -n 5 <<< "$said")
     fi
-    rm -r "$room/copy"
+    judge "$edit" "$said"
+    rm -r "$work/copy"
 done
-
-printf '%d passed, %d failed\n' "$passed" "$failed"
-[ "$failed" -eq 0 ]
+count

@@ -7,11 +7,7 @@ cd "$(dirname "$0")/.."
 . tests/cases.sh
 scenarios=$PWD/crates/scenarios/out/scenarios
 data=crates/scenarios/data
-[ -x "$scenarios" ] || {
-    printf 'there is no %s: run rt ci, or rt run in crates/scenarios\n' "$scenarios"
-    failed=1
-    count
-}
+need "$scenarios"
 
 # Plays a folder's scenarios, and compares what it says with $work/wanted, and its status: NAME STATUS FOLDER
 play() {

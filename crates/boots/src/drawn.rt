@@ -2,7 +2,8 @@
 
 use crate::beginnings::{begins_with, copy};
 use arena::{DurableLayout, Layout, LogLayout};
-use history::{Event, check, replay};
+use draws::index_below;
+use history::{Event, check_content};
 use interleave::{Act, World};
 use rand_core::Rng;
 use rand_pcg::Pcg32;
@@ -12,14 +13,6 @@ use words::{Call, Client, Refusal};
 
 /// How many acts a world is drawn.
 const ACTS: usize = 600;
-
-/// A number below `n`, or 0.
-fn below(rng: &mut Pcg32, n: usize) -> usize {
-    if n == 0 {
-        return 0;
-    }
-    rng.next_u32() as usize % n
-}
 
 /// A start of a drawn call, with a number that is no client's yet.
 fn start(rng: &mut Pcg32, client: Client, number: u64) -> Act {
@@ -38,11 +31,11 @@ fn start(rng: &mut Pcg32, client: Client, number: u64) -> Act {
 
 /// A drawn act, most often one that goes on.
 fn act(rng: &mut Pcg32, clients: usize, words: usize, number: u64, down: bool) -> Act {
-    let client = Client(below(rng, clients).min(15) as u8);
-    match below(rng, 64) {
+    let client = Client(index_below(rng, clients).min(15) as u8);
+    match index_below(rng, 64) {
         0 => Act::Crash,
         1..=4 => Act::Evict {
-            at: below(rng, words),
+            at: index_below(rng, words),
         },
         5..=14 => start(rng, client, number),
         15..=16 => Act::Recover,
@@ -56,13 +49,7 @@ pub(crate) fn is_explained<L: Layout + Drop>(
     alloc: Global,
     world: &World<L>,
 ) -> Result<bool, Refusal> {
-    let order = world.order()?;
-    let content = world.content()?;
-    let holds = match replay(alloc, world.history(), &order)? {
-        Ok(left) => left.as_slice() == content.as_slice(),
-        Err(_) => false,
-    };
-    Ok(holds && check(world.history(), &order))
+    check_content(alloc, world.history(), &world.order()?, &world.content()?)
 }
 
 /// How often the queue became ready again.

@@ -1,8 +1,7 @@
 //! What the tests do with a broker, many acts at a time, and what they see of it.
 
-use arena::{SLOTS, SlotId};
+use arena::SlotId;
 use directory::Name;
-use history::{check, replay};
 use named::Broker;
 use persist::{KeptWords, Memory};
 use std::alloc::Global;
@@ -134,30 +133,6 @@ pub(crate) fn effects(broker: &Broker, slot: u8) -> Result<usize, Refusal> {
 /// How many events the history of the queue of a slot has.
 pub(crate) fn events(broker: &Broker, slot: u8) -> Result<usize, Refusal> {
     Ok(broker.history(SlotId(slot))?.events.len())
-}
-
-/// Whether the order of the slot's queue explains its history, and the queue holds what its replay leaves.
-pub(crate) fn is_explained(alloc: Global, broker: &Broker, slot: u8) -> Result<bool, Refusal> {
-    let history = broker.history(SlotId(slot))?;
-    let order = broker.order(SlotId(slot))?;
-    let content = broker.content(SlotId(slot))?;
-    let holds = match replay(alloc, history, &order)? {
-        Ok(left) => left.as_slice() == content.as_slice(),
-        Err(_) => false,
-    };
-    Ok(holds && check(history, &order))
-}
-
-/// Whether that is so of every open slot.
-pub(crate) fn are_explained(alloc: Global, broker: &Broker) -> Result<bool, Refusal> {
-    let mut right = true;
-    for slot in 0..SLOTS as u8 {
-        right &= match is_explained(alloc, broker, slot) {
-            Err(Refusal::NoQueue) => true,
-            explained => explained?,
-        };
-    }
-    Ok(right)
 }
 
 /// A memory that keeps what the broker's keeps.

@@ -1,12 +1,11 @@
 //! Queues of one broker, call by call.
 
-use crate::acts::{
-    are_explained, begin, create, effects, events, find, finish, has, holds, queues, taken, told,
-};
+use crate::acts::{begin, create, effects, events, find, finish, has, holds, queues, taken, told};
 use arena::SlotId;
 use named::Broker;
 use std::alloc::Global;
 use std::test::Fail;
+use trials::are_explained;
 use words::{Call, Client, Kind, Refusal, Reply, Row, Told};
 
 /// A broker with a durable queue `d` in slot 0 and a log queue `l` in slot 1.

@@ -1,13 +1,14 @@
 //! Crashes of brokers, also while they recover: how many steps recovery takes, what is told, and what the queues hold.
 
 use crate::acts::{
-    are_explained, begin, create, create_on, effects, events, find, finish, has, holds, not_taken,
-    queues, recover, recover_on, restart, taken, told,
+    begin, create, create_on, effects, events, find, finish, has, holds, not_taken, queues,
+    recover, recover_on, restart, taken, told,
 };
 use arena::SlotId;
 use named::Broker;
 use std::alloc::Global;
 use std::test::Fail;
+use trials::are_explained;
 use words::{Call, Kind, Refusal, Reply, Row, Told};
 
 /// A log queue `a` all but created: of its eight steps seven are made, so that its gate is open, but not kept.

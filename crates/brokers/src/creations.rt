@@ -1,13 +1,13 @@
 //! Creations of queues: names, slots, and a crash between any two of their steps.
 
 use crate::acts::{
-    are_explained, create, create_on, events, find, finish, has, holds, kept, kept_at, queues,
-    recover, restart,
+    create, create_on, events, find, finish, has, holds, kept, kept_at, queues, recover, restart,
 };
 use arena::{SLOTS, SlotId};
 use named::Broker;
 use std::alloc::Global;
 use std::test::Fail;
+use trials::are_explained;
 use words::{Call, Kind, Refusal, Reply};
 
 /// The word of the gate of slot 0, the last of the slot's four in the directory.

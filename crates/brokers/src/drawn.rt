@@ -1,34 +1,20 @@
 //! Drawn acts on several queues: after each one, every queue's order explains its history, and it holds what the replay
 //! of that leaves.
 
-use crate::acts::{are_explained, kept, kept_at};
+use crate::acts::{kept, kept_at};
 use arena::{BrokerLayout, Layout, SLOTS, SlotId};
 use directory::Places;
+use draws::below;
 use named::Broker;
 use rand_core::Rng;
 use rand_pcg::Pcg32;
 use std::alloc::Global;
 use std::test::Fail;
+use trials::{are_explained, pass_over};
 use words::{Call, Client, Kind, Refusal};
 
 /// How many records each client has in each queue.
 const RECORDS: u32 = 8;
-
-/// A number below `n`, or 0.
-fn below(rng: &mut Pcg32, n: u32) -> u32 {
-    if n == 0 {
-        return 0;
-    }
-    rng.next_u32() % n
-}
-
-/// Acts that are refused by a rule are passed over.
-fn passed<T: Drop>(answer: Result<T, Refusal>) -> Result<(), Refusal> {
-    match answer {
-        Err(Refusal::NoMemory) => Err(Refusal::NoMemory),
-        _ => Ok(()),
-    }
-}
 
 /// One of the first four slots, where most queues are.
 fn slot(rng: &mut Pcg32) -> SlotId {
@@ -44,7 +30,7 @@ fn start(broker: &mut Broker, rng: &mut Pcg32, client: Client, number: u64) -> R
     } else {
         Call::Deq
     };
-    passed(broker.start(slot, client, number, call))
+    pass_over(broker.start(slot, client, number, call))
 }
 
 /// The creation of a queue begins whose name is one of six.
@@ -55,7 +41,7 @@ fn create(broker: &mut Broker, rng: &mut Pcg32) -> Result<(), Refusal> {
         Kind::Log
     };
     let name = [b'a' + below(rng, 6).min(5) as u8];
-    passed(broker.create(&name, kind))
+    pass_over(broker.create(&name, kind))
 }
 
 /// A word, most often one of those before the third block.
@@ -72,7 +58,7 @@ fn word(rng: &mut Pcg32, layout: &BrokerLayout) -> usize {
 fn go_on(broker: &mut Broker, rng: &mut Pcg32, client: Client) -> Result<(), Refusal> {
     let slot = slot(rng);
     for _ in 0..=below(rng, 6) {
-        passed(broker.step(slot, client))?;
+        pass_over(broker.step(slot, client))?;
     }
     Ok(())
 }
@@ -80,7 +66,7 @@ fn go_on(broker: &mut Broker, rng: &mut Pcg32, client: Client) -> Result<(), Ref
 /// A creation goes on by some steps.
 fn create_on(broker: &mut Broker, rng: &mut Pcg32) -> Result<(), Refusal> {
     for _ in 0..=below(rng, 3) {
-        passed(broker.create_step())?;
+        pass_over(broker.create_step())?;
     }
     Ok(())
 }
@@ -88,7 +74,7 @@ fn create_on(broker: &mut Broker, rng: &mut Pcg32) -> Result<(), Refusal> {
 /// Recovery goes on by some steps.
 fn recover_on(broker: &mut Broker, rng: &mut Pcg32) -> Result<(), Refusal> {
     for _ in 0..=below(rng, 12) {
-        passed(broker.recover_step())?;
+        pass_over(broker.recover_step())?;
     }
     Ok(())
 }
@@ -104,9 +90,9 @@ fn act(
     let down = broker.list().is_err();
     match below(rng, 128) {
         0 => broker.crash(),
-        1 => passed(broker.rotate()),
-        2..=9 => passed(broker.evict(word(rng, layout))),
-        10 => passed(broker.recover_step()),
+        1 => pass_over(broker.rotate()),
+        2..=9 => pass_over(broker.evict(word(rng, layout))),
+        10 => pass_over(broker.recover_step()),
         _ if down => recover_on(broker, rng),
         11..=34 => start(broker, rng, client, number),
         35..=39 => create(broker, rng),

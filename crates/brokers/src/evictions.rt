@@ -1,14 +1,13 @@
 //! Evictions of each word of a broker's memory, at many moments.
 
-use crate::acts::{
-    are_explained, begin, create, create_on, effects, finish, holds, kept, kept_at, recover_on,
-};
+use crate::acts::{begin, create, create_on, effects, finish, holds, kept, kept_at, recover_on};
 use crate::calls::two_queues;
 use arena::{BrokerLayout, SlotId};
 use named::Broker;
 use persist::{Change, KeptWords, Memory};
 use std::alloc::Global;
 use std::test::Fail;
+use trials::are_explained;
 use words::{Call, Client, Kind, Refusal, Reply};
 
 /// Whether the evictions of all words answered this: each word's own change, where it has one.

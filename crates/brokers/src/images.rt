@@ -1,8 +1,7 @@
 //! Images of brokers, and brokers that begin on them.
 
 use crate::acts::{
-    are_explained, create, effects, events, find, finish, has, holds, kept, kept_at, recover,
-    restart, taken, told,
+    create, effects, events, find, finish, has, holds, kept, kept_at, recover, restart, taken, told,
 };
 use crate::drawn::after;
 use arena::{SLOTS, SlotId};
@@ -10,6 +9,7 @@ use named::Broker;
 use persist::{KeptWords, Memory};
 use std::alloc::Global;
 use std::test::Fail;
+use trials::are_explained;
 use words::{Call, Client, Kind, Refusal, Reply};
 
 /// A broker that begins on the image of another.

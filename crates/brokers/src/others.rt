@@ -1,6 +1,6 @@
 //! An act on one queue of a broker leaves the others as they were.
 
-use crate::acts::{are_explained, begin, create, events, finish, kept, kept_at, told};
+use crate::acts::{begin, create, events, finish, kept, kept_at, told};
 use crate::calls::two_queues;
 use arena::{BrokerLayout, SlotId};
 use events::Order;
@@ -8,6 +8,7 @@ use named::Broker;
 use persist::{KeptWords, Memory};
 use std::alloc::Global;
 use std::test::Fail;
+use trials::are_explained;
 use words::{Call, Client, Kind, Refusal, Reply, Told};
 
 /// How many queues there are: durable ones in slots 0 and 2, and a log queue in slot 1.

@@ -1,14 +1,15 @@
 //! Brokers whose queues' histories begin anew.
 
 use crate::acts::{
-    are_explained, begin, create, create_on, effects, events, find, finish, has, holds, recover_on,
-    restart, taken, told,
+    begin, create, create_on, effects, events, find, finish, has, holds, recover_on, restart,
+    taken, told,
 };
 use crate::calls::two_queues;
 use arena::SlotId;
 use named::Broker;
 use std::alloc::Global;
 use std::test::Fail;
+use trials::are_explained;
 use words::{Call, Client, Kind, Refusal, Reply, Row, Told};
 
 /// A durable queue in slot 0 that held 7 and a log queue in slot 1 that held 9, put in by number 1, when their

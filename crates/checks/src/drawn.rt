@@ -1,5 +1,6 @@
 //! Drawn histories, right and wrong, on which both checkers agree.
 
+use draws::index_below;
 use history::{Entry, Event, History, Order, Sequence, check, check_plainly};
 use rand_core::Rng;
 use rand_pcg::Pcg32;
@@ -27,14 +28,6 @@ struct Scene {
     under_way: Vec<UnderWay>,
     told: [Told; 16],
     down: bool,
-}
-
-/// A number below `n`, or 0.
-fn below(rng: &mut Pcg32, n: usize) -> usize {
-    if n == 0 {
-        return 0;
-    }
-    rng.next_u32() as usize % n
 }
 
 impl Scene {
@@ -155,12 +148,12 @@ impl Scene {
 
     fn step(&mut self, rng: &mut Pcg32, clients: usize) -> Result<(), Fail> {
         let value = rng.next_u32() % 8;
-        match below(rng, 16) {
+        match index_below(rng, 16) {
             0 => self.stop_or_ready(),
             1 if self.down => self.stop_or_ready(),
-            2..=6 => self.call(below(rng, clients).min(15) as u8, value),
+            2..=6 => self.call(index_below(rng, clients).min(15) as u8, value),
             _ => {
-                let index = below(rng, self.under_way.len());
+                let index = index_below(rng, self.under_way.len());
                 self.go_on(index)
             }
         }
@@ -169,11 +162,11 @@ impl Scene {
     /// Changes something that may be wrong then.
     fn spoil(&mut self, rng: &mut Pcg32) {
         let (i, j) = (
-            below(rng, self.entries.len()),
-            below(rng, self.entries.len()),
+            index_below(rng, self.entries.len()),
+            index_below(rng, self.entries.len()),
         );
-        let k = below(rng, self.events.len());
-        match below(rng, 6) {
+        let k = index_below(rng, self.events.len());
+        match index_below(rng, 6) {
             0 if i < self.entries.len() && j < self.entries.len() => self.entries.swap(i, j),
             1 if i < self.entries.len() => {
                 let _entry = self.entries.remove(i);
@@ -211,7 +204,7 @@ impl Scene {
 fn drawn(alloc: Global, kind: Kind, draw: u64, spoils: usize) -> Result<Option<bool>, Fail> {
     let mut rng = Pcg32::new(draw, 7);
     let mut scene = Scene::new(alloc, kind);
-    let clients = below(&mut rng, 4).saturating_add(1);
+    let clients = index_below(&mut rng, 4).saturating_add(1);
     for _ in 0..48 {
         scene.step(&mut rng, clients)?;
     }

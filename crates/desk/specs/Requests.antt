@@ -1,21 +1,37 @@
 -- Which answers a request may have.
 use Rattle.std.specs.Prelude.{◌≤◌, ℕ, Bool, true, false, None, Some, Result, Ok, Err, ⊤}
 use Rattle.words.specs.declared.refusal.Refusal.{Refusal}
-use Rattle.words.specs.declared.refusal.Refusal.TheVariants.{AlreadyReady, BadName, NoMemory, NotReady}
+use Rattle.words.specs.declared.refusal.Refusal.TheVariants.{AlreadyReady, BadName, Busy, NoClient, NoMemory, NoQueue, NotReady}
 use Rattle.wire.specs.declared.answer.Answer.{Answer}
 use Rattle.wire.specs.declared.answer.Answer.TheVariants.{Crashed, Created, Interrupted, Queues, Ready, Refused, Reply, Stopping, Told as told_answer, Unfinished}
 use Rattle.wire.specs.declared.request.Request.{Request}
 use Rattle.wire.specs.declared.request.Request.TheVariants.{Create, Crash, List as list_request, Put, Recover, Stop, Take, Told}
+use Rattle.workers.specs.Refusals.{is_call_refusal, is_creation_refusal, is_told_refusal}
 
 -- the answer where it was done, else the refusal
 abbrev pub answer_where_done : Result ⊤ Refusal → Answer → Answer
 answer_where_done (Ok done) answer = answer
 answer_where_done (Err refusal) answer = Refused refusal
 
--- whether it was refused
-abbrev pub is_refusal : Answer → Bool
-is_refusal (Refused refusal) = true
-is_refusal _ = false
+-- whether a seat may answer so a put or a take in a queue of no name
+abbrev pub is_nameless_refusal : Answer → Bool
+is_nameless_refusal (Refused Busy) = true
+is_nameless_refusal (Refused NotReady) = true
+is_nameless_refusal (Refused NoQueue) = true
+is_nameless_refusal _ = false
+
+-- whether a desk may, which looks for the client's seat before
+abbrev pub is_nameless_call_answer : Answer → Bool
+is_nameless_call_answer (Refused NoClient) = true
+is_nameless_call_answer (Refused Busy) = true
+is_nameless_call_answer (Refused NotReady) = true
+is_nameless_call_answer (Refused NoQueue) = true
+is_nameless_call_answer _ = false
+
+-- whether what a client was last told in a queue of no name may be answered so
+abbrev pub is_nameless_told_answer : Answer → Bool
+is_nameless_told_answer (Refused refusal) = is_told_refusal refusal
+is_nameless_told_answer _ = false
 
 -- whether it was refused as no name
 abbrev pub is_bad_name : Answer → Bool
@@ -26,7 +42,7 @@ is_bad_name _ = false
 abbrev pub is_creation_answer : Answer → Bool
 is_creation_answer (Created slot) = true
 is_creation_answer Interrupted = true
-is_creation_answer (Refused refusal) = true
+is_creation_answer (Refused refusal) = is_creation_refusal refusal
 is_creation_answer _ = false
 
 -- whether a list of the queues may be answered so
@@ -40,13 +56,13 @@ abbrev pub is_call_answer : Answer → Bool
 is_call_answer (Reply reply) = true
 is_call_answer Interrupted = true
 is_call_answer Unfinished = true
-is_call_answer (Refused refusal) = true
+is_call_answer (Refused refusal) = is_call_refusal refusal
 is_call_answer _ = false
 
 -- whether what a client was last told may be answered so
 abbrev pub is_told_answer : Answer → Bool
 is_told_answer (told_answer told) = true
-is_told_answer (Refused refusal) = true
+is_told_answer (Refused refusal) = is_told_refusal refusal
 is_told_answer _ = false
 
 -- whether a crash may be answered so
@@ -72,11 +88,11 @@ abbrev pub is_answer_to : Request → Answer → Bool
 is_answer_to (Create None kind) answer = is_bad_name answer
 is_answer_to (Create (Some name) kind) answer = is_creation_answer answer
 is_answer_to list_request answer = is_list_answer answer
-is_answer_to (Put client None value number) answer = is_refusal answer
+is_answer_to (Put client None value number) answer = is_nameless_call_answer answer
 is_answer_to (Put client (Some name) value number) answer = is_call_answer answer
-is_answer_to (Take client None number) answer = is_refusal answer
+is_answer_to (Take client None number) answer = is_nameless_call_answer answer
 is_answer_to (Take client (Some name) number) answer = is_call_answer answer
-is_answer_to (Told client None) answer = is_refusal answer
+is_answer_to (Told client None) answer = is_nameless_told_answer answer
 is_answer_to (Told client (Some name)) answer = is_told_answer answer
 is_answer_to Crash answer = is_crash_answer answer
 is_answer_to Recover answer = is_recovery_answer answer

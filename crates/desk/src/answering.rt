@@ -1,9 +1,10 @@
 //! What each request is answered.
 
-ghost use Rattle.std.specs.Prelude.{◌≡◌, ◌≤◌, IfSome, IsErr, IsNone, IsTrue};
+ghost use Rattle.std.specs.Prelude.{◌≡◌, ◌≤◌, IfErr, IfSome, IsErr, IsNone, IsTrue};
 ghost use Rattle.desk.specs.Calls.{asked_in};
 ghost use Rattle.desk.specs.Requests.{answer_where_done, is_answer_to, is_call_answer, is_creation_answer};
-ghost use Rattle.desk.specs.Requests.{is_list_answer, is_refusal, NamesNoClient};
+ghost use Rattle.desk.specs.Requests.{is_list_answer, is_nameless_call_answer, NamesNoClient};
+ghost use Rattle.workers.specs.Refusals.{is_told_refusal};
 ghost use Rattle.wire.specs.declared.answer.Answer.{Answer as AnyAnswer};
 
 use crate::calls::{answer_at_seat, slot_of};
@@ -48,8 +49,9 @@ fn call<J: Naming, R: Wait>(
     number: u64,
     request: Request,
 ) -> Answer
-    ensures fits { IsTrue (is_call_answer result) }
-    ensures nameless { IfSome (asked_in request) (λ asked. IsNone asked.queue → IsTrue (is_refusal result)) }
+    ensures fits { IfSome (asked_in request) (λ asked. IsTrue (is_call_answer result)) }
+    ensures nameless { IfSome (asked_in request) (λ asked.
+        IsNone asked.queue → IsTrue (is_nameless_call_answer result)) }
     ensures client { J.clients ≤ number → result ≡ AnyAnswer.Refused Refusal.NoClient }
 {
     let Some(client) = seats.client(number) else {
@@ -74,6 +76,7 @@ fn told<J: Naming, R: Wait>(
 ) -> Result<Told, Refusal>
     ensures client { J.clients ≤ number → result ≡ Err Refusal.NoClient }
     ensures nameless { IsNone queue → IsErr result }
+    ensures errors { IfErr result (λ refusal. IsTrue (is_told_refusal refusal)) }
 {
     let Some(client) = seats.client(number) else {
         return Err(Refusal::NoClient);

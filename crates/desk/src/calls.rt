@@ -1,9 +1,9 @@
 //! Puts and takes, each with its client's seat.
 
-ghost use Rattle.std.specs.Prelude.{◌≡◌, ◌⊎◌, IfErr, IfNone, IfSome, IsErr, IsNone, IsTrue, OnErr, OnOk, true};
-ghost use Rattle.desk.specs.Calls.{answer_on_wire, asked_in, AnswersCall, IsSettled};
+ghost use Rattle.std.specs.Prelude.{◌≡◌, IfErr, IfNone, IfOk, IfSome, IsErr, IsNone, IsTrue, OnErr, OnOk, true};
+ghost use Rattle.desk.specs.Calls.{answer_on_wire, asked_in, AnswersCall, IsSettled, IsSlotOf, IsWhyNotFound};
 ghost use Rattle.wire.specs.declared.answer.Answer.{Answer as AnyAnswer};
-ghost use Rattle.desk.specs.Requests.{is_call_answer, is_refusal};
+ghost use Rattle.desk.specs.Requests.{is_call_answer, is_nameless_refusal};
 ghost use Rattle.workers.specs.Lists.{ends_open};
 
 use arena::SlotId;
@@ -59,13 +59,14 @@ fn on_wire(answer: workers::Answer) -> Answer
 }
 
 /// The slot with the queue of this name. It is refused while the broker recovers (NotReady), and where there is no such
-/// queue (NoQueue).
+/// queue (NoQueue). A queue that there was when the seats were given is found in its slot for good.
 pub(crate) fn slot_of<J: Naming, R: Wait>(
     rt: &R,
     shared: &Shared<J>,
     queue: Option<Name>,
 ) -> Result<SlotId, Refusal>
-    ensures errors { IfErr result (λ e. (e ≡ Refusal.NotReady) ⊎ (e ≡ Refusal.NoQueue)) }
+    ensures found { IfOk result (IsSlotOf J.first.broker.directory queue) }
+    ensures errors { IfErr result (IsWhyNotFound J.first.broker.directory queue) }
     ensures nameless { IsNone queue → IsErr result }
 {
     let Some(name) = queue else {
@@ -107,8 +108,9 @@ fn call_at_seat<J: Naming, R: Wait>(
     asked: Asked,
 ) -> (Seat<J>, Answer)
     ensures client { result.0.client ≡ seat.client }
-    ensures entry { AnswersCall seat.list.items asked result.1 result.0.list.items }
-    ensures nameless { IsNone asked.queue → IsTrue (is_refusal result.1) }
+    ensures entry { AnswersCall J.first.broker.directory seat.list.items asked result.1 result.0.list.items }
+    ensures nameless { IsNone asked.queue → IsTrue (is_nameless_refusal result.1) }
+    ensures fits { IsTrue (is_call_answer result.1) }
 {
     let (seat, finished) = settled(rt, shared, seat);
     if let Err(refusal) = finished {
@@ -134,9 +136,10 @@ pub fn answer_at_seat<J: Naming, R: Wait>(
 ) -> (Seat<J>, Answer)
     ensures client { result.0.client ≡ seat.client }
     ensures entry { IfSome (asked_in request) (λ asked.
-        AnswersCall seat.list.items asked result.1 result.0.list.items) }
-    ensures nameless { IfSome (asked_in request) (λ asked. IsNone asked.queue → IsTrue (is_refusal result.1)) }
-    ensures fits { IsTrue (is_call_answer result.1) }
+        AnswersCall J.first.broker.directory seat.list.items asked result.1 result.0.list.items) }
+    ensures nameless { IfSome (asked_in request) (λ asked.
+        IsNone asked.queue → IsTrue (is_nameless_refusal result.1)) }
+    ensures fits { IfSome (asked_in request) (λ asked. IsTrue (is_call_answer result.1)) }
     ensures other { IfNone (asked_in request)
         ((result.1 ≡ AnyAnswer.Refused Refusal.BadRequest) × (result.0.list.items ≡ seat.list.items)) }
 {

@@ -17,6 +17,7 @@ ghost use Rattle.directory.specs.declared.creation.Creation.{Creation};
 ghost use Rattle.directory.specs.declared.queue.Queue.{Queue};
 ghost use Rattle.directory.specs.declared.recovery.DirectoryRecovery.{DirectoryRecovery};
 
+use crate::limits::{CREATION_STEPS, MAX_DIRECTORY_STEPS, MIN_DIRECTORY_STEPS};
 use arena::{BLOCKS_FROM, SLOTS};
 
 /// A directory at rest is what the kept words say, and what the cached ones do. It stays at rest where words are
@@ -98,10 +99,10 @@ pub fn creations_go_on()
         → ComesTo (after_one counts (creation_access creation) ws) creation.queue directory (successor creation) }
 {}
 
-/// A creation takes eight steps.
+/// A creation takes [`CREATION_STEPS`] steps.
 #[tactic(auto, using(crate::proofs::Creations::creation_less))]
 pub fn creations_end()
-    ensures begin { (slot : SlotId) (queue : Queue) → left_at (new_creation slot queue).at ≡ 8 }
+    ensures begin { (slot : SlotId) (queue : Queue) → left_at (new_creation slot queue).at ≡ CREATION_STEPS }
     ensures step { (creation : Creation) → left_after (successor creation) + 1 ≡ left_at creation.at }
 {}
 
@@ -142,10 +143,10 @@ pub fn recoveries_go_on()
         IfSome (recovered recovery (value_found counts access ws)).opened (λ slot. IsOpenSlot ws.kept slot.0) }
 {}
 
-/// A recovery takes 32 steps at most, and 8 at least.
+/// A recovery takes [`MAX_DIRECTORY_STEPS`] steps at most, and [`MIN_DIRECTORY_STEPS`] at least.
 pub fn recoveries_end()
-    ensures most { most_left boot_recovery ≡ 32 }
-    ensures least { least_left boot_recovery ≡ 8 }
+    ensures most { most_left boot_recovery ≡ MAX_DIRECTORY_STEPS }
+    ensures least { least_left boot_recovery ≡ MIN_DIRECTORY_STEPS }
     ensures step { (recovery : DirectoryRecovery) (found : ℕ) → IsOneLess recovery (recovered recovery found).after }
 {}
 

@@ -4,6 +4,7 @@
 
 mod creation;
 mod laws;
+mod limits;
 mod name;
 mod places;
 mod queue;
@@ -17,6 +18,7 @@ pub use laws::{
     directories_are_sound, directories_begin, directories_stay, directories_stay_before_blocks,
     heads_stay, recoveries_begin, recoveries_end, recoveries_go_on, recoveries_stay,
 };
+pub use limits::{CREATION_STEPS, MAX_DIRECTORY_STEPS, MIN_DIRECTORY_STEPS};
 pub use name::{NAME_BYTES, Name, words_spell_names};
 pub use queue::{Places, Queue};
 pub use recovery::{DirectoryPoint, DirectoryRecovery, Recovered};

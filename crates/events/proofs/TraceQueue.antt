@@ -1,10 +1,9 @@
 -- What the queue holds after all effects of a trace, and what becomes of the order, as the trace grows.
-use Rattle.std.proofs.Common.{ℕ, ◌≡◌, ◌≢◌, Bool, true, false, not, List, [], ◌∷◌, ◌++◌, refl, ap, subst, ◌∙◌}
-use Rattle.std.specs.Prelude.{All, Contains}
+use Rattle.std.proofs.Common.{ℕ, ◌≡◌, Bool, true, false, not, List, [], ◌∷◌, ◌++◌, refl, ap, ◌∙◌}
+use Rattle.std.specs.Prelude.{All}
 use Rattle.std.specs.List.{filter}
-use Rattle.std.proofs.lemmas.Bool.{eq-eqb}
 use Rattle.std.proofs.lemmas.List.{map-append}
-use Rattle.std.proofs.lemmas.List.Elements.{All-weaker, All-contains_itself, All-filter, filter_passes}
+use Rattle.std.proofs.lemmas.List.Elements.{filter_passes}
 use Rattle.words.specs.declared.call.Kind.{Kind}
 use Rattle.words.specs.declared.call.Reply.{Reply}
 use Rattle.words.specs.declared.call.Reply.TheVariants.{Empty}
@@ -14,13 +13,12 @@ use Rattle.events.specs.declared.event.Event.{Event}
 use Rattle.events.specs.Effects.{entry_of, order_of, with_effect, with_pending, is_pending_at, without_pending}
 use Rattle.events.specs.Effects.{with_settled, settled_effects}
 use Rattle.events.specs.Trace.{IsTrace, entries_of, queue_of}
-use Rattle.events.specs.Orders.{IsTakenAs, InOrder}
 use Rattle.events.specs.Parts.{IsPartOf}
 use Rattle.events.specs.Replay.{IsServed, call_at, queue_after_call, queue_after}
-use Rattle.events.proofs.Members.{contains_from_in, in_from_contains, in_order_from_taken, part_same, part_longer}
+use Rattle.events.proofs.Members.{part_same, part_longer}
 use Rattle.events.proofs.GrowingReplay.{runs_from_replays, queue_longer, queue_push, queue_kept, empty_leaves}
 use Rattle.events.proofs.EffectLists.{order_with_effect, order_with_pending, order_without_pending}
-use Rattle.events.proofs.EffectLists.{order_settled_effects, entries_with_settled, keeps_settled, entry_in_order}
+use Rattle.events.proofs.EffectLists.{order_settled_effects, entries_with_settled, keeps_settled}
 use Rattle.events.proofs.TraceEffects.{dropped_empty}
 
 -- more events change nothing
@@ -107,31 +105,3 @@ part_settled_effects effects = rw (order_settled_effects effects) (part_same (or
 -- after a crash every effect counts
 pub all_settled : (effects : List Effect) → All (λ x. x.settled ≡ true) (settled_effects effects)
 all_settled effects = filter_passes (λ e. e.settled) effects
-
--- what the call at p found and does not count is left out
-forgets : (p : ℕ) (x : Effect) → x.place ≡ p → x.settled ≡ false → not (is_pending_at p x) ≡ true → ⊥
-forgets p x same s pass = cc (s, eq-eqb x.place p same, pass)
-
--- where the call at p is not in the order, it has no effect once what it found is left out
-pub none_after_without : (p : ℕ) (effects : List Effect) → (InOrder (order_of effects) p → ⊥)
-    → All (λ x. x.place ≢ p) (without_pending p effects)
-none_after_without p effects out =
-    All-weaker (λ x. (x.settled ≡ true → x.place ≢ p) × (not (is_pending_at p x) ≡ true)) (λ x. x.place ≢ p)
-    (λ x is. go x x.settled refl is.0 is.1) (without_pending p effects) (λ k d lt. (settled k d lt, passes k d lt))
-  where
-    settled : All (λ x. x.settled ≡ true → x.place ≢ p) (without_pending p effects)
-    settled = All-filter (λ e. not (is_pending_at p e)) (λ x. x.settled ≡ true → x.place ≢ p) effects
-        (All-weaker (Contains effects) (λ x. x.settled ≡ true → x.place ≢ p) (λ x contained s same.
-        out (in_order_from_taken (order_of effects) p x.reply
-        (subst (λ (n : ℕ). IsTakenAs (order_of effects) n x.reply) same
-        (contains_from_in (order_of effects) _
-        (entry_in_order effects x s (in_from_contains effects x contained)))))) effects
-        (All-contains_itself effects))
-
-    passes : All (λ x. not (is_pending_at p x) ≡ true) (without_pending p effects)
-    passes = filter_passes (λ e. not (is_pending_at p e)) effects
-
-    go : (x : Effect) (s : Bool) → x.settled ≡ s → (x.settled ≡ true → x.place ≢ p) → not (is_pending_at p x) ≡ true
-        → x.place ≢ p
-    go x true s is pass same = is s same
-    go x false s is pass same = forgets p x same s pass

@@ -44,8 +44,8 @@ pub found_is : (w : State) (steps : ℕ) (told : List Told) (content : List ℕ)
     → told ≡ map (told_at w) (range_with_len 0 MAX_CLIENTS) → content ≡ kept_content w → IsTrue ok
     → record { steps = steps; told = told; content = content; ok = ok } ≡ found_in w steps
 unfolding found_in
-found_is w steps told content ok is_told holds right =
-    ap (λ t. record { steps = steps; told = t; content = content; ok = ok }) is_told
+found_is w steps told content ok is_statement holds right =
+    ap (λ t. record { steps = steps; told = t; content = content; ok = ok }) is_statement
     ∙ ap (λ l. record {
       steps = steps;
       told = map (told_at w) (range_with_len 0 MAX_CLIENTS);

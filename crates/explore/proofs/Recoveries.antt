@@ -1,5 +1,5 @@
 -- Steps of recovery are the first and then the rest.
-use Rattle.std.proofs.Common.{[], ◌∷◌, ◌≡◌, refl, false, true, ℕ, suc, ◌<◌, sym, ap, ◌∙◌, arith}
+use Rattle.std.proofs.Common.{[], ◌∷◌, ◌≡◌, refl, false, ℕ, suc, ◌<◌, sym, ap, ◌∙◌, arith}
 use Rattle.std.specs.Prelude.{Bool, Option, None, Some, Result, Ok, Err}
 use Rattle.words.specs.declared.refusal.Refusal.{Refusal}
 use Rattle.interleave.specs.State.{State, recover_with, recover_result_with, after_recover, recover_result}
@@ -31,15 +31,6 @@ lines_by_first more play r is =
     ap (λ x.
     recover_then x (recovery_lines more (play_after_recovery_step play)) (ready_lines (play_after_recovery_step play))
     (λ refusal. Refused refusal ∷ [])) is
-
--- the one after which the queue is ready is the last
-pub ends_ready : (more : ℕ) (play : Play) → recover_result false play.world ≡ Ok true
-    → after_recovery (suc more) play ≡ play_after_recovery_step play
-ends_ready more play is = by_first more play (Ok true) is
-
-pub gives_ready : (more : ℕ) (play : Play) → recover_result false play.world ≡ Ok true
-    → recovery_lines (suc more) play ≡ ready_lines (play_after_recovery_step play)
-gives_ready more play is = lines_by_first more play (Ok true) is
 
 -- and so is one that is refused
 pub ends_refused : (more : ℕ) (play : Play) (refusal : Refusal) → recover_result false play.world ≡ Err refusal

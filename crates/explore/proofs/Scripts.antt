@@ -1,61 +1,31 @@
 -- How what a script says grows by a line.
 use Rattle.std.proofs.Common.{◌≡◌, ℕ, ◌<◌, ◌≤◌, ◌+◌, ◌-◌, Bool, true, false, cond, List, [], ◌∷◌, ◌++◌, length, take, get_or, filter, map, sym, ap, subst, ◌∙◌, arith, refl, length-append}
-use Rattle.std.proofs.lemmas.List.{map-append, append-nil, take_more, length-take}
-use Rattle.std.proofs.lemmas.List.Elements.{filter-append, All-nil, All-head, All-tail, All-push}
+use Rattle.std.proofs.lemmas.List.{map-append, take_more, length-take}
+use Rattle.std.proofs.lemmas.List.Elements.{filter-append, All-head, All-tail, All-push}
 use Rattle.std.specs.Prelude.{Option, Some, None, All, not}
-use Rattle.explore.specs.Lines.{words_of, is_told}
+use Rattle.explore.specs.Lines.{words_of, is_statement}
 use Rattle.words.specs.declared.call.Kind.{Kind}
 use Rattle.words.specs.declared.call.Kind.TheVariants.{Durable, Log}
-use Rattle.explore.specs.Grammar.{queue_words, kind_word, command_words, is_on, IsServed, SaysQueue, SaysCommand}
+use Rattle.explore.specs.Grammar.{queue_words, kind_word, command_words, is_on, IsServed, SaysCommand}
 use Rattle.explore.specs.Script.{Says, Continues, EndsBadly, IsFirstBad}
 use Rattle.std.proofs.lemmas.Bool.{not-false}
 use Rattle.explore.specs.declared.limits.TheConstants.{MAX_LINES}
 use Rattle.explore.specs.declared.command.Command.{Command}
 use Rattle.explore.specs.declared.command.QueueLine.{QueueLine}
 
-told_more : (lines : List (List ℕ)) (line : List ℕ) → is_told line ≡ true → map words_of (filter is_told (lines ++ line ∷ [])) ≡ map words_of (filter is_told lines) ++ words_of line ∷ []
-told_more lines line told =
-    ap (map words_of) (filter-append is_told lines (line ∷ []) ∙ ap (λ (b : Bool). filter is_told lines ++ cond b (line ∷ []) []) told)
-    ∙ map-append words_of (filter is_told lines) (line ∷ [])
-
-told_same : (lines : List (List ℕ)) (line : List ℕ) → is_told line ≡ false → map words_of (filter is_told (lines ++ line ∷ [])) ≡ map words_of (filter is_told lines)
-told_same lines line told =
-    ap (map words_of) (filter-append is_told lines (line ∷ []) ∙ ap (λ (b : Bool). filter is_told lines ++ cond b (line ∷ []) []) told ∙ append-nil (filter is_told lines))
+statements_more : (lines : List (List ℕ)) (line : List ℕ) → is_statement line ≡ true → map words_of (filter is_statement (lines ++ line ∷ [])) ≡ map words_of (filter is_statement lines) ++ words_of line ∷ []
+statements_more lines line told =
+    ap (map words_of) (filter-append is_statement lines (line ∷ []) ∙ ap (λ (b : Bool). filter is_statement lines ++ cond b (line ∷ []) []) told)
+    ∙ map-append words_of (filter is_statement lines) (line ∷ [])
 
 one_more : (lines : List (List ℕ)) (line : List ℕ) → length lines < MAX_LINES → length (lines ++ line ∷ []) ≤ MAX_LINES
 one_more lines line few = omega (arith, length-append lines (line ∷ []))
 
-pub says_skip : (lines : List (List ℕ)) (line : List ℕ) (queue : Option QueueLine) (commands : List Command) → Says lines queue commands → length lines < MAX_LINES → is_told line ≡ false → Says (lines ++ line ∷ []) queue commands
-says_skip lines line queue commands says few told = record {
-  few = one_more lines line few;
-  words = told_same lines line told ∙ says.words;
-  queue_first = says.queue_first;
-  queue_served = says.queue_served;
-  commands_served = says.commands_served;
-  of_kind = says.of_kind;
-}
-
-pub says_queue : (lines : List (List ℕ)) (line : List ℕ) (queue : QueueLine) (commands : List Command) → Says lines None commands → length lines < MAX_LINES → is_told line ≡ true → SaysQueue line queue → Says (lines ++ line ∷ []) (Some queue) commands
-says_queue lines line queue commands says few told line_says =
-    let none : commands ≡ [] = says.queue_first refl in
-    record {
-      few = one_more lines line few;
-      words =
-          told_more lines line told
-          ∙ ap (λ ws. ws ++ words_of line ∷ []) (says.words ∙ ap (map command_words) none)
-          ∙ ap (λ w. w ∷ []) line_says.words
-          ∙ ap (λ cs. queue_words queue ∷ map command_words cs) (sym none);
-      queue_first = λ e. absurd (cc);
-      queue_served = line_says.served;
-      commands_served = says.commands_served;
-      of_kind = subst (All (λ command. is_on queue.kind command ≡ true)) (sym none) (All-nil (λ command. is_on queue.kind command ≡ true));
-    }
-
-pub says_command : (lines : List (List ℕ)) (line : List ℕ) (queue : QueueLine) (commands : List Command) (command : Command) → Says lines (Some queue) commands → length lines < MAX_LINES → is_told line ≡ true → SaysCommand line command → is_on queue.kind command ≡ true → Says (lines ++ line ∷ []) (Some queue) (commands ++ command ∷ [])
+pub says_command : (lines : List (List ℕ)) (line : List ℕ) (queue : QueueLine) (commands : List Command) (command : Command) → Says lines (Some queue) commands → length lines < MAX_LINES → is_statement line ≡ true → SaysCommand line command → is_on queue.kind command ≡ true → Says (lines ++ line ∷ []) (Some queue) (commands ++ command ∷ [])
 says_command lines line queue commands command says few told line_says on = record {
   few = one_more lines line few;
   words =
-      told_more lines line told
+      statements_more lines line told
       ∙ ap (λ ws. ws ++ words_of line ∷ []) says.words
       ∙ ap (λ w. (queue_words queue ∷ map command_words commands) ++ w ∷ []) line_says.words
       ∙ ap (λ ws. queue_words queue ∷ ws) (sym (map-append command_words commands (command ∷ [])));
@@ -79,27 +49,15 @@ same_kind Durable Log e = let long : 7 ≡ 3 = ap length e in absurd (omega (ari
 same_kind Log Durable e = let long : 3 ≡ 7 = ap length e in absurd (omega (arith, long))
 same_kind Log Log e = refl
 
--- a line that is no queue's can't be the first
-pub bad_first : (lines : List (List ℕ)) (line : List ℕ) (commands : List Command) → Says lines None commands → is_told line ≡ true → ((queue : QueueLine) → SaysQueue line queue → ⊥) → (queue : Option QueueLine) (more : List Command) → Says (lines ++ line ∷ []) queue more → ⊥
-bad_first lines line commands says told never None more bad =
-    let some : map words_of (filter is_told lines) ++ words_of line ∷ [] ≡ map command_words more = sym (told_more lines line told) ∙ bad.words in
-    let none : map command_words more ≡ [] = ap (map command_words) (bad.queue_first refl) in
-    let long : length (map words_of (filter is_told lines) ++ words_of line ∷ []) ≡ 0 = ap length (some ∙ none) in
-    omega (arith, long, length-append (map words_of (filter is_told lines)) (words_of line ∷ []))
-bad_first lines line commands says told never (Some queue) more bad =
-    let before : map words_of (filter is_told lines) ≡ [] = says.words ∙ ap (map command_words) (says.queue_first refl) in
-    let same : words_of line ∷ [] ≡ queue_words queue ∷ map command_words more = ap (λ ws. ws ++ words_of line ∷ []) (sym before) ∙ sym (told_more lines line told) ∙ bad.words in
-    never queue (record { words = cc; served = bad.queue_served })
-
 -- a line that is no command's can't come later
-pub bad_later : (lines : List (List ℕ)) (line : List ℕ) (first : QueueLine) (commands : List Command) → Says lines (Some first) commands → is_told line ≡ true → ((command : Command) → SaysCommand line command → is_on first.kind command ≡ true → ⊥) → (queue : Option QueueLine) (more : List Command) → Says (lines ++ line ∷ []) queue more → ⊥
+pub bad_later : (lines : List (List ℕ)) (line : List ℕ) (first : QueueLine) (commands : List Command) → Says lines (Some first) commands → is_statement line ≡ true → ((command : Command) → SaysCommand line command → is_on first.kind command ≡ true → ⊥) → (queue : Option QueueLine) (more : List Command) → Says (lines ++ line ∷ []) queue more → ⊥
 bad_later lines line first commands says told never None more bad =
-    let some : map words_of (filter is_told lines) ++ words_of line ∷ [] ≡ map command_words more = sym (told_more lines line told) ∙ bad.words in
+    let some : map words_of (filter is_statement lines) ++ words_of line ∷ [] ≡ map command_words more = sym (statements_more lines line told) ∙ bad.words in
     let none : map command_words more ≡ [] = ap (map command_words) (bad.queue_first refl) in
-    let long : length (map words_of (filter is_told lines) ++ words_of line ∷ []) ≡ 0 = ap length (some ∙ none) in
-    omega (arith, long, length-append (map words_of (filter is_told lines)) (words_of line ∷ []))
+    let long : length (map words_of (filter is_statement lines) ++ words_of line ∷ []) ≡ 0 = ap length (some ∙ none) in
+    omega (arith, long, length-append (map words_of (filter is_statement lines)) (words_of line ∷ []))
 bad_later lines line first commands says told never (Some queue) more bad =
-    let same : queue_words first ∷ (map command_words commands ++ words_of line ∷ []) ≡ queue_words queue ∷ map command_words more = ap (λ ws. ws ++ words_of line ∷ []) (sym says.words) ∙ sym (told_more lines line told) ∙ bad.words in
+    let same : queue_words first ∷ (map command_words commands ++ words_of line ∷ []) ≡ queue_words queue ∷ map command_words more = ap (λ ws. ws ++ words_of line ∷ []) (sym says.words) ∙ sym (statements_more lines line told) ∙ bad.words in
     let last = last_command (λ c. is_on queue.kind c ≡ true) (map command_words commands) (words_of line) more (cc) bad.commands_served bad.of_kind in
     let words : kind_word queue.kind ≡ kind_word first.kind = cc in
     never last.0 (record { words = last.1; served = last.2 }) (ap (λ k. is_on k last.0) (same_kind first.kind queue.kind (sym words)) ∙ last.3)
@@ -109,8 +67,8 @@ pub too_many : (lines : List (List ℕ)) (line : List ℕ) (queue : Option Queue
 too_many lines line queue commands many says = let few = says.few in omega (arith, few, length-append lines (line ∷ []))
 
 -- once there is a queue, a line that is no command's of its kind ends badly
-pub ends_badly : (queue : QueueLine) (commands : List Command) (line : List ℕ) → not (is_told line) ≡ false → ((command : Command) → SaysCommand line command → is_on queue.kind command ≡ true → ⊥) → EndsBadly (Some queue) commands line
-ends_badly queue commands line told never = λ lines says. bad_later lines line queue commands says (not-false (is_told line) told) never
+pub ends_badly : (queue : QueueLine) (commands : List Command) (line : List ℕ) → not (is_statement line) ≡ false → ((command : Command) → SaysCommand line command → is_on queue.kind command ≡ true → ⊥) → EndsBadly (Some queue) commands line
+ends_badly queue commands line told never = λ lines says. bad_later lines line queue commands says (not-false (is_statement line) told) never
 
 -- the lines up to the one at k
 next_lines : (lines : List (List ℕ)) (k : ℕ) (line : List ℕ) → (k < length lines) × (line ≡ get_or lines k line) → take (k + 1) lines ≡ take k lines ++ line ∷ []

@@ -15,9 +15,9 @@ abbrev pub words_of : List ℕ → List (List ℕ)
 words_of line = slice_split (λ byte. byte == 32) line
 
 -- whether a line says something: an empty line and a comment, which begins with `#`, are skipped
-abbrev pub is_told : List ℕ → Bool
-is_told [] = false
-is_told (byte ∷ bytes) = if byte == 35 then false else true
+abbrev pub is_statement : List ℕ → Bool
+is_statement [] = false
+is_statement (byte ∷ bytes) = if byte == 35 then false else true
 
 -- a word begins with no sign, and with a zero only where that is all of it
 pub record HasPlainStart (word : List ℕ) : Type 0 where

@@ -1,6 +1,6 @@
 -- What a text says as a script, and which of its lines is the first bad one.
 use Rattle.std.specs.Prelude.{◌≡◌, ◌≤◌, ◌<◌, ℕ, ◌-◌, List, [], ◌∷◌, ◌++◌, Option, Some, None, true, IfSome, length, map, take, filter, All}
-use Rattle.explore.specs.Lines.{words_of, is_told}
+use Rattle.explore.specs.Lines.{words_of, is_statement}
 use Rattle.explore.specs.Grammar.{queue_words, command_words, IsServedQueue, IsServed, is_on}
 use Rattle.explore.specs.declared.limits.TheConstants.{MAX_LINES}
 use Rattle.explore.specs.declared.command.Command.{Command}
@@ -15,7 +15,7 @@ script_words (Some queue) commands = queue_words queue ∷ map command_words com
 -- and then its commands'
 pub record Says (lines : List (List ℕ)) (queue : Option QueueLine) (commands : List Command) : Type 0 where
   pub few : length lines ≤ MAX_LINES
-  pub words : map words_of (filter is_told lines) ≡ script_words queue commands
+  pub words : map words_of (filter is_statement lines) ≡ script_words queue commands
   pub queue_first : queue ≡ None → commands ≡ []
   pub queue_served : IfSome queue IsServedQueue
   pub commands_served : All IsServed commands

@@ -1,9 +1,7 @@
 //! What a crash after some acts comes to.
 
-ghost use Rattle.std.specs.Prelude.{◌≡◌, ◌↔◌, IsTrue, IfOk, IfErr, length, map};
+ghost use Rattle.std.specs.Prelude.{◌≡◌, IfOk, IfErr, length, map};
 ghost use Rattle.std.specs.List.{range_with_len};
-ghost use Rattle.events.specs.Explains.{IsExplained};
-ghost use Rattle.events.specs.Replay.{queue_after};
 ghost use Rattle.explore.specs.Points.{found_of, found_in, found_after};
 ghost use Rattle.explore.specs.Acts.{shape_in};
 ghost use Rattle.explore.specs.Transcript.{told_at};
@@ -13,7 +11,7 @@ use crate::evictions::{Evictions, evict_words};
 use crate::laid::Laid;
 use crate::spare::Spare;
 use arena::Layout;
-use history::{History, Order, check, replay};
+use history::check_content;
 use interleave::{Act, World};
 use std::alloc::Global;
 use words::{Client, MAX_CLIENTS, Refusal, Reports, Told};
@@ -23,32 +21,12 @@ use words::{Client, MAX_CLIENTS, Refusal, Reports, Told};
 pub struct Point {
     /// How many steps recovery had.
     pub steps: u64,
-    /// What each client is told, and None from the last client on.
+    /// What each client is told, and None past the last client.
     pub told: Reports,
     /// What the queue holds, the first value first.
     pub content: Vec<u32>,
     /// Whether the order in which calls took effect explains all that happened, and its replay leaves that content.
     pub ok: bool,
-}
-
-/// Whether the order explains the history, and its replay leaves this content.
-fn is_right(
-    alloc: Global,
-    history: &History,
-    order: &Order,
-    content: &[u32],
-) -> Result<bool, Refusal>
-    ensures right { IfOk result (λ right. IsTrue right ↔ (IsExplained history.now order.now
-        × (content.now ≡ queue_after history.now.events.items history.now.base.items order.now.entries.items))) }
-    ensures errors { IfErr result (λ e. e ≡ Refusal.NoMemory) }
-{
-    if !check(history, order) {
-        return Ok(false);
-    }
-    match replay(alloc, history, order)? {
-        Ok(left) => Ok(left.as_slice() == content),
-        Err(_) => Ok(false),
-    }
 }
 
 /// What each client was told.
@@ -68,7 +46,7 @@ fn found<L: Layout + Drop>(alloc: Global, world: &World<L>, steps: u32) -> Resul
     ensures errors { IfErr result (λ e. e ≡ Refusal.NoMemory) }
 {
     let content = world.content()?;
-    let ok = is_right(alloc, world.history(), &world.order()?, &content)?;
+    let ok = check_content(alloc, world.history(), &world.order()?, &content)?;
     Ok(Point {
         steps: u64::from(steps),
         told: reports(world),

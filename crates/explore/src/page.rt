@@ -52,25 +52,39 @@ just before it, the steps of recovery, what each client is told then, and what t
 </html>
 ";
 
-/// How wide the labels are, and a column.
-const LABELS: u64 = 120;
+/// How wide the labels are, and a column, and where its middle is.
+const LABELS_WIDTH: u64 = 120;
 
-const COLUMN: u64 = 24;
+const COLUMN_WIDTH: u64 = 24;
 
-/// How far down the parts of a column end: the act, the evictions, the steps of recovery. The clients come next.
-const ACT: u64 = 150;
+const MIDDLE: u64 = 12;
 
-const EVICTIONS: u64 = 172;
+/// How far down the parts of a column end: its number, the act, the evictions, the steps of recovery. The clients come
+/// next.
+const NUMBER_END: u64 = 18;
 
-const STEPS: u64 = 290;
+const ACT_END: u64 = 150;
 
-const CLIENT: u64 = 100;
+const EVICTIONS_END: u64 = 172;
+
+const STEPS_END: u64 = 290;
+
+/// How high what a client is told is.
+const CLIENT_HEIGHT: u64 = 100;
 
 /// The most that a bar is high.
-const BAR: u64 = 90;
+const BAR_HEIGHT: u64 = 90;
 
 /// How wide a character is.
-const CHARACTER: u64 = 7;
+const CHARACTER_WIDTH: u64 = 7;
+
+/// How far above the end of its part an upright text begins, and a number stands.
+const TEXT_GAP: u64 = 8;
+
+const NUMBER_GAP: u64 = 7;
+
+/// How far above the end of the picture the contents begin; below them is the colour of the point.
+const CONTENT_GAP: u64 = 12;
 
 /// An act as the page spells it.
 #[derive(Drop)]
@@ -156,24 +170,57 @@ fn sizes_of(alloc: Global, clients: usize, points: &[Point]) -> Result<Sizes, Al
         most_steps = most_steps.max(point.steps);
         longest = longest.max(values(alloc, &point.content)?.len() as u64);
     }
-    let contents = STEPS.saturating_add(CLIENT.saturating_mul(clients as u64));
+    let contents = STEPS_END.saturating_add(CLIENT_HEIGHT.saturating_mul(clients as u64));
     Ok(Sizes {
         clients,
         most_steps,
         contents,
         end: contents
-            .saturating_add(longest.saturating_mul(CHARACTER))
-            .saturating_add(20),
+            .saturating_add(longest.saturating_mul(CHARACTER_WIDTH))
+            .saturating_add(TEXT_GAP + CONTENT_GAP),
     })
 }
 
-/// A text that is read from below, which begins at this height.
-fn upright(text: &mut String, from: u64, what: &str) -> Result<(), AllocError> {
+/// A text that is read from below, in the part that ends here.
+fn upright(text: &mut String, end: u64, what: &str) -> Result<(), AllocError> {
     writeln!(
         text,
         "<text transform=\"translate(16,{}) rotate(-90)\">{what}</text>",
-        from.saturating_sub(8)
+        end.saturating_sub(TEXT_GAP)
     )
+}
+
+/// The steps of a point's recovery, as a bar with their number above it.
+fn bar(text: &mut String, steps: u64, most_steps: u64) -> Result<(), AllocError> {
+    let height = steps.saturating_mul(BAR_HEIGHT) / most_steps.max(1);
+    let top = (STEPS_END - TEXT_GAP).saturating_sub(height);
+    writeln!(
+        text,
+        "<rect class=\"bar\" x=\"4\" y=\"{top}\" width=\"16\" height=\"{height}\"/>"
+    )?;
+    writeln!(
+        text,
+        "<text class=\"number\" x=\"{MIDDLE}\" y=\"{}\">{steps}</text>",
+        top.saturating_sub(4)
+    )
+}
+
+/// What each client is told, in a box of its colour.
+fn told_boxes(alloc: Global, text: &mut String, told: &[Told]) -> Result<(), AllocError> {
+    let mut end = STEPS_END;
+    for told in told {
+        let top = end.saturating_add(2);
+        end = end.saturating_add(CLIENT_HEIGHT);
+        writeln!(
+            text,
+            "<rect class=\"{}\" x=\"1\" y=\"{top}\" width=\"22\" height=\"{}\" rx=\"4\"/>",
+            colour(*told),
+            CLIENT_HEIGHT - 4
+        )?;
+        let words = format!(in alloc; "{told}")?;
+        upright(text, end, words.as_str())?;
+    }
+    Ok(())
 }
 
 /// A column: one point, after this act.
@@ -185,47 +232,29 @@ fn column(
     act: &str,
     evicted: usize,
 ) -> Result<(), AllocError> {
-    upright(text, ACT, act)?;
+    upright(text, ACT_END, act)?;
     writeln!(
         text,
-        "<text class=\"number faint\" x=\"12\" y=\"{}\">{evicted}</text>",
-        EVICTIONS - 7
+        "<text class=\"number faint\" x=\"{MIDDLE}\" y=\"{}\">{evicted}</text>",
+        EVICTIONS_END - NUMBER_GAP
     )?;
-    let height = point.steps.saturating_mul(BAR) / sizes.most_steps.max(1);
-    let top = STEPS.saturating_sub(8).saturating_sub(height);
-    writeln!(
+    bar(text, point.steps, sizes.most_steps)?;
+    told_boxes(
+        alloc,
         text,
-        "<rect class=\"bar\" x=\"4\" y=\"{top}\" width=\"16\" height=\"{height}\"/>"
+        &point.told[..sizes.clients.min(point.told.len())],
     )?;
-    writeln!(
-        text,
-        "<text class=\"number\" x=\"12\" y=\"{}\">{}</text>",
-        top.saturating_sub(4),
-        point.steps
-    )?;
-    let mut end = STEPS;
-    for told in &point.told[..sizes.clients.min(point.told.len())] {
-        let from = end.saturating_add(2);
-        end = end.saturating_add(CLIENT);
-        writeln!(
-            text,
-            "<rect class=\"{}\" x=\"1\" y=\"{from}\" width=\"22\" height=\"{}\" rx=\"4\"/>",
-            colour(*told),
-            CLIENT - 4
-        )?;
-        let words = format!(in alloc; "{told}")?;
-        upright(text, end, words.as_str())?;
-    }
+    let content = values(alloc, &point.content)?;
     upright(
         text,
-        sizes.end.saturating_sub(12),
-        values(alloc, &point.content)?.as_str(),
+        sizes.end.saturating_sub(CONTENT_GAP),
+        content.as_str(),
     )?;
     let ok = if point.ok { "ok" } else { "bad" };
     writeln!(
         text,
         "<rect class=\"{ok}\" x=\"1\" y=\"{}\" width=\"22\" height=\"6\"/>",
-        sizes.end.saturating_sub(8)
+        sizes.end.saturating_sub(TEXT_GAP)
     )
 }
 
@@ -249,21 +278,39 @@ fn label(
 
 /// The labels of all parts.
 fn labels(alloc: Global, text: &mut String, sizes: Sizes, width: u64) -> Result<(), AllocError> {
-    label(text, width, 18, ACT - 8, "crash after")?;
-    label(text, width, ACT, EVICTIONS - 7, "words kept")?;
-    label(text, width, EVICTIONS, STEPS - 8, "recovery steps")?;
-    let mut from = STEPS;
+    label(text, width, NUMBER_END, ACT_END - TEXT_GAP, "crash after")?;
+    label(
+        text,
+        width,
+        ACT_END,
+        EVICTIONS_END - NUMBER_GAP,
+        "words kept",
+    )?;
+    label(
+        text,
+        width,
+        EVICTIONS_END,
+        STEPS_END - TEXT_GAP,
+        "recovery steps",
+    )?;
+    let mut from = STEPS_END;
     for client in 0..sizes.clients {
-        let end = from.saturating_add(CLIENT);
+        let end = from.saturating_add(CLIENT_HEIGHT);
         let what = format!(in alloc; "client {client} is told")?;
-        label(text, width, from, end.saturating_sub(8), what.as_str())?;
+        label(
+            text,
+            width,
+            from,
+            end.saturating_sub(TEXT_GAP),
+            what.as_str(),
+        )?;
         from = end;
     }
     label(
         text,
         width,
         sizes.contents,
-        sizes.end.saturating_sub(12),
+        sizes.end.saturating_sub(CONTENT_GAP),
         "content",
     )
 }
@@ -301,18 +348,18 @@ fn columns(
     setting: &Setting,
     report: &Report,
 ) -> Result<(), AllocError> {
-    let mut left = LABELS;
+    let mut left = LABELS_WIDTH;
     let mut act = String::from_str(alloc, "at first")?;
     for (number, point) in report.points.iter().enumerate() {
         writeln!(text, "<g transform=\"translate({left},0)\">")?;
         writeln!(
             text,
-            "<text class=\"number\" x=\"12\" y=\"12\">{number}</text>"
+            "<text class=\"number\" x=\"{MIDDLE}\" y=\"12\">{number}</text>"
         )?;
         let evicted = evicted_count(setting.evictions, setting.words, number as u64);
         column(alloc, text, sizes, point, act.as_str(), evicted)?;
         writeln!(text, "</g>")?;
-        left = left.saturating_add(COLUMN);
+        left = left.saturating_add(COLUMN_WIDTH);
         if let Some(next) = setting.acts.get(number) {
             act = format!(in alloc; "{}", Spelt(*next))?;
         }
@@ -320,8 +367,8 @@ fn columns(
     Ok(())
 }
 
-/// The whole page.
-fn written(
+/// Writes the whole page.
+fn write_page(
     alloc: Global,
     text: &mut String,
     setting: &Setting,
@@ -329,9 +376,9 @@ fn written(
 ) -> Result<(), AllocError> {
     let clients = setting.queue.clients as usize;
     let sizes = sizes_of(alloc, clients, &report.points)?;
-    let width = COLUMN
+    let width = COLUMN_WIDTH
         .saturating_mul(report.points.len() as u64)
-        .saturating_add(LABELS);
+        .saturating_add(LABELS_WIDTH);
     write!(text, "{HEAD}")?;
     heading(text, setting, report)?;
     writeln!(
@@ -349,7 +396,7 @@ pub(crate) fn page(alloc: Global, setting: &Setting, report: &Report) -> Result<
     ensures errors { IfErr result (λ e. e ≡ Refusal.NoMemory) }
 {
     let mut text = String::new(alloc);
-    match written(alloc, &mut text, setting, report) {
+    match write_page(alloc, &mut text, setting, report) {
         Ok(()) => Ok(text.into_bytes()),
         Err(_) => Err(Refusal::NoMemory),
     }

@@ -1,7 +1,7 @@
 //! A script read from its text.
 
 ghost use Rattle.std.specs.Prelude.{MatchOption, ◌≡◌, ◌⊎◌, ◌<◌, ℕ, List, ◌∷◌, [], ◌++◌, Option, None, Some, Ok, IfOk, IfErr, IfNone, length, not, true, false};
-ghost use Rattle.explore.specs.Lines.{lines_of, without_last_newline, is_told};
+ghost use Rattle.explore.specs.Lines.{lines_of, without_last_newline, is_statement};
 ghost use Rattle.explore.specs.Grammar.{SaysCommand, is_on};
 ghost use Rattle.explore.specs.declared.command.Command.{Command};
 ghost use Rattle.explore.specs.Script.{Says, IsFirstBad, Continues, EndsBadly};
@@ -15,7 +15,7 @@ use words::{Kind, Refusal};
 
 /// Whether a line is empty or a comment.
 fn is_skipped(line: &[u8]) -> bool
-    ensures { result ≡ not (is_told line.now) }
+    ensures { result ≡ not (is_statement line.now) }
 {
     match line.first() {
         None => true,
@@ -73,8 +73,8 @@ fn add_line(
     }
 }
 
-/// The script that a text says. It is refused where memory is (NoMemory), and else where a line is none that is
-/// served, or is past the [`MAX_LINES`]th: BadLine, with the number of the first such line.
+/// The script that a text says. It is refused where memory is (NoMemory), and else where a line is not in
+/// the grammar, or is past the [`MAX_LINES`]th: BadLine, with the number of the first such line.
 pub fn parse_script(alloc: Global, text: &[u8]) -> Result<Script, Refusal>
     ensures script { IfOk result (λ script. Says (lines_of text.now) script.queue script.commands) }
     ensures errors { IfErr result (λ e. (e ≡ Refusal.NoMemory)

@@ -172,15 +172,6 @@ pass_fails events order client k call from reply history keeps so_far returned o
     not_both events client p begins ends = ⊎_elim (λ returned. cc (begins.1.1, returned.1))
         (λ crash. cc (begins.1.1, crash)) ends
 
--- the pass begins with nothing, and ends with every call
-pub pass_none : (events : List Event) (order : List Entry) (client : Client) → IsAnsweredTo events order client 0 0 0
-pass_none events order client = record {
-  last = λ way. absurd (omega (arith, way.before));
-  before = λ way. absurd (omega (arith, way.before));
-  answered = λ p e reply lt begins end returned. absurd (omega arith);
-  ended = λ some. absurd (omega arith);
-}
-
 pub pass_all : (events : List Event) (order : List Entry) (client : Client) (n call from : ℕ)
     → length events ≤ n → IsAnsweredTo events order client n call from → IsAnsweredOf events order client
 pass_all events order client n call from all so_far = record {

@@ -1,5 +1,5 @@
 -- Each client's calls stand in the order in ascending places, where none is named twice and precedence is kept.
-use Rattle.std.proofs.Common.{ℕ, zero, suc, ◌≡◌, ◌<◌, ◌≤◌, ◌+◌, ◌⊎◌, List, Option, Some, None, slice_get, get_or}
+use Rattle.std.proofs.Common.{ℕ, zero, suc, ◌≡◌, ◌<◌, ◌≤◌, ◌⊎◌, List, Option, Some, None, slice_get, get_or}
 use Rattle.std.proofs.Common.{length, inl, inr, refl, ap, arith, subst, sym, ◌∙◌, ⊎_elim, length-take}
 use Rattle.std.specs.Prelude.{All, EachIndex, IsSome}
 use Rattle.std.proofs.lemmas.Bool.{cases_lt, cases_eq}
@@ -14,106 +14,7 @@ use Rattle.events.specs.Explains.{KeepsPrecedence}
 use Rattle.events.specs.History.{BeginsAt, EndsAt, HasNoEnd, IsEnd, Precedes, IsHistory}
 use Rattle.events.specs.Orders.{IsNew}
 use Rattle.events.specs.Replay.{call_at, call_of}
-use Rattle.history.specs.Sweeps.{HasCallBefore, AscendsTo, Ascends}
-
--- an entry of another client changes nothing
-pub ascends_same : (events : List Event) (order : List Entry) (client : Client) (i next : ℕ) (d : Entry)
-    → i < length order → AscendsTo events order client i next
-    → (BeginsAt events client (get_or order i d).place → ⊥) → AscendsTo events order client (i + 1) next
-ascends_same events order client i next d within so_far other =
-    let is : (e : Entry) → slice_get order i ≡ Some e
-    → get_or order i d ≡ e = λ e at. get_or_from_slice_get order i e d at in
-    record {
-      each = λ a b x y lt below at_x at_y begins_x begins_y.
-          ⊎_elim
-          (λ old. so_far.each a b x y lt old at_x at_y begins_x begins_y)
-          (λ new.
-          let same : b ≡ i = omega arith in
-          absurd (other (subst (λ (e : Entry). BeginsAt events client e.place)
-          (sym (is y (ap (slice_get order) (sym same) ∙ at_y))) begins_y)))
-          (cases_lt b i);
-      below = λ a x lt at begins.
-          ⊎_elim
-          (λ old. so_far.below a x old at begins)
-          (λ new.
-          let same : a ≡ i = omega arith in
-          absurd (other (subst (λ (e : Entry). BeginsAt events client e.place)
-          (sym (is x (ap (slice_get order) (sym same) ∙ at))) begins)))
-          (cases_lt a i);
-      one = λ some. let has = so_far.one some in
-          record {
-            index = has.index;
-            before = omega (arith, has.before);
-            entry = has.entry;
-            at = has.at;
-            begins = has.begins;
-            last = has.last;
-          };
-    }
-
--- one of the client, not too low, is its last
-pub ascends_more : (events : List Event) (order : List Entry) (client : Client) (i next : ℕ) (d : Entry)
-    → i < length order → AscendsTo events order client i next
-    → BeginsAt events client (get_or order i d).place → next ≤ (get_or order i d).place
-    → AscendsTo events order client (i + 1) ((get_or order i d).place + 1)
-ascends_more events order client i next d within so_far begins high =
-    let is : (e : Entry) → slice_get order i ≡ Some e
-    → get_or order i d ≡ e = λ e at. get_or_from_slice_get order i e d at in
-    record {
-      each = λ a b x y lt below at_x at_y begins_x begins_y.
-          ⊎_elim
-          (λ old. so_far.each a b x y lt old at_x at_y begins_x begins_y)
-          (λ new.
-          let same : b ≡ i = omega arith in
-          let last : get_or order i d ≡ y = is y (ap (slice_get order) (sym same) ∙ at_y) in
-          let before : x.place < next = so_far.below a x (omega arith) at_x begins_x in
-          omega (arith, ap (λ (e : Entry). e.place) last, before, high))
-          (cases_lt b i);
-      below = λ a x lt at begins_x.
-          ⊎_elim
-          (λ old. let before : x.place < next = so_far.below a x old at begins_x in omega (arith, before, high))
-          (λ new.
-          let same : a ≡ i = omega arith in
-          let last : get_or order i d ≡ x = is x (ap (slice_get order) (sym same) ∙ at) in
-          omega (arith, ap (λ (e : Entry). e.place) last))
-          (cases_lt a i);
-      one = λ some. record {
-        index = i;
-        before = omega arith;
-        entry = get_or order i d;
-        at = slice_get-get_or order i d within;
-        begins = begins;
-        last = refl;
-      };
-    }
-
--- one too low is against it
-pub not_ascends : (events : List Event) (order : List Entry) (client : Client) (i next : ℕ) (d : Entry)
-    → i < length order → AscendsTo events order client i next
-    → BeginsAt events client (get_or order i d).place → (get_or order i d).place < next
-    → Ascends events order client → ⊥
-not_ascends events order client i next d within so_far begins low ascends =
-    let has : HasCallBefore events order client i next = so_far.one (omega (arith, low)) in
-    let lt : has.entry.place < (get_or order i d).place =
-    ascends.each has.index i has.entry (get_or order i d) has.before has.at
-    (slice_get-get_or order i d within) has.begins begins in
-    omega (arith, has.last, low, lt)
-
--- nothing is below nothing, and all entries are all
-pub ascends_none : (events : List Event) (order : List Entry) (client : Client) → AscendsTo events order client 0 0
-ascends_none events order client = record {
-  each = λ a b x y lt below at_x at_y begins_x begins_y. absurd (omega arith);
-  below = λ a x lt at begins. absurd (omega arith);
-  one = λ some. absurd (omega arith);
-}
-
-pub ascends_all : (events : List Event) (order : List Entry) (client : Client) (n next : ℕ) → length order ≤ n
-    → AscendsTo events order client n next → Ascends events order client
-ascends_all events order client n next all so_far = record {
-  each = λ i j x y lt at_x at_y begins_x begins_y.
-      let within : j < length order = slice_get_within order j y at_y in
-      so_far.each i j x y lt (omega arith) at_x at_y begins_x begins_y;
-}
+use Rattle.history.specs.Sweeps.{Ascends}
 
 -- what ends a call of the client can be told
 ends_or_not : (events : List Event) (client : Client) (k : ℕ) → EndsAt events client k ⊎ (EndsAt events client k → ⊥)

@@ -2,7 +2,7 @@
 use Rattle.std.proofs.Common.{ℕ, ◌≡◌, ◌<◌, ◌≤◌, ◌+◌, List, [], ◌∷◌, ◌++◌, Option, Some, None, get_or, length, take}
 use Rattle.std.proofs.Common.{drop, refl, ap, arith, sym, ◌∙◌, append-nil, length-take}
 use Rattle.std.specs.Prelude.{IfNone, option_to_list}
-use Rattle.std.proofs.lemmas.List.{append_assoc, drop_more, drop_all, get_or-take, take_more, drop-append-le}
+use Rattle.std.proofs.lemmas.List.{drop_more, drop_all, get_or-take, take_more, drop-append-le}
 use Rattle.std.proofs.lemmas.Option.{slice_get-get_or}
 use Rattle.std.proofs.lemmas.List.Concat.{flat_map-append}
 use Rattle.words.specs.declared.call.Call.{Call}
@@ -12,7 +12,7 @@ use Rattle.words.specs.PlainQueue.{reply_of, served}
 use Rattle.events.specs.declared.event.Event.{Event}
 use Rattle.events.specs.declared.event.Entry.{Entry}
 use Rattle.history.specs.Counting.{values_of_call, values_of_order}
-use Rattle.history.specs.Fronts.{values_between, queue_from, reply_of_front}
+use Rattle.history.specs.Fronts.{values_between, reply_of_front}
 use Rattle.events.specs.Replay.{call_at, queue_after, IsServed, IsRightAt}
 use Rattle.history.proofs.ReplaySteps.{right_here}
 
@@ -45,25 +45,11 @@ put_last events order from i d below within =
     ∙ ap (λ (vs : List ℕ). values_between events order from i ++ vs)
     (append-nil (values_of_call (call_at events (get_or order i d).place)))
 
-pub held_last : (events : List Event) (base : List ℕ) (order : List Entry) (taken from i : ℕ) (d : Entry)
-    → from ≤ i → i < length order
-    → queue_from events base order taken from (i + 1) ≡ queue_from events base order taken from i ++ values_of_call
-    (call_at events (get_or order i d).place)
-held_last events base order taken from i d below within =
-    ap (λ (vs : List ℕ). drop taken base ++ vs) (put_last events order from i d below within)
-    ∙ sym (append_assoc (drop taken base) (values_between events order from i)
-    (values_of_call (call_at events (get_or order i d).place)))
-
 -- what a dequeue answers by the front, and leaves
 pub reply_by_front : (queue rest : List ℕ) (front : Option ℕ) → queue ≡ option_to_list front ++ rest
     → IfNone front (queue ≡ []) → reply_of_front front ≡ reply_of queue Deq
 reply_by_front queue rest None is none = rw none refl
 reply_by_front queue rest (Some value) is none = rw is refl
-
-pub left_by_front : (queue rest : List ℕ) (front : Option ℕ) → queue ≡ option_to_list front ++ rest
-    → IfNone front (queue ≡ []) → served queue Deq ≡ rest
-left_by_front queue rest None is none = rw none (sym none ∙ is)
-left_by_front queue rest (Some value) is none = rw is refl
 
 -- the entry at i is right where its reply is the queue's
 pub right_by_reply : (events : List Event) (base : List ℕ) (order : List Entry) (i : ℕ) (d : Entry) (call : Call)

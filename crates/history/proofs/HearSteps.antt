@@ -1,7 +1,7 @@
 -- What a client is told, by its last call in the order.
 use Rattle.std.proofs.Common.{ℕ, ◌≡◌, ◌<◌, ◌≤◌, ◌+◌, ◌⊎◌, List, Option, Some, None, slice_get, get_or, length, inl, inr}
 use Rattle.std.proofs.Common.{refl, ap, arith, subst, sym, ◌∙◌, ⊎_elim}
-use Rattle.std.specs.Prelude.{EachIndex, IfSome}
+use Rattle.std.specs.Prelude.{EachIndex}
 use Rattle.std.proofs.lemmas.Bool.{cases_lt}
 use Rattle.std.proofs.lemmas.Option.{slice_get_within, slice_get-get_or, get_or_from_slice_get}
 use Rattle.words.specs.declared.call.Client.{Client}
@@ -11,7 +11,6 @@ use Rattle.words.specs.declared.call.Reply.{Reply}
 use Rattle.words.specs.declared.call.Reply.TheVariants.{Got, Empty}
 use Rattle.words.specs.declared.told.Outcome.{Outcome}
 use Rattle.words.specs.declared.told.Outcome.TheVariants.{NotTaken, Taken}
-use Rattle.words.specs.declared.told.Row.{Row}
 use Rattle.words.specs.declared.told.Row.TheVariants.{NoCall, Open, Empty as row_empty, Got as row_got}
 use Rattle.words.specs.declared.told.Told.{Told}
 use Rattle.words.specs.declared.told.Told.TheVariants.{None as told_none, Verdict as told_verdict, Row as told_row}
@@ -19,37 +18,14 @@ use Rattle.events.specs.declared.event.Event.{Event}
 use Rattle.events.specs.declared.event.Entry.{Entry}
 use Rattle.events.specs.History.{ReadyAt, BeginsAt}
 use Rattle.events.specs.Orders.{IsTakenAs, InOrder, IsNew}
-use Rattle.history.specs.Hearing.{IsOutcomeTaken, IsRowTaken, SaysTaken, SaysNotTaken, IsToldNotTakenIn, IsLastEntry}
-use Rattle.history.specs.Hearing.{IsLast, SaysLast, IsSaidLast, IsProgress, IsProgressTo, HasNoCall, IsToldAt}
+use Rattle.history.specs.Hearing.{IsOutcomeTaken, SaysTaken, SaysNotTaken, IsToldNotTakenIn, IsLastEntry}
+use Rattle.history.specs.Hearing.{IsSaidLast, IsProgress, IsProgressTo, HasNoCall, IsToldAt}
 use Rattle.history.specs.Hearing.{IsToldOfAll, BeginsSomeTold, IsLaterEntry, TellsSixteen}
 use Rattle.history.specs.Sweeps.{Ascends}
 use Rattle.events.specs.Telling.{BeginsTold, BeginsTaken, HasNoneTaken, IsOutcome, IsRow, Says, IsToldSome, IsToldBase}
 use Rattle.events.specs.Telling.{TellsAt}
 use Rattle.events.proofs.Interrupted.{one_reply}
 use Rattle.events.proofs.Members.{taken_at, in_order_from_taken, taken_from_in_order}
-
--- what says that a call took effect, or that it did not, says what became of it
-outcome_from_taken : (order : List Entry) (p : ℕ) (reply : Reply) (outcome : Outcome) → IsTakenAs order p reply
-    → IsOutcomeTaken reply outcome → IsOutcome order p outcome
-outcome_from_taken order p reply (Taken other) taken same = subst (IsTakenAs order p) (sym same) taken
-outcome_from_taken order p reply NotTaken taken same = absurd same
-
-row_from_taken : (order : List Entry) (p : ℕ) (reply : Reply) (row : Row) → IsTakenAs order p reply
-    → IsRowTaken reply row → IsRow order p row
-row_from_taken order p reply (row_got value) taken same = subst (IsTakenAs order p) same taken
-row_from_taken order p reply row_empty taken same = subst (IsTakenAs order p) same taken
-row_from_taken order p reply Open taken same = absurd same
-row_from_taken order p reply NoCall taken same = absurd same
-
-says_from_taken : (kind : Kind) (order : List Entry) (p number : ℕ) (reply : Reply) (told : Told)
-    → IsTakenAs order p reply → SaysTaken kind number reply told → Says kind order p number told
-says_from_taken Log order p number reply (told_verdict verdict) taken says =
-    (says.0, outcome_from_taken order p reply verdict.outcome taken says.1)
-says_from_taken Log order p number reply (told_row row) taken says = says
-says_from_taken Log order p number reply told_none taken says = says
-says_from_taken Durable order p number reply (told_row row) taken says = row_from_taken order p reply row taken says
-says_from_taken Durable order p number reply (told_verdict verdict) taken says = says
-says_from_taken Durable order p number reply told_none taken says = says
 
 says_from_not_taken : (kind : Kind) (order : List Entry) (p number : ℕ) (told : Told) → (InOrder order p → ⊥)
     → SaysNotTaken kind number told → Says kind order p number told
@@ -101,27 +77,7 @@ none_taken_less : (kind : Kind) (events : List Event) (order : List Entry) (clie
 none_taken_less kind events order client from more to le none =
     record { none = λ p low high taken. none.none p (omega arith) high taken }
 
--- a client may be told of its last call in the order
-pub some_from_last : (kind : Kind) (events : List Event) (order : List Entry) (client : Client) (q from i : ℕ)
-    (told : Told)
-    → IsProgress kind events order client q from (Some i) → SaysLast kind events order client told i
-    → IsToldSome kind events order client q told
-some_from_last kind events order client q from i told progress says =
-    let same : progress.is_last.entry ≡ says.entry = cc (progress.is_last.at, says.at) in
-    let next : says.entry.place + 1 ≡ from = ap (λ (e : Entry). e.place + 1) (sym same) ∙ progress.is_last.next in
-    record {
-      place = says.entry.place;
-      before = omega (arith, next, progress.low);
-      tells = record {
-        number = says.number;
-        begins = says.begins;
-        last = subst (λ (n : ℕ). HasNoneTaken kind events order client n q) (sym next) progress.none;
-        says = says_from_taken kind order says.entry.place says.number says.entry.reply told
-            (taken_at order i says.entry.place says.entry.reply says.entry says.at refl refl) says.says;
-      };
-    }
-
--- or of a later one, which is not in it
+-- a client may be told of a later call than its last one in the order, which is not in it
 pub some_from_not_taken : (kind : Kind) (events : List Event) (order : List Entry) (client : Client) (q from to : ℕ)
     (last : Option ℕ) (told : Told)
     → to ≤ q → IsProgress kind events order client q from last → IsToldNotTakenIn kind events client told from to
@@ -391,23 +347,6 @@ progress_later kind events order client q from n last progress =
       below = progress.below;
       first = progress.first;
     }
-
--- at first nothing is heard
-pub heard_nothing : (kind : Kind) (events : List Event) (order : List Entry) (client : Client)
-    → IsProgressTo kind events order client 0 0 None 0
-heard_nothing kind events order client = record {
-  low = omega arith;
-  is_last = refl;
-  below = λ i x number lt at begins. absurd (omega arith);
-  first = λ i is. cc is;
-}
-
--- the last entry is one
-pub last_within : (kind : Kind) (events : List Event) (order : List Entry) (client : Client) (from : ℕ)
-    (last : Option ℕ)
-    → IsLast kind events order client from last → IfSome last (λ i. i < length order)
-last_within kind events order client from None is = tt
-last_within kind events order client from (Some i) is = slice_get_within order i is.entry is.at
 
 -- a client is told rightly where what it is told is right
 pub told_at_ready : (kind : Kind) (base : List Told) (events : List Event) (order : List Entry) (client : Client)

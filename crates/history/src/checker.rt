@@ -1,9 +1,10 @@
 //! The checker.
 
-ghost use Rattle.std.specs.Prelude.{◌<◌, ◌↔◌, length, IsTrue, All, EachIndex};
+ghost use Rattle.std.specs.Prelude.{◌<◌, ◌≡◌, ◌↔◌, length, IfErr, IfOk, IsTrue, All, EachIndex};
 ghost use Rattle.events.specs.Explains.{Explains, IsExplained, KeepsPrecedence};
 ghost use Rattle.events.specs.History.{IsHistory};
 ghost use Rattle.events.specs.Orders.{IsNew};
+ghost use Rattle.events.specs.Replay.{queue_after};
 ghost use Rattle.history.specs.Sweeps.{Tells};
 
 use crate::answering::all_answered;
@@ -14,8 +15,10 @@ use crate::naming::names_once;
 use crate::ordering::names_calls;
 use crate::places::is_durable;
 use crate::preceding::precedence_is_kept;
+use crate::replaying::replay;
 use events::{Entry, Event, History, Order};
-use words::{Kind, Reports};
+use std::alloc::Global;
+use words::{Kind, Refusal, Reports};
 
 /// Whether what clients are told agrees with the order. That of interrupted calls follows from the rest: such a call is
 /// its client's last one begun before the next Ready.
@@ -67,4 +70,25 @@ pub fn check(history: &History, order: &Order) -> bool
             history.events.as_slice(),
             order.entries.as_slice(),
         )
+}
+
+/// Whether, beyond what `check` answers, the replay of the order leaves this content, as a queue at rest holds what is
+/// left. NoMemory where it was refused for the replay.
+pub fn check_content(
+    alloc: Global,
+    history: &History,
+    order: &Order,
+    content: &[u32],
+) -> Result<bool, Refusal>
+    ensures right { IfOk result (λ right. IsTrue right ↔ (IsExplained history.now order.now
+        × (content.now ≡ queue_after history.now.events.items history.now.base.items order.now.entries.items))) }
+    ensures errors { IfErr result (λ e. e ≡ Refusal.NoMemory) }
+{
+    if !check(history, order) {
+        return Ok(false);
+    }
+    match replay(alloc, history, order)? {
+        Ok(left) => Ok(left.as_slice() == content),
+        Err(_) => Ok(false),
+    }
 }

@@ -16,7 +16,7 @@ mod preceding;
 mod replaying;
 mod telling;
 
-pub use checker::check;
+pub use checker::{check, check_content};
 pub use events::{Effect, Entry, Event, History, Order, Sequence, keep_settled, order};
 pub use laws::{calls_in_turn_are_served, calls_in_turn_have_one_order};
 pub use plain::check_plainly;

@@ -3,10 +3,10 @@
 use crate::plain_broker::{PlainBroker, words_in};
 use crate::plain_queue::PlainQueue;
 use arena::{SLOTS, SlotId};
-use history::{check, replay};
 use named::Broker;
 use persist::Memory;
 use std::alloc::Global;
+use trials::is_explained;
 use words::{Call, Client, Kind, MAX_CALL_NUMBER, Refusal, Reply};
 
 /// More steps than any recovery here takes.
@@ -43,18 +43,6 @@ pub(crate) fn recover(broker: &mut Broker) -> Result<(), Refusal> {
     Err(Refusal::NotReady)
 }
 
-/// Whether the order of the slot's queue explains its history, and the queue holds what its replay leaves.
-fn is_explained(alloc: Global, broker: &Broker, slot: u8) -> Result<bool, Refusal> {
-    let history = broker.history(SlotId(slot))?;
-    let order = broker.order(SlotId(slot))?;
-    let content = broker.content(SlotId(slot))?;
-    let holds = match replay(alloc, history, &order)? {
-        Ok(left) => left.as_slice() == content.as_slice(),
-        Err(_) => false,
-    };
-    Ok(holds && check(history, &order))
-}
-
 /// Whether client 0 takes from a queue what its words held, or has no record or no number left for it.
 fn answers(
     alloc: Global,
@@ -67,7 +55,7 @@ fn answers(
         Err(Refusal::NoRoom) => queue.taken(alloc)?.is_none(),
         answered => Some(answered?) == queue.taken(alloc)?,
     };
-    Ok(right && is_explained(alloc, broker, slot)?)
+    Ok(right && is_explained(alloc, broker, SlotId(slot))?)
 }
 
 /// A broker that begins on an image.

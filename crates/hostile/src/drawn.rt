@@ -7,6 +7,7 @@ use crate::brokers::{begun, create, serves};
 use crate::plain_broker::{PlainBroker, image_of, words_in};
 use arena::{BrokerLayout, SLOTS, SlotId};
 use directory::sound as sound_directory;
+use draws::below;
 use named::Broker;
 use persist::Memory;
 use rand_core::Rng;
@@ -14,6 +15,7 @@ use rand_pcg::Pcg32;
 use recover::sound;
 use std::alloc::Global;
 use std::test::Fail;
+use trials::pass_over;
 use words::{Call, Client, Kind, Refusal, Rule};
 
 /// How many histories are drawn, how many acts each has, and how many images near what it leaves.
@@ -28,19 +30,6 @@ const CLIENTS: u32 = 2;
 
 const RECORDS: u32 = 3;
 
-/// A number below `n`, or 0.
-fn below(rng: &mut Pcg32, n: u32) -> u32 {
-    rng.next_u32().checked_rem(n).unwrap_or(0)
-}
-
-/// An act that a rule refuses is passed over.
-fn passed<T: Drop>(answer: Result<T, Refusal>) -> Result<(), Refusal> {
-    match answer {
-        Err(Refusal::NoMemory) => Err(Refusal::NoMemory),
-        _ => Ok(()),
-    }
-}
-
 /// A drawn act on one of the first two slots, most often a step of a call or of recovery.
 fn act(broker: &mut Broker, rng: &mut Pcg32, number: u64) -> Result<(), Refusal> {
     let slot = SlotId(below(rng, 2).min(1) as u8);
@@ -48,11 +37,11 @@ fn act(broker: &mut Broker, rng: &mut Pcg32, number: u64) -> Result<(), Refusal>
     let down = broker.list().is_err();
     match below(rng, 64) {
         0 => broker.crash(),
-        1..=3 => passed(broker.evict(below(rng, 200) as usize)),
-        _ if down => passed(broker.recover_step()),
-        4..=9 => passed(broker.start(slot, client, number, Call::Enq(rng.next_u32()))),
-        10..=15 => passed(broker.start(slot, client, number, Call::Deq)),
-        _ => passed(broker.step(slot, client)),
+        1..=3 => pass_over(broker.evict(below(rng, 200) as usize)),
+        _ if down => pass_over(broker.recover_step()),
+        4..=9 => pass_over(broker.start(slot, client, number, Call::Enq(rng.next_u32()))),
+        10..=15 => pass_over(broker.start(slot, client, number, Call::Deq)),
+        _ => pass_over(broker.step(slot, client)),
     }
 }
 

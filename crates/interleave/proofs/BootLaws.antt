@@ -12,6 +12,7 @@ use Rattle.arena.specs.Place.{IsPlace}
 use Rattle.arena.specs.Ranges.{Fits, IsReadByCalls}
 use Rattle.arena.specs.Shape.{Shape}
 use Rattle.arena.specs.declared.place.Place.{Place}
+use Rattle.recover.specs.Table.{boot_recovery}
 use Rattle.recover.specs.Sound.{AreSoundWords, SizeIsSound}
 use Rattle.recover.specs.Kept.{kept_in}
 use Rattle.recover.specs.Told.{told_by, tells_by}
@@ -28,7 +29,7 @@ use Rattle.interleave.specs.Values.{value_of_place, is_place}
 use Rattle.interleave.specs.State.{machine}
 use Rattle.interleave.proofs.HoldsKept.{no_call}
 use Rattle.interleave.proofs.NumbersKept.{numbers_booted}
-use Rattle.interleave.proofs.FloorsKept.{floors_none}
+use Rattle.interleave.proofs.FloorsKept.{floors_down}
 use Rattle.interleave.proofs.RecordsKept.{accounted_none}
 use Rattle.interleave.proofs.ValueLaws.{shown_at, is_place-from}
 
@@ -84,6 +85,6 @@ module _ (s : Shape) (ws : Words) (some : 1 ≤ s.clients) (few : s.clients ≤ 
         kind = kind_told s.kind (tells_by s (value_of_place s ws.kept));
         inv = subst Invariant (sym booted_is) (to_invariant _ (boots s (value_of_place s ws.kept) (may s ws some few sound)));
         numbers = numbers_booted s.kind (tells_by s (value_of_place s ws.kept)) (length-map-range_with_len (told_by s (value_of_place s ws.kept)) 0 16);
-        floors = floors_none (machine (booted_world s ws)) refl (no_call s.clients) (booted_world s ws).queue;
+        floors = floors_down (machine (booted_world s ws)) (no_call s.clients) boot_recovery refl (booted_world s ws).queue;
         records = accounted_none (machine (booted_world s ws)) refl;
       }

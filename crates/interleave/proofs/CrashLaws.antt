@@ -1,13 +1,11 @@
--- What a crash makes of a world, and a step of recovery.
-use Rattle.std.proofs.Common.{◌≡◌, ℕ, [], ◌∷◌, ◌++◌, List, Option, Some, None, replicate, length, refl, true, ap, ◌∙◌}
+-- What a step of recovery makes of a world.
+use Rattle.std.proofs.Common.{◌≡◌, ℕ, List, Option, Some, None, refl, true, ap, ◌∙◌}
 use Rattle.std.specs.Prelude.{is_some, IfSome}
 use Rattle.words.specs.declared.told.Told.{Told}
-use Rattle.persist.specs.Memory.{Words, words_after_crash}
-use Rattle.events.specs.Effects.{settled_effects}
+use Rattle.persist.specs.Memory.{Words}
 use Rattle.events.specs.declared.event.Effect.{Effect}
 use Rattle.events.specs.declared.event.Event.{Event}
-use Rattle.events.specs.declared.event.Event.TheVariants.{Crash as crash_event}
-use Rattle.recover.specs.Table.{boot_recovery, access_of as recovery_access}
+use Rattle.recover.specs.Table.{access_of as recovery_access}
 use Rattle.stepper.specs.declared.resume.After.{After}
 use Rattle.recover.specs.declared.recovery.Recovery.{Recovery}
 use Rattle.stepper.specs.Step.{after_one}
@@ -15,7 +13,7 @@ use Rattle.protocol.specs.Machine.{next_recovery, recovery_left, recovery_events
 use Rattle.protocol.specs.declared.Issued.{Issued}
 use Rattle.protocol.specs.declared.UnderWay.{UnderWay}
 use Rattle.arena.specs.Shape.{Shape}
-use Rattle.interleave.specs.State.{State, machine, after_stop, after_recovery_step, queue_at_ready}
+use Rattle.interleave.specs.State.{State, machine, after_recovery_step, queue_at_ready}
 use Rattle.interleave.specs.Trace.{Traced, state_with}
 use Rattle.interleave.specs.declared.queue.Queue.{Queue}
 
@@ -41,12 +39,6 @@ state_same s ws queue calls a base told events issued effects recovery b t e i f
     ∙ ap (λ (x : Option Recovery). let w : State = record { shape = s; words = ws; queue = queue; calls = calls; base = base; told = told; log = record { events = events; issued = issued; effects = effects }; recovery = x } in w) r
 
 module _ (s : Shape) (ws : Words) (queue : Queue) (calls : List (Option UnderWay)) (t : Traced) where
-  -- what a crash leaves
-  pub left_by_crash : (after : Traced) → after.base ≡ t.base → after.told ≡ t.told → after.log.events ≡ t.log.events ++ crash_event ∷ [] → after.log.issued ≡ t.log.issued
-      → after.log.effects ≡ settled_effects t.log.effects → after.recovery ≡ Some boot_recovery
-      → state_with s (words_after_crash ws) queue (replicate (length calls) None) after ≡ after_stop (state_with s ws queue calls t)
-  left_by_crash after b o e i f r = state_same s (words_after_crash ws) queue (replicate (length calls) None) after t.base t.told (t.log.events ++ crash_event ∷ []) t.log.issued (settled_effects t.log.effects) (Some boot_recovery) b o e i f r
-
   -- what a step of recovery leaves
   pub left_by_recovery : (r : Recovery) (next : After Recovery (List Told)) (after : Traced) → next ≡ next_recovery (machine (state_with s ws queue calls t)) r
       → after.base ≡ t.base → after.told ≡ t.told → after.log.events ≡ recovery_events t.log.events next → after.log.issued ≡ t.log.issued → after.log.effects ≡ t.log.effects → after.recovery ≡ recovery_left next

@@ -59,14 +59,6 @@ step_down full w client = go (waiting_result (is_down w) (slice_get w.calls clie
         both true = refl
         both false = refl
 
--- a step of recovery is refused in a ready queue alone, memory being there
-pub recover_refused : (w : State) (refusal : Refusal) → recover_result false w ≡ Err refusal → is_down (after_recover false w) ≡ false
-recover_refused w refusal is = go w.recovery refl is
-  where
-    go : (o : Option Recovery) → w.recovery ≡ o → recover_result_with false w o ≡ Err refusal → is_down (recover_with false w o) ≡ false
-    go None e is2 = ap is_some e
-    go (Some r) e is2 = cc
-
 -- recovery that is under way has a step left
 pub some_left : (w : State) → is_down w ≡ true → 1 ≤ steps_to_ready w
 some_left w down = go w.recovery down

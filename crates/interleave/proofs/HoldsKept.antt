@@ -1,6 +1,6 @@
 -- Each act keeps what holds of a world, and is the machine's.
 use Rattle.words.specs.declared.call.Reply.{Reply}
-use Rattle.std.proofs.Common.{◌≡◌, ◌≢◌, ◌+◌, ◌-◌, ◌++◌, nat_lt, ℕ, zero, suc, replicate, ◌<◌, ◌≤◌, inl, inr, Bool, true, false, if◌then◌else◌, ◌==◌, List, [], ◌∷◌, map, length, Option, Some, None, Result, Ok, Err, slice_get, slice_index, slice_index_or, slice_set, refl, sym, ap, ◌∙◌, subst, arith, get_or-set_other}
+use Rattle.std.proofs.Common.{[], ◌≡◌, ◌≢◌, ◌+◌, ◌-◌, ◌++◌, nat_lt, ℕ, zero, suc, replicate, ◌<◌, ◌≤◌, inl, inr, Bool, true, false, if◌then◌else◌, ◌==◌, List, ◌∷◌, map, length, Option, Some, None, Result, Ok, Err, slice_get, slice_index, slice_index_or, slice_set, refl, sym, ap, ◌∙◌, subst, arith, get_or-set_other}
 use Rattle.std.specs.Prelude.{is_some, filter}
 use mathlib.Core.Path.{fun_ext}
 use Rattle.std.proofs.lemmas.Bool.Decides.{eqb_tells}
@@ -56,7 +56,7 @@ use Rattle.protocol.specs.Acts.{TellsNothing}
 use Rattle.interleave.proofs.MachineFacts.{agreement}
 use Rattle.interleave.proofs.NoteLaws.{place_of_word}
 use Rattle.interleave.proofs.NumbersKept.{IsAboveFloor, above_accepted, numbers_are_once, numbers_begun, numbers_crashed, numbers_evicted, numbers_gone_on, numbers_new, numbers_recovered}
-use Rattle.interleave.proofs.FloorsKept.{floors_crashed, floors_evicted, floors_none, floors_recovered, floors_started, floors_stepped}
+use Rattle.interleave.proofs.FloorsKept.{floors_crashed, floors_evicted, floors_new, floors_recovered, floors_started, floors_stepped}
 use Rattle.interleave.proofs.RecordsKept.{accounted_crashed, accounted_evicted, accounted_none}
 use Rattle.interleave.proofs.RecordsKept.{accounted_recovered, accounted_started, accounted_stepped}
 use Rattle.interleave.proofs.Safety.{call_fits as call_in_range, IsSafe-accessed, IsSafe-gone_on, IsSafe-begun, IsSafe-evicted}
@@ -216,7 +216,7 @@ holds_gone_on w client u holds here =
       inv = subst Invariant (sym (gone_on_is w client u holds here)) (to_invariant _ after);
       numbers = numbers_gone_on w client u inv after may holds.numbers;
       floors = subst (AreFloorsRightIn (after_one_access w client u).queue) (sym (gone_on_is w client u holds here))
-          (floors_stepped (machine w) inv client u may w.queue holds.numbers few holds.floors);
+          (floors_stepped (machine w) inv client u may w.queue holds.kind holds.numbers few holds.floors);
       records = subst AreAccountedFor (sym (gone_on_is w client u holds here))
           (accounted_stepped (machine w) inv client u may holds.records);
     }
@@ -337,7 +337,7 @@ holds_after_evict w word holds = from_place (place_at w.shape word) refl
           inv = subst Invariant (sym (evicted_is w word p holds e)) (to_invariant _ (inv_evicted (machine w) (from_invariant _ holds.inv) p));
           numbers = numbers_evicted w word p (from_invariant _ holds.inv) holds.numbers;
           floors = subst (AreFloorsRightIn w.queue) (sym (evicted_is w word p holds e))
-              (floors_evicted (machine w) (from_invariant _ holds.inv) p w.queue holds.floors);
+              (floors_evicted (machine w) (from_invariant _ holds.inv) p w.queue holds.kind holds.floors);
           records = subst AreAccountedFor (sym (evicted_is w word p holds e))
               (accounted_evicted (machine w) (from_invariant _ holds.inv) p holds.records);
         }
@@ -465,7 +465,7 @@ holds_recovered w r holds e =
       inv = inv;
       numbers = numbers_recovered w r (from_invariant _ inv) holds.kind holds.numbers;
       floors = subst (AreFloorsRightIn (after_recovery_step w r).queue) (sym (recovered_is w r holds e))
-          (floors_recovered (machine w) (from_invariant _ holds.inv) r e w.queue holds.kind);
+          (floors_recovered (machine w) (from_invariant _ holds.inv) r e w.queue);
       records = subst AreAccountedFor (sym (recovered_is w r holds e))
           (accounted_recovered (machine w) (from_invariant _ holds.inv) r e holds.records);
     }
@@ -511,7 +511,8 @@ holds_new s some few kind =
       kind = kind;
       inv = subst Invariant (sym (new_is s)) (to_invariant _ (inv_new s (new_world s).told some few (tells_nothing s some few)));
       numbers = numbers_new s.kind s.clients;
-      floors = floors_none (machine (new_world s)) refl (no_call s.clients) (new_world s).queue;
+      floors = subst (AreFloorsRightIn (new_world s).queue) (sym (new_is s))
+          (floors_new s (new_world s).told s.kind s.clients);
       records = accounted_none (machine (new_world s)) refl;
     }
 

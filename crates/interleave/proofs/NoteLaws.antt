@@ -8,7 +8,7 @@ use Rattle.persist.specs.declared.access.Change.{Change}
 use Rattle.persist.specs.Memory.{Words, Access, Load, Store, Cas, Flush, words_after_eviction}
 use Rattle.arena.specs.Layout.{laid_out, place_at, size_of, word_at}
 use Rattle.arena.specs.Shape.{Shape}
-use Rattle.arena.specs.Place.{IsPlace, is_same-from}
+use Rattle.arena.specs.Place.{IsPlace}
 use Rattle.arena.specs.declared.place.Place.{Place}
 use Rattle.arena.specs.declared.place.Place.TheVariants.{Mark}
 use Rattle.stepper.specs.Step.{after_one, change_by, kept_by}
@@ -40,9 +40,6 @@ look_is w u _ e h = cc
 noticed_same : (w : World) (m : Memory) (p : Place) (v new : ℕ) → m.kept ≡ put w.memory.kept p v → effects_on_keep (record w { memory = m }) p new ≡ effects_on_keep w p new
 noticed_same w m (Mark n) v new e = rw e refl
 noticed_same w m _ v new e = refl
-
-put_same : (f : Place → ℕ) (p : Place) (v : ℕ) → put f p v p ≡ v
-put_same f p v = rw (is_same-from p p refl) refl
 
 -- an eviction keeps a word: what takes effect by it
 kept_evicted : (s : Shape) (ws : Words) (p : Place) → IsPlace s p → size_of s ≤ length ws.kept → value_of_place s (words_after_eviction (word_at s p) ws).kept ≡ put (value_of_place s ws.kept) p (value_of_place s ws.cached p)

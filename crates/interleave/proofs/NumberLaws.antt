@@ -1,5 +1,5 @@
 -- How each act keeps what is so of the numbers of calls, and why none stands twice in the order.
-use Rattle.std.proofs.Common.{◌≡◌, ◌≢◌, ℕ, ◌<◌, ◌≤◌, ◌+◌, ◌⊎◌, inl, inr, List, [], ◌∷◌, ◌++◌, length, map, Some}
+use Rattle.std.proofs.Common.{[], ◌≡◌, ◌≢◌, ℕ, ◌<◌, ◌≤◌, ◌+◌, ◌⊎◌, inl, inr, List, ◌∷◌, ◌++◌, length, map, Some}
 use Rattle.std.proofs.Common.{slice_get, slice_index, slice_set, refl, sym, ap, ◌∙◌, subst, arith, ⊎_elim, get_or}
 use Rattle.std.specs.Prelude.{⊤, EachIndex, unwrap_or}
 use Rattle.std.proofs.lemmas.Bool.{cases_eq, cases_lt}
@@ -29,7 +29,6 @@ use Rattle.events.specs.declared.event.Event.TheVariants.{Call as call_event, Re
 use Rattle.events.specs.declared.event.Event.TheVariants.{Crash as crash_event, Ready as ready_event}
 use Rattle.events.proofs.Growing.{begins_longer}
 use Rattle.events.proofs.Lists.{get_before, get_last, get_longer, get_push_cases}
-use Rattle.events.proofs.Members.{in_order_from_taken}
 use Rattle.interleave.specs.Numbers.{HasNumber, IsEntryOf, IsInDoubt, told_floor, IsWithinFloors}
 use Rattle.interleave.specs.Numbers.{NumbersAreOnce, NumbersRise}
 use Rattle.interleave.specs.Queue.{told_to}
@@ -451,17 +450,6 @@ told_covers told events order floors v client x rightly p n has there = ⊎_elim
       begins = record { call = has.0; begins = has.1; told_of = tt };
       taken = there;
     }
-
--- the floor by what is told of a call is at most what its number is where it is in the order, and one less where not
-pub floor_at_most : (order : List Entry) (p number high : ℕ) (told : Told) → Says log_kind order p number told
-    → (InOrder order p → number ≤ high) → number ≤ high + 1 → floor_of told ≤ high
-floor_at_most order p number high (told_verdict verdict) says taken below = go verdict.outcome says.1
-  where
-    go : (outcome : Outcome) → IsOutcome order p outcome → floor_from verdict.number outcome ≤ high
-    go (Taken reply) is = let low = taken (in_order_from_taken order p reply is) in omega (arith, low, says.0)
-    go NotTaken is = omega (arith, below, says.0)
-floor_at_most order p number high (told_row row) says taken below = absurd says
-floor_at_most order p number high told_none says taken below = absurd says
 
 -- where the history begins, clients have their floors by what the base tells
 pub rise_begun : (told : List Told) → length told ≡ MAX_CLIENTS → NumbersRise told [] [] (map floor_of told)

@@ -1,6 +1,6 @@
 -- A world over a part of a memory: what lies around the part is neither read nor changed.
 use Rattle.std.proofs.Common.{◌≡◌, ℕ, zero, suc, Bool, true, false, if◌then◌else◌, List, Option, Some, None, Result, Ok, Err, slice_get, slice_index, refl, sym, ap, subst, ◌∙◌, ◌==◌}
-use Rattle.std.specs.Prelude.{is_ok, IfErr, IfOk}
+use Rattle.std.specs.Prelude.{IfErr, IfOk}
 use Rattle.words.specs.declared.call.Call.{Call}
 use Rattle.words.specs.declared.call.Client.{Client}
 use Rattle.words.specs.declared.call.Reply.{Reply}
@@ -20,7 +20,6 @@ use Rattle.interleave.specs.Calls.{waiting_result}
 use Rattle.interleave.specs.Core.{CoreState, state_of}
 use Rattle.interleave.specs.Holds.{Holds}
 use Rattle.interleave.specs.Ranges.{WordsFit}
-use Rattle.interleave.specs.Rotation.{after_rotate, after_rotation, rotate_result}
 use Rattle.interleave.specs.State.{State, IsAnsweredAlone, after_alone, after_attempt, after_bump_load, after_call_began, after_crash, after_evict, after_one_access, after_recover, after_recovery_step, after_start, after_step, evict_with, is_down, number_to_start, recover_with, start_with, step_result, step_with, used_by}
 
 -- what holds over words holds over any with the same values
@@ -134,15 +133,6 @@ module _ (around : Around) where
   alone_placed zero w client = refl
   alone_placed (suc n) w client =
       ap (λ (v : State). after_step false v client) (alone_placed n w client) ∙ step_placed false (after_alone n w client) client
-
-  -- and a rotation
-  pub rotate_placed : (full : Bool) (w : State)
-      → after_rotate full (placed around w) ≡ placed around (after_rotate full w)
-  rotate_placed full w = go (is_ok (rotate_result full w))
-    where
-      go : (b : Bool) → (if b then after_rotation (placed around w) else placed around w) ≡ placed around (if b then after_rotation w else w)
-      go true = refl
-      go false = refl
 
 -- what lies around the words stays
 pub around_stays : (full : Bool) (w : State) (act : Act ℕ) → (after_attempt full w act).words.around ≡ w.words.around

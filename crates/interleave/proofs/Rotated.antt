@@ -1,5 +1,5 @@
 -- A rotation keeps what holds of a world, and what the history that ends leaves to the next.
-use Rattle.std.proofs.Common.{◌≡◌, ℕ, zero, suc, ◌<◌, ◌≤◌, ◌+◌, inl, inr, Bool, true, false, if◌then◌else◌, List, []}
+use Rattle.std.proofs.Common.{[], ◌≡◌, ℕ, zero, suc, ◌<◌, ◌≤◌, inl, inr, Bool, true, false, if◌then◌else◌, List}
 use Rattle.std.proofs.Common.{◌∷◌, length, Option, Some, None, Result, Ok, Err, is_ok, slice_get, slice_index}
 use Rattle.std.proofs.Common.{slice_index_or, refl, sym, ap, ◌∙◌, subst, arith, ⊎_elim}
 use Rattle.std.specs.Prelude.{unwrap_or}
@@ -14,11 +14,8 @@ use Rattle.words.specs.declared.refusal.Refusal.TheVariants.{NotReady, Busy, NoM
 use Rattle.words.specs.declared.told.Told.{Told}
 use Rattle.words.specs.declared.told.Told.TheVariants.{None as told_none}
 use Rattle.logqueue.specs.Numbers.{floor_of}
-use Rattle.logqueue.specs.Queue.{LogClients}
 use Rattle.arena.specs.Words.{announcements}
 use Rattle.recover.specs.Told.{told_by}
-use Rattle.events.specs.History.{BeginsAt}
-use Rattle.events.specs.Telling.{Says}
 use Rattle.events.specs.Trace.{IsNumberOf}
 use Rattle.protocol.specs.Kept.{TellsOf}
 use Rattle.protocol.specs.declared.UnderWay.{UnderWay}
@@ -30,25 +27,20 @@ use Rattle.protocol.proofs.worlds.Rotated.{inv_rotated, tells_now}
 use Rattle.interleave.specs.Calls.{is_no_memory}
 use Rattle.interleave.specs.Floors.{AreFloorsRightIn, FloorsFit}
 use Rattle.interleave.specs.Holds.{Holds, from_invariant, to_invariant}
-use Rattle.interleave.specs.Numbers.{AreNumbersRisingIn, AreWithinFloors, AreWithinFloorsIn, HasNumber, IsInDoubt}
-use Rattle.interleave.specs.Numbers.{NumbersRise, told_floor}
+use Rattle.interleave.specs.Numbers.{AreNumbersRisingIn, HasNumber}
+use Rattle.interleave.specs.Numbers.{told_floor}
 use Rattle.interleave.specs.Queue.{told_in}
 use Rattle.interleave.specs.Ranges.{IsOfKind}
 use Rattle.interleave.specs.Rotation.{AreNumbersTold, IsBaseToldRightly, IsQuiet, ShareNoNumber, after_rotate}
 use Rattle.interleave.specs.Rotation.{after_rotation, queue_with_told, rotate_result, some_client_calls}
 use Rattle.interleave.specs.State.{State, machine, order_in, is_down, kept_content, kept_tells}
-use Rattle.interleave.specs.Standing.{AllHaveEnded}
 use Rattle.interleave.specs.Turn.{NobodyCalls}
 use Rattle.interleave.specs.declared.queue.Queue.{Queue}
 use Rattle.interleave.specs.declared.queue.Queue.TheVariants.{Durable, Log}
-use Rattle.interleave.proofs.Ended.{ended_or_open}
-use Rattle.interleave.proofs.FloorsKept.{floors_none, is_log}
+use Rattle.interleave.proofs.FloorsKept.{floors_unused}
 use Rattle.interleave.proofs.HoldsKept.{is_none}
-use Rattle.interleave.proofs.NumberLaws.{floor_at_most, there_at, told_covers}
+use Rattle.interleave.proofs.NumberLaws.{there_at, told_covers}
 use Rattle.interleave.proofs.RecordsKept.{accounted_none}
-
-none_some : {X : Type 0} {x : X} → None ≡ Some x → ⊥
-none_some e = cc
 
 -- where no client of the list calls
 nobody_in : (calls : List (Option UnderWay)) → some_client_calls calls ≡ false → (t : ℕ)
@@ -140,52 +132,10 @@ module _ (w : State) (holds : Holds w) (quiet : IsQuiet w) where
   pub nobody_calls : NobodyCalls w
   nobody_calls client way = ready.working.idle client (quiet.nobody client.0) way
 
-  -- each call of the history has ended
-  pub all_ended : AllHaveEnded w
-  all_ended client p begins = ⊎_elim
-      (λ ended. ended)
-      (λ open_from. absurd (nobody_calls client (record {
-        place = p;
-        before = slice_get_within w.log.events p _ begins.1.1;
-        open_from = open_from;
-      })))
-      (ended_or_open w.log.events client p begins)
-
-  -- none is in doubt
-  no_doubt : (client : Client) (p : ℕ) → BeginsAt w.log.events client p → IsInDoubt w.log.events client p → ⊥
-  no_doubt client p begins doubt = nobody_calls client (record {
-    place = p;
-    before = slice_get_within w.log.events p _ begins.1.1;
-    open_from = record {
-      begins = begins;
-      no_end = λ k low high ends. ⊎_elim
-          (λ returned. doubt.no_return k returned.0 low returned.1)
-          (λ crash. ready.working.up (record {
-            place = k;
-            before = high;
-            crash = crash;
-            no_ready = λ j told after before at. doubt.no_ready j told (omega (arith, low, after)) at;
-          }))
-          ends;
-    };
-  })
-
-  -- so each number in the order is at most its client's floor
-  pub within_quiet : AreWithinFloors w
-  within_quiet = go w.queue holds.numbers
-    where
-      go : (queue : Queue) → AreNumbersRisingIn queue w.told w.log.events (order_in w)
-          → AreWithinFloorsIn queue w.log.events (order_in w)
-      go (Durable reports) v = tt
-      go (Log clients) v = λ i number client x. ⊎_elim
-          (λ le. le)
-          (λ doubt. absurd (no_doubt client x.entry.place (number, x.has_number) doubt))
-          (v.within x.entry.place number client x.has_number (there_at (order_in w) i x.entry x.at))
-
   rightly : (client : Client) → client.0 < MAX_CLIENTS → IsToldNow w client w.shape.kind
   rightly client few = ready.tells client (tells w client) few (tells_now (machine w) (inv w holds) client.0)
 
-  -- and at most what the kept words tell
+  -- each number in the order is at most the floor by what the kept words tell its client
   pub numbers_told : AreNumbersTold w
   numbers_told i number client x = go w.queue w.shape.kind refl holds.kind holds.numbers
     where
@@ -211,57 +161,36 @@ module _ (w : State) (holds : Holds w) (quiet : IsQuiet w) where
           (there_at (order_in w) i x.entry x.at) in
           omega (arith, floor, low)
 
-  -- no floor is below what the kept words tell
-  pub floors_told : (clients : LogClients) → w.shape.kind ≡ log_kind
-      → NumbersRise w.told w.log.events (order_in w) clients.floors → FloorsFit (machine w) clients.floors
-      → (client : Client) → client.0 < MAX_CLIENTS
-      → told_floor (kept_tells w) client ≤ slice_index clients.floors client.0
-  floors_told clients log v fit client few = ⊎_elim
-      (λ some.
-      let number = some.1.number in
-      let who : slice_index clients.floors some.1.call.begun.client.0 ≡ slice_index clients.floors client.0 =
-      ap (λ (t : ℕ). slice_index clients.floors t) some.1.own in
-      let has : HasNumber w.log.events client some.0.place some.0.tells.number =
-      (some.0.tells.begins.call, some.0.tells.begins.begins) in
-      let below : some.0.tells.number ≤ slice_index clients.floors client.0 + 1 = ⊎_elim
-      (λ low. omega (arith, low, number, who))
-      (λ still. absurd (none_some (sym (quiet.nobody some.1.call.begun.client.0) ∙ still.at)))
-      (fit.announced quiet.ready client some.1.call some.1.some some.1.of) in
-      let low = floor_at_most (order_in w) some.0.place some.0.tells.number (slice_index clients.floors client.0)
-      (tells w client)
-      (subst (λ (k : Kind). Says k (order_in w) some.0.place some.0.tells.number (tells w client)) log
-      some.0.tells.says)
-      (λ there. ⊎_elim
-      (λ le. le)
-      (λ doubt. absurd (no_doubt client some.0.place (some.0.tells.number, has) doubt))
-      (v.within some.0.place some.0.tells.number client has there))
-      below in
-      omega (arith, floor, low))
-      (λ none.
-      let same : told_floor w.told client ≡ floor_of (tells w client) =
-      ap (λ (o : Option Told). floor_of (unwrap_or o told_none)) none.0.same in
-      let low = v.base_floors client few in
-      omega (arith, floor, same, low))
-      (rightly client few)
-    where
-      floor : told_floor (kept_tells w) client ≡ floor_of (tells w client)
-      floor = floor_by w holds client few
+  -- each floor is by what the kept words tell
+  floors_told : (floors : List ℕ) → FloorsFit (machine w) floors → (client : Client) → client.0 < MAX_CLIENTS
+      → told_floor (kept_tells w) client ≤ slice_index floors client.0
+  floors_told floors fit client few =
+      let told = floor_by w holds client few in
+      let exact = fit.told quiet.ready client few (quiet.nobody client.0) in
+      omega (arith, told, exact)
 
   -- so the numbers of the next history rise from here
   numbers_rotated : AreNumbersRisingIn (queue_with_told w.queue (kept_tells w)) (kept_tells w) [] []
-  numbers_rotated = go w.queue holds.kind holds.numbers holds.floors
+  numbers_rotated = go w.queue holds.numbers holds.floors
     where
-      go : (queue : Queue) → IsOfKind w.shape.kind queue → AreNumbersRisingIn queue w.told w.log.events (order_in w)
+      go : (queue : Queue) → AreNumbersRisingIn queue w.told w.log.events (order_in w)
           → AreFloorsRightIn queue (machine w)
           → AreNumbersRisingIn (queue_with_told queue (kept_tells w)) (kept_tells w) [] []
-      go (Durable reports) is v fit = tt
-      go (Log clients) is v fit = record {
+      go (Durable reports) v fit = tt
+      go (Log clients) v fit = record {
         sixteen = v.sixteen;
         rise = λ p q m n client has_m has_n lt there. cc (has_m.1);
         within = λ p n client has there. cc (has.1);
         base = λ p n client has. cc (has.1);
-        base_floors = floors_told clients (is_log w.shape.kind clients is) v fit;
+        base_floors = floors_told clients.floors fit;
       }
+
+  -- no floor changes, nor what is told
+  floors_rotated : (queue : Queue) → AreFloorsRightIn queue (machine w)
+      → AreFloorsRightIn (queue_with_told queue (kept_tells w)) (machine (after_rotation w))
+  floors_rotated (Durable reports) fit = tt
+  floors_rotated (Log clients) fit =
+      floors_unused (machine (after_rotation w)) quiet.nobody clients.floors (fit.told quiet.ready)
 
   -- what holds of a world holds where its next history begins
   pub holds_rotated : Holds (after_rotation w)
@@ -270,7 +199,7 @@ module _ (w : State) (holds : Holds w) (quiet : IsQuiet w) where
     kind = kind_with w.shape.kind w.queue (kept_tells w) holds.kind;
     inv = to_invariant _ (inv_rotated (machine w) (inv w holds) quiet.ready quiet.nobody);
     numbers = numbers_rotated;
-    floors = floors_none (machine (after_rotation w)) refl quiet.nobody (after_rotation w).queue;
+    floors = floors_rotated w.queue holds.floors;
     records = accounted_none (machine (after_rotation w)) refl;
   }
 
@@ -291,14 +220,6 @@ tells_rotated full w = go (is_ok (rotate_result full w))
         × (kept_content (if b then after_rotation w else w) ≡ kept_content w)
     go true = (refl, refl)
     go false = (refl, refl)
-
--- which is what the next history's base holds and tells
-pub base_rotated : (full : Bool) (w : State) → rotate_result full w ≡ Ok tt
-    → ((after_rotate full w).base ≡ kept_content w) × ((after_rotate full w).told ≡ kept_tells w)
-base_rotated full w is = (
-  ap (λ (r : Result Unit Refusal). (if is_ok r then after_rotation w else w).base) is,
-  ap (λ (r : Result Unit Refusal). (if is_ok r then after_rotation w else w).told) is,
-)
 
 -- and what each client was last told
 pub told_rotated : (full : Bool) (w : State) → rotate_result full w ≡ Ok tt

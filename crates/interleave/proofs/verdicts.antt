@@ -1,4 +1,5 @@
 pub mod Tells
+pub mod Steps
 pub mod Acts
 pub mod Moves
 pub mod Recalled

@@ -22,7 +22,7 @@ use Rattle.recover.specs.Kept.{kept_in}
 use Rattle.recover.specs.Sound.{AnswersAreSound, AreSoundWords, EntriesAreSound, IfKind, Obeys, RowsAreSound}
 use Rattle.directory.specs.Directory.{Directory, IsDirectory}
 use Rattle.directory.specs.Queue.{directory_of, queue_in, slot_in}
-use Rattle.directory.specs.Sound.{IsBlockZero, IsBrokerDamaged, SlotIsSound, counts_in}
+use Rattle.directory.specs.Sound.{IsBlockZero, SlotIsSound, counts_in}
 use Rattle.directory.specs.UnderWay.{IsAtRest}
 use Rattle.directory.specs.declared.queue.Queue.{Queue}
 use Rattle.directory.proofs.Creations.{slot_open}
@@ -33,7 +33,7 @@ use Rattle.interleave.specs.Booted.{booted_world, MayRefuse as MayRefuseQueue}
 use Rattle.interleave.specs.State.{State}
 use Rattle.interleave.proofs.AloneLaws.{get_set}
 use Rattle.named.specs.Blocks.{state_in}
-use Rattle.named.specs.Booting.{AreRead, AreSlotsBooted, IsBlockDamaged, IsSlotBooted, MayRefuse, kept_block, world_booted}
+use Rattle.named.specs.Booting.{AreRead, AreSlotsBooted, IsSlotBooted, kept_block, world_booted}
 use Rattle.named.specs.Brokers.{IsSlotAt, IsUnusedBlock, IsWell, block_words, world_of}
 use Rattle.named.specs.Slots.{IsReadyIn, kind_in, world_in}
 use Rattle.named.specs.Stopping.{booting}
@@ -92,69 +92,6 @@ for_memory s ws sound BadRequest h = absurd h
 for_memory s ws sound ReadFailed h = absurd h
 for_memory s ws sound WriteFailed h = absurd h
 for_memory s ws sound (BadLine line) h = absurd h
-
--- damaged words are refused so
-pub broker_damaged : (ws : List ℕ) (e : Refusal) → IsBrokerDamaged ws e → MayRefuse ws e
-broker_damaged ws (Damaged rule) h = inl h
-broker_damaged ws NoMemory h = absurd h
-broker_damaged ws NoWord h = absurd h
-broker_damaged ws BadMagic h = absurd h
-broker_damaged ws BadCount h = absurd h
-broker_damaged ws Truncated h = absurd h
-broker_damaged ws TrailingBytes h = absurd h
-broker_damaged ws BadClients h = absurd h
-broker_damaged ws BadRecords h = absurd h
-broker_damaged ws StaleNumber h = absurd h
-broker_damaged ws Busy h = absurd h
-broker_damaged ws NoRoom h = absurd h
-broker_damaged ws NotReady h = absurd h
-broker_damaged ws NoClient h = absurd h
-broker_damaged ws Idle h = absurd h
-broker_damaged ws AlreadyReady h = absurd h
-broker_damaged ws BadName h = absurd h
-broker_damaged ws Exists h = absurd h
-broker_damaged ws DirectoryFull h = absurd h
-broker_damaged ws Gap h = absurd h
-broker_damaged ws Old h = absurd h
-broker_damaged ws NoQueue h = absurd h
-broker_damaged ws WrongKind h = absurd h
-broker_damaged ws TooLong h = absurd h
-broker_damaged ws BadJson h = absurd h
-broker_damaged ws BadRequest h = absurd h
-broker_damaged ws ReadFailed h = absurd h
-broker_damaged ws WriteFailed h = absurd h
-broker_damaged ws (BadLine line) h = absurd h
-
-pub block_damaged : (ws : List ℕ) (e : Refusal) → IsBlockDamaged ws e → MayRefuse ws e
-block_damaged ws (Damaged rule) h = inr h
-block_damaged ws NoMemory h = absurd h.damaged
-block_damaged ws NoWord h = absurd h.damaged
-block_damaged ws BadMagic h = absurd h.damaged
-block_damaged ws BadCount h = absurd h.damaged
-block_damaged ws Truncated h = absurd h.damaged
-block_damaged ws TrailingBytes h = absurd h.damaged
-block_damaged ws BadClients h = absurd h.damaged
-block_damaged ws BadRecords h = absurd h.damaged
-block_damaged ws StaleNumber h = absurd h.damaged
-block_damaged ws Busy h = absurd h.damaged
-block_damaged ws NoRoom h = absurd h.damaged
-block_damaged ws NotReady h = absurd h.damaged
-block_damaged ws NoClient h = absurd h.damaged
-block_damaged ws Idle h = absurd h.damaged
-block_damaged ws AlreadyReady h = absurd h.damaged
-block_damaged ws BadName h = absurd h.damaged
-block_damaged ws Exists h = absurd h.damaged
-block_damaged ws DirectoryFull h = absurd h.damaged
-block_damaged ws Gap h = absurd h.damaged
-block_damaged ws Old h = absurd h.damaged
-block_damaged ws NoQueue h = absurd h.damaged
-block_damaged ws WrongKind h = absurd h.damaged
-block_damaged ws TooLong h = absurd h.damaged
-block_damaged ws BadJson h = absurd h.damaged
-block_damaged ws BadRequest h = absurd h.damaged
-block_damaged ws ReadFailed h = absurd h.damaged
-block_damaged ws WriteFailed h = absurd h.damaged
-block_damaged ws (BadLine line) h = absurd h.damaged
 
 -- what holds of each slot before this one, and of what is put there, holds of each slot before the next
 pub slots_more : (holds : ℕ → Slot → Type 0) (slots : List Slot) (n : ℕ) (own : Slot) → n < length slots

@@ -1,6 +1,6 @@
 -- What came of a broker by any acts, rotations among them.
-use Rattle.std.proofs.Common.{◌≡◌, ℕ, Bool, true, false, ap, ◌∙◌, slice_get}
-use Rattle.directory.specs.Directory.{Directory, HasQueue}
+use Rattle.std.proofs.Common.{ℕ, Bool, true, false, ap, ◌∙◌, slice_get}
+use Rattle.directory.specs.Directory.{HasQueue}
 use Rattle.directory.specs.declared.queue.Queue.{Queue}
 use Rattle.named.specs.Brokers.{Brokered}
 use Rattle.named.specs.GoingOn.{BrokerGoesOn, CameOf}

@@ -20,12 +20,12 @@ use Rattle.interleave.specs.State.{State, after_recover, recover_result}
 use Rattle.named.specs.Brokers.{Brokered, IsDirectoryAt, IsDirectoryDown, IsStepCreated, IsWell, quiet, world_at, world_of}
 use Rattle.named.specs.GoingOn.{BrokerGoesOn, IsDowntime, IsGoneOn}
 use Rattle.named.specs.Slots.{acted, answered, kind_in, world_in}
-use Rattle.named.specs.Stopping.{IsDirectoryRead, IsFound, IsFoundFirst, IsFoundIn, IsKnownAlike, IsQueueOn, IsQueueRecovered, IsReadOn, IsRecoveryStep, IsStopped, found_by}
+use Rattle.named.specs.Stopping.{IsDirectoryRead, IsFound, IsFoundFirst, IsFoundIn, IsKnownAlike, IsQueueOn, IsQueueRecovered, IsReadOn, IsStopped, found_by}
 use Rattle.named.specs.declared.recovery.BrokerRecovery.{BrokerRecovery}
-use Rattle.named.specs.declared.recovery.BrokerRecovery.TheVariants.{ReadDirectory, RecoverQueue}
+use Rattle.named.specs.declared.recovery.BrokerRecovery.TheVariants.{ReadDirectory}
 use Rattle.named.specs.declared.slot.Slot.{Slot}
 use Rattle.named.specs.declared.slot.Slot.TheVariants.{Closed, Durable, Log}
-use Rattle.named.proofs.GoingOn.{broker_stays, crash_goes_on, creation_stays, each_goes_on, more_directory, on_by_act, on_if_quiet, only_more, same_downtime, slot_goes_on, world_holds}
+use Rattle.named.proofs.GoingOn.{crash_goes_on, creation_stays, each_goes_on, more_directory, on_by_act, on_if_quiet, only_more, same_downtime, slot_goes_on, world_holds}
 use Rattle.named.proofs.Begun.{get_there}
 use Rattle.named.proofs.Opened.{is_free}
 
@@ -168,11 +168,3 @@ queue_downtime old new slot result holds step =
     step.others)
     step.directory
     (queue_creation old new slot result (answered (recover_result (is_no_memory result)) (world_at old slot)) step.next)
-
-pub recovery_downtime : (old new : Brokered) (result : Result Bool Refusal) → IsWell old → IsRecoveryStep old new result old.recovery → IsDowntime old new
-recovery_downtime old new result holds step = go old.recovery refl step
-  where
-    go : (o : Option BrokerRecovery) → old.recovery ≡ o → IsRecoveryStep old new result o → IsDowntime old new
-    go None e (answer, same) = subst (IsDowntime old) (sym same) (same_downtime old old (broker_stays old) refl (inl refl))
-    go (Some (ReadDirectory at)) e read = directory_downtime old new at result holds e read
-    go (Some (RecoverQueue slot)) e recovered = queue_downtime old new slot.0 result holds recovered

@@ -95,3 +95,13 @@ rooms_after slots i was is here spent at = go (cases_eq at i)
     go (inl e) = subst (λ n. room_of (slice_get slots n) ≤ room_of (slice_get (slice_set slots i is) n) + 1) (sym e)
         (omega (arith, ap room_of here, ap room_of (get_set slots i is (slice_get_within slots i was here)), spent))
     go (inr ne) = omega (arith, ap room_of (get_set_other slots i is at ne))
+
+-- and none, where it uses up none
+pub rooms_kept : (slots : List Slot) (i : ℕ) (was is : Slot) → slice_get slots i ≡ Some was → room_in was ≤ room_in is
+    → (at : ℕ) → room_of (slice_get slots at) ≤ room_of (slice_get (slice_set slots i is) at)
+rooms_kept slots i was is here kept at = go (cases_eq at i)
+  where
+    go : (at ≡ i) ⊎ (at ≡ i → ⊥) → room_of (slice_get slots at) ≤ room_of (slice_get (slice_set slots i is) at)
+    go (inl e) = subst (λ n. room_of (slice_get slots n) ≤ room_of (slice_get (slice_set slots i is) n)) (sym e)
+        (omega (arith, ap room_of here, ap room_of (get_set slots i is (slice_get_within slots i was here)), kept))
+    go (inr ne) = omega (arith, ap room_of (get_set_other slots i is at ne))

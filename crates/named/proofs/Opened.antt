@@ -1,5 +1,5 @@
 -- A step of a creation keeps what holds of the broker, and leaves its queues as they were.
-use Rattle.std.proofs.Common.{◌≡◌, ◌≢◌, ℕ, ◌+◌, ◌*◌, ◌<◌, ◌⊎◌, inl, inr, List, take, drop, slice_get, slice_set, Option, Some, None, true, refl, sym, ap, ◌∙◌, subst, arith}
+use Rattle.std.proofs.Common.{◌≡◌, ◌≢◌, ℕ, ◌+◌, ◌*◌, ◌<◌, ◌≤◌, ◌⊎◌, inl, inr, List, take, drop, slice_get, slice_set, Option, Some, None, true, refl, sym, ap, ◌∙◌, subst, arith}
 use Rattle.std.proofs.lemmas.Bool.{cases_eq}
 use Rattle.std.proofs.lemmas.List.{drop-drop}
 use Rattle.std.specs.Option.{option_map}
@@ -16,12 +16,13 @@ use Rattle.directory.specs.declared.queue.Queue.{Queue}
 use Rattle.directory.proofs.Creations.{creation_goes_on, set_here}
 use Rattle.directory.proofs.Sounds.{creation_blocks, creation_head}
 use Rattle.interleave.proofs.AloneLaws.{get_set}
-use Rattle.named.specs.Brokers.{Brokered, HasRoom, IsCreating, IsDirectoryAt, IsDirectoryIn, IsSlotAt, IsUnusedBlock, IsWell, block_words, is_ready_at, quiet, words_created, world_at, world_of}
-use Rattle.named.specs.Slots.{kind_in, world_in, IsReadyIn}
+use Rattle.named.specs.Brokers.{Brokered, HasRoom, IsCreating, IsDirectoryAt, IsDirectoryIn, IsSlotAt, IsUnusedBlock, IsWell, block_words, is_ready_at, quiet, room_at, room_of, words_created, world_at, world_of}
+use Rattle.named.specs.Slots.{kind_in, room_in, world_in, IsReadyIn}
 use Rattle.named.specs.declared.recovery.BrokerRecovery.{BrokerRecovery}
 use Rattle.named.specs.declared.slot.Slot.{Slot}
 use Rattle.named.specs.declared.slot.Slot.TheVariants.{Closed, Durable, Log}
 use Rattle.named.proofs.Begun.{get_there}
+use Rattle.named.proofs.Eaches.{rooms_kept}
 use Rattle.named.proofs.Kept.{get_set_other, length_set, size_same, slot_stays, some_is, world_stays}
 
 block_list : (size j : ℕ) (new old : List ℕ) → drop 34 new ≡ drop 34 old → take size (drop (34 + j * size) new) ≡ take size (drop (34 + j * size) old)
@@ -133,6 +134,16 @@ module _ (b : Brokered) (creation : Creation) (holds : IsWell b) (ready : b.reco
         go (Some s) e =
             let closed : s ≡ Closed = closed_where_free s (holds.kinds slot.0 s None e is_free) in
             subst (IsSlotAt b.counts (words_created b creation) slot.0) closed (slots_now rest.room slot.0 s e)
+        go None e = absurd (get_there b.slots slot.0 (omega (arith, in_range, holds.count)) e)
+
+    -- it was closed, and had no room
+    pub rooms_opened : (opened : Slot) (at : ℕ) → room_at b at ≤ room_of (slice_get (slice_set b.slots slot.0 opened) at)
+    rooms_opened opened at = go (slice_get b.slots slot.0) refl
+      where
+        go : (o : Option Slot) → slice_get b.slots slot.0 ≡ o → room_at b at ≤ room_of (slice_get (slice_set b.slots slot.0 opened) at)
+        go (Some s) e =
+            let closed : s ≡ Closed = closed_where_free s (holds.kinds slot.0 s None e is_free) in
+            rooms_kept b.slots slot.0 s opened e (omega (arith, ap room_in closed)) at
         go None e = absurd (get_there b.slots slot.0 (omega (arith, in_range, holds.count)) e)
 
     module _ (opened : Slot) (kind : kind_in opened ≡ Some creation.queue.kind) (is_ready : IsReadyIn true opened) (at : IsSlotAt b.counts (words_created b creation) slot.0 opened)

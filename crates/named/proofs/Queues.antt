@@ -1,6 +1,6 @@
 -- A step of recovery of the queue in a slot, and what comes once that is ready.
 use Rattle.std.proofs.Common.{◌≡◌, ℕ, ◌+◌, ◌<◌, ◌≤◌, ◌⊎◌, inl, inr, Bool, true, false, not, List, Option, Some, None, Result, Ok, Err, slice_get, slice_set, refl, sym, ap, ◌∙◌, subst, arith}
-use Rattle.std.specs.Prelude.{is_none, is_some, nat_lt}
+use Rattle.std.specs.Prelude.{IfErr, is_none, is_some, nat_lt}
 use Rattle.std.proofs.lemmas.Bool.{cases_eq, le-ltb, lt-ltb, ltb-false}
 use Rattle.std.proofs.lemmas.Option.{slice_get_within}
 use Rattle.words.specs.declared.refusal.Refusal.{Refusal}
@@ -17,7 +17,7 @@ use Rattle.interleave.specs.Calls.{is_no_memory}
 use Rattle.interleave.specs.State.{State, after_recover, is_ready, machine, recover_result, recover_result_with, recover_with}
 use Rattle.interleave.proofs.AloneLaws.{get_set}
 use Rattle.named.specs.Blocks.{BlockState, state_in}
-use Rattle.named.specs.Brokers.{Brokered, IsDirectoryAt, IsRecoveringQueue, IsWell, is_ready_at, room_of, with_slot, world_at}
+use Rattle.named.specs.Brokers.{Brokered, IsDirectoryAt, IsRecoveringQueue, IsWell, is_ready_at, room_at, room_of, with_slot, world_at}
 use Rattle.named.specs.Slots.{IsReadyIn, IsSameOutsideSlot, IsSameSlot, IsSlotWell, IfWorld, acted, answered, room_in, world_in}
 use Rattle.named.specs.Stopping.{HasFullQueue, IsNext, IsQueueOn, IsQueueRecovered, creation_after}
 use Rattle.named.specs.declared.recovery.BrokerRecovery.{BrokerRecovery}
@@ -83,6 +83,19 @@ told_of full w holds ready =
       mended = it.mended;
     }
 
+-- what a step of the queue's recovery uses up of the room in its history: a place at most, and none where it is refused
+-- or the queue is not ready yet
+pub record HasSpent (was is : Slot) (r : Result Bool Refusal) : Type 0 where
+  pub full : is_no_memory r ≡ true → room_in was ≡ 0
+  pub room : room_in was ≤ room_in is + 1
+  pub spare : IfErr r (λ e. room_in was ≤ room_in is)
+  pub stays : r ≡ Ok false → room_in was ≤ room_in is
+
+spent_yet : (was is : Slot) (r : Result Bool Refusal) → HasSpent was is r → ready_by r ≡ false → room_in was ≤ room_in is
+spent_yet was is (Err refusal) spent yet = spent.spare
+spent_yet was is (Ok false) spent yet = spent.stays refl
+spent_yet was is (Ok true) spent yet = absurd (cc)
+
 -- the queue that recovers is in a slot that there is
 pub its_queue : (b : Brokered) → IsWell b → (slot : SlotId) → b.recovery ≡ Some (RecoverQueue slot) → IsRecoveringQueue b.words b.directory slot.0
 its_queue b holds slot is = subst (λ (r : Option BrokerRecovery). IsDirectoryAt b.words r b.creation b.directory) is holds.directory
@@ -115,6 +128,12 @@ module _ (b : Brokered) (slot : SlotId) (was is : Slot) (ws : Words) (holds : Is
 
   answer_here : answered (recover_result (is_no_memory r)) (world_at b slot.0) ≡ r
   answer_here = ap (answered (recover_result (is_no_memory r))) (world_was b slot.0 was is ws holds here well outside place) ∙ sym result
+
+  room_here : room_at b slot.0 ≡ room_in was
+  room_here = ap room_of here
+
+  room_there : room_at (with_slot b slot.0 is ws) slot.0 ≡ room_in is
+  room_there = ap room_of (get_set b.slots slot.0 is (slice_get_within b.slots slot.0 was here))
 
   -- the queue's recovery has fewer steps left
   world_falls : (x : Bool) → r ≡ Ok x → left_in (world_at (with_slot b slot.0 is ws) slot.0) < left_in (world_at b slot.0)
@@ -158,12 +177,17 @@ module _ (b : Brokered) (slot : SlotId) (was is : Slot) (ws : Words) (holds : Is
     goes_on (Ok false) e = (refl, refl, refl)
     goes_on (Ok true) e = absurd (cc)
 
-    pub recovering : IsQueueRecovered b (with_slot b slot.0 is ws) slot.0 r
-    recovering = record {
+    pub recovering : HasSpent was is r → IsQueueRecovered b (with_slot b slot.0 is ws) slot.0 r
+    recovering spent = record {
       counts = refl;
       directory = refl;
+      directory_words = same_directory b slot.0 was is ws holds here well outside place;
       world = world_here;
       others = λ j ne. others_stay b slot.0 was is ws holds here well outside place j ne;
+      full = λ e. room_here ∙ spent.full e;
+      room = omega (arith, room_here, room_there, spent.room);
+      stays = λ e. omega (arith, room_here, room_there, spent_yet was is r spent yet);
+      other_rooms = λ j ne. ap room_of (get_set_other b.slots slot.0 is j ne);
       next = subst (IsQueueOn b (with_slot b slot.0 is ws) slot.0 r) (sym answer_here) (goes_on r yet);
     }
 
@@ -212,12 +236,26 @@ module _ (b : Brokered) (slot : SlotId) (was is : Slot) (ws : Words) (holds : Is
           (kinds_now b slot.0 was is ws holds here well outside place) (slot.0 + 1) recovery next j s e (below j s e) (above j s e);
     }
 
-    pub recovered : IsQueueRecovered b after slot.0 (Ok (is_none recovery))
-    recovered = record {
+    -- recovery has gone on past it
+    gone_on : recovery ≡ b.recovery → ⊥
+    gone_on e =
+        let still : IsNext b.directory (slot.0 + 1) (Some (RecoverQueue slot)) = subst (IsNext b.directory (slot.0 + 1)) (e ∙ turn) next in
+        omega (arith, still.past)
+
+    not_full : (x : Bool) → let answer : Result Bool Refusal = Ok x in is_no_memory answer ≡ true → ⊥
+    not_full x e = absurd (cc)
+
+    pub recovered : HasSpent was is r → IsQueueRecovered b after slot.0 (Ok (is_none recovery))
+    recovered spent = record {
       counts = refl;
       directory = refl;
+      directory_words = same_directory b slot.0 was is ws holds here well outside place;
       world = subst (λ (x : Result Bool Refusal). world_at (with_slot b slot.0 is ws) slot.0 ≡ acted (after_recover (is_no_memory x)) (world_at b slot.0)) ready world_here;
       others = λ j ne. others_stay b slot.0 was is ws holds here well outside place j ne;
+      full = λ e. absurd (not_full (is_none recovery) e);
+      room = omega (arith, room_here, room_there, spent.room);
+      stays = λ e. absurd (gone_on e);
+      other_rooms = λ j ne. ap room_of (get_set_other b.slots slot.0 is j ne);
       next = subst (IsQueueOn b after slot.0 (Ok (is_none recovery)))
           (sym (subst (λ (x : Result Bool Refusal). answered (recover_result (is_no_memory x)) (world_at b slot.0) ≡ x) ready answer_here)) (refl, next, refl);
     }

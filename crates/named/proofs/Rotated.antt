@@ -71,15 +71,6 @@ pub record AreBegunFrom (ws : Words) (old : List Slot) (bases : List (List ℕ))
   pub still : (at : ℕ) → at < length left → slice_get new at ≡ slice_get old at
   pub begun : (at : ℕ) (was is : Slot) → length left ≤ at → slice_get old at ≡ Some was → slice_get new at ≡ Some is → IsBegunAnew ws was is
 
-pub begun_none : (ws : Words) (old : List Slot) (bases : List (List ℕ)) → length bases ≡ length old → AreBegunFrom ws old bases old bases
-begun_none ws old bases long = record {
-  count = refl;
-  few = omega (arith, long);
-  bases_left = λ at base e. e;
-  still = λ at below. refl;
-  begun = λ at was is past here there. absurd (omega (arith, past, long, slice_get_within old at was here));
-}
-
 pub begun_more : (ws : Words) (old : List Slot) (bases : List (List ℕ)) (new : List Slot) (left : List (List ℕ)) (base : List ℕ) (was is : Slot)
     → AreBegunFrom ws old bases new (left ++ base ∷ []) → slice_get new (length left) ≡ Some was → IsBegunAnew ws was is
     → AreBegunFrom ws old bases (slice_set new (length left) is) left

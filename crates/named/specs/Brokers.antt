@@ -1,5 +1,5 @@
 -- A broker: one memory, and eight slots in it.
-use Rattle.std.specs.Prelude.{◌≡◌, ℕ, ◌+◌, ◌<◌, ◌⊎◌, Bool, true, false, ◌&&◌, not, IsSome, is_some, is_ok, List, Ok, Option, Some, None, Result, Err, length, replicate, slice_get, slice_set, nat_lt, if◌then◌else◌}
+use Rattle.std.specs.Prelude.{◌≡◌, ℕ, ◌+◌, ◌<◌, ◌≤◌, ◌⊎◌, Bool, true, false, ◌&&◌, not, IsSome, is_some, is_ok, List, Ok, Option, Some, None, Result, Err, length, replicate, slice_get, slice_set, nat_lt, if◌then◌else◌}
 use Rattle.std.specs.Option.{option_map}
 use Rattle.words.specs.declared.call.Client.{Client}
 use Rattle.words.specs.declared.call.Kind.{Kind}
@@ -214,7 +214,7 @@ pub record IsBegun (b : Brokered) (name : List ℕ) (kind : Kind) (creation : Cr
 abbrev pub words_created : Brokered → Creation → Words
 words_created b creation = after_one b.counts (access_of creation) b.words
 
--- its last step opens the slot: a new world, on words that are all 0
+-- its last step opens the slot: a new world, on words that are all 0. No queue's history loses room
 pub record IsOpened (old new : Brokered) (creation : Creation) (slot : SlotId) : Type 0 where
   pub counts : new.counts ≡ old.counts
   pub recovery : new.recovery ≡ old.recovery
@@ -223,6 +223,7 @@ pub record IsOpened (old new : Brokered) (creation : Creation) (slot : SlotId) :
   pub directory : new.directory ≡ slice_set old.directory slot.0 (Some creation.queue)
   pub world : world_at new slot.0
       ≡ Some (world_over (shape_of creation.queue.kind old.counts) (block_words old.counts slot.0 new.words))
+  pub rooms : (at : ℕ) → room_at old at ≤ room_at new at
 
 -- what a step of a creation comes to, and what it answers
 abbrev pub IsStepCreated

@@ -19,7 +19,7 @@ use Rattle.interleave.specs.Calls.{is_no_memory}
 use Rattle.interleave.specs.State.{State, after_stop, after_recover, recover_result, world_over}
 use Rattle.recover.specs.Table.{boot_recovery as queue_recovery}
 use Rattle.named.specs.Slots.{acted, answered}
-use Rattle.directory.specs.UnderWay.{IsAtRest}
+use Rattle.directory.specs.UnderWay.{HaveSameDirectory, IsAtRest}
 use Rattle.named.specs.Brokers.{Brokered, IsReading, block_words, quiet, room_at, world_at}
 use Rattle.named.specs.declared.recovery.BrokerRecovery.{BrokerRecovery}
 use Rattle.named.specs.declared.recovery.BrokerRecovery.TheVariants.{ReadDirectory, RecoverQueue}
@@ -109,6 +109,7 @@ pub record IsDirectoryRead (old new : Brokered) (at : DirectoryRecovery) (result
   pub counts : new.counts ≡ old.counts
   pub words : new.words ≡ words_read old at
   pub found : IsFound old new (found_by old at).opened
+  pub rooms : (slot : ℕ) → room_at old slot ≤ room_at new slot
   pub next : IsReadOn old new (found_by old at).after
   pub answer : result ≡ Ok (is_none new.recovery)
 
@@ -122,12 +123,18 @@ IsQueueOn old new slot result (Ok true) =
     (result ≡ Ok (is_none new.recovery)) × IsNext old.directory (slot + 1) new.recovery
     × (new.creation ≡ creation_after old.creation new.recovery)
 
--- a step of recovery of the queue in a slot
+-- a step of recovery of the queue in a slot: it uses up a place in that queue's history alone, and only where the queue
+-- is ready by it
 pub record IsQueueRecovered (old new : Brokered) (slot : ℕ) (result : Result Bool Refusal) : Type 0 where
   pub counts : new.counts ≡ old.counts
   pub directory : new.directory ≡ old.directory
+  pub directory_words : HaveSameDirectory old.words new.words
   pub world : world_at new slot ≡ acted (after_recover (is_no_memory result)) (world_at old slot)
   pub others : (other : ℕ) → other ≢ slot → quiet (world_at new other) ≡ quiet (world_at old other)
+  pub full : is_no_memory result ≡ true → room_at old slot ≡ 0
+  pub room : room_at old slot ≤ room_at new slot + 1
+  pub stays : new.recovery ≡ old.recovery → room_at old slot ≤ room_at new slot
+  pub other_rooms : (other : ℕ) → other ≢ slot → room_at new other ≡ room_at old other
   pub next : IsQueueOn old new slot result (answered (recover_result (is_no_memory result)) (world_at old slot))
 
 -- what a step of recovery makes, by what it was about to do

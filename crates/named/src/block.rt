@@ -1,6 +1,6 @@
 //! A queue in its block of the memory of a broker.
 
-ghost use Rattle.std.specs.Prelude.{◌≡◌, ◌+◌, ◌-◌, ◌≤◌, ◌⊎◌, ◌<◌, length, IfOk, IfErr, OnOk, OnErr, Ok, Err, Some, true, false};
+ghost use Rattle.std.specs.Prelude.{◌≡◌, ◌+◌, ◌-◌, ◌≤◌, ◌⊎◌, ◌<◌, length, IfOk, IfErr, OnOk, OnErr, Ok, Err, Some, None, true, false};
 ghost use Rattle.events.specs.Effects.{order_of};
 ghost use Rattle.interleave.specs.Queue.{told_in, told_to};
 ghost use Rattle.words.specs.declared.refusal.Refusal.{Refusal as AnyRefusal};
@@ -115,6 +115,8 @@ impl<L: Layout + Drop> Block<L> {
         ensures result { result ≡ step_result (is_no_memory result) (state_in memory.old self.old) client }
         ensures full { is_no_memory result ≡ true → self.old.core.trace.room ≡ 0 }
         ensures room { self.old.core.trace.room ≤ self.new.core.trace.room + 1 }
+        ensures spare { IfErr result (λ e. self.old.core.trace.room ≤ self.new.core.trace.room) }
+        ensures stays { result ≡ Ok None → self.old.core.trace.room ≤ self.new.core.trace.room }
         ensures well { IsWellIn memory.new self.new }
         ensures outside { IsSameOutside self.old.from self.old.len memory.old memory.new }
         ensures recovery { self.new.core.trace.recovery ≡ self.old.core.trace.recovery }
@@ -138,6 +140,7 @@ impl<L: Layout + Drop> Block<L> {
         ensures result { result ≡ start_result (is_no_memory result) (state_in memory.old self.old) client number }
         ensures full { is_no_memory result ≡ true → self.old.core.trace.room ≡ 0 }
         ensures room { self.old.core.trace.room ≤ self.new.core.trace.room + 1 }
+        ensures spare { IfErr result (λ e. self.old.core.trace.room ≤ self.new.core.trace.room) }
         ensures well { IsWellIn memory.new self.new }
         ensures outside { IsSameOutside self.old.from self.old.len memory.old memory.new }
         ensures recovery { self.new.core.trace.recovery ≡ self.old.core.trace.recovery }
@@ -161,6 +164,7 @@ impl<L: Layout + Drop> Block<L> {
         ensures same { IfErr result (λ e. state_in memory.new self.new ≡ state_in memory.old self.old) }
         ensures full { is_no_memory result ≡ true → self.old.core.trace.room ≡ 0 }
         ensures room { self.old.core.trace.room ≤ self.new.core.trace.room + 1 }
+        ensures spare { IfErr result (λ e. self.old.core.trace.room ≤ self.new.core.trace.room) }
         ensures steps { IfOk result (λ answer. answer.1 ≤ MAX_STEPS_ALONE) }
         ensures answer { IfOk result (λ answer.
             IsAnsweredAlone (state_in memory.old self.old) client answer.1 answer.0) }
@@ -273,6 +277,8 @@ impl<L: Layout + Drop> Block<L> {
         ensures result { result ≡ recover_result (is_no_memory result) (state_in memory.old self.old) }
         ensures full { is_no_memory result ≡ true → self.old.core.trace.room ≡ 0 }
         ensures room { self.old.core.trace.room ≤ self.new.core.trace.room + 1 }
+        ensures spare { IfErr result (λ e. self.old.core.trace.room ≤ self.new.core.trace.room) }
+        ensures stays { result ≡ Ok false → self.old.core.trace.room ≤ self.new.core.trace.room }
         ensures well { IsWellIn memory.new self.new }
         ensures outside { IsSameOutside self.old.from self.old.len memory.old memory.new }
         ensures place { LieInOnePlace self.old self.new }

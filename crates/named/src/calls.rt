@@ -42,6 +42,7 @@ impl Broker {
             ≡ answer_at (λ w. start_result (is_no_memory result) w client number) self.old slot.0 client }
         ensures full { is_no_memory result ≡ true → room_at self.old slot.0 ≡ 0 }
         ensures room { room_at self.old slot.0 ≤ room_at self.new slot.0 + 1 }
+        ensures spare { IfErr result (λ e. room_at self.old slot.0 ≤ room_at self.new slot.0) }
         ensures other_rooms { (other : ℕ) → other ≢ slot.0 → room_at self.new other ≡ room_at self.old other }
         ensures others { (other : ℕ) → other ≢ slot.0
             → quiet (world_at self.new other) ≡ quiet (world_at self.old other) }
@@ -67,6 +68,8 @@ impl Broker {
         ensures result { result ≡ answer_at (λ w. step_result (is_no_memory result) w client) self.old slot.0 client }
         ensures full { is_no_memory result ≡ true → room_at self.old slot.0 ≡ 0 }
         ensures room { room_at self.old slot.0 ≤ room_at self.new slot.0 + 1 }
+        ensures spare { IfErr result (λ e. room_at self.old slot.0 ≤ room_at self.new slot.0) }
+        ensures stays { result ≡ Ok None → room_at self.old slot.0 ≤ room_at self.new slot.0 }
         ensures other_rooms { (other : ℕ) → other ≢ slot.0 → room_at self.new other ≡ room_at self.old other }
         ensures others { (other : ℕ) → other ≢ slot.0
             → quiet (world_at self.new other) ≡ quiet (world_at self.old other) }
@@ -93,6 +96,7 @@ impl Broker {
             ⊎ (answer_at (λ w. waiting_in w client) self.old slot.0 client ≡ Err e)) }
         ensures full { is_no_memory result ≡ true → room_at self.old slot.0 ≡ 0 }
         ensures room { room_at self.old slot.0 ≤ room_at self.new slot.0 + 1 }
+        ensures spare { IfErr result (λ e. room_at self.old slot.0 ≤ room_at self.new slot.0) }
         ensures other_rooms { (other : ℕ) → other ≢ slot.0 → room_at self.new other ≡ room_at self.old other }
         ensures same { IfErr result (λ e. world_at self.new slot.0 ≡ world_at self.old slot.0) }
         ensures steps { IfOk result (λ answer. answer.1 ≤ MAX_STEPS_ALONE) }

@@ -50,6 +50,7 @@ impl Slot {
             ≡ answered (λ w. start_result (is_no_memory result) w client number) (world_in memory.old self.old) }
         ensures full { is_no_memory result ≡ true → room_in self.old ≡ 0 }
         ensures room { room_in self.old ≤ room_in self.new + 1 }
+        ensures spare { IfErr result (λ e. room_in self.old ≤ room_in self.new) }
         ensures well { IsSlotWell memory.new self.new }
         ensures outside { IsSameOutsideSlot self.old memory.old memory.new }
         ensures same { IsSameSlot self.old self.new }
@@ -75,6 +76,8 @@ impl Slot {
             ≡ answered (λ w. step_result (is_no_memory result) w client) (world_in memory.old self.old) }
         ensures full { is_no_memory result ≡ true → room_in self.old ≡ 0 }
         ensures room { room_in self.old ≤ room_in self.new + 1 }
+        ensures spare { IfErr result (λ e. room_in self.old ≤ room_in self.new) }
+        ensures stays { result ≡ Ok None → room_in self.old ≤ room_in self.new }
         ensures well { IsSlotWell memory.new self.new }
         ensures outside { IsSameOutsideSlot self.old memory.old memory.new }
         ensures same { IsSameSlot self.old self.new }
@@ -101,6 +104,7 @@ impl Slot {
         ensures same_world { IfErr result (λ e. world_in memory.new self.new ≡ world_in memory.old self.old) }
         ensures full { is_no_memory result ≡ true → room_in self.old ≡ 0 }
         ensures room { room_in self.old ≤ room_in self.new + 1 }
+        ensures spare { IfErr result (λ e. room_in self.old ≤ room_in self.new) }
         ensures steps { IfOk result (λ answer. answer.1 ≤ MAX_STEPS_ALONE) }
         ensures answer { IfOk result (λ answer. IfWorld (world_in memory.old self.old)
             (λ w. IsAnsweredAlone w client answer.1 answer.0)) }
@@ -337,6 +341,8 @@ impl Slot {
             ≡ answered (recover_result (is_no_memory result)) (world_in memory.old self.old) }
         ensures full { is_no_memory result ≡ true → room_in self.old ≡ 0 }
         ensures room { room_in self.old ≤ room_in self.new + 1 }
+        ensures spare { IfErr result (λ e. room_in self.old ≤ room_in self.new) }
+        ensures stays { result ≡ Ok false → room_in self.old ≤ room_in self.new }
         ensures well { IsSlotWell memory.new self.new }
         ensures outside { IsSameOutsideSlot self.old memory.old memory.new }
         ensures same { IsSameSlot self.old self.new }

@@ -18,7 +18,7 @@ use crate::recovery::BrokerRecovery;
 use crate::slot::Slot;
 use crate::slots::{reserve_each, stop_each};
 use arena::{SLOTS, SlotId};
-use directory::{Creation, Directory, DirectoryRecovery, Places};
+use directory::{Creation, Directory, DirectoryRecovery, MAX_DIRECTORY_STEPS, Places};
 use stepper::After;
 use words::Refusal;
 
@@ -57,7 +57,8 @@ impl Broker {
         ensures result { result ≡ crash_result (is_no_memory result) }
         ensures full { is_no_memory result ≡ true → HasFullQueue self.old }
         ensures room { (slot : ℕ) → room_at self.old slot ≤ room_at self.new slot + 1 }
-        ensures left { result ≡ Ok tt → steps_left self.new ≡ 32 + most_kept self.new }
+        ensures spare { OnErr result ((slot : ℕ) → room_at self.old slot ≤ room_at self.new slot) }
+        ensures left { result ≡ Ok tt → steps_left self.new ≡ MAX_DIRECTORY_STEPS + most_kept self.new }
         ensures downtime { result ≡ Ok tt → IsDowntime self.old self.new }
         ensures goes_on { BrokerGoesOn self.old self.new }
         ensures promises { KeepsPromises self.new }
@@ -80,7 +81,7 @@ impl Broker {
         requires open { IfSome opened (λ slot. IsOpenSlot self.old.words.kept slot.0) }
         ensures same { self.new ≡ record self.old { slots = self.new.slots; directory = self.new.directory } }
         ensures found { IsFound self.old self.new opened }
-        ensures room { (other : ℕ) → room_at self.old other ≤ room_at self.new other + 1 }
+        ensures rooms { (other : ℕ) → room_at self.old other ≤ room_at self.new other }
         ensures known { IfSome opened (λ slot.
             slice_get self.new.directory slot.0 ≡ Some (slot_in self.old.words.kept slot.0)) }
         ensures well { IsWell self.new }
@@ -148,6 +149,7 @@ impl Broker {
         ensures recovered { IsQueueRecovered self.old self.new slot.0 result }
         ensures full { is_no_memory result ≡ true → HasFullQueue self.old }
         ensures room { (other : ℕ) → room_at self.old other ≤ room_at self.new other + 1 }
+        ensures spare { OnErr result ((other : ℕ) → room_at self.old other ≤ room_at self.new other) }
         ensures told { TellAtReady self.old self.new }
         ensures falls { IfOk result (λ ready. steps_left self.new < steps_left self.old) }
         ensures promises { KeepsPromises self.new }
@@ -170,8 +172,9 @@ impl Broker {
         ensures step { IsRecoveryStep self.old self.new result self.old.recovery }
         ensures full { is_no_memory result ≡ true → HasFullQueue self.old }
         ensures room { (slot : ℕ) → room_at self.old slot ≤ room_at self.new slot + 1 }
+        ensures spare { OnErr result ((slot : ℕ) → room_at self.old slot ≤ room_at self.new slot) }
         ensures told { TellAtReady self.old self.new }
-        ensures few { steps_left self.old ≤ 32 + most_kept self.old }
+        ensures few { steps_left self.old ≤ MAX_DIRECTORY_STEPS + most_kept self.old }
         ensures falls { IfOk result (λ ready. steps_left self.new < steps_left self.old) }
         ensures downtime { IsDowntime self.old self.new }
         ensures promises { KeepsPromises self.new }

@@ -5,7 +5,7 @@ use Rattle.clap.specs.Words.{Row, Text, IsAmong, fault_of, first_of, kind_of, su
 use Rattle.clap.specs.declared.error.Error.{Error}
 use Rattle.clap.specs.declared.error.kind.ErrorKind.TheVariants.{OutOfMemory, ValueValidation}
 use Rattle.options.specs.Commands.{pqd_app}
-use Rattle.options.specs.Limits.{default_clients, default_records, default_port, default_workers, greatest_port, most_workers}
+use Rattle.options.specs.declared.limits.TheConstants.{DEFAULT_CLIENTS, DEFAULT_RECORDS, DEFAULT_PORT, DEFAULT_WORKERS, MAX_PORT, MAX_WORKERS}
 use Rattle.options.specs.Numbers.{Fits, number_of}
 use Rattle.options.specs.declared.asked.Options.{Options}
 use Rattle.options.specs.declared.asked.Listening.{Listening}
@@ -34,7 +34,7 @@ IsKnown command = (command ≡ Some (codes "pipe")) ⊎ (command ≡ Some (codes
 
 -- each number that a server was given is a whole number in the range of its option
 abbrev pub ListeningFits : (Text → Option Text) → Type 0
-ListeningFits given = Fits 0 greatest_port (given (codes "port")) × Fits 1 most_workers (given (codes "workers"))
+ListeningFits given = Fits 0 MAX_PORT (given (codes "port")) × Fits 1 MAX_WORKERS (given (codes "workers"))
 
 -- the same of each number that any command was given
 pub record AllFit (command : Option Text) (given : Text → Option Text) : Type 0 where
@@ -45,8 +45,8 @@ pub record AllFit (command : Option Text) (given : Text → Option Text) : Type 
 -- a server listens where its options say, and has as many workers
 pub record ListensBy (given : Text → Option Text) (listening : Listening) : Type 0 where
   pub fit : ListeningFits given
-  pub port : listening.port ≡ number_of default_port (given (codes "port"))
-  pub workers : listening.workers ≡ number_of default_workers (given (codes "workers"))
+  pub port : listening.port ≡ number_of DEFAULT_PORT (given (codes "port"))
+  pub workers : listening.workers ≡ number_of DEFAULT_WORKERS (given (codes "workers"))
 
 -- the mode is that of the command, with what its options say
 abbrev pub IsModeOf : Option Text → (Text → Option Text) → Mode → Type 0
@@ -56,8 +56,8 @@ IsModeOf command given (Serve listening) = (command ≡ Some (codes "serve")) ×
 -- the command and the values of its options ask this
 pub record Asks (command : Option Text) (given : Text → Option Text) (o : Options) : Type 0 where
   pub fit : AllFit command given
-  pub clients : o.clients ≡ number_of default_clients (given (codes "clients"))
-  pub records : o.records ≡ number_of default_records (given (codes "records"))
+  pub clients : o.clients ≡ number_of DEFAULT_CLIENTS (given (codes "clients"))
+  pub records : o.records ≡ number_of DEFAULT_RECORDS (given (codes "records"))
   pub image : option_map (λ s. s.now) o.image ≡ given (codes "image")
   pub mode : IsModeOf command given o.mode
 

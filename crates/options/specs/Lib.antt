@@ -1,5 +1,4 @@
 -- What the words of a command line ask.
-pub mod Limits
 pub mod Numbers
 pub mod Commands
 pub mod Asked

@@ -4,7 +4,7 @@ use Rattle.clap.specs.Words.{Text, IsAmong, fault_of, kind_of, subcommand_of}
 use Rattle.clap.specs.declared.error.Error.{Error}
 use Rattle.clap.specs.declared.error.kind.ErrorKind.TheVariants.{OutOfMemory, ValueValidation}
 use Rattle.options.specs.Asked.{name_in, values_in}
-use Rattle.options.specs.Limits.{default_draw, greatest_draw}
+use Rattle.options.specs.declared.limits.TheConstants.{DEFAULT_DRAW, MAX_DRAW}
 use Rattle.options.specs.Numbers.{Fits, number_of}
 use Rattle.options.specs.PqxCommands.{pqx_app}
 use Rattle.options.specs.declared.pqx.Choice.{Choice}
@@ -27,7 +27,8 @@ IsChoice (Some text) = (text ≡ codes "none") ⊎ (text ≡ codes "all") ⊎ (t
 -- the options of a report on points say this
 pub record AsksPoints (given : Text → Option Text) (o : PointOptions) : Type 0 where
   pub choice : Chooses (given (codes "evict")) o.choice
-  pub draw : o.draw ≡ number_of default_draw (given (codes "draw"))
+  pub fit : Fits 0 MAX_DRAW (given (codes "draw"))
+  pub draw : o.draw ≡ number_of DEFAULT_DRAW (given (codes "draw"))
   pub page : option_map (λ s. s.now) o.page ≡ given (codes "page")
 
 -- the command and the values of its options ask this
@@ -39,7 +40,7 @@ Asks command given Alone = command ≡ Some (codes "alone")
 -- each option that has one of some values, or a number, was given such a one
 pub record AllFit (given : Text → Option Text) : Type 0 where
   pub choice : IsChoice (given (codes "evict"))
-  pub draw : Fits 0 greatest_draw (given (codes "draw"))
+  pub draw : Fits 0 MAX_DRAW (given (codes "draw"))
 
 -- the words ask this, and clap finds no fault with them
 pub record IsPqxAsked (words : List Text) (o : PqxAsked) : Type 0 where

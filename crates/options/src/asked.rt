@@ -2,7 +2,7 @@
 
 ghost use Rattle.std.specs.Prelude.{◌≤◌};
 ghost use Rattle.words.specs.declared.limits.TheConstants.{MAX_CLIENTS, MAX_RECORDS};
-ghost use Rattle.options.specs.Limits.{most_workers};
+ghost use Rattle.options.specs.declared.limits.TheConstants.{MAX_WORKERS};
 
 /// What `pqd` is asked to do.
 #[derive(Clone, Copy, Debug, PartialEq, Eq)]
@@ -38,5 +38,5 @@ pub struct Listening {
     /// The threads that serve, from 1 to `MAX_WORKERS`.
     pub workers: u32,
     ghost some_workers: { 1 ≤ workers },
-    ghost few_workers: { workers ≤ most_workers },
+    ghost few_workers: { workers ≤ MAX_WORKERS },
 }

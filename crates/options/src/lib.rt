@@ -14,8 +14,8 @@ mod tests;
 
 pub use asked::{Listening, Mode, Options};
 pub use limits::{
-    DEFAULT_CLIENTS, DEFAULT_DRAW, DEFAULT_PORT, DEFAULT_RECORDS, DEFAULT_WORKERS, MAX_PORT,
-    MAX_WORKERS,
+    DEFAULT_CLIENTS, DEFAULT_DRAW, DEFAULT_PORT, DEFAULT_RECORDS, DEFAULT_WORKERS, MAX_DRAW,
+    MAX_PORT, MAX_WORKERS,
 };
 pub use line::command_line;
 pub use pqx::{Choice, PointOptions, PqxAsked};

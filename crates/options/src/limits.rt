@@ -24,6 +24,9 @@ pub const MAX_WORKERS: u32 = 16;
 /// The state at which draws of `pqx` begin where `--draw` is not given.
 pub const DEFAULT_DRAW: u64 = 1;
 
+/// The greatest such state.
+pub const MAX_DRAW: u64 = 18_446_744_073_709_551_615;
+
 /// `--clients T`
 pub(crate) const CLIENTS: NumberOption = NumberOption {
     name: "clients",

@@ -4,7 +4,7 @@ ghost use Rattle.std.specs.Prelude.{◌≡◌, IfOk, IfErr, OnErr, Some, map, op
 ghost use Rattle.std.specs.Result.{OkIff};
 ghost use Rattle.clap.specs.Words.{first_value, found_of, kind_of, subcommand_rows_of};
 ghost use Rattle.options.specs.Asked.{name_in, values_in};
-ghost use Rattle.options.specs.Limits.{default_draw, greatest_draw};
+ghost use Rattle.options.specs.declared.limits.TheConstants.{DEFAULT_DRAW, MAX_DRAW};
 ghost use Rattle.options.specs.Numbers.{Fits, number_of};
 ghost use Rattle.options.specs.PqxAsked.{AllFit, Asks, AsksPoints, Chooses, IsChoice, IsPqxAsked, RefusesPqx};
 
@@ -49,8 +49,8 @@ fn choice(given: Option<&str>) -> Result<Choice, Misfit>
 
 /// The state that is given, or the default where none is.
 fn draw(given: Option<&str>) -> Result<u64, Misfit>
-    ensures { OkIff result (Fits 0 greatest_draw (option_map (λ s. s.now) given.entry))
-        (number_of default_draw (option_map (λ s. s.now) given.entry)) }
+    ensures { OkIff result (Fits 0 MAX_DRAW (option_map (λ s. s.now) given.entry))
+        (number_of DEFAULT_DRAW (option_map (λ s. s.now) given.entry)) }
 {
     let Some(text) = given else {
         return Ok(DEFAULT_DRAW);

@@ -5,7 +5,7 @@ use Rattle.std.specs.List.{list_any}
 use Rattle.std.proofs.lemmas.Bool.{cases_eq, eq-eqb, ne_eqb, or_right}
 use Rattle.words.specs.declared.call.Kind.{Kind}
 use Rattle.words.specs.declared.call.Kind.TheVariants.{Durable, Log}
-use Rattle.arena.specs.Shape.{Shape, greatest, owner}
+use Rattle.arena.specs.Shape.{Shape, owner}
 use Rattle.arena.specs.Place.{IsClient, IsNode, IsRecord}
 use Rattle.arena.specs.Words.{links, marks, announcements}
 use Rattle.arena.specs.Chain.{walk}
@@ -114,13 +114,6 @@ looked_for_more s kept h token on_chain claimed next rest some on f =
 pub record AreLooked (s : Shape) (kept : Place → ℕ) (on_chain : ℕ → Bool) (claimed : ℕ → ℕ) (left node : ℕ) : Type 0 where
   pub at_node : IsNode s node
   pub each : (t : ℕ) → IsClient s t → announcements kept t ≢ 0 → IsLookedFor s kept (announcements kept t) (on_chain t) (claimed t) (walk left (links kept) node)
-
--- where it begins
-pub looked_none : (s : Shape) (kept : Place → ℕ) (on_chain : ℕ → Bool) (claimed : ℕ → ℕ) (left : ℕ) → left ≡ greatest s → ((t : ℕ) → on_chain t ≡ false) → ((t : ℕ) → claimed t ≡ 0) → AreLooked s kept on_chain claimed left 0
-looked_none s kept on_chain claimed left all off zeros = record {
-  at_node = omega arith;
-  each = λ t client some. rw (off t, zeros t, all) (record { node = refl; claim = refl; sure = λ ne. absurd (ne refl) });
-}
 
 -- what follows a node is on the chain
 pub linked_on_chain : (s : Shape) (kept : Place → ℕ) → ChainIsSound s kept → (node next : ℕ) → IsNode s node → next ≡ links kept node → next ≢ 0 → IsOnChain s kept next

@@ -1,18 +1,16 @@
 -- What follows from sound words: the words that recovery and calls read are in range; and all words zero are sound.
-use Rattle.std.proofs.Common.{◌≡◌, ℕ, ◌≤◌, ◌<◌, inl, inr, [], refl, sym, ◌∙◌, ap, subst, arith}
+use Rattle.std.proofs.Common.{◌≡◌, ℕ, ◌≤◌, ◌<◌, inl, inr, refl, ◌∙◌, ap, subst, arith}
 use Rattle.std.proofs.lemmas.Bool.{cases_eq, cases_lt}
 use Rattle.words.specs.declared.call.Kind.{Kind}
 use Rattle.words.specs.declared.call.Kind.TheVariants.{Durable, Log}
 use Rattle.arena.specs.Shape.{Shape, greatest}
 use Rattle.arena.specs.Place.{IsPlace, IsNode, IsRecord}
 use Rattle.arena.specs.Ranges.{Fits}
-use Rattle.arena.specs.Words.{links, marks, values, cells, inserts, numbers, entry_kinds, statuses, entry_nodes, announcements, bumps}
-use Rattle.arena.specs.Chain.{IsChain, IsAmong, walk}
+use Rattle.arena.specs.Words.{links, marks, values, cells, inserts, numbers, entry_kinds, statuses, entry_nodes, announcements}
 use Rattle.arena.specs.Content.{chain_of}
 use Rattle.arena.specs.declared.place.Place.{Place}
 use Rattle.arena.specs.declared.place.Place.TheVariants.{Head, Tail, Announcement, Bump, Value, Next, Mark, Cell, Insert, Number, EntryKind, Status, EntryNode}
-use Rattle.recover.specs.Sound.{IsBlankAnswer, IsAnnouncedOne, IsRead, AnswersAreSound, RowsAreSound, EntriesAreSound, ChainIsSound, IsSound}
-use Rattle.recover.proofs.Chains.{walk_end}
+use Rattle.recover.specs.Sound.{IsAnnouncedOne, IsRead, AnswersAreSound, RowsAreSound, EntriesAreSound, ChainIsSound, IsSound}
 use Rattle.recover.proofs.Surveys.{record_on_chain, claimed_by_mark, next_on_chain, in_chain}
 
 -- the answers of a queue of this kind
@@ -114,65 +112,3 @@ sound_fits s kept h (EntryKind e) place read = (entries_of s kept place.0 h).kin
 sound_fits s kept h (Status e) place read = status_within s kept h place.0 e.0 place.1
 sound_fits s kept h (EntryNode e) place (inl two) = dequeue_node_within s kept h place.0 e.0 place.1 two
 sound_fits s kept h (EntryNode e) place (inr by) = announced_node s kept h place.0 e.0 place.1 by
-
--- words that are all zero are those of a new queue
-zero_walk : (link : ℕ → ℕ) (fuel : ℕ) → link 0 ≡ 0 → walk fuel link 0 ≡ []
-zero_walk link fuel z = walk_end link fuel 0 z
-
-zero_answers : (k : Kind) (s : Shape) (kept : Place → ℕ) → ((p : Place) → kept p ≡ 0) → chain_of s kept ≡ [] → AnswersAreSound k s kept
-zero_answers Durable s kept z none = record {
-  rows = λ t c. inl (z (Announcement (record { 0 = t })));
-  results = λ c r two. absurd (let cell : cells kept c ≡ 0 = z (Cell (record { 0 = c })) in omega (arith, cell, two));
-  not_empty = λ n h. absurd (subst (IsAmong n) none h.on_chain);
-  not_open = λ n h. absurd (subst (IsAmong n) none h.claimed.on_chain);
-}
-zero_answers Log s kept z none = record {
-  inserts = λ n h. absurd (subst (IsAmong n) none h);
-  logs = λ t c. inl (z (Announcement (record { 0 = t })));
-  kinds = λ e r. (let kind : entry_kinds kept e ≡ 0 = z (EntryKind (record { 0 = e })) in omega (arith, kind));
-  statuses = λ e r. inl (z (Status (record { 0 = e })));
-  claims = λ n h. absurd (subst (IsAmong n) none h.on_chain);
-  results = λ e r two. absurd (let kind : entry_kinds kept e ≡ 0 = z (EntryKind (record { 0 = e })) in omega (arith, kind, two));
-  told = λ n h. absurd (subst (IsAmong n) none h.claimed.on_chain);
-}
-
-zero_blank : (k : Kind) (kept : Place → ℕ) (n : ℕ) → ((p : Place) → kept p ≡ 0) → IsBlankAnswer k kept n
-zero_blank Durable kept n z = z (Cell (record { 0 = n }))
-zero_blank Log kept n z = record {
-  insert = z (Insert (record { 0 = n }));
-  number = z (Number (record { 0 = n }));
-  kind = z (EntryKind (record { 0 = n }));
-  status = z (Status (record { 0 = n }));
-  node = z (EntryNode (record { 0 = n }));
-}
-
-pub zeros_sound : (s : Shape) (kept : Place → ℕ) → ((p : Place) → kept p ≡ 0) → IsSound s kept
-zeros_sound s kept z =
-    let none : chain_of s kept ≡ [] = zero_walk (links kept) (greatest s) (z (Next (record { 0 = 0 }))) in
-    record {
-      records = record {
-        within = λ t c. (let bump : bumps kept t ≡ 0 = z (Bump (record { 0 = t })) in omega (arith, bump));
-        unused = λ n r. record {
-          blank = λ free. record {
-            value = z (Value (record { 0 = n }));
-            link = z (Next (record { 0 = n }));
-            mark = z (Mark (record { 0 = n }));
-            answer = zero_blank s.kind kept n z;
-          };
-        };
-      };
-      chain = record {
-        ends = subst (IsChain (links kept) 0) (sym none) (z (Next (record { 0 = 0 })));
-        issued = λ n h. absurd (subst (IsAmong n) none h);
-        loose = λ n r. record { loose = λ off. record { link = z (Next (record { 0 = n })); mark = z (Mark (record { 0 = n })) } };
-        sentinel = record { value = z (Value (record { 0 = 0 })); mark = z (Mark (record { 0 = 0 })); insert = λ log. z (Insert (record { 0 = 0 })) };
-      };
-      claims = record {
-        in_range = λ n r. (let value : values kept n ≡ 0 = z (Value (record { 0 = n })) in omega (arith, value));
-        in_turn = λ n h. absurd (subst (IsAmong n) none h);
-        issued = λ n h. absurd (subst (IsAmong n) none h.on_chain);
-        once = λ n m h i e. absurd (subst (IsAmong n) none h.on_chain);
-      };
-      ends = record { head = inl (z Head); tail = inl (z Tail) };
-      answers = zero_answers s.kind s kept z none;
-    }

@@ -46,7 +46,7 @@ abbrev pub report_on : Kind → Shape → (Place → ℕ) → ℕ → Told
 report_on Durable s kept cell = told_row (row_with kept cell (node_claimed_by kept cell (chain_of s kept)))
 report_on Log s kept entry = told_verdict (record { number = numbers kept entry; outcome = outcome_by s kept entry })
 
--- what a client is told; from the last client on there is nobody to be told
+-- what a client is told; past the last client there is nobody to be told
 abbrev pub told_by : Shape → (Place → ℕ) → ℕ → Told
 told_by s kept t =
     if nat_lt t s.clients

@@ -13,7 +13,7 @@ use crate::chain::has_place;
 use crate::kept::KeptQueue;
 use arena::{DEQUEUE_KIND, EMPTY_STATUS, ENQUEUE_KIND, Layout, Place, TAKEN_STATUS};
 use persist::KeptWords;
-use words::{Client, NodeId, Token};
+use words::{Client, MAX_CALL_NUMBER, NodeId, Token};
 
 impl<L: Layout, W: KeptWords> KeptQueue<'_, L, W> {
     /// Whether the node is off the chain or inserted by its entry.
@@ -69,7 +69,7 @@ impl<L: Layout, W: KeptWords> KeptQueue<'_, L, W> {
     {
         let _client = client;
         let number = self.kept_at(Place::Number(entry));
-        if number == 0 || number > 1_099_511_627_776 {
+        if number == 0 || number > MAX_CALL_NUMBER {
             return false;
         }
         self.is_of_some_call(entry)

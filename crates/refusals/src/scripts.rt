@@ -1,16 +1,14 @@
 //! Scripts, and the reports on them.
 
-ghost use Rattle.std.specs.Prelude.{◌<◌};
-
 use anyhow::Result;
-use devices::{FaultyReader, MAX_FAILURES};
+use devices::{CountedWriter, FaultyReader};
 use explore::{
     Evictions, Script, Watch, alone, parse_script, points, run, run_alone, run_page, run_points,
     transcript, watched_points,
 };
 use std::alloc::Global;
 use std::thread::Threads;
-use subjects::{Held, MOST_TRIES, made, say_again, text_of};
+use subjects::{MOST_TRIES, Written, made, say_again, text_of};
 use words::Refusal;
 
 /// A script of either kind, as short as reports on each of their points allow.
@@ -50,27 +48,26 @@ fn name_of(work: Work) -> &'static str {
     }
 }
 
-/// Does the work on a text, to this writer. The length of the page, if there is one.
+/// Does the work on a text, and writes there. The length of the page, if there is one.
 fn worked<R: Threads + Sync>(
     rt: &R,
     alloc: Global,
     work: Work,
     text: &str,
-    writer: &mut Held,
-) -> Result<usize, Refusal>
-    requires { writer.old.failures < MAX_FAILURES }
-{
+    written: &mut Written,
+) -> Result<usize, Refusal> {
+    let mut writer = CountedWriter::new(written);
     let mut reader = FaultyReader::new(text.as_bytes(), usize::MAX);
     let mut watch = Last { done: 0 };
     let evictions = Evictions::Drawn { state: 1 };
     match work {
-        Work::Run => run(alloc, &mut reader, writer)?,
-        Work::Points => run_points(rt, alloc, &mut reader, writer, evictions, &mut watch)?,
+        Work::Run => run(alloc, &mut reader, &mut writer)?,
+        Work::Points => run_points(rt, alloc, &mut reader, &mut writer, evictions, &mut watch)?,
         Work::Page => {
-            let page = run_page(rt, alloc, &mut reader, writer, evictions, &mut watch)?;
+            let page = run_page(rt, alloc, &mut reader, &mut writer, evictions, &mut watch)?;
             return Ok(page.len());
         }
-        Work::Alone => run_alone(alloc, &mut reader, writer)?,
+        Work::Alone => run_alone(alloc, &mut reader, &mut writer)?,
     }
     Ok(0)
 }
@@ -83,13 +80,13 @@ fn work_at_last<R: Threads + Sync + Print + AllocGlobal>(
 ) -> Result<()> {
     println!(rt; "## {work:?}")?;
     for _ in 0..MOST_TRIES {
-        let mut writer = Held::new();
-        match worked(rt, rt.alloc(), work, text, &mut writer) {
+        let mut written = Written::new();
+        match worked(rt, rt.alloc(), work, text, &mut written) {
             Ok(page) => {
-                println!(rt; "{}a page of {page} bytes", text_of(writer.written()))?;
+                println!(rt; "{}a page of {page} bytes", text_of(written.as_slice()))?;
                 return Ok(());
             }
-            Err(Refusal::NoMemory) => say_again(rt, name_of(work), writer.written().is_empty())?,
+            Err(Refusal::NoMemory) => say_again(rt, name_of(work), written.is_empty())?,
             Err(refusal) => return Err(refusal.into()),
         }
     }

@@ -25,7 +25,7 @@ pub fn text_of(answer: &Answer) -> Text
     text
 }
 
-/// The text of a refusal, as where a line is none that is served. Its newline fits behind it.
+/// The text of a refusal, as of a line that is no request. Its newline fits behind it.
 pub fn refusal_text(refusal: Refusal) -> Text
     ensures text { result.items ≡ refusal_text refusal }
     ensures short { array_vec_len result < MAX_REPLY }

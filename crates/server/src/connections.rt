@@ -58,7 +58,7 @@ fn serve_connection<J: Naming, R: Wait + Log>(
     serving: &Serving<'_, J>,
     connection: TcpStream,
 ) {
-    // A reply would wait for the next one else, to go out with it.
+    // Otherwise a reply would wait for the next one, to go out with it.
     if connection.set_nodelay(true).is_err() {
         warn!(rt; "a connection delays its replies");
     }

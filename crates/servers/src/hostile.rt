@@ -3,8 +3,8 @@
 ghost use Rattle.std.specs.Prelude.{◌<◌};
 
 use crate::playing::{append_line, fresh, piped, split_line};
+use draws::below;
 use engine::MAX_LINE;
-use rand_core::Rng;
 use rand_pcg::Pcg32;
 use std::alloc::{AllocError, Global};
 use std::test::*;
@@ -65,16 +65,6 @@ static MARKERS: [(&[u8], &[u8]); 3] = [
         b"{\"error\":13,\"name\":\"NoClient\"}",
     ),
 ];
-
-/// A number below `n`, or 0.
-fn below(rng: &mut Pcg32, n: u32) -> u32
-    ensures { 0 < n → result < n }
-{
-    if n == 0 {
-        return 0;
-    }
-    rng.next_u32() % n
-}
 
 /// A byte that is no newline.
 fn drawn_byte(rng: &mut Pcg32) -> u8 {

@@ -6,6 +6,7 @@ pub mod Downs
 pub mod Going
 pub mod GoneOn
 pub mod Heard
+pub mod NotStale
 pub mod Numbering
 pub mod Opens
 pub mod Places

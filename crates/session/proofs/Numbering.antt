@@ -1,7 +1,7 @@
 -- What was answered stays so when a client's next number is answered.
 use Rattle.std.proofs.Common.{◌≡◌, inl, inr, ℕ, ◌+◌, ◌-◌, ◌<◌, ◌≤◌, ◌==◌, Bool, true, false, if◌then◌else◌, Option, None, Some, Result, Ok, Err, refl, sym, ap, ◌∙◌, arith}
 use Rattle.std.specs.Prelude.{nat_lt}
-use Rattle.std.proofs.lemmas.Bool.{eqb-true}
+use Rattle.std.proofs.lemmas.Bool.{eqb-false, eqb-true}
 use Rattle.words.specs.declared.call.Reply.{Reply}
 use Rattle.words.specs.declared.refusal.Refusal.{Refusal}
 use Rattle.words.specs.declared.refusal.Refusal.TheVariants.{Gap, Old}
@@ -86,6 +86,30 @@ answered_by_floor (Some last) was reply answered = go last.outcome refl answered
     go NotTaken is (inr less) =
         let floor : floor_by (Some last) ≡ last.number - 1 = ap (floor_from last.number) is in
         omega (arith, less, floor)
+
+-- a number that may run is above the floor by what is kept
+pub runs_above_floor : (last : Option Verdict) (number : ℕ) → by_number last number ≡ Ok None → floor_by last < number
+runs_above_floor last number e = go (number == 0) refl e
+  where
+    by_verdict : (outcome : Outcome) (kept : ℕ) → (number == 0) ≡ false → by_outcome outcome kept number ≡ Ok None
+        → floor_from kept outcome < number
+    by_verdict (Taken reply) kept some e = omega (arith, next_by_reply reply kept number e)
+    by_verdict NotTaken kept some e = let positive = eqb-false number 0 some in omega (arith, same_by_none kept number e, positive)
+
+    first : (a : Bool) → (number == 1) ≡ a
+        → (if a then (let r : Result (Option Reply) Refusal = Ok None in r) else Err Gap) ≡ Ok None → number ≡ 1
+    first true is e = eqb-true number 1 is
+    first false is e = absurd (cc (e))
+
+    above : (v : Option Verdict) → (number == 0) ≡ false → by_last v number ≡ Ok None → floor_by v < number
+    above (Some verdict) some e = by_verdict verdict.outcome verdict.number some e
+    above None some e = omega (arith, first (number == 1) refl e)
+
+    go : (a : Bool) → (number == 0) ≡ a
+        → (if a then (let r : Result (Option Reply) Refusal = Err Old in r) else by_last last number) ≡ Ok None
+        → floor_by last < number
+    go true is e = absurd (cc (e))
+    go false is e = above last is e
 
 -- an admitted request runs if it does by its number
 pub answer_runs : (r : Result Unit Refusal) (answer : Result (Option Reply) Refusal) → answer_if r answer ≡ Ok None → answer ≡ Ok None

@@ -55,6 +55,7 @@ module _ (s : Sessioned) (right : IsRight s) where
             settled_by (kept_at s slot client) number reply
             (settled w (holds_there s.broker right.well slot w here) log client few (kept_at s slot client) idle
             (r.last refl client lt) number reply taken);
+        floor = (r.last refl client lt).floor;
       }
 
   -- a reply that is kept is that of its number

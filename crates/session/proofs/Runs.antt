@@ -1,5 +1,6 @@
 -- A client's call that is started where its queue has room goes on.
 use Rattle.std.proofs.Common.{◌≡◌, ◌≢◌, ◌⊎◌, inl, inr, ℕ, ◌+◌, ◌==◌, ◌≤◌, Bool, true, false, if◌then◌else◌, Option, None, Some, Result, Ok, Err, slice_get, refl, sym, ap, subst, ◌∙◌, arith}
+use Rattle.std.specs.Prelude.{IfErr}
 use Rattle.std.proofs.lemmas.Option.{slice_get_within}
 use Rattle.words.specs.declared.call.Call.{Call}
 use Rattle.words.specs.declared.call.Client.{Client}
@@ -133,6 +134,7 @@ pub record IsStartTried (made now : Brokered) (slot : ℕ) (client : Client) (nu
   pub result_is : result ≡ answer_at (λ w. start_result (is_no_memory result) w client number) made slot client
   pub full : is_no_memory result ≡ true → room_at made slot ≡ 0
   pub room : room_at made slot ≤ room_at now slot + 1
+  pub spare : IfErr result (λ e. room_at made slot ≤ room_at now slot)
   pub others : AreOthersAlike made now slot
   pub well : IsWell now
 
@@ -164,7 +166,7 @@ module _ (old made now : Brokered) (slot : ℕ) (client : Client) (number : ℕ)
   pub start_was_refused : (refusal : Refusal) → result ≡ Err refusal → IsRun old now slot client number call (Err refusal)
   start_was_refused refusal is = (
     inr (refused_here old made now slot client number call opened admitted_then refl result tried.result_is tried.world not_refused_memory refusal is),
-    omega (arith, m.more, tried.room),
+    omega (arith, m.more, subst (λ (r : Result Unit Refusal). IfErr r (λ e. room_at made slot ≤ room_at now slot)) is tried.spare),
     others_alike,
   )
 

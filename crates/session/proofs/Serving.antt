@@ -82,7 +82,7 @@ module _ (old new : Brokered) (slot : ℕ) (client : Client) (number : ℕ) (cal
       (subst (λ (o : Option State). IsSlotRight (is_up old) o (kept_in kept slot)) (sym same) (right.slots slot))
 
   pub unserved_right : (refusal : Refusal) → IsRight before → IsWell new
-      → IsUnserved old new slot client number call refusal × (room_at old slot ≤ room_at new slot + 1)
+      → IsUnserved old new slot client number call refusal × (room_at old slot ≤ room_at new slot)
       × AreOthersAlike old new slot → IsRight after
   unserved_right refusal right well (inl none, room, others) = same_right right well others (none.2 slot)
   unserved_right refusal right well (inr refused, room, others) = begun_right false right well others refused.1
@@ -184,7 +184,7 @@ kept_by_number last number reply is = go (number == 0) last is
     go false (Some verdict) e = ap (λ (v : Verdict). Some v) (by_verdict verdict verdict.outcome refl e)
 
 -- a client that is admitted to a queue of a kind: it is there, and the queue is of the kind
-admitted_kind : (kind : Kind) (client : Client) (w : State) → queue_admission kind client w ≡ Ok tt
+pub admitted_kind : (kind : Kind) (client : Client) (w : State) → queue_admission kind client w ≡ Ok tt
     → w.shape.kind ≡ kind
 admitted_kind kind client w is = go kind w.shape.kind is
   where
@@ -226,7 +226,7 @@ answered_reply s right slot client (Some number) reply is = kept_reply s right s
 answered_reply s right slot client None reply is = tt
 
 -- a request that is to run was admitted
-if_answered : {T : Type 0} (r : Result Unit Refusal) (a : Result T Refusal) (x : T) → answer_if r a ≡ Ok x → r ≡ Ok tt
+pub if_answered : {T : Type 0} (r : Result Unit Refusal) (a : Result T Refusal) (x : T) → answer_if r a ≡ Ok x → r ≡ Ok tt
 if_answered (Ok u) a x e = refl
 if_answered (Err refusal) a x e = absurd (cc (e))
 

@@ -1,9 +1,11 @@
 -- What is kept for the clients of a slot's queue stays right over the acts on it.
-use Rattle.std.proofs.Common.{◌≡◌, ℕ, ◌<◌, Bool, true, false, is_some, Option, Some, None, Ok, slice_get, refl, sym, ap, subst, ◌∙◌, arith}
+use Rattle.std.proofs.Common.{◌≡◌, ℕ, zero, suc, ◌<◌, Bool, true, false, is_some, Option, Some, None, Ok, replicate, slice_get, refl, sym, ap, subst, ◌∙◌, arith}
 use Rattle.words.specs.declared.call.Client.{Client}
+use Rattle.words.specs.declared.call.Kind.{Kind}
 use Rattle.words.specs.declared.call.Kind.TheVariants.{Log as log_kind}
 use Rattle.words.specs.declared.call.Reply.{Reply}
 use Rattle.words.specs.declared.limits.TheConstants.{MAX_CLIENTS}
+use Rattle.words.specs.declared.told.Told.TheVariants.{None as told_none}
 use Rattle.words.specs.declared.told.Verdict.{Verdict}
 use Rattle.logqueue.specs.Numbers.{verdict_of}
 use Rattle.persist.specs.Memory.{Words}
@@ -12,11 +14,12 @@ use Rattle.protocol.specs.declared.acts.Act.{Act}
 use Rattle.protocol.specs.declared.acts.Act.TheVariants.{Step}
 use Rattle.recover.specs.declared.recovery.Recovery.{Recovery}
 use Rattle.interleave.specs.Holds.{Holds}
-use Rattle.interleave.specs.Queue.{told_in}
+use Rattle.interleave.specs.Queue.{new_queue, told_in}
 use Rattle.interleave.specs.Rotation.{after_rotation, rotate_result}
 use Rattle.interleave.specs.State.{State, after_attempt, after_recover, recover_with, step_result, world_over}
 use Rattle.interleave.specs.Verdicts.{IsLast, IsRecalled, IsRested}
 use Rattle.interleave.proofs.DownLaws.{became_ready}
+use Rattle.interleave.proofs.HoldsKept.{no_call}
 use Rattle.interleave.proofs.verdicts.Carried.{last_rotated, one_verdict, recalled_rotated, uncounted}
 use Rattle.interleave.proofs.verdicts.Given.{last_new, recalled_last, recalled_none, rested_at_ready}
 use Rattle.interleave.proofs.verdicts.Last.{last_after}
@@ -168,3 +171,20 @@ rested_recovered full w holds log rests ready = go w.recovery refl
     go (Some r) e =
         rested_at_ready full w holds log
         (became_ready full w (ap (λ (o : Option Recovery). is_some o) e) (ap (λ (o : Option Recovery). is_some o) ready))
+
+-- nobody has called a new queue
+none_told : (n t : ℕ) → verdict_of (slice_get (replicate n told_none) t) ≡ None
+none_told zero t = refl
+none_told (suc n) zero = refl
+none_told (suc n) (suc t) = none_told n t
+
+pub rested_new : (s : Shape) (ws : Words) → Holds (world_over s ws) → s.kind ≡ log_kind → IsRested (world_over s ws)
+rested_new s ws holds log = record {
+  nobody = λ client. no_call s.clients client.0;
+  last = λ client few.
+      subst (λ (v : Option Verdict). IsLast (world_over s ws) client v) (sym (told client)) (last_new s ws holds log client few);
+}
+  where
+    told : (client : Client) → verdict_of (slice_get (told_in (world_over s ws).queue) client.0) ≡ None
+    told client =
+        ap (λ (k : Kind). verdict_of (slice_get (told_in (new_queue k s.clients)) client.0)) log ∙ none_told MAX_CLIENTS client.0

@@ -1,5 +1,6 @@
 -- What a start answers is what a request answers that has begun to run.
 use Rattle.std.proofs.Common.{◌≡◌, ◌+◌, ◌≤◌, ℕ, true, Option, None, Some, Result, Ok, Err, refl, sym, ap, subst, ◌∙◌}
+use Rattle.std.specs.Prelude.{IfErr}
 use Rattle.std.specs.Option.{unwrap_or}
 use Rattle.words.specs.declared.call.Call.{Call}
 use Rattle.words.specs.declared.call.Client.{Client}
@@ -32,17 +33,23 @@ begun_at f b slot client = go (admission b client) (world_at b slot)
     go (Ok u) None = refl
     go (Ok u) (Some w) = refl
 
+refused_begun : (p : Refusal → Type 0) (r : Result Unit Refusal) → IfErr r p → IfErr (as_begun r) p
+refused_begun p (Err refusal) is = is
+refused_begun p (Ok u) is = tt
+
 pub started_by : (old new : Brokered) (slot : ℕ) (client : Client) (number : ℕ) (call : Call) (r : Result Unit Refusal)
     → world_at new slot ≡ world_after (λ w. after_start (is_no_memory r) w client number call) old slot client
     → r ≡ answer_at (λ w. start_result (is_no_memory r) w client number) old slot client
-    → (is_no_memory r ≡ true → room_at old slot ≡ 0) → room_at old slot ≤ room_at new slot + 1 → AreOthersAlike old new slot
+    → (is_no_memory r ≡ true → room_at old slot ≡ 0) → room_at old slot ≤ room_at new slot + 1
+    → IfErr r (λ e. room_at old slot ≤ room_at new slot) → AreOthersAlike old new slot
     → IsStarted old new slot client number call (as_begun r)
-started_by old new slot client number call r world result full room others = record {
+started_by old new slot client number call r world result full room spare others = record {
   world = world ∙ ap (λ x. world_after (λ w. after_start x w client number call) old slot client) (sym (same_memory r));
   result_is = ap as_begun result ∙ begun_at (λ w. start_result (is_no_memory r) w client number) old slot client
       ∙ ap (λ x. answer_at (λ w. as_begun (start_result x w client number)) old slot client) (sym (same_memory r));
   full = λ e. full (sym (same_memory r) ∙ e);
   room = room;
+  spare = refused_begun (λ e. room_at old slot ≤ room_at new slot) r spare;
   others = others;
 }
 

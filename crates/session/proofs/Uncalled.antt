@@ -1,34 +1,41 @@
 -- Nobody has called a broker that begins, and so it stays while it stops, recovers, or ends its histories.
-use Rattle.std.proofs.Common.{◌≡◌, ◌⊎◌, inl, inr, ℕ, zero, suc, List, Bool, true, false, is_some, Option, None, Some, Result, Ok, replicate, slice_get, refl, sym, ap, subst, ◌∙◌}
+use Rattle.std.proofs.Common.{◌≡◌, ◌⊎◌, inl, inr, ℕ, zero, suc, ◌-◌, List, Bool, if◌then◌else◌, true, false, is_some, Option, None, Some, Result, Ok, replicate, slice_get, refl, sym, ap, subst, ◌∙◌}
 use Rattle.std.proofs.lemmas.Bool.{cases_eq}
-use Rattle.words.specs.declared.call.Kind.TheVariants.{Log as log_kind}
+use Rattle.words.specs.declared.call.Kind.TheVariants.{Durable as durable_kind, Log as log_kind}
 use Rattle.words.specs.declared.refusal.Refusal.{Refusal}
 use Rattle.persist.specs.Memory.{Words}
 use Rattle.recover.specs.Table.{boot_recovery as queue_recovery}
 use Rattle.recover.specs.declared.recovery.Recovery.{Recovery}
-use Rattle.arena.specs.Shape.{Counts, Shape}
+use Rattle.arena.specs.Broker.{block_from}
+use Rattle.arena.specs.Shape.{Counts, Shape, shape_of}
 use Rattle.arena.specs.declared.broker.SlotId.{SlotId}
 use Rattle.arena.specs.declared.broker.TheConstants.{SLOTS}
 use Rattle.directory.specs.Queue.{slot_in}
+use Rattle.directory.specs.declared.creation.Creation.{Creation}
 use Rattle.directory.specs.declared.queue.Queue.{Queue}
 use Rattle.interleave.specs.Calls.{is_no_memory}
+use Rattle.interleave.specs.Holds.{Holds}
 use Rattle.interleave.specs.Rotation.{after_rotation}
-use Rattle.interleave.specs.State.{State, after_recover, after_stop}
+use Rattle.interleave.specs.State.{State, after_evict, after_recover, after_stop, world_over}
 use Rattle.interleave.specs.Verdicts.{IsRested}
 use Rattle.interleave.proofs.verdicts.Carried.{one_verdict, rested_rotated, uncounted}
+use Rattle.interleave.proofs.verdicts.Last.{rested_after}
 use Rattle.named.specs.Booting.{IsBooted, world_booted}
-use Rattle.named.specs.Brokers.{Brokered, IsNew, IsWell, quiet, world_at, world_of}
+use Rattle.named.specs.Brokers.{Brokered, IsNew, IsOpened, IsSlotAt, IsWell, block_words, quiet, world_at, world_of}
+use Rattle.named.specs.Evicting.{is_in_block, world_evicted}
+use Rattle.named.specs.GoingOn.{AreOthersQuiet}
 use Rattle.named.specs.Rotating.{IsRotated, rotate_result}
-use Rattle.named.specs.Slots.{acted, world_in}
+use Rattle.named.specs.Slots.{acted, kind_in, world_in}
 use Rattle.named.specs.Stopping.{IsFound, IsFoundFirst, IsFoundIn, IsQueueRecovered, IsRecoveryStep, IsStopped, found_by, found_world}
 use Rattle.named.specs.declared.recovery.BrokerRecovery.{BrokerRecovery}
 use Rattle.named.specs.declared.recovery.BrokerRecovery.TheVariants.{ReadDirectory, RecoverQueue}
 use Rattle.named.specs.declared.slot.Slot.{Slot}
-use Rattle.named.specs.declared.slot.Slot.TheVariants.{Closed}
-use Rattle.session.specs.Sessions.{IsUncalled}
+use Rattle.named.specs.declared.slot.Slot.TheVariants.{Closed, Durable, Log}
+use Rattle.named.proofs.Stays.{evict_alike}
+use Rattle.session.specs.Sessions.{HasDurableQueue, IsUncalled}
 use Rattle.session.proofs.Queueing.{world_at_rest}
 use Rattle.session.proofs.Recovering.{recovered_shape}
-use Rattle.session.proofs.SlotLaws.{rested_recovered}
+use Rattle.session.proofs.SlotLaws.{rested_new, rested_recovered}
 use Rattle.session.proofs.Worlds.{holds_there, none_some, open_below}
 
 -- a world where nobody has called, if it is that of a ready log queue
@@ -160,3 +167,83 @@ module _ (old new : Brokered) (well : IsWell old) (is : IsUncalled old) where
       go None same = subst IsUncalled (sym same.1) is
       go (Some (ReadDirectory at)) read = found_uncalled (found_by old at).opened read.found
       go (Some (RecoverQueue at)) recovered = queue_uncalled at.0 result recovered
+
+-- what leaves each world as it is, but for the count of accesses, calls nobody
+pub uncalled_alike : (old new : Brokered) → IsUncalled old
+    → ((slot : ℕ) → quiet (world_at new slot) ≡ quiet (world_at old slot)) → IsUncalled new
+uncalled_alike old new is same = record {
+  rested = λ slot w here.
+      if_quiet new slot w (world_at old slot) (ap quiet (sym here) ∙ same slot) (λ v there. is.rested slot v there);
+}
+
+-- nor does what changes one slot, where that has no log queue in which somebody has called
+uncalled_but : (old new : Brokered) (at : ℕ) → IsUncalled old → AreOthersQuiet old new at
+    → ((w : State) → world_at new at ≡ Some w → IsRestedIf w) → IsUncalled new
+uncalled_but old new at is others own = record { rested = λ slot w here. go slot w here (cases_eq slot at) }
+  where
+    go : (slot : ℕ) (w : State) → world_at new slot ≡ Some w → (slot ≡ at) ⊎ (slot ≡ at → ⊥) → IsRestedIf w
+    go slot w here (inl same) = own w (ap (world_at new) (sym same) ∙ here)
+    go slot w here (inr apart) =
+        if_quiet new slot w (world_at old slot) (ap quiet (sym here) ∙ others slot apart) (λ v there. is.rested slot v there)
+
+-- a queue that the directory has as durable is no log queue
+not_log : (b : Brokered) (slot : ℕ) → IsWell b → HasDurableQueue b slot → (w : State) → world_at b slot ≡ Some w
+    → w.shape.kind ≡ log_kind → ⊥
+not_log b slot well durable w here log = go (slice_get b.slots slot) refl here
+  where
+    by_slot : (s : Slot) → IsSlotAt b.counts b.words slot s → kind_in s ≡ Some durable_kind → world_in b.words s ≡ Some w → ⊥
+    by_slot Closed at kind there = none_some there
+    by_slot (Durable block) at kind there =
+        let same : w.shape ≡ block.core.shape = cc (there) in
+        let kinds : log_kind ≡ durable_kind = sym log ∙ ap (λ (x : Shape). x.kind) (same ∙ at.shape) in
+        absurd (cc (kinds))
+    by_slot (Log block) at kind there = absurd (cc (kind))
+
+    go : (o : Option Slot) → slice_get b.slots slot ≡ o → world_of b.words o ≡ Some w → ⊥
+    go None e there = none_some there
+    go (Some s) e there =
+        by_slot s (well.slots slot s e) (well.kinds slot s (Some durable.queue) e durable.has ∙ ap Some durable.durable) there
+
+pub uncalled_durable : (old new : Brokered) (slot : ℕ) → IsWell new → IsUncalled old → HasDurableQueue new slot
+    → AreOthersQuiet old new slot → IsUncalled new
+uncalled_durable old new slot well is durable others =
+    uncalled_but old new slot is others (λ w here log. absurd (not_log new slot well durable w here log))
+
+-- nobody has called a queue that was just created
+pub uncalled_created : (old new : Brokered) (creation : Creation) (slot : SlotId) → IsWell new → IsUncalled old
+    → IsOpened old new creation slot → AreOthersQuiet old new slot.0 → IsUncalled new
+uncalled_created old new creation slot well is opened others =
+    uncalled_but old new slot.0 is others (λ w here. own w here (sym here ∙ opened.world))
+  where
+    own : (w : State) → world_at new slot.0 ≡ Some w
+        → Some w ≡ Some (world_over (shape_of creation.queue.kind old.counts) (block_words old.counts slot.0 new.words))
+        → IsRestedIf w
+    own w here e =
+        let s : Shape = shape_of creation.queue.kind old.counts in
+        let ws : Words = block_words old.counts slot.0 new.words in
+        let same : w ≡ world_over s ws = cc (e) in
+        if_same w (world_over s ws) same
+        (λ log up. rested_new s ws (subst Holds same (holds_there new well slot.0 w here)) log)
+
+-- nor is an eviction a call
+pub uncalled_evicted : (old new : Brokered) (word : ℕ) → IsWell old → IsUncalled old
+    → ((slot : ℕ) → world_at new slot ≡ acted (world_evicted old.counts slot word) (world_at old slot)) → IsUncalled new
+uncalled_evicted old new word well is worlds = record {
+  rested = λ slot w here. go slot w (world_at old slot) refl (sym (worlds slot) ∙ here);
+}
+  where
+    evicted : (v : State) (n : ℕ) (inside : Bool) → Holds v → IsRestedIf v → IsRestedIf (if inside then after_evict v n else v)
+    evicted v n false holds rested = rested
+    evicted v n true holds rested = λ log up.
+        let alike = evict_alike v n in
+        let log_was : v.shape.kind ≡ log_kind = ap (λ (x : Shape). x.kind) (sym alike.0) ∙ log in
+        let up_was : v.recovery ≡ None = sym alike.1 ∙ up in
+        rested_after v n holds log_was up_was (rested log_was up_was)
+
+    go : (slot : ℕ) (w : State) (o : Option State) → world_at old slot ≡ o
+        → acted (world_evicted old.counts slot word) o ≡ Some w → IsRestedIf w
+    go slot w None there e = absurd (none_some e)
+    go slot w (Some v) there e =
+        let same : world_evicted old.counts slot word v ≡ w = cc (e) in
+        if_same w (world_evicted old.counts slot word v) (sym same)
+        (evicted v (word - block_from old.counts slot) (is_in_block old.counts slot word) (holds_there old well slot v there) (is.rested slot v there))

@@ -6,7 +6,7 @@ use Rattle.words.specs.declared.call.Reply.{Reply}
 use Rattle.words.specs.declared.told.Verdict.{Verdict}
 use Rattle.interleave.specs.Numbers.{AreNumbersOnce}
 use Rattle.interleave.specs.State.{State}
-use Rattle.interleave.specs.Verdicts.{IsIdle, IsReplyOf, IsTakenByBase, NoneIsAbove, floor_by, taken_as}
+use Rattle.interleave.specs.Verdicts.{IsIdle, IsReplyOf, IsTakenByBase, NoneIsAbove, floor_by, floor_in, taken_as}
 use Rattle.named.specs.Brokers.{world_at}
 use Rattle.named.specs.Promises.{KeepsPromises}
 use Rattle.session.specs.Keeping.{IsSettled}
@@ -22,11 +22,13 @@ IsReplyAt s slot client number reply = IsReplyIn (world_at s.broker slot) client
 
 -- what is kept of a client that has no call under way: none of its calls with a later number is in the order, nor, where
 -- the verdict is NotTaken, one with that number; with nothing kept none is. Nor does the base tell that such a number
--- took effect. So each number that took effect is settled: it never runs again
+-- took effect. So each number that took effect is settled: it never runs again. And the queue's floor is the one by
+-- the verdict: a number that may run is stale only above the greatest
 pub record IsKeptRight (w : State) (client : Client) (last : Option Verdict) : Type 0 where
   pub none_later : NoneIsAbove w client (floor_by last)
   pub none_told_later : (number : ℕ) (reply : Reply) → IsTakenByBase w client number reply → number ≤ floor_by last
   pub settled : (number : ℕ) (reply : Reply) → IsReplyOf w client number reply → IsSettled last number reply
+  pub floor : floor_in w.queue client ≡ floor_by last
 
 -- no number stands twice in an order; a reply that is kept is that of its number, also while the broker is down or the
 -- client calls; and what is kept is right of the client's last number where the broker is ready

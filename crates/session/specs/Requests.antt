@@ -1,5 +1,5 @@
 -- A client's request: when it is refused, and what it makes of the broker where it runs.
-use Rattle.std.specs.Prelude.{◌≡◌, ◌≢◌, ◌+◌, ◌<◌, ◌≤◌, ◌⊎◌, ℕ, Bool, true, false, is_some, Option, Some, None, Result, Ok, Err, if◌then◌else◌}
+use Rattle.std.specs.Prelude.{◌≡◌, ◌≢◌, ◌+◌, ◌<◌, ◌≤◌, ◌⊎◌, ℕ, Bool, true, false, is_some, IfErr, Option, Some, None, Result, Ok, Err, if◌then◌else◌}
 use Rattle.words.specs.declared.call.Call.{Call}
 use Rattle.words.specs.declared.call.Client.{Client}
 use Rattle.words.specs.declared.call.Kind.{Kind}
@@ -74,6 +74,7 @@ pub record IsStarted (old new : Brokered) (slot : ℕ) (client : Client) (number
       ≡ answer_at (λ w. as_begun (start_result (is_no_memory result) w client number)) old slot client
   pub full : is_no_memory result ≡ true → room_at old slot ≡ 0
   pub room : room_at old slot ≤ room_at new slot + 1
+  pub spare : IfErr result (λ e. room_at old slot ≤ room_at new slot)
   pub others : AreOthersAlike old new slot
 
 -- what a request makes that comes to this: nothing, where it is refused or its reply is kept; else it is started
@@ -113,7 +114,7 @@ IsUnserved old new slot client number call refusal =
 abbrev pub IsRun : Brokered → Brokered → ℕ → Client → ℕ → Call → Result Reply Refusal → Type 0
 IsRun old new slot client number call (Ok reply) = IsServed old new slot client number call reply
 IsRun old new slot client number call (Err refusal) =
-    IsUnserved old new slot client number call refusal × (room_at old slot ≤ room_at new slot + 1)
+    IsUnserved old new slot client number call refusal × (room_at old slot ≤ room_at new slot)
     × AreOthersAlike old new slot
 
 -- what a request makes that runs to its end, if it comes to this
@@ -147,4 +148,6 @@ pub record IsAdvanced (old new : Brokered) (slot : ℕ) (client : Client) (resul
   pub result_is : result ≡ answer_at (λ w. step_result (is_no_memory result) w client) old slot client
   pub full : is_no_memory result ≡ true → room_at old slot ≡ 0
   pub room : room_at old slot ≤ room_at new slot + 1
+  pub spare : IfErr result (λ e. room_at old slot ≤ room_at new slot)
+  pub stays : result ≡ Ok None → room_at old slot ≤ room_at new slot
   pub others : AreOthersAlike old new slot

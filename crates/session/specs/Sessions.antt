@@ -1,8 +1,10 @@
 -- A session: a broker, and for each of its slots and clients the last verdict that the client was given.
 use Rattle.std.specs.Prelude.{◌≡◌, ◌<◌, ℕ, Bool, true, false, not, List, [], Option, Some, None, slice_index_or}
 use Rattle.words.specs.declared.call.Client.{Client}
-use Rattle.words.specs.declared.call.Kind.TheVariants.{Log as log_kind}
+use Rattle.words.specs.declared.call.Kind.TheVariants.{Durable as durable_kind, Log as log_kind}
 use Rattle.words.specs.declared.told.Verdict.{Verdict}
+use Rattle.directory.specs.Directory.{HasQueue}
+use Rattle.directory.specs.declared.queue.Queue.{Queue}
 use Rattle.interleave.specs.State.{State}
 use Rattle.interleave.specs.Verdicts.{IsLast, IsRecalled, IsRested}
 use Rattle.named.specs.Brokers.{Brokered, IsWell, is_down, world_at}
@@ -46,6 +48,12 @@ pub record IsLogClient (b : Brokered) (slot : ℕ) (client : Client) : Type 0 wh
   pub here : world_at b slot ≡ Some world
   pub log : world.shape.kind ≡ log_kind
   pub few : client.0 < world.shape.clients
+
+-- the slot has a durable queue, by the directory
+pub record HasDurableQueue (b : Brokered) (slot : ℕ) : Type 0 where
+  pub queue : Queue
+  pub has : HasQueue b.directory slot queue
+  pub durable : queue.kind ≡ durable_kind
 
 -- nobody has called a log queue of the broker since it was made or booted, or last recovered or rotated
 pub record IsUncalled (b : Brokered) : Type 0 where

@@ -1,24 +1,31 @@
 //! What holds over any list of a session's acts.
 
-ghost use Rattle.std.specs.Prelude.{◌≡◌, ◌<◌, ℕ, Bool, false, Ok, Option, Result, Some, None};
+ghost use Rattle.std.specs.Prelude.{◌≡◌, ◌<◌, ◌≤◌, ℕ, Bool, false, Ok, Option, Result, Some, None};
 ghost use Rattle.words.specs.declared.refusal.Refusal.{Refusal};
 ghost use Rattle.persist.specs.Memory.{Words};
 ghost use Rattle.arena.specs.Shape.{Counts};
 ghost use Rattle.named.specs.Booting.{IsBooted};
-ghost use Rattle.named.specs.Brokers.{Brokered, IsNew, IsWell};
+ghost use Rattle.arena.specs.declared.broker.SlotId.{SlotId};
+ghost use Rattle.directory.specs.declared.creation.Creation.{Creation};
+ghost use Rattle.named.specs.Brokers.{Brokered, IsNew, IsOpened, IsWell, quiet, world_at};
+ghost use Rattle.named.specs.Evicting.{world_evicted};
+ghost use Rattle.named.specs.GoingOn.{AreOthersQuiet};
+ghost use Rattle.named.specs.Slots.{acted};
 ghost use Rattle.named.specs.Rotating.{rotate_result, IsRotated};
 ghost use Rattle.named.specs.Stopping.{IsRecoveryStep, IsStopped};
 ghost use Rattle.words.specs.declared.call.Client.{Client};
 ghost use Rattle.words.specs.declared.call.Reply.{Reply};
-ghost use Rattle.words.specs.declared.limits.TheConstants.{MAX_CLIENTS};
+ghost use Rattle.words.specs.declared.limits.TheConstants.{MAX_CALL_NUMBER, MAX_CLIENTS};
 ghost use Rattle.words.specs.declared.told.Verdict.{Verdict};
 ghost use Rattle.interleave.specs.Holds.{Holds};
-ghost use Rattle.interleave.specs.State.{State};
+ghost use Rattle.interleave.specs.State.{State, number_to_start};
 ghost use Rattle.interleave.specs.Verdicts.{IsReplyOf};
 ghost use Rattle.words.specs.declared.call.Kind.{Kind};
 ghost use Rattle.session.specs.Keeping.{IsSettled, SessionGoesOn};
 ghost use Rattle.session.specs.Numbers.{by_number};
-ghost use Rattle.session.specs.Sessions.{IsUncalled, Sessioned};
+ghost use Rattle.session.specs.Promises.{KeepsNumbers};
+ghost use Rattle.session.specs.Requests.{request_answer};
+ghost use Rattle.session.specs.Sessions.{HasDurableQueue, IsUncalled, Sessioned};
 
 /// Each act's `goes_on` says that a settled number stays settled, and these chain: so it is over any list of acts, with
 /// crashes, recoveries, evictions and rotations. A settled number never runs again, and each answer to it, however often
@@ -38,8 +45,17 @@ pub fn numbers_have_one_reply()
         → client.0 < MAX_CLIENTS → IsReplyOf w client number reply → IsReplyOf w client number other → reply ≡ other }
 {}
 
+/// A number that the table of numbers lets run is not stale, unless it is above the greatest number: the queue takes it
+/// for a call, and refuses that for want of records or memory alone.
+pub fn admitted_numbers_run()
+    ensures { (s : Sessioned) (slot : ℕ) (w : State) (client : Client) (number : ℕ) → KeepsNumbers s
+        → world_at s.broker slot ≡ Some w → request_answer s slot client number ≡ Ok None → number ≤ MAX_CALL_NUMBER
+        → number_to_start w client number ≡ Ok number }
+{}
+
 /// A broker that begins, that has recovered, or that has ended its histories may be given to a session: nobody has
-/// called it since.
+/// called a log queue of it since. So may it after what calls none: creations, evictions, calls in a durable queue, and
+/// what leaves each queue's world as it is, but for the count of accesses.
 pub fn uncalled_brokers()
     ensures new { (c : Counts) (b : Brokered) → IsNew c b → IsUncalled b }
     ensures booted { (ws : Words) (b : Brokered) → IsWell b → IsBooted ws b → IsUncalled b }
@@ -48,4 +64,13 @@ pub fn uncalled_brokers()
         → IsRecoveryStep old new result old.recovery → IsUncalled new }
     ensures rotated { (old new : Brokered) → IsWell old → rotate_result false old ≡ Ok tt → IsRotated old new
         → IsUncalled new }
+    ensures created { (old new : Brokered) (creation : Creation) (slot : SlotId) → IsWell new → IsUncalled old
+        → IsOpened old new creation slot → AreOthersQuiet old new slot.0 → IsUncalled new }
+    ensures evicted { (old new : Brokered) (word : ℕ) → IsWell old → IsUncalled old
+        → ((slot : ℕ) → world_at new slot ≡ acted (world_evicted old.counts slot word) (world_at old slot))
+        → IsUncalled new }
+    ensures durable { (old new : Brokered) (slot : ℕ) → IsWell new → IsUncalled old → HasDurableQueue new slot
+        → AreOthersQuiet old new slot → IsUncalled new }
+    ensures alike { (old new : Brokered) → IsUncalled old
+        → ((slot : ℕ) → quiet (world_at new slot) ≡ quiet (world_at old slot)) → IsUncalled new }
 {}

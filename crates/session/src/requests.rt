@@ -1,6 +1,7 @@
 //! The requests of a session's clients.
 
-ghost use Rattle.std.specs.Prelude.{◌≡◌, Ok, Some, None, IfOk, IfSome, OnErr};
+ghost use Rattle.std.specs.Prelude.{◌≡◌, ◌<◌, Ok, Err, Some, None, IfOk, IfSome, OnErr};
+ghost use Rattle.words.specs.declared.limits.TheConstants.{MAX_CALL_NUMBER};
 ghost use Rattle.interleave.specs.Verdicts.{taken_as};
 ghost use Rattle.named.specs.Brokers.{answer_at, world_at};
 ghost use Rattle.named.specs.GoingOn.{BrokerGoesOn};
@@ -68,6 +69,7 @@ impl Session {
     ) -> Result<Reply, Refusal>
         ensures request { IsServedBy self.old self.new queue.0 client number call result
             (request_answer self.old queue.0 client number) }
+        ensures stale { result ≡ Err Refusal.StaleNumber → MAX_CALL_NUMBER < number }
         ensures reply { IfOk result (IsReplyAt self.new queue.0 client number) }
         ensures kept { IfOk result (λ reply.
             IsKeptNow self.old.kept self.new.kept queue.0 client.0 (Some (taken_as number reply))) }
@@ -110,6 +112,7 @@ impl Session {
     ) -> Result<Option<Reply>, Refusal>
         ensures begun { IsBegunBy self.old self.new queue.0 client (number_or_zero number) call result
             (answer_to self.old queue.0 client number) }
+        ensures stale { result ≡ Err Refusal.StaleNumber → MAX_CALL_NUMBER < number_or_zero number }
         ensures reply { IfOk result (λ answer. IfSome answer (IsReplyIfNumbered self.new queue.0 client number)) }
         ensures same { self.new.kept ≡ self.old.kept }
         ensures goes_on { SessionGoesOn self.old self.new }

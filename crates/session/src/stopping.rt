@@ -17,6 +17,7 @@ ghost use Rattle.session.specs.Promises.{KeepsNumbers};
 
 use crate::kept::Kept;
 use crate::session::Session;
+use directory::MAX_DIRECTORY_STEPS;
 use persist::Change;
 use words::Refusal;
 
@@ -47,7 +48,8 @@ impl Session {
         ensures result { result ≡ crash_result (is_no_memory result) }
         ensures full { is_no_memory result ≡ true → HasFullQueue self.old.broker }
         ensures room { (slot : ℕ) → room_at self.old.broker slot ≤ room_at self.new.broker slot + 1 }
-        ensures left { result ≡ Ok tt → steps_left self.new.broker ≡ 32 + most_kept self.new.broker }
+        ensures spare { OnErr result ((slot : ℕ) → room_at self.old.broker slot ≤ room_at self.new.broker slot) }
+        ensures left { result ≡ Ok tt → steps_left self.new.broker ≡ MAX_DIRECTORY_STEPS + most_kept self.new.broker }
         ensures kept { self.new.kept ≡ self.old.kept }
         ensures goes_on { SessionGoesOn self.old self.new }
         ensures queues { BrokerGoesOn self.old.broker self.new.broker }
@@ -63,8 +65,9 @@ impl Session {
         ensures step { IsRecoveryStep self.old.broker self.new.broker result self.old.broker.recovery }
         ensures full { is_no_memory result ≡ true → HasFullQueue self.old.broker }
         ensures room { (slot : ℕ) → room_at self.old.broker slot ≤ room_at self.new.broker slot + 1 }
+        ensures spare { OnErr result ((slot : ℕ) → room_at self.old.broker slot ≤ room_at self.new.broker slot) }
         ensures told { TellAtReady self.old.broker self.new.broker }
-        ensures few { steps_left self.old.broker ≤ 32 + most_kept self.old.broker }
+        ensures few { steps_left self.old.broker ≤ MAX_DIRECTORY_STEPS + most_kept self.old.broker }
         ensures falls { IfOk result (λ ready. steps_left self.new.broker < steps_left self.old.broker) }
         ensures kept { AreKeptAfter self.old self.new result }
         ensures goes_on { SessionGoesOn self.old self.new }

@@ -1,11 +1,11 @@
 //! What the tests do with a session, many acts at a time, and what they see of it.
 
-use arena::{SLOTS, SlotId};
-use history::{Event, check, replay};
+use arena::SlotId;
 use named::Broker;
 use persist::Memory;
 use session::Session;
 use std::alloc::Global;
+use trials::call_at;
 use words::{Call, Client, Kind, MAX_CLIENTS, Outcome, Refusal, Reply, Verdict};
 
 /// The most steps that a test lets a recovery take.
@@ -147,26 +147,6 @@ pub(crate) fn is_as_told(session: &Session, client: u8) -> Result<bool, Refusal>
     })
 }
 
-/// Whether the order explains the history of a slot's queue, and the queue holds what the replay of that leaves.
-fn is_explained(alloc: Global, session: &Session, slot: SlotId) -> Result<bool, Refusal> {
-    let history = session.broker().history(slot)?;
-    let order = session.broker().order(slot)?;
-    let content = session.broker().content(slot)?;
-    let holds = match replay(alloc, history, &order)? {
-        Ok(left) => left.as_slice() == content.as_slice(),
-        Err(_) => false,
-    };
-    Ok(holds && check(history, &order))
-}
-
-/// The client and the number of the call at this place, if there is one.
-fn call_at(events: &[Event], place: usize) -> Option<(usize, u64)> {
-    match events.get(place) {
-        Some(Event::Call { client, number, .. }) => Some((client.0 as usize, *number)),
-        _ => None,
-    }
-}
-
 /// Whether the order has at most one entry for each number of a client: each client's entries have rising numbers.
 pub(crate) fn are_once(session: &Session, slot: SlotId) -> Result<bool, Refusal> {
     let history = session.broker().history(slot)?;
@@ -187,16 +167,9 @@ pub(crate) fn are_once(session: &Session, slot: SlotId) -> Result<bool, Refusal>
     Ok(true)
 }
 
-/// Whether each open slot's queue is explained.
+/// Whether each queue of the session's broker is explained.
 pub(crate) fn are_explained(alloc: Global, session: &Session) -> Result<bool, Refusal> {
-    let mut right = true;
-    for slot in 0..SLOTS as u8 {
-        right &= match is_explained(alloc, session, SlotId(slot)) {
-            Err(Refusal::NoQueue) => true,
-            explained => explained?,
-        };
-    }
-    Ok(right)
+    trials::are_explained(alloc, session.broker())
 }
 
 /// Whether a client's request to the log queue `a` comes to this: with a reply or a refusal nothing runs and nothing

@@ -3,7 +3,7 @@
 use crate::acts::{A, are_explained, boot, with_log};
 use crate::plain::{CLIENTS, Plain, call_of};
 use arena::{BrokerLayout, Layout};
-use rand_core::Rng;
+use draws::below;
 use rand_pcg::Pcg32;
 use session::Session;
 use std::alloc::Global;
@@ -12,14 +12,6 @@ use words::{Client, Outcome, Refusal, Reply, Verdict};
 
 /// How many records each client has.
 const RECORDS: u32 = 64;
-
-/// A number below `n`, or 0.
-fn below(rng: &mut Pcg32, n: u32) -> u32 {
-    if n == 0 {
-        return 0;
-    }
-    rng.next_u32() % n
-}
 
 /// A session and the plain account of it, how many requests were made, how many of them were answered again, how often
 /// everything stopped, and whether all was right.

@@ -7,14 +7,14 @@ use crate::pipes::opened_at_last;
 use anyhow::Result;
 use arena::SlotId;
 use desk::{BrokerDesk, Seating};
-use devices::FaultyReader;
+use devices::{CountedWriter, FaultyReader};
 use engine::serve;
 use server::JsonLines;
 use session::Session;
 use std::fmt::Write;
 use std::marker::Brand;
 use std::sync::Wait;
-use subjects::{Held, MOST_TRIES, empty_text, say_again, text_of};
+use subjects::{MOST_TRIES, Written, empty_text, say_again, text_of};
 use words::{Client, Refusal};
 use workers::{Naming, Opened, Shared};
 
@@ -116,21 +116,17 @@ fn seen_beside<J: Naming, R: Wait + AllocGlobal>(rt: &R, shared: &Shared<J>) -> 
     Ok(text)
 }
 
-/// Whether a reply is this one.
-fn is_reply(found: &[u8], wanted: &[u8]) -> bool {
-    found == wanted
-}
-
 /// Serves a line, and writes its reply.
 fn served<J: Naming, R: Wait + AllocGlobal>(
     rt: &R,
     desk: &mut BrokerDesk<'_, J>,
     line: &str,
-) -> Result<Held, Refusal> {
+) -> Result<Written, Refusal> {
     let mut reader = FaultyReader::new(line.as_bytes(), usize::MAX);
-    let mut writer = Held::new();
+    let mut written = Written::new();
+    let mut writer = CountedWriter::new(&mut written);
     serve::<R, JsonLines, _, _, _>(rt, rt.alloc(), &mut reader, &mut writer, desk)?;
-    Ok(writer)
+    Ok(written)
 }
 
 /// Serves a line, and again where its request was refused memory: then what can be seen is as before. The reply.
@@ -139,11 +135,11 @@ fn served_at_last<J: Naming, R: Wait + Print + AllocGlobal>(
     shared: &Shared<J>,
     desk: &mut BrokerDesk<'_, J>,
     line: &str,
-) -> Result<Held> {
+) -> Result<Written> {
     for _ in 0..MOST_TRIES {
         let before = seen_beside(rt, shared)?;
         let reply = served(rt, desk, line)?;
-        if !reply.written().starts_with(br#"{"error":6,"#) {
+        if !reply.as_slice().starts_with(br#"{"error":6,"#) {
             return Ok(reply);
         }
         let after = seen_beside(rt, shared)?;
@@ -164,11 +160,11 @@ fn finished<J: Naming, R: Wait + Print + AllocGlobal>(
     println!(rt; "unfinished: a request at a desk")?;
     if matches!(asks, Asks::Numbered) {
         let reply = served_at_last(rt, shared, desk, line)?;
-        print!(rt; "{}", text_of(reply.written()))?;
+        print!(rt; "{}", text_of(reply.as_slice()))?;
         return Ok(());
     }
     let reply = served_at_last(rt, shared, desk, FINISHING)?;
-    if !is_reply(reply.written(), WRONG_KIND) {
+    if reply.as_slice() != WRONG_KIND {
         println!(rt; "changed: the kind of the queue")?;
     }
     if matches!(asks, Asks::Put) {
@@ -187,11 +183,11 @@ fn play_line<J: Naming, R: Wait + Print + AllocGlobal>(
 ) -> Result<()> {
     println!(rt; "{line}")?;
     let reply = served_at_last(rt, shared, desk, line)?;
-    if is_reply(reply.written(), UNFINISHED) {
+    if reply.as_slice() == UNFINISHED {
         return finished(rt, shared, desk, asks, line);
     }
     if !matches!(asks, Asks::Take) {
-        print!(rt; "{}", text_of(reply.written()))?;
+        print!(rt; "{}", text_of(reply.as_slice()))?;
     }
     Ok(())
 }

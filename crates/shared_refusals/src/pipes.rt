@@ -4,13 +4,13 @@ ghost use Rattle.std.specs.Prelude.{IfOk};
 ghost use Rattle.session.specs.Sessions.{IsUncalled};
 
 use anyhow::Result;
-use devices::{FaultyReader, Unread, read_all};
+use devices::{CountedWriter, FaultyReader, Unread, read_all};
 use named::Broker;
 use requests::request;
 use server::{opened, pipe};
 use std::alloc::Global;
 use std::sync::Wait;
-use subjects::{Held, MOST_TRIES, made, say_again, text_of};
+use subjects::{MOST_TRIES, Written, made, say_again, text_of};
 use wire::Request;
 use words::Refusal;
 
@@ -89,9 +89,10 @@ fn piped<R: Wait + Print + AllocGlobal>(
     for _ in 0..MOST_TRIES {
         let broker = opened_at_last(rt, image)?;
         let mut reader = FaultyReader::new(input.as_bytes(), usize::MAX);
-        let mut writer = Held::new();
+        let mut written = Written::new();
+        let mut writer = CountedWriter::new(&mut written);
         let left = pipe(rt, rt.alloc(), broker, &mut reader, &mut writer);
-        let replies = writer.written();
+        let replies = written.as_slice();
         match left {
             Ok(left) if !are_wanting(replies) => {
                 print!(rt; "{}", text_of(replies))?;

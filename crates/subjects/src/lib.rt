@@ -4,12 +4,12 @@
 
 mod again;
 pub mod brokers;
-mod held;
 mod line;
 pub mod memories;
 pub mod sessions;
 pub mod worlds;
+mod written;
 
 pub use again::{Answer, Image, MOST_TRIES, Subject, empty_text, made, play, say_again, seen};
-pub use held::{Held, text_of};
 pub use line::command_line;
+pub use written::{Written, text_of};

@@ -12,7 +12,7 @@ use crate::making::{create, new_session, opened};
 use crate::staging::{Played, begun, ended};
 use crate::taken::are_once;
 use arena::{SLOTS, SlotId};
-use rand_core::Rng;
+use draws::below;
 use rand_pcg::Pcg32;
 use session::Session;
 use std::alloc::Global;
@@ -40,16 +40,6 @@ const LOGS: usize = 4;
 
 /// The names of the queues, of a letter each.
 const NAMES: [u8; SLOTS] = *b"abcdefgh";
-
-/// A number below `n`, or 0.
-fn below(rng: &mut Pcg32, n: u32) -> u32
-    ensures { 0 < n → result < n }
-{
-    if n == 0 {
-        return 0;
-    }
-    rng.next_u32() % n
-}
 
 /// A session with eight queues, four of each kind.
 fn with_all_queues(alloc: Global) -> Result<Session, Refusal> {

@@ -1,7 +1,7 @@
 //! Whether seats' lists fit the histories of a session that was taken back.
 
 use arena::{SLOTS, SlotId};
-use history::{Event, check, replay};
+use history::Event;
 use session::Session;
 use std::alloc::{AllocError, Global};
 use words::{Client, Refusal};
@@ -150,28 +150,4 @@ pub(crate) fn are_accounted_for(
     since: &Lengths,
 ) -> Result<bool, AllocError> {
     Ok(fit(alloc, session, lists, since)? || fit(alloc, session, lists, &NEW)?)
-}
-
-/// Whether the order explains the history of a queue, and the queue holds what the replay of that leaves.
-fn is_explained(alloc: Global, session: &Session, queue: SlotId) -> Result<bool, Refusal> {
-    let history = session.broker().history(queue)?;
-    let order = session.broker().order(queue)?;
-    let content = session.broker().content(queue)?;
-    let holds = match replay(alloc, history, &order)? {
-        Ok(left) => left.as_slice() == content.as_slice(),
-        Err(_) => false,
-    };
-    Ok(holds && check(history, &order))
-}
-
-/// Whether each queue is explained.
-pub(crate) fn are_explained(alloc: Global, session: &Session) -> Result<bool, Refusal> {
-    let mut right = true;
-    for slot in 0..SLOTS as u8 {
-        right &= match is_explained(alloc, session, SlotId(slot)) {
-            Err(Refusal::NoQueue) => true,
-            explained => explained?,
-        };
-    }
-    Ok(right)
 }

@@ -4,10 +4,11 @@ ghost use Rattle.std.specs.Prelude.{◌≡◌, IfOk};
 ghost use Rattle.workers.specs.Opening.{IsNameOf};
 ghost use Rattle.workers.specs.Seats.{AreAllInOrder};
 
-use crate::lists::{Lengths, are_accounted_for, are_explained, copied};
+use crate::lists::{Lengths, are_accounted_for, copied};
 use session::Session;
 use std::alloc::Global;
 use std::test::Fail;
+use trials::are_explained;
 use workers::{Entry, Naming, Opened, Seat, Shared};
 
 /// What is left of a shared session: the session that was taken back, and the lists of the clients.
@@ -45,7 +46,7 @@ pub(crate) fn ended<J: Naming>(
     if !are_accounted_for(alloc, &session, lists.as_slice(), since)? {
         return Err(Fail::new("lists"));
     }
-    if !are_explained(alloc, &session)? {
+    if !are_explained(alloc, session.broker())? {
         return Err(Fail::new("orders"));
     }
     Ok(Played { session, lists })

@@ -5,6 +5,7 @@ use history::Event;
 use session::Session;
 use std::alloc::{AllocError, Global};
 use std::test::*;
+use trials::call_at;
 use words::{Call, MAX_CLIENTS, Refusal, Reply};
 use workers::{End, Entry};
 
@@ -36,14 +37,6 @@ fn all_replies(
         all.push(replies)?;
     }
     Ok(Some(all))
-}
-
-/// The client and the number of the call at this place, if there is one.
-fn call_at(events: &[Event], place: usize) -> Option<(usize, u64)> {
-    match events.get(place) {
-        Some(Event::Call { client, number, .. }) => Some((client.0 as usize, *number)),
-        _ => None,
-    }
 }
 
 /// Whether the order of a log queue has each number of each client once, in turn, with the reply that the client got.

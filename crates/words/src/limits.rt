@@ -20,5 +20,5 @@ pub const MAX_VALUE: u32 = 4_294_967_295;
 /// The most steps of a call that goes on alone, wherever the other clients stopped.
 pub const MAX_STEPS_ALONE: u32 = 64;
 
-/// What each client is told, and None from the last client on.
+/// What each client is told, and None past the last client.
 pub type Reports = [Told; MAX_CLIENTS];

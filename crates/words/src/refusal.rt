@@ -59,7 +59,7 @@ pub enum Refusal {
     ReadFailed,
     /// The writing device failed.
     WriteFailed,
-    /// This line of a script, the first one being line 1, is none that is served.
+    /// This line of a script, the first one being line 1, is not in the grammar.
     BadLine(u32),
     /// Booted words break a rule of sound words, this one first.
     Damaged(Rule),

@@ -16,3 +16,4 @@ pub mod Stops
 pub mod Telling
 pub mod Turning
 pub mod Turns
+pub mod Refusing

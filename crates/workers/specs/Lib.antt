@@ -8,3 +8,4 @@ pub mod Opening
 pub mod Creating
 pub mod Seats
 pub mod Looking
+pub mod Refusals

@@ -1,10 +1,11 @@
 //! How the histories end, and how a shared session is taken back.
 
-ghost use Rattle.std.specs.Prelude.{◌≡◌, [], length, OnErr, OnOk, slice_get, slice_set, Some};
+ghost use Rattle.std.specs.Prelude.{◌≡◌, [], length, IfErr, IsTrue, OnErr, OnOk, slice_get, slice_set, Some};
 ghost use Rattle.named.specs.Rotating.{IsRotated};
 ghost use Rattle.roll.specs.Rule.{IsKeeper, rows_of};
 ghost use Rattle.session.specs.Keeping.{SessionGoesOn};
 ghost use Rattle.session.specs.Promises.{KeepsNumbers};
+ghost use Rattle.workers.specs.Refusals.{is_rotation_refusal};
 ghost use Rattle.workers.specs.Seats.{AreSeatsRecorded, AreAllInOrder, AreEmpty};
 
 use crate::entry::Entry;
@@ -90,6 +91,7 @@ impl<J: Naming> Locked<J> {
         ensures order { AreAllInOrder (λ seat. seat.client) J.clients result.0.items }
         ensures empty { OnOk result.1 (AreEmpty (λ seat. seat.list.items) result.0.items) }
         ensures same { OnErr result.1 (result.0.items ≡ seats.items) }
+        ensures errors { IfErr result.1 (λ refusal. IsTrue (is_rotation_refusal refusal)) }
         ensures rotated { OnOk result.1 (IsRotated self.old.session.broker self.new.session.broker) }
         ensures kept { self.new.session.kept ≡ self.old.session.kept }
     {
@@ -116,6 +118,7 @@ impl<J: Naming> Shared<J> {
         ensures order { AreAllInOrder (λ seat. seat.client) J.clients result.0.items }
         ensures empty { OnOk result.1 (AreEmpty (λ seat. seat.list.items) result.0.items) }
         ensures same { OnErr result.1 (result.0.items ≡ seats.items) }
+        ensures errors { IfErr result.1 (λ refusal. IsTrue (is_rotation_refusal refusal)) }
     {
         self.locked.lock(rt).rotate(&self.roll, seats)
     }

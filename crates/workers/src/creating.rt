@@ -1,11 +1,13 @@
 //! Crashes, recoveries, and creations, under the lock.
 
-ghost use Rattle.std.specs.Prelude.{◌≡◌, ◌⊎◌, Err, IfErr, IfSome, IsSome, OnErr, OnOk};
+ghost use Rattle.std.specs.Prelude.{◌≡◌, ◌⊎◌, Err, IfErr, IfSome, IsErr, IsSome, IsTrue, OnErr, OnOk};
+ghost use Rattle.directory.specs.Directory.{HasName};
 ghost use Rattle.directory.specs.Name.{IsName};
 ghost use Rattle.named.specs.Brokers.{world_at, MayCreate};
 ghost use Rattle.named.specs.Stopping.{IsRecoveryStep, IsStopped};
 ghost use Rattle.workers.specs.Creating.{creating_after_crash};
 ghost use Rattle.workers.specs.Made.{IsMade};
+ghost use Rattle.workers.specs.Refusals.{is_creation_refusal};
 ghost use Rattle.workers.specs.declared.locked.Creating.{Creating as AnyCreating};
 
 use crate::locked::{Creating, Locked};
@@ -31,6 +33,8 @@ impl<J: Naming> Locked<J> {
     pub(crate) fn create(&mut self, name: &[u8], kind: Kind) -> Result<(), Refusal>
         ensures may { OnOk result (MayCreate self.old.session.broker name.now) }
         ensures bad_name { (IsName name.now → ⊥) → result ≡ Err Refusal.BadName }
+        ensures taken { HasName J.first.broker.directory name.now → IsErr result }
+        ensures errors { IfErr result (λ refusal. IsTrue (is_creation_refusal refusal)) }
         ensures same { OnErr result (self.new ≡ self.old) }
     {
         if matches!(self.creating, Creating::Interrupted) {

@@ -1,6 +1,6 @@
 //! What lies under the lock.
 
-ghost use Rattle.std.specs.Prelude.{◌≡◌, ◌≢◌, ◌<◌, ℕ, false, length, true, vec_capacity, vec_len};
+ghost use Rattle.std.specs.Prelude.{◌≡◌, ◌≢◌, ◌<◌, ℕ, false, length, true, IfErr, IsTrue, vec_capacity, vec_len};
 ghost use Rattle.named.specs.Brokers.{is_creating};
 ghost use Rattle.roll.specs.Rule.{IsKeeper, rows_of};
 ghost use Rattle.session.specs.Promises.{KeepsNumbers};
@@ -8,6 +8,7 @@ ghost use Rattle.session.specs.Requests.{answer_to, number_or_zero, IsBegunBy};
 ghost use Rattle.workers.specs.Answers.{IsListAfter, IsListBegun};
 ghost use Rattle.workers.specs.Following.{IsGuardedWell};
 ghost use Rattle.workers.specs.Lists.{ends_open, events_at};
+ghost use Rattle.workers.specs.Refusals.{is_call_refusal};
 ghost use Rattle.workers.specs.Seats.{AreEmpty};
 
 use crate::entry::{End, Entry, Request, Took, last_queue};
@@ -124,6 +125,7 @@ impl<J: Naming> Locked<J> {
         ensures act { IsBegunBy self.old.session self.new.session request.queue.0 seat.client
             (number_or_zero request.number) request.call result.1
             (answer_to self.old.session request.queue.0 seat.client request.number) }
+        ensures errors { IfErr result.1 (λ refusal. IsTrue (is_call_refusal refusal)) }
     {
         let Request {
             queue,

@@ -1,14 +1,15 @@
 //! What threads see of the queues.
 
-ghost use Rattle.std.specs.Prelude.{◌≡◌, ◌<◌, ℕ, IfErr, IfOk, slice_get};
+ghost use Rattle.std.specs.Prelude.{◌≡◌, ◌<◌, ℕ, IfErr, IfOk, IsTrue, slice_get};
 ghost use Rattle.arena.specs.declared.broker.TheConstants.{SLOTS};
 ghost use Rattle.workers.specs.Looking.{HasQueuesOf, IsFoundOf};
+ghost use Rattle.workers.specs.Refusals.{is_told_refusal};
 
 use crate::locked::Locked;
 use crate::naming::Naming;
 use arena::{SLOTS, SlotId};
 use directory::{Name, Places};
-use words::Refusal;
+use words::{Client, Refusal, Told};
 
 /// The same places.
 fn copy_of(places: &Places) -> Places
@@ -38,5 +39,13 @@ impl<J: Naming> Locked<J> {
     {
         let _ = &self.session;
         Ok(copy_of(self.session.broker().list()?))
+    }
+
+    /// What the client was last told in the queue of a slot.
+    pub(crate) fn told(&self, client: Client, queue: SlotId) -> Result<Told, Refusal>
+        ensures { IfErr result (λ refusal. IsTrue (is_told_refusal refusal)) }
+    {
+        let _ = &self.session;
+        self.session.broker().told(queue, client)
     }
 }

@@ -1,9 +1,12 @@
 //! A broker that threads share.
 
-ghost use Rattle.std.specs.Prelude.{◌≡◌, ◌<◌, ◌⊎◌, false, IfErr, IfOk, true, vec_capacity, vec_len};
+ghost use Rattle.std.specs.Prelude.{◌≡◌, ◌<◌, ◌⊎◌, false, IfErr, IfOk, IsTrue, true, vec_capacity, vec_len};
 ghost use Rattle.workers.specs.Answers.{Finishes, IsListAfter, IsListBegun, Remembers};
 ghost use Rattle.workers.specs.Lists.{ends_open};
 ghost use Rattle.workers.specs.Looking.{HasQueuesOf, IsFoundOf};
+ghost use Rattle.workers.specs.Refusals.{is_call_refusal, is_creation_refusal, is_refused, is_told_refusal};
+ghost use Rattle.workers.specs.Refusals.{IfNotCreated, IfNotMade};
+ghost use Rattle.directory.specs.Directory.{HasName};
 ghost use Rattle.directory.specs.Name.{IsName};
 ghost use Rattle.workers.specs.declared.entry.Answer.{Answer as AnyAnswer};
 ghost use Rattle.workers.specs.declared.shared.Created.{Created as AnyCreated};
@@ -52,6 +55,7 @@ impl<J: Naming> Shared<J> {
         requires room { vec_len seat.list < vec_capacity seat.list }
         ensures client { result.0.client ≡ seat.client }
         ensures begun { IsListBegun seat.list.items request result.1 result.0.list.items }
+        ensures errors { IfErr result.1 (λ refusal. IsTrue (is_call_refusal refusal)) }
     {
         self.locked.lock(rt).begin(&self.roll, seat, request)
     }
@@ -106,6 +110,7 @@ impl<J: Naming> Shared<J> {
         ensures client { result.0.client ≡ seat.client }
         ensures entry { Remembers seat.list.items queue number call result.1 result.0.list.items }
         ensures busy { ends_open seat.list.items ≡ true → result ≡ (seat, AnyAnswer.Refused Refusal.Busy) }
+        ensures errors { IfNotMade result.1 (λ refusal. IsTrue (is_call_refusal refusal)) }
     {
         if seat.is_open() {
             return (seat, Answer::Refused(Refusal::Busy));
@@ -145,9 +150,11 @@ impl<J: Naming> Shared<J> {
 
     /// Creates a queue, one act a step. It is Interrupted where a crash came between, and refused as
     /// [`session::Session::create`] is; Busy also where a crash ended another creation whose caller has not seen that
-    /// yet.
+    /// yet. A name that a queue had when the seats were given is taken for good.
     pub fn create<R: Wait>(&self, rt: &R, name: &[u8], kind: Kind) -> Created
-        ensures { (IsName name.now → ⊥) → result ≡ AnyCreated.Refused Refusal.BadName }
+        ensures bad_name { (IsName name.now → ⊥) → result ≡ AnyCreated.Refused Refusal.BadName }
+        ensures taken { HasName J.first.broker.directory name.now → IsTrue (is_refused result) }
+        ensures errors { IfNotCreated result (λ refusal. IsTrue (is_creation_refusal refusal)) }
     {
         if let Err(refusal) = self.locked.lock(rt).create(name, kind) {
             return Created::Refused(refusal);
@@ -206,7 +213,9 @@ impl<J: Naming> Shared<J> {
     }
 
     /// What the client was last told in the queue of a slot. It is refused as [`named::Broker::told`] is.
-    pub fn told<R: Wait>(&self, rt: &R, client: Client, queue: SlotId) -> Result<Told, Refusal> {
-        self.locked.lock(rt).session.broker().told(queue, client)
+    pub fn told<R: Wait>(&self, rt: &R, client: Client, queue: SlotId) -> Result<Told, Refusal>
+        ensures errors { IfErr result (λ refusal. IsTrue (is_told_refusal refusal)) }
+    {
+        self.locked.lock(rt).told(client, queue)
     }
 }

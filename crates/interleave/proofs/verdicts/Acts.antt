@@ -1,12 +1,9 @@
 -- What each act leaves of what the kept words tell a log queue's client, and of its floor.
-use Rattle.std.proofs.Common.{◌≡◌, ℕ, ◌<◌, ◌⊎◌, ◌==◌, inl, inr, Bool, true, false, if◌then◌else◌, List, length, map}
-use Rattle.std.proofs.Common.{Option, Some, None, Result, Ok, Err, slice_get, slice_index, slice_index_or, refl}
+use Rattle.std.proofs.Common.{◌≡◌, ℕ, ◌<◌, ◌⊎◌, ◌==◌, inl, inr, Bool, true, false, if◌then◌else◌, List}
+use Rattle.std.proofs.Common.{Option, Some, None, Result, Ok, Err, slice_get, slice_index_or, refl}
 use Rattle.std.proofs.Common.{sym, ap, ◌∙◌, subst, arith}
 use Rattle.std.specs.Prelude.{is_some}
 use Rattle.std.proofs.lemmas.Grind.{get_or-set_at}
-use Rattle.std.proofs.lemmas.List.{get_or-map}
-use Rattle.std.proofs.lemmas.List.FromFn.{length-map-range_with_len}
-use Rattle.std.proofs.lemmas.Option.{unwrap_or-slice_get}
 use Rattle.words.specs.declared.call.Client.{Client}
 use Rattle.words.specs.declared.call.Kind.{Kind}
 use Rattle.words.specs.declared.call.Kind.TheVariants.{Log as log_kind}
@@ -14,42 +11,37 @@ use Rattle.words.specs.declared.call.Reply.{Reply}
 use Rattle.words.specs.declared.limits.TheConstants.{MAX_CLIENTS}
 use Rattle.words.specs.declared.refusal.Refusal.{Refusal}
 use Rattle.words.specs.declared.told.Told.{Told}
-use Rattle.words.specs.declared.told.Told.TheVariants.{None as told_none}
 use Rattle.logqueue.specs.Numbers.{floor_of}
 use Rattle.arena.specs.Layout.{place_at}
+use Rattle.arena.specs.Shape.{Shape}
 use Rattle.arena.specs.declared.place.Place.{Place}
 use Rattle.stepper.specs.declared.resume.After.{After}
 use Rattle.stepper.specs.declared.resume.After.TheVariants.{More, Done}
-use Rattle.helping.specs.Table.{access_of}
-use Rattle.recover.specs.Told.{told_by}
 use Rattle.recover.specs.declared.recovery.Recovery.{Recovery}
-use Rattle.protocol.specs.Machine.{World, MayStep, after_keeping, effects_after, events_after, next_of, next_recovery}
-use Rattle.protocol.specs.Machine.{with_access, with_eviction, with_flush, with_step}
+use Rattle.protocol.specs.Machine.{World, next_recovery, recovery_left, with_eviction, with_step}
 use Rattle.protocol.specs.declared.UnderWay.{UnderWay}
 use Rattle.protocol.specs.declared.acts.Act.{Act}
 use Rattle.protocol.specs.declared.acts.Act.TheVariants.{Start, Step, Evict, Crash, Recover}
-use Rattle.protocol.specs.invariants.Worlds.{Inv, IsReady}
-use Rattle.protocol.proofs.worlds.Acts.{step_noted}
-use Rattle.protocol.proofs.worlds.Facts.{explained, inv_evicted, inv_stepped, is_ready, part_evicted, part_stepped}
-use Rattle.protocol.proofs.worlds.Moments.{calling, keep_noted}
-use Rattle.protocol.proofs.worlds.ReadyWorlds.{access_kept}
+use Rattle.protocol.specs.invariants.Worlds.{Inv}
+use Rattle.protocol.proofs.worlds.Facts.{no_calls}
 use Rattle.interleave.specs.Calls.{waiting_result}
 use Rattle.interleave.specs.Floors.{AreFloorsRightIn}
 use Rattle.interleave.specs.Holds.{Holds, from_invariant}
 use Rattle.interleave.specs.Numbers.{AreNumbersRisingIn}
-use Rattle.interleave.specs.Queue.{told_in, told_to}
+use Rattle.interleave.specs.Queue.{told_to}
 use Rattle.interleave.specs.Ranges.{IsOfKind}
 use Rattle.interleave.specs.State.{State, machine, after_attempt, after_bump_load, after_call_began, after_evict}
 use Rattle.interleave.specs.State.{after_one_access, after_recover, after_step, evict_with, is_down}
-use Rattle.interleave.specs.State.{is_ready as says_ready, kept_tells, number_to_start, order_in, queue_at_ready}
+use Rattle.interleave.specs.State.{is_ready as says_ready, kept_tells, number_to_start, order_in}
 use Rattle.interleave.specs.State.{queue_left, recover_result, recover_result_with, recover_with, start_with, step_with}
 use Rattle.interleave.specs.State.{used_by}
-use Rattle.interleave.specs.Verdicts.{floor_in, kept_told}
+use Rattle.interleave.specs.Verdicts.{IsIdle, floor_in, kept_told}
 use Rattle.interleave.specs.declared.queue.Queue.{Queue}
 use Rattle.interleave.specs.declared.queue.Queue.TheVariants.{Durable, Log}
-use Rattle.interleave.proofs.HoldsKept.{evicted_is, gone_on_is, may_step, waiting_is}
-use Rattle.interleave.proofs.KeptTells.{tells_crashed, tells_evicted, tells_on, told_by_kept}
-use Rattle.interleave.proofs.verdicts.Tells.{IsToldOfNumber, comes_announced, kept_is, told_in_world, told_now, told_on}
+use Rattle.interleave.proofs.HoldsKept.{evicted_is, gone_on_is, holds_after_recover, may_step, waiting_is}
+use Rattle.interleave.proofs.KeptTells.{tells_crashed, tells_evicted, tells_on}
+use Rattle.interleave.proofs.verdicts.Steps.{IsToldStill, machine_told, told_evicted, told_stepped}
+use Rattle.interleave.proofs.verdicts.Tells.{IsToldOfNumber, kept_is}
 
 -- what is told is of the call that the client has under way
 pub record IsOwnTold (w : State) (client : Client) (told : Told) : Type 0 where
@@ -65,35 +57,19 @@ StaysTold old client new =
 same_tells : (old new : State) (client : Client) → kept_tells new ≡ kept_tells old → StaysTold old client new
 same_tells old new client same = inl (ap (λ (ts : List Told). told_to ts client) same)
 
--- where recovery told clients this, their floors are by it
-floor_told : (kind : Kind) → kind ≡ log_kind → (client : Client) → client.0 < MAX_CLIENTS
-    → (next : After Recovery (List Told)) (queue : Queue) → IsOfKind kind queue → says_ready next ≡ true
-    → (ts : List Told) → length ts ≡ MAX_CLIENTS → told_in (queue_at_ready queue next) ≡ ts
-    → floor_in (queue_at_ready queue next) client ≡ floor_of (told_to ts client)
-floor_told kind log client few (More r) queue is ready ts long told = cc
-floor_told kind log client few (Done tells) (Durable reports) is ready ts long told =
-    absurd (subst (λ (k : Kind). IsOfKind k (Durable reports)) log is)
-floor_told kind log client few (Done tells) (Log clients) is ready ts long told =
-    ap (λ (xs : List Told). slice_index (map floor_of xs) client.0) told
-    ∙ get_or-map floor_of ts client.0 told_none 0 (omega (arith, few, long))
-    ∙ ap floor_of (sym (unwrap_or-slice_get ts client.0 told_none))
-
 module _ (w : State) (holds : Holds w) (log : w.shape.kind ≡ log_kind) (client : Client)
     (few : client.0 < MAX_CLIENTS) where
   inv : Inv (machine w)
   inv = from_invariant _ holds.inv
 
   -- what the words of a machine tell are those of the world
-  told_so : (new : State) (m : World) → machine new ≡ m
-      → (told_by m.shape m.memory.kept client.0 ≡ kept_told w client)
-      ⊎ ((u : UnderWay) × (slice_index_or w.calls client.0 None ≡ Some u)
-      × IsToldOfNumber u.begun.number (told_by m.shape m.memory.kept client.0))
+  told_so : (new : State) (m : World) → machine new ≡ m → IsToldStill (machine w) client (machine_told m client)
       → StaysTold w client new
   told_so new m is told =
-      let same : kept_told new client ≡ told_by m.shape m.memory.kept client.0 =
-      kept_is new client few ∙ ap (λ (v : World). told_by v.shape v.memory.kept client.0) is in
+      let same : kept_told new client ≡ machine_told m client =
+      kept_is new client few ∙ ap (λ (v : World). machine_told v client) is in
       elim told [
-        | inl stays ↦ inl (same ∙ stays)
+        | inl stays ↦ inl (same ∙ stays ∙ sym (kept_is w client few))
         | inr own ↦ inr (record {
           u = own.0;
           at = own.1;
@@ -104,30 +80,14 @@ module _ (w : State) (holds : Holds w) (log : w.shape.kind ≡ log_kind) (client
   tells_gone_on : (c : Client) (u : UnderWay) → slice_get w.calls c.0 ≡ Some (Some u)
       → StaysTold w client (after_one_access w c u)
   tells_gone_on c u here =
-      let m : World = machine w in
-      let may : MayStep m c u = may_step w c u holds here in
-      let v : IsReady m = is_ready m inv may.ready in
-      let after : Inv (with_step m c u) = inv_stepped m inv c u may in
-      told_so (after_one_access w c u) (with_step m c u) (gone_on_is w c u holds here)
-      (told_on m v (with_access m.memory (access_of w.shape.kind u.op))
-      (access_kept m.memory (access_of w.shape.kind u.op)) log (effects_after m u u.op)
-      (comes_announced m v.working log (effects_after m u u.op) _
-      (step_noted m v.working c.0 u may.waits u.op (calling m v.working c.0 u may.waits).0))
-      (part_stepped m inv c u may) (explained (with_step m c u) after).1.is_order.once
-      (events_after w.log.events c (next_of m u)) client (kept_told w client) _ (told_now w holds log client few)
-      (told_in_world (with_step m c u) after log client few))
+      told_so (after_one_access w c u) (with_step (machine w) c u) (gone_on_is w c u holds here)
+      (told_stepped (machine w) inv log c u (may_step w c u holds here) client few)
 
   tells_kept : (word : ℕ) (p : Place) → place_at w.shape word ≡ Some p → w.recovery ≡ None
       → StaysTold w client (evict_with w word (Some p))
   tells_kept word p named up =
-      let m : World = machine w in
-      let v : IsReady m = is_ready m inv up in
-      let after : Inv (with_eviction m p) = inv_evicted m inv p in
-      told_so (evict_with w word (Some p)) (with_eviction m p) (evicted_is w word p holds named)
-      (told_on m v (with_flush m.memory p) (inr (record { p = p; same = refl })) log (after_keeping m p)
-      (comes_announced m v.working log (after_keeping m p) _ (keep_noted m v.working p)) (part_evicted m inv p)
-      (explained (with_eviction m p) after).1.is_order.once w.log.events client (kept_told w client) _
-      (told_now w holds log client few) (told_in_world (with_eviction m p) after log client few))
+      told_so (evict_with w word (Some p)) (with_eviction (machine w) p) (evicted_is w word p holds named)
+      (told_evicted (machine w) inv log p up client few)
 
   tells_stepped : (full : Bool) (c : Client) → StaysTold w client (after_step full w c)
   tells_stepped full c = go (waiting_result (is_down w) (slice_get w.calls c.0)) refl full
@@ -190,18 +150,54 @@ module _ (w : State) (holds : Holds w) (log : w.shape.kind ≡ log_kind) (client
           (omega (arith, few, who, v.sixteen))
       go (Durable reports) is v = absurd (subst (λ (k : Kind). IsOfKind k (Durable reports)) log is)
 
-  -- once recovery has ended, it is by what the kept words tell
-  pub floor_ready : (full : Bool) → recover_result full w ≡ Ok true
-      → floor_in (after_recover full w).queue client ≡ floor_of (kept_told (after_recover full w) client)
-  floor_ready full is = go w.recovery full is (told_by_kept full w holds is ∙ sym (tells_on full w holds).0)
+-- of an idle client the floor is by what the kept words tell
+pub floor_idle : (w : State) → Holds w → w.shape.kind ≡ log_kind → (client : Client) → client.0 < MAX_CLIENTS
+    → w.recovery ≡ None → IsIdle w client → floor_in w.queue client ≡ floor_of (kept_told w client)
+floor_idle w holds log client few up idle = go w.queue holds.kind holds.floors ∙ ap floor_of (sym (kept_is w client few))
+  where
+    go : (queue : Queue) → IsOfKind w.shape.kind queue → AreFloorsRightIn queue (machine w)
+        → floor_in queue client ≡ floor_of (machine_told (machine w) client)
+    go (Log clients) is fit = fit.told up client few idle
+    go (Durable reports) is fit = absurd (subst (λ (k : Kind). IsOfKind k (Durable reports)) log is)
+
+-- once recovery has ended, nobody has called
+module _ (full : Bool) (w : State) (holds : Holds w) (is : recover_result full w ≡ Ok true) where
+  pub nobody_ready : (client : Client) → IsIdle (after_recover full w) client
+  nobody_ready client = go w.recovery refl full is
     where
-      go : (o : Option Recovery) (f : Bool) → recover_result_with f w o ≡ Ok true
-          → told_in (recover_with f w o).queue ≡ kept_tells (recover_with f w o)
-          → floor_in (recover_with f w o).queue client ≡ floor_of (kept_told (recover_with f w o) client)
-      go None f is told = cc
-      go (Some r) true is told = cc
-      go (Some r) false is told =
-          floor_told w.shape.kind log client few (next_recovery (machine w) r) w.queue holds.kind
-          (let same : says_ready (next_recovery (machine w) r) ≡ true = cc in same)
-          (kept_tells (recover_with false w (Some r)))
-          (length-map-range_with_len (told_by w.shape (machine (recover_with false w (Some r))).memory.kept) 0 16) told
+      go : (o : Option Recovery) → w.recovery ≡ o → (f : Bool) → recover_result_with f w o ≡ Ok true
+          → IsIdle (recover_with f w o) client
+      go None e f is = cc
+      go (Some r) e true is = cc
+      go (Some r) e false is = no_calls (machine w) (from_invariant _ holds.inv) r e client.0
+
+  pub up_ready : (after_recover full w).recovery ≡ None
+  up_ready = go w.recovery full is
+    where
+      ended : (next : After Recovery (List Told)) → says_ready next ≡ true → recovery_left next ≡ None
+      ended (More r) ready = cc
+      ended (Done told) ready = refl
+
+      go : (o : Option Recovery) (f : Bool) → recover_result_with f w o ≡ Ok true → (recover_with f w o).recovery ≡ None
+      go None f is = cc
+      go (Some r) true is = cc
+      go (Some r) false is =
+          ended (next_recovery (machine w) r) (let same : says_ready (next_recovery (machine w) r) ≡ true = cc in same)
+
+  shape_ready : (after_recover full w).shape ≡ w.shape
+  shape_ready = go w.recovery full
+    where
+      go : (o : Option Recovery) (f : Bool) → (recover_with f w o).shape ≡ w.shape
+      go None f = refl
+      go (Some r) true = refl
+      go (Some r) false = refl
+
+  pub log_ready : w.shape.kind ≡ log_kind → (after_recover full w).shape.kind ≡ log_kind
+  log_ready log = ap (λ (s : Shape). s.kind) shape_ready ∙ log
+
+  -- so each floor is by what the kept words tell
+  pub floor_ready : w.shape.kind ≡ log_kind → (client : Client) → client.0 < MAX_CLIENTS
+      → floor_in (after_recover full w).queue client ≡ floor_of (kept_told (after_recover full w) client)
+  floor_ready log client few =
+      floor_idle (after_recover full w) (holds_after_recover full w holds) (log_ready log) client few up_ready
+      (nobody_ready client)

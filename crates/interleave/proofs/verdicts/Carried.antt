@@ -8,17 +8,14 @@ use Rattle.words.specs.declared.told.Told.{Told}
 use Rattle.words.specs.declared.told.Verdict.{Verdict}
 use Rattle.interleave.specs.Holds.{Holds}
 use Rattle.interleave.specs.Rotation.{IsQuiet, after_rotation, queue_with_told, rotate_result}
-use Rattle.interleave.specs.State.{State, kept_tells, machine, order_in}
-use Rattle.interleave.specs.Floors.{AreFloorsRightIn}
-use Rattle.interleave.specs.Numbers.{AreNumbersRisingIn}
+use Rattle.interleave.specs.State.{State, kept_tells}
 use Rattle.interleave.specs.Queue.{told_in}
-use Rattle.interleave.specs.Ranges.{IsOfKind}
 use Rattle.logqueue.specs.Numbers.{floor_of, verdict_of}
-use Rattle.words.specs.declared.call.Kind.{Kind}
 use Rattle.interleave.specs.Verdicts.{IsIdle, IsLast, IsRecalled, IsReplyOf, IsRested, floor_by, floor_in, kept_told, told_as}
 use Rattle.interleave.specs.declared.queue.Queue.{Queue}
 use Rattle.interleave.specs.declared.queue.Queue.TheVariants.{Durable, Log}
-use Rattle.interleave.proofs.Rotated.{floors_told, quiet_at, told_with}
+use Rattle.interleave.proofs.Rotated.{quiet_at, told_with}
+use Rattle.interleave.proofs.verdicts.Acts.{floor_idle}
 use Rattle.interleave.proofs.verdicts.Given.{kept_at, kept_verdict}
 
 -- a rotation leaves floors
@@ -31,7 +28,7 @@ module _ (full : Bool) (w : State) (client : Client) (last : Option Verdict) whe
   -- so the last verdict is the same
   pub last_rotated : rotate_result full w ≡ Ok tt → IsLast w client last → IsLast (after_rotation w) client last
   last_rotated rotates is = record {
-    floor = subst (λ (f : ℕ). floor_by last ≤ f) (sym (floor_rotated w.queue (kept_tells w) client)) is.floor;
+    floor = floor_rotated w.queue (kept_tells w) client ∙ is.floor;
     told = is.told;
   }
 
@@ -61,24 +58,14 @@ rested_rotated full w holds log rotates = record {
       ap (λ (o : Option Told). told_as (verdict_of o)) told ∙ kept_verdict w holds log client few in
       record {
         floor =
-            subst (λ (f : ℕ). floor_by (verdict_of (slice_get (told_in (after_rotation w).queue) client.0)) ≤ f)
-            (sym (floor_rotated w.queue (kept_tells w) client))
-            (subst (λ (t : Told). floor_of t ≤ floor_in w.queue client) (sym same) (low client few));
+            floor_rotated w.queue (kept_tells w) client
+            ∙ floor_idle w holds log client few quiet.ready (quiet.nobody client.0) ∙ ap floor_of (sym same);
         told = λ idle. sym same;
       };
 }
   where
     quiet : IsQuiet w
     quiet = quiet_at full w rotates
-
-    low : (client : Client) → client.0 < MAX_CLIENTS → floor_of (kept_told w client) ≤ floor_in w.queue client
-    low client few = go w.queue holds.kind holds.numbers holds.floors
-      where
-        go : (queue : Queue) → IsOfKind w.shape.kind queue
-            → AreNumbersRisingIn queue w.told w.log.events (order_in w) → AreFloorsRightIn queue (machine w)
-            → floor_of (kept_told w client) ≤ floor_in queue client
-        go (Durable reports) kind v fit = absurd (subst (λ (k : Kind). IsOfKind k (Durable reports)) log kind)
-        go (Log clients) kind v fit = floors_told w holds quiet clients log v fit client few
 
 -- the state, whatever it counted
 abbrev pub uncounted : State → State

@@ -1,5 +1,5 @@
 -- What a client of a log queue was given, by what the kept words tell it.
-use Rattle.std.proofs.Common.{◌≡◌, ◌≢◌, ℕ, zero, suc, ◌<◌, ◌≤◌, ◌⊎◌, inl, inr, Bool, true, false, List, Option, Some}
+use Rattle.std.proofs.Common.{◌≡◌, ◌≢◌, ℕ, zero, suc, ◌<◌, ◌≤◌, ◌⊎◌, inl, inr, Bool, true, List, Option, Some}
 use Rattle.std.proofs.Common.{None}
 use Rattle.std.proofs.Common.{Ok, replicate, slice_get, refl, sym, ap, ◌∙◌, subst, arith, ⊎_elim}
 use Rattle.std.specs.Prelude.{unwrap_or}
@@ -33,15 +33,12 @@ use Rattle.protocol.specs.invariants.Records.{IsEntry}
 use Rattle.protocol.specs.invariants.Sound.{memory_at_rest}
 use Rattle.protocol.specs.invariants.Worlds.{InvAt}
 use Rattle.protocol.proofs.boot.Booted.{told_at}
-use Rattle.protocol.proofs.worlds.Facts.{no_calls}
 use Rattle.protocol.proofs.worlds.Rotated.{tells_now}
 use Rattle.interleave.specs.Holds.{Holds, from_invariant}
 use Rattle.interleave.specs.Numbers.{AreNumbersRisingIn, NumbersRise, told_floor}
 use Rattle.interleave.specs.Queue.{new_queue, told_in}
 use Rattle.interleave.specs.Ranges.{IsOfKind}
-use Rattle.interleave.specs.State.{State, machine, after_recover, kept_tells, order_in, recover_result}
-use Rattle.interleave.specs.State.{recover_result_with}
-use Rattle.interleave.specs.State.{recover_with, world_over}
+use Rattle.interleave.specs.State.{State, machine, after_recover, kept_tells, order_in, recover_result, world_over}
 use Rattle.interleave.specs.Verdicts.{IsIdle, IsLast, IsRecalled, IsReplyOf, IsRested, IsTakenByBase, IsTakenNumber}
 use Rattle.interleave.specs.Verdicts.{IsToldAbove, NoneIsAbove, floor_by, floor_in, kept_told, taken_as, told_as}
 use Rattle.interleave.specs.declared.queue.Queue.{Queue}
@@ -50,8 +47,8 @@ use Rattle.interleave.proofs.HoldsKept.{explained_world, holds_after_recover}
 use Rattle.interleave.proofs.KeptTells.{tells_on, told_by_kept}
 use Rattle.interleave.proofs.NumberLaws.{there_at, told_covers}
 use Rattle.interleave.proofs.ValueLaws.{zero_at}
-use Rattle.interleave.proofs.verdicts.Acts.{floor_ready}
-use Rattle.interleave.proofs.verdicts.Tells.{IsLogTold, kept_is, not_below, told_now}
+use Rattle.interleave.proofs.verdicts.Acts.{floor_ready, log_ready, nobody_ready}
+use Rattle.interleave.proofs.verdicts.Tells.{IsLogTold, kept_is, told_now}
 
 none_some : {X : Type 0} {x : X} → None ≡ Some x → ⊥
 none_some e = cc
@@ -219,40 +216,23 @@ module _ (w : State) (holds : Holds w) (log : w.shape.kind ≡ log_kind) (client
 -- at a Ready what each client is told is its last verdict
 pub rested_at_ready : (full : Bool) (w : State) → Holds w → w.shape.kind ≡ log_kind → recover_result full w ≡ Ok true
     → IsRested (after_recover full w)
-rested_at_ready full w holds log is = record { nobody = nobody; last = last }
+rested_at_ready full w holds log is = record { nobody = nobody_ready full w holds is; last = last }
   where
     new : State
     new = after_recover full w
-
-    shape : new.shape ≡ w.shape
-    shape = go w.recovery full
-      where
-        go : (o : Option Recovery) (f : Bool) → (recover_with f w o).shape ≡ w.shape
-        go None f = refl
-        go (Some r) true = refl
-        go (Some r) false = refl
-
-    nobody : (client : Client) → IsIdle new client
-    nobody client = go w.recovery refl full is
-      where
-        go : (o : Option Recovery) → w.recovery ≡ o → (f : Bool) → recover_result_with f w o ≡ Ok true
-            → IsIdle (recover_with f w o) client
-        go None e f is = cc
-        go (Some r) e true is = cc
-        go (Some r) e false is = no_calls (machine w) (from_invariant _ holds.inv) r e client.0
 
     last : (client : Client) → client.0 < MAX_CLIENTS
         → IsLast new client (verdict_of (slice_get (told_in new.queue) client.0))
     last client few =
         let keeps : Holds new = holds_after_recover full w holds in
-        let log_new : new.shape.kind ≡ log_kind = ap (λ (s : Shape). s.kind) shape ∙ log in
+        let log_new : new.shape.kind ≡ log_kind = log_ready full w holds is log in
         let told : told_in new.queue ≡ kept_tells new = told_by_kept full w holds is ∙ sym (tells_on full w holds).0 in
         let given : slice_get (told_in new.queue) client.0 ≡ Some (kept_told new client) =
         ap (λ (ts : List Told). slice_get ts client.0) told ∙ kept_at new keeps log_new client few in
         let same : told_as (verdict_of (slice_get (told_in new.queue) client.0)) ≡ kept_told new client =
         ap (λ (o : Option Told). told_as (verdict_of o)) given ∙ kept_verdict new keeps log_new client few in
         record {
-          floor = not_below (floor_ready w holds log client few full is ∙ ap floor_of (sym same));
+          floor = floor_ready full w holds is log client few ∙ ap floor_of (sym same);
           told = λ idle. sym same;
         }
 
@@ -265,7 +245,7 @@ copies_are (suc n) (suc t) x y at = copies_are n t x y at
 pub last_new : (s : Shape) (ws : Words) → Holds (world_over s ws) → s.kind ≡ log_kind → (client : Client)
     → client.0 < MAX_CLIENTS → IsLast (world_over s ws) client None
 last_new s ws holds log client few = record {
-  floor = not_below (ap (λ (k : Kind). floor_in (new_queue k s.clients) client) log ∙ zero_at MAX_CLIENTS client.0);
+  floor = ap (λ (k : Kind). floor_in (new_queue k s.clients) client) log ∙ zero_at MAX_CLIENTS client.0;
   told = λ idle. go (kept_told w client) (told_now w holds log client few);
 }
   where

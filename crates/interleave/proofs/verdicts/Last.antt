@@ -1,64 +1,45 @@
 -- A client's last verdict stays its last one until its own call is answered, which gives it another.
-use Rattle.std.proofs.Common.{◌≡◌, ℕ, ◌<◌, ◌≤◌, ◌+◌, inl, inr, Bool, true, false, List, [], ◌∷◌, ◌++◌, length, Option}
-use Rattle.std.proofs.Common.{Some, None, Result, Ok, Err, slice_get, slice_index_or, refl, sym, ap, ◌∙◌, subst, arith}
-use Rattle.std.specs.Prelude.{EachIndex}
+use Rattle.std.proofs.Common.{[], ◌≡◌, ℕ, ◌<◌, inl, inr, Bool, true, false, List, ◌∷◌, Option}
+use Rattle.std.proofs.Common.{Some, None, Result, Ok, Err, slice_get, slice_index_or, refl, sym, ap, ◌∙◌, subst}
 use Rattle.std.proofs.lemmas.Grind.{get_or-set_at}
-use Rattle.std.proofs.lemmas.List.{length_push}
 use Rattle.std.proofs.lemmas.Option.{get_or_from_slice_get, slice_get_within}
 use Rattle.words.specs.declared.call.Client.{Client}
-use Rattle.words.specs.declared.call.Kind.{Kind}
 use Rattle.words.specs.declared.call.Kind.TheVariants.{Log as log_kind}
 use Rattle.words.specs.declared.call.Reply.{Reply}
 use Rattle.words.specs.declared.limits.TheConstants.{MAX_CLIENTS}
 use Rattle.words.specs.declared.refusal.Refusal.{Refusal}
-use Rattle.words.specs.declared.told.Outcome.{Outcome}
-use Rattle.words.specs.declared.told.Outcome.TheVariants.{NotTaken, Taken}
 use Rattle.words.specs.declared.told.Told.{Told}
-use Rattle.words.specs.declared.told.Told.TheVariants.{None as told_none, Verdict as told_verdict, Row as told_row}
+use Rattle.words.specs.declared.told.Told.TheVariants.{Verdict as told_verdict}
 use Rattle.words.specs.declared.told.Verdict.{Verdict}
 use Rattle.logqueue.specs.Numbers.{verdict_of}
 use Rattle.arena.specs.Layout.{place_at}
-use Rattle.arena.specs.Words.{announcements}
 use Rattle.arena.specs.declared.place.Place.{Place}
 use Rattle.stepper.specs.declared.resume.After.{After}
 use Rattle.stepper.specs.declared.resume.After.TheVariants.{More, Done}
-use Rattle.helping.specs.Table.{access_of}
 use Rattle.helping.specs.declared.op.Op.{Op}
-use Rattle.recover.specs.Told.{told_by}
-use Rattle.events.specs.History.{BeginsAt, CallAt, IsEnd, IsOpenFrom, ReturnAt}
-use Rattle.events.specs.Orders.{IsNew, IsTakenAs}
-use Rattle.events.specs.Telling.{IsOutcome, IsToldOf, Says}
-use Rattle.events.specs.declared.event.Entry.{Entry}
+use Rattle.events.specs.History.{CallAt}
 use Rattle.events.specs.declared.event.Event.{Event}
 use Rattle.events.specs.declared.event.Event.TheVariants.{Return as return_event}
-use Rattle.events.proofs.Growing.{begins_longer, no_end_longer}
-use Rattle.events.proofs.Interrupted.{one_reply}
-use Rattle.events.proofs.Lists.{get_last, get_longer}
-use Rattle.events.proofs.Members.{in_order_from_taken}
-use Rattle.protocol.specs.Machine.{Memory, World, MayStep, events_after, next_of, with_access, with_next}
-use Rattle.protocol.specs.Machine.{with_step}
+use Rattle.events.proofs.Lists.{get_longer}
+use Rattle.protocol.specs.Machine.{World, MayStep, next_of, with_next}
 use Rattle.protocol.specs.declared.UnderWay.{UnderWay}
 use Rattle.protocol.specs.declared.acts.Act.{Act}
 use Rattle.protocol.specs.declared.acts.Act.TheVariants.{Step, Evict}
-use Rattle.protocol.specs.invariants.Ledger.{Ledger, asked_call, held_token}
-use Rattle.protocol.specs.invariants.Worlds.{Inv, IsCalling, IsReady, ledger_of, record_of_call}
-use Rattle.protocol.proofs.calls.Rows.{KnowsNext, ledger_after}
-use Rattle.protocol.proofs.records.RecordStores.{acting_announced}
-use Rattle.protocol.proofs.worlds.Acts.{step_noted_now, step_row}
-use Rattle.protocol.proofs.worlds.Facts.{explained, inv_stepped, is_ready}
+use Rattle.protocol.specs.invariants.Worlds.{Inv}
+use Rattle.protocol.proofs.worlds.Facts.{is_ready}
 use Rattle.protocol.proofs.worlds.Moments.{calling}
-use Rattle.protocol.proofs.worlds.ReadyWorlds.{access_kept}
 use Rattle.interleave.specs.Calls.{answer_of, waiting_result}
 use Rattle.interleave.specs.Holds.{Holds, from_invariant}
 use Rattle.interleave.specs.Queue.{told_in}
 use Rattle.interleave.specs.State.{State, machine, after_attempt, after_evict, after_one_access, after_step, evict_with}
-use Rattle.interleave.specs.State.{is_down, order_in, queue_left, step_result, step_result_with, step_with}
-use Rattle.interleave.specs.Verdicts.{IsIdle, IsLast, IsReplyOf, IsRested, floor_by, floor_in, kept_told, number_of_call}
+use Rattle.interleave.specs.State.{is_down, queue_left, step_result, step_result_with, step_with}
+use Rattle.interleave.specs.Verdicts.{IsIdle, IsLast, IsReplyOf, IsRested, floor_in, kept_told, number_of_call}
 use Rattle.interleave.specs.Verdicts.{number_under_way, taken_as}
-use Rattle.interleave.proofs.HoldsKept.{explained_world, gone_on_is, holds_gone_on, may_step, waiting_is}
+use Rattle.interleave.proofs.HoldsKept.{gone_on_is, may_step, waiting_is}
 use Rattle.interleave.proofs.verdicts.Acts.{floor_answered, floor_below, told_after}
 use Rattle.interleave.proofs.verdicts.Moves.{moves}
-use Rattle.interleave.proofs.verdicts.Tells.{kept_is, not_below, own_says, told_in_world}
+use Rattle.interleave.proofs.verdicts.Steps.{begins_answered, events_answered, machine_told, taken_answered, told_answered}
+use Rattle.interleave.proofs.verdicts.Tells.{kept_is}
 
 none_some : {X : Type 0} {x : X} → None ≡ Some x → ⊥
 none_some e = cc
@@ -72,7 +53,7 @@ pub last_after : (full : Bool) (w : State) (act : Act ℕ) → Holds w → w.sha
 last_after full w act holds log client few last up still unanswered is =
     elim (moves w holds log client few full act up still) [
       | inl kept ↦ record {
-        floor = subst (λ (f : ℕ). floor_by last ≤ f) (sym kept.floor) is.floor;
+        floor = kept.floor ∙ is.floor;
         told = λ idle.
             let was : (c : Option UnderWay) → slice_index_or w.calls client.0 None ≡ c → IsIdle w client = λ c.
             was_idle (after_attempt full w act) kept.busy idle c in
@@ -97,19 +78,6 @@ pub record IsGiven (old : State) (client : Client) (number : ℕ) (reply : Reply
   pub idle : IsIdle new client
   pub above : floor_in old.queue client < number
 
--- what is told of a call that is in the order
-said_taken : (order : List Entry) → EachIndex order (λ i. IsNew order i) → (p number : ℕ) (reply : Reply) (x : Told)
-    → IsTakenAs order p reply → Says log_kind order p number x → x ≡ told_verdict (taken_as number reply)
-said_taken order once p number reply (told_verdict verdict) taken says =
-    ap (λ (n : ℕ). told_verdict (record { number = n; outcome = verdict.outcome })) says.0
-    ∙ ap (λ (o : Outcome). told_verdict (record { number = number; outcome = o })) (go verdict.outcome says.1)
-  where
-    go : (outcome : Outcome) → IsOutcome order p outcome → outcome ≡ Taken reply
-    go (Taken other) is = ap (λ (r : Reply). Taken r) (one_reply order once p other reply is taken)
-    go NotTaken is = absurd (is (in_order_from_taken order p reply taken))
-said_taken order once p number reply (told_row row) taken says = absurd says
-said_taken order once p number reply told_none taken says = absurd says
-
 -- a step by which a call answers
 module _ (w : State) (holds : Holds w) (log : w.shape.kind ≡ log_kind) (client : Client)
     (few : client.0 < MAX_CLIENTS) (u : UnderWay) (here : slice_get w.calls client.0 ≡ Some (Some u)) (reply : Reply)
@@ -126,88 +94,31 @@ module _ (w : State) (holds : Holds w) (log : w.shape.kind ≡ log_kind) (client
   may : MayStep m client u
   may = may_step w client u holds here
 
-  ready : IsReady m
-  ready = is_ready m inv may.ready
-
-  after : Inv (with_step m client u)
-  after = inv_stepped m inv client u may
-
-  stands : IsCalling w.log.events client.0 u
-  stands = (calling m ready.working client.0 u may.waits).1
-
-  whose : u.begun.client ≡ client
-  whose = ap (λ (t : ℕ). let x : Client = record { 0 = t } in x) stands.who
-
-  events_now : new.log.events ≡ w.log.events ++ return_event client reply ∷ []
-  events_now = ap (λ (a : After Op Reply). events_after w.log.events client a) ends
-
-  begins : CallAt w.log.events u.place client u.begun.number u.begun.call
-  begins = subst (λ (c : Client). CallAt w.log.events u.place c u.begun.number u.begun.call) whose stands.stands
-
-  -- the call is in the order, with the reply
-  taken : IsTakenAs (order_in new) u.place reply
-  taken =
-      let events : List Event = w.log.events ++ return_event client reply ∷ [] in
-      let before : u.place < length w.log.events = slice_get_within w.log.events u.place _ begins in
-      let longer : length events ≡ length w.log.events + 1 = length_push w.log.events (return_event client reply) in
-      let open_from : IsOpenFrom w.log.events client (length w.log.events) u.place =
-      subst (λ (c : Client). IsOpenFrom w.log.events c (length w.log.events) u.place) whose stands.open_from in
-      let answers = (explained_world new (holds_gone_on w client u holds here)).explains.answers u.place
-      (let long = ap (λ (es : List Event). length es) events_now in omega (arith, before, longer, long)) in
-      answers.taken (length w.log.events) client reply
-      (subst (λ (es : List Event). BeginsAt es client u.place) (sym events_now)
-      (begins_longer w.log.events (return_event client reply ∷ []) client u.place
-      (u.begun.number, (u.begun.call, begins))))
-      (subst (λ (es : List Event). IsEnd es client u.place (length w.log.events)) (sym events_now)
-      (record {
-        after = before;
-        ends = inl (reply, get_last w.log.events (return_event client reply));
-        first = no_end_longer w.log.events (return_event client reply ∷ []) client u.place (length w.log.events)
-            (omega arith) open_from.no_end;
-      }))
-      (subst (λ (es : List Event). ReturnAt es (length w.log.events) client reply) (sym events_now)
-      (get_last w.log.events (return_event client reply)))
-
-  -- and it is announced
-  named : announcements (with_step m client u).memory.kept client.0 ≡ u.begun.token.0
-  named =
-      let k : Ledger = ledger_after w.shape m.memory (ledger_of m) client.0 u.op in
-      let n : Memory = with_access m.memory (access_of w.shape.kind u.op) in
-      let knows : KnowsNext w.shape n k client.0 (Done reply) =
-      subst (KnowsNext w.shape n k client.0) ends (step_row m ready.working client u may).knows in
-      let told_of : IsToldOf w.shape.kind (asked_call k client.0) =
-      subst (λ (y : Kind). IsToldOf y (asked_call k client.0)) (sym log) tt in
-      let both = acting_announced w.shape n k client.0 knows.at knows.acting told_of in
-      both.1 ∙ sym knows.acting.mine.holds
-      ∙ ap (λ (l : Ledger). held_token l client.0) (sym (step_noted_now m ready.working client u may).same)
-      ∙ ap (λ (c : Option UnderWay). (record_of_call c).token.0) may.waits
+  who : u.begun.client.0 ≡ client.0
+  who = (calling m (is_ready m inv may.ready).working client.0 u may.waits).1.who
 
   told : kept_told new client ≡ told_verdict (taken_as u.begun.number reply)
   told =
-      kept_is new client few
-      ∙ ap (λ (v : World). told_by v.shape v.memory.kept client.0) (gone_on_is w client u holds here)
-      ∙ said_taken (order_in new) (explained (with_step m client u) after).1.is_order.once u.place u.begun.number
-      reply _ taken
-      (own_says m ready (with_access m.memory (access_of w.shape.kind u.op))
-      (access_kept m.memory (access_of w.shape.kind u.op)) (events_after w.log.events client (next_of m u))
-      (order_in new) client _ (told_in_world (with_step m client u) after log client few)
-      (record { u = u; at = may.waits; named = named }))
+      kept_is new client few ∙ ap (λ (v : World). machine_told v client) (gone_on_is w client u holds here)
+      ∙ told_answered m inv log client u may reply ends few
 
   given : IsGiven w client u.begun.number reply new
   given = record {
     last = record {
-      floor = not_below (ap (λ (a : After Op Reply). floor_in (queue_left w.queue u a) client) ends
-          ∙ floor_answered w holds log client few u reply stands.who);
+      floor = ap (λ (a : After Op Reply). floor_in (queue_left w.queue u a) client) ends
+          ∙ floor_answered w holds log client few u reply who;
       told = λ idle. told;
     };
     reply_of = inl (record {
       place = u.place;
       has_number = (
         u.begun.call,
-        subst (λ (es : List Event). CallAt es u.place client u.begun.number u.begun.call) (sym events_now)
-            (get_longer w.log.events (return_event client reply ∷ []) u.place _ begins),
+        subst (λ (es : List Event). CallAt es u.place client u.begun.number u.begun.call)
+            (sym (events_answered m inv log client u may reply ends))
+            (get_longer w.log.events (return_event client reply ∷ []) u.place _
+            (begins_answered m inv log client u may reply ends)),
       );
-      taken = taken;
+      taken = taken_answered m inv log client u may reply ends;
     });
     idle =
         get_or-set_at w.calls client.0 client.0 (with_next u (next_of m u)) None refl

@@ -132,7 +132,7 @@ floor_when_ready full w (Step c) holds log client few down up = absurd (cc (step
 floor_when_ready full w (Evict word) holds log client few down up = absurd (cc (down_evicted w word ∙ down, up))
 floor_when_ready full w Crash holds log client few down up = absurd (cc (crash_down full w down, up))
 floor_when_ready full w Recover holds log client few down up =
-    floor_ready w holds log client few full (became_ready full w down up)
+    floor_ready full w holds (became_ready full w down up) log client few
 
 module _ (full : Bool) (w : State) (act : Act ℕ) (holds : Holds w) (log : w.shape.kind ≡ log_kind) (client : Client)
     (few : client.0 < MAX_CLIENTS) (last : Option Verdict) (recalled : IsRecalled w client last) where

@@ -1,5 +1,5 @@
 -- What the kept words tell a client of a log queue, and which acts change it: those of its own call under way alone.
-use Rattle.std.proofs.Common.{◌≡◌, ℕ, ◌<◌, ◌≤◌, ◌⊎◌, inl, inr, List, length, Option, Some, None, refl, sym, ap, ◌∙◌}
+use Rattle.std.proofs.Common.{◌≡◌, ℕ, ◌<◌, ◌⊎◌, inl, inr, List, length, Option, Some, None, refl, sym, ap, ◌∙◌}
 use Rattle.std.proofs.Common.{subst, arith}
 use Rattle.std.specs.Prelude.{EachIndex, unwrap_or}
 use Rattle.std.proofs.lemmas.Bool.{cases_eq}
@@ -48,9 +48,6 @@ use Rattle.interleave.specs.Holds.{Holds, from_invariant}
 use Rattle.interleave.specs.Reuse.{issued_as}
 use Rattle.interleave.specs.State.{State, machine}
 use Rattle.interleave.specs.Verdicts.{kept_told}
-
-pub not_below : {m n : ℕ} → m ≡ n → n ≤ m
-not_below e = omega (arith, e)
 
 -- what the kept words tell a client, by its announcement
 pub kept_is : (w : State) (client : Client) → client.0 < MAX_CLIENTS

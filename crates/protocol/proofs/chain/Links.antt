@@ -3,7 +3,7 @@ use Rattle.std.proofs.Common.{◌≡◌, ◌≢◌, ℕ, inl, inr, List, [], ◌
 use Rattle.std.proofs.lemmas.Bool.{cases_eq}
 use Rattle.arena.specs.Chain.{IsChain, IsAmong, IsFirst}
 use Rattle.arena.proofs.Chains.{in_left, in_end, in_end_cases}
-use Rattle.protocol.proofs.chain.Chains.{upd, upd_same, upd_other, upd_cases, one_end, linked_by, grown, chain_like, in_parts, in_chain, next_in, has_next}
+use Rattle.protocol.proofs.chain.Chains.{upd, upd_same, upd_other, upd_cases, one_end, linked_by, grown, in_parts, in_chain, next_in, has_next}
 use Rattle.protocol.specs.invariants.Links.{Links, Marks}
 
 -- a kept word that stands is the cached one: where the cached one is 0, or another, there is none
@@ -12,17 +12,6 @@ kept_none c k n stands z = elim (cases_eq (k n) 0) [ inl e ↦ e | inr ne ↦ sy
 
 pub kept_apart : (c k : ℕ → ℕ) (n : ℕ) → (k n ≢ 0 → c n ≡ k n) → k n ≢ c n → k n ≡ 0
 kept_apart c k n stands apart = elim (cases_eq (k n) 0) [ inl e ↦ e | inr ne ↦ absurd (apart (sym (stands ne))) ]
-
--- a kept link is set to the cached one, which it is already
-pub keep_same_link : (c k : ℕ → ℕ) (order : List ℕ) (n : ℕ) → k n ≡ c n → Links c k order → Links c (upd k n (c n)) order
-keep_same_link c k order n e l =
-    let same : (m : ℕ) → upd k n (c n) m ≡ k m = λ m. grind (arith, upd_cases k n (c n) m, e) in
-    record {
-      chain = chain_like k (upd k n (c n)) 0 order same l.chain;
-      kept = λ m h. l.kept m (λ z. h (same m ∙ z)) ∙ sym (same m);
-      on = l.on;
-      ahead = λ m h z. l.ahead m h (sym (same m) ∙ z);
-    }
 
 -- a link becomes kept: the chain is longer by its node
 pub keep_new_link : (c k : ℕ → ℕ) (order : List ℕ) (n : ℕ) → k n ≢ c n → Links c k order → Links c (upd k n (c n)) (order ++ c n ∷ [])
@@ -79,15 +68,6 @@ new_link c k order last node l here empty some free =
       ];
     }
 
--- what is not kept is lost
-pub lost_links : (c k : ℕ → ℕ) (order : List ℕ) → Links c k order → Links k k order
-lost_links c k order l = record {
-  chain = l.chain;
-  kept = λ m h. refl;
-  on = λ m h. l.on m (grind (arith, l.kept m));
-  ahead = λ m h z. absurd (h z);
-}
-
 -- the first of a list, and what is left of it
 pub first_split : (n : ℕ) (q : List ℕ) → IsFirst n q → q ≡ n ∷ drop 1 q
 first_split n [] h = absurd h
@@ -113,17 +93,6 @@ more_waiting c k claimed waiting x b = record {
   on = b.on;
   ahead = λ j h z. first_more j x waiting (b.ahead j h z);
 }
-
--- a kept mark is set to the cached one, which it is already
-pub keep_same_mark : (c k : ℕ → ℕ) (claimed waiting : List ℕ) (n : ℕ) → k n ≡ c n → Marks c k claimed waiting → Marks c (upd k n (c n)) claimed waiting
-keep_same_mark c k claimed waiting n e b =
-    let same : (m : ℕ) → upd k n (c n) m ≡ k m = λ m. grind (arith, upd_cases k n (c n) m, e) in
-    record {
-      kept = λ j h. b.kept j (λ z. h (same j ∙ z)) ∙ sym (same j);
-      back = λ j h. b.back j (λ z. h (same j ∙ z));
-      on = λ j h z. b.on j h (sym (same j) ∙ z);
-      ahead = λ j h z. b.ahead j h (sym (same j) ∙ z);
-    }
 
 -- a mark becomes kept: the first waiting node is claimed
 pub keep_new_mark : (c k : ℕ → ℕ) (claimed waiting : List ℕ) (n : ℕ) → k n ≢ c n → Marks c k claimed waiting
@@ -163,10 +132,6 @@ new_mark c k claimed waiting n token b first empty = record {
     | inr s ↦ b.ahead j (λ q. h (s.1 ∙ q)) z
   ];
 }
-
--- what is not kept is lost
-pub lost_marks : (c k : ℕ → ℕ) (claimed waiting : List ℕ) → Marks c k claimed waiting → Marks k k claimed waiting
-lost_marks c k claimed waiting b = record { kept = λ j h. refl; back = b.back; on = b.on; ahead = λ j h z. absurd (h z) }
 
 -- the node behind a claimed one, or behind node 0, is the first waiting one, if it has no kept mark
 pub first_waiting : (links c k : ℕ → ℕ) (claimed waiting : List ℕ) (first : ℕ) → IsChain links 0 (claimed ++ waiting) → Marks c k claimed waiting

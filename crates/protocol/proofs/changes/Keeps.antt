@@ -87,10 +87,6 @@ keep_grows s m l claimed waiting p k b begun stage a = record {
   stage = λ i ne loose silent. stage i loose silent;
 }
 
--- the ledger stays
-same_stage : (s : Shape) (m : Memory) (l : Ledger) (i : ℕ) → Loose m (held_token l i) → (SaysEmpty s m.cached (held_token l i) → ⊥) → l.stage i ≡ l.stage i
-same_stage s m l i loose silent = refl
-
 -- a call's first effect leaves the answers of others as they stood
 took_empties : (s : Shape) (l : Ledger) (mark e k : ℕ → ℕ) (i0 : ℕ) (st1 : Stage) (queue : List ℕ) → l.stage i0 ≡ Unmoved → Empties s l mark e k → Empties s (restaged l i0 st1 queue) mark e k
 took_empties s l mark e k i0 st1 queue at b = record {

@@ -19,7 +19,7 @@ use Rattle.arena.specs.Chain.LeadsTo.{there}
 use Rattle.arena.specs.Content.{chain_of, claimed_of, waiting_of, kept_content}
 use Rattle.arena.specs.Place.{IsPlace}
 use Rattle.arena.specs.Ranges.{Fits, IsReadByCalls}
-use Rattle.arena.specs.Shape.{Shape, owner, greatest}
+use Rattle.arena.specs.Shape.{Shape, greatest}
 use Rattle.arena.specs.Words.{links, marks, values}
 use Rattle.arena.specs.declared.place.Place.{Place}
 use Rattle.arena.specs.declared.place.Place.TheVariants.{Head, Tail, Announcement, Bump, Value, Next, Mark, Cell, Insert, Number, EntryKind, Status, EntryNode}
@@ -35,7 +35,7 @@ use Rattle.events.proofs.TraceGrows.{begun}
 use Rattle.events.proofs.Members.{part_same}
 use Rattle.events.proofs.Lists.{pairs_map}
 use Rattle.stepper.specs.declared.resume.After.{After}
-use Rattle.protocol.specs.Machine.{Memory, World, call_with, with_start, with_step, with_eviction, with_crash, with_recovery_step, next_recovery, recovery_left, after_keeping, effects_after, new_world, MayStart, MayStep}
+use Rattle.protocol.specs.Machine.{World, with_start, with_step, with_eviction, with_crash, with_recovery_step, next_recovery, recovery_left, after_keeping, effects_after, new_world, MayStart, MayStep}
 use Rattle.protocol.specs.declared.UnderWay.{UnderWay}
 use Rattle.protocol.specs.Announced.{IsToldOfAnnounced}
 use Rattle.protocol.proofs.told.Issuing.{told_of_announced}
@@ -45,18 +45,17 @@ use Rattle.protocol.specs.Recovered.{end_of, IsRecovered}
 use Rattle.protocol.proofs.recovery.RecoveryBound.{IsLess, falls, few_at}
 use Rattle.arena.proofs.Chains.{distinct, parts_apart}
 use Rattle.protocol.proofs.chain.Chains.{any_in, few, linked_by, walked}
-use Rattle.protocol.proofs.chain.Links.{kept_apart}
 use Rattle.protocol.specs.invariants.Base.{AllFit}
 use Rattle.protocol.specs.invariants.Places.{SaysEmpty}
 use Rattle.protocol.proofs.records.RecordStores.{none_records}
 use Rattle.protocol.proofs.calls.Rebegun.{empty_some}
 use Rattle.protocol.specs.invariants.Worlds.{ledger_of, Working, IsReady, Recovering, InvAt, Inv}
-use Rattle.protocol.proofs.worlds.Moments.{holder, keep_noted, calling}
+use Rattle.protocol.proofs.worlds.Moments.{keep_noted, calling}
 use Rattle.protocol.proofs.worlds.Acts.{evicted_part, stepped_part, step_noted}
 use Rattle.protocol.proofs.worlds.ReadyWorlds.{evicted_ready, stepped_ready, started_ready, fresh_told}
 use Rattle.protocol.proofs.recovery.RecoveryEnds.{Woken}
 use Rattle.protocol.proofs.recovery.RecoveryTelling.{all_answered}
-use Rattle.protocol.proofs.worlds.RecoveringWorlds.{RecoveredTo, evicted_recovering, evicted_recovering_part, ready_crashed, recovering_crashed, crashed_part, recovered_works, recovered_part, nobody_kept, nobody_flushed, point_fits, reads_fit, all_fit, woken, told_woken}
+use Rattle.protocol.proofs.worlds.RecoveringWorlds.{RecoveredTo, evicted_recovering, evicted_recovering_part, ready_crashed, recovering_crashed, crashed_part, recovered_works, recovered_part, nobody_kept, nobody_flushed, point_fits, reads_fit, woken, told_woken}
 use Rattle.stepper.specs.Step.{place_of, kept_by}
 use Rattle.recover.specs.Table.{access_of, IsPoint}
 use Rattle.recover.specs.Told.{tells_by}
@@ -195,19 +194,6 @@ agrees w v = go w.recovery v
         ap (map (values w.memory.kept)) (waiting_is w.shape w.memory.kept x.claimed x.waiting x.base.chained.chain x.base.fits_kept x.base.marked.on x.base.marked.back) ∙ x.base.content
     go (Some r) h = ap (map (values w.memory.kept)) (waiting_is w.shape w.memory.kept h.claimed h.waiting h.sound.chain h.sound.fits h.sound.on h.sound.back) ∙ h.sound.content
 
--- an effect that a link, or a claim, has when it becomes kept is of a call under way, in a ready world
-pub link_caller : (w : World) → IsReady w → (n : ℕ) → links w.memory.kept n ≢ links w.memory.cached n → (u : UnderWay) × (call_with w (links w.memory.cached n) ≡ Some u)
-link_caller w v n apart =
-    let none : links w.memory.kept n ≡ 0 = kept_apart (links w.memory.cached) (links w.memory.kept) n (v.working.base.chained.kept n) apart in
-    let some : links w.memory.cached n ≢ 0 = λ z. apart (none ∙ sym z) in
-    holder w v.working (owner w.shape (links w.memory.cached n)) (links w.memory.cached n) some (v.working.base.flying_link n some none).holds
-
-pub mark_caller : (w : World) → IsReady w → (n : ℕ) → marks w.memory.kept n ≢ marks w.memory.cached n → (u : UnderWay) × (call_with w (marks w.memory.cached n) ≡ Some u)
-mark_caller w v n apart =
-    let none : marks w.memory.kept n ≡ 0 = kept_apart (marks w.memory.cached) (marks w.memory.kept) n (v.working.base.marked.kept n) apart in
-    let some : marks w.memory.cached n ≢ 0 = λ z. apart (none ∙ sym z) in
-    holder w v.working (owner w.shape (marks w.memory.cached n)) (marks w.memory.cached n) some (v.working.base.flying_mark n some none).holds
-
 below_all : (q n : ℕ) (effects : List Effect) → AllByRecursion (λ (x : Effect). x.place < n) effects → IsAmong q (map (λ (x : Effect). x.place) effects) → q < n
 below_all q n [] h i = absurd i
 below_all q n (x ∷ xs) h (inl e) = subst (λ y. y < n) (sym e) h.0
@@ -254,9 +240,6 @@ zero_fits s (Number e) = omega arith
 zero_fits s (EntryKind e) = omega arith
 zero_fits s (Status e) = omega arith
 zero_fits s (EntryNode e) = omega arith
-
-zeros : Memory
-zeros = record { cached = λ p. 0; kept = λ p. 0 }
 
 zero_silent : (s : Shape) (c : ℕ) → SaysEmpty s (λ p. 0) c → ⊥
 zero_silent s c e = empty_some s.kind (token_of c) (sym e)
@@ -383,25 +366,11 @@ still_alike w v r e = recovered_alike w r (is_recovering w v r e)
 pub still_alike_evicted : (w : World) → Inv w → (r : Recovery) → w.recovery ≡ Some r → (p : Place) → TellsAlike w.shape w.memory.kept (with_eviction w p).memory.kept
 still_alike_evicted w v r e p = put_alike w r (is_recovering w v r e) p
 
-pub still_told : (w : World) → Inv w → (r : Recovery) → w.recovery ≡ Some r → tells_by w.shape (with_recovery_step w r).memory.kept ≡ tells_by w.shape w.memory.kept
-still_told w v r e = (still_alike w v r e).tells
-
-pub still_told_evicted : (w : World) → Inv w → (r : Recovery) → w.recovery ≡ Some r → (p : Place)
-    → tells_by w.shape (with_eviction w p).memory.kept ≡ tells_by w.shape w.memory.kept
-still_told_evicted w v r e p = (still_alike_evicted w v r e p).tells
-
-pub still_told_crashed : (w : World) → tells_by w.shape (with_crash w).memory.kept ≡ tells_by w.shape w.memory.kept
-still_told_crashed w = refl
-
 pub told_are_now : (w : World) → Inv w → (r : Recovery) → w.recovery ≡ Some r → (told : List Told) → next_recovery w r ≡ Ready told
     → told ≡ tells_by w.shape w.memory.kept
 told_are_now w v r e told q =
     let x : Recovering w r = is_recovering w v r e in
     told_now w r x (chain_is w.shape w.memory.kept x.claimed x.waiting x.sound.chain x.sound.fits) told q
-
-pub told_are : (w : World) → Inv w → (r : Recovery) → w.recovery ≡ Some r → (told : List Told) → next_recovery w r ≡ Ready told
-    → told ≡ tells_by w.shape (with_recovery_step w r).memory.kept
-told_are w v r e told q = told_are_now w v r e told q ∙ sym (still_told w v r e)
 
 -- the kept words are sound
 pub words_sound : (w : World) → Inv w → IsSound w.shape w.memory.kept
@@ -442,13 +411,6 @@ kept_fits w v p read = go w.recovery v
     go : (r : Option Recovery) → InvAt w r → Fits w.shape p (w.memory.kept p)
     go None h = h.working.base.fits_kept p read
     go (Some r) h = h.sound.fits p read
-
-pub cached_fits : (w : World) → Inv w → (p : Place) → IsReadByCalls p → Fits w.shape p (w.memory.cached p)
-cached_fits w v p read = go w.recovery v
-  where
-    go : (r : Option Recovery) → InvAt w r → Fits w.shape p (w.memory.cached p)
-    go None h = h.working.base.fits p read
-    go (Some r) h = all_fit w.shape w.memory h.claimed h.waiting (queue_of w.log.events w.base w.log.effects) h.sound r h.at p read
 
 -- what recovery's next access reads is in range
 pub recovery_reads : (w : World) → Inv w → (r : Recovery) → w.recovery ≡ Some r

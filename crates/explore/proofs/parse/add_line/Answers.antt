@@ -1,7 +1,7 @@
 use Rattle.std.proofs.Common.{◌≡◌, List, [], ◌∷◌, ◌++◌, sym, subst, ◌∙◌, true}
 use Rattle.std.proofs.lemmas.Bool.{not-false}
 use Rattle.std.specs.Prelude.{Option, Some}
-use Rattle.explore.specs.Lines.{is_told}
+use Rattle.explore.specs.Lines.{is_statement}
 use Rattle.explore.specs.Script.{Says, EndsBadly}
 use Rattle.explore.specs.declared.command.Command.{Command}
 use Rattle.explore.specs.declared.command.QueueLine.{QueueLine}
@@ -17,7 +17,7 @@ pub returns-in-Ok-clause-good : goal.returns-in-Ok-clause-good
 returns-in-Ok-clause-good c e lines says few =
     let line = c.args.line.now in
     let old = c.args.commands.now.items in
-    let told : is_told line ≡ true = not-false (is_told line) (sym c.is_skipped.ensures ∙ c.if-is_skipped.false) in
+    let told : is_statement line ≡ true = not-false (is_statement line) (sym c.is_skipped.ensures ∙ c.if-is_skipped.false) in
     let before : Says lines (Some c.in-Some.first) old = subst (λ (q : Option QueueLine). Says lines q old) c.in-Some.is says in
     let says_line = c.in-Some-command_on.ensures in
     let after = says_command lines line c.in-Some.first old c.in-Some-command_on.next before few told says_line.0 says_line.1 in

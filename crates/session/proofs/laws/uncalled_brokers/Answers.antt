@@ -1,4 +1,4 @@
-use Rattle.session.proofs.Uncalled.{uncalled_booted, uncalled_new, uncalled_recovered, uncalled_rotated, uncalled_stopped}
+use Rattle.session.proofs.Uncalled.{uncalled_alike, uncalled_booted, uncalled_created, uncalled_durable, uncalled_evicted, uncalled_new, uncalled_recovered, uncalled_rotated, uncalled_stopped}
 use Rattle.session.proofs.laws.uncalled_brokers.Goals as goal
 
 pub returns-clause-new : goal.returns-clause-new
@@ -15,3 +15,15 @@ returns-clause-recovered c = λ old new result well is step. uncalled_recovered 
 
 pub returns-clause-rotated : goal.returns-clause-rotated
 returns-clause-rotated c = uncalled_rotated
+
+pub returns-clause-created : goal.returns-clause-created
+returns-clause-created c = uncalled_created
+
+pub returns-clause-evicted : goal.returns-clause-evicted
+returns-clause-evicted c = uncalled_evicted
+
+pub returns-clause-durable : goal.returns-clause-durable
+returns-clause-durable c = uncalled_durable
+
+pub returns-clause-alike : goal.returns-clause-alike
+returns-clause-alike c = uncalled_alike

@@ -7,7 +7,7 @@ use Rattle.session.proofs.running.run.Goals as goal
 pub returns-in_err-start-clause-run : goal.returns-in_err-start-clause-run
 returns-in_err-start-clause-run c =
     let made : IsRoomMade c.args.broker.now c.reserve.new.self c.args.queue.0 = record { worlds = c.reserve.ensures.worlds; room = c.in_ok-reserve.ensures.room; more = c.reserve.ensures.kept c.args.queue.0; rooms = c.reserve.ensures.other_rooms; directory = c.reserve.ensures.directory; creation = c.reserve.ensures.creation; recovery = c.reserve.ensures.recovery; well = c.reserve.ensures.promises.well } in
-    let tried : IsStartTried c.reserve.new.self c.start.new.self c.args.queue.0 c.args.client c.args.number c.args.call c.start.result = record { world = c.start.ensures.world; result_is = c.start.ensures.result; full = c.start.ensures.full; room = c.start.ensures.room; others = record { worlds = c.start.ensures.others; rooms = c.start.ensures.other_rooms; directory = c.start.ensures.directory; creation = c.start.ensures.creation; recovery = c.start.ensures.recovery }; well = c.start.ensures.promises.well } in
+    let tried : IsStartTried c.reserve.new.self c.start.new.self c.args.queue.0 c.args.client c.args.number c.args.call c.start.result = record { world = c.start.ensures.world; result_is = c.start.ensures.result; full = c.start.ensures.full; room = c.start.ensures.room; spare = c.start.ensures.spare; others = record { worlds = c.start.ensures.others; rooms = c.start.ensures.other_rooms; directory = c.start.ensures.directory; creation = c.start.ensures.creation; recovery = c.start.ensures.recovery }; well = c.start.ensures.promises.well } in
     let answer : c.from_residual-in_err-start.result ≡ Err c.in_err-start.field-0.0 = search rules in
     subst (IsRun c.args.broker.now c.start.new.self c.args.queue.0 c.args.client c.args.number c.args.call) (sym answer)
     (start_was_refused c.args.broker.now c.reserve.new.self c.start.new.self c.args.queue.0 c.args.client c.args.number c.args.call c.requires.open c.requires.well made c.start.result tried c.in_err-start.field-0.0 c.in_err-start.was)
@@ -15,13 +15,13 @@ returns-in_err-start-clause-run c =
 pub returns-in_err-reply-clause-run : goal.returns-in_err-reply-clause-run
 returns-in_err-reply-clause-run c =
     let made : IsRoomMade c.args.broker.now c.reserve.new.self c.args.queue.0 = record { worlds = c.reserve.ensures.worlds; room = c.in_ok-reserve.ensures.room; more = c.reserve.ensures.kept c.args.queue.0; rooms = c.reserve.ensures.other_rooms; directory = c.reserve.ensures.directory; creation = c.reserve.ensures.creation; recovery = c.reserve.ensures.recovery; well = c.reserve.ensures.promises.well } in
-    let tried : IsStartTried c.reserve.new.self c.start.new.self c.args.queue.0 c.args.client c.args.number c.args.call c.start.result = record { world = c.start.ensures.world; result_is = c.start.ensures.result; full = c.start.ensures.full; room = c.start.ensures.room; others = record { worlds = c.start.ensures.others; rooms = c.start.ensures.other_rooms; directory = c.start.ensures.directory; creation = c.start.ensures.creation; recovery = c.start.ensures.recovery }; well = c.start.ensures.promises.well } in
+    let tried : IsStartTried c.reserve.new.self c.start.new.self c.args.queue.0 c.args.client c.args.number c.args.call c.start.result = record { world = c.start.ensures.world; result_is = c.start.ensures.result; full = c.start.ensures.full; room = c.start.ensures.room; spare = c.start.ensures.spare; others = record { worlds = c.start.ensures.others; rooms = c.start.ensures.other_rooms; directory = c.start.ensures.directory; creation = c.start.ensures.creation; recovery = c.start.ensures.recovery }; well = c.start.ensures.promises.well } in
     absurd (never_refused c.args.broker.now c.reserve.new.self c.start.new.self c.args.queue.0 c.args.client c.args.number c.args.call c.requires.open c.requires.well made c.start.result tried c.run_alone.result c.in_err-reply.field-0.0 c.in_ok-start.was c.in_err-reply.was c.in_err-reply.ensures.errors c.run_alone.ensures.full)
 
 pub returns-clause-run : goal.returns-clause-run
 returns-clause-run c =
     let made : IsRoomMade c.args.broker.now c.reserve.new.self c.args.queue.0 = record { worlds = c.reserve.ensures.worlds; room = c.in_ok-reserve.ensures.room; more = c.reserve.ensures.kept c.args.queue.0; rooms = c.reserve.ensures.other_rooms; directory = c.reserve.ensures.directory; creation = c.reserve.ensures.creation; recovery = c.reserve.ensures.recovery; well = c.reserve.ensures.promises.well } in
-    let tried : IsStartTried c.reserve.new.self c.start.new.self c.args.queue.0 c.args.client c.args.number c.args.call c.start.result = record { world = c.start.ensures.world; result_is = c.start.ensures.result; full = c.start.ensures.full; room = c.start.ensures.room; others = record { worlds = c.start.ensures.others; rooms = c.start.ensures.other_rooms; directory = c.start.ensures.directory; creation = c.start.ensures.creation; recovery = c.start.ensures.recovery }; well = c.start.ensures.promises.well } in
+    let tried : IsStartTried c.reserve.new.self c.start.new.self c.args.queue.0 c.args.client c.args.number c.args.call c.start.result = record { world = c.start.ensures.world; result_is = c.start.ensures.result; full = c.start.ensures.full; room = c.start.ensures.room; spare = c.start.ensures.spare; others = record { worlds = c.start.ensures.others; rooms = c.start.ensures.other_rooms; directory = c.start.ensures.directory; creation = c.start.ensures.creation; recovery = c.start.ensures.recovery }; well = c.start.ensures.promises.well } in
     served c.args.broker.now c.reserve.new.self c.start.new.self c.args.queue.0 c.args.client c.args.number c.args.call c.requires.open c.requires.well made c.start.result tried c.run_alone.new.self c.in_ok-reply.reply c.in_ok-reply._steps c.in_ok-start.was c.in_ok-reply.ensures.steps c.in_ok-reply.ensures.answer c.in_ok-reply.ensures.world c.in_ok-reply.ensures.room
     (record { worlds = c.run_alone.ensures.others; rooms = c.run_alone.ensures.other_rooms; directory = c.run_alone.ensures.directory; creation = c.run_alone.ensures.creation; recovery = c.run_alone.ensures.recovery })
 

@@ -1,4 +1,4 @@
-use Rattle.std.proofs.Common.{rules, ◌≡◌, ◌∙◌, List, Option, Some, slice_get, refl, sym, ap, subst, arith}
+use Rattle.std.proofs.Common.{rules, ℕ, ◌≡◌, ◌≤◌, ◌∙◌, List, Option, Some, slice_get, refl, sym, ap, subst, arith}
 use Rattle.std.proofs.lemmas.List.{with_items_is}
 use Rattle.std.specs.Vec.{with_items}
 use Rattle.persist.specs.Memory.{Words, words_after_crash}
@@ -49,6 +49,16 @@ returns-in_err-reserve_each-clause-room c = λ at.
     let each : EachBecame HasMoreRoom b.slots more = subst (λ (l : List Slot). EachBecame HasMoreRoom l more) c.deref_mut.ensures.value c.reserve_each.ensures.same in
     let written : (with_items c.self.inside.slots more).items ≡ more = with_items_is c.self.inside.slots more (each.count ∙ sym c.self.inside.slots.ok.0) in
     omega (arith, rooms_roomier b more c.self.invariant each at, ap (λ (l : List Slot). room_of (slice_get l at)) written, ap (λ (y : Brokered). room_at y at) c.self.view_is)
+
+pub returns-in_err-reserve_each-clause-spare : goal.returns-in_err-reserve_each-clause-spare
+returns-in_err-reserve_each-clause-spare c =
+    let b : Brokered = record { counts = c.self.inside.layout; words = c.self.inside.memory; slots = c.self.inside.slots.items; directory = c.self.inside.directory; creation = c.self.inside.creation; recovery = c.self.inside.recovery } in
+    let more : List Slot = c.reserve_each.new.slots in
+    let each : EachBecame HasMoreRoom b.slots more = subst (λ (l : List Slot). EachBecame HasMoreRoom l more) c.deref_mut.ensures.value c.reserve_each.ensures.same in
+    let written : (with_items c.self.inside.slots more).items ≡ more = with_items_is c.self.inside.slots more (each.count ∙ sym c.self.inside.slots.ok.0) in
+    let all : (at : ℕ) → room_at c.args.self.now at ≤ room_of (slice_get (with_items c.self.inside.slots more).items at) = λ at.
+    omega (arith, rooms_roomier b more c.self.invariant each at, ap (λ (l : List Slot). room_of (slice_get l at)) written, ap (λ (y : Brokered). room_at y at) c.self.view_is) in
+    search rules
 
 pub invariant_of-self-2 : goal.invariant_of-self-2
 invariant_of-self-2 c =

@@ -8,8 +8,8 @@ use Rattle.stepper.specs.declared.resume.After.TheVariants.{More, Done}
 use Rattle.directory.specs.Creation.{successor}
 use Rattle.directory.specs.declared.creation.Creation.{Creation}
 use Rattle.interleave.specs.State.{world_over}
-use Rattle.named.specs.Brokers.{Brokered, IsOpened, IsStepCreated, IsWell, block_words, quiet, words_created, world_at, world_of}
-use Rattle.named.proofs.Opened.{others_done, others_more, rest, room_now, unused, well_done, well_more, world_opened}
+use Rattle.named.specs.Brokers.{Brokered, IsOpened, IsStepCreated, IsWell, block_words, quiet, room_at, words_created, world_at, world_of}
+use Rattle.named.proofs.Opened.{others_done, others_more, rest, room_now, rooms_opened, unused, well_done, well_more, world_opened}
 use Rattle.named.specs.declared.recovery.BrokerRecovery.{BrokerRecovery}
 use Rattle.named.proofs.Downtimes.{creation_step_goes_on, made_goes_on}
 use Rattle.named.proofs.GoingOn.{broker_stays}
@@ -83,6 +83,7 @@ returns-in-Done-clause-step c = λ _.
       world = subst (λ (w : Words). world_of w (slice_get (slice_set c.self.inside.slots.items c.in-Done.slot.0 c.open-opened.result) c.in-Done.slot.0) ≡ Some (world_over (shape_of k.queue.kind c.self.inside.layout) (block_words c.self.inside.layout c.in-Done.slot.0 w))) (sym c.step-after.ensures.one_access)
           (world_opened b k c.self.invariant ready is c.in-Done.slot went c.open-opened.result c.open-opened.ensures.kind c.open-opened.ensures.ready at c.open.new.self c.open.ensures.opened c.open.ensures.directory ∙ c.open-opened.ensures.world (words_created b k))
           ∙ ap (λ (x : Brokered). Some (world_over (shape_of k.queue.kind x.counts) (block_words x.counts c.in-Done.slot.0 c.step-after.new.memory))) c.self.view_is;
+      rooms = λ at. omega (arith, rooms_opened b k c.self.invariant ready is c.in-Done.slot went c.open-opened.result at, ap (λ (x : Brokered). room_at x at) c.self.view_is);
     } in
     let now : c.args.self.now.creation ≡ Some k = sym (ap (λ (x : Brokered). x.creation) c.self.view_is) ∙ is in
     let result : Result (Option SlotId) Refusal = Ok (Some c.in-Done.slot) in

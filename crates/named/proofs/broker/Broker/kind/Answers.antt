@@ -1,4 +1,4 @@
-use Rattle.std.proofs.Common.{◌≡◌, Option, ap, ◌∙◌}
+use Rattle.std.proofs.Common.{Option, ap, ◌∙◌}
 use Rattle.interleave.specs.State.{State}
 use Rattle.named.specs.Slots.{answered}
 use Rattle.named.proofs.QueueKinds.{found, kind_is}

@@ -1,4 +1,4 @@
-use Rattle.std.proofs.Common.{◌≡◌, ◌∙◌, ◌+◌, ◌≤◌, Option, Some, true, false, slice_get, slice_set, refl, sym, ap, subst, arith}
+use Rattle.std.proofs.Common.{◌≡◌, ◌∙◌, ◌≤◌, Option, Some, true, false, slice_get, slice_set, refl, sym, ap, subst, arith}
 use Rattle.std.specs.Prelude.{IfSome, is_none}
 use Rattle.std.proofs.lemmas.Option.{slice_get_read}
 use Rattle.arena.specs.declared.broker.SlotId.{SlotId}
@@ -8,7 +8,7 @@ use Rattle.named.specs.Brokers.{Brokered, room_at, room_of}
 use Rattle.named.specs.Slots.{kind_in, room_in}
 use Rattle.named.specs.Stopping.{IsFound, IsFoundFirst, IsReadingDirectory, found_world}
 use Rattle.named.specs.declared.slot.Slot.{Slot}
-use Rattle.named.proofs.Eaches.{rooms_after}
+use Rattle.named.proofs.Eaches.{rooms_kept}
 use Rattle.named.proofs.Founds.{closed, found_first, found_here, found_known, found_waits, is_free, is_new, known_found, known_open, some_dropped, unused, well_found}
 use Rattle.named.proofs.broker.Broker.open_found.Goals as goal
 
@@ -137,8 +137,8 @@ returns-clause-well c =
     let waits = found_waits b.words c.open_found-opened.result (found_world b k.queue.kind c.in-Some.slot.0 b.words) (c.open_found-opened.ensures.world b.words) refl in
     well_found b c.self.invariant down c.in-Some.slot gate s here is_closed k is c.open_found-opened.result c.open_found-opened.ensures.kind waits at c.open.new.self c.open.ensures.opened c.open.ensures.directory
 
-pub returns-clause-room : goal.returns-clause-room
-returns-clause-room c = λ other.
+pub returns-clause-rooms : goal.returns-clause-rooms
+returns-clause-rooms c = λ other.
     let b : Brokered = record { counts = c.self.inside.layout; words = c.self.inside.memory; slots = c.self.inside.slots.items; directory = c.self.inside.directory; creation = c.self.inside.creation; recovery = c.self.inside.recovery } in
     let down : IsReadingDirectory b.recovery = subst (λ (x : Brokered). IsReadingDirectory x.recovery) (sym c.self.view_is) c.requires.reading in
     let gate : IsOpenSlot b.words.kept c.in-Some.slot.0 = subst (λ (x : Brokered). IsOpenSlot x.words.kept c.in-Some.slot.0) (sym c.self.view_is)
@@ -147,5 +147,5 @@ returns-clause-room c = λ other.
     let here : slice_get b.slots c.in-Some.slot.0 ≡ Some s = slice_get_read b.slots 8 c.in-Some.slot.0 s (sym c.self.invariant.count) gate.in_range c.index.ensures in
     let is_closed : is_none (kind_in s) ≡ true = sym c.is_closed.ensures ∙ c.if-not-is_closed.false in
     let none : room_in s ≡ 0 = ap room_in (closed b c.self.invariant down c.in-Some.slot gate s here is_closed) in
-    subst (λ (x : Brokered). room_at x other ≤ room_of (slice_get (slice_set b.slots c.in-Some.slot.0 c.open_found-opened.result) other) + 1) c.self.view_is
-    (rooms_after b.slots c.in-Some.slot.0 s c.open_found-opened.result here (omega (arith, none)) other)
+    subst (λ (x : Brokered). room_at x other ≤ room_of (slice_get (slice_set b.slots c.in-Some.slot.0 c.open_found-opened.result) other)) c.self.view_is
+    (rooms_kept b.slots c.in-Some.slot.0 s c.open_found-opened.result here (omega (arith, none)) other)

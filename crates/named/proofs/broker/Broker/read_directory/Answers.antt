@@ -1,13 +1,14 @@
-use Rattle.std.proofs.Common.{◌≡◌, ◌∙◌, ◌+◌, ◌≤◌, arith, ℕ, Option, Some, Ok, Result, Bool, slice_get, sym, ap, subst}
+use Rattle.std.proofs.Common.{◌≡◌, ◌∙◌, ◌+◌, ◌≤◌, arith, ℕ, List, Option, Some, Ok, Result, Bool, slice_get, sym, ap, subst}
 use Rattle.std.specs.Prelude.{IfSome}
 use Rattle.persist.specs.Memory.{Words}
 use Rattle.directory.specs.Queue.{IsOpenSlot, slot_in}
 use Rattle.directory.specs.declared.recovery.Recovered.{Recovered}
 use Rattle.words.specs.declared.refusal.Refusal.{Refusal}
-use Rattle.named.specs.Brokers.{Brokered, IsWell, is_ready_at}
+use Rattle.named.specs.Brokers.{Brokered, IsWell, is_ready_at, room_of}
 use Rattle.named.specs.Stopping.{IsDirectoryRead, IsFound, IsReadOn, MayReadOn, found_by, words_read}
 use Rattle.named.specs.declared.recovery.BrokerRecovery.{BrokerRecovery}
 use Rattle.named.specs.declared.recovery.BrokerRecovery.TheVariants.{ReadDirectory}
+use Rattle.named.specs.declared.slot.Slot.{Slot}
 use Rattle.directory.specs.Recovering.{most_left}
 use Rattle.directory.specs.Recovery.{access_of}
 use Rattle.directory.specs.Step.{value_found}
@@ -73,6 +74,7 @@ returns-clause-read c =
       counts = counts ∙ ap (λ (x : Brokered). x.counts) c.open_found.ensures.same;
       words = same_words ∙ words;
       found = found;
+      rooms = λ at. omega (arith, c.open_found.ensures.rooms at, ap (λ (l : List Slot). room_of (slice_get l at)) slots);
       next = read_over b now new (found_by b c.args.at).after (ap (λ (x : Brokered). x.creation) c.open_found.ensures.same) on;
       answer = ap (λ (x : Bool). let r : Result Bool Refusal = Ok x in r) c.read_on.ensures.answer;
     } in

@@ -1,5 +1,5 @@
-use Rattle.std.proofs.Common.{rules, ◌≡◌, ◌∙◌, ◌+◌, ◌<◌, ◌≤◌, Option, Some, Ok, Result, Bool, true, false, slice_get, slice_set, sym, ap, subst}
-use Rattle.std.specs.Prelude.{is_none}
+use Rattle.std.proofs.Common.{rules, ℕ, ◌≡◌, ◌∙◌, ◌+◌, ◌<◌, ◌≤◌, Option, Some, Ok, Result, Bool, true, false, slice_get, slice_set, sym, ap, subst}
+use Rattle.std.specs.Prelude.{IfErr, is_none}
 use Rattle.std.proofs.lemmas.Option.{slice_get_read}
 use Rattle.words.specs.declared.refusal.Refusal.{Refusal}
 use Rattle.directory.specs.declared.creation.Creation.{Creation}
@@ -11,9 +11,9 @@ use Rattle.named.specs.declared.slot.Slot.{Slot}
 use Rattle.named.specs.Lasting.{left_at, steps_left}
 use Rattle.interleave.specs.Calls.{is_no_memory}
 use Rattle.named.specs.Slots.{room_in}
-use Rattle.named.proofs.Eaches.{rooms_after}
+use Rattle.named.proofs.Eaches.{rooms_after, rooms_kept}
 use Rattle.named.proofs.Kept.{slot_is_well}
-use Rattle.named.proofs.Queues.{falls_ready, falls_yet, full_here, its_slot, ready_by, recovered, recovering, tells_ready, well_ready, well_recovering}
+use Rattle.named.proofs.Queues.{HasSpent, falls_ready, falls_yet, full_here, its_slot, ready_by, recovered, recovering, tells_ready, well_ready, well_recovering}
 use Rattle.named.proofs.Promises.{promises_well}
 use Rattle.named.proofs.broker.Broker.recover_queue.Goals as goal
 
@@ -43,7 +43,8 @@ returns-in_err-ready-clause-recovered c =
     let yet : ready_by c.recover_step.result ≡ false = ap ready_by c.in_err-ready.was in
     let now : Brokered = with_slot b c.args.slot.0 c.recover_step.new.self c.recover_step.new.memory in
     let answer : c.recover_step.result ≡ c.from_residual.result = search rules in
-    let done : IsQueueRecovered b now c.args.slot.0 c.recover_step.result = recovering b c.args.slot was c.recover_step.new.self c.recover_step.new.memory c.self.invariant here c.recover_step.ensures.well c.recover_step.ensures.outside c.recover_step.ensures.same turn c.recover_step.result c.recover_step.ensures.world c.recover_step.ensures.result yet in
+    let spent : HasSpent was c.recover_step.new.self c.recover_step.result = record { full = c.recover_step.ensures.full; room = c.recover_step.ensures.room; spare = c.recover_step.ensures.spare; stays = c.recover_step.ensures.stays } in
+    let done : IsQueueRecovered b now c.args.slot.0 c.recover_step.result = recovering b c.args.slot was c.recover_step.new.self c.recover_step.new.memory c.self.invariant here c.recover_step.ensures.well c.recover_step.ensures.outside c.recover_step.ensures.same turn c.recover_step.result c.recover_step.ensures.world c.recover_step.ensures.result yet spent in
     subst (λ (x : Brokered). IsQueueRecovered x now c.args.slot.0 c.from_residual.result) c.self.view_is (subst (IsQueueRecovered b now c.args.slot.0) answer done)
 
 pub invariant_of-self-then-not-ready : goal.invariant_of-self-then-not-ready
@@ -64,7 +65,8 @@ returns-then-not-ready-clause-recovered c =
     let yet : ready_by c.recover_step.result ≡ false = ap ready_by c.in_ok-ready.was ∙ c.if-not-ready.true in
     let now : Brokered = with_slot b c.args.slot.0 c.recover_step.new.self c.recover_step.new.memory in
     let answer : c.recover_step.result ≡ Ok false = c.in_ok-ready.was ∙ ap (λ (x : Bool). let r : Result Bool Refusal = Ok x in r) c.if-not-ready.true in
-    let done : IsQueueRecovered b now c.args.slot.0 c.recover_step.result = recovering b c.args.slot was c.recover_step.new.self c.recover_step.new.memory c.self.invariant here c.recover_step.ensures.well c.recover_step.ensures.outside c.recover_step.ensures.same turn c.recover_step.result c.recover_step.ensures.world c.recover_step.ensures.result yet in
+    let spent : HasSpent was c.recover_step.new.self c.recover_step.result = record { full = c.recover_step.ensures.full; room = c.recover_step.ensures.room; spare = c.recover_step.ensures.spare; stays = c.recover_step.ensures.stays } in
+    let done : IsQueueRecovered b now c.args.slot.0 c.recover_step.result = recovering b c.args.slot was c.recover_step.new.self c.recover_step.new.memory c.self.invariant here c.recover_step.ensures.well c.recover_step.ensures.outside c.recover_step.ensures.same turn c.recover_step.result c.recover_step.ensures.world c.recover_step.ensures.result yet spent in
     subst (λ (x : Brokered). IsQueueRecovered x now c.args.slot.0 (Ok false)) c.self.view_is (subst (IsQueueRecovered b now c.args.slot.0) answer done)
 
 pub invariant_of-self-2 : goal.invariant_of-self-2
@@ -91,7 +93,8 @@ returns-clause-recovered c =
     let next : IsNext b.directory (c.args.slot.0 + 1) recovery = c.recovery_from-self-inside.ensures in
     let now : Brokered = with_slot b c.args.slot.0 c.recover_step.new.self c.recover_step.new.memory in
     let answer : Result Bool Refusal = Ok (is_none recovery) in
-    let done : IsQueueRecovered b (record now { recovery = recovery; creation = creation_after b.creation recovery }) c.args.slot.0 answer = recovered b c.args.slot was c.recover_step.new.self c.recover_step.new.memory c.self.invariant here c.recover_step.ensures.well c.recover_step.ensures.outside c.recover_step.ensures.same turn c.recover_step.result c.recover_step.ensures.world c.recover_step.ensures.result ready recovery next in
+    let spent : HasSpent was c.recover_step.new.self c.recover_step.result = record { full = c.recover_step.ensures.full; room = c.recover_step.ensures.room; spare = c.recover_step.ensures.spare; stays = c.recover_step.ensures.stays } in
+    let done : IsQueueRecovered b (record now { recovery = recovery; creation = creation_after b.creation recovery }) c.args.slot.0 answer = recovered b c.args.slot was c.recover_step.new.self c.recover_step.new.memory c.self.invariant here c.recover_step.ensures.well c.recover_step.ensures.outside c.recover_step.ensures.same turn c.recover_step.result c.recover_step.ensures.world c.recover_step.ensures.result ready recovery next spent in
     let answered : is_none recovery ≡ c.is_none.result = search rules in
     let new : Brokered = record now { recovery = recovery; creation = c.creation_left-self-inside.result } in
     let left : IsQueueRecovered b new c.args.slot.0 answer =
@@ -151,6 +154,18 @@ returns-in_err-ready-clause-room c = λ other.
     let here : slice_get b.slots c.args.slot.0 ≡ Some was = slice_get_read b.slots 8 c.args.slot.0 was (sym c.self.invariant.count) (its_slot b c.self.invariant c.args.slot turn) c.index_mut.ensures.value in
     subst (λ (x : Brokered). room_at x other ≤ room_of (slice_get (slice_set b.slots c.args.slot.0 c.recover_step.new.self) other) + 1) c.self.view_is
     (rooms_after b.slots c.args.slot.0 was c.recover_step.new.self here c.recover_step.ensures.room other)
+
+pub returns-in_err-ready-clause-spare : goal.returns-in_err-ready-clause-spare
+returns-in_err-ready-clause-spare c =
+    let b : Brokered = record { counts = c.self.inside.layout; words = c.self.inside.memory; slots = c.self.inside.slots.items; directory = c.self.inside.directory; creation = c.self.inside.creation; recovery = c.self.inside.recovery } in
+    let turn : b.recovery ≡ Some (RecoverQueue c.args.slot) = ap (λ (x : Brokered). x.recovery) c.self.view_is ∙ c.requires in
+    let was : Slot = c.index_mut.result.now in
+    let here : slice_get b.slots c.args.slot.0 ≡ Some was = slice_get_read b.slots 8 c.args.slot.0 was (sym c.self.invariant.count) (its_slot b c.self.invariant c.args.slot turn) c.index_mut.ensures.value in
+    let refused : room_in was ≤ room_in c.recover_step.new.self = subst (λ (r : Result Bool Refusal). IfErr r (λ e. room_in was ≤ room_in c.recover_step.new.self)) c.in_err-ready.was c.recover_step.ensures.spare in
+    let all : (other : ℕ) → room_at c.args.self.now other ≤ room_of (slice_get (slice_set b.slots c.args.slot.0 c.recover_step.new.self) other) = λ other.
+    subst (λ (x : Brokered). room_at x other ≤ room_of (slice_get (slice_set b.slots c.args.slot.0 c.recover_step.new.self) other)) c.self.view_is
+    (rooms_kept b.slots c.args.slot.0 was c.recover_step.new.self here refused other) in
+    search rules
 
 pub returns-then-not-ready-clause-room : goal.returns-then-not-ready-clause-room
 returns-then-not-ready-clause-room c = λ other.

@@ -1,4 +1,5 @@
-use Rattle.std.proofs.Common.{arith, slice_get, slice_set, ◌≡◌, ap, sym, subst, ◌∙◌, Ok}
+use Rattle.std.proofs.Common.{arith, slice_get, slice_set, ◌≡◌, ◌≤◌, ap, sym, subst, ◌∙◌, Ok}
+use Rattle.std.specs.Prelude.{IfErr}
 use Rattle.directory.specs.UnderWay.{HaveSameDirectory}
 use Rattle.protocol.specs.declared.acts.Act.TheVariants.{Step}
 use Rattle.std.proofs.lemmas.Option.{slice_get_read, slice_get_within}
@@ -58,6 +59,23 @@ returns-clause-room c =
     let now : room_of (slice_get (slice_set c.self.inside.slots.items c.args.slot.0 c.step.new.self) c.args.slot.0) ≡ room_in c.step.new.self =
     ap room_of (get_set c.self.inside.slots.items c.args.slot.0 c.step.new.self (slice_get_within c.self.inside.slots.items c.args.slot.0 c.index_mut.result.now here)) in
     omega (arith, was, now, c.step.ensures.room)
+
+pub returns-clause-spare : goal.returns-clause-spare
+returns-clause-spare c =
+    let here = slice_get_read c.self.inside.slots.items 8 c.args.slot.0 c.index_mut.result.now (sym c.self.invariant.count) c.if-slot-ge-SLOTS.false c.index_mut.ensures.value in
+    let was : room_at c.args.self.now c.args.slot.0 ≡ room_in c.index_mut.result.now = sym (ap (λ (x : Brokered). room_at x c.args.slot.0) c.self.view_is) ∙ ap room_of here in
+    let now : room_of (slice_get (slice_set c.self.inside.slots.items c.args.slot.0 c.step.new.self) c.args.slot.0) ≡ room_in c.step.new.self =
+    ap room_of (get_set c.self.inside.slots.items c.args.slot.0 c.step.new.self (slice_get_within c.self.inside.slots.items c.args.slot.0 c.index_mut.result.now here)) in
+    subst (λ n. IfErr c.step.result (λ e. n ≤ room_of (slice_get (slice_set c.self.inside.slots.items c.args.slot.0 c.step.new.self) c.args.slot.0))) (sym was)
+    (subst (λ n. IfErr c.step.result (λ e. room_in c.index_mut.result.now ≤ n)) (sym now) c.step.ensures.spare)
+
+pub returns-clause-stays : goal.returns-clause-stays
+returns-clause-stays c = λ e.
+    let here = slice_get_read c.self.inside.slots.items 8 c.args.slot.0 c.index_mut.result.now (sym c.self.invariant.count) c.if-slot-ge-SLOTS.false c.index_mut.ensures.value in
+    let was : room_at c.args.self.now c.args.slot.0 ≡ room_in c.index_mut.result.now = sym (ap (λ (x : Brokered). room_at x c.args.slot.0) c.self.view_is) ∙ ap room_of here in
+    let now : room_of (slice_get (slice_set c.self.inside.slots.items c.args.slot.0 c.step.new.self) c.args.slot.0) ≡ room_in c.step.new.self =
+    ap room_of (get_set c.self.inside.slots.items c.args.slot.0 c.step.new.self (slice_get_within c.self.inside.slots.items c.args.slot.0 c.index_mut.result.now here)) in
+    omega (arith, was, now, c.step.ensures.stays e)
 
 pub returns-clause-other_rooms : goal.returns-clause-other_rooms
 returns-clause-other_rooms c = λ other ne.

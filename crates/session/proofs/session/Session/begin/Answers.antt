@@ -1,12 +1,14 @@
 use Rattle.std.proofs.Common.{rules, ◌≡◌, ◌∙◌, ℕ, Option, None, Some, Result, Ok, Err, refl, sym, ap, subst}
 use Rattle.words.specs.declared.call.Reply.{Reply}
 use Rattle.words.specs.declared.refusal.Refusal.{Refusal}
+use Rattle.words.specs.declared.refusal.Refusal.TheVariants.{StaleNumber}
 use Rattle.interleave.specs.Calls.{is_no_memory}
 use Rattle.interleave.specs.State.{after_start}
 use Rattle.named.proofs.Stays.{start_alike}
 use Rattle.session.specs.Keeping.{SessionGoesOn}
-use Rattle.session.specs.Requests.{IsBegunBy, answer_to, as_begun, number_or_zero}
+use Rattle.session.specs.Requests.{IsBegunBy, IsStarted, answer_to, as_begun, number_or_zero}
 use Rattle.session.specs.Sessions.{IsRight, Sessioned}
+use Rattle.session.proofs.NotStale.{answer_to_other, begun_above}
 use Rattle.session.proofs.Promised.{numbers_kept, numbers_shown}
 use Rattle.session.proofs.Serving.{answered_reply, started_right}
 use Rattle.session.proofs.Clients.{goes_on_kept, laid_out_act}
@@ -29,7 +31,7 @@ returns-in_err-start-clause-begun c =
     begun_if_runs old new c.args.queue.0 c.args.client c.unwrap_or.result c.args.call c.start.result
     (answer_to c.args.self.now c.args.queue.0 c.args.client c.args.number) runs
     (started_by old.broker new.broker c.args.queue.0 c.args.client c.unwrap_or.result c.args.call c.start.result
-    c.start.ensures.world c.start.ensures.result c.start.ensures.full c.start.ensures.room
+    c.start.ensures.world c.start.ensures.result c.start.ensures.full c.start.ensures.room c.start.ensures.spare
     (record { worlds = c.start.ensures.others; rooms = c.start.ensures.other_rooms; directory = c.start.ensures.directory; creation = c.start.ensures.creation; recovery = c.start.ensures.recovery }))
     refl in
     let answers : Result (Option Reply) Refusal = answer_to c.args.self.now c.args.queue.0 c.args.client c.args.number in
@@ -74,7 +76,7 @@ invariant_of-self c =
     started_right c.self.inside.broker c.start.new.self c.args.queue.0 c.args.client c.unwrap_or.result c.args.call
     c.self.inside.kept (as_begun c.start.result) c.self.invariant c.start.ensures.promises.well
     (started_by c.self.inside.broker c.start.new.self c.args.queue.0 c.args.client c.unwrap_or.result c.args.call
-    c.start.result c.start.ensures.world c.start.ensures.result c.start.ensures.full c.start.ensures.room
+    c.start.result c.start.ensures.world c.start.ensures.result c.start.ensures.full c.start.ensures.room c.start.ensures.spare
     (record {
       worlds = c.start.ensures.others;
       rooms = c.start.ensures.other_rooms;
@@ -91,7 +93,7 @@ invariant_of-self-2 c =
     started_right c.self.inside.broker c.start.new.self c.args.queue.0 c.args.client c.unwrap_or.result c.args.call
     c.self.inside.kept (as_begun c.start.result) c.self.invariant c.start.ensures.promises.well
     (started_by c.self.inside.broker c.start.new.self c.args.queue.0 c.args.client c.unwrap_or.result c.args.call
-    c.start.result c.start.ensures.world c.start.ensures.result c.start.ensures.full c.start.ensures.room
+    c.start.result c.start.ensures.world c.start.ensures.result c.start.ensures.full c.start.ensures.room c.start.ensures.spare
     (record {
       worlds = c.start.ensures.others;
       rooms = c.start.ensures.other_rooms;
@@ -114,3 +116,37 @@ returns-in_err-start-clause-queues c = queues_on _ _ _ c.self.view_is c.start.en
 
 pub returns-clause-queues : goal.returns-clause-queues
 returns-clause-queues c = queues_on _ _ _ c.self.view_is c.start.ensures.goes_on
+
+pub returns-in_err-reply-clause-stale : goal.returns-in_err-reply-clause-stale
+returns-in_err-reply-clause-stale c = λ is.
+    let refused : c.from_residual.result ≡ Err c.in_err-reply.field-0.0 = search rules in
+    let answer : answer_to c.args.self.now c.args.queue.0 c.args.client c.args.number ≡ Err c.in_err-reply.field-0.0 =
+    search rules in
+    let same : c.in_err-reply.field-0.0 ≡ StaleNumber = cc (refused, is) in
+    absurd (answer_to_other c.args.self.now c.args.queue.0 c.args.client c.args.number
+    (answer ∙ ap (λ (r : Refusal). Err r) same))
+
+pub returns-in_err-start-clause-stale : goal.returns-in_err-start-clause-stale
+returns-in_err-start-clause-stale c = λ is.
+    let old : Sessioned = record { broker = c.self.inside.broker; kept = c.self.inside.kept } in
+    let answer : answer_to c.args.self.now c.args.queue.0 c.args.client c.args.number ≡ Ok None = search rules in
+    let runs : answer_to old c.args.queue.0 c.args.client c.args.number ≡ Ok None =
+    ap (λ (s : Sessioned). answer_to s c.args.queue.0 c.args.client c.args.number) c.self.view_is ∙ answer in
+    let number : c.unwrap_or.result ≡ number_or_zero c.args.number = c.unwrap_or.ensures ∙ number_is c.args.number in
+    let refused : c.from_residual-in_err-start.result ≡ Err c.in_err-start.field-0.0 = search rules in
+    let result : as_begun c.start.result ≡ c.from_residual-in_err-start.result =
+    ap as_begun c.in_err-start.was ∙ sym refused in
+    begun_above old (numbers_kept old c.self.invariant) c.args.queue.0 c.args.client c.args.number runs c.start.new.self
+    c.args.call (as_begun c.start.result)
+    (subst (λ (n : ℕ). IsStarted c.self.inside.broker c.start.new.self c.args.queue.0 c.args.client n c.args.call
+    (as_begun c.start.result)) number
+    (started_by c.self.inside.broker c.start.new.self c.args.queue.0 c.args.client c.unwrap_or.result c.args.call
+    c.start.result c.start.ensures.world c.start.ensures.result c.start.ensures.full c.start.ensures.room
+    (record {
+      worlds = c.start.ensures.others;
+      rooms = c.start.ensures.other_rooms;
+      directory = c.start.ensures.directory;
+      creation = c.start.ensures.creation;
+      recovery = c.start.ensures.recovery;
+    })))
+    (result ∙ is)

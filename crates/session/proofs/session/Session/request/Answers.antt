@@ -1,13 +1,16 @@
-use Rattle.std.proofs.Common.{rules, ◌≡◌, ◌≤◌, ◌∙◌, ℕ, inr, None, Ok, Some, refl, ap, subst}
+use Rattle.std.proofs.Common.{rules, ◌≡◌, ◌≤◌, ◌∙◌, ℕ, inr, None, Ok, Err, Some, refl, ap, subst}
 use Rattle.words.specs.declared.call.Kind.TheVariants.{Log as log_kind}
 use Rattle.words.specs.declared.call.Call.TheVariants.{Enq}
+use Rattle.words.specs.declared.refusal.Refusal.{Refusal}
+use Rattle.words.specs.declared.refusal.Refusal.TheVariants.{StaleNumber}
 use Rattle.protocol.specs.Machine.{FitsCall}
 use Rattle.interleave.proofs.HoldsKept.{call_fits}
 use Rattle.interleave.specs.Verdicts.{taken_as}
 use Rattle.session.specs.Keeping.{SessionGoesOn}
 use Rattle.session.specs.Numbers.{by_number}
-use Rattle.session.specs.Requests.{request_admission, request_answer}
+use Rattle.session.specs.Requests.{IsUnserved, request_admission, request_answer}
 use Rattle.session.specs.Sessions.{IsRight, Sessioned, kept_at}
+use Rattle.session.proofs.NotStale.{answer_other, unserved_above}
 use Rattle.session.proofs.Promised.{numbers_kept, numbers_shown}
 use Rattle.session.proofs.Serving.{kept_reply, run_reply, run_right, runs_admitted, unserved_right}
 use Rattle.session.proofs.Clients.{goes_on_kept, goes_on_kept_now, laid_out_each, laid_out_run, others_run}
@@ -106,3 +109,25 @@ returns-in_err-reply-2-clause-queues c = queues_on _ _ _ c.self.view_is c.run.en
 
 pub returns-clause-queues : goal.returns-clause-queues
 returns-clause-queues c = queues_on _ _ _ c.self.view_is c.run.ensures.goes_on
+
+pub returns-in_err-reply-clause-stale : goal.returns-in_err-reply-clause-stale
+returns-in_err-reply-clause-stale c = λ is.
+    let refused : c.from_residual.result ≡ Err c.in_err-reply.field-0.0 = search rules in
+    let answer : request_answer c.args.self.now c.args.queue.0 c.args.client c.args.number ≡ Err c.in_err-reply.field-0.0 =
+    search rules in
+    let same : c.in_err-reply.field-0.0 ≡ StaleNumber = cc (refused, is) in
+    absurd (answer_other c.args.self.now c.args.queue.0 c.args.client c.args.number
+    (answer ∙ ap (λ (r : Refusal). Err r) same))
+
+pub returns-in_err-reply-2-clause-stale : goal.returns-in_err-reply-2-clause-stale
+returns-in_err-reply-2-clause-stale c = λ is.
+    let old : Sessioned = record { broker = c.self.inside.broker; kept = c.self.inside.kept } in
+    let refused : c.from_residual-in_err-reply-2.result ≡ Err c.in_err-reply-2.field-0.0 = search rules in
+    let same : c.in_err-reply-2.field-0.0 ≡ StaleNumber = cc (refused, is) in
+    let answer : request_answer c.args.self.now c.args.queue.0 c.args.client c.args.number ≡ Ok None = search rules in
+    let runs : request_answer old c.args.queue.0 c.args.client c.args.number ≡ Ok None =
+    ap (λ (s : Sessioned). request_answer s c.args.queue.0 c.args.client c.args.number) c.self.view_is ∙ answer in
+    unserved_above old (numbers_kept old c.self.invariant) c.args.queue.0 c.args.client c.args.number runs c.run.new.broker
+    c.args.call
+    (subst (IsUnserved c.self.inside.broker c.run.new.broker c.args.queue.0 c.args.client c.args.number c.args.call) same
+    c.in_err-reply-2.ensures.run.0)

@@ -1,7 +1,8 @@
-use Rattle.std.proofs.Common.{sym, ap, ◌∙◌, []}
+use Rattle.std.proofs.Common.{sym, ap, ◌∙◌, [], Err}
 use Rattle.roll.specs.Rule.{keeper, rows_of}
 use Rattle.session.specs.Requests.{answer_to, number_or_zero}
 use Rattle.workers.proofs.Guarded.{with_rows}
+use Rattle.workers.proofs.Refusing.{call_within}
 use Rattle.workers.proofs.Turns.{guarded_begun, guarded_unbegun}
 use Rattle.workers.proofs.locked.Locked.begin.Goals as goal
 
@@ -28,3 +29,9 @@ invariant_of-self-in-Err g c =
           c.args.seat.client (number_or_zero r.number) r.call c.in-Err.refusal
           (answer_to c.self.inside.session r.queue.0 c.args.seat.client r.number) e.begun,
     )
+
+pub returns-in-Err-clause-errors : goal.returns-in-Err-clause-errors
+returns-in-Err-clause-errors g c =
+    let r = c.args.request in
+    call_within c.self.inside.session c.begin.new.self r.queue.0 c.args.seat.client r.number (number_or_zero r.number) r.call
+    (Err c.in-Err.refusal) c.in-Err.ensures.begun

@@ -2,6 +2,7 @@ use Rattle.std.proofs.Common.{ap, ◌∙◌}
 use Rattle.workers.specs.declared.locked.Creating.TheVariants.{UnderWay}
 use Rattle.session.specs.Sessions.{Sessioned}
 use Rattle.workers.proofs.Guarded.{guarded_still, known_if_begun}
+use Rattle.workers.proofs.Refusing.{taken_still}
 use Rattle.workers.proofs.Stops.{created_carried}
 use Rattle.workers.proofs.locked.Locked.create.Goals as goal
 
@@ -16,3 +17,9 @@ invariant_of-self-2 g c =
           (known_if_begun new.broker (ap (λ (s : Sessioned). s.broker.recovery) c.create.ensures.others ∙ e.may.ready)
           e.under_way),
     )
+
+pub returns-clause-taken : goal.returns-clause-taken
+returns-clause-taken g c = λ has.
+    absurd (c.in_ok-create.ensures.may.is_new
+    (taken_still g.J.Naming.first.broker c.self.inside.session.broker c.self.inside.rotated c.args.name.now
+    c.self.invariant.1.came has))

@@ -1,0 +1,5 @@
+use Rattle.session.proofs.NotStale.{accepted}
+use Rattle.session.proofs.laws.admitted_numbers_run.Goals as goal
+
+pub returns : goal.returns
+returns c = λ s slot w client number keeps here runs few. accepted s keeps slot client number runs w here few

@@ -1,0 +1,43 @@
+//! What tests over brokers look at, and pass over.
+#![tactic(auto)]
+
+use arena::{SLOTS, SlotId};
+use history::{Event, check_content};
+use named::Broker;
+use std::alloc::Global;
+use words::Refusal;
+
+/// Whether the order of the slot's queue explains its history, and the queue holds what its replay leaves.
+pub fn is_explained(alloc: Global, broker: &Broker, slot: SlotId) -> Result<bool, Refusal> {
+    let order = broker.order(slot)?;
+    let content = broker.content(slot)?;
+    check_content(alloc, broker.history(slot)?, &order, &content)
+}
+
+/// Whether each queue of the broker is explained.
+pub fn are_explained(alloc: Global, broker: &Broker) -> Result<bool, Refusal> {
+    let mut right = true;
+    for slot in 0..SLOTS as u8 {
+        right &= match is_explained(alloc, broker, SlotId(slot)) {
+            Err(Refusal::NoQueue) => true,
+            explained => explained?,
+        };
+    }
+    Ok(right)
+}
+
+/// The client and the number of the call at this place of a history, if there is one.
+pub fn call_at(events: &[Event], place: usize) -> Option<(usize, u64)> {
+    match events.get(place) {
+        Some(Event::Call { client, number, .. }) => Some((client.0 as usize, *number)),
+        _ => None,
+    }
+}
+
+/// An act that a rule refuses is passed over; want of memory is not.
+pub fn pass_over<T: Drop>(answer: Result<T, Refusal>) -> Result<(), Refusal> {
+    match answer {
+        Err(Refusal::NoMemory) => Err(Refusal::NoMemory),
+        _ => Ok(()),
+    }
+}
