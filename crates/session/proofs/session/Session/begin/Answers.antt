@@ -141,7 +141,7 @@ returns-in_err-start-clause-stale c = λ is.
     (subst (λ (n : ℕ). IsStarted c.self.inside.broker c.start.new.self c.args.queue.0 c.args.client n c.args.call
     (as_begun c.start.result)) number
     (started_by c.self.inside.broker c.start.new.self c.args.queue.0 c.args.client c.unwrap_or.result c.args.call
-    c.start.result c.start.ensures.world c.start.ensures.result c.start.ensures.full c.start.ensures.room
+    c.start.result c.start.ensures.world c.start.ensures.result c.start.ensures.full c.start.ensures.room c.start.ensures.spare
     (record {
       worlds = c.start.ensures.others;
       rooms = c.start.ensures.other_rooms;
