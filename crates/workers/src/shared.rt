@@ -194,8 +194,8 @@ impl<J: Naming> Shared<J> {
         unreachable!()
     }
 
-    /// The slot with the queue of this name, if there is one. A queue that there was when the seats were given is found in
-    /// its slot for good. It is refused as [`named::Broker::find`] is.
+    /// The slot with the queue of this name, if there is one. A queue that there was when the seats were given is found
+    /// in its slot for good. It is refused as [`named::Broker::find`] is.
     pub fn find<R: Wait>(&self, rt: &R, name: &Name) -> Result<Option<SlotId>, Refusal>
         ensures found { IfOk result (IsFoundOf J.first.broker.directory name.now) }
         ensures errors { IfErr result (λ refusal. refusal ≡ Refusal.NotReady) }
@@ -203,8 +203,8 @@ impl<J: Naming> Shared<J> {
         self.locked.lock(rt).find(name)
     }
 
-    /// What each slot has, as it is now: a copy. The queues that there were when the seats were given are among them for
-    /// good. It is refused as [`named::Broker::list`] is.
+    /// What each slot has, as it is now: a copy. The queues that there were when the seats were given are among them
+    /// for good. It is refused as [`named::Broker::list`] is.
     pub fn list<R: Wait>(&self, rt: &R) -> Result<Places, Refusal>
         ensures queues { IfOk result (HasQueuesOf J.first.broker.directory) }
         ensures errors { IfErr result (λ refusal. refusal ≡ Refusal.NotReady) }
