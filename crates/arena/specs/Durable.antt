@@ -32,7 +32,8 @@ durable_word s _ = 0
 
 abbrev pub durable_node_place : ℕ → ℕ → Place
 durable_node_place n field =
-    if field == 0 then Value (record { 0 = n }) else (if field == 1 then Next (record { 0 = n }) else Mark (record { 0 = n }))
+    if field == 0 then Value (record { 0 = n })
+        else (if field == 1 then Next (record { 0 = n }) else Mark (record { 0 = n }))
 
 abbrev pub durable_place : Shape → ℕ → Option Place
 durable_place s w =
@@ -74,5 +75,6 @@ durable_own s (EntryKind x) kind h = absurd (cc)
 durable_own s (Status x) kind h = absurd (cc)
 durable_own s (EntryNode x) kind h = absurd (cc)
 
-pub durable_named : (s : Shape) (w : ℕ) → s.kind ≡ Durable → MatchOption (durable_place s w) (durable_size s ≤ w) (λ p. IsPlace s p × (durable_word s p ≡ w))
+pub durable_named : (s : Shape) (w : ℕ) → s.kind ≡ Durable
+    → MatchOption (durable_place s w) (durable_size s ≤ w) (λ p. IsPlace s p × (durable_word s p ≡ w))
 durable_named s w kind = grind (arith, nat_tests)

@@ -24,7 +24,8 @@ word_at-same s p q hp hq =
 
 -- a write at a place changes what that place has, and nothing else
 pub at-written : (s : Shape) (p q : Place) → IsPlace s p → IsPlace s q → (ws : List ℕ) (v : ℕ) → size_of s ≤ length ws
-    → slice_index (slice_set ws (word_at s p) v) (word_at s q) ≡ (if is_same p q then v else slice_index ws (word_at s q))
+    → slice_index (slice_set ws (word_at s p) v) (word_at s q)
+    ≡ (if is_same p q then v else slice_index ws (word_at s q))
 at-written s p q hp hq ws v long =
     let here = (laid_out s).below p hp in
     let same = word_at-same s p q hp hq in

@@ -42,7 +42,8 @@ below_by : (kind : Kind) (s : Shape) → s.kind ≡ kind → (p : Place) → IsP
 below_by Durable s is p at = durable_below s p is at
 below_by Log s is p at = log_below s p is at
 
-own_by : (kind : Kind) (s : Shape) → s.kind ≡ kind → (p : Place) → IsPlace s p → place_by kind s (word_by kind s p) ≡ Some p
+own_by : (kind : Kind) (s : Shape) → s.kind ≡ kind → (p : Place) → IsPlace s p
+    → place_by kind s (word_by kind s p) ≡ Some p
 own_by Durable s is p at = durable_own s p is at
 own_by Log s is p at = log_own s p is at
 

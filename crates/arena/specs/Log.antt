@@ -86,5 +86,6 @@ log_own s (EntryKind x) kind h = grind (arith, nat_tests)
 log_own s (Status x) kind h = grind (arith, nat_tests)
 log_own s (EntryNode x) kind h = grind (arith, nat_tests)
 
-pub log_named : (s : Shape) (w : ℕ) → s.kind ≡ Log → MatchOption (log_place s w) (log_size s ≤ w) (λ p. IsPlace s p × (log_word s p ≡ w))
+pub log_named : (s : Shape) (w : ℕ) → s.kind ≡ Log
+    → MatchOption (log_place s w) (log_size s ≤ w) (λ p. IsPlace s p × (log_word s p ≡ w))
 log_named s w kind = grind (arith, nat_tests)

@@ -338,6 +338,13 @@ fn histories_arise(rt: HostRuntime) -> Result<(), Fail> {
     assert_eq!(rt; answer(a, &[], &[enq(0, 1), numbered], &[])?, Checked::Not);
     assert_eq!(rt; answer(a, &[], &[enq(15, 1)], &[])?, Checked::Explained);
     assert_eq!(rt; answer(a, &[], &[enq(16, 1)], &[])?, Checked::Not);
+    Ok(())
+}
+
+#[test]
+fn nobody_calls_or_returns_out_of_turn(rt: HostRuntime) -> Result<(), Fail> {
+    let a = rt.alloc();
+    let none = ready(Told::None);
     assert_eq!(rt;
         answer(a, &[], &[returns(0, Reply::Done)], &[])?,
         Checked::Not

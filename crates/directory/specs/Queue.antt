@@ -41,7 +41,8 @@ gate_at slot = directory_from slot + 3
 -- what a slot has, by these words: a queue where its gate is open
 abbrev pub queue_in : List ℕ → ℕ → Option Queue
 queue_in ws slot =
-    queue_of (slice_index ws (first_name_at slot)) (slice_index ws (second_name_at slot)) (slice_index ws (kind_at slot))
+    queue_of (slice_index ws (first_name_at slot)) (slice_index ws (second_name_at slot))
+    (slice_index ws (kind_at slot))
 
 abbrev pub slot_in : List ℕ → ℕ → Option Queue
 slot_in ws slot = if slice_index ws (gate_at slot) == OPEN_GATE then queue_in ws slot else None

@@ -59,7 +59,8 @@ impl DirectoryRecovery {
         }
     }
 
-    /// One step: exactly one access, a load. There are [`crate::MIN_DIRECTORY_STEPS`] to [`crate::MAX_DIRECTORY_STEPS`].
+    /// One step: exactly one access, a load. There are [`crate::MIN_DIRECTORY_STEPS`] to
+    /// [`crate::MAX_DIRECTORY_STEPS`].
     pub fn step<M: WordMemory>(self, layout: &BrokerLayout, memory: &mut M) -> Recovered
         requires slot { slot_at self.at < SLOTS }
         requires room { broker_size layout.now ≤ length (M.words memory.old).cached }

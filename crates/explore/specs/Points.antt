@@ -35,7 +35,8 @@ evicted_words (Drawn state) words point =
 -- everything stops after these acts and those evictions
 unfoldable pub crashed_world : Shape → List (Act ℕ) → Evictions → ℕ → State
 crashed_world s acts evictions point =
-    after_crash false (after_acts (after_acts (new_world s) acts) (map Evict (evicted_words evictions (size_of s) point)))
+    after_crash false
+    (after_acts (after_acts (new_world s) acts) (map Evict (evicted_words evictions (size_of s) point)))
 
 -- all of recovery: its steps once the queue is ready are refused
 abbrev pub recovery_of : Shape → List (Act ℕ)

@@ -48,7 +48,8 @@ numbered_text clients number (found ∷ rest) =
 -- a line for each point, and one that counts them, and those that are not ok
 abbrev pub report_text : ℕ → List Found → ℕ → List ℕ
 report_text clients points bad =
-    numbered_text clients 0 points ++ (codes "points " ++ decimal (length points) ++ codes " bad " ++ decimal bad ++ codes "\n")
+    numbered_text clients 0 points
+    ++ (codes "points " ++ decimal (length points) ++ codes " bad " ++ decimal bad ++ codes "\n")
 
 abbrev pub points_text : Evictions → Option QueueLine → List Command → List ℕ
 points_text evictions None commands = []

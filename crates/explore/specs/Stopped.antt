@@ -20,8 +20,8 @@ answer_or point steps client (Ok (Some reply)) going =
 answer_or point steps client (Ok None) going = going
 answer_or point steps client (Err refusal) going = []
 
--- what comes of a client's call in a world after so many acts, if it has one: it has made so many steps alone, and makes
--- at most so many more
+-- what comes of a client's call in a world after so many acts, if it has one: it has made so many steps alone, and
+-- makes at most so many more
 abbrev pub answer_alone : ℕ → ℕ → ℕ → State → Client → List Alone
 answer_alone point steps zero w client = []
 answer_alone point steps (suc more) w client =

@@ -62,7 +62,8 @@ abbrev pub recovery_lines : ℕ → Play → List Line
 recovery_lines zero play = recovering_line ∷ []
 recovery_lines (suc most) play =
     recover_then (recover_result false play.world)
-    (recovery_lines most (play_after_recovery_step play)) (ready_lines (play_after_recovery_step play)) (λ refusal. refused_line refusal ∷ [])
+    (recovery_lines most (play_after_recovery_step play)) (ready_lines (play_after_recovery_step play))
+    (λ refusal. refused_line refusal ∷ [])
 
 -- the call that an event begins, with this reply
 abbrev pub call_in_order : Option Event → Reply → Option Ordered

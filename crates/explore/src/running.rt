@@ -61,7 +61,8 @@ pub fn run<R: Reader, W: Writer>(
 ) -> Result<(), Refusal>
     requires reads { R.failures reader.old < MAX_FAILURES }
     requires writes { W.failures writer.old < MAX_FAILURES }
-    ensures printed { OnOk result (Prints script_text (R.left reader.old) (W.written writer.old) (W.written writer.new)) }
+    ensures printed { OnOk result
+        (Prints script_text (R.left reader.old) (W.written writer.old) (W.written writer.new)) }
     ensures flushed { OnOk result (IsFlushed (W.written writer.new) (W.flushed writer.new)) }
     ensures refusals { IfErr result IsRunRefusal }
     ensures read_failed { IsErrOf result Refusal.ReadFailed ↔ (R.failures reader.old < R.failures reader.new) }
@@ -88,7 +89,8 @@ pub fn run_points<H: Threads + Sync, R: Reader, W: Writer, T: Watch>(
 ) -> Result<(), Refusal>
     requires reads { R.failures reader.old < MAX_FAILURES }
     requires writes { W.failures writer.old < MAX_FAILURES }
-    ensures printed { OnOk result (Prints (points_text evictions) (R.left reader.old) (W.written writer.old) (W.written writer.new)) }
+    ensures printed { OnOk result
+        (Prints (points_text evictions) (R.left reader.old) (W.written writer.old) (W.written writer.new)) }
     ensures flushed { OnOk result (IsFlushed (W.written writer.new) (W.flushed writer.new)) }
     ensures refusals { IfErr result IsRunRefusal }
     ensures read_failed { IsErrOf result Refusal.ReadFailed ↔ (R.failures reader.old < R.failures reader.new) }
@@ -115,7 +117,8 @@ pub fn run_page<H: Threads + Sync, R: Reader, W: Writer, T: Watch>(
 ) -> Result<Vec<u8>, Refusal>
     requires reads { R.failures reader.old < MAX_FAILURES }
     requires writes { W.failures writer.old < MAX_FAILURES }
-    ensures printed { OnOk result (Prints (points_text evictions) (R.left reader.old) (W.written writer.old) (W.written writer.new)) }
+    ensures printed { OnOk result
+        (Prints (points_text evictions) (R.left reader.old) (W.written writer.old) (W.written writer.new)) }
     ensures flushed { OnOk result (IsFlushed (W.written writer.new) (W.flushed writer.new)) }
     ensures refusals { IfErr result IsRunRefusal }
     ensures read_failed { IsErrOf result Refusal.ReadFailed ↔ (R.failures reader.old < R.failures reader.new) }
@@ -142,7 +145,8 @@ pub fn run_alone<R: Reader, W: Writer>(
 ) -> Result<(), Refusal>
     requires reads { R.failures reader.old < MAX_FAILURES }
     requires writes { W.failures writer.old < MAX_FAILURES }
-    ensures printed { OnOk result (Prints stopped_text (R.left reader.old) (W.written writer.old) (W.written writer.new)) }
+    ensures printed { OnOk result
+        (Prints stopped_text (R.left reader.old) (W.written writer.old) (W.written writer.new)) }
     ensures flushed { OnOk result (IsFlushed (W.written writer.new) (W.flushed writer.new)) }
     ensures refusals { IfErr result IsRunRefusal }
     ensures read_failed { IsErrOf result Refusal.ReadFailed ↔ (R.failures reader.old < R.failures reader.new) }

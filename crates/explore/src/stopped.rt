@@ -115,8 +115,8 @@ fn alone_in(alloc: Global, laid: &Laid, acts: &[Act]) -> Result<Vec<Alone>, Refu
 }
 
 /// Each call that is under way at a point of a script, with the queue ready, goes on alone to its answer: by the order
-/// of the points, and then of the clients. For each a new world makes the acts up to there. A script without a queue has
-/// none. It is refused for want of memory alone (NoMemory).
+/// of the points, and then of the clients. For each a new world makes the acts up to there. A script without a queue
+/// has none. It is refused for want of memory alone (NoMemory).
 pub fn alone(alloc: Global, script: &Script) -> Result<Vec<Alone>, Refusal>
     ensures found { IfOk result (λ found. found.items ≡ alone_of script.now.queue script.now.commands) }
     ensures few { IfOk result (λ found. All (λ alone. alone.steps ≤ MAX_STEPS_ALONE) found.items) }

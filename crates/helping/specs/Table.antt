@@ -65,8 +65,10 @@ access_of kind (DequeueHelpTail p) = Cas Tail p.last.0 p.next.0
 access_of kind (DequeueLoadValue p) = Load (Value p.next)
 access_of kind (DequeueClaim p) = Cas (Mark p.next) 0 p.token.0
 access_of kind (DequeueFlushClaim p) = Flush (Mark p.claimed.next)
-access_of kind (DequeueStoreResult p) = store (result_of kind (winner p.claimed.claim p.claimed.token) p.claimed.next p.claimed.value)
-access_of kind (DequeueFlushResult p) = flush (result_of kind (winner p.claimed.claim p.claimed.token) p.claimed.next p.claimed.value)
+access_of kind (DequeueStoreResult p) =
+    store (result_of kind (winner p.claimed.claim p.claimed.token) p.claimed.next p.claimed.value)
+access_of kind (DequeueFlushResult p) =
+    flush (result_of kind (winner p.claimed.claim p.claimed.token) p.claimed.next p.claimed.value)
 access_of kind (DequeueMoveHead p) = Cas Head p.claimed.first.0 p.claimed.next.0
 
 -- where a call acts, once its record is prepared
@@ -104,7 +106,8 @@ abbrev pub successor : Kind → Op → ℕ → After Op Reply
 successor kind (PrepareStore p) found = More (prepared_op (prepare_successor kind (prepare_store p)))
 successor kind (PrepareFlush p) found = More (prepared_op (prepare_successor kind (prepare_flush p)))
 successor kind (EnqueueLoadTail p) found = More (EnqueueLoadNext (record { node = p.node; last = node_of found }))
-successor kind (EnqueueLoadNext p) found = More (EnqueueCheckTail (record { node = p.node; last = p.last; next = node_of found }))
+successor kind (EnqueueLoadNext p) found =
+    More (EnqueueCheckTail (record { node = p.node; last = p.last; next = node_of found }))
 successor kind (EnqueueCheckTail p) found =
     if found == p.last.0
     then (if p.next.0 == 0
@@ -117,11 +120,14 @@ successor kind (EnqueueLink p) found =
     else More (EnqueueLoadTail (record { node = p.node }))
 successor kind (EnqueueFlushLink p) found = More (EnqueueMoveTail (record { node = p.node; last = p.last }))
 successor kind (EnqueueMoveTail p) found = Done Answered
-successor kind (EnqueueFlushPassedLink p) found = More (EnqueueHelpTail (record { node = p.node; last = p.last; next = p.next }))
+successor kind (EnqueueFlushPassedLink p) found =
+    More (EnqueueHelpTail (record { node = p.node; last = p.last; next = p.next }))
 successor kind (EnqueueHelpTail p) found = More (EnqueueLoadTail (record { node = p.node }))
 successor kind (DequeueLoadHead p) found = More (DequeueLoadTail (record { token = p.token; first = node_of found }))
-successor kind (DequeueLoadTail p) found = More (DequeueLoadNext (record { token = p.token; first = p.first; last = node_of found }))
-successor kind (DequeueLoadNext p) found = More (DequeueCheckHead (record { token = p.token; first = p.first; last = p.last; next = node_of found }))
+successor kind (DequeueLoadTail p) found =
+    More (DequeueLoadNext (record { token = p.token; first = p.first; last = node_of found }))
+successor kind (DequeueLoadNext p) found =
+    More (DequeueCheckHead (record { token = p.token; first = p.first; last = p.last; next = node_of found }))
 successor kind (DequeueCheckHead p) found =
     if found == p.first.0
     then (if p.first.0 == p.last.0
@@ -132,9 +138,11 @@ successor kind (DequeueCheckHead p) found =
     else More (DequeueLoadHead (record { token = p.token }))
 successor kind (DequeueStoreEmpty p) found = More (DequeueFlushEmpty (record { token = p.token }))
 successor kind (DequeueFlushEmpty p) found = Done Empty
-successor kind (DequeueFlushPassedLink p) found = More (DequeueHelpTail (record { token = p.token; last = p.last; next = p.next }))
+successor kind (DequeueFlushPassedLink p) found =
+    More (DequeueHelpTail (record { token = p.token; last = p.last; next = p.next }))
 successor kind (DequeueHelpTail p) found = More (DequeueLoadHead (record { token = p.token }))
-successor kind (DequeueLoadValue p) found = More (DequeueClaim (record { token = p.token; first = p.first; next = p.next; value = found }))
+successor kind (DequeueLoadValue p) found =
+    More (DequeueClaim (record { token = p.token; first = p.first; next = p.next; value = found }))
 successor kind (DequeueClaim p) found = More (DequeueFlushClaim (record { claimed = claimed_at p (claim_by found) }))
 successor kind (DequeueFlushClaim p) found = More (DequeueStoreResult (record { claimed = p.claimed }))
 successor kind (DequeueStoreResult p) found = More (DequeueFlushResult (record { claimed = p.claimed }))

@@ -11,8 +11,10 @@ effects_with_look place empty moment effects =
 -- each effect comes after its Call, no call has two, and they stand in the sequence of their moments
 pub record AreInSequence (effects : List Effect) : Type 0 where
   pub after : (k : ℕ) (e : Effect) → slice_get effects k ≡ Some e → e.place < e.moment
-  pub ascending : (j k : ℕ) (x y : Effect) → j < k → slice_get effects j ≡ Some x → slice_get effects k ≡ Some y → x.moment ≤ y.moment
-  pub once : (j k : ℕ) (x y : Effect) → j < k → slice_get effects j ≡ Some x → slice_get effects k ≡ Some y → x.place ≢ y.place
+  pub ascending : (j k : ℕ) (x y : Effect) → j < k → slice_get effects j ≡ Some x → slice_get effects k ≡ Some y
+      → x.moment ≤ y.moment
+  pub once : (j k : ℕ) (x y : Effect) → j < k → slice_get effects j ≡ Some x → slice_get effects k ≡ Some y
+      → x.place ≢ y.place
 
 -- no effect of the call at the place waits to count
 pub record HasNoneUnsettled (place : ℕ) (effects : List Effect) : Type 0 where
@@ -23,4 +25,5 @@ pub record HasNoneUnsettled (place : ℕ) (effects : List Effect) : Type 0 where
 pub record IsUnsettledAt (place : ℕ) (effects : List Effect) (i : ℕ) : Type 0 where
   pub within : i < length effects
   pub without_pending : without_pending place effects ≡ remove effects i
-  pub settled : (e : Effect) → slice_get effects i ≡ Some e → with_settled place effects ≡ slice_set effects i (record e { settled = true })
+  pub settled : (e : Effect) → slice_get effects i ≡ Some e
+      → with_settled place effects ≡ slice_set effects i (record e { settled = true })

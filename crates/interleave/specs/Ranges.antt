@@ -1,4 +1,5 @@
--- Every word that calls read, and every number of a waiting call, is in its range: so each step is safe, in every interleaving.
+-- Every word that calls read, and every number of a waiting call, is in its range: so each step is safe, in every
+-- interleaving.
 use Rattle.std.specs.Prelude.{◌≡◌, ℕ, ◌≤◌, List, Option, Some, None, length, replicate, slice_index, slice_index_or}
 use Rattle.persist.specs.Memory.{Words}
 use Rattle.words.specs.declared.limits.TheConstants.{MAX_CLIENTS}

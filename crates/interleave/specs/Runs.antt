@@ -31,8 +31,8 @@ abbrev pub StaysDown : {room : ℕ} {old : State} {acts : List (Act ℕ)} {taken
 StaysDown {old = old} nothing = is_down old ≡ true
 StaysDown (next {v = v} so_far act accepted attempt) = StaysDown so_far × (is_down v ≡ true)
 
--- while recovery was under way an act changed nothing of what the kept words tell and hold; where it ended recovery, each
--- client was told what they tell, which was right of its announced call, and no number in the order was above its
+-- while recovery was under way an act changed nothing of what the kept words tell and hold; where it ended recovery,
+-- each client was told what they tell, which was right of its announced call, and no number in the order was above its
 -- client's floor
 pub record IsToldWhenReady (old new : State) : Type 0 where
   pub words : is_down old ≡ true → (kept_tells new ≡ kept_tells old) × (kept_content new ≡ kept_content old)

@@ -38,8 +38,8 @@ use Rattle.protocol.specs.declared.acts.Act.{Act}
 use Rattle.protocol.specs.declared.acts.Act.TheVariants.{Start, Step, Evict, Crash, Recover}
 use Rattle.interleave.specs.declared.queue.Queue.{Queue}
 
--- a world of a queue of this shape: its words, what it keeps for its clients, the call that each has under way, what the queue held and told where
--- the history begins, what happened since, and the recovery that is under way
+-- a world of a queue of this shape: its words, what it keeps for its clients, the call that each has under way, what
+-- the queue held and told where the history begins, what happened since, and the recovery that is under way
 pub record State : Type 0 where
   pub shape : Shape
   pub words : Words
@@ -113,7 +113,8 @@ number_of_idle queue client number (Err refusal) = Err refusal
 number_of_idle queue client number (Ok u) = number_check queue client number
 
 abbrev pub number_to_start : State → Client → ℕ → Result ℕ Refusal
-number_to_start w client number = number_of_idle w.queue client number (idle_result (is_down w) (slice_get w.calls client.0))
+number_to_start w client number =
+    number_of_idle w.queue client number (idle_result (is_down w) (slice_get w.calls client.0))
 
 -- a client whose records are used up begins nothing, nor does one for which there is no memory (`full`)
 abbrev pub start_with : Bool → State → Client → Call → Result ℕ Refusal → State
@@ -171,7 +172,8 @@ step_result full w client = step_result_with full w (waiting_result (is_down w) 
 -- both values for good
 abbrev pub evict_with : State → ℕ → Option Place → State
 evict_with w word None = w
-evict_with w word (Some place) = record w { words = words_after_eviction word w.words; log = (with_eviction (machine w) place).log }
+evict_with w word (Some place) =
+    record w { words = words_after_eviction word w.words; log = (with_eviction (machine w) place).log }
 
 abbrev pub evict_result_with : State → ℕ → Option Place → Result (Option Change) Refusal
 evict_result_with w word None = if nat_lt word (length w.words.cached) then Ok None else Err NoWord

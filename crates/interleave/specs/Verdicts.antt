@@ -82,8 +82,8 @@ pub record IsRecalled (w : State) (client : Client) (last : Option Verdict) : Ty
   pub told : (kept_told w client ≡ told_as last) ⊎ IsToldAbove (floor_by last) (kept_told w client)
   pub floor : w.recovery ≡ None → floor_by last ≤ floor_in w.queue client
 
--- the last verdict that a client of a ready queue was given: its floor is the one by that, and while it has no call under
--- way the kept words tell just that
+-- the last verdict that a client of a ready queue was given: its floor is the one by that, and while it has no call
+-- under way the kept words tell just that
 pub record IsLast (w : State) (client : Client) (last : Option Verdict) : Type 0 where
   pub floor : floor_in w.queue client ≡ floor_by last
   pub told : IsIdle w client → kept_told w client ≡ told_as last

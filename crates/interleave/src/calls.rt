@@ -118,7 +118,8 @@ impl Calls {
         clear(&mut self.places);
     }
 
-    /// Whether a client may start a call: it is there, recovery is not under way, and neither is a call of the client's.
+    /// Whether a client may start a call: it is there, recovery is not under way, and neither is a call of the
+    /// client's.
     pub(crate) fn check_idle(&self, down: bool, client: Client) -> Result<(), Refusal>
         ensures { result ≡ idle_result down (slice_get self.now client.0) }
     {

@@ -34,8 +34,8 @@ impl<L: Layout + Drop> Core<L> {
     }
 
     /// The whole system stops: calls under way end without an answer, and recovery begins anew, also where it was under
-    /// way. The memory's own crash goes with it, and is the caller's: before the next act every cached value is the kept
-    /// one. It is refused for want of memory alone (NoMemory), and then nothing changed.
+    /// way. The memory's own crash goes with it, and is the caller's: before the next act every cached value is the
+    /// kept one. It is refused for want of memory alone (NoMemory), and then nothing changed.
     pub fn crash(&mut self) -> Result<(), Refusal>
         requires { length self.old.trace.log.effects ≤ length self.old.trace.log.events }
         ensures stopped { result ≡ Ok tt
@@ -51,8 +51,8 @@ impl<L: Layout + Drop> Core<L> {
         Ok(())
     }
 
-    /// Recovery ends, and the clients are told what it read. What they are told is large, and stands in a function of its
-    /// own so that no other step pays for its room.
+    /// Recovery ends, and the clients are told what it read. What they are told is large, and stands in a function of
+    /// its own so that no other step pays for its room.
     fn end_recovery(&mut self)
         requires down { is_some self.old.trace.recovery ≡ true }
         requires room { 0 < self.old.trace.room }

@@ -11,8 +11,8 @@ use persist::{Change, EvictableWords};
 use words::Refusal;
 
 impl<L: Layout + Drop> Core<L> {
-    /// The environment keeps a word, by its number in the words that are lent. It is no access, takes no memory, and may
-    /// make a call take effect. It is refused where there is no such word (NoWord).
+    /// The environment keeps a word, by its number in the words that are lent. It is no access, takes no memory, and
+    /// may make a call take effect. It is refused where there is no such word (NoWord).
     pub fn evict<M: EvictableWords>(
         &mut self,
         memory: &mut M,

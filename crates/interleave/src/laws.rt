@@ -53,9 +53,9 @@ pub fn acts_with_room_are_made()
         → (went : Went room old acts taken new) → length acts ≤ room → recovery_steps went ≡ recoveries acts }
 {}
 
-/// What a world in which recovery is under way, as after a crash or where it was booted, tells at its next Ready is what
-/// its kept words tell, whatever evictions, steps and further crashes come between. So two of one layout whose kept
-/// words are equal tell the same.
+/// What a world in which recovery is under way, as after a crash or where it was booted, tells at its next Ready is
+/// what its kept words tell, whatever evictions, steps and further crashes come between. So two of one layout whose
+/// kept words are equal tell the same.
 pub fn kept_words_tell()
     ensures by_words { (w : State) (tells : List Told) → Holds w → TellsNext w tells → tells ≡ kept_tells w }
     ensures same { (w v : State) (tells telling : List Told)
@@ -73,8 +73,8 @@ pub fn steps_stay_in_range()
     ensures recovery { (w : State) (r : Recovery) → Holds w → w.recovery ≡ Some r → MayRecover w.shape w.words r }
 {}
 
-/// Where a world's history ends at rest, and the next one's base tells what its kept words tell, as after a rotation, no
-/// client of a log queue has a call of one number in both orders: a number acts at most once over rotations too.
+/// Where a world's history ends at rest, and the next one's base tells what its kept words tell, as after a rotation,
+/// no client of a log queue has a call of one number in both orders: a number acts at most once over rotations too.
 pub fn numbers_are_new()
     ensures { (old new : State) → Holds old → IsQuiet old → Holds new → new.shape.kind ≡ Kind.Log
         → new.told ≡ kept_tells old → ShareNoNumber old new }

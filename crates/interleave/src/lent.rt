@@ -28,8 +28,8 @@ use std::marker::Model;
 use words::{Client, Refusal, Told};
 
 /// A world without its memory: what a queue keeps for its clients, the calls that they have under way, and what
-/// happened. Each act is lent the memory, or a window on it, and is the act of a [`World`](crate::World) on those words;
-/// the caller lends the same words each time.
+/// happened. Each act is lent the memory, or a window on it, and is the act of a [`World`](crate::World) on those
+/// words; the caller lends the same words each time.
 #[derive(Drop)]
 pub struct Core<L: Layout + Drop> {
     pub(crate) layout: L,

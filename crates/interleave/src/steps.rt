@@ -142,8 +142,8 @@ impl<L: Layout + Drop> Core<L> {
     }
 
     /// One step of a client's call: exactly one access. It answers the reply where that was the last. It is refused, in
-    /// this order, where there is no such client (NoClient), where recovery is under way (NotReady), where it has no call
-    /// (Idle), and for want of memory (NoMemory).
+    /// this order, where there is no such client (NoClient), where recovery is under way (NotReady), where it has no
+    /// call (Idle), and for want of memory (NoMemory).
     #[inline(always)]
     pub fn step<M: EvictableWords>(
         &mut self,

@@ -44,7 +44,8 @@ impl Model for Trace {
       told = t.history.told;
       log = record { events = t.history.events.items; issued = t.issued.items; effects = t.effects.items };
       recovery = t.recovery;
-      room = min t.history.events.room (min (vec_capacity t.issued - vec_len t.issued) (vec_capacity t.effects - length t.history.events.items));
+      room = min t.history.events.room
+          (min (vec_capacity t.issued - vec_len t.issued) (vec_capacity t.effects - length t.history.events.items));
     } };
 
     ghost invariant = { λ t. length t.history.events.items ≤ vec_capacity t.effects };

@@ -187,9 +187,9 @@ impl<L: Layout + Drop> World<L> {
     }
 
     /// The history ends, and another begins: its base is what the kept words hold and tell, so that a log queue's
-    /// clients are told of their last announced calls by the base, and it has no events yet. Words and floors of numbers
-    /// stay. It is refused, in this order, where recovery is under way (NotReady), where a call is (Busy), and for want of
-    /// memory (NoMemory), and then nothing changed.
+    /// clients are told of their last announced calls by the base, and it has no events yet. Words and floors of
+    /// numbers stay. It is refused, in this order, where recovery is under way (NotReady), where a call is (Busy), and
+    /// for want of memory (NoMemory), and then nothing changed.
     pub fn rotate(&mut self) -> Result<(), Refusal>
         ensures world { self.new.now ≡ after_rotate (is_no_memory result) self.old.now }
         ensures result { result ≡ rotate_result (is_no_memory result) self.old.now }
@@ -334,7 +334,8 @@ impl<L: Layout + Drop> World<L> {
         self.core.order()
     }
 
-    /// What happened since the history begins. It takes no memory. Laws on states ask for `Holds`, as every world has it.
+    /// What happened since the history begins. It takes no memory. Laws on states ask for `Holds`, as every world has
+    /// it.
     pub fn history(&self) -> &History
         ensures base { result.now.base.items ≡ self.now.now.base }
         ensures told { result.now.told ≡ self.now.now.told }

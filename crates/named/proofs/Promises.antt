@@ -1,4 +1,5 @@
--- What follows of a broker's invariant: each queue is explained, and another broker may begin on the words that it keeps.
+-- What follows of a broker's invariant: each queue is explained, and another broker may begin on the words that it
+-- keeps.
 use Rattle.std.proofs.Common.{◌≡◌, ℕ, ◌<◌, ◌≤◌, ◌⊎◌, inl, inr, List, length, replicate, slice_get, slice_set, slice_index, slice_index_or, Option, Some, None, refl, sym, ap, subst, ◌∙◌, arith}
 use Rattle.std.proofs.lemmas.Bool.{cases_eq}
 use Rattle.std.proofs.lemmas.List.{length-replicate}

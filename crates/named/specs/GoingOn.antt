@@ -49,5 +49,5 @@ AreOthersQuiet old new slot = (other : ℕ) → other ≢ slot → quiet (world_
 -- it left, by the order that explained it
 pub data CameOf (first : Brokered) : Bool → Brokered → Type 0 where
   unrotated : {now : Brokered} (goes_on : BrokerGoesOn first now) → CameOf first false now
-  rotated : {was : Bool} {ended begun now : Brokered} (before : CameOf first was ended) (explained : KeepsPromises ended)
-      (rotation : IsRotated ended begun) (goes_on : BrokerGoesOn begun now) → CameOf first true now
+  rotated : {was : Bool} {ended begun now : Brokered} (before : CameOf first was ended)
+      (explained : KeepsPromises ended) (rotation : IsRotated ended begun) (goes_on : BrokerGoesOn begun now) → CameOf first true now

@@ -1,4 +1,5 @@
-//! What holds over any list of a broker's acts: laws on its states, of which each clause asks what an act's contract says.
+//! What holds over any list of a broker's acts: laws on its states, of which each clause asks what an act's contract
+//! says.
 
 ghost use Rattle.std.specs.Prelude.{◌≡◌, ℕ, Bool, false, true};
 ghost use Rattle.directory.specs.Directory.{HasQueue};
@@ -8,8 +9,8 @@ ghost use Rattle.named.specs.GoingOn.{BrokerGoesOn, CameOf, IsDowntime};
 ghost use Rattle.named.specs.Promises.{KeepsPromises};
 ghost use Rattle.named.specs.Rotating.{IsRotated};
 
-/// Each act but a rotation says that the broker goes on: each queue stays in its slot with its name and kind, nothing is
-/// taken back from its order, and calls that had ended stay as they are. So it is over any list of such acts.
+/// Each act but a rotation says that the broker goes on: each queue stays in its slot with its name and kind, nothing
+/// is taken back from its order, and calls that had ended stay as they are. So it is over any list of such acts.
 #[tactic(auto, using(crate::proofs::GoingOn::broker_stays, crate::proofs::GoingOn::broker_goes_further))]
 pub fn brokers_go_on()
     ensures none { (b : Brokered) → BrokerGoesOn b b }

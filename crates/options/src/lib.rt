@@ -1,4 +1,5 @@
-//! The command lines of `pqd` and of `pqx`: what may be asked of each program, and what the words of a command line ask.
+//! The command lines of `pqd` and of `pqx`: what may be asked of each program, and what the words of a command line
+//! ask.
 #![tactic(auto)]
 
 mod asked;

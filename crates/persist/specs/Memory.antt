@@ -1,8 +1,8 @@
 -- The memory model: words with a cached and a kept value, and what becomes of them.
 use Rattle.std.specs.Prelude.{◌≡◌, ℕ, ◌+◌, min, List, [], take, drop, replicate, slice_index, slice_set, if◌then◌else◌, ◌==◌}
 
--- what lies around words that are a part of a memory: the name of the memory that lends them, from which word on and how
--- many, and the memory's words before and after them
+-- what lies around words that are a part of a memory: the name of the memory that lends them, from which word on and
+-- how many, and the memory's words before and after them
 pub record Around : Type 0 where
   pub lender : ℕ
   pub from : ℕ
@@ -54,7 +54,8 @@ words_after_eviction word ws = record ws { kept = slice_set ws.kept word (slice_
 abbrev pub after : Access ℕ → Words → Words
 after (Load word) ws = words_after_access ws
 after (Store word value) ws = words_after_access (words_after_store word value ws)
-after (Cas word old new) ws = words_after_access (if slice_index ws.cached word == old then words_after_store word new ws else ws)
+after (Cas word old new) ws =
+    words_after_access (if slice_index ws.cached word == old then words_after_store word new ws else ws)
 after (Flush word) ws = words_after_access (words_after_eviction word ws)
 
 -- a crash makes every cached value the kept one

@@ -38,8 +38,8 @@ fn carry_down(entries: &mut [(u64, u64)], at: usize, entry: (u64, u64)) -> (u64,
     carried
 }
 
-/// Where the word's entry is, or where it would go. It looks at the last entries first, but at none that has more entries
-/// before it than there are lower words: each of these has a word of its own.
+/// Where the word's entry is, or where it would go. It looks at the last entries first, but at none that has more
+/// entries before it than there are lower words: each of these has a word of its own.
 fn search_back(entries: &[(u64, u64)], word: u64) -> Result<usize, usize>
     requires { IsAscending entries.now }
     ensures found { IfOk result (IsEntryOf entries.now word) }

@@ -16,10 +16,10 @@ const MAGIC: [u8; MAGIC_BYTES] = *b"PQW1";
 const MAGIC_BYTES: usize = 4;
 
 /// How many bytes a number has, the count and each word.
-const NUMBER_BYTES: usize = 8;
+pub const NUMBER_BYTES: usize = 8;
 
 /// How many bytes stand before the words: the magic and the count.
-const HEADER_BYTES: usize = MAGIC_BYTES + NUMBER_BYTES;
+pub const HEADER_BYTES: usize = MAGIC_BYTES + NUMBER_BYTES;
 
 /// Whether what there is of the first four bytes is the magic's.
 fn begins_right(bytes: &[u8]) -> bool
@@ -107,8 +107,8 @@ impl Memory {
         }
     }
 
-    /// The memory whose image the bytes are: it has the words cached and kept, no access counted, and room for a change of
-    /// each word. The bytes are refused in this order: where what there is of the first four differs from the magic
+    /// The memory whose image the bytes are: it has the words cached and kept, no access counted, and room for a change
+    /// of each word. The bytes are refused in this order: where what there is of the first four differs from the magic
     /// (BadMagic), where the count is cut off (Truncated), where it is 0 or above [`MAX_WORDS`] (BadCount), where words
     /// are cut off (Truncated), where something stands after them (TrailingBytes), and where memory is refused
     /// (NoMemory).

@@ -9,6 +9,7 @@ mod memory;
 mod window;
 
 pub use access::{Change, EvictableWords, KeptWords, Swap, WordMemory};
+pub use image::{HEADER_BYTES, NUMBER_BYTES};
 pub use laws::words_have_one_image;
 pub use memory::{MAX_WORDS, Memory};
 pub use window::{View, Window};

@@ -19,8 +19,8 @@ use words::Refusal;
 pub const MAX_WORDS: usize = 8_388_608;
 
 /// Words that a crash of the whole system sets back to what is kept, as in the model of Izraelevitz,
-/// Mendes and Scott (2016), but with flushes that complete at once. Of the cached values it has those alone that are not
-/// the kept ones, in a list.
+/// Mendes and Scott (2016), but with flushes that complete at once. Of the cached values it has those alone that are
+/// not the kept ones, in a list.
 #[derive(Drop)]
 pub struct Memory {
     kept: Vec<u64>,
@@ -135,8 +135,8 @@ impl Memory {
     }
 
     /// Lends a part of the memory: `len` words from the word `from` on, which the window numbers from 0. It copies
-    /// nothing, and while it is there nothing else reaches the memory. It is refused where `len` is 0 or the part is not
-    /// inside (NoWord).
+    /// nothing, and while it is there nothing else reaches the memory. It is refused where `len` is 0 or the part is
+    /// not inside (NoWord).
     #[tactic(auto, using(crate::proofs::Overlays::length_overlay))]
     pub fn window(&mut self, from: usize, len: usize) -> Result<Window<'_>, Refusal>
         ensures* rests { sem 𝓛 (RestsIfErr the_row self.entry (λ w. w.memory.ghost_name) result (λ m. m ≡ self.old)) }

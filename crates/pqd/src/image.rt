@@ -4,7 +4,7 @@ ghost use Rattle.std.specs.Prelude.{◌≡◌, ◌⊎◌, IfErr};
 ghost use Rattle.std.specs.IoError.{error_kind};
 ghost use Rattle.pqd.specs.Faults.{refusal_of_system};
 
-use persist::MAX_WORDS;
+use persist::{HEADER_BYTES, MAX_WORDS, NUMBER_BYTES};
 use std::fs::{self, File};
 use std::io::{self, ErrorKind, Read, Write};
 use words::Refusal;
@@ -19,14 +19,8 @@ pub(crate) fn refusal_of(error: &io::Error) -> Refusal
     }
 }
 
-/// How many bytes stand before an image's words.
-const HEADER_BYTES: u64 = 12;
-
-/// How many bytes a word has in an image.
-const WORD_BYTES: u64 = 8;
-
 /// How many bytes are read at most: one more than the longest image has, so that what goes on after it is still seen.
-const MOST_BYTES: u64 = HEADER_BYTES + WORD_BYTES * MAX_WORDS as u64 + 1;
+const MOST_BYTES: u64 = (HEADER_BYTES + NUMBER_BYTES * MAX_WORDS + 1) as u64;
 
 /// The beginning of the file's bytes, and all of them where they could be an image's: what decides which image they are
 /// stands there, and a file that never ends is read no further.

@@ -51,7 +51,8 @@ pub record ClaimIsToldInCell (s : Shape) (kept : Place → ℕ) (n : ℕ) : Type
   pub not_empty : IsClaimed s kept n → cells kept (marks kept n) ≢ 1
   pub not_open : IsPassed s kept n → cells kept (marks kept n) ≢ 0
 
--- log queues: a chain node is inserted by its entry, an entry tells only of what it claims, and a claimed node's entry of it
+-- log queues: a chain node is inserted by its entry, an entry tells only of what it claims, and a claimed node's entry
+-- of it
 pub record IsInsertedIfOn (s : Shape) (kept : Place → ℕ) (n : ℕ) : Type 0 where
   pub inserted : IsOnChain s kept n → IsInserted kept n
 

@@ -26,9 +26,12 @@ pub record IsSeenOf (s : Shape) (kept : Place → ℕ) (t : ℕ) (on_chain : Boo
 pub record AreSeen (s : Shape) (kept : Place → ℕ) (on_chain : List Bool) (claimed : List ℕ) : Type 0 where
   pub each : (t : ℕ) → IsClient s t → IsSeenOf s kept t (slice_index_or on_chain t false) (slice_index claimed t)
 
--- a row of clients, once the node is noted for the one that announced its record last, or that announced a record that claims it
+-- a row of clients, once the node is noted for the one that announced its record last, or that announced a record that
+-- claims it
 pub record IsNodeNoted (s : Shape) (kept : Place → ℕ) (node : ℕ) (before after : List Bool) : Type 0 where
-  pub each : (t : ℕ) → IsClient s t → announcements kept t ≢ 0 → slice_index_or after t false ≡ (slice_index_or before t false || (announcements kept t == node))
+  pub each : (t : ℕ) → IsClient s t → announcements kept t ≢ 0
+      → slice_index_or after t false ≡ (slice_index_or before t false || (announcements kept t == node))
 
 pub record IsClaimNoted (s : Shape) (kept : Place → ℕ) (node : ℕ) (before after : List ℕ) : Type 0 where
-  pub each : (t : ℕ) → IsClient s t → announcements kept t ≢ 0 → slice_index after t ≡ (if marks kept node == announcements kept t then node else slice_index before t)
+  pub each : (t : ℕ) → IsClient s t → announcements kept t ≢ 0
+      → slice_index after t ≡ (if marks kept node == announcements kept t then node else slice_index before t)

@@ -181,8 +181,8 @@ StatusIsSound s kept e = (statuses kept e ≡ 0) ⊎ (IsTaken s kept e ⊎ IsEmp
 abbrev pub RemovedIsSound : Shape → (Place → ℕ) → ℕ → Type 0
 RemovedIsSound s kept e = (entry_nodes kept e ≡ 0) ⊎ IsClaimOf s kept e (entry_nodes kept e)
 
--- each log names an entry of its client; entries tell of enqueues whose nodes are on the chain, of dequeues that found the
--- queue empty, and of nodes that they claim; once the head has passed a node its claim tells of it
+-- each log names an entry of its client; entries tell of enqueues whose nodes are on the chain, of dequeues that found
+-- the queue empty, and of nodes that they claim; once the head has passed a node its claim tells of it
 pub record EntriesAreSound (s : Shape) (kept : Place → ℕ) : Type 0 where
   pub inserts : (n : ℕ) → IsOnChain s kept n → IsInserted kept n
   pub logs : (t : ℕ) → IsClient s t → LogIsSound s kept t
@@ -244,7 +244,8 @@ pub record IsAnnouncedOne (s : Shape) (kept : Place → ℕ) (e : ℕ) : Type 0 
   pub is_client : IsClient s client
   pub names : announcements kept client ≡ e
 
--- the words of sound ones that recovery and calls read: unlinked nodes and entries that nobody announced may tell anything
+-- the words of sound ones that recovery and calls read: unlinked nodes and entries that nobody announced may tell
+-- anything
 abbrev pub IsRead : Shape → (Place → ℕ) → Place → Type 0
 IsRead s kept (Insert n) = (n.0 ≡ 0) ⊎ IsOnChain s kept n.0
 IsRead s kept (Number e) = IsAnnouncedOne s kept e.0

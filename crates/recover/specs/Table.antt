@@ -107,21 +107,26 @@ to_answer Log client token = RecoveryLoadNumber (record { client = client; token
 
 abbrev pub to_outcome : Bool → Client → Token → ℕ → RecoveryPoint
 to_outcome true client token number = RecoveryLoadRemove (record { client = client; token = token; number = number })
-to_outcome false client token number = RecoveryLoadEntryNode (record { client = client; token = token; number = number })
+to_outcome false client token number =
+    RecoveryLoadEntryNode (record { client = client; token = token; number = number })
 
 -- what comes after the access found this value
 abbrev pub successor : Shape → RecoveryPoint → ℕ → After RecoveryPoint Report
 successor s (RecoveryLoadHead p) found = More (RecoveryLoadNext (record { cur = node_at found; moved = false }))
-successor s (RecoveryLoadNext p) found = More (if found == 0 then point_at_the_end p.cur p.moved else to_node s.kind p.cur (node_at found) p.moved)
+successor s (RecoveryLoadNext p) found =
+    More (if found == 0 then point_at_the_end p.cur p.moved else to_node s.kind p.cur (node_at found) p.moved)
 successor s (RecoveryLoadInsert p) found =
     More (RecoveryStoreStatus (record { cur = p.cur; node = p.node; entry = token_at found; moved = p.moved }))
 successor s (RecoveryStoreStatus p) found =
     More (RecoveryFlushStatus (record { cur = p.cur; node = p.node; entry = p.entry; moved = p.moved }))
 successor s (RecoveryFlushStatus p) found = More (point_past_status p.cur p.node p.moved)
 successor s (RecoveryLoadMark p) found =
-    More (if found == 0 then RecoveryStoreHead (record { cur = p.cur; unclaimed = Some p.node }) else to_mark s.kind p.node (token_at found))
-successor s (RecoveryLoadValue p) found = More (RecoveryStoreResult (record { node = p.node; mark = p.mark; value = found }))
-successor s (RecoveryStoreResult p) found = More (RecoveryFlushResult (record { node = p.node; mark = p.mark; value = p.value }))
+    More (if found == 0 then RecoveryStoreHead (record { cur = p.cur; unclaimed = Some p.node })
+        else to_mark s.kind p.node (token_at found))
+successor s (RecoveryLoadValue p) found =
+    More (RecoveryStoreResult (record { node = p.node; mark = p.mark; value = found }))
+successor s (RecoveryStoreResult p) found =
+    More (RecoveryFlushResult (record { node = p.node; mark = p.mark; value = p.value }))
 successor s (RecoveryFlushResult p) found = More (RecoveryLoadNext (record { cur = p.node; moved = false }))
 successor s (RecoveryStoreHead p) found = More (RecoveryFlushHead (record { cur = p.cur; unclaimed = p.unclaimed }))
 successor s (RecoveryFlushHead p) found = More (past_head p.cur p.unclaimed)
@@ -134,7 +139,8 @@ successor s (RecoveryLoadCell p) found = report_of p.client (told_row (row_of fo
 successor s (RecoveryLoadNumber p) found =
     More (RecoveryLoadKind (record { client = p.client; token = p.token; number = found }))
 successor s (RecoveryLoadKind p) found =
-    More (RecoveryLoadStatus (record { client = p.client; token = p.token; number = p.number; is_enqueue = found == ENQUEUE_KIND }))
+    More (RecoveryLoadStatus
+        (record { client = p.client; token = p.token; number = p.number; is_enqueue = found == ENQUEUE_KIND }))
 successor s (RecoveryLoadStatus p) found =
     if p.is_enqueue && (found == TAKEN_STATUS) then report_of p.client (taken_as p.number Done)
     else (if (not p.is_enqueue) && (found == EMPTY_STATUS) then report_of p.client (taken_as p.number Empty)
@@ -146,11 +152,15 @@ successor s (RecoveryLoadEntryNode p) found =
     else More (RecoveryLoadRemovedValue (record { client = p.client; number = p.number; node = node_at found }))
 successor s (RecoveryLoadRemovedValue p) found = report_of p.client (taken_as p.number (Got found))
 
--- a client's report is noted, and the next client comes; after the last the queue is ready, and each is told what was noted
+-- a client's report is noted, and the next client comes; after the last the queue is ready, and each is told what was
+-- noted
 abbrev pub after_report : Shape → List Told → Report → After Recovery (List Told)
 after_report s told report =
     if nat_lt (report.client.0 + 1) s.clients
-    then More (record { told = slice_set told report.client.0 report.told; at = RecoveryLoadAnnouncement (record { client = record { 0 = report.client.0 + 1 } }) })
+    then More (record {
+      told = slice_set told report.client.0 report.told;
+      at = RecoveryLoadAnnouncement (record { client = record { 0 = report.client.0 + 1 } });
+    })
     else Ended (slice_set told report.client.0 report.told)
 
 abbrev pub recovery_at : Shape → List Told → After RecoveryPoint Report → After Recovery (List Told)
@@ -188,8 +198,12 @@ IsPoint s (RecoveryFlushTail p) = Unit {0}
 IsPoint s (RecoveryLoadAnnouncement p) = IsClient s p.client.0
 IsPoint s (RecoveryLoadCell p) = (s.kind ≡ Durable) × IsClient s p.client.0 × IsRecord s p.token.0
 IsPoint s (RecoveryLoadNumber p) = (s.kind ≡ Log) × IsClient s p.client.0 × IsRecord s p.token.0
-IsPoint s (RecoveryLoadKind p) = (s.kind ≡ Log) × IsClient s p.client.0 × IsRecord s p.token.0 × (p.number ≤ MAX_CALL_NUMBER)
-IsPoint s (RecoveryLoadStatus p) = (s.kind ≡ Log) × IsClient s p.client.0 × IsRecord s p.token.0 × (p.number ≤ MAX_CALL_NUMBER)
-IsPoint s (RecoveryLoadRemove p) = (s.kind ≡ Log) × IsClient s p.client.0 × IsRecord s p.token.0 × (p.number ≤ MAX_CALL_NUMBER)
-IsPoint s (RecoveryLoadEntryNode p) = (s.kind ≡ Log) × IsClient s p.client.0 × IsRecord s p.token.0 × (p.number ≤ MAX_CALL_NUMBER)
+IsPoint s (RecoveryLoadKind p) =
+    (s.kind ≡ Log) × IsClient s p.client.0 × IsRecord s p.token.0 × (p.number ≤ MAX_CALL_NUMBER)
+IsPoint s (RecoveryLoadStatus p) =
+    (s.kind ≡ Log) × IsClient s p.client.0 × IsRecord s p.token.0 × (p.number ≤ MAX_CALL_NUMBER)
+IsPoint s (RecoveryLoadRemove p) =
+    (s.kind ≡ Log) × IsClient s p.client.0 × IsRecord s p.token.0 × (p.number ≤ MAX_CALL_NUMBER)
+IsPoint s (RecoveryLoadEntryNode p) =
+    (s.kind ≡ Log) × IsClient s p.client.0 × IsRecord s p.token.0 × (p.number ≤ MAX_CALL_NUMBER)
 IsPoint s (RecoveryLoadRemovedValue p) = IsClient s p.client.0 × IsNode s p.node.0 × (p.number ≤ MAX_CALL_NUMBER)

@@ -28,7 +28,8 @@ abbrev pub row_with : (Place → ℕ) → ℕ → Option ℕ → Row
 row_with kept cell (Some node) = row_got (values kept node)
 row_with kept cell None = if cells kept cell == EMPTY_CELL then row_empty else Open
 
--- of an entry: an enqueue took effect where its node is on the chain, a dequeue where it found the queue empty or claims a chain node
+-- of an entry: an enqueue took effect where its node is on the chain, a dequeue where it found the queue empty or
+-- claims a chain node
 abbrev pub enqueue_outcome : Bool → Outcome
 enqueue_outcome on_chain = if on_chain then Taken Done else NotTaken
 
@@ -39,7 +40,8 @@ dequeue_outcome kept None = NotTaken
 abbrev pub outcome_by : Shape → (Place → ℕ) → ℕ → Outcome
 outcome_by s kept entry =
     if entry_kinds kept entry == ENQUEUE_KIND then enqueue_outcome (list_any (nat_eq entry) (chain_of s kept))
-    else (if statuses kept entry == EMPTY_STATUS then Taken Empty else dequeue_outcome kept (node_claimed_by kept entry (chain_of s kept)))
+    else (if statuses kept entry == EMPTY_STATUS then Taken Empty
+        else dequeue_outcome kept (node_claimed_by kept entry (chain_of s kept)))
 
 -- what became of the call that the client announced last
 abbrev pub report_on : Kind → Shape → (Place → ℕ) → ℕ → Told

@@ -1,6 +1,6 @@
-//! Calls that are refused memory, up to those of brokers and scripts: a story of some hundred calls, in parts. Each call
-//! that is refused is made again, and is to leave all that can be seen as it was; then it answers what it would have
-//! answered. tests/memory.sh refuses each allocation in turn. Lines that begin with `again` say what was refused.
+//! Calls that are refused memory, up to those of brokers and scripts: a story of some hundred calls, in parts. Each
+//! call that is refused is made again, and is to leave all that can be seen as it was; then it answers what it would
+//! have answered. tests/memory.sh refuses each allocation in turn. Lines that begin with `again` say what was refused.
 #![tactic(auto)]
 
 mod brokers;

@@ -18,7 +18,8 @@ pub record IsKeptNow (old new : List (List (Option Verdict))) (slot client : ℕ
   pub here : kept_in new slot client ≡ last
   pub others : (at other : ℕ) → (at ≢ slot) ⊎ (other ≢ client) → kept_in new at other ≡ kept_in old at other
 
--- by what is kept of a client, a number that will run no more: it is the last one, with this reply, or there is a later one
+-- by what is kept of a client, a number that will run no more: it is the last one, with this reply, or there is a later
+-- one
 abbrev pub IsSettled : Option Verdict → ℕ → Reply → Type 0
 IsSettled None number reply = ⊥
 IsSettled (Some verdict) number reply = (verdict ≡ taken_as number reply) ⊎ (number < verdict.number)
@@ -33,7 +34,8 @@ verdict_heard (Err refusal) = None
 -- each place has what its client is told when asked: while the broker recovers, nothing
 abbrev pub told_when_asked : Brokered → ℕ → ℕ → Option Verdict
 told_when_asked b slot client =
-    verdict_heard (answer_at (λ w. Ok (told_to (told_in w.queue) (record { 0 = client }))) b slot (record { 0 = client }))
+    verdict_heard
+    (answer_at (λ w. Ok (told_to (told_in w.queue) (record { 0 = client }))) b slot (record { 0 = client }))
 
 -- what a broker tells is kept in each place
 pub record AreKeptAsHeard (b : Brokered) (kept : List (List (Option Verdict))) : Type 0 where

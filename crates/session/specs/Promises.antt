@@ -20,10 +20,10 @@ IsReplyIn None client number reply = ⊥
 abbrev pub IsReplyAt : Sessioned → ℕ → Client → ℕ → Reply → Type 0
 IsReplyAt s slot client number reply = IsReplyIn (world_at s.broker slot) client number reply
 
--- what is kept of a client that has no call under way: none of its calls with a later number is in the order, nor, where
--- the verdict is NotTaken, one with that number; with nothing kept none is. Nor does the base tell that such a number
--- took effect. So each number that took effect is settled: it never runs again. And the queue's floor is the one by
--- the verdict: a number that may run is stale only above the greatest
+-- what is kept of a client that has no call under way: none of its calls with a later number is in the order, nor,
+-- where the verdict is NotTaken, one with that number; with nothing kept none is. Nor does the base tell that such a
+-- number took effect. So each number that took effect is settled: it never runs again. And the queue's floor is the one
+-- by the verdict: a number that may run is stale only above the greatest
 pub record IsKeptRight (w : State) (client : Client) (last : Option Verdict) : Type 0 where
   pub none_later : NoneIsAbove w client (floor_by last)
   pub none_told_later : (number : ℕ) (reply : Reply) → IsTakenByBase w client number reply → number ≤ floor_by last

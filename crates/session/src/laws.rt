@@ -28,8 +28,8 @@ ghost use Rattle.session.specs.Requests.{request_answer};
 ghost use Rattle.session.specs.Sessions.{HasDurableQueue, IsUncalled, Sessioned};
 
 /// Each act's `goes_on` says that a settled number stays settled, and these chain: so it is over any list of acts, with
-/// crashes, recoveries, evictions and rotations. A settled number never runs again, and each answer to it, however often
-/// it is sent, is the same.
+/// crashes, recoveries, evictions and rotations. A settled number never runs again, and each answer to it, however
+/// often it is sent, is the same.
 pub fn answers_last()
     ensures none { (s : Sessioned) → SessionGoesOn s s }
     ensures more { (old now new : Sessioned) → SessionGoesOn old now → SessionGoesOn now new → SessionGoesOn old new }

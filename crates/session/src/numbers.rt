@@ -5,8 +5,8 @@ ghost use Rattle.session.specs.Numbers.{by_last, by_number, by_outcome};
 
 use words::{Outcome, Refusal, Reply, Verdict};
 
-/// By a verdict: its reply is given again, and the number that may run is the next one, or, where it took no effect, the
-/// same.
+/// By a verdict: its reply is given again, and the number that may run is the next one, or, where it took no effect,
+/// the same.
 fn answer_after(last: Verdict, number: u64) -> Result<Option<Reply>, Refusal>
     ensures { result ≡ by_outcome last.outcome last.number number }
 {
@@ -21,8 +21,9 @@ fn answer_after(last: Verdict, number: u64) -> Result<Option<Reply>, Refusal>
     }
 }
 
-/// The reply of a client's number, if it is the last one's and that is known, or none, if it is the client's turn to run
-/// it. It is refused where a later number is known (Old), as 0 always is, and where an earlier one is missing (Gap).
+/// The reply of a client's number, if it is the last one's and that is known, or none, if it is the client's turn to
+/// run it. It is refused where a later number is known (Old), as 0 always is, and where an earlier one is missing
+/// (Gap).
 pub(crate) fn answer(last: Option<Verdict>, number: u64) -> Result<Option<Reply>, Refusal>
     ensures { result ≡ by_number last number }
 {

@@ -54,12 +54,12 @@ impl Session {
 
     /// A call with a number, in a log queue, which runs to its end: its reply. The client's last number, sent again, is
     /// answered with the reply that it got, whatever call comes with it, or runs as a new call where it took no effect;
-    /// the next number runs. Room for all of the call is made before it starts, so it never stops half way. It is refused, in
-    /// this order, where there is no such client (NoClient), while the broker recovers (NotReady), where the slot is
-    /// closed (NoQueue), where the queue is durable (WrongKind), where the client has a call under way (Busy), where a
-    /// later number is known (Old), as it is for 0, where an earlier one is missing (Gap), and for want of memory
-    /// (NoMemory); what would run is refused where the number is above [`words::MAX_CALL_NUMBER`] (StaleNumber) or the
-    /// client's records are used up (NoRoom).
+    /// the next number runs. Room for all of the call is made before it starts, so it never stops half way. It is
+    /// refused, in this order, where there is no such client (NoClient), while the broker recovers (NotReady), where
+    /// the slot is closed (NoQueue), where the queue is durable (WrongKind), where the client has a call under way
+    /// (Busy), where a later number is known (Old), as it is for 0, where an earlier one is missing (Gap), and for want
+    /// of memory (NoMemory); what would run is refused where the number is above [`words::MAX_CALL_NUMBER`]
+    /// (StaleNumber) or the client's records are used up (NoRoom).
     pub fn request(
         &mut self,
         client: Client,
@@ -143,7 +143,8 @@ impl Session {
         ensures reply { IfOk result (λ answer. IfSome answer (IsReplyIfNumbered self.new queue.0 client
             (call_number (world_at self.old.broker queue.0) client))) }
         ensures kept { IsKeptNow self.old.kept self.new.kept queue.0 client.0
-            (last_after (call_number (world_at self.old.broker queue.0) client) result (kept_at self.old queue.0 client)) }
+            (last_after (call_number (world_at self.old.broker queue.0) client) result
+            (kept_at self.old queue.0 client)) }
         ensures goes_on { SessionGoesOn self.old self.new }
         ensures queues { BrokerGoesOn self.old.broker self.new.broker }
         ensures promises { KeepsNumbers self.new }

@@ -52,8 +52,8 @@ impl Session {
         &self.broker
     }
 
-    /// The last number of a client in a log queue, and what became of it; nothing, where none is known. While the broker
-    /// recovers or the client has a call under way it is what was heard last.
+    /// The last number of a client in a log queue, and what became of it; nothing, where none is known. While the
+    /// broker recovers or the client has a call under way it is what was heard last.
     pub fn last(&self, client: Client, queue: SlotId) -> Option<Verdict>
         ensures { result ≡ kept_at self.now queue.0 client }
     {

@@ -35,9 +35,11 @@ abbrev pub preparation_from : Kind → Call → Begun → List Write
 preparation_from Durable (Enq value) b = bump b ∷ write (Value (record { 0 = b.token.0 })) value ∷ []
 preparation_from Durable Deq b = bump b ∷ announcement b ∷ []
 preparation_from Log (Enq value) b =
-    bump b ∷ write (Number b.token) b.number ∷ write (EntryKind b.token) ENQUEUE_KIND ∷ write (EntryNode b.token) b.token.0
-    ∷ write (Value (record { 0 = b.token.0 })) value ∷ write (Insert (record { 0 = b.token.0 })) b.token.0 ∷ announcement b ∷ []
-preparation_from Log Deq b = bump b ∷ write (Number b.token) b.number ∷ write (EntryKind b.token) DEQUEUE_KIND ∷ announcement b ∷ []
+    bump b ∷ write (Number b.token) b.number ∷ write (EntryKind b.token) ENQUEUE_KIND
+    ∷ write (EntryNode b.token) b.token.0 ∷ write (Value (record { 0 = b.token.0 })) value
+    ∷ write (Insert (record { 0 = b.token.0 })) b.token.0 ∷ announcement b ∷ []
+preparation_from Log Deq b =
+    bump b ∷ write (Number b.token) b.number ∷ write (EntryKind b.token) DEQUEUE_KIND ∷ announcement b ∷ []
 
 abbrev pub preparation_of : Kind → Begun → List Write
 preparation_of kind b = preparation_from kind b.call b

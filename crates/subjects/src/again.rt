@@ -3,7 +3,7 @@
 use anyhow::Result;
 use arena::SlotId;
 use events::Entry;
-use persist::Change;
+use persist::{Change, HEADER_BYTES, NUMBER_BYTES};
 use std::alloc::Global;
 use std::fmt;
 use words::{Refusal, Reply};
@@ -13,9 +13,6 @@ pub const MOST_TRIES: u32 = 3;
 
 /// Room for what can be seen of a subject, so that one allocation is mostly enough.
 const SEEN_BYTES: usize = 16_384;
-
-/// How many bytes of an image stand before its words.
-const HEADER_BYTES: usize = 12;
 
 /// What a call answers.
 #[derive(Debug, Drop)]
@@ -69,7 +66,7 @@ impl fmt::Debug for Image {
         let Some((_, words)) = self.0.split_first_chunk::<HEADER_BYTES>() else {
             return Ok(());
         };
-        for (word, bytes) in words.as_chunks::<8>().0.iter().enumerate() {
+        for (word, bytes) in words.as_chunks::<NUMBER_BYTES>().0.iter().enumerate() {
             let value = u64::from_le_bytes(*bytes);
             if value != 0 {
                 write!(f, " {word}={value}")?;

@@ -146,7 +146,8 @@ static ACTS: [Act; 9] = [
     Act::Step { client: Client(2) },
 ];
 
-/// Runs the acts, with no room made for them, and ends both calls, the second first, and answers whether all went as it should.
+/// Runs the acts, with no room made for them, and ends both calls, the second first, and answers whether all went as it
+/// should.
 fn goes_right<L: Layout + Drop>(world: &mut World<L>) -> Result<bool, Refusal> {
     let ran = world.run(&ACTS);
     let counted = ran.taken == 5 && ran.refused == 4;

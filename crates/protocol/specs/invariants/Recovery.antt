@@ -126,7 +126,8 @@ AtPoint s m claimed waiting told (RecoveryFlushStatus p) =
     × (s.kind ≡ Log) × (p.entry.0 ≡ p.node.0)
 AtPoint s m claimed waiting told (RecoveryLoadMark p) =
     Same m × Ahead s m.kept claimed false p.cur.0 p.node.0 × (s.kind ≡ Log → statuses m.kept p.node.0 ≡ 1)
-AtPoint s m claimed waiting told (RecoveryLoadValue p) = Same m × Claim s m.kept claimed p.node.0 p.mark.0 × (s.kind ≡ Durable)
+AtPoint s m claimed waiting told (RecoveryLoadValue p) =
+    Same m × Claim s m.kept claimed p.node.0 p.mark.0 × (s.kind ≡ Durable)
 AtPoint s m claimed waiting told (RecoveryStoreResult p) =
     Same m × Claim s m.kept claimed p.node.0 p.mark.0 × (s.kind ≡ Durable → p.value ≡ values m.kept p.node.0)
     × (p.value ≤ MAX_VALUE)
@@ -141,7 +142,8 @@ AtPoint s m claimed waiting told (RecoveryFlushHead p) =
 AtPoint s m claimed waiting told (RecoveryStoreTail p) = Same m × LastNode s m.kept claimed p.cur.0
 AtPoint s m claimed waiting told (RecoveryFlushTail p) =
     SameBut m Tail × record { cur : ℕ; last : LastNode s m.kept claimed cur; cached : m.cached Tail ≡ cur }
-AtPoint s m claimed waiting told (RecoveryLoadAnnouncement p) = Same m × Telling s m.kept claimed waiting p.client.0 told
+AtPoint s m claimed waiting told (RecoveryLoadAnnouncement p) =
+    Same m × Telling s m.kept claimed waiting p.client.0 told
 AtPoint s m claimed waiting told (RecoveryLoadCell p) =
     Same m × Telling s m.kept claimed waiting p.client.0 told × Announced m.kept p.client.0 p.token.0
     × (s.kind ≡ Durable)
