@@ -33,7 +33,7 @@ durable_word s _ = 0
 abbrev pub durable_node_place : ℕ → ℕ → Place
 durable_node_place n field =
     if field == 0 then Value (record { 0 = n })
-        else (if field == 1 then Next (record { 0 = n }) else Mark (record { 0 = n }))
+    else (if field == 1 then Next (record { 0 = n }) else Mark (record { 0 = n }))
 
 abbrev pub durable_place : Shape → ℕ → Option Place
 durable_place s w =

@@ -122,7 +122,7 @@ successor s (RecoveryStoreStatus p) found =
 successor s (RecoveryFlushStatus p) found = More (point_past_status p.cur p.node p.moved)
 successor s (RecoveryLoadMark p) found =
     More (if found == 0 then RecoveryStoreHead (record { cur = p.cur; unclaimed = Some p.node })
-        else to_mark s.kind p.node (token_at found))
+    else to_mark s.kind p.node (token_at found))
 successor s (RecoveryLoadValue p) found =
     More (RecoveryStoreResult (record { node = p.node; mark = p.mark; value = found }))
 successor s (RecoveryStoreResult p) found =
@@ -140,7 +140,7 @@ successor s (RecoveryLoadNumber p) found =
     More (RecoveryLoadKind (record { client = p.client; token = p.token; number = found }))
 successor s (RecoveryLoadKind p) found =
     More (RecoveryLoadStatus
-        (record { client = p.client; token = p.token; number = p.number; is_enqueue = found == ENQUEUE_KIND }))
+    (record { client = p.client; token = p.token; number = p.number; is_enqueue = found == ENQUEUE_KIND }))
 successor s (RecoveryLoadStatus p) found =
     if p.is_enqueue && (found == TAKEN_STATUS) then report_of p.client (taken_as p.number Done)
     else (if (not p.is_enqueue) && (found == EMPTY_STATUS) then report_of p.client (taken_as p.number Empty)

@@ -41,7 +41,7 @@ abbrev pub outcome_by : Shape → (Place → ℕ) → ℕ → Outcome
 outcome_by s kept entry =
     if entry_kinds kept entry == ENQUEUE_KIND then enqueue_outcome (list_any (nat_eq entry) (chain_of s kept))
     else (if statuses kept entry == EMPTY_STATUS then Taken Empty
-        else dequeue_outcome kept (node_claimed_by kept entry (chain_of s kept)))
+    else dequeue_outcome kept (node_claimed_by kept entry (chain_of s kept)))
 
 -- what became of the call that the client announced last
 abbrev pub report_on : Kind → Shape → (Place → ℕ) → ℕ → Told

@@ -166,18 +166,18 @@ Knows s m l i (DequeueClaim p) =
     × (values m.kept p.next.0 ≡ p.value)
 Knows s m l i (DequeueFlushClaim p) =
     Claimer s m l i p.claimed.token p.claimed.claim × Claims m p.claimed.first.0 p.claimed.next.0
-        × (values m.kept p.claimed.next.0 ≡ p.claimed.value)
+    × (values m.kept p.claimed.next.0 ≡ p.claimed.value)
     × (marks m.cached p.claimed.next.0 ≡ (winner p.claimed.claim p.claimed.token).0)
     × ((winner p.claimed.claim p.claimed.token).0 ≢ 0)
 Knows s m l i (DequeueStoreResult p) =
     Claimer s m l i p.claimed.token p.claimed.claim
-        × Claimed m p.claimed.first.0 p.claimed.next.0 p.claimed.value (winner p.claimed.claim p.claimed.token).0
+    × Claimed m p.claimed.first.0 p.claimed.next.0 p.claimed.value (winner p.claimed.claim p.claimed.token).0
 Knows s m l i (DequeueFlushResult p) =
     Claimer s m l i p.claimed.token p.claimed.claim
-        × Claimed m p.claimed.first.0 p.claimed.next.0 p.claimed.value (winner p.claimed.claim p.claimed.token).0
+    × Claimed m p.claimed.first.0 p.claimed.next.0 p.claimed.value (winner p.claimed.claim p.claimed.token).0
     × IsWritten m.cached (result_of s.kind (winner p.claimed.claim p.claimed.token) p.claimed.next p.claimed.value)
 Knows s m l i (DequeueMoveHead p) =
     Claimer s m l i p.claimed.token p.claimed.claim
-        × Claimed m p.claimed.first.0 p.claimed.next.0 p.claimed.value (winner p.claimed.claim p.claimed.token).0
+    × Claimed m p.claimed.first.0 p.claimed.next.0 p.claimed.value (winner p.claimed.claim p.claimed.token).0
     × IsWritten m.cached (result_of s.kind (winner p.claimed.claim p.claimed.token) p.claimed.next p.claimed.value)
     × IsWritten m.kept (result_of s.kind (winner p.claimed.claim p.claimed.token) p.claimed.next p.claimed.value)
