@@ -1,11 +1,11 @@
 #!/usr/bin/env bash
 # What no proof can see of pqx: what the built program writes on standard output and on standard error, and its status,
 # on good and bad command lines, scripts, inputs and outputs, compared to the letter. It takes the program that the last
-# `rt ci`, or `rt run` in crates/pqx, left.
+# `rt ci`, or `rt run` in crates/pqx, left, or the one that PQX names.
 set -eu
 cd "$(dirname "$0")/.."
 . tests/cases.sh
-pqx=$PWD/crates/pqx/out/pqx
+pqx=${PQX:-$PWD/crates/pqx/out/pqx}
 need "$pqx"
 data=crates/scenarios/data
 

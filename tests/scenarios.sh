@@ -1,11 +1,11 @@
 #!/usr/bin/env bash
 # What `rt ci` cannot see of the scenarios: that the program played each of them, that it fails where one differs, and
 # that the examples which the README names are among them. It takes the program that the last `rt ci`, or `rt run` in
-# crates/scenarios, left.
+# crates/scenarios, left, or the one that SCENARIOS names.
 set -eu
 cd "$(dirname "$0")/.."
 . tests/cases.sh
-scenarios=$PWD/crates/scenarios/out/scenarios
+scenarios=${SCENARIOS:-$PWD/crates/scenarios/out/scenarios}
 data=crates/scenarios/data
 need "$scenarios"
 
