@@ -5,7 +5,7 @@
 set -eu
 cd "$(dirname "$0")"
 . ./keeping.sh
-cd "../crates/load"
+cd "../crates/bench_load"
 rt run > /dev/null 2>&1
 
 # Acts a second and calls a second, by the best of 300 turns of 4,000 acts in the best of four runs, as a run may share

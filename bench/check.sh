@@ -2,7 +2,7 @@
 # Time of the checker on a made history of 2n events over that on n events, for n = 2,000 and 4 and 16 clients: at most
 # 2.2. And its plain twin's time over its own, at n = 2,000. Printed, not tested.
 set -eu
-cd "$(dirname "$0")/../crates/load"
+cd "$(dirname "$0")/../crates/bench_load"
 rt run > /dev/null 2>&1
 
 # Seconds of a check, the best of five times, a run without checks taken off: BODY CLIENTS EVENTS TURNS.

@@ -2,7 +2,7 @@
 # Crashes a second of a memory of 1,000 words and of one of 600,000, four words being changed before each: a crash costs
 # what was changed, so the one over the other is at most 1.5. Printed, not tested.
 set -eu
-cd "$(dirname "$0")/../crates/load"
+cd "$(dirname "$0")/../crates/bench_load"
 rt run > /dev/null 2>&1
 
 # Nanoseconds of a crash, with the stores before it, by the best of 50 turns in the best of four runs: WORDS.

@@ -2,7 +2,7 @@
 # Recovery's steps after a crash with 2n values in the queue over those with n, and its time over its time: at most 2.1.
 # And a crash's time in a memory of 2w words over that of w, and in nanoseconds a word. Printed, not tested.
 set -eu
-cd "$(dirname "$0")/../crates/load"
+cd "$(dirname "$0")/../crates/bench_load"
 rt run > /dev/null 2>&1
 
 # Steps, nanoseconds of the crash, nanoseconds of recovery, each by the best of 200 turns in the best of six runs, as a run

@@ -6,7 +6,7 @@
 set -eu
 cd "$(dirname "$0")"
 . ./keeping.sh
-cd "../crates/load"
+cd "../crates/bench_load"
 rt run > /dev/null 2>&1
 
 # Nanoseconds of 4,000 acts with 1,000 behind, by the best of 300 turns: acts or slots, KIND CLIENTS.

@@ -5,7 +5,7 @@
 set -eu
 cd "$(dirname "$0")"
 . ./keeping.sh
-cd "../crates/crowd"
+cd "../crates/bench_crowd"
 rt run > /dev/null 2>&1
 
 # Nanoseconds, calls and acts of the best of ten turns of 4,000 calls a client, after QUEUES and who makes them. All in

@@ -1,5 +1,5 @@
 #!/usr/bin/env bash
-# What no clause says of refused memory: each allocation of crates/refusals and crates/shared_refusals is refused in turn,
+# What no clause says of refused memory: each allocation of crates/test_refusals and crates/test_shared_refusals is refused in turn,
 # and the program ends as where none is, but for the lines that say what was refused. These name every call that can be
 # refused memory, and each is made again. The parts of a story are told one at a time, so that a refusal costs that part
 # alone. Then pqx and pqd are run so: each does what it would, or says that there is no memory. It takes the programs that
@@ -7,8 +7,8 @@
 set -eu
 cd "$(dirname "$0")/.."
 . tests/cases.sh
-refusals=${REFUSALS:-$PWD/crates/refusals/out/refusals}
-shared_refusals=${SHARED_REFUSALS:-$PWD/crates/shared_refusals/out/shared_refusals}
+refusals=${REFUSALS:-$PWD/crates/test_refusals/out/refusals}
+shared_refusals=${SHARED_REFUSALS:-$PWD/crates/test_shared_refusals/out/shared_refusals}
 pqx=${PQX:-$PWD/crates/pqx/out/pqx}
 pqd=${PQD:-$PWD/crates/pqd/out/pqd}
 need "$refusals" "$shared_refusals" "$pqx" "$pqd"
@@ -70,8 +70,8 @@ tell_all() {
 }
 
 growths=0
-program=$refusals tell_all crates/refusals memories histories worlds brokers scripts
-program=$shared_refusals tell_all crates/shared_refusals sessions shareds desks
+program=$refusals tell_all crates/test_refusals memories histories worlds brokers scripts
+program=$shared_refusals tell_all crates/test_shared_refusals sessions shareds desks
 printf 'growths refused: %d\n' "$growths"
 
 # Each call that can be refused was seen to be, and no other one.
@@ -115,8 +115,8 @@ refuse() {
     printf '%s: %d of %d allocations refused are said\n' "$name" "$refused" "$(cat "$work/count")"
 }
 refuse 'pqx run' examples/kept.script "$pqx" run
-refuse 'pqx points' crates/scenarios/data/points-log-enqueue.script "$pqx" points
-refuse 'pqx alone' crates/scenarios/data/points-log-enqueue.script "$pqx" alone
+refuse 'pqx points' crates/test_scenarios/data/points-log-enqueue.script "$pqx" points
+refuse 'pqx alone' crates/test_scenarios/data/points-log-enqueue.script "$pqx" alone
 printf '%s\n' '{"op":"create","queue":"a","kind":"log"}' '{"op":"put","client":0,"queue":"a","number":1,"value":9}' \
     '{"op":"take","client":0,"queue":"a","number":2}' '{"op":"crash"}' '{"op":"recover"}' '{"op":"stop"}' > "$work/in"
 refuse 'pqd pipe' "$work/in" "$pqd" pipe

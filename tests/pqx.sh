@@ -7,7 +7,7 @@ cd "$(dirname "$0")/.."
 . tests/cases.sh
 pqx=${PQX:-$PWD/crates/pqx/out/pqx}
 need "$pqx"
-data=crates/scenarios/data
+data=crates/test_scenarios/data
 
 # Runs pqx with these words on the standard input that it was given. What is wanted stands in tests/pqx/NAME.out and
 # NAME.err, where there is no such file nothing: NAME STATUS WORD..

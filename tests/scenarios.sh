@@ -1,12 +1,12 @@
 #!/usr/bin/env bash
 # What `rt ci` cannot see of the scenarios: that the program played each of them, that it fails where one differs, and
 # that the examples which the README names are among them. It takes the program that the last `rt ci`, or `rt run` in
-# crates/scenarios, left, or the one that SCENARIOS names.
+# crates/test_scenarios, left, or the one that SCENARIOS names.
 set -eu
 cd "$(dirname "$0")/.."
 . tests/cases.sh
-scenarios=${SCENARIOS:-$PWD/crates/scenarios/out/scenarios}
-data=crates/scenarios/data
+scenarios=${SCENARIOS:-$PWD/crates/test_scenarios/out/scenarios}
+data=crates/test_scenarios/data
 need "$scenarios"
 
 # Plays a folder's scenarios, and compares what it says with $work/wanted, and its status: NAME STATUS FOLDER

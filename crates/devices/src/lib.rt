@@ -6,8 +6,6 @@ mod counted;
 mod device;
 mod faulty;
 mod limits;
-#[cfg(test)]
-mod tests;
 mod transfer;
 
 pub use counted::{CountedReader, CountedWriter};

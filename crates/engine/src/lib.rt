@@ -10,8 +10,6 @@ mod output;
 mod reading;
 mod reply;
 mod serving;
-#[cfg(test)]
-mod tests;
 
 pub use desk::Desk;
 pub use limits::MAX_LINE;

@@ -1,3 +1,4 @@
+pub use Rattle.persist.specs.Memory
 pub mod Blocks
 pub mod Slots
 pub mod Each

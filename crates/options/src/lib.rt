@@ -10,8 +10,6 @@ mod number;
 mod pqx;
 mod pqx_commands;
 mod pqx_line;
-#[cfg(test)]
-mod tests;
 
 pub use asked::{Listening, Mode, Options};
 pub use limits::{

@@ -3,7 +3,7 @@
 
 ghost use Rattle.std.specs.Prelude.{◌≡◌, IfOk};
 ghost use Rattle.std.specs.IoError.{error_kind};
-ghost use Rattle.session.specs.Sessions.{IsUncalled};
+ghost use Rattle.server.specs.Sessions.{IsUncalled};
 ghost use Rattle.words.specs.declared.refusal.Refusal.TheVariants.{NoMemory};
 ghost use Rattle.pqd.specs.Faults.{refusal_of_system};
 ghost use Rattle.pqd.specs.declared.Fault.TheVariants.{Refused};

@@ -5,8 +5,6 @@ mod answer;
 mod limits;
 mod pieces;
 mod queues;
-#[cfg(test)]
-mod tests;
 mod told;
 
 pub use answer::{Text, append_line, refusal_text, text_of};

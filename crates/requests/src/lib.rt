@@ -5,8 +5,6 @@ mod laws;
 mod line;
 mod members;
 mod rows;
-#[cfg(test)]
-mod tests;
 
 pub use laws::requests_can_be_asked;
 pub use line::request;

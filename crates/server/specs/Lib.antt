@@ -1,3 +1,4 @@
+pub use Rattle.session.specs.Sessions
 pub mod Image
 pub mod Piping
 pub mod Opening

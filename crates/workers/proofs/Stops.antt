@@ -9,7 +9,7 @@ use Rattle.words.specs.declared.call.Client.{Client}
 use Rattle.words.specs.declared.refusal.Refusal.{Refusal}
 use Rattle.words.specs.declared.refusal.Refusal.TheVariants.{Busy, NoMemory, NotReady}
 use Rattle.words.specs.declared.told.Told.{Told}
-use Rattle.persist.specs.Memory.{Words}
+use Rattle.named.specs.Memory.{Words}
 use Rattle.arena.specs.declared.broker.SlotId.{SlotId}
 use Rattle.stepper.specs.declared.resume.After.{After}
 use Rattle.stepper.specs.declared.resume.After.TheVariants.{More, Done}

@@ -1,7 +1,7 @@
 -- The name of nothing: no roll, and a session that has no queue.
 use Rattle.std.specs.Prelude.{[], None}
-use Rattle.atomic_table.specs.Seated.{TableId}
-use Rattle.persist.specs.Memory.{words_at_rest}
+use Rattle.roll.specs.Seated.{TableId}
+use Rattle.named.specs.Memory.{words_at_rest}
 use Rattle.named.specs.Brokers.{Brokered}
 use Rattle.session.specs.Sessions.{Sessioned}
 

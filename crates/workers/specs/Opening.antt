@@ -1,6 +1,6 @@
 -- Which sessions may be shared, and under which name.
 use Rattle.std.specs.Prelude.{◌≡◌, ◌⊎◌, ℕ, true, false, Ok, Some}
-use Rattle.atomic_table.specs.Seated.{TableId}
+use Rattle.roll.specs.Seated.{TableId}
 use Rattle.words.specs.declared.call.Client.{Client}
 use Rattle.interleave.specs.Verdicts.{number_under_way}
 use Rattle.named.specs.Brokers.{Brokered, answer_at, is_creating}

@@ -6,7 +6,7 @@ use std::marker::Brand;
 /// that is generic in its name picks one for what it opens.
 pub trait Naming {
     ghost use Rattle.std.specs.Prelude.{ℕ};
-    ghost use Rattle.atomic_table.specs.Seated.{TableId};
+    ghost use Rattle.roll.specs.Seated.{TableId};
     ghost use Rattle.session.specs.Sessions.{Sessioned};
 
     /// The roll of the seats' lists.

@@ -1,0 +1,8 @@
+use Rattle.bench_crowd.proofs.threads.shared.Given as goal
+
+abbrev pub ghosts-turn : goal.ghosts-turn
+ghosts-turn g a = record {
+  roll = a.opened.roll;
+  clients = a.opened.session.broker.counts.clients;
+  first = a.opened.session;
+}

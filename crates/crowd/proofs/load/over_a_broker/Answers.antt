@@ -1,5 +1,0 @@
-use Rattle.session.proofs.Uncalled.{uncalled_new}
-use Rattle.crowd.proofs.load.over_a_broker.Goals as goal
-
-pub open-requires : goal.open-requires
-open-requires c = uncalled_new _ _ c.in_ok-make.ensures.made

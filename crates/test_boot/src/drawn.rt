@@ -1,0 +1,133 @@
+//! Drawn acts with crashes and recovery: the order explains what happened, and the queue holds what its replay leaves.
+
+use crate::beginnings::{begins_with, copy};
+use arena::{DurableLayout, Layout, LogLayout};
+use test_support::index_below;
+use history::{Event, check_content};
+use interleave::{Act, World};
+use rand_core::Rng;
+use rand_pcg::Pcg32;
+use std::alloc::Global;
+use std::test::Fail;
+use words::{Call, Client, Refusal};
+
+/// How many acts a world is drawn.
+const ACTS: usize = 600;
+
+/// A start of a drawn call, with a number that is no client's yet.
+fn start(rng: &mut Pcg32, client: Client, number: u64) -> Act {
+    let value = rng.next_u32();
+    let call = if value % 2 == 0 {
+        Call::Enq(value)
+    } else {
+        Call::Deq
+    };
+    Act::Start {
+        client,
+        number,
+        call,
+    }
+}
+
+/// A drawn act, most often one that goes on.
+fn act(rng: &mut Pcg32, clients: usize, words: usize, number: u64, down: bool) -> Act {
+    let client = Client(index_below(rng, clients).min(15) as u8);
+    match index_below(rng, 64) {
+        0 => Act::Crash,
+        1..=4 => Act::Evict {
+            at: index_below(rng, words),
+        },
+        5..=14 => start(rng, client, number),
+        15..=16 => Act::Recover,
+        _ if down => Act::Recover,
+        _ => Act::Step { client },
+    }
+}
+
+/// Whether the order explains the history, and the queue holds what its replay leaves.
+pub(crate) fn is_explained<L: Layout + Drop>(
+    alloc: Global,
+    world: &World<L>,
+) -> Result<bool, Refusal> {
+    check_content(alloc, world.history(), &world.order()?, &world.content()?)
+}
+
+/// How often the queue became ready again.
+fn recoveries<L: Layout + Drop>(world: &World<L>) -> usize {
+    let mut count = 0usize;
+    for event in world.history().events.as_slice() {
+        if let Event::Ready { .. } = event {
+            count = count.saturating_add(1);
+        }
+    }
+    count
+}
+
+/// So many drawn acts happen, whose calls have greater numbers than this, and it answers whether all is explained
+/// after every hundredth of them.
+pub(crate) fn happen<L: Layout + Drop>(
+    alloc: Global,
+    world: &mut World<L>,
+    rng: &mut Pcg32,
+    above: usize,
+) -> Result<bool, Refusal> {
+    let clients = world.layout().clients() as usize;
+    let words = world.layout().size();
+    for made in 1..=ACTS {
+        let number = above.saturating_add(made) as u64;
+        let act = act(rng, clients, words, number, world.is_down());
+        world.reserve(1)?;
+        world.run([act].as_slice());
+        if made % 100 == 0 && !is_explained(alloc, world)? {
+            return Ok(false);
+        }
+    }
+    Ok(true)
+}
+
+/// Drawn acts in a new world, and then in one that begins on what that one keeps: how often both recovered, if all is
+/// explained, and the second begins with what the first one holds.
+fn drawn<L: Layout + Drop>(
+    alloc: Global,
+    first: L,
+    second: L,
+    draw: u64,
+) -> Result<Option<usize>, Refusal> {
+    let mut rng = Pcg32::new(draw, 11);
+    let mut old = World::make(alloc, first)?;
+    let mut right = happen(alloc, &mut old, &mut rng, 0)?;
+    let mut new = World::boot(alloc, second, copy(alloc, old.memory())?)?;
+    right &= begins_with(&old, &new)?;
+    right &= happen(alloc, &mut new, &mut rng, ACTS)?;
+    if !right {
+        return Ok(None);
+    }
+    Ok(Some(recoveries(&old).saturating_add(recoveries(&new))))
+}
+
+/// How often the worlds of both kinds of this draw recovered.
+fn drawn_on_both(alloc: Global, draw: u64) -> Result<Option<usize>, Refusal> {
+    let clients = (draw % 4) as u32 + 1;
+    let layout = DurableLayout::make(clients, 20)?;
+    let durable = drawn(alloc, layout, layout, draw)?;
+    let layout = LogLayout::make(clients, 20)?;
+    let log = drawn(alloc, layout, layout, draw)?;
+    Ok(match (durable, log) {
+        (Some(one), Some(other)) => Some(one.saturating_add(other)),
+        _ => None,
+    })
+}
+
+#[test]
+fn drawn_worlds_are_explained(rt: HostRuntime) -> Result<(), Fail> {
+    let mut count = 0usize;
+    for draw in 0..40 {
+        match drawn_on_both(rt.alloc(), draw) {
+            Ok(Some(more)) => count = count.saturating_add(more),
+            Ok(None) => return Err(Fail::new(draw)),
+            Err(refusal) => panic!(rt; "{refusal} in draw {draw}"),
+        }
+    }
+    assert!(rt; count > 400, "recovered {count} times");
+    Ok(())
+}

@@ -1,0 +1,250 @@
+//! Drawn histories, right and wrong, on which both checkers agree.
+
+use test_support::index_below;
+use history::{Entry, Event, History, Order, Sequence, check, check_plainly};
+use rand_core::Rng;
+use rand_pcg::Pcg32;
+use std::alloc::Global;
+use std::test::Fail;
+use words::{Call, Client, Kind, Outcome, Reply, Row, Told, Verdict};
+
+/// A call under way, and its reply once it took effect.
+#[derive(Clone, Copy)]
+struct UnderWay {
+    client: u8,
+    number: u64,
+    call: Call,
+    place: usize,
+    reply: Option<Reply>,
+}
+
+/// A queue's clients, and what became of their calls.
+#[derive(Drop)]
+struct Scene {
+    kind: Kind,
+    events: Vec<Event>,
+    entries: Vec<Entry>,
+    queue: Vec<u32>,
+    under_way: Vec<UnderWay>,
+    told: [Told; 16],
+    down: bool,
+}
+
+impl Scene {
+    fn new(alloc: Global, kind: Kind) -> Scene {
+        Scene {
+            kind,
+            events: Vec::new(alloc),
+            entries: Vec::new(alloc),
+            queue: Vec::new(alloc),
+            under_way: Vec::new(alloc),
+            told: [Told::None; 16],
+            down: false,
+        }
+    }
+
+    /// A client calls, if it has no call under way.
+    fn call(&mut self, client: u8, value: u32) -> Result<(), Fail> {
+        if self.down || self.under_way.iter().any(|one| one.client == client) {
+            return Ok(());
+        }
+        let place = self.events.len();
+        let number = match self.kind {
+            Kind::Durable => 0,
+            Kind::Log => place as u64 + 1,
+        };
+        let call = if value % 2 == 0 {
+            Call::Enq(value)
+        } else {
+            Call::Deq
+        };
+        self.events.push(Event::Call {
+            client: Client(client),
+            number,
+            call,
+        })?;
+        self.under_way.push(UnderWay {
+            client,
+            number,
+            call,
+            place,
+            reply: None,
+        })?;
+        Ok(())
+    }
+
+    /// What the queue answers.
+    fn answer(&mut self, call: Call) -> Result<Reply, Fail> {
+        match call {
+            Call::Enq(value) => {
+                self.queue.push(value)?;
+                Ok(Reply::Done)
+            }
+            Call::Deq if self.queue.is_empty() => Ok(Reply::Empty),
+            Call::Deq => Ok(Reply::Got(self.queue.remove(0))),
+        }
+    }
+
+    /// A client is told from now on that its call took effect with this reply, or that it did not.
+    fn tell(&mut self, one: UnderWay, outcome: Outcome) {
+        let told = match (self.kind, outcome, one.call) {
+            (Kind::Log, _, _) => Told::Verdict(Verdict {
+                number: one.number,
+                outcome,
+            }),
+            (_, _, Call::Enq(_)) => return,
+            (_, Outcome::Taken(Reply::Got(value)), _) => Told::Row(Row::Got(value)),
+            (_, Outcome::Taken(_), _) => Told::Row(Row::Empty),
+            (_, Outcome::NotTaken, _) => Told::Row(Row::Open),
+        };
+        if let Some(place) = self.told.get_mut(one.client as usize) {
+            *place = told;
+        }
+    }
+
+    /// The call takes effect, or if it did it returns.
+    fn go_on(&mut self, index: usize) -> Result<(), Fail> {
+        if index >= self.under_way.len() {
+            return Ok(());
+        }
+        let mut one = self.under_way.remove(index);
+        if let Some(reply) = one.reply {
+            self.events.push(Event::Return {
+                client: Client(one.client),
+                reply,
+            })?;
+            return Ok(());
+        }
+        let reply = self.answer(one.call)?;
+        self.entries.push(Entry {
+            place: one.place,
+            reply,
+        })?;
+        self.tell(one, Outcome::Taken(reply));
+        one.reply = Some(reply);
+        self.under_way.push(one)?;
+        Ok(())
+    }
+
+    /// Everything stops, or if it did it is ready again.
+    fn stop_or_ready(&mut self) -> Result<(), Fail> {
+        if self.down {
+            self.down = false;
+            self.events.push(Event::Ready { told: self.told })?;
+            return Ok(());
+        }
+        self.down = true;
+        self.events.push(Event::Crash)?;
+        for _ in 0..self.under_way.len() {
+            let Some(one) = self.under_way.pop() else {
+                break;
+            };
+            if one.reply.is_none() {
+                self.tell(one, Outcome::NotTaken);
+            }
+        }
+        Ok(())
+    }
+
+    fn step(&mut self, rng: &mut Pcg32, clients: usize) -> Result<(), Fail> {
+        let value = rng.next_u32() % 8;
+        match index_below(rng, 16) {
+            0 => self.stop_or_ready(),
+            1 if self.down => self.stop_or_ready(),
+            2..=6 => self.call(index_below(rng, clients).min(15) as u8, value),
+            _ => {
+                let index = index_below(rng, self.under_way.len());
+                self.go_on(index)
+            }
+        }
+    }
+
+    /// Changes something that may be wrong then.
+    fn spoil(&mut self, rng: &mut Pcg32) {
+        let (i, j) = (
+            index_below(rng, self.entries.len()),
+            index_below(rng, self.entries.len()),
+        );
+        let k = index_below(rng, self.events.len());
+        match index_below(rng, 6) {
+            0 if i < self.entries.len() && j < self.entries.len() => self.entries.swap(i, j),
+            1 if i < self.entries.len() => {
+                let _entry = self.entries.remove(i);
+            }
+            2 if i < self.entries.len() => self.entries[i].reply = Reply::Got(2),
+            3 if i < self.entries.len() => self.entries[i].place = k,
+            4 if k < self.events.len() => {
+                let _event = self.events.remove(k);
+            }
+            5 if k < self.events.len() => self.events[k] = Event::Crash,
+            _ => {}
+        }
+    }
+
+    /// What both checkers answer, if they agree.
+    fn checked(self) -> Option<bool> {
+        let history = History {
+            base: Sequence::from_vec(self.queue),
+            told: [Told::None; 16],
+            events: Sequence::from_vec(self.events),
+        };
+        let order = Order {
+            entries: Sequence::from_vec(self.entries),
+        };
+        let fast = check(&history, &order);
+        if fast == check_plainly(&history, &order) {
+            Some(fast)
+        } else {
+            None
+        }
+    }
+}
+
+/// What both checkers answer of a drawn history, spoiled so many times.
+fn drawn(alloc: Global, kind: Kind, draw: u64, spoils: usize) -> Result<Option<bool>, Fail> {
+    let mut rng = Pcg32::new(draw, 7);
+    let mut scene = Scene::new(alloc, kind);
+    let clients = index_below(&mut rng, 4).saturating_add(1);
+    for _ in 0..48 {
+        scene.step(&mut rng, clients)?;
+    }
+    for _ in 0..spoils {
+        scene.spoil(&mut rng);
+    }
+    scene.queue.clear();
+    Ok(scene.checked())
+}
+
+#[test]
+fn drawn_histories_are_explained(rt: HostRuntime) -> Result<(), Fail> {
+    for draw in 0..100 {
+        assert_eq!(rt;
+            drawn(rt.alloc(), Kind::Durable, draw, 0)?,
+            Some(true),
+            "durable {draw}"
+        );
+        assert_eq!(rt;
+            drawn(rt.alloc(), Kind::Log, draw, 0)?,
+            Some(true),
+            "log {draw}"
+        );
+    }
+    Ok(())
+}
+
+#[test]
+fn both_checkers_agree_on_spoiled_ones(rt: HostRuntime) -> Result<(), Fail> {
+    let mut right = 0u32;
+    let mut wrong = 0u32;
+    for draw in 0..200 {
+        for kind in [Kind::Durable, Kind::Log] {
+            match drawn(rt.alloc(), kind, draw, 1)? {
+                Some(true) => right = right.saturating_add(1),
+                Some(false) => wrong = wrong.saturating_add(1),
+                None => return Err(Fail::new(draw)),
+            }
+        }
+    }
+    assert!(rt; right > 20 && wrong > 200, "{right} right, {wrong} wrong");
+    Ok(())
+}

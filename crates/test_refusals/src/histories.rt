@@ -1,0 +1,114 @@
+//! Histories and orders: what takes memory of them without a world.
+
+ghost use Rattle.std.specs.Prelude.{◌<◌, OnOk};
+
+use anyhow::Result;
+use history::{Effect, Event, History, Order, Sequence, check, order, replay};
+use test_growths::{MOST_TRIES, made, say_again};
+use words::{Call, Client, Refusal, Reply, Told};
+
+const EVENTS: [Event; 7] = [
+    Event::Call {
+        client: Client(0),
+        number: 1,
+        call: Call::Enq(7),
+    },
+    Event::Call {
+        client: Client(1),
+        number: 1,
+        call: Call::Deq,
+    },
+    Event::Return {
+        client: Client(0),
+        reply: Reply::Done,
+    },
+    Event::Return {
+        client: Client(1),
+        reply: Reply::Got(7),
+    },
+    Event::Call {
+        client: Client(1),
+        number: 2,
+        call: Call::Deq,
+    },
+    Event::Call {
+        client: Client(0),
+        number: 2,
+        call: Call::Enq(8),
+    },
+    Event::Crash,
+];
+
+/// The third one is pending, and in no order.
+static EFFECTS: [Effect; 4] = [
+    Effect {
+        place: 0,
+        reply: Reply::Done,
+        moment: 2,
+        settled: true,
+    },
+    Effect {
+        place: 1,
+        reply: Reply::Got(7),
+        moment: 3,
+        settled: true,
+    },
+    Effect {
+        place: 4,
+        reply: Reply::Empty,
+        moment: 5,
+        settled: false,
+    },
+    Effect {
+        place: 5,
+        reply: Reply::Done,
+        moment: 6,
+        settled: true,
+    },
+];
+
+/// Makes room for an event more.
+fn make_room<R: Print>(rt: &R, events: &mut Sequence<Event>) -> Result<()>
+    ensures { OnOk result (0 < events.new.room) }
+{
+    for _ in 0..MOST_TRIES {
+        let before = events.len();
+        if events.reserve(1).is_ok() {
+            return Ok(());
+        }
+        say_again(rt, "Sequence::reserve", before == events.len())?;
+    }
+    Err(Refusal::NoMemory.into())
+}
+
+/// The events one after another.
+fn filled<R: Print + AllocGlobal>(rt: &R) -> Result<Sequence<Event>> {
+    let mut events = Sequence::new(rt.alloc());
+    let all = EVENTS;
+    for event in all {
+        make_room(rt, &mut events)?;
+        events.push(event);
+    }
+    Ok(events)
+}
+
+/// A history whose effects are put in order, replayed and checked.
+pub(crate) fn tell<R: Print + AllocGlobal>(rt: &R) -> Result<()> {
+    println!(rt; "# A history")?;
+    let alloc = rt.alloc();
+    let history = History {
+        base: Sequence::new(alloc),
+        told: [Told::None; 16],
+        events: filled(rt)?,
+    };
+    println!(rt; "events: {:?}", history.events.as_slice())?;
+    let entries = made(rt, "events::order", || order(alloc, &EFFECTS))?;
+    let order = Order {
+        entries: Sequence::from_vec(entries),
+    };
+    println!(rt; "order: {:?}", order.entries.as_slice())?;
+    let left = made(rt, "history::replay", || replay(alloc, &history, &order))?;
+    println!(rt; "left: {left:?}")?;
+    println!(rt; "explained: {}", check(&history, &order))?;
+    Ok(())
+}

@@ -1,0 +1,57 @@
+//! Calls that are refused memory, of sessions, shared sessions and desks: a story in parts, as that of `refusals`. A
+//! shared call that is refused a step is left unfinished, and gone on with. tests/memory.sh refuses each allocation in
+//! turn. Lines that begin with `again`, `unfinished` or `busy` say what was refused.
+#![tactic(auto)]
+
+mod calls;
+mod desks;
+mod pipes;
+mod seats;
+mod sessions;
+mod shareds;
+
+use anyhow::Result;
+use std::sync::Wait;
+use test_growths::command_line;
+
+/// A part of the story.
+#[derive(Clone, Copy)]
+enum Part {
+    Sessions,
+    Shareds,
+    Desks,
+}
+
+/// The parts in their order, with the names that a command line has for them.
+static PARTS: [(&str, Part); 3] = [
+    ("sessions", Part::Sessions),
+    ("shareds", Part::Shareds),
+    ("desks", Part::Desks),
+];
+
+/// Tells a part.
+fn tell<R: Wait + Print + AllocGlobal>(rt: &R, part: Part) -> Result<()> {
+    match part {
+        Part::Sessions => sessions::tell(rt),
+        Part::Shareds => shareds::tell(rt),
+        Part::Desks => {
+            let image = pipes::tell(rt)?;
+            desks::tell(rt, &image)
+        }
+    }
+}
+
+/// Tells the part of this name, or all where there is none.
+fn tell_named<R: Wait + Print + AllocGlobal>(rt: &R, wanted: Option<&str>) -> Result<()> {
+    for (name, part) in &PARTS {
+        if wanted.is_none_or(|wanted| wanted == *name) {
+            tell(rt, *part)?;
+        }
+    }
+    Ok(())
+}
+
+fn main(rt: HostRuntime) -> Result<()> {
+    let words = command_line(&rt, rt.alloc())?;
+    tell_named(&rt, words.get(1).map(|word| word.as_str()))
+}

@@ -1,0 +1,61 @@
+//! What tests over brokers look at, and pass over.
+#![tactic(auto)]
+
+ghost use Rattle.std.specs.Prelude.{◌≡◌, ◌↔◌, slice_get, true, IfErr, IfOk, IsErrOf};
+ghost use Rattle.named.specs.Brokers.{world_at};
+ghost use Rattle.named.specs.Slots.{IsWhyUnread};
+ghost use Rattle.test_support.specs.Calls.{caller_of};
+
+use arena::{SLOTS, SlotId};
+use history::{Event, check_content};
+use named::Broker;
+use std::alloc::Global;
+use words::Refusal;
+
+/// Whether the order of the slot's queue explains its history, and the queue holds what its replay leaves, by the
+/// checker: so it is of every broker. It is refused, in this order, where the slot is closed (NoQueue), and for want of
+/// memory (NoMemory).
+pub fn is_explained(alloc: Global, broker: &Broker, slot: SlotId) -> Result<bool, Refusal>
+    ensures right { IfOk result (λ right. right ≡ true) }
+    ensures errors { IfErr result (IsWhyUnread (world_at broker.now slot.0)) }
+{
+    let order = broker.order(slot)?;
+    let content = broker.content(slot)?;
+    check_content(alloc, broker.history(slot)?, &order, &content)
+}
+
+/// Whether each queue of the broker is explained. It is refused for want of memory alone (NoMemory).
+pub fn are_explained(alloc: Global, broker: &Broker) -> Result<bool, Refusal>
+    ensures right { IfOk result (λ right. right ≡ true) }
+    ensures errors { IfErr result (λ refusal. refusal ≡ Refusal.NoMemory) }
+{
+    let mut right = true;
+    for slot in 0..SLOTS as u8 {
+        right &= match is_explained(alloc, broker, SlotId(slot)) {
+            Err(Refusal::NoQueue) => true,
+            explained => explained?,
+        };
+    }
+    Ok(right)
+}
+
+/// The client and the number of the call at this place of a history, if there is one.
+pub fn call_at(events: &[Event], place: usize) -> Option<(usize, u64)>
+    ensures { result ≡ caller_of (slice_get events.now place) }
+{
+    match events.get(place) {
+        Some(Event::Call { client, number, .. }) => Some((client.0 as usize, *number)),
+        _ => None,
+    }
+}
+
+/// An act that a rule refuses is passed over; want of memory is not.
+pub fn pass_over<T: Drop>(answer: Result<T, Refusal>) -> Result<(), Refusal>
+    ensures memory { IsErrOf result Refusal.NoMemory ↔ IsErrOf answer Refusal.NoMemory }
+    ensures errors { IfErr result (λ refusal. refusal ≡ Refusal.NoMemory) }
+{
+    match answer {
+        Err(Refusal::NoMemory) => Err(Refusal::NoMemory),
+        _ => Ok(()),
+    }
+}

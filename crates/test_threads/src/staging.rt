@@ -1,0 +1,53 @@
+//! How a test's session comes to be shared under a name, and what is looked at when it is taken back.
+
+ghost use Rattle.std.specs.Prelude.{◌≡◌, IfOk};
+ghost use Rattle.workers.specs.Opening.{IsNameOf};
+ghost use Rattle.workers.specs.Seats.{AreAllInOrder};
+
+use crate::lists::{Lengths, are_accounted_for, copied};
+use session::Session;
+use std::alloc::Global;
+use std::test::Fail;
+use test_support::are_explained;
+use workers::{Entry, Naming, Opened, Seat, Shared};
+
+/// What is left of a shared session: the session that was taken back, and the lists of the clients.
+#[derive(Drop)]
+pub(crate) struct Played {
+    pub(crate) session: Session,
+    pub(crate) lists: Vec<Vec<Entry>>,
+}
+
+/// The shared session under its name, and all seats.
+pub(crate) fn begun<J: Naming>(
+    alloc: Global,
+    opened: Opened,
+) -> Result<(Shared<J>, Vec<Seat<J>>), Fail>
+    requires { IsNameOf J.roll J.clients J.first opened }
+    ensures { IfOk result (λ r. AreAllInOrder (λ seat. seat.client) J.clients r.1.items) }
+{
+    match opened.named::<J>(alloc) {
+        Ok(both) => Ok(both),
+        Err(_) => Err(Fail::new("no seats")),
+    }
+}
+
+/// The session is taken back. The lists have to fit the histories since these places, and orders have to explain these.
+pub(crate) fn ended<J: Naming>(
+    alloc: Global,
+    shared: Shared<J>,
+    seats: Vec<Seat<J>>,
+    since: &Lengths,
+) -> Result<Played, Fail>
+    requires { AreAllInOrder (λ seat. seat.client) J.clients seats.items }
+{
+    let lists = copied(alloc, seats.as_slice())?;
+    let session = shared.close(seats);
+    if !are_accounted_for(alloc, &session, lists.as_slice(), since)? {
+        return Err(Fail::new("lists"));
+    }
+    if !are_explained(alloc, session.broker())? {
+        return Err(Fail::new("orders"));
+    }
+    Ok(Played { session, lists })
+}
