@@ -46,8 +46,9 @@ class Block:
         self.width = 3 if kind == "durable" else 4
         self.begin = 2 + 2 * clients
         self.last = clients * records
+        self.answer_width = 1 if kind == "durable" else 4
         self.answers = self.begin + self.width * (self.last + 1)
-        self.size = self.answers + self.last * (1 if kind == "durable" else 4)
+        self.size = self.answers + self.answer_width * self.last
 
     def announced(self, client):
         return self.words[2 + client]

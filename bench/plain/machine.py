@@ -5,6 +5,8 @@ from image import Block
 
 HEAD, TAIL = 0, 1
 EMPTY = {"durable": 1, "log": 2}
+NODE_PARTS = ("value", "next", "insert", "mark")
+ANSWER_PARTS = {"durable": ("cell",), "log": ("number", "kind", "status", "node")}
 
 
 class Call:
@@ -38,19 +40,29 @@ class Machine:
     # Where words stand.
 
     def node(self, number, part):
-        at = {"value": 0, "next": 1, "insert": 2, "mark": self.places.width - 1}[part]
+        at = self.places.width - 1 if part == "mark" else NODE_PARTS.index(part)
         return self.places.begin + self.places.width * number + at
 
-    def entry(self, number, part=None):
-        if self.kind == "durable":
-            return self.places.answers + number - 1
-        return self.places.answers + 4 * (number - 1) + ["number", "kind", "status", "node"].index(part)
+    def entry(self, number, part="cell"):
+        return self.places.answers + self.places.answer_width * (number - 1) + ANSWER_PARTS[self.kind].index(part)
 
     def announcement(self, client):
         return 2 + client
 
     def bump(self, client):
         return 2 + self.clients + client
+
+    def place(self, word):
+        """The name of the place whose word this is: the same in a layout with other words."""
+        if word < self.places.begin:
+            names = [("head",), ("tail",)]
+            names += [(name, client) for name in ("announcement", "bump") for client in range(self.clients)]
+            return names[word]
+        if word < self.places.answers:
+            number, at = divmod(word - self.places.begin, self.places.width)
+            return "mark" if at == self.places.width - 1 else NODE_PARTS[at], number
+        number, at = divmod(word - self.places.answers, self.places.answer_width)
+        return ANSWER_PARTS[self.kind][at], number + 1
 
     # The memory.
 

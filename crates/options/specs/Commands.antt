@@ -23,9 +23,10 @@ serve_app = with_rule (with_rule (with_queue_rules (new_app (codes "serve")))
     (option_rule (codes "port")))
     (option_rule (codes "workers"))
 
--- `pqd` itself, which wants a command, and has none that is called help
+-- `pqd` itself, which wants a command, tells its version, and has no command that is called help
 abbrev pub top_app : App
-top_app = on_top (λ s. record s { subcommand_required = true; disable_help_subcommand = true })
+top_app = on_top
+    (λ s. record s { has_version = true; subcommand_required = true; disable_help_subcommand = true })
     (new_app (codes "pqd"))
 
 abbrev pub pqd_app : App

@@ -4,3 +4,4 @@ pub mod Commands
 pub mod Asked
 pub mod PqxCommands
 pub mod PqxAsked
+pub mod Faults

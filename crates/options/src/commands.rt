@@ -5,6 +5,7 @@ ghost use Rattle.clap.specs.Words.{app_of, rule_of};
 ghost use Rattle.clap.specs.declared.builder.command.Command.TheViews.{out-Command};
 ghost use Rattle.options.specs.Commands.{option_rule, pipe_app, pqd_app, serve_app, with_queue_rules};
 
+use crate::program::VERSION;
 use clap::{Arg, ArgAction, Command};
 use std::alloc::{AllocError, Global};
 
@@ -87,6 +88,7 @@ pub(crate) fn pqd<'a>(alloc: Global) -> Result<Command<'a>, AllocError>
 {
     Command::new(alloc, "pqd")
         .about("A broker of queues that outlive crashes")
+        .version(VERSION)
         .subcommand_required(true)
         .disable_help_subcommand(true)
         .subcommand(pipe(alloc)?)?

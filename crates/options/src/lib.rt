@@ -1,5 +1,5 @@
-//! The command lines of `pqd` and of `pqx`: what may be asked of each program, and what the words of a command line
-//! ask.
+//! The command lines of `pqd` and of `pqx`: what may be asked of each program, what the words of a command line ask, and
+//! how a program ends that cannot do it.
 #![tactic(auto)]
 
 mod asked;
@@ -10,6 +10,7 @@ mod number;
 mod pqx;
 mod pqx_commands;
 mod pqx_line;
+mod program;
 
 pub use asked::{Listening, Mode, Options};
 pub use limits::{
@@ -19,3 +20,4 @@ pub use limits::{
 pub use line::command_line;
 pub use pqx::{Choice, PointOptions, PqxAsked};
 pub use pqx_line::pqx_command_line;
+pub use program::{ended, explained, refusal_of, words};

@@ -70,7 +70,7 @@ fn explained(alloc: Global, command: &mut Command<'_>, misfit: Misfit) -> Result
 /// What the words of a command line ask, of which the first is the program's name.
 ///
 /// An error that is no want of memory has the text for the user and the status to end with: 0 where the words ask for
-/// help, and else 2.
+/// help or the version, and else 2.
 pub fn command_line<'a, S: AsStr>(alloc: Global, words: &'a [S]) -> Result<Options<'a>, Error>
     ensures asked { IfOk result (IsAsked (map S.text words.entry.now)) }
     ensures refused { IfErr result (Refuses (map S.text words.entry.now)) }

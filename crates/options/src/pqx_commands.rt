@@ -6,11 +6,9 @@ ghost use Rattle.clap.specs.declared.builder.command.Command.TheViews.{out-Comma
 ghost use Rattle.options.specs.PqxCommands.{points_app, pqx_app, top_app};
 
 use crate::commands::option;
+use crate::program::VERSION;
 use clap::Command;
 use std::alloc::{AllocError, Global};
-
-/// What `--version` prints after the name.
-const VERSION: &str = "0.1.0";
 
 /// What help says of scripts.
 const SCRIPTS: &str = "\

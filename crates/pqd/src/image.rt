@@ -1,23 +1,12 @@
 //! The file that keeps a broker's image.
 
 ghost use Rattle.std.specs.Prelude.{◌≡◌, ◌⊎◌, IfErr};
-ghost use Rattle.std.specs.IoError.{error_kind};
-ghost use Rattle.pqd.specs.Faults.{refusal_of_system};
 
+use options::refusal_of;
 use persist::{HEADER_BYTES, MAX_WORDS, NUMBER_BYTES};
 use std::fs::{self, File};
 use std::io::{self, ErrorKind, Read, Write};
 use words::Refusal;
-
-/// What a fault of the system is, where something was to be read.
-pub(crate) fn refusal_of(error: &io::Error) -> Refusal
-    ensures { result ≡ refusal_of_system (error_kind error.now) }
-{
-    match error.kind() {
-        ErrorKind::OutOfMemory => Refusal::NoMemory,
-        _ => Refusal::ReadFailed,
-    }
-}
 
 /// How many bytes are read at most: one more than the longest image has, so that what goes on after it is still seen.
 const MOST_BYTES: u64 = (HEADER_BYTES + NUMBER_BYTES * MAX_WORDS + 1) as u64;

@@ -2,28 +2,23 @@
 #![tactic(auto)]
 
 ghost use Rattle.std.specs.Prelude.{◌≡◌, IfOk};
-ghost use Rattle.std.specs.IoError.{error_kind};
 ghost use Rattle.server.specs.Sessions.{IsUncalled};
-ghost use Rattle.words.specs.declared.refusal.Refusal.TheVariants.{NoMemory};
-ghost use Rattle.pqd.specs.Faults.{refusal_of_system};
 ghost use Rattle.pqd.specs.declared.Fault.TheVariants.{Refused};
 
 mod image;
 
-use clap::error::ErrorKind;
 use devices::{CountedReader, CountedWriter};
 use log::Log;
 use named::Broker;
 use options::{Listening, Mode, Options, command_line};
 use server::{net, opened, pipe};
-use std::alloc::AllocError;
 use std::fs::File;
+use std::io;
 use std::net::{Net, SocketAddr, TcpListener};
 use std::process::ExitCode;
 use std::sync::Wait;
 use std::thread::Threads;
 use std::time::Clock;
-use std::{env, io};
 use thiserror::Error;
 use words::Refusal;
 
@@ -41,23 +36,6 @@ impl From<Refusal> for Fault {
 
     fn from(refusal: Refusal) -> Fault {
         Fault::Refused(refusal)
-    }
-}
-
-impl From<AllocError> for Fault {
-    ghost from_gives = { λ _ fault. fault ≡ Refused NoMemory };
-
-    fn from(_: AllocError) -> Fault {
-        Fault::Refused(Refusal::NoMemory)
-    }
-}
-
-/// A fault of the system before anything is served: want of memory, or else a failed read.
-impl From<io::Error> for Fault {
-    ghost from_gives = { λ error fault. fault ≡ Refused (refusal_of_system (error_kind error)) };
-
-    fn from(error: io::Error) -> Fault {
-        Fault::Refused(image::refusal_of(&error))
     }
 }
 
@@ -131,38 +109,21 @@ fn serve<T: Threads + Wait + Net + Log + Clock + Sync>(
     Ok(())
 }
 
-/// Says what is wrong with a command line, or what it asks to know, and answers with which status to end.
-fn explained(rt: &HostRuntime, error: &clap::Error) -> Result<ExitCode, Fault> {
-    if let ErrorKind::OutOfMemory = error.kind() {
-        return Err(Fault::Refused(Refusal::NoMemory));
-    }
-    if error.print(rt).is_err() {
-        return Err(Fault::Refused(Refusal::WriteFailed));
-    }
-    Ok(ExitCode::from(error.exit_code() as u8))
-}
-
 /// Does what the command line asks for, and answers with which status to end.
 fn follow<T: Threads + Wait + Net + Log + Clock + Sync>(
     threads: &T,
     rt: &HostRuntime,
 ) -> Result<ExitCode, Fault> {
-    let words: Vec<String> = env::args(rt)?.collect(rt.alloc())?;
+    let words = options::words(rt)?;
     match command_line(rt.alloc(), &words) {
         Ok(asked) => {
             serve(threads, rt, asked)?;
             Ok(ExitCode::SUCCESS)
         }
-        Err(error) => explained(rt, &error),
+        Err(error) => Ok(options::explained(rt, &error)?),
     }
 }
 
 fn main(rt: HostRuntime) -> io::Result<ExitCode> {
-    match follow(&rt, &rt) {
-        Ok(status) => Ok(status),
-        Err(fault) => {
-            eprintln!(rt; "pqd: {fault}")?;
-            Ok(ExitCode::FAILURE)
-        }
-    }
+    options::ended(&rt, "pqd", follow(&rt, &rt))
 }

@@ -2,10 +2,7 @@
 #![tactic(auto)]
 
 ghost use Rattle.std.specs.Prelude.{◌≡◌};
-ghost use Rattle.std.specs.IoError.{error_kind};
-ghost use Rattle.words.specs.declared.refusal.Refusal.TheVariants.{NoMemory};
-ghost use Rattle.pqx.specs.Faults.{fault_of, fault_of_system};
-ghost use Rattle.pqx.specs.declared.Fault.TheVariants.{Refused};
+ghost use Rattle.pqx.specs.Faults.{fault_of};
 
 mod evictions;
 mod progress;
@@ -15,11 +12,9 @@ use crate::progress::Progress;
 use devices::{CountedReader, CountedWriter};
 use explore::Evictions;
 use options::{PointOptions, PqxAsked, pqx_command_line};
-use std::alloc::AllocError;
-use std::io::{self, ErrorKind};
 use std::process::ExitCode;
 use std::thread::Threads;
-use std::{env, fs};
+use std::{fs, io};
 use thiserror::Error;
 use words::Refusal;
 
@@ -40,26 +35,6 @@ impl From<Refusal> for Fault {
             Refusal::BadLine(number) => Fault::Line(number, refusal),
             _ => Fault::Refused(refusal),
         }
-    }
-}
-
-/// A fault of the system before anything runs: want of memory, or else a failed read.
-impl From<io::Error> for Fault {
-    ghost from_gives = { λ error fault. fault ≡ fault_of_system (error_kind error) };
-
-    fn from(error: io::Error) -> Fault {
-        match error.kind() {
-            ErrorKind::OutOfMemory => Fault::Refused(Refusal::NoMemory),
-            _ => Fault::Refused(Refusal::ReadFailed),
-        }
-    }
-}
-
-impl From<AllocError> for Fault {
-    ghost from_gives = { λ _ fault. fault ≡ Refused NoMemory };
-
-    fn from(_: AllocError) -> Fault {
-        Fault::Refused(Refusal::NoMemory)
     }
 }
 
@@ -134,35 +109,18 @@ fn answer<H: Threads + Sync>(
     }
 }
 
-/// Says what is wrong with a command line, or what it asks to know, and answers with which status to end.
-fn explained(rt: &HostRuntime, error: &clap::Error) -> Result<ExitCode, Fault> {
-    if let clap::error::ErrorKind::OutOfMemory = error.kind() {
-        return Err(Fault::Refused(Refusal::NoMemory));
-    }
-    if error.print(rt).is_err() {
-        return Err(Fault::Refused(Refusal::WriteFailed));
-    }
-    Ok(ExitCode::from(error.exit_code() as u8))
-}
-
 /// Does what the command line asks for, and answers with which status to end.
 fn follow<H: Threads + Sync>(threads: &H, rt: &HostRuntime) -> Result<ExitCode, Fault> {
-    let words: Vec<String> = env::args(rt)?.collect(rt.alloc())?;
+    let words = options::words(rt)?;
     match pqx_command_line(rt.alloc(), &words) {
         Ok(asked) => {
             answer(threads, rt, asked)?;
             Ok(ExitCode::SUCCESS)
         }
-        Err(error) => explained(rt, &error),
+        Err(error) => Ok(options::explained(rt, &error)?),
     }
 }
 
 fn main(rt: HostRuntime) -> io::Result<ExitCode> {
-    match follow(&rt, &rt) {
-        Ok(status) => Ok(status),
-        Err(fault) => {
-            eprintln!(rt; "pqx: {fault}")?;
-            Ok(ExitCode::FAILURE)
-        }
-    }
+    options::ended(&rt, "pqx", follow(&rt, &rt))
 }
