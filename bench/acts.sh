@@ -12,7 +12,7 @@ rt run > /dev/null 2>&1
 # its core: KIND CLIENTS ACTS-BEFORE.
 rates() {
     for _ in 1 2 3 4; do
-        ./out/load acts "$1" "$2" $(($3 / $2)) $((4000 / $2)) 300
+        ./out/bench_load acts "$1" "$2" $(($3 / $2)) $((4000 / $2)) 300
     done | sort -n | head -n 1 | awk '{ print 4000e9 / $1, $2 * 1e9 / $1 }'
 }
 

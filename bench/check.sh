@@ -10,9 +10,9 @@ seconds() {
     local begun middle
     for ((batch = 0; batch < 5; batch++)); do
         begun=$(date +%s.%N)
-        ./out/load check "$1" "$2" "$3" 0 > /dev/null
+        ./out/bench_load check "$1" "$2" "$3" 0 > /dev/null
         middle=$(date +%s.%N)
-        ./out/load check "$1" "$2" "$3" "$4" > /dev/null
+        ./out/bench_load check "$1" "$2" "$3" "$4" > /dev/null
         echo "$(date +%s.%N) $middle $begun"
     done | awk -v turns="$4" '{ print ($1 - $2 - ($2 - $3)) / turns }' | sort -g | head -n 1
 }

@@ -8,7 +8,7 @@ rt run > /dev/null 2>&1
 # Nanoseconds of a crash, with the stores before it, by the best of 50 turns in the best of four runs: WORDS.
 measure() {
     for _ in 1 2 3 4; do
-        ./out/load crash "$1" 50
+        ./out/bench_load crash "$1" 50
     done | sort -n | head -n 1
 }
 

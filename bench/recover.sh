@@ -9,7 +9,7 @@ rt run > /dev/null 2>&1
 # may share its core: KIND RECORDS NODES.
 measure() {
     for _ in 1 2 3 4 5 6; do
-        ./out/load recover "$1" "$2" "$3" 200
+        ./out/bench_load recover "$1" "$2" "$3" 200
     done | awk 'NR == 1 || $2 < crash { crash = $2 } NR == 1 || $3 < time { time = $3 } END { print $1, crash, time }'
 }
 

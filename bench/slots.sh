@@ -11,7 +11,7 @@ rt run > /dev/null 2>&1
 
 # Nanoseconds of 4,000 acts with 1,000 behind, by the best of 300 turns: acts or slots, KIND CLIENTS.
 measure() {
-    ./out/load "$1" "$2" "$3" $((1000 / $3)) $((4000 / $3)) 300 | cut -d ' ' -f 1
+    ./out/bench_load "$1" "$2" "$3" $((1000 / $3)) $((4000 / $3)) 300 | cut -d ' ' -f 1
 }
 
 # In turns, so that both see the same machine.
@@ -29,8 +29,8 @@ for kind in durable log; do
     done
 done
 
-few=$(./out/load restart 1 64 200)
-many=$(./out/load restart 1 4096 200)
+few=$(./out/bench_load restart 1 64 200)
+many=$(./out/bench_load restart 1 4096 200)
 awk -v few="$few" -v many="$many" 'BEGIN {
     printf "a call, a crash and recovery: %d ns with 64 records, %d ns with 4,096: ratio %.2f\n", few, many, many / few
 }'
@@ -40,7 +40,7 @@ resident() {
     unset MALLOC_TRIM_THRESHOLD_ MALLOC_MMAP_THRESHOLD_ MALLOC_TOP_PAD_
     python3 -c '
 import resource, subprocess, sys
-subprocess.run(["./out/load", "restart", *sys.argv[1:]], check=True, stdout=subprocess.DEVNULL)
+subprocess.run(["./out/bench_load", "restart", *sys.argv[1:]], check=True, stdout=subprocess.DEVNULL)
 print(resource.getrusage(resource.RUSAGE_CHILDREN).ru_maxrss * 1024)' "$@"
 }
 

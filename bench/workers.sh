@@ -5,7 +5,7 @@
 set -eu
 cd "$(dirname "$0")"
 . ./keeping.sh
-cd "../crates/bench_crowd"
+cd "../crates/bench_load"
 rt run > /dev/null 2>&1
 
 # Nanoseconds, calls and acts of the best of ten turns of 4,000 calls a client, after QUEUES and who makes them. All in
@@ -14,10 +14,10 @@ measure() {
     for _ in 1 2 3 4 5 6; do
         for queues in 1 8; do
             for who in alone plain; do
-                echo "$queues $who $(./out/crowd $who $queues 4000 10)"
+                echo "$queues $who $(./out/bench_load $who $queues 4000 10)"
             done
             for threads in 1 2 4 8; do
-                echo "$queues $threads $(./out/crowd threads $queues $threads 4000 10)"
+                echo "$queues $threads $(./out/bench_load threads $queues $threads 4000 10)"
             done
         done
     done

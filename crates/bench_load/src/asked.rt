@@ -84,9 +84,32 @@ fn check<'a>(alloc: Global) -> Result<Command<'a>, AllocError> {
         .arg(number(alloc, "turns"))
 }
 
+/// `threads QUEUES THREADS CALLS TURNS`
+fn threads<'a>(alloc: Global) -> Result<Command<'a>, AllocError> {
+    Command::new(alloc, "threads")
+        .about("Clients of a shared session make calls, each in a thread of its own")
+        .arg(number(alloc, "queues").help("At most 8"))?
+        .arg(number(alloc, "threads").help("At most 16"))?
+        .arg(number(alloc, "calls").help("How many each client makes"))?
+        .arg(number(alloc, "turns").help("Prints the best of so many"))
+}
+
+/// `alone QUEUES CALLS TURNS`, and `plain` of the same
+fn alone<'a>(alloc: Global, name: &'a str, about: &'a str) -> Result<Command<'a>, AllocError> {
+    Command::new(alloc, name)
+        .about(about)
+        .arg(number(alloc, "queues").help("At most 8"))?
+        .arg(number(alloc, "calls"))?
+        .arg(number(alloc, "turns").help("Prints the best of so many"))
+}
+
+static BY_STEPS: &str = "One client makes calls on a session, step by step";
+
+static BY_CALLS: &str = "One client makes calls on a session, each of which runs to its end";
+
 /// What is asked for.
 pub(crate) fn matches<'a>(alloc: Global, words: &'a [String]) -> Result<ArgMatches<'a>, Error> {
-    Command::new(alloc, "load")
+    Command::new(alloc, "bench_load")
         .about("Plays loads that are timed; without a command, a small one of each")
         .subcommand(acts(alloc, "acts", ON_A_WORLD)?)?
         .subcommand(acts(alloc, "slots", IN_A_BROKER)?)?
@@ -94,6 +117,9 @@ pub(crate) fn matches<'a>(alloc: Global, words: &'a [String]) -> Result<ArgMatch
         .subcommand(recover(alloc)?)?
         .subcommand(crash(alloc)?)?
         .subcommand(check(alloc)?)?
+        .subcommand(threads(alloc)?)?
+        .subcommand(alone(alloc, "alone", BY_STEPS)?)?
+        .subcommand(alone(alloc, "plain", BY_CALLS)?)?
         .try_get_matches_from(words)
 }
 

@@ -1,17 +1,22 @@
-//! Loads that the scripts of bench/ time: acts on a world or by a broker's slot, crashes and recovery, and the checker
-//! of histories. Without a subcommand it plays a small one of each.
+//! Loads that the scripts of bench/ time: acts on a world or by a broker's slot, crashes and recovery, the checker of
+//! histories, and calls on a session, also by threads that share one. Without a subcommand it plays a small one of each.
 #![tactic(auto)]
 
 mod acts;
 mod asked;
+mod clients;
 mod crashes;
+mod crowd;
 mod histories;
 mod recovery;
 mod restarts;
+mod threads;
 mod turns;
+mod work;
 
 use crate::acts::Acts;
 use crate::asked::{count, kind, matches};
+use crate::crowd::{By, few, measure};
 use crate::histories::CheckLoad;
 use crate::recovery::Recovery;
 use crate::turns::{Load, Queue, best_on};
@@ -30,7 +35,7 @@ fn print_best<M: Load>(rt: &HostRuntime, queue: Queue, load: &M, turns: Option<u
     }
 }
 
-/// `load acts KIND CLIENTS BEFORE ROUNDS [TURNS]`, and `load slots` of the same
+/// `bench_load acts KIND CLIENTS BEFORE ROUNDS [TURNS]`, and `bench_load slots` of the same
 fn play_acts(rt: &HostRuntime, words: &ArgMatches<'_>, in_broker: bool) -> Result<()> {
     let queue = Queue {
         kind: kind(words),
@@ -45,7 +50,7 @@ fn play_acts(rt: &HostRuntime, words: &ArgMatches<'_>, in_broker: bool) -> Resul
     print_best(rt, queue, &load, words.get_one("turns"))
 }
 
-/// `load recover KIND RECORDS NODES [TURNS]`
+/// `bench_load recover KIND RECORDS NODES [TURNS]`
 fn play_recovery(rt: &HostRuntime, words: &ArgMatches<'_>) -> Result<()> {
     let queue = Queue {
         kind: kind(words),
@@ -58,7 +63,7 @@ fn play_recovery(rt: &HostRuntime, words: &ArgMatches<'_>) -> Result<()> {
     print_best(rt, queue, &load, words.get_one("turns"))
 }
 
-/// `load check CHECKER CLIENTS EVENTS TURNS`
+/// `bench_load check CHECKER CLIENTS EVENTS TURNS`
 fn play_checks(rt: &HostRuntime, words: &ArgMatches<'_>) -> Result<()> {
     let load = CheckLoad {
         plain: words.get_str("checker") == Some("plain"),
@@ -99,7 +104,8 @@ fn small_ones(rt: &HostRuntime) -> Result<()> {
         clients: 4,
         events: 200,
     };
-    load.run(rt, 1)
+    load.run(rt, 1)?;
+    few(rt)
 }
 
 fn main(rt: HostRuntime) -> Result<ExitCode> {
@@ -123,6 +129,9 @@ fn main(rt: HostRuntime) -> Result<ExitCode> {
             crashes::run(&rt, count(words, "words") as usize, words.get_one("turns"))?;
         }
         Some(("check", words)) => play_checks(&rt, words)?,
+        Some(("threads", words)) => measure(&rt, By::Threads(count(words, "threads")), words)?,
+        Some(("alone", words)) => measure(&rt, By::Steps, words)?,
+        Some(("plain", words)) => measure(&rt, By::Calls, words)?,
         _ => small_ones(&rt)?,
     }
     Ok(ExitCode::SUCCESS)

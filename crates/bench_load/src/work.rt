@@ -1,4 +1,4 @@
-//! What is played, and on what.
+//! What clients call, and on what.
 
 use arena::SlotId;
 use named::Broker;
@@ -16,7 +16,7 @@ const MOST_STEPS: u32 = 100;
 
 /// On how many queues, and how many calls each client makes.
 #[derive(Clone, Copy)]
-pub(crate) struct Load {
+pub(crate) struct Work {
     pub(crate) queues: u32,
     pub(crate) calls: u32,
 }
@@ -48,7 +48,7 @@ pub(crate) fn call_of(number: u32) -> Call {
     }
 }
 
-impl Load {
+impl Work {
     /// How many queues there are.
     fn count(&self) -> usize {
         self.queues as usize
@@ -77,10 +77,10 @@ fn over_a_broker(alloc: Global) -> Result<Session, Refusal> {
 }
 
 /// A session over a new broker with as many durable queues.
-pub(crate) fn session_for(alloc: Global, load: Load) -> Result<Session, Refusal> {
+pub(crate) fn session_for(alloc: Global, work: Work) -> Result<Session, Refusal> {
     let mut session = over_a_broker(alloc)?;
     let names: [&[u8]; 8] = [b"a", b"b", b"c", b"d", b"e", b"f", b"g", b"h"];
-    for name in names.iter().take(load.count()) {
+    for name in names.iter().take(work.count()) {
         create(&mut session, name)?;
     }
     Ok(session)

@@ -2,7 +2,7 @@
 
 ghost use Rattle.workers.specs.Opening.{IsNameOf};
 
-use crate::load::{Figures, Load, call_of, session_for};
+use crate::work::{Figures, Work, call_of, session_for};
 use anyhow::Result;
 use std::marker::Brand;
 use std::sync::Wait;
@@ -12,11 +12,11 @@ use words::Refusal;
 use workers::{Answer, Naming, OpenGate, Opened, Seat, Shared};
 
 /// The calls of a seat's client, all on its own queue. How many were answered.
-fn answered<J: Naming, R: Wait>(rt: &R, shared: &Shared<J>, seat: Seat<J>, load: Load) -> u64 {
-    let queue = load.queue(u32::from(seat.client.0));
+fn answered<J: Naming, R: Wait>(rt: &R, shared: &Shared<J>, seat: Seat<J>, work: Work) -> u64 {
+    let queue = work.queue(u32::from(seat.client.0));
     let mut seat = seat;
     let mut answered = 0u64;
-    for number in 0..load.calls {
+    for number in 0..work.calls {
         let (next, answer) = shared.call(rt, seat, queue, None, call_of(number), &OpenGate);
         seat = next;
         if matches!(answer, Answer::Reply(_)) {
@@ -31,7 +31,7 @@ fn turn<J: Naming + Send + Sync, R: Threads + Wait + Clock + AllocGlobal + Sync>
     rt: &R,
     opened: Opened,
     threads: u32,
-    load: Load,
+    work: Work,
 ) -> Result<Figures>
     requires { IsNameOf J.roll J.clients J.first opened }
 {
@@ -41,7 +41,7 @@ fn turn<J: Naming + Send + Sync, R: Threads + Wait + Clock + AllocGlobal + Sync>
     };
     seats.truncate(threads as usize);
     let begun = Instant::now(rt)?;
-    let counts = map_vec(rt, seats, &|seat| answered(rt, &shared, seat, load))?;
+    let counts = map_vec(rt, seats, &|seat| answered(rt, &shared, seat, work))?;
     Ok(Figures {
         nanoseconds: begun.elapsed(rt)?.as_nanos(),
         answered: counts
@@ -55,10 +55,10 @@ fn turn<J: Naming + Send + Sync, R: Threads + Wait + Clock + AllocGlobal + Sync>
 pub(crate) fn shared<R: Threads + Wait + Clock + AllocGlobal + Sync>(
     rt: &R,
     threads: u32,
-    load: Load,
+    work: Work,
 ) -> Result<Figures> {
-    match Opened::new(rt.alloc(), session_for(rt.alloc(), load)?) {
-        Ok(opened) => turn::<Brand, R>(rt, opened, threads, load),
+    match Opened::new(rt.alloc(), session_for(rt.alloc(), work)?) {
+        Ok(opened) => turn::<Brand, R>(rt, opened, threads, work),
         Err(not) => Err(not.refusal.into()),
     }
 }

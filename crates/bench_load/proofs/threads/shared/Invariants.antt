@@ -1,4 +1,4 @@
-use Rattle.bench_crowd.proofs.threads.shared.Given as goal
+use Rattle.bench_load.proofs.threads.shared.Given as goal
 
 abbrev pub ghosts-turn : goal.ghosts-turn
 ghosts-turn g a = record {

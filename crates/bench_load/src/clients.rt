@@ -1,6 +1,6 @@
 //! One client on the session itself.
 
-use crate::load::{Figures, Load, call_of, session_for};
+use crate::work::{Figures, Work, call_of, session_for};
 use anyhow::Result;
 use arena::SlotId;
 use session::Session;
@@ -22,31 +22,31 @@ fn step_through(session: &mut Session, queue: SlotId, call: Call) -> Result<u64,
 
 /// A turn of calls that the client makes step by step. An enqueue and a dequeue go to one queue, the next two to the
 /// next queue.
-pub(crate) fn stepped<R: Clock + AllocGlobal>(rt: &R, load: Load) -> Result<Figures> {
-    let mut session = session_for(rt.alloc(), load)?;
+pub(crate) fn stepped<R: Clock + AllocGlobal>(rt: &R, work: Work) -> Result<Figures> {
+    let mut session = session_for(rt.alloc(), work)?;
     let mut acts = 0u64;
     let begun = Instant::now(rt)?;
-    for number in 0..load.calls {
-        let queue = load.queue(number / 2);
+    for number in 0..work.calls {
+        let queue = work.queue(number / 2);
         acts = acts.saturating_add(step_through(&mut session, queue, call_of(number))?);
     }
     Ok(Figures {
         nanoseconds: begun.elapsed(rt)?.as_nanos(),
-        answered: u64::from(load.calls),
+        answered: u64::from(work.calls),
         acts,
     })
 }
 
 /// A turn of calls that the session runs to their ends.
-pub(crate) fn whole<R: Clock + AllocGlobal>(rt: &R, load: Load) -> Result<Figures> {
-    let mut session = session_for(rt.alloc(), load)?;
+pub(crate) fn whole<R: Clock + AllocGlobal>(rt: &R, work: Work) -> Result<Figures> {
+    let mut session = session_for(rt.alloc(), work)?;
     let begun = Instant::now(rt)?;
-    for number in 0..load.calls {
-        session.plain(CLIENT, load.queue(number / 2), call_of(number))?;
+    for number in 0..work.calls {
+        session.plain(CLIENT, work.queue(number / 2), call_of(number))?;
     }
     Ok(Figures {
         nanoseconds: begun.elapsed(rt)?.as_nanos(),
-        answered: u64::from(load.calls),
+        answered: u64::from(work.calls),
         acts: 0,
     })
 }
