@@ -1,16 +1,15 @@
 //! Drawn acts on several queues: after each one, every queue's order explains its history, and it holds what the replay
 //! of that leaves.
 
-use crate::acts::{kept, kept_at};
+use crate::acts::{effects, has_open_gate, kept};
 use arena::{BrokerLayout, Layout, SLOTS, SlotId};
 use directory::Places;
-use test_support::below;
 use named::Broker;
 use rand_core::Rng;
 use rand_pcg::Pcg32;
 use std::alloc::Global;
 use std::test::Fail;
-use test_support::{are_explained, pass_over};
+use test_support::{are_explained, below, pass_over};
 use words::{Call, Client, Kind, Refusal};
 
 /// How many records each client has in each queue.
@@ -130,7 +129,7 @@ fn has_its_gates(alloc: Global, broker: &Broker, places: &Places) -> Result<bool
     let mut right = true;
     let mut more = 0u32;
     for slot in 0..SLOTS {
-        let open = kept_at(&memory, 5 + 4 * slot) == 1;
+        let open = has_open_gate(&memory, slot);
         right &= open || places[slot].is_none();
         more = more.saturating_add(u32::from(open && places[slot].is_none()));
     }
@@ -155,8 +154,27 @@ fn note(broker: &Broker, places: &mut Places) {
     }
 }
 
-/// So many drawn acts: how many queues there are then, if all was right after each of them.
-fn drawn(alloc: Global, draw: u64, clients: u32, acts: u64) -> Result<Option<usize>, Refusal> {
+/// How many queues there were in the end, and how many of their calls took effect.
+#[derive(Clone, Copy)]
+struct Counts {
+    queues: usize,
+    calls: usize,
+}
+
+/// What there was of them on a broker whose queues were noted.
+fn counted(broker: &Broker, places: &Places) -> Counts {
+    let mut calls = 0usize;
+    for slot in 0..SLOTS as u8 {
+        calls = calls.saturating_add(effects(broker, slot));
+    }
+    Counts {
+        queues: places.iter().flatten().count(),
+        calls,
+    }
+}
+
+/// So many drawn acts: what there was then, if all was right after each of them.
+fn drawn(alloc: Global, draw: u64, clients: u32, acts: u64) -> Result<Option<Counts>, Refusal> {
     let (mut broker, layout) = new(alloc, clients)?;
     let mut rng = Pcg32::new(draw, 21);
     let mut places = [None; SLOTS];
@@ -169,42 +187,24 @@ fn drawn(alloc: Global, draw: u64, clients: u32, acts: u64) -> Result<Option<usi
             return Ok(None);
         }
     }
-    Ok(Some(places.iter().flatten().count()))
+    Ok(Some(counted(&broker, &places)))
 }
 
 #[test]
 fn drawn_brokers_are_explained(rt: HostRuntime) -> Result<(), Fail> {
-    let mut queues = 0usize;
+    let (mut queues, mut calls) = (0usize, 0usize);
     for draw in 0..12u64 {
         let clients = (draw % 4) as u32 + 1;
         match drawn(rt.alloc(), draw, clients, 300) {
-            Ok(Some(more)) => queues = queues.saturating_add(more),
+            Ok(Some(counts)) => {
+                queues = queues.saturating_add(counts.queues);
+                calls = calls.saturating_add(counts.calls);
+            }
             Ok(None) => panic!(rt; "draw {draw}"),
             Err(refusal) => panic!(rt; "{refusal} in draw {draw}"),
         }
     }
     assert!(rt; queues > 24, "{queues} queues");
-    Ok(())
-}
-
-/// How many calls took effect in the queues of a broker since their histories began, after drawn acts.
-fn served(alloc: Global, draw: u64) -> Result<usize, Refusal> {
-    let broker = after(alloc, draw, 2, 300)?;
-    let mut count = 0usize;
-    for slot in 0..SLOTS as u8 {
-        if let Ok(order) = broker.order(SlotId(slot)) {
-            count = count.saturating_add(order.entries.len());
-        }
-    }
-    Ok(count)
-}
-
-#[test]
-fn drawn_calls_take_effect(rt: HostRuntime) -> Result<(), Fail> {
-    let mut count = 0usize;
-    for draw in 0..12 {
-        count = count.saturating_add(served(rt.alloc(), draw).unwrap_or(0));
-    }
-    assert!(rt; count > 32, "{count} calls");
+    assert!(rt; calls > 32, "{calls} calls");
     Ok(())
 }

@@ -1,25 +1,13 @@
-//! Brokers of named queues, driven by calls, creations, crashes, evictions, images and rotations.
+//! Brokers of named queues: a crash at each step of a creation and of a recovery, drawn acts, and images at any moment.
 #![tactic(auto)]
 
 #[cfg(test)]
 mod acts;
 #[cfg(test)]
-mod calls;
-#[cfg(test)]
 mod crashes;
 #[cfg(test)]
 mod creations;
 #[cfg(test)]
-mod damaged;
-#[cfg(test)]
 mod drawn;
 #[cfg(test)]
-mod evictions;
-#[cfg(test)]
 mod images;
-#[cfg(test)]
-mod others;
-#[cfg(test)]
-mod refusals;
-#[cfg(test)]
-mod rotations;

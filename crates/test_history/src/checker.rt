@@ -1,4 +1,4 @@
-//! Histories and orders, with what the checker answers.
+//! Histories written out, with the orders that explain them and some that do not: what the definition means.
 
 use history::{Entry, Event, History, Order, Sequence, check, check_plainly, replay};
 use std::alloc::{AllocError, Global};
@@ -6,14 +6,6 @@ use std::test::Fail;
 use words::{Call, Client, Outcome, Reply, Row, Told, Verdict};
 
 const NONE: [Told; 16] = [Told::None; 16];
-
-/// What both checkers answer.
-#[derive(Clone, Copy, Debug, PartialEq, Eq)]
-enum Checked {
-    Explained,
-    Not,
-    Differ,
-}
 
 fn call(client: u8, number: u64, call: Call) -> Event {
     Event::Call {
@@ -73,90 +65,70 @@ fn order(alloc: Global, entries: &[Entry]) -> Result<Order, AllocError> {
     })
 }
 
-/// What both checkers answer, where the base tells client 0 this.
-fn answer_from(
+/// Whether, by both checkers, each order of the first list explains the events, and none of the second does. The base
+/// tells client 0 this.
+fn judge(
     alloc: Global,
-    base: &[u32],
-    first: Told,
+    (base, first): (&[u32], Told),
     events: &[Event],
-    entries: &[Entry],
-) -> Result<Checked, AllocError> {
+    right: &[&[Entry]],
+    wrong: &[&[Entry]],
+) -> Result<bool, AllocError> {
     let history = history(alloc, base, first, events)?;
-    let order = order(alloc, entries)?;
-    Ok(
-        match (check(&history, &order), check_plainly(&history, &order)) {
-            (true, true) => Checked::Explained,
-            (false, false) => Checked::Not,
-            _ => Checked::Differ,
-        },
-    )
+    let mut judged = true;
+    for entries in right {
+        let order = order(alloc, entries)?;
+        judged &= check(&history, &order) && check_plainly(&history, &order);
+    }
+    for entries in wrong {
+        let order = order(alloc, entries)?;
+        judged &= !check(&history, &order) && !check_plainly(&history, &order);
+    }
+    Ok(judged)
 }
 
-fn answer(
+/// The same, where the base tells nothing.
+fn says(
     alloc: Global,
     base: &[u32],
     events: &[Event],
-    entries: &[Entry],
-) -> Result<Checked, AllocError> {
-    answer_from(alloc, base, Told::None, events, entries)
+    right: &[&[Entry]],
+    wrong: &[&[Entry]],
+) -> Result<bool, AllocError> {
+    judge(alloc, (base, Told::None), events, right, wrong)
 }
 
 #[test]
 fn complete_calls_are_in_the_order(rt: HostRuntime) -> Result<(), Fail> {
     let a = rt.alloc();
+    let got = at(0, Reply::Got(5));
     let events = [deq(0), returns(0, Reply::Got(5))];
-    let right = [at(0, Reply::Got(5))];
-    assert_eq!(rt; answer(a, &[5], &events, &right)?, Checked::Explained);
-    assert_eq!(rt; answer(a, &[5], &events, &[])?, Checked::Not);
+    let not: [&[Entry]; 4] = [&[], &[got, got], &[at(1, got.reply)], &[at(2, got.reply)]];
+    assert!(rt; says(a, &[5], &events, &[&[got]], &not)?);
+    assert!(rt; says(a, &[5, 5], &events, &[&[got]], &not)?);
     let other = [deq(0), returns(0, Reply::Got(6))];
-    assert_eq!(rt; answer(a, &[5], &other, &right)?, Checked::Not);
-    let twice = [at(0, Reply::Got(5)), at(0, Reply::Got(5))];
-    assert_eq!(rt; answer(a, &[5], &events, &twice)?, Checked::Not);
-    assert_eq!(rt; answer(a, &[5, 5], &events, &twice)?, Checked::Not);
-    assert_eq!(rt;
-        answer(a, &[5], &events, &[at(1, Reply::Got(5))])?,
-        Checked::Not
-    );
-    assert_eq!(rt;
-        answer(a, &[5], &events, &[at(2, Reply::Got(5))])?,
-        Checked::Not
-    );
+    assert!(rt; says(a, &[5], &other, &[], &[&[got]])?);
     Ok(())
 }
 
 #[test]
 fn precedence_is_kept(rt: HostRuntime) -> Result<(), Fail> {
     let a = rt.alloc();
-    let one_by_one = [
-        enq(0, 1),
-        returns(0, Reply::Done),
-        enq(1, 2),
-        returns(1, Reply::Done),
-    ];
+    let (one, two) = (returns(0, Reply::Done), returns(1, Reply::Done));
     let (first, second) = (at(0, Reply::Done), at(2, Reply::Done));
-    assert_eq!(rt;
-        answer(a, &[], &one_by_one, &[first, second])?,
-        Checked::Explained
+    let one_by_one = [enq(0, 1), one, enq(1, 2), two];
+    assert!(rt;
+        says(
+            a,
+            &[],
+            &one_by_one,
+            &[&[first, second]],
+            &[&[second, first]]
+        )?
     );
-    assert_eq!(rt;
-        answer(a, &[], &one_by_one, &[second, first])?,
-        Checked::Not
-    );
-    let overlap = [
-        enq(0, 1),
-        enq(1, 2),
-        returns(0, Reply::Done),
-        returns(1, Reply::Done),
-    ];
-    let (first, second) = (at(0, Reply::Done), at(1, Reply::Done));
-    assert_eq!(rt;
-        answer(a, &[], &overlap, &[first, second])?,
-        Checked::Explained
-    );
-    assert_eq!(rt;
-        answer(a, &[], &overlap, &[second, first])?,
-        Checked::Explained
-    );
+    let second = at(1, Reply::Done);
+    let overlap = [enq(0, 1), enq(1, 2), one, two];
+    assert!(rt; says(a, &[], &overlap, &[&[first, second], &[second, first]], &[])?);
     Ok(())
 }
 
@@ -170,8 +142,7 @@ fn the_plain_queue_gives_the_replies(rt: HostRuntime) -> Result<(), Fail> {
         returns(1, Reply::Done),
     ];
     let (got, put) = (at(0, Reply::Got(7)), at(2, Reply::Done));
-    assert_eq!(rt; answer(a, &[], &later, &[got, put])?, Checked::Not);
-    assert_eq!(rt; answer(a, &[], &later, &[put, got])?, Checked::Not);
+    assert!(rt; says(a, &[], &later, &[], &[&[got, put], &[put, got]])?);
     let empties = [
         deq(0),
         deq(1),
@@ -181,38 +152,25 @@ fn the_plain_queue_gives_the_replies(rt: HostRuntime) -> Result<(), Fail> {
         returns(1, Reply::Empty),
     ];
     let (one, other, put) = (at(0, Reply::Empty), at(1, Reply::Empty), at(3, Reply::Done));
-    assert_eq!(rt;
-        answer(a, &[], &empties, &[one, other, put])?,
-        Checked::Explained
-    );
-    assert_eq!(rt;
-        answer(a, &[], &empties, &[other, one, put])?,
-        Checked::Explained
-    );
-    assert_eq!(rt; answer(a, &[], &empties, &[one, put, other])?, Checked::Not);
-    assert_eq!(rt; answer(a, &[], &empties, &[put, one, other])?, Checked::Not);
+    let right: [&[Entry]; 2] = [&[one, other, put], &[other, one, put]];
+    let wrong: [&[Entry]; 2] = [&[one, put, other], &[put, one, other]];
+    assert!(rt; says(a, &[], &empties, &right, &wrong)?);
     Ok(())
 }
 
 #[test]
 fn verdicts_agree_with_the_order(rt: HostRuntime) -> Result<(), Fail> {
     let a = rt.alloc();
-    let taken = at(0, Reply::Done);
-    let not = verdict(1, Outcome::NotTaken);
     let told = |first: Told| [call(0, 1, Call::Enq(9)), Event::Crash, ready(first)];
-    assert_eq!(rt; answer(a, &[], &told(not), &[])?, Checked::Explained);
-    assert_eq!(rt; answer(a, &[], &told(not), &[taken])?, Checked::Not);
-    assert_eq!(rt; answer(a, &[], &told(Told::None), &[])?, Checked::Explained);
-    assert_eq!(rt; answer(a, &[], &told(Told::None), &[taken])?, Checked::Not);
+    let (none, taken): ([Entry; 0], [Entry; 1]) = ([], [at(0, Reply::Done)]);
+    for first in [verdict(1, Outcome::NotTaken), Told::None] {
+        assert!(rt; says(a, &[], &told(first), &[&none], &[&taken])?);
+    }
     let done = verdict(1, Outcome::Taken(Reply::Done));
-    assert_eq!(rt; answer(a, &[], &told(done), &[taken])?, Checked::Explained);
-    assert_eq!(rt; answer(a, &[], &told(done), &[])?, Checked::Not);
-    let other = verdict(2, Outcome::Taken(Reply::Done));
-    assert_eq!(rt; answer(a, &[], &told(other), &[taken])?, Checked::Not);
-    assert_eq!(rt;
-        answer(a, &[], &told(verdict(2, Outcome::NotTaken)), &[])?,
-        Checked::Not
-    );
+    assert!(rt; says(a, &[], &told(done), &[&taken], &[&none])?);
+    for outcome in [Outcome::Taken(Reply::Done), Outcome::NotTaken] {
+        assert!(rt; says(a, &[], &told(verdict(2, outcome)), &[], &[&none, &taken])?);
+    }
     Ok(())
 }
 
@@ -228,27 +186,13 @@ fn verdicts_are_of_the_last_call(rt: HostRuntime) -> Result<(), Fail> {
         Event::Crash,
         ready(verdict(number, Outcome::Taken(Reply::Done))),
     ];
-    assert_eq!(rt; answer(a, &[], &told(2), &both)?, Checked::Explained);
-    assert_eq!(rt; answer(a, &[], &told(1), &both)?, Checked::Not);
-    let crash = [
-        call(0, 1, Call::Enq(1)),
-        call(1, 1, Call::Enq(2)),
-        Event::Crash,
-        ready(verdict(1, Outcome::NotTaken)),
-        call(2, 1, Call::Deq),
-        returns(2, Reply::Got(2)),
-    ];
-    let got = at(4, Reply::Got(2));
-    assert_eq!(rt;
-        answer(a, &[], &crash, &[at(1, Reply::Done), got])?,
-        Checked::Not
-    );
-    assert_eq!(rt; answer(a, &[2], &crash, &[got])?, Checked::Explained);
+    assert!(rt; says(a, &[], &told(2), &[&both], &[])?);
+    assert!(rt; says(a, &[], &told(1), &[], &[&both])?);
     Ok(())
 }
 
 #[test]
-fn a_crash_ends_every_call(rt: HostRuntime) -> Result<(), Fail> {
+fn an_interrupted_call_is_in_the_order_where_it_is_told(rt: HostRuntime) -> Result<(), Fail> {
     let a = rt.alloc();
     let mut told = NONE;
     told[0] = verdict(1, Outcome::NotTaken);
@@ -262,10 +206,19 @@ fn a_crash_ends_every_call(rt: HostRuntime) -> Result<(), Fail> {
         returns(0, Reply::Got(2)),
     ];
     let (one, two, got) = (at(0, Reply::Done), at(1, Reply::Done), at(4, Reply::Got(2)));
-    assert_eq!(rt; answer(a, &[], &events, &[two, got])?, Checked::Explained);
-    assert_eq!(rt; answer(a, &[], &events, &[got, two])?, Checked::Not);
-    assert_eq!(rt; answer(a, &[], &events, &[two, one, got])?, Checked::Not);
-    assert_eq!(rt; answer(a, &[2], &events, &[got, two])?, Checked::Not);
+    let wrong: [&[Entry]; 2] = [&[got, two], &[two, one, got]];
+    assert!(rt; says(a, &[], &events, &[&[two, got]], &wrong)?);
+    // Nor is a call that is in no verdict, though it would explain the reply.
+    let untold = [
+        call(1, 1, Call::Enq(2)),
+        Event::Crash,
+        ready(Told::None),
+        call(2, 1, Call::Deq),
+        returns(2, Reply::Got(2)),
+    ];
+    let (put, got) = (at(0, Reply::Done), at(3, Reply::Got(2)));
+    assert!(rt; says(a, &[], &untold, &[], &[&[put, got]])?);
+    assert!(rt; says(a, &[2], &untold, &[&[got]], &[&[put, got]])?);
     Ok(())
 }
 
@@ -280,23 +233,13 @@ fn rows_tell_of_dequeues(rt: HostRuntime) -> Result<(), Fail> {
         Event::Crash,
         ready(Told::Row(row)),
     ];
-    assert_eq!(rt;
-        answer(a, &[], &told(Row::Empty), &[found])?,
-        Checked::Explained
-    );
-    assert_eq!(rt;
-        answer(a, &[], &told(Row::Empty), &[found, at(2, Reply::Done)])?,
-        Checked::Explained
-    );
-    assert_eq!(rt; answer(a, &[], &told(Row::Open), &[found])?, Checked::Not);
-    assert_eq!(rt; answer(a, &[], &told(Row::NoCall), &[found])?, Checked::Not);
-    assert_eq!(rt; answer(a, &[], &told(Row::Got(3)), &[found])?, Checked::Not);
+    let right: [&[Entry]; 2] = [&[found], &[found, at(2, Reply::Done)]];
+    assert!(rt; says(a, &[], &told(Row::Empty), &right, &[])?);
+    for row in [Row::Open, Row::NoCall, Row::Got(3)] {
+        assert!(rt; says(a, &[], &told(row), &[], &[&[found]])?);
+    }
     let open = [deq(0), Event::Crash, ready(Told::Row(Row::Open))];
-    assert_eq!(rt; answer(a, &[4], &open, &[])?, Checked::Explained);
-    assert_eq!(rt;
-        answer(a, &[4], &open, &[at(0, Reply::Got(4))])?,
-        Checked::Not
-    );
+    assert!(rt; says(a, &[4], &open, &[&[]], &[&[at(0, Reply::Got(4))]])?);
     Ok(())
 }
 
@@ -312,97 +255,35 @@ fn the_base_tells_until_a_call_is_taken(rt: HostRuntime) -> Result<(), Fail> {
         Event::Crash,
         ready(old),
     ];
-    assert_eq!(rt; answer_from(a, &[], old, &events, &[])?, Checked::Explained);
-    assert_eq!(rt;
-        answer_from(a, &[], Told::None, &events, &[])?,
-        Checked::Not
-    );
-    assert_eq!(rt;
-        answer_from(a, &[], old, &events, &[at(2, Reply::Empty)])?,
-        Checked::Not
-    );
-    Ok(())
-}
-
-#[test]
-fn histories_arise(rt: HostRuntime) -> Result<(), Fail> {
-    let a = rt.alloc();
-    let none = ready(Told::None);
-    let numbered = call(1, 1, Call::Enq(2));
-    assert_eq!(rt; answer(a, &[], &[], &[])?, Checked::Explained);
-    assert_eq!(rt;
-        answer(a, &[], &[none, Event::Crash, Event::Crash, none, none], &[])?,
-        Checked::Explained
-    );
-    assert_eq!(rt; answer(a, &[], &[enq(0, 1), enq(0, 2)], &[])?, Checked::Not);
-    assert_eq!(rt; answer(a, &[], &[enq(0, 1), numbered], &[])?, Checked::Not);
-    assert_eq!(rt; answer(a, &[], &[enq(15, 1)], &[])?, Checked::Explained);
-    assert_eq!(rt; answer(a, &[], &[enq(16, 1)], &[])?, Checked::Not);
+    let taken = [at(2, Reply::Empty)];
+    assert!(rt; judge(a, (&[], old), &events, &[&[]], &[&taken])?);
+    assert!(rt; says(a, &[], &events, &[], &[&[]])?);
     Ok(())
 }
 
 #[test]
 fn nobody_calls_or_returns_out_of_turn(rt: HostRuntime) -> Result<(), Fail> {
     let a = rt.alloc();
-    let none = ready(Told::None);
-    assert_eq!(rt;
-        answer(a, &[], &[returns(0, Reply::Done)], &[])?,
-        Checked::Not
-    );
-    assert_eq!(rt;
-        answer(a, &[], &[Event::Crash, enq(0, 1)], &[])?,
-        Checked::Not
-    );
-    assert_eq!(rt;
-        answer(
-            a,
-            &[],
-            &[enq(0, 1), Event::Crash, returns(0, Reply::Done)],
-            &[]
-        )?,
-        Checked::Not
-    );
-    assert_eq!(rt;
-        answer(
-            a,
-            &[],
-            &[enq(0, 1), Event::Crash, none, returns(0, Reply::Done)],
-            &[at(0, Reply::Done)]
-        )?,
-        Checked::Not
-    );
-    assert_eq!(rt;
-        answer(
-            a,
-            &[],
-            &[enq(0, 1), none, returns(0, Reply::Done)],
-            &[at(0, Reply::Done)]
-        )?,
-        Checked::Explained
-    );
-    Ok(())
-}
-
-#[test]
-fn sixteen_clients(rt: HostRuntime) -> Result<(), Fail> {
-    let a = rt.alloc();
-    let mut events = Vec::new(a);
-    let mut entries = Vec::new(a);
-    for t in 0..16u8 {
-        events.push(enq(t, t as u32))?;
+    let (none, put, done) = (ready(Told::None), enq(0, 1), returns(0, Reply::Done));
+    let idle = [none, Event::Crash, Event::Crash, none, none];
+    let arising: [&[Event]; 3] = [&[], &idle, &[enq(15, 1)]];
+    for events in arising {
+        assert!(rt; says(a, &[], events, &[&[]], &[])?, "{events:?}");
     }
-    for t in 0..16u8 {
-        events.push(returns(t, Reply::Done))?;
-        entries.push(at(15 - t as usize, Reply::Done))?;
+    let not: [&[Event]; 7] = [
+        &[put, enq(0, 2)],
+        &[put, call(1, 1, Call::Enq(2))],
+        &[enq(16, 1)],
+        &[done],
+        &[Event::Crash, put],
+        &[put, Event::Crash, done],
+        &[put, Event::Crash, none, done],
+    ];
+    let taken = [at(0, Reply::Done)];
+    for events in not {
+        assert!(rt; says(a, &[], events, &[], &[&[], &taken])?, "{events:?}");
     }
-    assert_eq!(rt; answer(a, &[], &events, &entries)?, Checked::Explained);
-    events.push(deq(3))?;
-    events.push(returns(3, Reply::Got(15)))?;
-    entries.push(at(32, Reply::Got(15)))?;
-    assert_eq!(rt; answer(a, &[], &events, &entries)?, Checked::Explained);
-    entries.pop();
-    entries.push(at(32, Reply::Got(0)))?;
-    assert_eq!(rt; answer(a, &[], &events, &entries)?, Checked::Not);
+    assert!(rt; says(a, &[], &[put, none, done], &[&taken], &[&[]])?);
     Ok(())
 }
 

@@ -1,11 +1,11 @@
 //! Drawn histories, right and wrong, on which both checkers agree.
 
-use test_support::index_below;
 use history::{Entry, Event, History, Order, Sequence, check, check_plainly};
 use rand_core::Rng;
 use rand_pcg::Pcg32;
 use std::alloc::Global;
 use std::test::Fail;
+use test_support::index_below;
 use words::{Call, Client, Kind, Outcome, Reply, Row, Told, Verdict};
 
 /// A call under way, and its reply once it took effect.

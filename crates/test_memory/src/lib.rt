@@ -1,4 +1,4 @@
-//! Memories and the windows on them, in written rows, and beside a plain memory on drawn operations.
+//! A memory beside a plain one on drawn operations, and its image, written out.
 #![tactic(auto)]
 
 #[cfg(test)]
@@ -7,5 +7,3 @@ mod drawn;
 mod images;
 #[cfg(test)]
 mod plain;
-#[cfg(test)]
-mod rows;

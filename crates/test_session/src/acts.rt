@@ -5,63 +5,16 @@ use named::Broker;
 use persist::Memory;
 use session::Session;
 use std::alloc::Global;
+use test_support::brokers::{MOST_STEPS, taken};
 use test_support::call_at;
-use words::{Call, Client, Kind, MAX_CLIENTS, Outcome, Refusal, Reply, Verdict};
-
-/// The most steps that a test lets a recovery take.
-const MOST_STEPS: u32 = 10_000;
-
-/// The slot of the first queue, of which most tests have no other.
-pub(crate) const A: SlotId = SlotId(0);
-
-/// The slot of the second queue.
-pub(crate) const B: SlotId = SlotId(1);
-
-/// The client's call of this number took effect.
-pub(crate) fn taken(number: u64, reply: Reply) -> Option<Verdict> {
-    Some(Verdict {
-        number,
-        outcome: Outcome::Taken(reply),
-    })
-}
-
-/// The client's call of this number took no effect and never will.
-pub(crate) fn not_taken(number: u64) -> Option<Verdict> {
-    Some(Verdict {
-        number,
-        outcome: Outcome::NotTaken,
-    })
-}
-
-/// A session over a new broker.
-pub(crate) fn open(alloc: Global, clients: u32, records: u32) -> Result<Session, Refusal> {
-    let broker = Broker::make(alloc, clients, records)?;
-    Ok(Session::open(broker))
-}
+use test_support::sessions::A;
+use words::{Call, Client, MAX_CLIENTS, Refusal, Reply, Told, Verdict};
 
 /// A session over a broker that begins on the image of another.
 pub(crate) fn boot(alloc: Global, broker: &Broker) -> Result<Session, Refusal> {
     let memory = Memory::from_image(alloc, broker.to_image()?.as_slice())?;
     let broker = Broker::boot(alloc, memory)?;
     Ok(Session::open(broker))
-}
-
-/// A new queue in the slot that the eighth step answers.
-pub(crate) fn create(session: &mut Session, name: &[u8], kind: Kind) -> Result<SlotId, Refusal> {
-    session.create(name, kind)?;
-    for _ in 0..8 {
-        if let Some(slot) = session.create_step()? {
-            return Ok(slot);
-        }
-    }
-    Err(Refusal::NoQueue)
-}
-
-/// A session with a log queue `a` in slot 0.
-pub(crate) fn with_log(alloc: Global, clients: u32, records: u32) -> Result<Session, Refusal> {
-    let mut session = open(alloc, clients, records)?;
-    create(&mut session, b"a", Kind::Log)?;
-    Ok(session)
 }
 
 /// A client's request to the log queue `a`.
@@ -141,9 +94,9 @@ pub(crate) fn events(session: &Session, slot: SlotId) -> Result<usize, Refusal> 
 /// Whether what is kept of a client is the verdict that recovery told it.
 pub(crate) fn is_as_told(session: &Session, client: u8) -> Result<bool, Refusal> {
     Ok(match session.broker().told(A, Client(client))? {
-        words::Told::Verdict(verdict) => last(session, client) == Some(verdict),
-        words::Told::None => last(session, client).is_none(),
-        words::Told::Row(_) => false,
+        Told::Verdict(verdict) => last(session, client) == Some(verdict),
+        Told::None => last(session, client).is_none(),
+        Told::Row(_) => false,
     })
 }
 
@@ -186,7 +139,7 @@ pub(crate) fn comes_to(
     let (after, keeps) = (events(session, A)?, last(session, client));
     Ok(match (wanted, answer) {
         (Ok(None), Ok(reply)) => {
-            after == before.saturating_add(2) && keeps == taken(number, reply)
+            after == before.saturating_add(2) && keeps == Some(taken(number, reply))
         }
         (Ok(Some(wanted)), Ok(reply)) => reply == wanted && after == before && keeps == kept,
         (Err(wanted), Err(refusal)) => refusal == wanted && after == before && keeps == kept,

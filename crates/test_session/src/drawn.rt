@@ -1,14 +1,15 @@
 //! Drawn requests of two clients, whose answers are compared with the plainest account of them.
 
-use crate::acts::{A, are_explained, boot, with_log};
+use crate::acts::{are_explained, boot, events};
 use crate::plain::{CLIENTS, Plain, call_of};
-use arena::{BrokerLayout, Layout};
-use test_support::below;
+use arena::BrokerLayout;
 use rand_pcg::Pcg32;
 use session::Session;
 use std::alloc::Global;
 use std::test::Fail;
-use words::{Client, Outcome, Refusal, Reply, Verdict};
+use test_support::below;
+use test_support::sessions::{A, with_queue};
+use words::{Client, Kind, Outcome, Refusal, Reply, Verdict};
 
 /// How many records each client has.
 const RECORDS: u32 = 64;
@@ -74,7 +75,7 @@ impl Drawn {
     /// A new session.
     fn new(alloc: Global) -> Result<Self, Refusal> {
         Ok(Drawn {
-            session: with_log(alloc, u32::from(CLIENTS), RECORDS)?,
+            session: with_queue(alloc, Kind::Log, u32::from(CLIENTS), RECORDS)?,
             plain: Plain::new(alloc),
             requests: 0,
             repeats: 0,
@@ -92,11 +93,6 @@ impl Drawn {
         }
     }
 
-    /// How many events the history has.
-    fn events(&self) -> Result<usize, Refusal> {
-        Ok(self.session.broker().history(A)?.events.len())
-    }
-
     /// A client sends a number, and is answered or only begun.
     fn send(&mut self, client: u8, number: u64, whole: bool) -> Result<(), Refusal> {
         let last = self.session.last(Client(client), A);
@@ -104,7 +100,7 @@ impl Drawn {
             Some(refusal) => Err(refusal),
             None => wanted(&self.plain, last, client, number),
         };
-        let (before, call) = (self.events()?, call_of(client, number));
+        let (before, call) = (events(&self.session, A)?, call_of(client, number));
         let answer = if whole {
             match self.session.request(Client(client), A, number, call) {
                 Ok(reply) => Ok(Some(reply)),
@@ -115,7 +111,7 @@ impl Drawn {
         };
         self.requests = self.requests.saturating_add(1);
         self.right &= is_wanted(wanted, answer);
-        let ran = self.events()? != before;
+        let ran = events(&self.session, A)? != before;
         self.right &= !ran || wanted == Ok(None);
         if let (Ok(Some(_)), Ok(_)) = (wanted, answer) {
             self.repeats = self.repeats.saturating_add(1);

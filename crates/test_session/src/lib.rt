@@ -1,4 +1,5 @@
-//! Sessions of numbered operations, driven by requests, steps, crashes, evictions, images and rotations.
+//! Sessions of numbered operations: crashes at each step of a call and of a recovery, what the environment keeps, images,
+//! and drawn requests beside a plain account.
 #![tactic(auto)]
 
 #[cfg(test)]
@@ -6,22 +7,12 @@ mod acts;
 #[cfg(test)]
 mod beside;
 #[cfg(test)]
-mod cut;
-#[cfg(test)]
 mod drawn;
 #[cfg(test)]
 mod evicted;
 #[cfg(test)]
-mod images;
-#[cfg(test)]
-mod limits;
-#[cfg(test)]
 mod plain;
-#[cfg(test)]
-mod refusals;
 #[cfg(test)]
 mod repeats;
 #[cfg(test)]
-mod rotations;
-#[cfg(test)]
-mod table;
+mod stories;

@@ -1,9 +1,9 @@
 //! The plainest account of what numbers do: the reply that was first given for each, and a list of values.
 
-use crate::acts::A;
 use history::Event;
 use session::Session;
 use std::alloc::Global;
+use test_support::sessions::A;
 use words::{Call, Refusal, Reply};
 
 /// How many clients there are.

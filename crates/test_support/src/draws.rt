@@ -1,5 +1,4 @@
-//! What tests and loads draw.
-#![tactic(auto)]
+//! Numbers that are drawn.
 
 ghost use Rattle.std.specs.Prelude.{◌<◌};
 

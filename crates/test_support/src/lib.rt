@@ -1,10 +1,18 @@
-//! What tests over brokers look at, and pass over.
+//! What tests share: what they draw, how far the calls that they interrupt have come, what they do with brokers and
+//! sessions, look at, and pass over.
 #![tactic(auto)]
 
 ghost use Rattle.std.specs.Prelude.{◌≡◌, ◌↔◌, slice_get, true, IfErr, IfOk, IsErrOf};
 ghost use Rattle.named.specs.Brokers.{world_at};
 ghost use Rattle.named.specs.Slots.{IsWhyUnread};
 ghost use Rattle.test_support.specs.Calls.{caller_of};
+
+pub mod brokers;
+mod draws;
+pub mod sessions;
+pub mod steps;
+
+pub use draws::{below, index_below};
 
 use arena::{SLOTS, SlotId};
 use history::{Event, check_content};

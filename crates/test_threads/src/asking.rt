@@ -3,12 +3,12 @@
 ghost use Rattle.std.specs.Prelude.{◌≡◌};
 
 use crate::gates::{Held, tell, wait_for};
-use crate::making::A;
 use arena::SlotId;
 use std::sync::Wait;
 use std::sync::atomic::{AtomicU64, Ordering};
 use std::thread::{Threads, join};
 use std::time::Clock;
+use test_support::sessions::A;
 use words::{Call, Refusal, Reply};
 use workers::{Answer, End, Entry, Naming, OpenGate, Seat, Shared};
 
@@ -79,22 +79,6 @@ pub(crate) fn asked<J: Naming, R: Wait>(
     ensures { result.0.client ≡ seat.client }
 {
     shared.call(rt, seat, ask.queue, ask.number, ask.call, &OpenGate)
-}
-
-/// Whether the seat's call is refused with this, and leaves no entry.
-pub(crate) fn is_refused<J: Naming, R: Wait>(
-    rt: &R,
-    shared: &Shared<J>,
-    seat: Seat<J>,
-    ask: Ask,
-    wanted: Refusal,
-) -> (Seat<J>, bool)
-    ensures { result.0.client ≡ seat.client }
-{
-    let before = seat.list.len();
-    let (seat, answer) = asked(rt, shared, seat, ask);
-    let right = answer == Answer::Refused(wanted) && seat.list.len() == before;
-    (seat, right)
 }
 
 /// A call that a gate holds back after so many steps.

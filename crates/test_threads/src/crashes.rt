@@ -5,9 +5,8 @@ ghost use Rattle.workers.specs.Opening.{IsNameOf};
 
 use crate::asking::{Ask, Hold, asked, held_over_a_crash};
 use crate::lists::{Lengths, lengths};
-use crate::making::{A, opened, with_queue};
 use crate::seats::{alone, only};
-use crate::staging::{Played, begun, ended};
+use crate::staging::{Played, begun, ended, opened};
 use session::Session;
 use std::alloc::Global;
 use std::marker::Brand;
@@ -16,7 +15,10 @@ use std::sync::Wait;
 use std::test::*;
 use std::thread::Threads;
 use std::time::Clock;
-use words::{Call, Client, Kind, Outcome, Refusal, Reply, Row, Told, Verdict};
+use test_support::brokers::{not_taken, taken};
+use test_support::sessions::{A, with_queue};
+use test_support::steps::{LOG_ENQUEUE_ANNOUNCED, LOG_LINK_KEPT};
+use words::{Call, Client, Kind, Refusal, Reply, Told};
 use workers::{Answer, Naming, OpenGate, Opened};
 
 /// A crash, and recovery, while the only client's call stands still after so many steps. Then the client is told this.
@@ -118,53 +120,14 @@ fn holds(session: &Session, values: &[u32]) -> Result<bool, Refusal> {
     Ok(session.broker().content(A)?.as_slice() == values)
 }
 
-/// A session after a crash that came after so many steps of the put of 5 in a durable queue.
-fn put_cut_off<R: Threads + Wait + Clock + Abort + Sync>(
-    rt: &R,
-    alloc: Global,
-    steps: u64,
-) -> Result<Session, Fail> {
-    let scene = CutOff {
-        ask: Ask::plain(Call::Enq(5)),
-        steps,
-        told: Told::Row(Row::NoCall),
-    };
-    let session = with_queue(alloc, Kind::Durable, 1, 3)?;
-    cut_off_in(rt, alloc, session, scene)
-}
-
-#[test]
-fn a_put_is_cut_off_before_or_after_it_takes_effect(rt: HostRuntime) -> Result<(), Fail> {
-    let alloc = rt.alloc();
-    let cases = [
-        (8u64, [].as_slice(), Reply::Empty),
-        (9, [5u32].as_slice(), Reply::Got(5)),
-    ];
-    for (steps, values, reply) in cases {
-        let session = put_cut_off(&rt, alloc, steps)?;
-        assert!(rt; holds(&session, values)?, "after {steps} steps");
-        let next = Next {
-            ask: Ask::plain(Call::Deq),
-            reply,
-            runs: true,
-        };
-        let session = gone_on(&rt, alloc, session, next)?;
-        assert!(rt; holds(&session, &[])?, "after {steps} steps");
-    }
-    Ok(())
-}
-
-/// What a client is told of its number 1.
-fn told_of_first(outcome: Outcome) -> Told {
-    Told::Verdict(Verdict { number: 1, outcome })
-}
-
-/// What a client is told whose number 1, the put of 9, was cut off after so many steps, and whether it took effect.
-fn wanted(steps: u64) -> (Told, bool) {
-    match steps {
-        0..=13 => (Told::None, false),
-        14..=18 => (told_of_first(Outcome::NotTaken), false),
-        _ => (told_of_first(Outcome::Taken(Reply::Done)), true),
+/// What a client is told whose number 1, the put of 9, was cut off after so many steps.
+fn wanted(steps: u32) -> Told {
+    if steps < LOG_ENQUEUE_ANNOUNCED {
+        Told::None
+    } else if steps < LOG_LINK_KEPT {
+        Told::Verdict(not_taken(1))
+    } else {
+        Told::Verdict(taken(1, Reply::Done))
     }
 }
 
@@ -172,12 +135,16 @@ fn wanted(steps: u64) -> (Told, bool) {
 fn number_cut_off<R: Threads + Wait + Clock + Abort + Sync>(
     rt: &R,
     alloc: Global,
-    steps: u64,
+    steps: u32,
 ) -> Result<(), Fail> {
-    let ask = Ask::numbered(1, Call::Enq(9));
-    let (told, is_taken) = wanted(steps);
+    let (ask, is_taken) = (Ask::numbered(1, Call::Enq(9)), steps >= LOG_LINK_KEPT);
+    let cut_off = CutOff {
+        ask,
+        steps: u64::from(steps),
+        told: wanted(steps),
+    };
     let session = with_queue(alloc, Kind::Log, 1, 2)?;
-    let session = cut_off_in(rt, alloc, session, CutOff { ask, steps, told })?;
+    let session = cut_off_in(rt, alloc, session, cut_off)?;
     let values: &[u32] = if is_taken { &[9] } else { &[] };
     assert!(rt; holds(&session, values)?, "after {steps} steps");
     let next = Next {
@@ -192,7 +159,7 @@ fn number_cut_off<R: Threads + Wait + Clock + Abort + Sync>(
 
 #[test]
 fn a_number_that_is_cut_off_takes_effect_once(rt: HostRuntime) -> Result<(), Fail> {
-    for steps in 0..=19 {
+    for steps in 0..=LOG_LINK_KEPT {
         number_cut_off(&rt, rt.alloc(), steps)?;
     }
     Ok(())

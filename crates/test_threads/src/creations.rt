@@ -1,14 +1,13 @@
-//! Creations of queues: alone, and beside another thread's and crashes.
+//! Creations of queues beside another thread's and crashes.
 
 ghost use Rattle.std.specs.Prelude.{◌≡◌};
 ghost use Rattle.workers.specs.Opening.{IsNameOf};
 
 use crate::gates::{TURNS, rest, tell, wait_for};
 use crate::lists::{Lengths, lengths};
-use crate::making::{A, B, opened, with_queue};
-use crate::staging::{Played, begun, ended};
+use crate::staging::{Played, begun, ended, opened};
 use arena::SlotId;
-use directory::{Name, Places, Queue};
+use directory::{Name, Places};
 use std::alloc::Global;
 use std::marker::Brand;
 use std::process::Abort;
@@ -17,6 +16,7 @@ use std::sync::atomic::{AtomicU64, Ordering};
 use std::test::*;
 use std::thread::{Threads, join};
 use std::time::Clock;
+use test_support::sessions::with_queue;
 use words::{Kind, Refusal};
 use workers::{Created, Naming, Opened, Shared};
 
@@ -32,52 +32,6 @@ fn found<J: Naming, R: Wait>(
 /// How many queues there are.
 fn count(places: &Places) -> usize {
     places.iter().filter(|place| place.is_some()).count()
-}
-
-/// A queue is created, and found and listed; others are refused.
-fn created_alone<J: Naming + Send + Sync, R: Threads + Wait + Clock + Abort + Sync>(
-    rt: &R,
-    alloc: Global,
-    opened: Opened,
-    since: &Lengths,
-) -> Result<Played, Fail>
-    requires { IsNameOf J.roll J.clients J.first opened }
-{
-    let (shared, seats) = begun::<J>(alloc, opened)?;
-    let name = Name::make(b"b")?;
-    assert_eq!(rt; shared.find(rt, &name), Ok(None));
-    assert_eq!(rt; shared.create(rt, b"b", Kind::Log), Created::Queue(B));
-    assert_eq!(rt; shared.find(rt, &name), Ok(Some(B)));
-    let places = shared.list(rt)?;
-    let kind = Kind::Log;
-    assert!(rt; places[1] == Some(Queue { name, kind }) && count(&places) == 2);
-    for taken in [b'a', b'b'] {
-        let again = shared.create(rt, &[taken], Kind::Durable);
-        assert_eq!(rt; again, Created::Refused(Refusal::Exists));
-    }
-    let unnamed = shared.create(rt, b"B", Kind::Log);
-    assert_eq!(rt; unnamed, Created::Refused(Refusal::BadName));
-    shared.crash(rt)?;
-    let down = shared.create(rt, b"c", Kind::Log);
-    assert_eq!(rt; down, Created::Refused(Refusal::NotReady));
-    assert_eq!(rt; shared.find(rt, &name), Err(Refusal::NotReady));
-    assert!(rt; matches!(shared.list(rt), Err(Refusal::NotReady)));
-    shared.recover(rt)?;
-    assert_eq!(rt; shared.find(rt, &name), Ok(Some(B)));
-    ended(alloc, shared, seats, since)
-}
-
-#[test]
-fn a_queue_that_is_created_is_found(rt: HostRuntime) -> Result<(), Fail> {
-    let alloc = rt.alloc();
-    let session = with_queue(alloc, Kind::Durable, 1, 1)?;
-    let since = lengths(&session);
-    let opened = opened(alloc, session)?;
-    let left = created_alone::<Brand, _>(&rt, alloc, opened, &since)?;
-    let broker = left.session.broker();
-    assert_eq!(rt; broker.kind(A), Ok(Kind::Durable));
-    assert_eq!(rt; broker.kind(B), Ok(Kind::Log));
-    Ok(())
 }
 
 /// The names, of a letter each, that a thread gives to new queues. Two threads have one name more than there are slots.

@@ -18,10 +18,6 @@ mod lists;
 #[cfg(test)]
 mod making;
 #[cfg(test)]
-mod numbers;
-#[cfg(test)]
-mod opening;
-#[cfg(test)]
 mod rotations;
 #[cfg(test)]
 mod seats;

@@ -6,9 +6,8 @@ ghost use Rattle.workers.specs.Seats.{AreAllInOrder};
 
 use crate::asking::{Ask, DONE, asked};
 use crate::lists::{Lengths, lengths};
-use crate::making::{A, opened, with_queue};
 use crate::seats::{put_together, taken_apart};
-use crate::staging::{Played, begun, ended};
+use crate::staging::{Played, begun, ended, opened};
 use std::alloc::Global;
 use std::marker::Brand;
 use std::process::Abort;
@@ -16,20 +15,14 @@ use std::sync::Wait;
 use std::test::*;
 use std::thread::Threads;
 use std::time::Clock;
-use words::{Call, Client, Kind, Outcome, Refusal, Reply, Told, Verdict};
+use test_support::brokers::taken;
+use test_support::sessions::{A, with_queue};
+use words::{Call, Client, Kind, Refusal, Reply, Told};
 use workers::{Answer, Naming, Opened, Seat, Shared};
 
-/// Client 0's number 1, and client 1's.
-const FIVE: Call = Call::Enq(5);
-
-const SIX: Call = Call::Enq(6);
-
 /// What a client is told of a number that took effect.
-fn taken(number: u64, reply: Reply) -> Result<Told, Refusal> {
-    Ok(Told::Verdict(Verdict {
-        number,
-        outcome: Outcome::Taken(reply),
-    }))
+fn told_of(number: u64, reply: Reply) -> Result<Told, Refusal> {
+    Ok(Told::Verdict(taken(number, reply)))
 }
 
 /// Client 0 puts 5, client 1 puts 6, and client 0 takes 5; then a crash, recovery, and a rotation.
@@ -43,8 +36,8 @@ fn rotated<J: Naming, R: Wait + Abort>(
     ensures { IfOk result (λ seats. AreAllInOrder (λ seat. seat.client) J.clients seats.items) }
 {
     let (zero, one) = taken_apart(seats).ok_or("two seats")?;
-    let (zero, first) = asked(rt, shared, zero, Ask::numbered(1, FIVE));
-    let (one, second) = asked(rt, shared, one, Ask::numbered(1, SIX));
+    let (zero, first) = asked(rt, shared, zero, Ask::numbered(1, Call::Enq(5)));
+    let (one, second) = asked(rt, shared, one, Ask::numbered(1, Call::Enq(6)));
     let (zero, third) = asked(rt, shared, zero, Ask::numbered(2, Call::Deq));
     assert!(rt; first == DONE && second == DONE);
     assert_eq!(rt; third, Answer::Reply(Reply::Got(5)));
@@ -53,8 +46,8 @@ fn rotated<J: Naming, R: Wait + Abort>(
     let (seats, rotated) = shared.rotate(rt, put_together(alloc, zero, one)?);
     assert_eq!(rt; rotated, Ok(()));
     assert!(rt; seats.iter().all(|seat| seat.list.is_empty()));
-    assert_eq!(rt; shared.told(rt, Client(0), A), taken(2, Reply::Got(5)));
-    assert_eq!(rt; shared.told(rt, Client(1), A), taken(1, Reply::Done));
+    assert_eq!(rt; shared.told(rt, Client(0), A), told_of(2, Reply::Got(5)));
+    assert_eq!(rt; shared.told(rt, Client(1), A), told_of(1, Reply::Done));
     Ok(seats)
 }
 
@@ -82,25 +75,6 @@ fn gone_on<J: Naming, R: Wait + Abort>(
     Ok(put_together(alloc, zero, one)?)
 }
 
-/// A rotation is refused while the broker recovers, and leaves the lists.
-fn not_rotated<J: Naming, R: Wait + Abort>(
-    rt: &R,
-    alloc: Global,
-    shared: &Shared<J>,
-    seats: Vec<Seat<J>>,
-) -> Result<Vec<Seat<J>>, Fail>
-    requires { AreAllInOrder (λ seat. seat.client) J.clients seats.items }
-    ensures { IfOk result (λ seats. AreAllInOrder (λ seat. seat.client) J.clients seats.items) }
-{
-    let seats = gone_on(rt, alloc, shared, seats)?;
-    shared.crash(rt)?;
-    let (seats, rotated) = shared.rotate(rt, seats);
-    assert_eq!(rt; rotated, Err(Refusal::NotReady));
-    assert!(rt; seats.iter().all(|seat| !seat.list.is_empty()));
-    shared.recover(rt)?;
-    Ok(seats)
-}
-
 /// A rotation, and what goes on after it.
 fn whole<J: Naming + Send + Sync, R: Threads + Wait + Clock + Abort + Sync>(
     rt: &R,
@@ -112,35 +86,8 @@ fn whole<J: Naming + Send + Sync, R: Threads + Wait + Clock + Abort + Sync>(
 {
     let (shared, seats) = begun::<J>(alloc, opened)?;
     let seats = rotated(rt, alloc, &shared, seats)?;
-    let seats = not_rotated(rt, alloc, &shared, seats)?;
+    let seats = gone_on(rt, alloc, &shared, seats)?;
     ended(alloc, shared, seats, since)
-}
-
-/// A rotation alone.
-fn rotated_alone<J: Naming + Send + Sync, R: Threads + Wait + Clock + Abort + Sync>(
-    rt: &R,
-    alloc: Global,
-    opened: Opened,
-    since: &Lengths,
-) -> Result<Played, Fail>
-    requires { IsNameOf J.roll J.clients J.first opened }
-{
-    let (shared, seats) = begun::<J>(alloc, opened)?;
-    let seats = rotated(rt, alloc, &shared, seats)?;
-    ended(alloc, shared, seats, since)
-}
-
-#[test]
-fn a_rotation_empties_lists_and_nothing_else(rt: HostRuntime) -> Result<(), Fail> {
-    let alloc = rt.alloc();
-    let session = with_queue(alloc, Kind::Log, 2, 3)?;
-    let since = lengths(&session);
-    let opened = opened(alloc, session)?;
-    let left = rotated_alone::<Brand, _>(&rt, alloc, opened, &since)?;
-    let broker = left.session.broker();
-    assert_eq!(rt; broker.history(A)?.events.len(), 0, "events");
-    assert!(rt; broker.content(A)?.as_slice() == [6u32].as_slice());
-    Ok(())
 }
 
 #[test]
@@ -151,11 +98,7 @@ fn places_begin_anew_after_a_rotation(rt: HostRuntime) -> Result<(), Fail> {
     let opened = opened(alloc, session)?;
     let left = whole::<Brand, _>(&rt, alloc, opened, &since)?;
     let broker = left.session.broker();
-    assert_eq!(rt;
-        broker.history(A)?.events.len(),
-        6,
-        "calls, returns, a crash and a recovery"
-    );
+    assert_eq!(rt; broker.history(A)?.events.len(), 4, "calls and returns");
     assert!(rt; broker.content(A)?.as_slice() == [8u32].as_slice());
     Ok(())
 }

@@ -9,6 +9,7 @@ use session::Session;
 use std::alloc::Global;
 use std::test::Fail;
 use test_support::are_explained;
+use words::Refusal;
 use workers::{Entry, Naming, Opened, Seat, Shared};
 
 /// What is left of a shared session: the session that was taken back, and the lists of the clients.
@@ -16,6 +17,14 @@ use workers::{Entry, Naming, Opened, Seat, Shared};
 pub(crate) struct Played {
     pub(crate) session: Session,
     pub(crate) lists: Vec<Vec<Entry>>,
+}
+
+/// The session, about to be shared.
+pub(crate) fn opened(alloc: Global, session: Session) -> Result<Opened, Refusal> {
+    match Opened::new(alloc, session) {
+        Ok(opened) => Ok(opened),
+        Err(not) => Err(not.refusal),
+    }
 }
 
 /// The shared session under its name, and all seats.

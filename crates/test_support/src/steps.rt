@@ -1,0 +1,31 @@
+//! How far the calls and the creations that tests interrupt have come: after so many steps of an undisturbed one, its
+//! start apart, the last step did what the constant's name says. The tables of steps stand in docs/TABLES.md.
+
+use directory::CREATION_STEPS;
+
+/// The slot is open.
+pub const CREATED: u32 = CREATION_STEPS as u32;
+
+/// The gate of the slot is stored open. It is not kept yet.
+pub const GATE_STORED: u32 = CREATED - 1;
+
+/// The node of a durable queue's enqueue is linked. The link is not kept yet.
+pub const DURABLE_LINKED: u32 = 8;
+
+/// A durable queue's dequeue has claimed its node. The claim is not kept yet.
+pub const DURABLE_CLAIMED: u32 = 10;
+
+/// A log queue's enqueue is announced.
+pub const LOG_ENQUEUE_ANNOUNCED: u32 = 14;
+
+/// Its link is kept: it takes effect.
+pub const LOG_LINK_KEPT: u32 = 19;
+
+/// A log queue's dequeue is announced.
+pub const LOG_DEQUEUE_ANNOUNCED: u32 = 8;
+
+/// It has claimed its node. The claim is not kept yet.
+pub const LOG_CLAIMED: u32 = 14;
+
+/// Its claim is kept: it takes effect.
+pub const LOG_CLAIM_KEPT: u32 = 15;
