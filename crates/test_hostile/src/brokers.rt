@@ -6,42 +6,9 @@ use arena::{SLOTS, SlotId};
 use named::Broker;
 use persist::Memory;
 use std::alloc::Global;
+use test_support::brokers::{finish, recover};
 use test_support::is_explained;
-use words::{Call, Client, Kind, MAX_CALL_NUMBER, Refusal, Reply};
-
-/// More steps than any recovery here takes.
-const MOST_STEPS: u32 = 10_000;
-
-/// A new queue of this name.
-pub(crate) fn create(broker: &mut Broker, name: &[u8], kind: Kind) -> Result<(), Refusal> {
-    broker.create(name, kind)?;
-    for _ in 0..8 {
-        broker.create_step()?;
-    }
-    Ok(())
-}
-
-/// A call of client 0, to its end.
-pub(crate) fn call(
-    broker: &mut Broker,
-    slot: u8,
-    number: u64,
-    call: Call,
-) -> Result<Reply, Refusal> {
-    broker.start(SlotId(slot), Client(0), number, call)?;
-    let (reply, _) = broker.run_alone(SlotId(slot), Client(0))?;
-    Ok(reply)
-}
-
-/// Recovery, to its end.
-pub(crate) fn recover(broker: &mut Broker) -> Result<(), Refusal> {
-    for _ in 0..MOST_STEPS {
-        if broker.recover_step()? {
-            return Ok(());
-        }
-    }
-    Err(Refusal::NotReady)
-}
+use words::{Call, MAX_CALL_NUMBER, Refusal};
 
 /// Whether client 0 takes from a queue what its words held, or has no record or no number left for it.
 fn answers(
@@ -50,7 +17,7 @@ fn answers(
     slot: u8,
     queue: &PlainQueue<'_>,
 ) -> Result<bool, Refusal> {
-    let right = match call(broker, slot, MAX_CALL_NUMBER, Call::Deq) {
+    let right = match finish(broker, slot, 0, MAX_CALL_NUMBER, Call::Deq) {
         Err(Refusal::StaleNumber) => queue.has_greatest_number(),
         Err(Refusal::NoRoom) => queue.taken(alloc)?.is_none(),
         answered => Some(answered?) == queue.taken(alloc)?,

@@ -3,11 +3,10 @@
 
 ghost use Rattle.std.specs.Prelude.{◌<◌};
 
-use crate::brokers::{begun, create, serves};
+use crate::brokers::{begun, serves};
 use crate::plain_broker::{PlainBroker, image_of, words_in};
 use arena::{BrokerLayout, SLOTS, SlotId};
 use directory::sound as sound_directory;
-use test_support::below;
 use named::Broker;
 use persist::Memory;
 use rand_core::Rng;
@@ -15,7 +14,8 @@ use rand_pcg::Pcg32;
 use recover::sound;
 use std::alloc::Global;
 use std::test::Fail;
-use test_support::pass_over;
+use test_support::brokers::create;
+use test_support::{below, pass_over};
 use words::{Call, Client, Kind, Refusal, Rule};
 
 /// How many histories are drawn, how many acts each has, and how many images near what it leaves.

@@ -1,10 +1,11 @@
 //! Every change of each byte of some images, and every beginning: refused as a plain reading says, or served.
 
-use crate::brokers::{begun, call, create, serves};
+use crate::brokers::{begun, serves};
 use crate::plain_broker::refusal_of;
 use named::Broker;
 use std::alloc::Global;
 use std::test::Fail;
+use test_support::brokers::{create, finish};
 use words::{Call, Kind, Refusal};
 
 /// How many of the tried images were refused, and on how many a broker began and served.
@@ -24,8 +25,8 @@ fn two_queues(alloc: Global) -> Result<Vec<u8>, Refusal> {
     let mut broker = Broker::make(alloc, 1, 1)?;
     create(&mut broker, b"d", Kind::Durable)?;
     create(&mut broker, b"l", Kind::Log)?;
-    call(&mut broker, 0, 1, Call::Enq(5))?;
-    call(&mut broker, 1, 1, Call::Enq(5))?;
+    finish(&mut broker, 0, 0, 1, Call::Enq(5))?;
+    finish(&mut broker, 1, 0, 1, Call::Enq(5))?;
     broker.to_image()
 }
 
@@ -33,7 +34,7 @@ fn two_queues(alloc: Global) -> Result<Vec<u8>, Refusal> {
 fn one_put(alloc: Global) -> Result<Vec<u8>, Refusal> {
     let mut broker = Broker::make(alloc, 1, 2)?;
     create(&mut broker, b"q", Kind::Log)?;
-    call(&mut broker, 0, 1, Call::Enq(5))?;
+    finish(&mut broker, 0, 0, 1, Call::Enq(5))?;
     broker.to_image()
 }
 
