@@ -1,4 +1,4 @@
-//! A script from a reader to a writer, either of which may fail in the middle.
+//! A script from a reader to a writer, either of which fails after each byte.
 
 use devices::{FaultyReader, FaultyWriter};
 use explore::run;
@@ -10,20 +10,8 @@ const SCRIPT: &[u8] = b"queue durable 1 1\ncontent\n";
 const TRANSCRIPT: &[u8] = b"size 11\ncontent -\n";
 
 #[test]
-fn runs_from_a_reader_to_a_writer(rt: HostRuntime) -> Result<(), Fail> {
-    let mut reader = FaultyReader::new(SCRIPT, usize::MAX);
-    let mut writer = FaultyWriter::new(rt.alloc(), usize::MAX);
-    assert!(rt; run(rt.alloc(), &mut reader, &mut writer).is_ok());
-    assert!(rt; writer.flushed() == TRANSCRIPT);
-    let mut reader = FaultyReader::new(b"queue durable 1 1\nstop", usize::MAX);
-    let refused = run(rt.alloc(), &mut reader, &mut writer).err();
-    assert!(rt; refused == Some(Refusal::BadLine(2)) && writer.written() == TRANSCRIPT);
-    Ok(())
-}
-
-#[test]
 fn prints_nothing_of_an_unread_script(rt: HostRuntime) -> Result<(), Fail> {
-    for until_failure in [0, 10, SCRIPT.len()] {
+    for until_failure in 0..=SCRIPT.len() {
         let mut reader = FaultyReader::new(SCRIPT, until_failure);
         let mut writer = FaultyWriter::new(rt.alloc(), usize::MAX);
         let refused = run(rt.alloc(), &mut reader, &mut writer).err();
@@ -34,7 +22,7 @@ fn prints_nothing_of_an_unread_script(rt: HostRuntime) -> Result<(), Fail> {
 
 #[test]
 fn prints_a_beginning_where_a_write_fails(rt: HostRuntime) -> Result<(), Fail> {
-    for until_failure in [0, 5, TRANSCRIPT.len()] {
+    for until_failure in 0..=TRANSCRIPT.len() {
         let mut reader = FaultyReader::new(SCRIPT, usize::MAX);
         let mut writer = FaultyWriter::new(rt.alloc(), until_failure);
         let refused = run(rt.alloc(), &mut reader, &mut writer).err();
