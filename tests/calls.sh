@@ -14,7 +14,7 @@ public() {
         /^ *pub fn / || (of_trait && /^    fn /) { sub(/^ *(pub )?fn /, ""); sub(/[^A-Za-z0-9_].*/, ""); print }' | sort -u
 }
 
-for crate in $(sed -n 's/^| \([a-z]*\) | .*/\1/p' "$work/table" | sort -u); do
+for crate in $(sed -n 's/^| \([a-z_]*\) | .*/\1/p' "$work/table" | sort -u); do
     [ "$crate" != crate ] || continue
     grep "^| $crate |" "$work/table" > "$work/row"
     for name in $(public "$crate"); do
@@ -24,7 +24,7 @@ done
 
 # Every crate with public functions has its rows, but for the one that the two programs of refused memory share.
 for crate in $(sed -n 's/^\([a-z_]*\):.*/\1/p' crates.txt); do
-    [ "$crate" != subjects ] && [ -n "$(public "$crate")" ] || continue
+    [ "$crate" != test_growths ] && [ -n "$(public "$crate")" ] || continue
     judge "$crate" "$(grep -q "^| $crate |" "$work/table" || echo 'has no row')"
 done
 count

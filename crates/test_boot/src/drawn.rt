@@ -1,14 +1,14 @@
 //! Drawn acts with crashes and recovery: the order explains what happened, and the queue holds what its replay leaves.
 
-use crate::beginnings::{begins_with, copy};
 use arena::{DurableLayout, Layout, LogLayout};
-use test_support::index_below;
 use history::{Event, check_content};
 use interleave::{Act, World};
+use persist::Memory;
 use rand_core::Rng;
 use rand_pcg::Pcg32;
 use std::alloc::Global;
 use std::test::Fail;
+use test_support::index_below;
 use words::{Call, Client, Refusal};
 
 /// How many acts a world is drawn.
@@ -50,6 +50,18 @@ pub(crate) fn is_explained<L: Layout + Drop>(
     world: &World<L>,
 ) -> Result<bool, Refusal> {
     check_content(alloc, world.history(), &world.order()?, &world.content()?)
+}
+
+/// Another memory that keeps the same.
+fn copy(alloc: Global, memory: &Memory) -> Result<Memory, Refusal> {
+    Memory::from_image(alloc, memory.to_image()?.as_slice())
+}
+
+/// Whether a world begins with what a stopped one holds.
+fn begins_with<L: Layout + Drop>(old: &World<L>, new: &World<L>) -> Result<bool, Refusal> {
+    let held = old.content()?;
+    let same = new.content()?.as_slice() == held.as_slice();
+    Ok(same && new.history().base.as_slice() == held.as_slice())
 }
 
 /// How often the queue became ready again.

@@ -1,11 +1,8 @@
-//! Which kept words are sound, and worlds that begin on kept words.
+//! Worlds of both kinds of queue on drawn acts: one after another, each on what the one before keeps, and histories
+//! that follow one another.
 #![tactic(auto)]
 
-#[cfg(test)]
-mod beginnings;
 #[cfg(test)]
 mod drawn;
 #[cfg(test)]
 mod rotations;
-#[cfg(test)]
-mod sound;

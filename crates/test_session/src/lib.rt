@@ -1,5 +1,5 @@
-//! Sessions of numbered operations: crashes at each step of a call and of a recovery, what the environment keeps, images,
-//! and drawn requests beside a plain account.
+//! Sessions of numbered operations: crashes at each step of a call and of a recovery, what the environment keeps,
+//! images, and drawn requests beside a plain account.
 #![tactic(auto)]
 
 #[cfg(test)]

@@ -16,8 +16,6 @@ mod held;
 #[cfg(test)]
 mod lists;
 #[cfg(test)]
-mod making;
-#[cfg(test)]
 mod rotations;
 #[cfg(test)]
 mod seats;
