@@ -56,7 +56,7 @@ impl<L: Layout, W: KeptWords> KeptQueue<'_, L, W> {
             (λ rule. IsFirstBroken self.now.shape self.now.words rule) }
     {
         // A link back would keep recovery walking for ever, and a link to an unused record would put a value into the
-        // queue before its enqueue took effect: `names_the_first_broken_rule_of_a_durable_queue`.
+        // queue before its enqueue took effect: `a_broker_with_two_queues` of test_hostile.
         if !self.is_chain_sound(place) {
             return Some(Rule::Chain);
         }
