@@ -27,7 +27,9 @@ use Rattle.helping.specs.declared.dequeue.Claimed.{Claimed}
 use Rattle.helping.specs.declared.dequeue.DequeueClaim.{DequeueClaim as ClaimPoint}
 use Rattle.helping.specs.declared.dequeue.Claim.TheVariants.{Won, LostTo}
 use Rattle.helping.specs.declared.op.Op.{Op}
-use Rattle.helping.specs.declared.op.Op.TheVariants.{PrepareStore, PrepareFlush, EnqueueLoadTail, EnqueueLoadNext, EnqueueCheckTail, EnqueueLink, EnqueueFlushLink, EnqueueMoveTail, EnqueueFlushPassedLink, EnqueueHelpTail, DequeueLoadHead, DequeueLoadTail, DequeueLoadNext, DequeueCheckHead, DequeueStoreEmpty, DequeueFlushEmpty, DequeueFlushPassedLink, DequeueHelpTail, DequeueLoadValue, DequeueClaim, DequeueFlushClaim, DequeueStoreResult, DequeueFlushResult, DequeueMoveHead}
+use Rattle.helping.specs.declared.op.Op.TheVariants.{PrepareStore, PrepareFlush, EnqueueLoadTail, EnqueueLoadNext, EnqueueCheckTail, EnqueueLink, EnqueueMoveTail, EnqueueHelpTail, DequeueLoadHead, DequeueLoadTail, DequeueLoadNext, DequeueCheckHead, DequeueStoreEmpty, DequeueHelpTail, DequeueLoadValue, DequeueClaim, DequeueStoreResult, DequeueMoveHead, Flush as FlushPoint}
+use Rattle.helping.specs.declared.keeping.Keeping.{Keeping}
+use Rattle.helping.specs.declared.keeping.Keeping.TheVariants.{Link as KeepLink, PassedLink as KeepPassedLink, Empty as KeepEmpty, DequeuePassedLink as KeepDequeuePassedLink, Claim as KeepClaim, Result as KeepResult}
 
 abbrev pub node_of : ℕ → NodeId
 node_of n = record { 0 = n }
@@ -35,12 +37,19 @@ node_of n = record { 0 = n }
 abbrev pub token_of : ℕ → Token
 token_of n = record { 0 = n }
 
--- the store, and the flush, of a write
+-- the store of a write
 abbrev pub store : Write → Access Place
 store w = Store w.place w.value
 
-abbrev pub flush : Write → Access Place
-flush w = Flush w.place
+-- the place whose word is kept
+abbrev pub kept_place : Kind → Keeping → Place
+kept_place kind (KeepLink p) = Next p.last
+kept_place kind (KeepPassedLink p) = Next p.last
+kept_place kind (KeepEmpty p) = (empty_answer_of kind p.token).place
+kept_place kind (KeepDequeuePassedLink p) = Next p.last
+kept_place kind (KeepClaim p) = Mark p.claimed.next
+kept_place kind (KeepResult p) =
+    (result_of kind (winner p.claimed.claim p.claimed.token) p.claimed.next p.claimed.value).place
 
 -- the one access of each waiting point
 abbrev pub access_of : Kind → Op → Access Place
@@ -50,26 +59,20 @@ access_of kind (EnqueueLoadTail p) = Load Tail
 access_of kind (EnqueueLoadNext p) = Load (Next p.last)
 access_of kind (EnqueueCheckTail p) = Load Tail
 access_of kind (EnqueueLink p) = Cas (Next p.last) 0 p.node.0
-access_of kind (EnqueueFlushLink p) = Flush (Next p.last)
 access_of kind (EnqueueMoveTail p) = Cas Tail p.last.0 p.node.0
-access_of kind (EnqueueFlushPassedLink p) = Flush (Next p.last)
 access_of kind (EnqueueHelpTail p) = Cas Tail p.last.0 p.next.0
 access_of kind (DequeueLoadHead p) = Load Head
 access_of kind (DequeueLoadTail p) = Load Tail
 access_of kind (DequeueLoadNext p) = Load (Next p.first)
 access_of kind (DequeueCheckHead p) = Load Head
 access_of kind (DequeueStoreEmpty p) = store (empty_answer_of kind p.token)
-access_of kind (DequeueFlushEmpty p) = flush (empty_answer_of kind p.token)
-access_of kind (DequeueFlushPassedLink p) = Flush (Next p.last)
 access_of kind (DequeueHelpTail p) = Cas Tail p.last.0 p.next.0
 access_of kind (DequeueLoadValue p) = Load (Value p.next)
 access_of kind (DequeueClaim p) = Cas (Mark p.next) 0 p.token.0
-access_of kind (DequeueFlushClaim p) = Flush (Mark p.claimed.next)
 access_of kind (DequeueStoreResult p) =
     store (result_of kind (winner p.claimed.claim p.claimed.token) p.claimed.next p.claimed.value)
-access_of kind (DequeueFlushResult p) =
-    flush (result_of kind (winner p.claimed.claim p.claimed.token) p.claimed.next p.claimed.value)
 access_of kind (DequeueMoveHead p) = Cas Head p.claimed.first.0 p.claimed.next.0
+access_of kind (FlushPoint k) = Flush (kept_place kind k)
 
 -- where a call acts, once its record is prepared
 abbrev pub first_from : Call → Begun → Op
@@ -101,6 +104,16 @@ claim_by found = if found == 0 then Won else LostTo (token_of found)
 abbrev pub claimed_at : ClaimPoint → Claim → Claimed
 claimed_at p claim = record { token = p.token; first = p.first; next = p.next; value = p.value; claim = claim }
 
+-- what comes once the word is kept
+abbrev pub after_keeping : Keeping → After Op Reply
+after_keeping (KeepLink p) = More (EnqueueMoveTail (record { node = p.node; last = p.last }))
+after_keeping (KeepPassedLink p) = More (EnqueueHelpTail (record { node = p.node; last = p.last; next = p.next }))
+after_keeping (KeepEmpty p) = Done Empty
+after_keeping (KeepDequeuePassedLink p) =
+    More (DequeueHelpTail (record { token = p.token; last = p.last; next = p.next }))
+after_keeping (KeepClaim p) = More (DequeueStoreResult (record { claimed = p.claimed }))
+after_keeping (KeepResult p) = More (DequeueMoveHead (record { claimed = p.claimed }))
+
 -- what comes after the access found this value
 abbrev pub successor : Kind → Op → ℕ → After Op Reply
 successor kind (PrepareStore p) found = More (prepared_op (prepare_successor kind (prepare_store p)))
@@ -112,16 +125,13 @@ successor kind (EnqueueCheckTail p) found =
     if found == p.last.0
     then (if p.next.0 == 0
     then More (EnqueueLink (record { node = p.node; last = p.last }))
-    else More (EnqueueFlushPassedLink (record { node = p.node; last = p.last; next = p.next })))
+    else More (FlushPoint (KeepPassedLink (record { node = p.node; last = p.last; next = p.next }))))
     else More (EnqueueLoadTail (record { node = p.node }))
 successor kind (EnqueueLink p) found =
     if found == 0
-    then More (EnqueueFlushLink (record { node = p.node; last = p.last }))
+    then More (FlushPoint (KeepLink (record { node = p.node; last = p.last })))
     else More (EnqueueLoadTail (record { node = p.node }))
-successor kind (EnqueueFlushLink p) found = More (EnqueueMoveTail (record { node = p.node; last = p.last }))
 successor kind (EnqueueMoveTail p) found = Done Answered
-successor kind (EnqueueFlushPassedLink p) found =
-    More (EnqueueHelpTail (record { node = p.node; last = p.last; next = p.next }))
 successor kind (EnqueueHelpTail p) found = More (EnqueueLoadTail (record { node = p.node }))
 successor kind (DequeueLoadHead p) found = More (DequeueLoadTail (record { token = p.token; first = node_of found }))
 successor kind (DequeueLoadTail p) found =
@@ -133,21 +143,17 @@ successor kind (DequeueCheckHead p) found =
     then (if p.first.0 == p.last.0
     then (if p.next.0 == 0
     then More (DequeueStoreEmpty (record { token = p.token }))
-    else More (DequeueFlushPassedLink (record { token = p.token; last = p.last; next = p.next })))
+    else More (FlushPoint (KeepDequeuePassedLink (record { token = p.token; last = p.last; next = p.next }))))
     else More (DequeueLoadValue (record { token = p.token; first = p.first; next = p.next })))
     else More (DequeueLoadHead (record { token = p.token }))
-successor kind (DequeueStoreEmpty p) found = More (DequeueFlushEmpty (record { token = p.token }))
-successor kind (DequeueFlushEmpty p) found = Done Empty
-successor kind (DequeueFlushPassedLink p) found =
-    More (DequeueHelpTail (record { token = p.token; last = p.last; next = p.next }))
+successor kind (DequeueStoreEmpty p) found = More (FlushPoint (KeepEmpty (record { token = p.token })))
 successor kind (DequeueHelpTail p) found = More (DequeueLoadHead (record { token = p.token }))
 successor kind (DequeueLoadValue p) found =
     More (DequeueClaim (record { token = p.token; first = p.first; next = p.next; value = found }))
-successor kind (DequeueClaim p) found = More (DequeueFlushClaim (record { claimed = claimed_at p (claim_by found) }))
-successor kind (DequeueFlushClaim p) found = More (DequeueStoreResult (record { claimed = p.claimed }))
-successor kind (DequeueStoreResult p) found = More (DequeueFlushResult (record { claimed = p.claimed }))
-successor kind (DequeueFlushResult p) found = More (DequeueMoveHead (record { claimed = p.claimed }))
+successor kind (DequeueClaim p) found = More (FlushPoint (KeepClaim (record { claimed = claimed_at p (claim_by found) })))
+successor kind (DequeueStoreResult p) found = More (FlushPoint (KeepResult (record { claimed = p.claimed })))
 successor kind (DequeueMoveHead p) found = answer_or_again p.claimed.claim p.claimed.token p.claimed.value
+successor kind (FlushPoint k) found = after_keeping k
 
 -- the numbers of a claim, and of what follows it
 abbrev pub IsClaiming : Shape → ℕ → ℕ → ℕ → ℕ → Type 0
@@ -155,6 +161,15 @@ IsClaiming s token first next value = IsRecord s token × IsNode s first × IsNo
 
 abbrev pub IsClaimedAt : Shape → Claimed → Type 0
 IsClaimedAt s c = IsClaiming s c.token.0 c.first.0 c.next.0 c.value × IsRecord s (winner c.claim c.token).0
+
+-- what it learnt of what it keeps is in range
+abbrev pub IsKeeping : Shape → Keeping → Type 0
+IsKeeping s (KeepLink p) = IsRecord s p.node.0 × IsNode s p.last.0
+IsKeeping s (KeepPassedLink p) = IsRecord s p.node.0 × IsNode s p.last.0 × IsNode s p.next.0
+IsKeeping s (KeepEmpty p) = IsRecord s p.token.0
+IsKeeping s (KeepDequeuePassedLink p) = IsRecord s p.token.0 × IsNode s p.last.0 × IsNode s p.next.0
+IsKeeping s (KeepClaim p) = IsClaimedAt s p.claimed
+IsKeeping s (KeepResult p) = IsClaimedAt s p.claimed
 
 -- what the call learnt is in range
 abbrev pub IsPoint : Shape → Op → Type 0
@@ -164,21 +179,16 @@ IsPoint s (EnqueueLoadTail p) = IsRecord s p.node.0
 IsPoint s (EnqueueLoadNext p) = IsRecord s p.node.0 × IsNode s p.last.0
 IsPoint s (EnqueueCheckTail p) = IsRecord s p.node.0 × IsNode s p.last.0 × IsNode s p.next.0
 IsPoint s (EnqueueLink p) = IsRecord s p.node.0 × IsNode s p.last.0
-IsPoint s (EnqueueFlushLink p) = IsRecord s p.node.0 × IsNode s p.last.0
 IsPoint s (EnqueueMoveTail p) = IsRecord s p.node.0 × IsNode s p.last.0
-IsPoint s (EnqueueFlushPassedLink p) = IsRecord s p.node.0 × IsNode s p.last.0 × IsNode s p.next.0
 IsPoint s (EnqueueHelpTail p) = IsRecord s p.node.0 × IsNode s p.last.0 × IsNode s p.next.0
 IsPoint s (DequeueLoadHead p) = IsRecord s p.token.0
 IsPoint s (DequeueLoadTail p) = IsRecord s p.token.0 × IsNode s p.first.0
 IsPoint s (DequeueLoadNext p) = IsRecord s p.token.0 × IsNode s p.first.0 × IsNode s p.last.0
 IsPoint s (DequeueCheckHead p) = IsRecord s p.token.0 × IsNode s p.first.0 × IsNode s p.last.0 × IsNode s p.next.0
 IsPoint s (DequeueStoreEmpty p) = IsRecord s p.token.0
-IsPoint s (DequeueFlushEmpty p) = IsRecord s p.token.0
-IsPoint s (DequeueFlushPassedLink p) = IsRecord s p.token.0 × IsNode s p.last.0 × IsNode s p.next.0
 IsPoint s (DequeueHelpTail p) = IsRecord s p.token.0 × IsNode s p.last.0 × IsNode s p.next.0
 IsPoint s (DequeueLoadValue p) = IsRecord s p.token.0 × IsNode s p.first.0 × IsNode s p.next.0
 IsPoint s (DequeueClaim p) = IsClaiming s p.token.0 p.first.0 p.next.0 p.value
-IsPoint s (DequeueFlushClaim p) = IsClaimedAt s p.claimed
 IsPoint s (DequeueStoreResult p) = IsClaimedAt s p.claimed
-IsPoint s (DequeueFlushResult p) = IsClaimedAt s p.claimed
 IsPoint s (DequeueMoveHead p) = IsClaimedAt s p.claimed
+IsPoint s (FlushPoint k) = IsKeeping s k

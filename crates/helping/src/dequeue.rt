@@ -8,9 +8,10 @@ ghost use Rattle.arena.specs.Answers.{result_of};
 ghost use Rattle.helping.specs.Claims.{winner};
 
 use crate::Op;
+use crate::keeping::{KeepClaim, KeepDequeuePassedLink, KeepEmpty, KeepResult, Keeping};
 use arena::{Layout, Place, Write};
 use persist::{Swap, WordMemory};
-use stepper::{After, Resume, Stepped, cas_at, flush_at, load_at, store_at};
+use stepper::{After, Resume, Stepped, cas_at, load_at, store_at};
 use words::{NodeId, Reply, Token};
 
 /// How a claim went.
@@ -45,7 +46,7 @@ pub struct Claimed {
 
 impl Claimed {
     /// Where the winner's result is written, and what.
-    fn result<L: Layout>(&self, layout: &L) -> Write
+    pub(crate) fn result<L: Layout>(&self, layout: &L) -> Write
         ensures { result
             ≡ result_of (L.shape layout.now).kind (winner self.now.claim self.now.token) self.now.next self.now.value }
     {
@@ -165,7 +166,7 @@ impl Resume for DequeueCheckHead {
         } else if next.0 == 0 {
             Op::DequeueStoreEmpty(DequeueStoreEmpty { token })
         } else {
-            Op::DequeueFlushPassedLink(DequeueFlushPassedLink { token, last, next })
+            Op::Flush(Keeping::DequeuePassedLink(KeepDequeuePassedLink { token, last, next }))
         }))
     }
 }
@@ -188,58 +189,7 @@ impl Resume for DequeueStoreEmpty {
     fn step<L: Layout, M: WordMemory>(self, layout: &L, memory: &mut M) -> Stepped<Op, Reply> {
         let token = self.token;
         store_at(layout, memory, layout.empty_answer(token));
-        Stepped::quiet(After::More(Op::DequeueFlushEmpty(DequeueFlushEmpty { token })))
-    }
-}
-
-/// About to keep that answer.
-#[derive(Clone, Copy, Debug, PartialEq, Eq, Hash)]
-pub struct DequeueFlushEmpty {
-    pub(crate) token: Token,
-}
-
-// A crash would lose an answer that is not kept, and the client would be told that its answered call was not taken
-// (the scenarios of empty dequeues).
-impl Resume for DequeueFlushEmpty {
-    type Point = Op;
-
-    ghost use Rattle.helping.specs.declared.op.Op.TheVariants.{DequeueFlushEmpty};
-
-    ghost point = { DequeueFlushEmpty };
-
-    fn step<L: Layout, M: WordMemory>(self, layout: &L, memory: &mut M) -> Stepped<Op, Reply> {
-        let change = flush_at(layout, memory, layout.empty_answer(self.token).place);
-        Stepped {
-            after: After::Done(Reply::Empty),
-            change,
-        }
-    }
-}
-
-/// About to keep an enqueuer's link, which the tail has to pass.
-#[derive(Clone, Copy, Debug, PartialEq, Eq, Hash)]
-pub struct DequeueFlushPassedLink {
-    pub(crate) token: Token,
-    pub(crate) last: NodeId,
-    pub(crate) next: NodeId,
-}
-
-// A claimed node behind a link that is not kept would be lost in a crash, with the dequeue that was answered with it
-// (`tail_passes_an_unkept_link`).
-impl Resume for DequeueFlushPassedLink {
-    type Point = Op;
-
-    ghost use Rattle.helping.specs.declared.op.Op.TheVariants.{DequeueFlushPassedLink};
-
-    ghost point = { DequeueFlushPassedLink };
-
-    fn step<L: Layout, M: WordMemory>(self, layout: &L, memory: &mut M) -> Stepped<Op, Reply> {
-        let DequeueFlushPassedLink { token, last, next } = self;
-        let change = flush_at(layout, memory, Place::Next(last));
-        Stepped {
-            after: After::More(Op::DequeueHelpTail(DequeueHelpTail { token, last, next })),
-            change,
-        }
+        Stepped::quiet(After::More(Op::Flush(Keeping::Empty(KeepEmpty { token }))))
     }
 }
 
@@ -337,32 +287,7 @@ impl Resume for DequeueClaim {
             value,
             claim,
         };
-        Stepped::quiet(After::More(Op::DequeueFlushClaim(DequeueFlushClaim { claimed })))
-    }
-}
-
-/// About to keep the claim, its own or another's: the winner's dequeue takes effect, if no other flush or eviction kept
-/// it before.
-#[derive(Clone, Copy, Debug, PartialEq, Eq, Hash)]
-pub struct DequeueFlushClaim {
-    pub(crate) claimed: Claimed,
-}
-
-// A crash would lose a claim that is not kept, and the item would come out twice (`answers_before_the_claim_is_kept`).
-impl Resume for DequeueFlushClaim {
-    type Point = Op;
-
-    ghost use Rattle.helping.specs.declared.op.Op.TheVariants.{DequeueFlushClaim};
-
-    ghost point = { DequeueFlushClaim };
-
-    fn step<L: Layout, M: WordMemory>(self, layout: &L, memory: &mut M) -> Stepped<Op, Reply> {
-        let claimed = self.claimed;
-        let change = flush_at(layout, memory, Place::Mark(claimed.next));
-        Stepped {
-            after: After::More(Op::DequeueStoreResult(DequeueStoreResult { claimed })),
-            change,
-        }
+        Stepped::quiet(After::More(Op::Flush(Keeping::Claim(KeepClaim { claimed }))))
     }
 }
 
@@ -384,33 +309,7 @@ impl Resume for DequeueStoreResult {
     fn step<L: Layout, M: WordMemory>(self, layout: &L, memory: &mut M) -> Stepped<Op, Reply> {
         let claimed = self.claimed;
         store_at(layout, memory, claimed.result(layout));
-        Stepped::quiet(After::More(Op::DequeueFlushResult(DequeueFlushResult { claimed })))
-    }
-}
-
-/// About to keep that result.
-#[derive(Clone, Copy, Debug, PartialEq, Eq, Hash)]
-pub struct DequeueFlushResult {
-    pub(crate) claimed: Claimed,
-}
-
-// The head passes no node whose result is not kept: a crash would leave its claimer without an answer
-// (`result_is_not_kept`).
-impl Resume for DequeueFlushResult {
-    type Point = Op;
-
-    ghost use Rattle.helping.specs.declared.op.Op.TheVariants.{DequeueFlushResult};
-
-    ghost point = { DequeueFlushResult };
-
-    fn step<L: Layout, M: WordMemory>(self, layout: &L, memory: &mut M) -> Stepped<Op, Reply> {
-        let claimed = self.claimed;
-        let result = claimed.result(layout);
-        let change = flush_at(layout, memory, result.place);
-        Stepped {
-            after: After::More(Op::DequeueMoveHead(DequeueMoveHead { claimed })),
-            change,
-        }
+        Stepped::quiet(After::More(Op::Flush(Keeping::Result(KeepResult { claimed }))))
     }
 }
 

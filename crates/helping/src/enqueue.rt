@@ -1,11 +1,13 @@
 //! The waiting points of an enqueue, after Michael and Scott (1996): the node is linked behind the last one, the
 //! link is kept, and only then the tail moves. Whoever meets a tail that lags keeps the link that it has to pass, and
-//! moves it on. The `//` at a point says what goes wrong without it, with the must-fail edit that shows it.
+//! moves it on. The `//` at a point says what goes wrong without it, with the must-fail edit that shows it; what is kept on
+//! the way stands in `keeping`.
 
 use crate::Op;
+use crate::keeping::{KeepLink, KeepPassedLink, Keeping};
 use arena::{Layout, Place, Write};
 use persist::{Swap, WordMemory};
-use stepper::{After, Resume, Stepped, cas_at, flush_at, load_at};
+use stepper::{After, Resume, Stepped, cas_at, load_at};
 use words::{NodeId, Reply};
 
 /// About to load the tail.
@@ -82,7 +84,7 @@ impl Resume for EnqueueCheckTail {
         } else if next.0 == 0 {
             Op::EnqueueLink(EnqueueLink { node, last })
         } else {
-            Op::EnqueueFlushPassedLink(EnqueueFlushPassedLink { node, last, next })
+            Op::Flush(Keeping::PassedLink(KeepPassedLink { node, last, next }))
         }))
     }
 }
@@ -110,35 +112,9 @@ impl Resume for EnqueueLink {
             value: node.0 as u64,
         };
         Stepped::quiet(After::More(match cas_at(layout, memory, 0, link) {
-            Swap::Done => Op::EnqueueFlushLink(EnqueueFlushLink { node, last }),
+            Swap::Done => Op::Flush(Keeping::Link(KeepLink { node, last })),
             Swap::Found(_) => Op::EnqueueLoadTail(EnqueueLoadTail { node }),
         }))
-    }
-}
-
-/// About to keep the link: the enqueue takes effect, if no other flush or eviction kept it before.
-#[derive(Clone, Copy, Debug, PartialEq, Eq, Hash)]
-pub struct EnqueueFlushLink {
-    pub(crate) node: NodeId,
-    pub(crate) last: NodeId,
-}
-
-// A crash would lose a link that is not kept, and with it a node whose enqueue was answered
-// (`answers_before_the_link_is_kept`).
-impl Resume for EnqueueFlushLink {
-    type Point = Op;
-
-    ghost use Rattle.helping.specs.declared.op.Op.TheVariants.{EnqueueFlushLink};
-
-    ghost point = { EnqueueFlushLink };
-
-    fn step<L: Layout, M: WordMemory>(self, layout: &L, memory: &mut M) -> Stepped<Op, Reply> {
-        let EnqueueFlushLink { node, last } = self;
-        let change = flush_at(layout, memory, Place::Next(last));
-        Stepped {
-            after: After::More(Op::EnqueueMoveTail(EnqueueMoveTail { node, last })),
-            change,
-        }
     }
 }
 
@@ -164,33 +140,6 @@ impl Resume for EnqueueMoveTail {
         };
         let _swap = cas_at(layout, memory, self.last.0 as u64, tail);
         Stepped::quiet(After::Done(Reply::Done))
-    }
-}
-
-/// About to keep another's link, which the tail has to pass.
-#[derive(Clone, Copy, Debug, PartialEq, Eq, Hash)]
-pub struct EnqueueFlushPassedLink {
-    pub(crate) node: NodeId,
-    pub(crate) last: NodeId,
-    pub(crate) next: NodeId,
-}
-
-// Behind a link that is not kept this enqueue's own node would be lost with it, though its own link was kept
-// (`tail_passes_an_unkept_link` shows it on a dequeue's).
-impl Resume for EnqueueFlushPassedLink {
-    type Point = Op;
-
-    ghost use Rattle.helping.specs.declared.op.Op.TheVariants.{EnqueueFlushPassedLink};
-
-    ghost point = { EnqueueFlushPassedLink };
-
-    fn step<L: Layout, M: WordMemory>(self, layout: &L, memory: &mut M) -> Stepped<Op, Reply> {
-        let EnqueueFlushPassedLink { node, last, next } = self;
-        let change = flush_at(layout, memory, Place::Next(last));
-        Stepped {
-            after: After::More(Op::EnqueueHelpTail(EnqueueHelpTail { node, last, next })),
-            change,
-        }
     }
 }
 

@@ -4,15 +4,19 @@
 
 mod dequeue;
 mod enqueue;
+mod keeping;
 mod op;
 
 pub use dequeue::{
-    Claim, Claimed, DequeueCheckHead, DequeueClaim, DequeueFlushClaim, DequeueFlushEmpty,
-    DequeueFlushPassedLink, DequeueFlushResult, DequeueHelpTail, DequeueLoadHead, DequeueLoadNext,
-    DequeueLoadTail, DequeueLoadValue, DequeueMoveHead, DequeueStoreEmpty, DequeueStoreResult,
+    Claim, Claimed, DequeueCheckHead, DequeueClaim, DequeueHelpTail, DequeueLoadHead,
+    DequeueLoadNext, DequeueLoadTail, DequeueLoadValue, DequeueMoveHead, DequeueStoreEmpty,
+    DequeueStoreResult,
 };
 pub use enqueue::{
-    EnqueueCheckTail, EnqueueFlushLink, EnqueueFlushPassedLink, EnqueueHelpTail, EnqueueLink,
-    EnqueueLoadNext, EnqueueLoadTail, EnqueueMoveTail,
+    EnqueueCheckTail, EnqueueHelpTail, EnqueueLink, EnqueueLoadNext, EnqueueLoadTail,
+    EnqueueMoveTail,
+};
+pub use keeping::{
+    KeepClaim, KeepDequeuePassedLink, KeepEmpty, KeepLink, KeepPassedLink, KeepResult, Keeping,
 };
 pub use op::Op;

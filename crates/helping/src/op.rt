@@ -6,14 +6,14 @@ ghost use Rattle.helping.specs.Table.{first_of, begun_at, prepared_op};
 ghost use Rattle.helping.specs.Looks.{is_look, found_no_node};
 
 use crate::dequeue::{
-    DequeueCheckHead, DequeueClaim, DequeueFlushClaim, DequeueFlushEmpty, DequeueFlushPassedLink,
-    DequeueFlushResult, DequeueHelpTail, DequeueLoadHead, DequeueLoadNext, DequeueLoadTail,
-    DequeueLoadValue, DequeueMoveHead, DequeueStoreEmpty, DequeueStoreResult,
+    DequeueCheckHead, DequeueClaim, DequeueHelpTail, DequeueLoadHead, DequeueLoadNext,
+    DequeueLoadTail, DequeueLoadValue, DequeueMoveHead, DequeueStoreEmpty, DequeueStoreResult,
 };
 use crate::enqueue::{
-    EnqueueCheckTail, EnqueueFlushLink, EnqueueFlushPassedLink, EnqueueHelpTail, EnqueueLink,
-    EnqueueLoadNext, EnqueueLoadTail, EnqueueMoveTail,
+    EnqueueCheckTail, EnqueueHelpTail, EnqueueLink, EnqueueLoadNext, EnqueueLoadTail,
+    EnqueueMoveTail,
 };
+use crate::keeping::Keeping;
 use arena::Layout;
 use persist::WordMemory;
 use stepper::{
@@ -30,24 +30,20 @@ pub enum Op {
     EnqueueLoadNext(EnqueueLoadNext),
     EnqueueCheckTail(EnqueueCheckTail),
     EnqueueLink(EnqueueLink),
-    EnqueueFlushLink(EnqueueFlushLink),
     EnqueueMoveTail(EnqueueMoveTail),
-    EnqueueFlushPassedLink(EnqueueFlushPassedLink),
     EnqueueHelpTail(EnqueueHelpTail),
     DequeueLoadHead(DequeueLoadHead),
     DequeueLoadTail(DequeueLoadTail),
     DequeueLoadNext(DequeueLoadNext),
     DequeueCheckHead(DequeueCheckHead),
     DequeueStoreEmpty(DequeueStoreEmpty),
-    DequeueFlushEmpty(DequeueFlushEmpty),
-    DequeueFlushPassedLink(DequeueFlushPassedLink),
     DequeueHelpTail(DequeueHelpTail),
     DequeueLoadValue(DequeueLoadValue),
     DequeueClaim(DequeueClaim),
-    DequeueFlushClaim(DequeueFlushClaim),
     DequeueStoreResult(DequeueStoreResult),
-    DequeueFlushResult(DequeueFlushResult),
     DequeueMoveHead(DequeueMoveHead),
+    /// About to keep a word.
+    Flush(Keeping),
 }
 
 impl Op {
@@ -135,24 +131,19 @@ impl Resume for Op {
             Op::EnqueueLoadNext(point) => point.step(layout, memory),
             Op::EnqueueCheckTail(point) => point.step(layout, memory),
             Op::EnqueueLink(point) => point.step(layout, memory),
-            Op::EnqueueFlushLink(point) => point.step(layout, memory),
             Op::EnqueueMoveTail(point) => point.step(layout, memory),
-            Op::EnqueueFlushPassedLink(point) => point.step(layout, memory),
             Op::EnqueueHelpTail(point) => point.step(layout, memory),
             Op::DequeueLoadHead(point) => point.step(layout, memory),
             Op::DequeueLoadTail(point) => point.step(layout, memory),
             Op::DequeueLoadNext(point) => point.step(layout, memory),
             Op::DequeueCheckHead(point) => point.step(layout, memory),
             Op::DequeueStoreEmpty(point) => point.step(layout, memory),
-            Op::DequeueFlushEmpty(point) => point.step(layout, memory),
-            Op::DequeueFlushPassedLink(point) => point.step(layout, memory),
             Op::DequeueHelpTail(point) => point.step(layout, memory),
             Op::DequeueLoadValue(point) => point.step(layout, memory),
             Op::DequeueClaim(point) => point.step(layout, memory),
-            Op::DequeueFlushClaim(point) => point.step(layout, memory),
             Op::DequeueStoreResult(point) => point.step(layout, memory),
-            Op::DequeueFlushResult(point) => point.step(layout, memory),
             Op::DequeueMoveHead(point) => point.step(layout, memory),
+            Op::Flush(keeping) => keeping.step(layout, memory),
         }
     }
 }

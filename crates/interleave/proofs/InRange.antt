@@ -15,7 +15,8 @@ use Rattle.arena.specs.declared.place.Place.{Place}
 use Rattle.arena.specs.declared.place.Write.{Write}
 use Rattle.recover.specs.Table.{access_of as recovery_access, IsPoint as IsRecoveryPoint}
 use Rattle.recover.specs.declared.point.RecoveryPoint.{RecoveryPoint}
-use Rattle.recover.specs.declared.point.RecoveryPoint.TheVariants.{RecoveryLoadHead, RecoveryLoadNext, RecoveryLoadInsert, RecoveryStoreStatus, RecoveryFlushStatus, RecoveryLoadMark, RecoveryLoadValue, RecoveryStoreResult, RecoveryFlushResult, RecoveryStoreHead, RecoveryFlushHead, RecoveryStoreTail, RecoveryFlushTail, RecoveryLoadAnnouncement, RecoveryLoadCell, RecoveryLoadNumber, RecoveryLoadKind, RecoveryLoadStatus, RecoveryLoadRemove, RecoveryLoadEntryNode, RecoveryLoadRemovedValue}
+use Rattle.recover.specs.declared.point.RecoveryPoint.TheVariants.{RecoveryLoadHead, RecoveryLoadNext, RecoveryLoadInsert, RecoveryStoreStatus, RecoveryLoadMark, RecoveryLoadValue, RecoveryStoreResult, RecoveryStoreHead, RecoveryStoreTail, RecoveryLoadAnnouncement, RecoveryLoadCell, RecoveryLoadNumber, RecoveryLoadKind, RecoveryLoadStatus, RecoveryLoadRemove, RecoveryLoadEntryNode, RecoveryLoadRemovedValue, Flush as RecoveryFlush}
+use Rattle.recover.specs.declared.keeping.RecoveryKeeping.TheVariants.{Status as RecoveryKeepStatus, Result as RecoveryKeepResult, Head as RecoveryKeepHead, Tail as RecoveryKeepTail}
 use Rattle.stepper.specs.Step.{place_of, IsReadInRange}
 use Rattle.stepper.specs.Preparation.{preparation_from, preparation_of, prepared_with, IsBegun, IsPreparing}
 use Rattle.stepper.specs.declared.resume.After.{After}
@@ -25,7 +26,8 @@ use Rattle.helping.specs.declared.dequeue.Claim.{Claim}
 use Rattle.helping.specs.declared.dequeue.Claim.TheVariants.{Won, LostTo}
 use Rattle.helping.specs.Table.{access_of, successor, first_from, prepared_op, begun_at, answer_or_again, IsPoint}
 use Rattle.helping.specs.declared.op.Op.{Op}
-use Rattle.helping.specs.declared.op.Op.TheVariants.{PrepareStore, PrepareFlush, EnqueueLoadTail, EnqueueLoadNext, EnqueueCheckTail, EnqueueLink, EnqueueFlushLink, EnqueueMoveTail, EnqueueFlushPassedLink, EnqueueHelpTail, DequeueLoadHead, DequeueLoadTail, DequeueLoadNext, DequeueCheckHead, DequeueStoreEmpty, DequeueFlushEmpty, DequeueFlushPassedLink, DequeueHelpTail, DequeueLoadValue, DequeueClaim, DequeueFlushClaim, DequeueStoreResult, DequeueFlushResult, DequeueMoveHead}
+use Rattle.helping.specs.declared.op.Op.TheVariants.{PrepareStore, PrepareFlush, EnqueueLoadTail, EnqueueLoadNext, EnqueueCheckTail, EnqueueLink, EnqueueMoveTail, EnqueueHelpTail, DequeueLoadHead, DequeueLoadTail, DequeueLoadNext, DequeueCheckHead, DequeueStoreEmpty, DequeueHelpTail, DequeueLoadValue, DequeueClaim, DequeueStoreResult, DequeueMoveHead, Flush as FlushPoint}
+use Rattle.helping.specs.declared.keeping.Keeping.TheVariants.{Link as KeepLink, PassedLink as KeepPassedLink, Empty as KeepEmpty, DequeuePassedLink as KeepDequeuePassedLink, Claim as KeepClaim, Result as KeepResult}
 
 -- the access is at a place, and what it may write fits there
 abbrev pub AccessFits : Shape → Access Place → Type 0
@@ -97,23 +99,18 @@ reads_by_calls kind (EnqueueLoadTail p) = tt
 reads_by_calls kind (EnqueueLoadNext p) = tt
 reads_by_calls kind (EnqueueCheckTail p) = tt
 reads_by_calls kind (EnqueueLink p) = tt
-reads_by_calls kind (EnqueueFlushLink p) = tt
+reads_by_calls kind (FlushPoint k) = tt
 reads_by_calls kind (EnqueueMoveTail p) = tt
-reads_by_calls kind (EnqueueFlushPassedLink p) = tt
 reads_by_calls kind (EnqueueHelpTail p) = tt
 reads_by_calls kind (DequeueLoadHead p) = tt
 reads_by_calls kind (DequeueLoadTail p) = tt
 reads_by_calls kind (DequeueLoadNext p) = tt
 reads_by_calls kind (DequeueCheckHead p) = tt
 reads_by_calls kind (DequeueStoreEmpty p) = tt
-reads_by_calls kind (DequeueFlushEmpty p) = tt
-reads_by_calls kind (DequeueFlushPassedLink p) = tt
 reads_by_calls kind (DequeueHelpTail p) = tt
 reads_by_calls kind (DequeueLoadValue p) = tt
 reads_by_calls kind (DequeueClaim p) = tt
-reads_by_calls kind (DequeueFlushClaim p) = tt
 reads_by_calls kind (DequeueStoreResult p) = tt
-reads_by_calls kind (DequeueFlushResult p) = tt
 reads_by_calls kind (DequeueMoveHead p) = tt
 
 pub in_range : (s : Shape) (access : Access Place) (v : ℕ) → Fits s (place_of access) v → IsReadInRange s access v
@@ -135,9 +132,9 @@ access_fits s kind (EnqueueLoadTail p) k h = tt
 access_fits s kind (EnqueueLoadNext p) k h = grind arith
 access_fits s kind (EnqueueCheckTail p) k h = tt
 access_fits s kind (EnqueueLink p) k h = grind arith
-access_fits s kind (EnqueueFlushLink p) k h = grind arith
+access_fits s kind (FlushPoint (KeepLink p)) k h = grind arith
 access_fits s kind (EnqueueMoveTail p) k h = grind arith
-access_fits s kind (EnqueueFlushPassedLink p) k h = grind arith
+access_fits s kind (FlushPoint (KeepPassedLink p)) k h = grind arith
 access_fits s kind (EnqueueHelpTail p) k h = grind arith
 access_fits s kind (DequeueLoadHead p) k h = tt
 access_fits s kind (DequeueLoadTail p) k h = tt
@@ -145,17 +142,17 @@ access_fits s kind (DequeueLoadNext p) k h = grind arith
 access_fits s kind (DequeueCheckHead p) k h = tt
 access_fits s Durable (DequeueStoreEmpty p) k h = grind arith
 access_fits s Log (DequeueStoreEmpty p) k h = grind arith
-access_fits s Durable (DequeueFlushEmpty p) k h = grind arith
-access_fits s Log (DequeueFlushEmpty p) k h = grind arith
-access_fits s kind (DequeueFlushPassedLink p) k h = grind arith
+access_fits s Durable (FlushPoint (KeepEmpty p)) k h = grind arith
+access_fits s Log (FlushPoint (KeepEmpty p)) k h = grind arith
+access_fits s kind (FlushPoint (KeepDequeuePassedLink p)) k h = grind arith
 access_fits s kind (DequeueHelpTail p) k h = grind arith
 access_fits s kind (DequeueLoadValue p) k h = grind arith
 access_fits s kind (DequeueClaim p) k h = grind arith
-access_fits s kind (DequeueFlushClaim p) k h = grind arith
+access_fits s kind (FlushPoint (KeepClaim p)) k h = grind arith
 access_fits s Durable (DequeueStoreResult p) k h = grind arith
 access_fits s Log (DequeueStoreResult p) k h = grind arith
-access_fits s Durable (DequeueFlushResult p) k h = grind arith
-access_fits s Log (DequeueFlushResult p) k h = grind arith
+access_fits s Durable (FlushPoint (KeepResult p)) k h = grind arith
+access_fits s Log (FlushPoint (KeepResult p)) k h = grind arith
 access_fits s kind (DequeueMoveHead p) k h = grind arith
 
 -- the same of recovery
@@ -164,17 +161,17 @@ recovery_access_fits s kind (RecoveryLoadHead p) k h = tt
 recovery_access_fits s kind (RecoveryLoadNext p) k h = grind arith
 recovery_access_fits s kind (RecoveryLoadInsert p) k h = grind arith
 recovery_access_fits s kind (RecoveryStoreStatus p) k h = ((h.0, h.3), omega arith)
-recovery_access_fits s kind (RecoveryFlushStatus p) k h = (h.0, h.3)
+recovery_access_fits s kind (RecoveryFlush (RecoveryKeepStatus p)) k h = (h.0, h.3)
 recovery_access_fits s kind (RecoveryLoadMark p) k h = grind arith
 recovery_access_fits s kind (RecoveryLoadValue p) k h = grind arith
 recovery_access_fits s Durable (RecoveryStoreResult p) k h = grind arith
 recovery_access_fits s Log (RecoveryStoreResult p) k h = grind arith
-recovery_access_fits s Durable (RecoveryFlushResult p) k h = grind arith
-recovery_access_fits s Log (RecoveryFlushResult p) k h = grind arith
+recovery_access_fits s Durable (RecoveryFlush (RecoveryKeepResult p)) k h = grind arith
+recovery_access_fits s Log (RecoveryFlush (RecoveryKeepResult p)) k h = grind arith
 recovery_access_fits s kind (RecoveryStoreHead p) k h = grind arith
-recovery_access_fits s kind (RecoveryFlushHead p) k h = tt
+recovery_access_fits s kind (RecoveryFlush (RecoveryKeepHead p)) k h = tt
 recovery_access_fits s kind (RecoveryStoreTail p) k h = grind arith
-recovery_access_fits s kind (RecoveryFlushTail p) k h = tt
+recovery_access_fits s kind (RecoveryFlush (RecoveryKeepTail p)) k h = tt
 recovery_access_fits s kind (RecoveryLoadAnnouncement p) k h = h
 recovery_access_fits s kind (RecoveryLoadCell p) k h = grind arith
 recovery_access_fits s kind (RecoveryLoadNumber p) k h = grind arith
@@ -191,21 +188,21 @@ successor_fits s (EnqueueLoadTail p) v h f = grind (arith, nat_tests)
 successor_fits s (EnqueueLoadNext p) v h f = grind (arith, nat_tests)
 successor_fits s (EnqueueCheckTail p) v h f = grind (arith, nat_tests)
 successor_fits s (EnqueueLink p) v h f = grind (arith, nat_tests)
-successor_fits s (EnqueueFlushLink p) v h f = grind (arith, nat_tests)
+successor_fits s (FlushPoint (KeepLink p)) v h f = grind (arith, nat_tests)
 successor_fits s (EnqueueMoveTail p) v h f = tt
-successor_fits s (EnqueueFlushPassedLink p) v h f = grind (arith, nat_tests)
+successor_fits s (FlushPoint (KeepPassedLink p)) v h f = grind (arith, nat_tests)
 successor_fits s (EnqueueHelpTail p) v h f = grind (arith, nat_tests)
 successor_fits s (DequeueLoadHead p) v h f = grind (arith, nat_tests)
 successor_fits s (DequeueLoadTail p) v h f = grind (arith, nat_tests)
 successor_fits s (DequeueLoadNext p) v h f = grind (arith, nat_tests)
 successor_fits s (DequeueCheckHead p) v h f = grind (arith, nat_tests)
 successor_fits s (DequeueStoreEmpty p) v h f = grind (arith, nat_tests)
-successor_fits s (DequeueFlushEmpty p) v h f = tt
-successor_fits s (DequeueFlushPassedLink p) v h f = grind (arith, nat_tests)
+successor_fits s (FlushPoint (KeepEmpty p)) v h f = tt
+successor_fits s (FlushPoint (KeepDequeuePassedLink p)) v h f = grind (arith, nat_tests)
 successor_fits s (DequeueHelpTail p) v h f = grind (arith, nat_tests)
 successor_fits s (DequeueLoadValue p) v h f = grind (arith, nat_tests)
 successor_fits s (DequeueClaim p) v h f = grind (arith, nat_tests)
-successor_fits s (DequeueFlushClaim p) v h f = grind (arith, nat_tests)
+successor_fits s (FlushPoint (KeepClaim p)) v h f = grind (arith, nat_tests)
 successor_fits s (DequeueStoreResult p) v h f = grind (arith, nat_tests)
-successor_fits s (DequeueFlushResult p) v h f = grind (arith, nat_tests)
+successor_fits s (FlushPoint (KeepResult p)) v h f = grind (arith, nat_tests)
 successor_fits s (DequeueMoveHead p) v h f = again_fits s p.claimed.claim p.claimed.token p.claimed.value h.0.0

@@ -26,7 +26,9 @@ use Rattle.stepper.specs.declared.resume.After.TheVariants.{More, Done as Ended}
 use Rattle.recover.specs.declared.recovery.Recovery.{Recovery}
 use Rattle.recover.specs.declared.point.Report.{Report}
 use Rattle.recover.specs.declared.point.RecoveryPoint.{RecoveryPoint}
-use Rattle.recover.specs.declared.point.RecoveryPoint.TheVariants.{RecoveryLoadHead, RecoveryLoadNext, RecoveryLoadInsert, RecoveryStoreStatus, RecoveryFlushStatus, RecoveryLoadMark, RecoveryLoadValue, RecoveryStoreResult, RecoveryFlushResult, RecoveryStoreHead, RecoveryFlushHead, RecoveryStoreTail, RecoveryFlushTail, RecoveryLoadAnnouncement, RecoveryLoadCell, RecoveryLoadNumber, RecoveryLoadKind, RecoveryLoadStatus, RecoveryLoadRemove, RecoveryLoadEntryNode, RecoveryLoadRemovedValue}
+use Rattle.recover.specs.declared.point.RecoveryPoint.TheVariants.{RecoveryLoadHead, RecoveryLoadNext, RecoveryLoadInsert, RecoveryStoreStatus, RecoveryLoadMark, RecoveryLoadValue, RecoveryStoreResult, RecoveryStoreHead, RecoveryStoreTail, RecoveryLoadAnnouncement, RecoveryLoadCell, RecoveryLoadNumber, RecoveryLoadKind, RecoveryLoadStatus, RecoveryLoadRemove, RecoveryLoadEntryNode, RecoveryLoadRemovedValue, Flush as FlushPoint}
+use Rattle.recover.specs.declared.keeping.RecoveryKeeping.{RecoveryKeeping}
+use Rattle.recover.specs.declared.keeping.RecoveryKeeping.TheVariants.{Status as KeepStatus, Result as KeepResult, Head as KeepHead, Tail as KeepTail}
 
 abbrev pub node_at : ℕ → NodeId
 node_at n = record { 0 = n }
@@ -37,21 +39,24 @@ token_at n = record { 0 = n }
 abbrev pub store : Write → Access Place
 store w = Store w.place w.value
 
+-- the place whose word is kept
+abbrev pub kept_place : Kind → RecoveryKeeping → Place
+kept_place kind (KeepStatus p) = Status p.entry
+kept_place kind (KeepResult p) = (result_of kind p.mark p.node p.value).place
+kept_place kind (KeepHead p) = Head
+kept_place kind (KeepTail p) = Tail
+
 -- the one access of each waiting point
 abbrev pub access_of : Kind → RecoveryPoint → Access Place
 access_of kind (RecoveryLoadHead p) = Load Head
 access_of kind (RecoveryLoadNext p) = Load (Next p.cur)
 access_of kind (RecoveryLoadInsert p) = Load (Insert p.node)
 access_of kind (RecoveryStoreStatus p) = Store (Status p.entry) TAKEN_STATUS
-access_of kind (RecoveryFlushStatus p) = Flush (Status p.entry)
 access_of kind (RecoveryLoadMark p) = Load (Mark p.node)
 access_of kind (RecoveryLoadValue p) = Load (Value p.node)
 access_of kind (RecoveryStoreResult p) = store (result_of kind p.mark p.node p.value)
-access_of kind (RecoveryFlushResult p) = Flush (result_of kind p.mark p.node p.value).place
 access_of kind (RecoveryStoreHead p) = Store Head p.cur.0
-access_of kind (RecoveryFlushHead p) = Flush Head
 access_of kind (RecoveryStoreTail p) = Store Tail p.cur.0
-access_of kind (RecoveryFlushTail p) = Flush Tail
 access_of kind (RecoveryLoadAnnouncement p) = Load (Announcement p.client)
 access_of kind (RecoveryLoadCell p) = Load (Cell p.token)
 access_of kind (RecoveryLoadNumber p) = Load (Number p.token)
@@ -60,6 +65,7 @@ access_of kind (RecoveryLoadStatus p) = Load (Status p.token)
 access_of kind (RecoveryLoadRemove p) = Load (Mark (node_at p.token.0))
 access_of kind (RecoveryLoadEntryNode p) = Load (EntryNode p.token)
 access_of kind (RecoveryLoadRemovedValue p) = Load (Value p.node)
+access_of kind (FlushPoint k) = Flush (kept_place kind k)
 
 -- past the last node: the head, if it is not right yet, else the tail
 abbrev pub point_at_the_end : NodeId → Bool → RecoveryPoint
@@ -110,6 +116,13 @@ to_outcome true client token number = RecoveryLoadRemove (record { client = clie
 to_outcome false client token number =
     RecoveryLoadEntryNode (record { client = client; token = token; number = number })
 
+-- what comes once the word is kept
+abbrev pub point_after_keeping : RecoveryKeeping → RecoveryPoint
+point_after_keeping (KeepStatus p) = point_past_status p.cur p.node p.moved
+point_after_keeping (KeepResult p) = RecoveryLoadNext (record { cur = p.node; moved = false })
+point_after_keeping (KeepHead p) = past_head p.cur p.unclaimed
+point_after_keeping (KeepTail p) = RecoveryLoadAnnouncement (record { client = record { 0 = 0 } })
+
 -- what comes after the access found this value
 abbrev pub successor : Shape → RecoveryPoint → ℕ → After RecoveryPoint Report
 successor s (RecoveryLoadHead p) found = More (RecoveryLoadNext (record { cur = node_at found; moved = false }))
@@ -118,21 +131,16 @@ successor s (RecoveryLoadNext p) found =
 successor s (RecoveryLoadInsert p) found =
     More (RecoveryStoreStatus (record { cur = p.cur; node = p.node; entry = token_at found; moved = p.moved }))
 successor s (RecoveryStoreStatus p) found =
-    More (RecoveryFlushStatus (record { cur = p.cur; node = p.node; entry = p.entry; moved = p.moved }))
-successor s (RecoveryFlushStatus p) found = More (point_past_status p.cur p.node p.moved)
+    More (FlushPoint (KeepStatus (record { cur = p.cur; node = p.node; entry = p.entry; moved = p.moved })))
 successor s (RecoveryLoadMark p) found =
     More (if found == 0 then RecoveryStoreHead (record { cur = p.cur; unclaimed = Some p.node })
     else to_mark s.kind p.node (token_at found))
 successor s (RecoveryLoadValue p) found =
     More (RecoveryStoreResult (record { node = p.node; mark = p.mark; value = found }))
 successor s (RecoveryStoreResult p) found =
-    More (RecoveryFlushResult (record { node = p.node; mark = p.mark; value = p.value }))
-successor s (RecoveryFlushResult p) found = More (RecoveryLoadNext (record { cur = p.node; moved = false }))
-successor s (RecoveryStoreHead p) found = More (RecoveryFlushHead (record { cur = p.cur; unclaimed = p.unclaimed }))
-successor s (RecoveryFlushHead p) found = More (past_head p.cur p.unclaimed)
-successor s (RecoveryStoreTail p) found = More (RecoveryFlushTail (record {}))
-successor s (RecoveryFlushTail p) found =
-    More (RecoveryLoadAnnouncement (record { client = record { 0 = 0 } }))
+    More (FlushPoint (KeepResult (record { node = p.node; mark = p.mark; value = p.value })))
+successor s (RecoveryStoreHead p) found = More (FlushPoint (KeepHead (record { cur = p.cur; unclaimed = p.unclaimed })))
+successor s (RecoveryStoreTail p) found = More (FlushPoint (KeepTail (record {})))
 successor s (RecoveryLoadAnnouncement p) found =
     if found == 0 then report_of p.client (no_call s.kind) else More (to_answer s.kind p.client (token_at found))
 successor s (RecoveryLoadCell p) found = report_of p.client (told_row (row_of found))
@@ -151,6 +159,7 @@ successor s (RecoveryLoadEntryNode p) found =
     if found == 0 then report_of p.client (not_taken_as p.number)
     else More (RecoveryLoadRemovedValue (record { client = p.client; number = p.number; node = node_at found }))
 successor s (RecoveryLoadRemovedValue p) found = report_of p.client (taken_as p.number (Got found))
+successor s (FlushPoint k) found = More (point_after_keeping k)
 
 -- a client's report is noted, and the next client comes; after the last the queue is ready, and each is told what was
 -- noted
@@ -180,21 +189,24 @@ recovery_reached false r = More r
 abbrev pub boot_recovery : Recovery
 boot_recovery = record { told = replicate MAX_CLIENTS told_none; at = RecoveryLoadHead (record {}) }
 
+-- what it learnt of what it keeps is in range
+abbrev pub IsKeeping : Shape → RecoveryKeeping → Type 0
+IsKeeping s (KeepStatus p) = (s.kind ≡ Log) × IsNode s p.cur.0 × IsNode s p.node.0 × IsRecord s p.entry.0
+IsKeeping s (KeepResult p) = IsNode s p.node.0 × IsRecord s p.mark.0 × (p.value ≤ MAX_VALUE)
+IsKeeping s (KeepHead p) = IsNode s p.cur.0 × IfSome p.unclaimed (λ n. IsNode s n.0)
+IsKeeping s (KeepTail p) = Unit {0}
+
 -- what it learnt is in range
 abbrev pub IsPoint : Shape → RecoveryPoint → Type 0
 IsPoint s (RecoveryLoadHead p) = Unit {0}
 IsPoint s (RecoveryLoadNext p) = IsNode s p.cur.0
 IsPoint s (RecoveryLoadInsert p) = (s.kind ≡ Log) × IsNode s p.cur.0 × IsNode s p.node.0
 IsPoint s (RecoveryStoreStatus p) = (s.kind ≡ Log) × IsNode s p.cur.0 × IsNode s p.node.0 × IsRecord s p.entry.0
-IsPoint s (RecoveryFlushStatus p) = (s.kind ≡ Log) × IsNode s p.cur.0 × IsNode s p.node.0 × IsRecord s p.entry.0
 IsPoint s (RecoveryLoadMark p) = IsNode s p.cur.0 × IsNode s p.node.0
 IsPoint s (RecoveryLoadValue p) = IsNode s p.node.0 × IsRecord s p.mark.0
 IsPoint s (RecoveryStoreResult p) = IsNode s p.node.0 × IsRecord s p.mark.0 × (p.value ≤ MAX_VALUE)
-IsPoint s (RecoveryFlushResult p) = IsNode s p.node.0 × IsRecord s p.mark.0 × (p.value ≤ MAX_VALUE)
 IsPoint s (RecoveryStoreHead p) = IsNode s p.cur.0 × IfSome p.unclaimed (λ n. IsNode s n.0)
-IsPoint s (RecoveryFlushHead p) = IsNode s p.cur.0 × IfSome p.unclaimed (λ n. IsNode s n.0)
 IsPoint s (RecoveryStoreTail p) = IsNode s p.cur.0
-IsPoint s (RecoveryFlushTail p) = Unit {0}
 IsPoint s (RecoveryLoadAnnouncement p) = IsClient s p.client.0
 IsPoint s (RecoveryLoadCell p) = (s.kind ≡ Durable) × IsClient s p.client.0 × IsRecord s p.token.0
 IsPoint s (RecoveryLoadNumber p) = (s.kind ≡ Log) × IsClient s p.client.0 × IsRecord s p.token.0
@@ -207,3 +219,4 @@ IsPoint s (RecoveryLoadRemove p) =
 IsPoint s (RecoveryLoadEntryNode p) =
     (s.kind ≡ Log) × IsClient s p.client.0 × IsRecord s p.token.0 × (p.number ≤ MAX_CALL_NUMBER)
 IsPoint s (RecoveryLoadRemovedValue p) = IsClient s p.client.0 × IsNode s p.node.0 × (p.number ≤ MAX_CALL_NUMBER)
+IsPoint s (FlushPoint k) = IsKeeping s k

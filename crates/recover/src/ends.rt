@@ -1,16 +1,16 @@
 //! Recovery of the list: it finds the last claimed node and the last node, writes what is missing of the
 //! answers of claimed nodes, and keeps head and tail. The `//` at a point says what goes wrong without it, with the
-//! must-fail edit that shows it.
+//! must-fail edit that shows it; what is kept on the way stands in `keeping`.
 
 ghost use Rattle.std.specs.Prelude.{◌≡◌};
 ghost use Rattle.recover.specs.Table.{point_at_the_end, point_past_status};
 
+use crate::keeping::{KeepHead, KeepResult, KeepStatus, KeepTail, RecoveryKeeping};
 use crate::point::{RecoveryPoint, Report};
-use crate::telling::RecoveryLoadAnnouncement;
 use arena::{Layout, Place, TAKEN_STATUS, Write};
 use persist::WordMemory;
-use stepper::{After, Resume, Stepped, flush_at, load_at, store_at};
-use words::{Client, Kind, NodeId, Token};
+use stepper::{After, Resume, Stepped, load_at, store_at};
+use words::{Kind, NodeId, Token};
 
 /// Where recovery goes on past the last node.
 fn at_the_end(cur: NodeId, moved: bool) -> RecoveryPoint
@@ -27,7 +27,7 @@ fn at_the_end(cur: NodeId, moved: bool) -> RecoveryPoint
 }
 
 /// Where recovery goes on with a node whose enqueue is told of: no node past an unclaimed one is claimed.
-fn past_status(cur: NodeId, node: NodeId, moved: bool) -> RecoveryPoint
+pub(crate) fn past_status(cur: NodeId, node: NodeId, moved: bool) -> RecoveryPoint
     ensures { result ≡ point_past_status cur node moved }
 {
     if moved {
@@ -165,49 +165,12 @@ impl Resume for RecoveryStoreStatus {
             value: TAKEN_STATUS,
         };
         store_at(layout, memory, status);
-        Stepped::quiet(After::More(RecoveryPoint::RecoveryFlushStatus(RecoveryFlushStatus {
+        Stepped::quiet(After::More(RecoveryPoint::Flush(RecoveryKeeping::Status(KeepStatus {
             cur,
             node,
             entry,
             moved,
-        })))
-    }
-}
-
-/// Log queue: about to keep that.
-#[derive(Clone, Copy, Debug, PartialEq, Eq, Hash)]
-pub struct RecoveryFlushStatus {
-    pub(crate) cur: NodeId,
-    pub(crate) node: NodeId,
-    pub(crate) entry: Token,
-    pub(crate) moved: bool,
-}
-
-// A status that is not kept is lost where recovery is cut off once the client was told by it
-// (`recovery_does_not_flush_a_status`).
-impl Resume for RecoveryFlushStatus {
-    type Point = RecoveryPoint;
-
-    ghost use Rattle.recover.specs.declared.point.RecoveryPoint.TheVariants.{RecoveryFlushStatus};
-
-    ghost point = { RecoveryFlushStatus };
-
-    fn step<L: Layout, M: WordMemory>(
-        self,
-        layout: &L,
-        memory: &mut M,
-    ) -> Stepped<RecoveryPoint, Report> {
-        let RecoveryFlushStatus {
-            cur,
-            node,
-            entry,
-            moved,
-        } = self;
-        let change = flush_at(layout, memory, Place::Status(entry));
-        Stepped {
-            after: After::More(past_status(cur, node, moved)),
-            change,
-        }
+        }))))
     }
 }
 
@@ -305,46 +268,11 @@ impl Resume for RecoveryStoreResult {
     ) -> Stepped<RecoveryPoint, Report> {
         let RecoveryStoreResult { node, mark, value } = self;
         store_at(layout, memory, layout.result(mark, node, value));
-        Stepped::quiet(After::More(RecoveryPoint::RecoveryFlushResult(RecoveryFlushResult {
+        Stepped::quiet(After::More(RecoveryPoint::Flush(RecoveryKeeping::Result(KeepResult {
             node,
             mark,
             value,
-        })))
-    }
-}
-
-/// About to keep that.
-#[derive(Clone, Copy, Debug, PartialEq, Eq, Hash)]
-pub struct RecoveryFlushResult {
-    pub(crate) node: NodeId,
-    pub(crate) mark: Token,
-    pub(crate) value: u32,
-}
-
-// The head is about to pass the node: an answer that is not kept would be lost in the next crash
-// (`recovery_does_not_flush_a_result`).
-impl Resume for RecoveryFlushResult {
-    type Point = RecoveryPoint;
-
-    ghost use Rattle.recover.specs.declared.point.RecoveryPoint.TheVariants.{RecoveryFlushResult};
-
-    ghost point = { RecoveryFlushResult };
-
-    fn step<L: Layout, M: WordMemory>(
-        self,
-        layout: &L,
-        memory: &mut M,
-    ) -> Stepped<RecoveryPoint, Report> {
-        let RecoveryFlushResult { node, mark, value } = self;
-        let change = flush_at(layout, memory, layout.result(mark, node, value).place);
-        let next = RecoveryLoadNext {
-            cur: node,
-            moved: false,
-        };
-        Stepped {
-            after: After::More(RecoveryPoint::RecoveryLoadNext(next)),
-            change,
-        }
+        }))))
     }
 }
 
@@ -374,47 +302,10 @@ impl Resume for RecoveryStoreHead {
             value: cur.0 as u64,
         };
         store_at(layout, memory, head);
-        Stepped::quiet(After::More(RecoveryPoint::RecoveryFlushHead(RecoveryFlushHead {
+        Stepped::quiet(After::More(RecoveryPoint::Flush(RecoveryKeeping::Head(KeepHead {
             cur,
             unclaimed,
-        })))
-    }
-}
-
-/// About to keep the head.
-#[derive(Clone, Copy, Debug, PartialEq, Eq, Hash)]
-pub struct RecoveryFlushHead {
-    pub(crate) cur: NodeId,
-    pub(crate) unclaimed: Option<NodeId>,
-}
-
-// What recovery leaves is cached and kept alike; the next recovery begins its walk here
-// (`recovery_does_not_flush_the_head`).
-impl Resume for RecoveryFlushHead {
-    type Point = RecoveryPoint;
-
-    ghost use Rattle.recover.specs.declared.point.RecoveryPoint.TheVariants.{RecoveryFlushHead};
-
-    ghost point = { RecoveryFlushHead };
-
-    fn step<L: Layout, M: WordMemory>(
-        self,
-        layout: &L,
-        memory: &mut M,
-    ) -> Stepped<RecoveryPoint, Report> {
-        let RecoveryFlushHead { cur, unclaimed } = self;
-        let change = flush_at(layout, memory, Place::Head);
-        let next = match unclaimed {
-            Some(node) => RecoveryPoint::RecoveryLoadNext(RecoveryLoadNext {
-                cur: node,
-                moved: true,
-            }),
-            None => RecoveryPoint::RecoveryStoreTail(RecoveryStoreTail { cur }),
-        };
-        Stepped {
-            after: After::More(next),
-            change,
-        }
+        }))))
     }
 }
 
@@ -444,33 +335,6 @@ impl Resume for RecoveryStoreTail {
             value: cur.0 as u64,
         };
         store_at(layout, memory, tail);
-        Stepped::quiet(After::More(RecoveryPoint::RecoveryFlushTail(RecoveryFlushTail {})))
-    }
-}
-
-/// About to keep the tail.
-#[derive(Clone, Copy, Debug, PartialEq, Eq, Hash)]
-pub struct RecoveryFlushTail {}
-
-// What recovery leaves is cached and kept alike (`recovery_does_not_flush_the_tail`,
-// `recovery_takes_the_tail_for_kept`).
-impl Resume for RecoveryFlushTail {
-    type Point = RecoveryPoint;
-
-    ghost use Rattle.recover.specs.declared.point.RecoveryPoint.TheVariants.{RecoveryFlushTail};
-
-    ghost point = { RecoveryFlushTail };
-
-    fn step<L: Layout, M: WordMemory>(
-        self,
-        layout: &L,
-        memory: &mut M,
-    ) -> Stepped<RecoveryPoint, Report> {
-        let change = flush_at(layout, memory, Place::Tail);
-        let next = RecoveryLoadAnnouncement { client: Client(0) };
-        Stepped {
-            after: After::More(RecoveryPoint::RecoveryLoadAnnouncement(next)),
-            change,
-        }
+        Stepped::quiet(After::More(RecoveryPoint::Flush(RecoveryKeeping::Tail(KeepTail {}))))
     }
 }

@@ -5,6 +5,7 @@ mod chain;
 mod claims;
 mod ends;
 mod entries;
+mod keeping;
 mod kept;
 mod point;
 mod records;
@@ -15,10 +16,10 @@ mod telling;
 mod told;
 
 pub use ends::{
-    RecoveryFlushHead, RecoveryFlushResult, RecoveryFlushStatus, RecoveryFlushTail,
     RecoveryLoadHead, RecoveryLoadInsert, RecoveryLoadMark, RecoveryLoadNext, RecoveryLoadValue,
     RecoveryStoreHead, RecoveryStoreResult, RecoveryStoreStatus, RecoveryStoreTail,
 };
+pub use keeping::{KeepHead, KeepResult, KeepStatus, KeepTail, RecoveryKeeping};
 pub use kept::KeptQueue;
 pub use point::{RecoveryPoint, Report};
 pub use recovery::{Recovery, boot};

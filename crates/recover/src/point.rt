@@ -1,10 +1,10 @@
 //! Where recovery waits.
 
 use crate::ends::{
-    RecoveryFlushHead, RecoveryFlushResult, RecoveryFlushStatus, RecoveryFlushTail,
     RecoveryLoadHead, RecoveryLoadInsert, RecoveryLoadMark, RecoveryLoadNext, RecoveryLoadValue,
     RecoveryStoreHead, RecoveryStoreResult, RecoveryStoreStatus, RecoveryStoreTail,
 };
+use crate::keeping::RecoveryKeeping;
 use crate::telling::{
     RecoveryLoadAnnouncement, RecoveryLoadCell, RecoveryLoadEntryNode, RecoveryLoadKind,
     RecoveryLoadNumber, RecoveryLoadRemove, RecoveryLoadRemovedValue, RecoveryLoadStatus,
@@ -21,15 +21,11 @@ pub enum RecoveryPoint {
     RecoveryLoadNext(RecoveryLoadNext),
     RecoveryLoadInsert(RecoveryLoadInsert),
     RecoveryStoreStatus(RecoveryStoreStatus),
-    RecoveryFlushStatus(RecoveryFlushStatus),
     RecoveryLoadMark(RecoveryLoadMark),
     RecoveryLoadValue(RecoveryLoadValue),
     RecoveryStoreResult(RecoveryStoreResult),
-    RecoveryFlushResult(RecoveryFlushResult),
     RecoveryStoreHead(RecoveryStoreHead),
-    RecoveryFlushHead(RecoveryFlushHead),
     RecoveryStoreTail(RecoveryStoreTail),
-    RecoveryFlushTail(RecoveryFlushTail),
     RecoveryLoadAnnouncement(RecoveryLoadAnnouncement),
     RecoveryLoadCell(RecoveryLoadCell),
     RecoveryLoadNumber(RecoveryLoadNumber),
@@ -38,6 +34,8 @@ pub enum RecoveryPoint {
     RecoveryLoadRemove(RecoveryLoadRemove),
     RecoveryLoadEntryNode(RecoveryLoadEntryNode),
     RecoveryLoadRemovedValue(RecoveryLoadRemovedValue),
+    /// About to keep a word.
+    Flush(RecoveryKeeping),
 }
 
 /// What recovery tells a client.
@@ -76,15 +74,11 @@ impl Resume for RecoveryPoint {
             RecoveryPoint::RecoveryLoadNext(point) => point.step(layout, memory),
             RecoveryPoint::RecoveryLoadInsert(point) => point.step(layout, memory),
             RecoveryPoint::RecoveryStoreStatus(point) => point.step(layout, memory),
-            RecoveryPoint::RecoveryFlushStatus(point) => point.step(layout, memory),
             RecoveryPoint::RecoveryLoadMark(point) => point.step(layout, memory),
             RecoveryPoint::RecoveryLoadValue(point) => point.step(layout, memory),
             RecoveryPoint::RecoveryStoreResult(point) => point.step(layout, memory),
-            RecoveryPoint::RecoveryFlushResult(point) => point.step(layout, memory),
             RecoveryPoint::RecoveryStoreHead(point) => point.step(layout, memory),
-            RecoveryPoint::RecoveryFlushHead(point) => point.step(layout, memory),
             RecoveryPoint::RecoveryStoreTail(point) => point.step(layout, memory),
-            RecoveryPoint::RecoveryFlushTail(point) => point.step(layout, memory),
             RecoveryPoint::RecoveryLoadAnnouncement(point) => point.step(layout, memory),
             RecoveryPoint::RecoveryLoadCell(point) => point.step(layout, memory),
             RecoveryPoint::RecoveryLoadNumber(point) => point.step(layout, memory),
@@ -93,6 +87,7 @@ impl Resume for RecoveryPoint {
             RecoveryPoint::RecoveryLoadRemove(point) => point.step(layout, memory),
             RecoveryPoint::RecoveryLoadEntryNode(point) => point.step(layout, memory),
             RecoveryPoint::RecoveryLoadRemovedValue(point) => point.step(layout, memory),
+            RecoveryPoint::Flush(keeping) => keeping.step(layout, memory),
         }
     }
 }

@@ -27,7 +27,8 @@ use Rattle.helping.specs.Table.{token_of, access_of, successor, first_from, prep
 use Rattle.helping.specs.declared.dequeue.Claim.{Claim}
 use Rattle.helping.specs.declared.dequeue.Claim.TheVariants.{Won, LostTo}
 use Rattle.helping.specs.declared.op.Op.{Op}
-use Rattle.helping.specs.declared.op.Op.TheVariants.{PrepareStore, PrepareFlush, EnqueueLoadTail, EnqueueLoadNext, EnqueueCheckTail, EnqueueLink, EnqueueFlushLink, EnqueueMoveTail, EnqueueFlushPassedLink, EnqueueHelpTail, DequeueLoadHead, DequeueLoadTail, DequeueLoadNext, DequeueCheckHead, DequeueStoreEmpty, DequeueFlushEmpty, DequeueFlushPassedLink, DequeueHelpTail, DequeueLoadValue, DequeueClaim, DequeueFlushClaim, DequeueStoreResult, DequeueFlushResult, DequeueMoveHead}
+use Rattle.helping.specs.declared.op.Op.TheVariants.{PrepareStore, PrepareFlush, EnqueueLoadTail, EnqueueLoadNext, EnqueueCheckTail, EnqueueLink, EnqueueMoveTail, EnqueueHelpTail, DequeueLoadHead, DequeueLoadTail, DequeueLoadNext, DequeueCheckHead, DequeueStoreEmpty, DequeueHelpTail, DequeueLoadValue, DequeueClaim, DequeueStoreResult, DequeueMoveHead, Flush as FlushPoint}
+use Rattle.helping.specs.declared.keeping.Keeping.TheVariants.{Link as KeepLink, PassedLink as KeepPassedLink, Empty as KeepEmpty, DequeuePassedLink as KeepDequeuePassedLink, Claim as KeepClaim, Result as KeepResult}
 use Rattle.words.specs.declared.call.Reply.{Reply}
 use Rattle.protocol.specs.Machine.{Memory, World, put, with_store, with_access, with_step, next_of, MayStep}
 use Rattle.protocol.specs.declared.UnderWay.{UnderWay}
@@ -103,23 +104,23 @@ left s m (EnqueueLoadTail p) = enqueue_left m
 left s m (EnqueueLoadNext p) = 1 + check_tail_left m p.last.0 (links m.cached p.last.0)
 left s m (EnqueueCheckTail p) = check_tail_left m p.last.0 p.next.0
 left s m (EnqueueLink p) = link_left m p.last.0
-left s m (EnqueueFlushLink p) = 2
+left s m (FlushPoint (KeepLink p)) = 2
 left s m (EnqueueMoveTail p) = 1
-left s m (EnqueueFlushPassedLink p) = 1 + help_enqueue_left m p.last.0
+left s m (FlushPoint (KeepPassedLink p)) = 1 + help_enqueue_left m p.last.0
 left s m (EnqueueHelpTail p) = help_enqueue_left m p.last.0
 left s m (DequeueLoadHead p) = dequeue_left m
 left s m (DequeueLoadTail p) = 2 + check_head_left m p.first.0 (m.cached Tail) (links m.cached p.first.0)
 left s m (DequeueLoadNext p) = 1 + check_head_left m p.first.0 p.last.0 (links m.cached p.first.0)
 left s m (DequeueCheckHead p) = check_head_left m p.first.0 p.last.0 p.next.0
 left s m (DequeueStoreEmpty p) = 2
-left s m (DequeueFlushEmpty p) = 1
-left s m (DequeueFlushPassedLink p) = 1 + help_dequeue_left m p.last.0
+left s m (FlushPoint (KeepEmpty p)) = 1
+left s m (FlushPoint (KeepDequeuePassedLink p)) = 1 + help_dequeue_left m p.last.0
 left s m (DequeueHelpTail p) = help_dequeue_left m p.last.0
 left s m (DequeueLoadValue p) = 1 + claim_left m p.first.0 p.next.0
 left s m (DequeueClaim p) = claim_left m p.first.0 p.next.0
-left s m (DequeueFlushClaim p) = 3 + move_head_left m p.claimed.first.0 p.claimed.claim
+left s m (FlushPoint (KeepClaim p)) = 3 + move_head_left m p.claimed.first.0 p.claimed.claim
 left s m (DequeueStoreResult p) = 2 + move_head_left m p.claimed.first.0 p.claimed.claim
-left s m (DequeueFlushResult p) = 1 + move_head_left m p.claimed.first.0 p.claimed.claim
+left s m (FlushPoint (KeepResult p)) = 1 + move_head_left m p.claimed.first.0 p.claimed.claim
 left s m (DequeueMoveHead p) = move_head_left m p.claimed.first.0 p.claimed.claim
 
 -- fewer steps are left than these
@@ -211,7 +212,7 @@ module _ (s : Shape) (m : Memory) (l : Ledger) (claimed waiting : List ℕ) (b :
       go : (t z : Bool) → Falls s m (if t
           then (if z
           then More (EnqueueLink (record { node = node; last = last }))
-          else More (EnqueueFlushPassedLink (record { node = node; last = last; next = next })))
+          else More (FlushPoint (KeepPassedLink (record { node = node; last = last; next = next }))))
           else More (EnqueueLoadTail (record { node = node })))
           (if t then (if z then 1 + link_left m last.0 else 2 + help_enqueue_left m last.0) else 1 + enqueue_left m)
       go true true = omega arith
@@ -221,7 +222,7 @@ module _ (s : Shape) (m : Memory) (l : Ledger) (claimed waiting : List ℕ) (b :
   falls_link : (node last : NodeId) → Falls s (with_access m (Cas (Next last) 0 node.0)) (successor s.kind (EnqueueLink (record { node = node; last = last })) (m.cached (Next last))) (link_left m last.0)
   falls_link node last = go (links m.cached last.0 == 0)
     where
-      go : (t : Bool) → Falls s (if t then with_store m (Next last) node.0 else m) (if t then More (EnqueueFlushLink (record { node = node; last = last })) else More (EnqueueLoadTail (record { node = node })))
+      go : (t : Bool) → Falls s (if t then with_store m (Next last) node.0 else m) (if t then More (FlushPoint (KeepLink (record { node = node; last = last }))) else More (EnqueueLoadTail (record { node = node })))
           (if t then 3 else 1 + enqueue_left m)
       go true = omega arith
       go false = omega arith
@@ -278,7 +279,7 @@ module _ (s : Shape) (m : Memory) (l : Ledger) (claimed waiting : List ℕ) (b :
           then (if e
           then (if z
           then More (DequeueStoreEmpty (record { token = token }))
-          else More (DequeueFlushPassedLink (record { token = token; last = last; next = next })))
+          else More (FlushPoint (KeepDequeuePassedLink (record { token = token; last = last; next = next }))))
           else More (DequeueLoadValue (record { token = token; first = first; next = next })))
           else More (DequeueLoadHead (record { token = token })))
           (if t then (if e then (if z then 3 else 2 + help_dequeue_left m last.0) else 2 + claim_left m first.0 next.0) else 1 + dequeue_left m)
@@ -292,7 +293,7 @@ module _ (s : Shape) (m : Memory) (l : Ledger) (claimed waiting : List ℕ) (b :
   falls_claim token first next v = go (marks m.cached next.0 == 0)
     where
       go : (t : Bool) → Falls s (if t then with_store m (Mark next) token.0 else m)
-          (More (DequeueFlushClaim (record { claimed = record { token = token; first = first; next = next; value = v; claim = if t then Won else LostTo (token_of (marks m.cached next.0)) } })))
+          (More (FlushPoint (KeepClaim (record { claimed = record { token = token; first = first; next = next; value = v; claim = if t then Won else LostTo (token_of (marks m.cached next.0)) } }))))
           (if t then 5 else 4 + lost_left m first.0)
       go true = omega arith
       go false = omega arith
@@ -337,28 +338,28 @@ module _ (s : Shape) (m : Memory) (l : Ledger) (claimed waiting : List ℕ) (b :
   falls (EnqueueLoadNext p) h = omega arith
   falls (EnqueueCheckTail p) h = falls_check_tail p.node p.last p.next
   falls (EnqueueLink p) h = falls_link p.node p.last
-  falls (EnqueueFlushLink p) h = omega arith
+  falls (FlushPoint (KeepLink p)) h = omega arith
   falls (EnqueueMoveTail p) h = omega arith
-  falls (EnqueueFlushPassedLink p) h = omega arith
+  falls (FlushPoint (KeepPassedLink p)) h = omega arith
   falls (EnqueueHelpTail p) h = falls_help_enqueue p.last.0 p.next.0 h.2 h.1
   falls (DequeueLoadHead p) h = head_fresh
   falls (DequeueLoadTail p) h = omega arith
   falls (DequeueLoadNext p) h = omega arith
   falls (DequeueCheckHead p) h = falls_check_head p.token p.first p.last p.next
   falls (DequeueStoreEmpty p) h = omega arith
-  falls (DequeueFlushEmpty p) h = omega arith
-  falls (DequeueFlushPassedLink p) h = omega arith
+  falls (FlushPoint (KeepEmpty p)) h = omega arith
+  falls (FlushPoint (KeepDequeuePassedLink p)) h = omega arith
   falls (DequeueHelpTail p) h = falls_help_dequeue p.last.0 p.next.0 h.2 h.1
   falls (DequeueLoadValue p) h = omega arith
   falls (DequeueClaim p) h = falls_claim p.token p.first p.next p.value
-  falls (DequeueFlushClaim p) h = omega (arith, same_move (with_access m (Flush (Mark p.claimed.next))) p.claimed.first.0 p.claimed.claim refl)
+  falls (FlushPoint (KeepClaim p)) h = omega (arith, same_move (with_access m (Flush (Mark p.claimed.next))) p.claimed.first.0 p.claimed.claim refl)
   falls (DequeueStoreResult p) h =
       omega (
         arith,
         own_move_head_left (result_of s.kind (winner p.claimed.claim p.claimed.token) p.claimed.next p.claimed.value).place (result_of s.kind (winner p.claimed.claim p.claimed.token) p.claimed.next p.claimed.value).value p.claimed.first.0 p.claimed.claim
             (result_own s.kind (winner p.claimed.claim p.claimed.token) p.claimed.next p.claimed.value),
       )
-  falls (DequeueFlushResult p) h = omega (arith, same_move (with_access m (Flush (result_of s.kind (winner p.claimed.claim p.claimed.token) p.claimed.next p.claimed.value).place)) p.claimed.first.0 p.claimed.claim refl)
+  falls (FlushPoint (KeepResult p)) h = omega (arith, same_move (with_access m (Flush (result_of s.kind (winner p.claimed.claim p.claimed.token) p.claimed.next p.claimed.value).place)) p.claimed.first.0 p.claimed.claim refl)
   falls (DequeueMoveHead p) h = falls_move_head p.claimed.token p.claimed.first p.claimed.next p.claimed.value p.claimed.claim h
 
 either : (t : Bool) (x y k : ℕ) → x ≤ k → y ≤ k → (if t then x else y) ≤ k
@@ -422,23 +423,23 @@ module _ (s : Shape) (m : Memory) where
   left_most (EnqueueLoadNext p) = omega (arith, check_tail_most p.last.0 (links m.cached p.last.0))
   left_most (EnqueueCheckTail p) = omega (arith, check_tail_most p.last.0 p.next.0)
   left_most (EnqueueLink p) = omega (arith, link_most p.last.0)
-  left_most (EnqueueFlushLink p) = omega arith
+  left_most (FlushPoint (KeepLink p)) = omega arith
   left_most (EnqueueMoveTail p) = omega arith
-  left_most (EnqueueFlushPassedLink p) = omega (arith, help_enqueue_most p.last.0)
+  left_most (FlushPoint (KeepPassedLink p)) = omega (arith, help_enqueue_most p.last.0)
   left_most (EnqueueHelpTail p) = omega (arith, help_enqueue_most p.last.0)
   left_most (DequeueLoadHead p) = omega (arith, dequeue_most)
   left_most (DequeueLoadTail p) = omega (arith, check_head_most p.first.0 (m.cached Tail) (links m.cached p.first.0))
   left_most (DequeueLoadNext p) = omega (arith, check_head_most p.first.0 p.last.0 (links m.cached p.first.0))
   left_most (DequeueCheckHead p) = omega (arith, check_head_most p.first.0 p.last.0 p.next.0)
   left_most (DequeueStoreEmpty p) = omega arith
-  left_most (DequeueFlushEmpty p) = omega arith
-  left_most (DequeueFlushPassedLink p) = omega (arith, help_dequeue_most p.last.0)
+  left_most (FlushPoint (KeepEmpty p)) = omega arith
+  left_most (FlushPoint (KeepDequeuePassedLink p)) = omega (arith, help_dequeue_most p.last.0)
   left_most (DequeueHelpTail p) = omega (arith, help_dequeue_most p.last.0)
   left_most (DequeueLoadValue p) = omega (arith, claim_most p.first.0 p.next.0)
   left_most (DequeueClaim p) = omega (arith, claim_most p.first.0 p.next.0)
-  left_most (DequeueFlushClaim p) = omega (arith, move_head_most p.claimed.first.0 p.claimed.claim)
+  left_most (FlushPoint (KeepClaim p)) = omega (arith, move_head_most p.claimed.first.0 p.claimed.claim)
   left_most (DequeueStoreResult p) = omega (arith, move_head_most p.claimed.first.0 p.claimed.claim)
-  left_most (DequeueFlushResult p) = omega (arith, move_head_most p.claimed.first.0 p.claimed.claim)
+  left_most (FlushPoint (KeepResult p)) = omega (arith, move_head_most p.claimed.first.0 p.claimed.claim)
   left_most (DequeueMoveHead p) = omega (arith, move_head_most p.claimed.first.0 p.claimed.claim)
 
 -- a lone step of a call under way leaves it fewer steps, or answers it

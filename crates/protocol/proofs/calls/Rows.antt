@@ -29,7 +29,8 @@ use Rattle.helping.specs.Table.{node_of, token_of, access_of, successor, first_f
 use Rattle.helping.specs.declared.dequeue.Claim.{Claim}
 use Rattle.helping.specs.declared.dequeue.Claim.TheVariants.{Won, LostTo}
 use Rattle.helping.specs.declared.op.Op.{Op}
-use Rattle.helping.specs.declared.op.Op.TheVariants.{PrepareStore, PrepareFlush, EnqueueLoadTail, EnqueueLoadNext, EnqueueCheckTail, EnqueueLink, EnqueueFlushLink, EnqueueMoveTail, EnqueueFlushPassedLink, EnqueueHelpTail, DequeueLoadHead, DequeueLoadTail, DequeueLoadNext, DequeueCheckHead, DequeueStoreEmpty, DequeueFlushEmpty, DequeueFlushPassedLink, DequeueHelpTail, DequeueLoadValue, DequeueClaim, DequeueFlushClaim, DequeueStoreResult, DequeueFlushResult, DequeueMoveHead}
+use Rattle.helping.specs.declared.op.Op.TheVariants.{PrepareStore, PrepareFlush, EnqueueLoadTail, EnqueueLoadNext, EnqueueCheckTail, EnqueueLink, EnqueueMoveTail, EnqueueHelpTail, DequeueLoadHead, DequeueLoadTail, DequeueLoadNext, DequeueCheckHead, DequeueStoreEmpty, DequeueHelpTail, DequeueLoadValue, DequeueClaim, DequeueStoreResult, DequeueMoveHead, Flush as FlushPoint}
+use Rattle.helping.specs.declared.keeping.Keeping.TheVariants.{Link as KeepLink, PassedLink as KeepPassedLink, Empty as KeepEmpty, DequeuePassedLink as KeepDequeuePassedLink, Claim as KeepClaim, Result as KeepResult}
 use Rattle.protocol.specs.Machine.{Memory, put, with_store, with_flush, with_access}
 use Rattle.recover.specs.Sound.{IsIssued, IsOwn}
 use Rattle.arena.proofs.Chains.{leads_at, leads_trans, leads_one, in_left}
@@ -286,10 +287,10 @@ module _ (s : Shape) (m : Memory) (l : Ledger) (claimed waiting : List ℕ) (b :
       go : (t z : Bool) → (next.0 == 0) ≡ z → Row s m l m l i (if t
           then (if z
           then More (EnqueueLink (record { node = node; last = last }))
-          else More (EnqueueFlushPassedLink (record { node = node; last = last; next = next })))
+          else More (FlushPoint (KeepPassedLink (record { node = node; last = last; next = next }))))
           else More (EnqueueLoadTail (record { node = node })))
       go true true e = quiet (More (EnqueueLink (record { node = node; last = last }))) (h.0, h.1)
-      go true false e = quiet (More (EnqueueFlushPassedLink (record { node = node; last = last; next = next }))) (h.0, eqb-false next.0 0 e, h.2 (eqb-false next.0 0 e))
+      go true false e = quiet (More (FlushPoint (KeepPassedLink (record { node = node; last = last; next = next })))) (h.0, eqb-false next.0 0 e, h.2 (eqb-false next.0 0 e))
       go false z e = quiet (More (EnqueueLoadTail (record { node = node }))) h.0
 
   -- a call's own record is not touched by a link or a claim
@@ -310,7 +311,7 @@ module _ (s : Shape) (m : Memory) (l : Ledger) (claimed waiting : List ℕ) (b :
   row_EnqueueLink node last h = go (links m.cached last.0 == 0) refl
     where
       go : (t : Bool) → (links m.cached last.0 == 0) ≡ t → Row s m l (if t then with_store m (Next last) node.0 else m) l i
-          (if t then More (EnqueueFlushLink (record { node = node; last = last })) else More (EnqueueLoadTail (record { node = node })))
+          (if t then More (FlushPoint (KeepLink (record { node = node; last = last }))) else More (EnqueueLoadTail (record { node = node })))
       go true e =
           let empty : links m.cached last.0 ≡ 0 = eqb-true (links m.cached last.0) 0 e in
           let issued : IsIssued s m.kept node.0 = acting_issued node.0 h.0.acting in
@@ -417,12 +418,12 @@ module _ (s : Shape) (m : Memory) (l : Ledger) (claimed waiting : List ℕ) (b :
           then (if e
           then (if z
           then More (DequeueStoreEmpty (record { token = token }))
-          else More (DequeueFlushPassedLink (record { token = token; last = last; next = next })))
+          else More (FlushPoint (KeepDequeuePassedLink (record { token = token; last = last; next = next }))))
           else More (DequeueLoadValue (record { token = token; first = first; next = next })))
           else More (DequeueLoadHead (record { token = token })))
       go false at e q z f = quiet (More (DequeueLoadHead (record { token = token }))) h.0
       go true at true q true f = quiet (More (DequeueStoreEmpty (record { token = token }))) (h.0, h.5 (eqb-true next.0 0 f))
-      go true at true q false f = quiet (More (DequeueFlushPassedLink (record { token = token; last = last; next = next })))
+      go true at true q false f = quiet (More (FlushPoint (KeepDequeuePassedLink (record { token = token; last = last; next = next }))))
           (h.0, eqb-false next.0 0 f, ap (links m.cached) (sym (eqb-true first.0 last.0 q)) ∙ (h.4 (eqb-false next.0 0 f)).0)
       go true at false q z f =
           let apart : first.0 ≢ last.0 = eqb-false first.0 last.0 q in
@@ -442,7 +443,7 @@ module _ (s : Shape) (m : Memory) (l : Ledger) (claimed waiting : List ℕ) (b :
           )
 
   row_DequeueStoreEmpty : (token : Token) → Knows s m l i (DequeueStoreEmpty (record { token = token }))
-      → Row s m l (with_store m (empty_answer_of s.kind token).place (empty_answer_of s.kind token).value) l i (More (DequeueFlushEmpty (record { token = token })))
+      → Row s m l (with_store m (empty_answer_of s.kind token).place (empty_answer_of s.kind token).value) l i (More (FlushPoint (KeepEmpty (record { token = token }))))
   row_DequeueStoreEmpty token h =
       let p : Place = (empty_answer_of s.kind token).place in
       let v : ℕ = (empty_answer_of s.kind token).value in
@@ -483,9 +484,9 @@ module _ (s : Shape) (m : Memory) (l : Ledger) (claimed waiting : List ℕ) (b :
         );
       }
 
-  row_DequeueFlushEmpty : (token : Token) → Knows s m l i (DequeueFlushEmpty (record { token = token }))
+  row_KeepEmpty : (token : Token) → Knows s m l i (FlushPoint (KeepEmpty (record { token = token })))
       → Row s m l (with_flush m (empty_answer_of s.kind token).place) (kept_ledger s m l (empty_answer_of s.kind token).place) i (Done Empty)
-  row_DequeueFlushEmpty token h = flushes (DequeueFlushEmpty (record { token = token })) (Done Empty) (empty_answer_of s.kind token).place h
+  row_KeepEmpty token h = flushes (FlushPoint (KeepEmpty (record { token = token }))) (Done Empty) (empty_answer_of s.kind token).place h
       (λ c g.
       let k : Ledger = kept_ledger s m l (empty_answer_of s.kind token).place in
       let own : owner s token.0 ≡ i = g.0.mine.own in
@@ -509,7 +510,7 @@ module _ (s : Shape) (m : Memory) (l : Ledger) (claimed waiting : List ℕ) (b :
   row_DequeueClaim token first next v h = go (marks m.cached next.0 == 0) refl
     where
       go : (t : Bool) → (marks m.cached next.0 == 0) ≡ t → Row s m l (if t then with_store m (Mark next) token.0 else m) l i
-          (More (DequeueFlushClaim (record { claimed = record { token = token; first = first; next = next; value = v; claim = if t then Won else LostTo (token_of (marks m.cached next.0)) } })))
+          (More (FlushPoint (KeepClaim (record { claimed = record { token = token; first = first; next = next; value = v; claim = if t then Won else LostTo (token_of (marks m.cached next.0)) } }))))
       go true e =
           let empty : marks m.cached next.0 ≡ 0 = eqb-true (marks m.cached next.0) 0 e in
           let issued : IsIssued s m.kept token.0 = acting_issued token.0 h.0.acting in
@@ -528,13 +529,13 @@ module _ (s : Shape) (m : Memory) (l : Ledger) (claimed waiting : List ℕ) (b :
             );
           }
       go false e =
-          quiet (More (DequeueFlushClaim (record { claimed = record { token = token; first = first; next = next; value = v; claim = LostTo (token_of (marks m.cached next.0)) } })))
+          quiet (More (FlushPoint (KeepClaim (record { claimed = record { token = token; first = first; next = next; value = v; claim = LostTo (token_of (marks m.cached next.0)) } }))))
           ((h.0, h.1, eqb-false (marks m.cached next.0) 0 e), h.2, h.3, refl, eqb-false (marks m.cached next.0) 0 e)
 
-  row_DequeueFlushClaim : (token : Token) (first next : NodeId) (v : ℕ) (claim : Claim) → Knows s m l i (DequeueFlushClaim (record { claimed = record { token = token; first = first; next = next; value = v; claim = claim } }))
+  row_KeepClaim : (token : Token) (first next : NodeId) (v : ℕ) (claim : Claim) → Knows s m l i (FlushPoint (KeepClaim (record { claimed = record { token = token; first = first; next = next; value = v; claim = claim } })))
       → Row s m l (with_flush m (Mark next)) (kept_ledger s m l (Mark next)) i (More (DequeueStoreResult (record { claimed = record { token = token; first = first; next = next; value = v; claim = claim } })))
-  row_DequeueFlushClaim token first next v claim h =
-      flushes (DequeueFlushClaim (record { claimed = record { token = token; first = first; next = next; value = v; claim = claim } }))
+  row_KeepClaim token first next v claim h =
+      flushes (FlushPoint (KeepClaim (record { claimed = record { token = token; first = first; next = next; value = v; claim = claim } })))
       (More (DequeueStoreResult (record { claimed = record { token = token; first = first; next = next; value = v; claim = claim } }))) (Mark next) h
       (λ c g. (
         g.0,
@@ -543,14 +544,14 @@ module _ (s : Shape) (m : Memory) (l : Ledger) (claimed waiting : List ℕ) (b :
 
   row_DequeueStoreResult : (token : Token) (first next : NodeId) (v : ℕ) (claim : Claim) → Knows s m l i (DequeueStoreResult (record { claimed = record { token = token; first = first; next = next; value = v; claim = claim } }))
       → Row s m l (with_store m (result_of s.kind (winner claim token) next v).place (result_of s.kind (winner claim token) next v).value) l i
-      (More (DequeueFlushResult (record { claimed = record { token = token; first = first; next = next; value = v; claim = claim } })))
+      (More (FlushPoint (KeepResult (record { claimed = record { token = token; first = first; next = next; value = v; claim = claim } }))))
   row_DequeueStoreResult token first next v claim h =
       let w : Token = winner claim token in
       let cached : marks m.cached next.0 ≡ (winner claim token).0 = b.marked.kept next.0 (λ z. h.1.some (sym h.1.marked ∙ z)) ∙ h.1.marked in
       let node : next.0 ≤ greatest s = subst (λ x. x ≤ greatest s) h.1.claims.link (b.fits_kept (Next first) tt) in
       let small : v ≤ 4294967295 = subst (λ x. x ≤ 4294967295) h.1.value (b.fits_kept (Value next) tt) in
       anyone (DequeueStoreResult (record { claimed = record { token = token; first = first; next = next; value = v; claim = claim } }))
-      (More (DequeueFlushResult (record { claimed = record { token = token; first = first; next = next; value = v; claim = claim } })))
+      (More (FlushPoint (KeepResult (record { claimed = record { token = token; first = first; next = next; value = v; claim = claim } }))))
       (with_store m (result_of s.kind (winner claim token) next v).place (result_of s.kind (winner claim token) next v).value) l
       (record {
         claimed = claimed;
@@ -560,11 +561,11 @@ module _ (s : Shape) (m : Memory) (l : Ledger) (claimed waiting : List ℕ) (b :
       }) h
       (λ c g. (g.0, g.1, put_same m.cached (result_of s.kind (winner claim token) next v).place (result_of s.kind (winner claim token) next v).value))
 
-  row_DequeueFlushResult : (token : Token) (first next : NodeId) (v : ℕ) (claim : Claim) → Knows s m l i (DequeueFlushResult (record { claimed = record { token = token; first = first; next = next; value = v; claim = claim } }))
+  row_KeepResult : (token : Token) (first next : NodeId) (v : ℕ) (claim : Claim) → Knows s m l i (FlushPoint (KeepResult (record { claimed = record { token = token; first = first; next = next; value = v; claim = claim } })))
       → Row s m l (with_flush m (result_of s.kind (winner claim token) next v).place) (kept_ledger s m l (result_of s.kind (winner claim token) next v).place) i
       (More (DequeueMoveHead (record { claimed = record { token = token; first = first; next = next; value = v; claim = claim } })))
-  row_DequeueFlushResult token first next v claim h =
-      flushes (DequeueFlushResult (record { claimed = record { token = token; first = first; next = next; value = v; claim = claim } }))
+  row_KeepResult token first next v claim h =
+      flushes (FlushPoint (KeepResult (record { claimed = record { token = token; first = first; next = next; value = v; claim = claim } })))
       (More (DequeueMoveHead (record { claimed = record { token = token; first = first; next = next; value = v; claim = claim } }))) (result_of s.kind (winner claim token) next v).place h
       (λ c g. (
         g.0,
@@ -598,10 +599,10 @@ module _ (s : Shape) (m : Memory) (l : Ledger) (claimed waiting : List ℕ) (b :
   row (EnqueueLoadNext p) h = quiet (More (EnqueueCheckTail (record { node = p.node; last = p.last; next = node_of (m.cached (Next p.last)) }))) (h.0, h.1, λ z. refl)
   row (EnqueueCheckTail p) h = row_EnqueueCheckTail p.node p.last p.next h
   row (EnqueueLink p) h = row_EnqueueLink p.node p.last h
-  row (EnqueueFlushLink p) h = flushes (EnqueueFlushLink p) (More (EnqueueMoveTail (record { node = p.node; last = p.last }))) (Next p.last) h
+  row (FlushPoint (KeepLink p)) h = flushes (FlushPoint (KeepLink p)) (More (EnqueueMoveTail (record { node = p.node; last = p.last }))) (Next p.last) h
       (λ c g. (g.0, upd_same (links m.kept) p.last.0 (links m.cached p.last.0) ∙ g.1))
   row (EnqueueMoveTail p) h = row_EnqueueMoveTail p.node p.last h
-  row (EnqueueFlushPassedLink p) h = flushes (EnqueueFlushPassedLink p) (More (EnqueueHelpTail (record { node = p.node; last = p.last; next = p.next }))) (Next p.last) h
+  row (FlushPoint (KeepPassedLink p)) h = flushes (FlushPoint (KeepPassedLink p)) (More (EnqueueHelpTail (record { node = p.node; last = p.last; next = p.next }))) (Next p.last) h
       (λ c g. (g.0, g.1, upd_same (links m.kept) p.last.0 (links m.cached p.last.0) ∙ g.2))
   row (EnqueueHelpTail p) h = anyone (EnqueueHelpTail p) (More (EnqueueLoadTail (record { node = p.node }))) (with_access m (Cas Tail p.last.0 p.next.0)) l (tail_moves p.last.0 p.next.0 h.2 h.1) h (λ c g. g.0)
   row (DequeueLoadHead p) h = quiet (More (DequeueLoadTail (record { token = p.token; first = node_of (m.cached Head) }))) (h, head_passed, b.head_to_tail)
@@ -609,13 +610,13 @@ module _ (s : Shape) (m : Memory) (l : Ledger) (claimed waiting : List ℕ) (b :
   row (DequeueLoadNext p) h = row_DequeueLoadNext p.token p.first p.last h
   row (DequeueCheckHead p) h = row_DequeueCheckHead p.token p.first p.last p.next h
   row (DequeueStoreEmpty p) h = row_DequeueStoreEmpty p.token h
-  row (DequeueFlushEmpty p) h = row_DequeueFlushEmpty p.token h
-  row (DequeueFlushPassedLink p) h = flushes (DequeueFlushPassedLink p) (More (DequeueHelpTail (record { token = p.token; last = p.last; next = p.next }))) (Next p.last) h
+  row (FlushPoint (KeepEmpty p)) h = row_KeepEmpty p.token h
+  row (FlushPoint (KeepDequeuePassedLink p)) h = flushes (FlushPoint (KeepDequeuePassedLink p)) (More (DequeueHelpTail (record { token = p.token; last = p.last; next = p.next }))) (Next p.last) h
       (λ c g. (g.0, g.1, upd_same (links m.kept) p.last.0 (links m.cached p.last.0) ∙ g.2))
   row (DequeueHelpTail p) h = anyone (DequeueHelpTail p) (More (DequeueLoadHead (record { token = p.token }))) (with_access m (Cas Tail p.last.0 p.next.0)) l (tail_moves p.last.0 p.next.0 h.2 h.1) h (λ c g. g.0)
   row (DequeueLoadValue p) h = quiet (More (DequeueClaim (record { token = p.token; first = p.first; next = p.next; value = m.cached (Value p.next) }))) (h.0, h.1, h.2, claims_value p.first.0 p.next.0 h.2)
   row (DequeueClaim p) h = row_DequeueClaim p.token p.first p.next p.value h
-  row (DequeueFlushClaim p) h = row_DequeueFlushClaim p.claimed.token p.claimed.first p.claimed.next p.claimed.value p.claimed.claim h
+  row (FlushPoint (KeepClaim p)) h = row_KeepClaim p.claimed.token p.claimed.first p.claimed.next p.claimed.value p.claimed.claim h
   row (DequeueStoreResult p) h = row_DequeueStoreResult p.claimed.token p.claimed.first p.claimed.next p.claimed.value p.claimed.claim h
-  row (DequeueFlushResult p) h = row_DequeueFlushResult p.claimed.token p.claimed.first p.claimed.next p.claimed.value p.claimed.claim h
+  row (FlushPoint (KeepResult p)) h = row_KeepResult p.claimed.token p.claimed.first p.claimed.next p.claimed.value p.claimed.claim h
   row (DequeueMoveHead p) h = row_DequeueMoveHead p.claimed.token p.claimed.first p.claimed.next p.claimed.value p.claimed.claim h

@@ -22,7 +22,8 @@ use Rattle.helping.specs.Table.{token_of, node_of}
 use Rattle.helping.specs.declared.dequeue.Claim.{Claim}
 use Rattle.helping.specs.declared.dequeue.Claim.TheVariants.{Won, LostTo}
 use Rattle.helping.specs.declared.op.Op.{Op}
-use Rattle.helping.specs.declared.op.Op.TheVariants.{PrepareStore, PrepareFlush, EnqueueLoadTail, EnqueueLoadNext, EnqueueCheckTail, EnqueueLink, EnqueueFlushLink, EnqueueMoveTail, EnqueueFlushPassedLink, EnqueueHelpTail, DequeueLoadHead, DequeueLoadTail, DequeueLoadNext, DequeueCheckHead, DequeueStoreEmpty, DequeueFlushEmpty, DequeueFlushPassedLink, DequeueHelpTail, DequeueLoadValue, DequeueClaim, DequeueFlushClaim, DequeueStoreResult, DequeueFlushResult, DequeueMoveHead}
+use Rattle.helping.specs.declared.op.Op.TheVariants.{PrepareStore, PrepareFlush, EnqueueLoadTail, EnqueueLoadNext, EnqueueCheckTail, EnqueueLink, EnqueueMoveTail, EnqueueHelpTail, DequeueLoadHead, DequeueLoadTail, DequeueLoadNext, DequeueCheckHead, DequeueStoreEmpty, DequeueHelpTail, DequeueLoadValue, DequeueClaim, DequeueStoreResult, DequeueMoveHead, Flush as FlushPoint}
+use Rattle.helping.specs.declared.keeping.Keeping.TheVariants.{Link as KeepLink, PassedLink as KeepPassedLink, Empty as KeepEmpty, DequeuePassedLink as KeepDequeuePassedLink, Claim as KeepClaim, Result as KeepResult}
 use Rattle.protocol.specs.Machine.{Memory}
 use Rattle.arena.proofs.Chains.{leads_trans}
 use Rattle.protocol.proofs.chain.Chains.{leads_grows}
@@ -265,9 +266,9 @@ module _ (a i : ℕ) (s : Shape) (m : Memory) (l : Ledger) (n : Memory) (k : Led
   stable (EnqueueLoadNext p) h = (enqueuing_stable p.node.0 h.0, was_tail_stable p.last.0 h.1)
   stable (EnqueueCheckTail p) h = (enqueuing_stable p.node.0 h.0, was_tail_stable p.last.0 h.1, λ z. link_stable p.last.0 p.next.0 z (h.2 z))
   stable (EnqueueLink p) h = (enqueuing_stable p.node.0 h.0, was_tail_stable p.last.0 h.1)
-  stable (EnqueueFlushLink p) h = (linked_stable p.node.0 h.0, link_stable p.last.0 p.node.0 h.0.acting.mine.some h.1)
+  stable (FlushPoint (KeepLink p)) h = (linked_stable p.node.0 h.0, link_stable p.last.0 p.node.0 h.0.acting.mine.some h.1)
   stable (EnqueueMoveTail p) h = (linked_stable p.node.0 h.0, kept_link_stable p.last.0 p.node.0 h.0.acting.mine.some h.1)
-  stable (EnqueueFlushPassedLink p) h = (enqueuing_stable p.node.0 h.0, h.1, link_stable p.last.0 p.next.0 h.1 h.2)
+  stable (FlushPoint (KeepPassedLink p)) h = (enqueuing_stable p.node.0 h.0, h.1, link_stable p.last.0 p.next.0 h.1 h.2)
   stable (EnqueueHelpTail p) h = (enqueuing_stable p.node.0 h.0, h.1, kept_link_stable p.last.0 p.next.0 h.1 h.2)
   stable (DequeueLoadHead p) h = dequeuing_stable p.token.0 h
   stable (DequeueLoadTail p) h = (dequeuing_stable p.token.0 h.0, passed_stable p.first.0 h.1, tail_stable p.first.0 h.2)
@@ -282,13 +283,13 @@ module _ (a i : ℕ) (s : Shape) (m : Memory) (l : Ledger) (n : Memory) (k : Led
     h.6,
   )
   stable (DequeueStoreEmpty p) h = (dequeuing_stable p.token.0 h.0, stage_stable p.token.0 h.0.before ∙ h.1)
-  stable (DequeueFlushEmpty p) h = (
+  stable (FlushPoint (KeepEmpty p)) h = (
     acting_stable p.token.0 (inl h.1) h.0,
     asks_stable Deq h.1,
     loose_stable p.token.0 h.0.mine.own h.2,
     same_empty p.token.0 h.0.mine.own h.2.mark ∙ h.3,
   )
-  stable (DequeueFlushPassedLink p) h = (dequeuing_stable p.token.0 h.0, h.1, link_stable p.last.0 p.next.0 h.1 h.2)
+  stable (FlushPoint (KeepDequeuePassedLink p)) h = (dequeuing_stable p.token.0 h.0, h.1, link_stable p.last.0 p.next.0 h.1 h.2)
   stable (DequeueHelpTail p) h = (dequeuing_stable p.token.0 h.0, h.1, kept_link_stable p.last.0 p.next.0 h.1 h.2)
   stable (DequeueLoadValue p) h = (dequeuing_stable p.token.0 h.0, stage_stable p.token.0 h.0.before ∙ h.1, claims_stable p.first.0 p.next.0 h.2)
   stable (DequeueClaim p) h = (
@@ -297,7 +298,7 @@ module _ (a i : ℕ) (s : Shape) (m : Memory) (l : Ledger) (n : Memory) (k : Led
     claims_stable p.first.0 p.next.0 h.2,
     value_stable p.first.0 p.next.0 p.value h.2 h.3,
   )
-  stable (DequeueFlushClaim p) h = (
+  stable (FlushPoint (KeepClaim p)) h = (
     claimer_stable p.claimed.token p.claimed.claim h.0,
     claims_stable p.claimed.first.0 p.claimed.next.0 h.1,
     value_stable p.claimed.first.0 p.claimed.next.0 p.claimed.value h.1 h.2,
@@ -305,7 +306,7 @@ module _ (a i : ℕ) (s : Shape) (m : Memory) (l : Ledger) (n : Memory) (k : Led
     h.4,
   )
   stable (DequeueStoreResult p) h = (claimer_stable p.claimed.token p.claimed.claim h.0, claimed_stable p.claimed.first.0 p.claimed.next.0 p.claimed.value (winner p.claimed.claim p.claimed.token).0 h.1)
-  stable (DequeueFlushResult p) h = (
+  stable (FlushPoint (KeepResult p)) h = (
     claimer_stable p.claimed.token p.claimed.claim h.0,
     claimed_stable p.claimed.first.0 p.claimed.next.0 p.claimed.value (winner p.claimed.claim p.claimed.token).0 h.1,
     result_stable p.claimed.first.0 p.claimed.next.0 p.claimed.value (winner p.claimed.claim p.claimed.token) h.1 h.2,

@@ -20,11 +20,12 @@ use Rattle.arena.specs.declared.place.Place.TheVariants.{Head, Tail, Announcemen
 use Rattle.stepper.specs.Preparation.{preparation_of, preparation_from, announcement, write, IsBegun}
 use Rattle.stepper.specs.declared.prepare.Begun.{Begun}
 use Rattle.helping.specs.Claims.{winner}
-use Rattle.helping.specs.Table.{token_of, node_of, access_of}
+use Rattle.helping.specs.Table.{token_of, node_of, access_of, kept_place}
 use Rattle.helping.specs.declared.dequeue.Claim.{Claim}
 use Rattle.helping.specs.declared.dequeue.Claim.TheVariants.{Won, LostTo}
 use Rattle.helping.specs.declared.op.Op.{Op}
-use Rattle.helping.specs.declared.op.Op.TheVariants.{PrepareStore, PrepareFlush, EnqueueLoadTail, EnqueueLoadNext, EnqueueCheckTail, EnqueueLink, EnqueueFlushLink, EnqueueMoveTail, EnqueueFlushPassedLink, EnqueueHelpTail, DequeueLoadHead, DequeueLoadTail, DequeueLoadNext, DequeueCheckHead, DequeueStoreEmpty, DequeueFlushEmpty, DequeueFlushPassedLink, DequeueHelpTail, DequeueLoadValue, DequeueClaim, DequeueFlushClaim, DequeueStoreResult, DequeueFlushResult, DequeueMoveHead}
+use Rattle.helping.specs.declared.op.Op.TheVariants.{PrepareStore, PrepareFlush, EnqueueLoadTail, EnqueueLoadNext, EnqueueCheckTail, EnqueueLink, EnqueueMoveTail, EnqueueHelpTail, DequeueLoadHead, DequeueLoadTail, DequeueLoadNext, DequeueCheckHead, DequeueStoreEmpty, DequeueHelpTail, DequeueLoadValue, DequeueClaim, DequeueStoreResult, DequeueMoveHead, Flush as FlushPoint}
+use Rattle.helping.specs.declared.keeping.Keeping.TheVariants.{Link as KeepLink, PassedLink as KeepPassedLink, Empty as KeepEmpty, DequeuePassedLink as KeepDequeuePassedLink, Claim as KeepClaim, Result as KeepResult}
 use Rattle.events.specs.Telling.{IsToldOf}
 use Rattle.protocol.specs.Machine.{Memory, put, with_store, with_access}
 use Rattle.protocol.proofs.chain.Chains.{upd, upd_other, upd_cases}
@@ -498,9 +499,8 @@ module _ (s : Shape) (m : Memory) (l : Ledger) (claimed waiting : List ℕ) (b :
   row_records (EnqueueLoadNext p) h = r
   row_records (EnqueueCheckTail p) h = r
   row_records (EnqueueLink p) h = link_records p.node p.last h.0
-  row_records (EnqueueFlushLink p) h = keep_records s m l claimed waiting b r (Next p.last)
+  row_records (FlushPoint k) h = keep_records s m l claimed waiting b r (kept_place s.kind k)
   row_records (EnqueueMoveTail p) h = tail_records p.last.0 p.node.0
-  row_records (EnqueueFlushPassedLink p) h = keep_records s m l claimed waiting b r (Next p.last)
   row_records (EnqueueHelpTail p) h = tail_records p.last.0 p.next.0
   row_records (DequeueLoadHead p) h = r
   row_records (DequeueLoadTail p) h = r
@@ -508,17 +508,13 @@ module _ (s : Shape) (m : Memory) (l : Ledger) (claimed waiting : List ℕ) (b :
   row_records (DequeueCheckHead p) h = r
   row_records (DequeueStoreEmpty p) h = own_records (empty_answer_of s.kind p.token).place (empty_answer_of s.kind p.token).value (empty_own s.kind p.token) (harmless_empty p.token h.0)
       (λ t e. absurd (subst IsEmptyWord (sym e) (empty_word s.kind p.token)))
-  row_records (DequeueFlushEmpty p) h = keep_records s m l claimed waiting b r (empty_answer_of s.kind p.token).place
-  row_records (DequeueFlushPassedLink p) h = keep_records s m l claimed waiting b r (Next p.last)
   row_records (DequeueHelpTail p) h = tail_records p.last.0 p.next.0
   row_records (DequeueLoadValue p) h = r
   row_records (DequeueClaim p) h = claim_records p.token p.next h.0
-  row_records (DequeueFlushClaim p) h = keep_records s m l claimed waiting b r (Mark p.claimed.next)
   row_records (DequeueStoreResult p) h =
       own_records (result_of s.kind (winner p.claimed.claim p.claimed.token) p.claimed.next p.claimed.value).place (result_of s.kind (winner p.claimed.claim p.claimed.token) p.claimed.next p.claimed.value).value (result_own s.kind (winner p.claimed.claim p.claimed.token) p.claimed.next p.claimed.value)
       (harmless_result (winner p.claimed.claim p.claimed.token) p.claimed.next p.claimed.value h.1.marked h.1.some h.1.value)
       (λ t e. absurd (subst IsAnswer (sym e) (result_answer s.kind (winner p.claimed.claim p.claimed.token) p.claimed.next p.claimed.value)))
-  row_records (DequeueFlushResult p) h = keep_records s m l claimed waiting b r (result_of s.kind (winner p.claimed.claim p.claimed.token) p.claimed.next p.claimed.value).place
   row_records (DequeueMoveHead p) h = head_records p.claimed.first.0 p.claimed.next.0 p.claimed.value (winner p.claimed.claim p.claimed.token) h.1 h.2 h.3
 
 -- a client's call begins or ends
@@ -577,23 +573,23 @@ acting_or s m l i op h = go op h
     go (EnqueueLoadNext p) k = inl (hold p.node.0 k.0.acting)
     go (EnqueueCheckTail p) k = inl (hold p.node.0 k.0.acting)
     go (EnqueueLink p) k = inl (hold p.node.0 k.0.acting)
-    go (EnqueueFlushLink p) k = inl (hold p.node.0 k.0.acting)
+    go (FlushPoint (KeepLink p)) k = inl (hold p.node.0 k.0.acting)
     go (EnqueueMoveTail p) k = inl (hold p.node.0 k.0.acting)
-    go (EnqueueFlushPassedLink p) k = inl (hold p.node.0 k.0.acting)
+    go (FlushPoint (KeepPassedLink p)) k = inl (hold p.node.0 k.0.acting)
     go (EnqueueHelpTail p) k = inl (hold p.node.0 k.0.acting)
     go (DequeueLoadHead p) k = inl (hold p.token.0 k.acting)
     go (DequeueLoadTail p) k = inl (hold p.token.0 k.0.acting)
     go (DequeueLoadNext p) k = inl (hold p.token.0 k.0.acting)
     go (DequeueCheckHead p) k = inl (hold p.token.0 k.0.acting)
     go (DequeueStoreEmpty p) k = inl (hold p.token.0 k.0.acting)
-    go (DequeueFlushEmpty p) k = inl (hold p.token.0 k.0)
-    go (DequeueFlushPassedLink p) k = inl (hold p.token.0 k.0.acting)
+    go (FlushPoint (KeepEmpty p)) k = inl (hold p.token.0 k.0)
+    go (FlushPoint (KeepDequeuePassedLink p)) k = inl (hold p.token.0 k.0.acting)
     go (DequeueHelpTail p) k = inl (hold p.token.0 k.0.acting)
     go (DequeueLoadValue p) k = inl (hold p.token.0 k.0.acting)
     go (DequeueClaim p) k = inl (hold p.token.0 k.0.acting)
-    go (DequeueFlushClaim p) k = inl (claimer p.claimed.token p.claimed.claim k.0)
+    go (FlushPoint (KeepClaim p)) k = inl (claimer p.claimed.token p.claimed.claim k.0)
     go (DequeueStoreResult p) k = inl (claimer p.claimed.token p.claimed.claim k.0)
-    go (DequeueFlushResult p) k = inl (claimer p.claimed.token p.claimed.claim k.0)
+    go (FlushPoint (KeepResult p)) k = inl (claimer p.claimed.token p.claimed.claim k.0)
     go (DequeueMoveHead p) k = inl (claimer p.claimed.token p.claimed.claim k.0)
 
 -- a call whose link, claim or empty answer stands has prepared its record

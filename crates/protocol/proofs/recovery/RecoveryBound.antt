@@ -22,7 +22,8 @@ use Rattle.stepper.specs.declared.resume.After.TheVariants.{More, Done as Ready}
 use Rattle.recover.specs.declared.recovery.Recovery.{Recovery}
 use Rattle.recover.specs.declared.point.RecoveryPoint.{RecoveryPoint}
 use Rattle.recover.specs.declared.point.Report.{Report}
-use Rattle.recover.specs.declared.point.RecoveryPoint.TheVariants.{RecoveryLoadHead, RecoveryLoadNext, RecoveryLoadInsert, RecoveryStoreStatus, RecoveryFlushStatus, RecoveryLoadMark, RecoveryLoadValue, RecoveryStoreResult, RecoveryFlushResult, RecoveryStoreHead, RecoveryFlushHead, RecoveryStoreTail, RecoveryFlushTail, RecoveryLoadAnnouncement, RecoveryLoadCell, RecoveryLoadNumber, RecoveryLoadKind, RecoveryLoadStatus, RecoveryLoadRemove, RecoveryLoadEntryNode, RecoveryLoadRemovedValue}
+use Rattle.recover.specs.declared.point.RecoveryPoint.TheVariants.{RecoveryLoadHead, RecoveryLoadNext, RecoveryLoadInsert, RecoveryStoreStatus, RecoveryLoadMark, RecoveryLoadValue, RecoveryStoreResult, RecoveryStoreHead, RecoveryStoreTail, RecoveryLoadAnnouncement, RecoveryLoadCell, RecoveryLoadNumber, RecoveryLoadKind, RecoveryLoadStatus, RecoveryLoadRemove, RecoveryLoadEntryNode, RecoveryLoadRemovedValue, Flush as FlushPoint}
+use Rattle.recover.specs.declared.keeping.RecoveryKeeping.TheVariants.{Status as KeepStatus, Result as KeepResult, Head as KeepHead, Tail as KeepTail}
 use Rattle.stepper.specs.declared.resume.After.{After}
 use Rattle.protocol.specs.Machine.{Memory, with_access}
 use Rattle.protocol.specs.Measure.{rest, steps_beyond, steps_on_arrival, steps_onward, steps_to_tell, weight}
@@ -166,7 +167,7 @@ module _ (s : Shape) (m : Memory) (claimed waiting queue : List ℕ) (b : Sound 
       go false = omega (arith, lt)
 
   store_less : (node : NodeId) (mark : Token) (value : ℕ) (kind : Kind) → s.kind ≡ kind
-      → weight s (with_access m (access_of kind (RecoveryStoreResult (record { node = node; mark = mark; value = value })))).cached (RecoveryFlushResult (record { node = node; mark = mark; value = value })) < 8 * rest s (links m.cached) node.0 + 7 + 8 * s.clients
+      → weight s (with_access m (access_of kind (RecoveryStoreResult (record { node = node; mark = mark; value = value })))).cached (FlushPoint (KeepResult (record { node = node; mark = mark; value = value }))) < 8 * rest s (links m.cached) node.0 + 7 + 8 * s.clients
   store_less node mark value Durable e = omega arith
   store_less node mark value Log e = omega arith
 
@@ -177,15 +178,15 @@ module _ (s : Shape) (m : Memory) (claimed waiting queue : List ℕ) (b : Sound 
   falls_at told (RecoveryLoadNext p) at = next_less at.0 told p.cur p.moved
   falls_at told (RecoveryLoadInsert p) at = omega arith
   falls_at told (RecoveryStoreStatus p) at = omega arith
-  falls_at told (RecoveryFlushStatus p) at = past_less p.cur p.node p.moved
+  falls_at told (FlushPoint (KeepStatus p)) at = past_less p.cur p.node p.moved
   falls_at told (RecoveryLoadMark p) at = mark_less told p.cur p.node (m.cached (Mark p.node))
   falls_at told (RecoveryLoadValue p) at = omega arith
   falls_at told (RecoveryStoreResult p) at = store_less p.node p.mark p.value s.kind refl
-  falls_at told (RecoveryFlushResult p) at = omega arith
+  falls_at told (FlushPoint (KeepResult p)) at = omega arith
   falls_at told (RecoveryStoreHead p) at = omega arith
-  falls_at told (RecoveryFlushHead p) at = head_less p.cur p.unclaimed
+  falls_at told (FlushPoint (KeepHead p)) at = head_less p.cur p.unclaimed
   falls_at told (RecoveryStoreTail p) at = omega arith
-  falls_at told (RecoveryFlushTail p) at = omega arith
+  falls_at told (FlushPoint (KeepTail p)) at = omega arith
   falls_at told (RecoveryLoadAnnouncement p) at = announcement_less p.client told (m.cached (Announcement p.client)) at.1.below
   falls_at told (RecoveryLoadCell p) at = told_less p.client told (told_row (row_of (m.cached (Cell p.token)))) (steps_to_tell s p.client.0 - 1) at.1.below (omega (arith, at.1.below))
   falls_at told (RecoveryLoadNumber p) at = let lt : p.client.0 < s.clients = at.1.below in omega (arith, lt)
@@ -236,7 +237,7 @@ module _ (s : Shape) (m : Memory) (claimed waiting queue : List ℕ) (b : Sound 
   few_at_point told (RecoveryStoreStatus p) a =
       let less : suc (rest s (links m.cached) p.node.0) ≤ greatest s = ahead_less (λ x. a.0 (Next (node_of x))) p.moved p.cur.0 p.node.0 a.1 in
       omega (arith, less, arriving_most p.moved)
-  few_at_point told (RecoveryFlushStatus p) a =
+  few_at_point told (FlushPoint (KeepStatus p)) a =
       let less : suc (rest s (links m.cached) p.node.0) ≤ greatest s = ahead_less (but_links p.entry a.0) p.moved p.cur.0 p.node.0 a.2 in
       omega (arith, less, arriving_most p.moved)
   few_at_point told (RecoveryLoadMark p) a =
@@ -246,11 +247,11 @@ module _ (s : Shape) (m : Memory) (claimed waiting queue : List ℕ) (b : Sound 
       let less : suc (rest s (links m.cached) p.node.0) ≤ greatest s = ahead_less (λ x. a.0 (Next (node_of x))) false a.1.cur p.node.0 a.1.ahead in
       omega (arith, less)
   few_at_point told (RecoveryStoreResult p) a = omega (arith, walk_most (greatest s) (links m.cached) p.node.0)
-  few_at_point told (RecoveryFlushResult p) a = omega (arith, walk_most (greatest s) (links m.cached) p.node.0)
+  few_at_point told (FlushPoint (KeepResult p)) a = omega (arith, walk_most (greatest s) (links m.cached) p.node.0)
   few_at_point told (RecoveryStoreHead p) a = omega (arith, onward_most p.unclaimed)
-  few_at_point told (RecoveryFlushHead p) a = omega (arith, onward_most p.unclaimed)
+  few_at_point told (FlushPoint (KeepHead p)) a = omega (arith, onward_most p.unclaimed)
   few_at_point told (RecoveryStoreTail p) a = omega arith
-  few_at_point told (RecoveryFlushTail p) a = omega arith
+  few_at_point told (FlushPoint (KeepTail p)) a = omega arith
   few_at_point told (RecoveryLoadAnnouncement p) a = omega arith
   few_at_point told (RecoveryLoadCell p) a = omega arith
   few_at_point told (RecoveryLoadNumber p) a = omega arith

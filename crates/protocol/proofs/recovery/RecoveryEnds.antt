@@ -23,7 +23,8 @@ use Rattle.stepper.specs.declared.resume.After.TheVariants.{More, Done as Ready}
 use Rattle.recover.specs.declared.recovery.Recovery.{Recovery}
 use Rattle.recover.specs.declared.point.RecoveryPoint.{RecoveryPoint}
 use Rattle.recover.specs.declared.point.Report.{Report}
-use Rattle.recover.specs.declared.point.RecoveryPoint.TheVariants.{RecoveryLoadHead, RecoveryLoadNext, RecoveryLoadInsert, RecoveryStoreStatus, RecoveryFlushStatus, RecoveryLoadMark, RecoveryLoadValue, RecoveryStoreResult, RecoveryFlushResult, RecoveryStoreHead, RecoveryFlushHead, RecoveryStoreTail, RecoveryFlushTail, RecoveryLoadAnnouncement, RecoveryLoadCell, RecoveryLoadNumber, RecoveryLoadKind, RecoveryLoadStatus, RecoveryLoadRemove, RecoveryLoadEntryNode, RecoveryLoadRemovedValue}
+use Rattle.recover.specs.declared.point.RecoveryPoint.TheVariants.{RecoveryLoadHead, RecoveryLoadNext, RecoveryLoadInsert, RecoveryStoreStatus, RecoveryLoadMark, RecoveryLoadValue, RecoveryStoreResult, RecoveryStoreHead, RecoveryStoreTail, RecoveryLoadAnnouncement, RecoveryLoadCell, RecoveryLoadNumber, RecoveryLoadKind, RecoveryLoadStatus, RecoveryLoadRemove, RecoveryLoadEntryNode, RecoveryLoadRemovedValue, Flush as FlushPoint}
+use Rattle.recover.specs.declared.keeping.RecoveryKeeping.TheVariants.{Status as KeepStatus, Result as KeepResult, Head as KeepHead, Tail as KeepTail}
 use Rattle.stepper.specs.declared.resume.After.{After}
 use Rattle.protocol.specs.Machine.{Memory, put, with_store, with_flush}
 use Rattle.recover.specs.Sound.{IsIssued}
@@ -290,40 +291,40 @@ module _ (s : Shape) (m : Memory) (claimed waiting queue : List ℕ) (b : Sound 
     keep_new p ne (RecoveryLoadNext q) a = absurd (ne (sym (a.0 p)))
     keep_new p ne (RecoveryLoadInsert q) a = absurd (ne (sym (a.0 p)))
     keep_new p ne (RecoveryStoreStatus q) a = absurd (ne (sym (a.0 p)))
-    keep_new p ne (RecoveryFlushStatus q) a = elim (put_cases m.kept (Status q.entry) 0 p) [
+    keep_new p ne (FlushPoint (KeepStatus q)) a = elim (put_cases m.kept (Status q.entry) 0 p) [
       | inl t ↦
           let r : Sound s (with_flush m (Status q.entry)).kept claimed waiting queue × Ahead s (with_flush m (Status q.entry)).kept claimed q.moved q.cur.0 q.node.0 × (statuses (with_flush m (Status q.entry)).kept q.node.0 ≡ 1) =
           kept_status q.cur.0 q.node.0 q.entry.0 q.moved a.0 a.1 a.2 a.3 a.4 in
-          let now : RecoversAt s (with_flush m (Status q.entry)) claimed waiting queue told (RecoveryFlushStatus q) = record { sound = r.0; at = (but_flushed (Status q.entry) a.0, a.1, r.1, a.3, a.4) } in
-          subst (λ x. RecoversAt s (with_flush m x) claimed waiting queue told (RecoveryFlushStatus q)) (sym t.0) now
+          let now : RecoversAt s (with_flush m (Status q.entry)) claimed waiting queue told (FlushPoint (KeepStatus q)) = record { sound = r.0; at = (but_flushed (Status q.entry) a.0, a.1, r.1, a.3, a.4) } in
+          subst (λ x. RecoversAt s (with_flush m x) claimed waiting queue told (FlushPoint (KeepStatus q))) (sym t.0) now
       | inr t ↦ absurd (ne (sym (a.0 p t.0)))
     ]
     keep_new p ne (RecoveryLoadMark q) a = absurd (ne (sym (a.0 p)))
     keep_new p ne (RecoveryLoadValue q) a = absurd (ne (sym (a.0 p)))
     keep_new p ne (RecoveryStoreResult q) a = absurd (ne (sym (a.0 p)))
-    keep_new p ne (RecoveryFlushResult q) a = elim (put_cases m.kept (result_of s.kind q.mark q.node q.value).place 0 p) [
+    keep_new p ne (FlushPoint (KeepResult q)) a = elim (put_cases m.kept (result_of s.kind q.mark q.node q.value).place 0 p) [
       | inl t ↦
           let r : Sound s (with_flush m (result_of s.kind q.mark q.node q.value).place).kept claimed waiting queue × Claim s (with_flush m (result_of s.kind q.mark q.node q.value).place).kept claimed q.node.0 q.mark.0
           × (s.kind ≡ Durable → q.value ≡ values (with_flush m (result_of s.kind q.mark q.node q.value).place).kept q.node.0) = kept_result q.node q.mark q.value a.1 a.2 a.3 in
-          let now : RecoversAt s (with_flush m (result_of s.kind q.mark q.node q.value).place) claimed waiting queue told (RecoveryFlushResult q) =
+          let now : RecoversAt s (with_flush m (result_of s.kind q.mark q.node q.value).place) claimed waiting queue told (FlushPoint (KeepResult q)) =
           record { sound = r.0; at = (but_flushed (result_of s.kind q.mark q.node q.value).place a.0, a.1, r.1, r.2, a.4) } in
-          subst (λ x. RecoversAt s (with_flush m x) claimed waiting queue told (RecoveryFlushResult q)) (sym t.0) now
+          subst (λ x. RecoversAt s (with_flush m x) claimed waiting queue told (FlushPoint (KeepResult q))) (sym t.0) now
       | inr t ↦ absurd (ne (sym (a.0 p t.0)))
     ]
     keep_new p ne (RecoveryStoreHead q) a = absurd (ne (sym (a.0 p)))
-    keep_new p ne (RecoveryFlushHead q) a = elim (put_cases m.kept Head 0 p) [
+    keep_new p ne (FlushPoint (KeepHead q)) a = elim (put_cases m.kept Head 0 p) [
       | inl t ↦
           let r : Sound s (with_flush m Head).kept claimed waiting queue × LastClaimed s (with_flush m Head).kept claimed q.cur.0 q.unclaimed = kept_head q.cur.0 q.unclaimed a.1 a.2 in
-          let now : RecoversAt s (with_flush m Head) claimed waiting queue told (RecoveryFlushHead q) = record { sound = r.0; at = (but_flushed Head a.0, a.1, r.1) } in
-          subst (λ x. RecoversAt s (with_flush m x) claimed waiting queue told (RecoveryFlushHead q)) (sym t.0) now
+          let now : RecoversAt s (with_flush m Head) claimed waiting queue told (FlushPoint (KeepHead q)) = record { sound = r.0; at = (but_flushed Head a.0, a.1, r.1) } in
+          subst (λ x. RecoversAt s (with_flush m x) claimed waiting queue told (FlushPoint (KeepHead q))) (sym t.0) now
       | inr t ↦ absurd (ne (sym (a.0 p t.0)))
     ]
     keep_new p ne (RecoveryStoreTail q) a = absurd (ne (sym (a.0 p)))
-    keep_new p ne (RecoveryFlushTail q) a = elim (put_cases m.kept Tail 0 p) [
+    keep_new p ne (FlushPoint (KeepTail q)) a = elim (put_cases m.kept Tail 0 p) [
       | inl t ↦
           let r : Sound s (with_flush m Tail).kept claimed waiting queue × LastNode s (with_flush m Tail).kept claimed a.1.cur = kept_tail a.1.cur a.1.cached a.1.last in
-          let now : RecoversAt s (with_flush m Tail) claimed waiting queue told (RecoveryFlushTail q) = record { sound = r.0; at = (but_flushed Tail a.0, record { cur = a.1.cur; last = r.1; cached = a.1.cached }) } in
-          subst (λ x. RecoversAt s (with_flush m x) claimed waiting queue told (RecoveryFlushTail q)) (sym t.0) now
+          let now : RecoversAt s (with_flush m Tail) claimed waiting queue told (FlushPoint (KeepTail q)) = record { sound = r.0; at = (but_flushed Tail a.0, record { cur = a.1.cur; last = r.1; cached = a.1.cached }) } in
+          subst (λ x. RecoversAt s (with_flush m x) claimed waiting queue told (FlushPoint (KeepTail q))) (sym t.0) now
       | inr t ↦ absurd (ne (sym (a.0 p t.0)))
     ]
     keep_new p ne (RecoveryLoadAnnouncement q) a = absurd (ne (sym (a.0 p)))
@@ -341,7 +342,7 @@ module _ (s : Shape) (m : Memory) (claimed waiting queue : List ℕ) (b : Sound 
     hand_may_at p ne (RecoveryLoadNext q) a = absurd (ne (sym (a.0 p)))
     hand_may_at p ne (RecoveryLoadInsert q) a = absurd (ne (sym (a.0 p)))
     hand_may_at p ne (RecoveryStoreStatus q) a = absurd (ne (sym (a.0 p)))
-    hand_may_at p ne (RecoveryFlushStatus q) a = elim (put_cases m.kept (Status q.entry) 0 p) [
+    hand_may_at p ne (FlushPoint (KeepStatus q)) a = elim (put_cases m.kept (Status q.entry) 0 p) [
       | inl t ↦
           let may : MayKeep s m.kept (Status (token_of q.entry.0)) 1 = subst (λ x. MayKeep s m.kept (Status (token_of x)) 1) (sym a.4) (status_may s m.kept claimed waiting queue b q.cur.0 q.node.0 a.2.link a.2.some a.3) in
           subst (λ x. MayKeep s m.kept x (m.cached x)) (sym t.0) (subst (MayKeep s m.kept (Status q.entry)) (sym a.1) may)
@@ -350,20 +351,20 @@ module _ (s : Shape) (m : Memory) (claimed waiting queue : List ℕ) (b : Sound 
     hand_may_at p ne (RecoveryLoadMark q) a = absurd (ne (sym (a.0 p)))
     hand_may_at p ne (RecoveryLoadValue q) a = absurd (ne (sym (a.0 p)))
     hand_may_at p ne (RecoveryStoreResult q) a = absurd (ne (sym (a.0 p)))
-    hand_may_at p ne (RecoveryFlushResult q) a = elim (put_cases m.kept (result_of s.kind q.mark q.node q.value).place 0 p) [
+    hand_may_at p ne (FlushPoint (KeepResult q)) a = elim (put_cases m.kept (result_of s.kind q.mark q.node q.value).place 0 p) [
       | inl t ↦ subst (λ x. MayKeep s m.kept x (m.cached x)) (sym t.0)
           (subst (MayKeep s m.kept (result_of s.kind q.mark q.node q.value).place) (sym a.1) (result_may s m.kept claimed waiting queue b q.node q.mark q.value a.2 a.3))
       | inr t ↦ absurd (ne (sym (a.0 p t.0)))
     ]
     hand_may_at p ne (RecoveryStoreHead q) a = absurd (ne (sym (a.0 p)))
-    hand_may_at p ne (RecoveryFlushHead q) a = elim (put_cases m.kept Head 0 p) [
+    hand_may_at p ne (FlushPoint (KeepHead q)) a = elim (put_cases m.kept Head 0 p) [
       | inl t ↦
           let fit : q.cur.0 ≤ greatest s = node_fits s m.kept claimed waiting queue b q.cur.0 (in_left q.cur.0 (0 ∷ claimed) waiting (answered_among s m.kept claimed waiting queue b q.cur.0 a.2.answered)) in
           subst (λ x. MayKeep s m.kept x (m.cached x)) (sym t.0) (subst (MayKeep s m.kept Head) (sym a.1) (head_may s m.kept claimed waiting queue b q.cur.0 a.2.answered fit))
       | inr t ↦ absurd (ne (sym (a.0 p t.0)))
     ]
     hand_may_at p ne (RecoveryStoreTail q) a = absurd (ne (sym (a.0 p)))
-    hand_may_at p ne (RecoveryFlushTail q) a = elim (put_cases m.kept Tail 0 p) [
+    hand_may_at p ne (FlushPoint (KeepTail q)) a = elim (put_cases m.kept Tail 0 p) [
       | inl t ↦
           let last : record { passed : (s.kind ≡ Log → (n : ℕ) → IsAmong n waiting → statuses m.kept n ≡ 1); at : a.1.cur ≡ end_of 0 (claimed ++ waiting) } = last_all s m.kept claimed waiting queue b a.1.cur a.1.last in
           let among : IsAmong a.1.cur (0 ∷ claimed ++ waiting) = subst (λ x. IsAmong x (0 ∷ claimed ++ waiting)) (sym last.at) (in_end_of 0 (claimed ++ waiting)) in
@@ -448,9 +449,9 @@ module _ (s : Shape) (m : Memory) (claimed waiting queue : List ℕ) (b : Sound 
         )
         go false e = onward (token_at (m.cached (Mark node))) mark (eqb-false (m.cached (Mark node)) 0 e) s.kind refl
 
-    pub row_FlushStatus : (cur node : NodeId) (entry : Token) (moved : Bool) → AtPoint s m claimed waiting told (RecoveryFlushStatus (record { cur = cur; node = node; entry = entry; moved = moved }))
+    pub row_KeepStatus : (cur node : NodeId) (entry : Token) (moved : Bool) → AtPoint s m claimed waiting told (FlushPoint (KeepStatus (record { cur = cur; node = node; entry = entry; moved = moved })))
         → RecoversAt s (with_flush m (Status entry)) claimed waiting queue told (point_past_status cur node moved)
-    row_FlushStatus cur node entry moved a =
+    row_KeepStatus cur node entry moved a =
         let r : Sound s (with_flush m (Status entry)).kept claimed waiting queue × Ahead s (with_flush m (Status entry)).kept claimed moved cur.0 node.0 × (statuses (with_flush m (Status entry)).kept node.0 ≡ 1) =
         kept_status cur.0 node.0 entry.0 moved a.0 a.1 a.2 a.3 a.4 in
         go moved r.1
@@ -463,9 +464,9 @@ module _ (s : Shape) (m : Memory) (claimed waiting queue : List ℕ) (b : Sound 
         go true h = record { sound = now.0; at = (same_after m (Status entry) a.0, taken_next s (with_flush m (Status entry)).kept claimed waiting queue now.0 cur.0 node.0 h.position h.link h.some (λ l. now.1)) }
         go false h = record { sound = now.0; at = (same_after m (Status entry) a.0, h, λ l. now.1) }
 
-    pub row_FlushResult : (node : NodeId) (mark : Token) (v : ℕ) → AtPoint s m claimed waiting told (RecoveryFlushResult (record { node = node; mark = mark; value = v }))
+    pub row_KeepResult : (node : NodeId) (mark : Token) (v : ℕ) → AtPoint s m claimed waiting told (FlushPoint (KeepResult (record { node = node; mark = mark; value = v })))
         → RecoversAt s (with_flush m (result_of s.kind mark node v).place) claimed waiting queue told (RecoveryLoadNext (record { cur = node; moved = false }))
-    row_FlushResult node mark v a =
+    row_KeepResult node mark v a =
         let p : Place = (result_of s.kind mark node v).place in
         let r : Sound s (with_flush m (result_of s.kind mark node v).place).kept claimed waiting queue × Claim s (with_flush m (result_of s.kind mark node v).place).kept claimed node.0 mark.0
         × (s.kind ≡ Durable → v ≡ values (with_flush m (result_of s.kind mark node v).place).kept node.0) = kept_result node mark v a.1 a.2 a.3 in
@@ -488,8 +489,8 @@ module _ (s : Shape) (m : Memory) (claimed waiting queue : List ℕ) (b : Sound 
           );
         }
 
-    pub row_FlushHead : (cur : NodeId) (n : Option NodeId) → AtPoint s m claimed waiting told (RecoveryFlushHead (record { cur = cur; unclaimed = n })) → RecoversAt s (with_flush m Head) claimed waiting queue told (past_head cur n)
-    row_FlushHead cur n a = go n (kept_head cur.0 n a.1 a.2)
+    pub row_KeepHead : (cur : NodeId) (n : Option NodeId) → AtPoint s m claimed waiting told (FlushPoint (KeepHead (record { cur = cur; unclaimed = n }))) → RecoversAt s (with_flush m Head) claimed waiting queue told (past_head cur n)
+    row_KeepHead cur n a = go n (kept_head cur.0 n a.1 a.2)
       where
         same : Same (with_flush m Head)
         same = same_after m Head a.0
@@ -511,9 +512,9 @@ module _ (s : Shape) (m : Memory) (claimed waiting queue : List ℕ) (b : Sound 
         go None r = record { sound = r.0; at = (same, record { taken = taken None r.1; none = r.1.next }) }
         go (Some x) r = record { sound = r.0; at = (same, taken_next s (with_flush m Head).kept claimed waiting queue r.0 cur.0 x.0 (taken (Some x) r.1) r.1.next.0 r.1.next.1 r.1.next.2) }
 
-    pub row_FlushTail : 0 < s.clients → told ≡ nothing_told → AtPoint s m claimed waiting told (RecoveryFlushTail (record {}))
+    pub row_KeepTail : 0 < s.clients → told ≡ nothing_told → AtPoint s m claimed waiting told (FlushPoint (KeepTail (record {})))
         → RecoversAt s (with_flush m Tail) claimed waiting queue told (RecoveryLoadAnnouncement (record { client = record { 0 = 0 } }))
-    row_FlushTail some untold a =
+    row_KeepTail some untold a =
         let r : Sound s (with_flush m Tail).kept claimed waiting queue × LastNode s (with_flush m Tail).kept claimed a.1.cur = kept_tail a.1.cur a.1.cached a.1.last in
         let last : record { passed : (s.kind ≡ Log → (n : ℕ) → IsAmong n waiting → statuses (with_flush m Tail).kept n ≡ 1); at : a.1.cur ≡ end_of 0 (claimed ++ waiting) } =
         last_all s (with_flush m Tail).kept claimed waiting queue r.0 a.1.cur r.1 in

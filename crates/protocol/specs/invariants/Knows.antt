@@ -18,7 +18,9 @@ use Rattle.helping.specs.Claims.{winner}
 use Rattle.helping.specs.declared.dequeue.Claim.{Claim}
 use Rattle.helping.specs.declared.dequeue.Claim.TheVariants.{LostTo, Won}
 use Rattle.helping.specs.declared.op.Op.{Op}
-use Rattle.helping.specs.declared.op.Op.TheVariants.{DequeueCheckHead, DequeueClaim, DequeueFlushClaim, DequeueFlushEmpty, DequeueFlushPassedLink, DequeueFlushResult, DequeueHelpTail, DequeueLoadHead, DequeueLoadNext, DequeueLoadTail, DequeueLoadValue, DequeueMoveHead, DequeueStoreEmpty, DequeueStoreResult, EnqueueCheckTail, EnqueueFlushLink, EnqueueFlushPassedLink, EnqueueHelpTail, EnqueueLink, EnqueueLoadNext, EnqueueLoadTail, EnqueueMoveTail, PrepareFlush, PrepareStore}
+use Rattle.helping.specs.declared.op.Op.TheVariants.{DequeueCheckHead, DequeueClaim, DequeueHelpTail, DequeueLoadHead, DequeueLoadNext, DequeueLoadTail, DequeueLoadValue, DequeueMoveHead, DequeueStoreEmpty, DequeueStoreResult, EnqueueCheckTail, EnqueueHelpTail, EnqueueLink, EnqueueLoadNext, EnqueueLoadTail, EnqueueMoveTail, PrepareFlush, PrepareStore, Flush as FlushPoint}
+use Rattle.helping.specs.declared.keeping.Keeping.{Keeping}
+use Rattle.helping.specs.declared.keeping.Keeping.TheVariants.{Claim as KeepClaim, Empty as KeepEmpty, DequeuePassedLink as KeepDequeuePassedLink, Result as KeepResult, Link as KeepLink, PassedLink as KeepPassedLink}
 use Rattle.protocol.specs.Machine.{Memory}
 use Rattle.protocol.specs.invariants.Ledger.{Ledger, asked_call, held_token}
 use Rattle.protocol.specs.invariants.Ledger.Stage.{Unmoved, Seen, Took}
@@ -129,6 +131,25 @@ pub record Claimed (m : Memory) (first next v found : ℕ) : Type 0 where
   pub marked : marks m.kept next ≡ found
   pub some : found ≢ 0
 
+-- what it knows where it is about to keep a word
+abbrev pub KnowsKeeping : Shape → Memory → Ledger → ℕ → Keeping → Type 0
+KnowsKeeping s m l i (KeepLink p) = Linked s m l i p.node.0 × (links m.cached p.last.0 ≡ p.node.0)
+KnowsKeeping s m l i (KeepPassedLink p) =
+    Enqueuing s m l i p.node.0 × (p.next.0 ≢ 0) × (links m.cached p.last.0 ≡ p.next.0)
+KnowsKeeping s m l i (KeepEmpty p) =
+    Acting s m l i p.token.0 × (asked_call l i ≡ Deq) × Loose m p.token.0 × SaysEmpty s m.cached p.token.0
+KnowsKeeping s m l i (KeepDequeuePassedLink p) =
+    Dequeuing s m l i p.token.0 × (p.next.0 ≢ 0) × (links m.cached p.last.0 ≡ p.next.0)
+KnowsKeeping s m l i (KeepClaim p) =
+    Claimer s m l i p.claimed.token p.claimed.claim × Claims m p.claimed.first.0 p.claimed.next.0
+    × (values m.kept p.claimed.next.0 ≡ p.claimed.value)
+    × (marks m.cached p.claimed.next.0 ≡ (winner p.claimed.claim p.claimed.token).0)
+    × ((winner p.claimed.claim p.claimed.token).0 ≢ 0)
+KnowsKeeping s m l i (KeepResult p) =
+    Claimer s m l i p.claimed.token p.claimed.claim
+    × Claimed m p.claimed.first.0 p.claimed.next.0 p.claimed.value (winner p.claimed.claim p.claimed.token).0
+    × IsWritten m.cached (result_of s.kind (winner p.claimed.claim p.claimed.token) p.claimed.next p.claimed.value)
+
 -- what client i's call knows where it waits
 abbrev pub Knows : Shape → Memory → Ledger → ℕ → Op → Type 0
 Knows s m l i (PrepareStore p) = Preparing s m l i p.begun p.index p.write
@@ -138,10 +159,7 @@ Knows s m l i (EnqueueLoadNext p) = Enqueuing s m l i p.node.0 × WasTail m p.la
 Knows s m l i (EnqueueCheckTail p) =
     Enqueuing s m l i p.node.0 × WasTail m p.last.0 × (p.next.0 ≢ 0 → links m.cached p.last.0 ≡ p.next.0)
 Knows s m l i (EnqueueLink p) = Enqueuing s m l i p.node.0 × WasTail m p.last.0
-Knows s m l i (EnqueueFlushLink p) = Linked s m l i p.node.0 × (links m.cached p.last.0 ≡ p.node.0)
 Knows s m l i (EnqueueMoveTail p) = Linked s m l i p.node.0 × (links m.kept p.last.0 ≡ p.node.0)
-Knows s m l i (EnqueueFlushPassedLink p) =
-    Enqueuing s m l i p.node.0 × (p.next.0 ≢ 0) × (links m.cached p.last.0 ≡ p.next.0)
 Knows s m l i (EnqueueHelpTail p) = Enqueuing s m l i p.node.0 × (p.next.0 ≢ 0) × (links m.kept p.last.0 ≡ p.next.0)
 Knows s m l i (DequeueLoadHead p) = Dequeuing s m l i p.token.0
 Knows s m l i (DequeueLoadTail p) =
@@ -155,29 +173,17 @@ Knows s m l i (DequeueCheckHead p) =
     × (p.next.0 ≢ 0 → (links m.cached p.first.0 ≡ p.next.0) × (l.stage i ≡ Unmoved))
     × (p.next.0 ≡ 0 → l.stage i ≡ Seen) × (p.first.0 ≢ p.last.0 → p.next.0 ≢ 0)
 Knows s m l i (DequeueStoreEmpty p) = Dequeuing s m l i p.token.0 × (l.stage i ≡ Seen)
-Knows s m l i (DequeueFlushEmpty p) =
-    Acting s m l i p.token.0 × (asked_call l i ≡ Deq) × Loose m p.token.0 × SaysEmpty s m.cached p.token.0
-Knows s m l i (DequeueFlushPassedLink p) =
-    Dequeuing s m l i p.token.0 × (p.next.0 ≢ 0) × (links m.cached p.last.0 ≡ p.next.0)
 Knows s m l i (DequeueHelpTail p) = Dequeuing s m l i p.token.0 × (p.next.0 ≢ 0) × (links m.kept p.last.0 ≡ p.next.0)
 Knows s m l i (DequeueLoadValue p) = Dequeuing s m l i p.token.0 × (l.stage i ≡ Unmoved) × Claims m p.first.0 p.next.0
 Knows s m l i (DequeueClaim p) =
     Dequeuing s m l i p.token.0 × (l.stage i ≡ Unmoved) × Claims m p.first.0 p.next.0
     × (values m.kept p.next.0 ≡ p.value)
-Knows s m l i (DequeueFlushClaim p) =
-    Claimer s m l i p.claimed.token p.claimed.claim × Claims m p.claimed.first.0 p.claimed.next.0
-    × (values m.kept p.claimed.next.0 ≡ p.claimed.value)
-    × (marks m.cached p.claimed.next.0 ≡ (winner p.claimed.claim p.claimed.token).0)
-    × ((winner p.claimed.claim p.claimed.token).0 ≢ 0)
 Knows s m l i (DequeueStoreResult p) =
     Claimer s m l i p.claimed.token p.claimed.claim
     × Claimed m p.claimed.first.0 p.claimed.next.0 p.claimed.value (winner p.claimed.claim p.claimed.token).0
-Knows s m l i (DequeueFlushResult p) =
-    Claimer s m l i p.claimed.token p.claimed.claim
-    × Claimed m p.claimed.first.0 p.claimed.next.0 p.claimed.value (winner p.claimed.claim p.claimed.token).0
-    × IsWritten m.cached (result_of s.kind (winner p.claimed.claim p.claimed.token) p.claimed.next p.claimed.value)
 Knows s m l i (DequeueMoveHead p) =
     Claimer s m l i p.claimed.token p.claimed.claim
     × Claimed m p.claimed.first.0 p.claimed.next.0 p.claimed.value (winner p.claimed.claim p.claimed.token).0
     × IsWritten m.cached (result_of s.kind (winner p.claimed.claim p.claimed.token) p.claimed.next p.claimed.value)
     × IsWritten m.kept (result_of s.kind (winner p.claimed.claim p.claimed.token) p.claimed.next p.claimed.value)
+Knows s m l i (FlushPoint k) = KnowsKeeping s m l i k

@@ -13,7 +13,9 @@ use Rattle.arena.specs.declared.place.Place.{Place}
 use Rattle.arena.specs.declared.place.Place.TheVariants.{Head, Status, Tail}
 use Rattle.recover.specs.declared.recovery.Recovery.{Recovery}
 use Rattle.recover.specs.declared.point.RecoveryPoint.{RecoveryPoint}
-use Rattle.recover.specs.declared.point.RecoveryPoint.TheVariants.{RecoveryFlushHead, RecoveryFlushResult, RecoveryFlushStatus, RecoveryFlushTail, RecoveryLoadAnnouncement, RecoveryLoadCell, RecoveryLoadEntryNode, RecoveryLoadHead, RecoveryLoadInsert, RecoveryLoadKind, RecoveryLoadMark, RecoveryLoadNext, RecoveryLoadNumber, RecoveryLoadRemove, RecoveryLoadRemovedValue, RecoveryLoadStatus, RecoveryLoadValue, RecoveryStoreHead, RecoveryStoreResult, RecoveryStoreStatus, RecoveryStoreTail}
+use Rattle.recover.specs.declared.point.RecoveryPoint.TheVariants.{RecoveryLoadAnnouncement, RecoveryLoadCell, RecoveryLoadEntryNode, RecoveryLoadHead, RecoveryLoadInsert, RecoveryLoadKind, RecoveryLoadMark, RecoveryLoadNext, RecoveryLoadNumber, RecoveryLoadRemove, RecoveryLoadRemovedValue, RecoveryLoadStatus, RecoveryLoadValue, RecoveryStoreHead, RecoveryStoreResult, RecoveryStoreStatus, RecoveryStoreTail, Flush as FlushPoint}
+use Rattle.recover.specs.declared.keeping.RecoveryKeeping.{RecoveryKeeping}
+use Rattle.recover.specs.declared.keeping.RecoveryKeeping.TheVariants.{Head as KeepHead, Result as KeepResult, Status as KeepStatus, Tail as KeepTail}
 use Rattle.protocol.specs.Kept.{TellsOf}
 use Rattle.protocol.specs.Machine.{Memory}
 use Rattle.protocol.specs.Recovered.{end_of}
@@ -95,15 +97,11 @@ IsUntold told (RecoveryLoadHead p) = told ≡ nothing_told
 IsUntold told (RecoveryLoadNext p) = told ≡ nothing_told
 IsUntold told (RecoveryLoadInsert p) = told ≡ nothing_told
 IsUntold told (RecoveryStoreStatus p) = told ≡ nothing_told
-IsUntold told (RecoveryFlushStatus p) = told ≡ nothing_told
 IsUntold told (RecoveryLoadMark p) = told ≡ nothing_told
 IsUntold told (RecoveryLoadValue p) = told ≡ nothing_told
 IsUntold told (RecoveryStoreResult p) = told ≡ nothing_told
-IsUntold told (RecoveryFlushResult p) = told ≡ nothing_told
 IsUntold told (RecoveryStoreHead p) = told ≡ nothing_told
-IsUntold told (RecoveryFlushHead p) = told ≡ nothing_told
 IsUntold told (RecoveryStoreTail p) = told ≡ nothing_told
-IsUntold told (RecoveryFlushTail p) = told ≡ nothing_told
 IsUntold told (RecoveryLoadAnnouncement p) = Unit {0}
 IsUntold told (RecoveryLoadCell p) = Unit {0}
 IsUntold told (RecoveryLoadNumber p) = Unit {0}
@@ -112,6 +110,22 @@ IsUntold told (RecoveryLoadStatus p) = Unit {0}
 IsUntold told (RecoveryLoadRemove p) = Unit {0}
 IsUntold told (RecoveryLoadEntryNode p) = Unit {0}
 IsUntold told (RecoveryLoadRemovedValue p) = Unit {0}
+IsUntold told (FlushPoint k) = told ≡ nothing_told
+
+-- what recovery knows where it is about to keep a word: that word alone may differ
+abbrev pub AtKeeping : Shape → Memory → List ℕ → RecoveryKeeping → Type 0
+AtKeeping s m claimed (KeepStatus p) =
+    SameBut m (Status p.entry) × (m.cached (Status p.entry) ≡ 1) × Ahead s m.kept claimed p.moved p.cur.0 p.node.0
+    × (s.kind ≡ Log) × (p.entry.0 ≡ p.node.0)
+AtKeeping s m claimed (KeepResult p) =
+    SameBut m (result_of s.kind p.mark p.node p.value).place
+    × (m.cached (result_of s.kind p.mark p.node p.value).place ≡ (result_of s.kind p.mark p.node p.value).value)
+    × Claim s m.kept claimed p.node.0 p.mark.0 × (s.kind ≡ Durable → p.value ≡ values m.kept p.node.0)
+    × (p.value ≤ MAX_VALUE)
+AtKeeping s m claimed (KeepHead p) =
+    SameBut m Head × (m.cached Head ≡ p.cur.0) × LastClaimed s m.kept claimed p.cur.0 p.unclaimed
+AtKeeping s m claimed (KeepTail p) =
+    SameBut m Tail × record { cur : ℕ; last : LastNode s m.kept claimed cur; cached : m.cached Tail ≡ cur }
 
 -- what it knows at this point, having told this
 abbrev pub AtPoint : Shape → Memory → List ℕ → List ℕ → List Told → RecoveryPoint → Type 0
@@ -121,9 +135,6 @@ AtPoint s m claimed waiting told (RecoveryLoadInsert p) =
     Same m × Ahead s m.kept claimed p.moved p.cur.0 p.node.0 × (s.kind ≡ Log)
 AtPoint s m claimed waiting told (RecoveryStoreStatus p) =
     Same m × Ahead s m.kept claimed p.moved p.cur.0 p.node.0 × (s.kind ≡ Log) × (p.entry.0 ≡ p.node.0)
-AtPoint s m claimed waiting told (RecoveryFlushStatus p) =
-    SameBut m (Status p.entry) × (m.cached (Status p.entry) ≡ 1) × Ahead s m.kept claimed p.moved p.cur.0 p.node.0
-    × (s.kind ≡ Log) × (p.entry.0 ≡ p.node.0)
 AtPoint s m claimed waiting told (RecoveryLoadMark p) =
     Same m × Ahead s m.kept claimed false p.cur.0 p.node.0 × (s.kind ≡ Log → statuses m.kept p.node.0 ≡ 1)
 AtPoint s m claimed waiting told (RecoveryLoadValue p) =
@@ -131,17 +142,8 @@ AtPoint s m claimed waiting told (RecoveryLoadValue p) =
 AtPoint s m claimed waiting told (RecoveryStoreResult p) =
     Same m × Claim s m.kept claimed p.node.0 p.mark.0 × (s.kind ≡ Durable → p.value ≡ values m.kept p.node.0)
     × (p.value ≤ MAX_VALUE)
-AtPoint s m claimed waiting told (RecoveryFlushResult p) =
-    SameBut m (result_of s.kind p.mark p.node p.value).place
-    × (m.cached (result_of s.kind p.mark p.node p.value).place ≡ (result_of s.kind p.mark p.node p.value).value)
-    × Claim s m.kept claimed p.node.0 p.mark.0 × (s.kind ≡ Durable → p.value ≡ values m.kept p.node.0)
-    × (p.value ≤ MAX_VALUE)
 AtPoint s m claimed waiting told (RecoveryStoreHead p) = Same m × LastClaimed s m.kept claimed p.cur.0 p.unclaimed
-AtPoint s m claimed waiting told (RecoveryFlushHead p) =
-    SameBut m Head × (m.cached Head ≡ p.cur.0) × LastClaimed s m.kept claimed p.cur.0 p.unclaimed
 AtPoint s m claimed waiting told (RecoveryStoreTail p) = Same m × LastNode s m.kept claimed p.cur.0
-AtPoint s m claimed waiting told (RecoveryFlushTail p) =
-    SameBut m Tail × record { cur : ℕ; last : LastNode s m.kept claimed cur; cached : m.cached Tail ≡ cur }
 AtPoint s m claimed waiting told (RecoveryLoadAnnouncement p) =
     Same m × Telling s m.kept claimed waiting p.client.0 told
 AtPoint s m claimed waiting told (RecoveryLoadCell p) =
@@ -173,6 +175,7 @@ AtPoint s m claimed waiting told (RecoveryLoadRemovedValue p) =
       kind : entry_kinds m.kept token ≢ 1;
       marked : marks m.kept p.node.0 ≡ token;
     }
+AtPoint s m claimed waiting told (FlushPoint k) = AtKeeping s m claimed k
 
 -- what recovery knows where it waits
 pub record At (s : Shape) (m : Memory) (claimed waiting : List ℕ) (r : Recovery) : Type 0 where

@@ -1,0 +1,141 @@
+//! What recovery keeps on its way: which word, and what comes once that is kept. The `//` at each says what goes wrong
+//! without it, with the must-fail edit that shows it.
+
+ghost use Rattle.std.specs.Prelude.{◌≡◌};
+ghost use Rattle.arena.specs.Place.{IsPlace};
+ghost use Rattle.recover.specs.Table.{IsKeeping, kept_place, past_head, point_after_keeping};
+
+use crate::ends::{RecoveryLoadNext, RecoveryStoreTail, past_status};
+use crate::point::{RecoveryPoint, Report};
+use crate::telling::RecoveryLoadAnnouncement;
+use arena::{Layout, Place};
+use persist::WordMemory;
+use stepper::{After, Resume, Stepped, flush_at};
+use words::{Client, NodeId, Token};
+
+/// What recovery is about to keep.
+#[derive(Clone, Copy, Debug, PartialEq, Eq, Hash)]
+pub enum RecoveryKeeping {
+    // A status that is not kept is lost where recovery is cut off once the client was told by it
+    // (`recovery_does_not_flush_a_status`).
+    Status(KeepStatus),
+    // The head is about to pass the node: an answer that is not kept would be lost in the next crash
+    // (`recovery_does_not_flush_a_result`).
+    Result(KeepResult),
+    // What recovery leaves is cached and kept alike; the next recovery begins its walk here
+    // (`recovery_does_not_flush_the_head`).
+    Head(KeepHead),
+    // What recovery leaves is cached and kept alike (`recovery_does_not_flush_the_tail`,
+    // `recovery_takes_the_tail_for_kept`).
+    Tail(KeepTail),
+}
+
+/// Log queue: that an enqueue took effect.
+#[derive(Clone, Copy, Debug, PartialEq, Eq, Hash)]
+pub struct KeepStatus {
+    pub(crate) cur: NodeId,
+    pub(crate) node: NodeId,
+    pub(crate) entry: Token,
+    pub(crate) moved: bool,
+}
+
+/// What the dequeue that claimed the node got.
+#[derive(Clone, Copy, Debug, PartialEq, Eq, Hash)]
+pub struct KeepResult {
+    pub(crate) node: NodeId,
+    pub(crate) mark: Token,
+    pub(crate) value: u32,
+}
+
+/// The head, at the last claimed node. An unclaimed one may follow.
+#[derive(Clone, Copy, Debug, PartialEq, Eq, Hash)]
+pub struct KeepHead {
+    pub(crate) cur: NodeId,
+    pub(crate) unclaimed: Option<NodeId>,
+}
+
+/// The tail, at the last node.
+#[derive(Clone, Copy, Debug, PartialEq, Eq, Hash)]
+pub struct KeepTail {}
+
+/// Where recovery goes on past the head: with the unclaimed node behind it, if there is one.
+fn past_head(cur: NodeId, unclaimed: Option<NodeId>) -> RecoveryPoint
+    ensures { result ≡ past_head cur unclaimed }
+{
+    match unclaimed {
+        Some(node) => RecoveryPoint::RecoveryLoadNext(RecoveryLoadNext {
+            cur: node,
+            moved: true,
+        }),
+        None => RecoveryPoint::RecoveryStoreTail(RecoveryStoreTail { cur }),
+    }
+}
+
+impl RecoveryKeeping {
+    /// The place whose word is kept.
+    #[inline(always)]
+    fn place<L: Layout>(&self, layout: &L) -> Place
+        requires point { IsKeeping (L.shape layout.now) self.now }
+        ensures kept { result ≡ kept_place (L.shape layout.now).kind self.now }
+        ensures place { IsPlace (L.shape layout.now) result }
+    {
+        match self {
+            RecoveryKeeping::Status(KeepStatus { entry, .. }) => Place::Status(*entry),
+            RecoveryKeeping::Result(KeepResult { node, mark, value }) => {
+                layout.result(*mark, *node, *value).place
+            }
+            RecoveryKeeping::Head(_) => Place::Head,
+            RecoveryKeeping::Tail(_) => Place::Tail,
+        }
+    }
+
+    /// What comes once it is kept.
+    #[inline(always)]
+    fn next(self) -> RecoveryPoint
+        ensures { result ≡ point_after_keeping self }
+    {
+        match self {
+            RecoveryKeeping::Status(
+                KeepStatus {
+                    cur,
+                    node,
+                    moved,
+                    ..
+                },
+            ) => past_status(cur, node, moved),
+            RecoveryKeeping::Result(KeepResult { node, .. }) => {
+                RecoveryPoint::RecoveryLoadNext(RecoveryLoadNext {
+                    cur: node,
+                    moved: false,
+                })
+            }
+            RecoveryKeeping::Head(KeepHead { cur, unclaimed }) => past_head(cur, unclaimed),
+            RecoveryKeeping::Tail(_) => {
+                RecoveryPoint::RecoveryLoadAnnouncement(RecoveryLoadAnnouncement {
+                    client: Client(0),
+                })
+            }
+        }
+    }
+}
+
+impl Resume for RecoveryKeeping {
+    type Point = RecoveryPoint;
+
+    ghost use Rattle.recover.specs.declared.point.RecoveryPoint.TheVariants.{Flush};
+
+    ghost point = { Flush };
+
+    #[inline(always)]
+    fn step<L: Layout, M: WordMemory>(
+        self,
+        layout: &L,
+        memory: &mut M,
+    ) -> Stepped<RecoveryPoint, Report> {
+        let change = flush_at(layout, memory, self.place(layout));
+        Stepped {
+            after: After::More(self.next()),
+            change,
+        }
+    }
+}
