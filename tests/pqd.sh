@@ -1,7 +1,7 @@
 #!/usr/bin/env bash
-# What no proof can see of pqd: what the built program writes on standard output, on standard error and to its image, and
-# its status, on good and bad command lines, files, inputs and outputs, and what it replies over connections, compared to
-# the letter. It takes the program that the last `rt ci`, or `rt run` in crates/pqd, left, or the one that PQD names.
+# What the built pqd does, compared to the letter: what it writes on standard output, on standard error and to its
+# image, and its status, on good and bad command lines, requests, files, inputs and outputs, and what it replies over
+# connections. It takes the program that the last `rt ci`, or `rt run` in crates/pqd, left, or the one that PQD names.
 set -eu
 cd "$(dirname "$0")/.."
 . tests/cases.sh
@@ -41,55 +41,157 @@ try help 0 --help < /dev/null
 try short-help 0 -h < /dev/null
 try pipe-help 0 pipe --help < /dev/null
 try serve-help 0 serve --help < /dev/null
+try version 0 --version < /dev/null
+try short-version 0 -V < /dev/null
+# A fault of a command line, and how the command is used, where that is said: TEXT USAGE WORD..
 bad_option() {
-    local status=0
+    local text=$1 usage=$2 status=0
+    shift 2
+    {
+        printf 'error: %s\n' "$text"
+        [ -z "$usage" ] || printf '\nUsage: %s\n' "$usage"
+        printf "\nFor more information, try '--help'.\n"
+    } > "$work/wanted"
     "$pqd" "$@" < /dev/null > "$work/out" 2> "$work/err" || status=$?
-    [ -s "$work/err" ] || judge "$*" 'nothing on standard error'
-    compare "options: $*" 2 "$status" /dev/null "$work/err"
+    compare "options: $*" 2 "$status" /dev/null "$work/wanted"
 }
-bad_option
-bad_option ''
-bad_option walk
-bad_option help
-bad_option --version
-bad_option --clients 1 pipe
-bad_option pipe word
-bad_option pipe --walk
-bad_option pipe --port 0
-bad_option pipe --workers 1
-bad_option pipe --clients
-bad_option pipe --clients 0
-bad_option pipe --clients 17
-bad_option pipe --clients -1
-bad_option pipe --clients 1.0
-bad_option pipe --clients 18446744073709551617
-bad_option pipe --clients 1 --clients 2
-bad_option pipe --records 0
-bad_option pipe --records 4097
-bad_option pipe --records x
-bad_option pipe --image
-bad_option serve --port 65536
-bad_option serve --port -1
-bad_option serve --workers 0
-bad_option serve --workers 17
+bad_option "'pqd' requires a subcommand but one was not provided"$'\n  [subcommands: pipe, serve]' 'pqd <COMMAND>'
+bad_option "unrecognized subcommand ''" 'pqd <COMMAND>' ''
+bad_option "unrecognized subcommand 'walk'" 'pqd <COMMAND>' walk
+bad_option "unrecognized subcommand 'tube'" 'pqd <COMMAND>' tube
+bad_option "unrecognized subcommand 'help'" 'pqd <COMMAND>' help
+bad_option "unexpected argument '--clients' found"$'\n\n  tip: '"'pipe --clients' exists" 'pqd <COMMAND>' \
+    --clients 1 pipe
+bad_option "unexpected argument 'word' found" 'pqd pipe [OPTIONS]' pipe word
+bad_option "unexpected argument '4' found" 'pqd serve [OPTIONS]' serve 4
+bad_option "unexpected argument '--walk' found" 'pqd pipe [OPTIONS]' pipe --walk
+bad_option "unexpected argument '--port' found" 'pqd pipe [OPTIONS]' pipe --port 0
+bad_option "unexpected argument '--workers' found" 'pqd pipe [OPTIONS]' pipe --workers 1
+bad_option "unexpected argument '--clint' found"$'\n\n  tip: '"a similar argument exists: '--clients'" \
+    'pqd pipe --clients <T>' pipe --clint 4
+for option in 'clients <T>' 'records <K>' 'image <FILE>' 'port <P>' 'workers <N>'; do
+    bad_option "a value is required for '--$option' but none was supplied" '' serve "--${option%% *}"
+    bad_option "the argument '--$option' cannot be used multiple times" 'pqd serve [OPTIONS]' \
+        serve "--${option%% *}" 1 "--${option%% *}" 1
+done
+# Numbers that are none of an option's: OPTION LEAST MOST VALUE..
+misfits() {
+    local option=$1 least=$2 most=$3 value
+    shift 3
+    for value; do
+        bad_option "the option '--$option' takes a whole number from $least to $most" 'pqd <COMMAND>' \
+            serve "--$option=$value"
+    done
+}
+misfits clients 1 16 0 17 -1 1.0 four '' 18446744073709551617
+misfits records 1 4096 0 4097 5000 -1 x ''
+misfits port 0 65535 65536 -1 4294967296 ''
+misfits workers 1 16 0 17 ''
+bad_option "the option '--clients' takes a whole number from 1 to 16" 'pqd <COMMAND>' pipe --clients 0
+bad_option "the option '--records' takes a whole number from 1 to 4096" 'pqd <COMMAND>' pipe --records 5000
 # One comes before the image is looked at, which comes before listening.
-bad_option pipe --image tests --clients 0
+bad_option "the option '--clients' takes a whole number from 1 to 16" 'pqd <COMMAND>' pipe --image tests --clients 0
 
 # Requests, and their replies. The clients are numbered from 0.
 try story 0 pipe --clients 2 --records 2 < tests/pqd/story.in
 try defaults 0 pipe < tests/pqd/defaults.in
 try lines 0 pipe --clients=1 --records=1 < tests/pqd/lines.in
+try spellings 0 pipe --clients 1 --records 4 < tests/pqd/spellings.in
+try numbers 0 pipe --clients 4 --records 4 < tests/pqd/numbers.in
+try values 0 pipe --clients 1 --records 16 < tests/pqd/values.in
+try texts 0 pipe --clients 1 --records 16 < tests/pqd/texts.in
+try no-text 0 pipe --clients 1 --records 1 < tests/pqd/no-text.in
+try names 0 pipe --clients 1 --records 1 < tests/pqd/names.in
+try no-request 0 pipe --clients 1 --records 1 < tests/pqd/no-request.in
+try refusals 0 pipe --clients 2 --records 1 < tests/pqd/refusals.in
+try down 0 pipe --clients 1 --records 1 < tests/pqd/down.in
+try full 0 pipe --clients 1 --records 1 < tests/pqd/full.in
+try longest-list 0 pipe --clients 1 --records 1 < tests/pqd/longest-list.in
+try told-log 0 pipe --clients 2 --records 4 < tests/pqd/told-log.in
 try no-input 0 pipe < /dev/null
 try a-stop 0 pipe < <(printf '{"op":"stop"}\n{"op":"list"}\n')
 try greatest 0 pipe --clients 16 --records 4096 < /dev/null
 try a-part-at-a-time 0 pipe < <(printf '{"op":'; sleep 0.1; printf '"list"}\n{"op":"list"'; sleep 0.1; printf '}')
 
-# Images: a new one, one that goes on, and the same again. Their clients and records are the file's.
+# What is replied to an input, both as `printf` writes them: INPUT REPLIES
+says() {
+    local status=0
+    # shellcheck disable=SC2059
+    printf "$2" > "$work/wanted"
+    # shellcheck disable=SC2059
+    printf "$1" | "$pqd" pipe --clients 1 --records 1 > "$work/out" 2> "$work/err" || status=$?
+    compare "the input $1" 0 "$status" "$work/wanted" /dev/null
+}
+# Where inputs end.
+says '\n' '{"error":24,"name":"BadJson"}\n'
+says '{"op":"list"}' '{"queues":[]}\n'
+says '{"op":"list"}\n' '{"queues":[]}\n'
+says '{"op":"list"}\n ' '{"queues":[]}\n{"error":24,"name":"BadJson"}\n'
+says '{"op":"list"}\n{"op":"list"' '{"queues":[]}\n{"error":24,"name":"BadJson"}\n'
+says '{"op":"stop"}' '{"reply":"stopping"}\n'
+says '{"op":"stop","x":1}\n{"op":"stop"}\n{"op":"list"}\n\n{"op":"stop"}\n' \
+    '{"error":25,"name":"BadRequest"}\n{"reply":"stopping"}\n'
+for last in '\377\376' '\0' '{"op":"list"}\0' '{"op":"told","client":0,"queue":"\303"}' \
+    '{"op":"told","client":0,"queue":"\\ud800"}'; do
+    says "$last" '{"error":24,"name":"BadJson"}\n'
+done
+
+# Long lines, whose blanks do not count for JSON: one of 512 bytes is read, longer ones are not.
+try long-lines 0 pipe --clients 1 --records 1 < <(printf '%512s\n%513s\n%20000s\n%512s' '{"op":"list"}'{,,,})
+
+# Arrays within arrays, from 1 to 256 deep, of which JSON has 127; and such as never end.
+awk 'BEGIN {
+    for (depth = 1; depth <= 256; depth++) {
+        inner = "[" inner "]"
+        print inner
+    }
+    for (depth = 1; depth <= 10000; depth++) {
+        open = open "["
+        if (depth == 512 || depth == 10000) print open
+    }
+}' > "$work/in"
+awk 'BEGIN {
+    for (depth = 1; depth <= 127; depth++) print "{\"error\":25,\"name\":\"BadRequest\"}"
+    for (depth = 128; depth <= 257; depth++) print "{\"error\":24,\"name\":\"BadJson\"}"
+    print "{\"error\":23,\"name\":\"TooLong\"}"
+}' > "$work/wanted"
+status=0
+"$pqd" pipe --clients 1 --records 1 < "$work/in" > "$work/out" 2> "$work/err" || status=$?
+compare 'arrays within arrays' 0 "$status" "$work/wanted" /dev/null
+
+# More replies than the server holds at once; and an output that is full within them.
+yes '?' | head -n 4000 > "$work/in"
+yes '{"error":24,"name":"BadJson"}' | head -n 4000 > "$work/wanted"
+status=0
+"$pqd" pipe --clients 1 --records 1 < "$work/in" > "$work/out" 2> "$work/err" || status=$?
+compare 'four thousand replies' 0 "$status" "$work/wanted" /dev/null
+head -c 50000 "$work/wanted" > "$work/beginning"
+printf 'pqd: 27 WriteFailed\n' > "$work/fault"
+status=0
+python3 -B tests/devices.py full 50000 "$pqd" pipe --clients 1 --records 1 \
+    < "$work/in" > "$work/out" 2> "$work/err" || status=$?
+compare 'an output that is full after 50,000 bytes' 1 "$status" "$work/beginning" "$work/fault"
+
+# Says that a file has just these bytes: NAME FILE WANTED.
+is_file() {
+    judge "$1" "$(cmp "$2" "$3" 2>&1 || true)"
+}
+
+# Images: a new one, one that goes on, and the same again. Their clients and records are the file's. A new one of one
+# client with one record has 162 words, of which the first two are these numbers and the others 0.
 image=$work/image
+{ printf 'PQW1\242\0\0\0\0\0\0\0\1\0\0\0\0\0\0\0\1\0\0\0\0\0\0\0'; head -c 1280 /dev/zero; } > "$work/new"
 try no-input 0 pipe --clients 1 --records 1 --image "$image" < /dev/null
 has_bytes 'a new image' "$image" 1308
+is_file 'a new image' "$image" "$work/new"
 try no-input 0 pipe --clients 2 --records 9 --image "$image" < /dev/null
-has_bytes 'a new image, again' "$image" 1308
+is_file 'a new image, again' "$image" "$work/new"
+rm "$image"
+# Every option of pipe in another order: 34 and 8 times 154 words.
+try no-input 0 pipe --image "$work/a b" --records=9 --clients 2 < /dev/null
+has_bytes 'an image with every option' "$work/a b" 10140
+try no-input 0 pipe --image "$image" < /dev/null
+has_bytes 'an image of the defaults: 34 and 8 times 8,206 words' "$image" 525468
 rm "$image"
 try first-run 0 pipe --clients 1 --records 2 --image "$image" < tests/pqd/first-run.in
 has_bytes 'the image of the first run' "$image" 1820
@@ -97,7 +199,30 @@ cp "$image" "$work/first"
 try second-run 0 pipe --image "$image" < tests/pqd/second-run.in
 has_bytes 'the image of the second run' "$image" 1820
 try third-run 0 pipe --image "$image" < tests/pqd/third-run.in
+has_bytes 'the image of the third run' "$image" 1820
 [ ! -e "$image.new" ] || judge 'the image' 'a file is left beside it'
+
+# What clients are told of a durable queue, also by the broker that begins on its image.
+rm "$image"
+try told-durable 0 pipe --clients 2 --records 4 --image "$image" < tests/pqd/told-durable.in
+try told-durable-later 0 pipe --image "$image" < tests/pqd/told-durable-later.in
+
+# A broker that is down when it is stopped leaves the image of one that is ready.
+cp "$work/first" "$work/ready"
+try no-input 0 pipe --image "$work/ready" < /dev/null
+cp "$work/first" "$image"
+try stopped-while-down 0 pipe --image "$image" < tests/pqd/stopped-while-down.in
+is_file 'stopped while it is down' "$image" "$work/ready"
+try second-run 0 pipe --image "$image" < tests/pqd/second-run.in
+
+# A call that was announced and took no effect: of each kind of queue, one empty take whose answer was not kept. The
+# words are those of two clients with one record: block 0 is at 34, block 1 at 60.
+rm "$image"
+try announced 0 pipe --clients 2 --records 1 --image "$image" < tests/pqd/announced.in
+try announced-taken 0 pipe --image "$image" < tests/pqd/announced-told.in
+python3 -B tests/images.py word "$image" 50 0
+python3 -B tests/images.py word "$image" 84 0
+try announced-open 0 pipe --image "$image" < tests/pqd/announced-told.in
 
 # Files that are no image, whatever the input asks. They stay as they are.
 no_image() {
@@ -118,6 +243,46 @@ no_image 'an image of no words' '3 BadCount'
 # The first word is the number of clients.
 { head -c 12 "$work/first"; printf '\021'; tail -c +14 "$work/first"; } > "$image"
 no_image 'an image that breaks a rule' '29 Damaged'
+
+# Every 52nd beginning of an image is cut off: crates/test_hostile tries each.
+for ((bytes = 0; bytes < 1820; bytes += 52)); do
+    head -c "$bytes" "$work/first" > "$image"
+    no_image "an image of which $bytes bytes are there" '4 Truncated'
+done
+# The head of its own that an image has: magic and count. A memory has at most 8,388,608 words.
+other_head() {
+    cp "$work/first" "$image"
+    python3 -B tests/images.py bytes "$image" "$1" "$2"
+    no_image "$2 from byte $1 on" "$3"
+}
+other_head 0 51 '2 BadMagic'
+other_head 3 32 '2 BadMagic'
+other_head 4 00 '3 BadCount'
+other_head 4 010080 '3 BadCount'
+other_head 4 000080 '4 Truncated'
+other_head 4 e1 '5 TrailingBytes'
+# A word that breaks a rule alone, which bench/plain names: clients and records; the name, kind and gate of slot 0; a
+# word of a block without a queue; more records than the client has; a head that is at no claimed node.
+damaged() {
+    cp "$work/first" "$image"
+    python3 -B tests/images.py word "$image" "$1" "$2"
+    printf '%s\n' "$3" > "$work/wanted"
+    python3 -B tests/images.py rule "$image" > "$work/rule"
+    judge "the rule that $2 in word $1 breaks" "$(difference 'the rule' "$work/wanted" "$work/rule")"
+    no_image "$2 in word $1" '29 Damaged'
+}
+damaged 0 0 Image
+damaged 0 2 Image
+damaged 0 17 Image
+damaged 1 1 Image
+damaged 1 4097 Image
+damaged 2 0 Directory
+damaged 3 97 Directory
+damaged 4 3 Directory
+damaged 5 2 Directory
+damaged 58 1 Directory
+damaged 37 3 Records
+damaged 34 2 Ends
 
 # Files that cannot be read, and such as cannot be written.
 fault 'an image that is a folder' '26 ReadFailed' pipe --image tests < /dev/null
@@ -150,10 +315,12 @@ status=0
 "$pqd" --help < /dev/null > /dev/full 2> "$work/err" || status=$?
 failing_output 'help to a full output' "$status"
 
-# Begins to serve with these options, and waits for the line that says at which port.
+# Begins to serve with these options, and waits for the line that says at which port: at that which is asked for, or at
+# one that the system chooses.
+asked=0
 serve() {
     : > "$work/said"
-    "$pqd" serve --port 0 "$@" < /dev/null > "$work/said" 2> "$work/warned" &
+    "$pqd" serve --port="$asked" "$@" < /dev/null > "$work/said" 2> "$work/warned" &
     server=$!
     port=
     for ((turn = 0; turn < 1000 && ${#port} == 0; turn++)); do
@@ -213,6 +380,17 @@ stop
 ends 'serve again' 0 /dev/null
 try third-run 0 pipe --image "$image" < tests/pqd/third-run.in
 
+# Every option of serve, in another order, and at the port that was just left.
+asked=$port
+rm "$image"
+serve --workers 3 --image "$image" --records=2 --clients 1
+[ "$port" = "$asked" ] || judge 'serve at a port' "it listens at $port"
+over_connection first-run
+stop
+ends 'serve with every option' 0 /dev/null
+is_file 'serve with every option' "$image" "$work/first"
+asked=0
+
 # A connection over which nothing comes holds up no other one, but the end: the image is written once it has ended.
 rm "$image"
 serve --clients 1 --records 2 --image "$image" --workers 2
@@ -248,6 +426,18 @@ fault 'a port in use' 'listen failed' serve --port "$port" < /dev/null
 fault 'a folder before a port in use' '26 ReadFailed' serve --port "$port" --image tests < /dev/null
 stop
 ends 'serve without an image' 0 /dev/null
+
+# Clients at connections of their own, beside one that crashes the broker and recovers it: nothing is lost or doubled,
+# and an order explains what each client saw, over a stop and the image. What was seen is its first line.
+status=0
+RECORDS=256 PQD=$pqd bench/load.sh 0.05 > "$work/out" 2> "$work/err" || status=$?
+head -n 1 "$work/out"
+printf 'nothing is lost, nothing doubled, and an order explains each queue'"'"'s history\n' > "$work/wanted"
+head -n 1 "$work/out" | grep -qE 'crashes [1-9].*done [1-9].*got [1-9].*restarts on an image [1-9]' \
+    || judge 'clients beside crashes' 'some kind was not seen'
+tail -n +2 "$work/out" > "$work/last"
+mv "$work/last" "$work/out"
+compare 'clients beside crashes' 0 "$status" "$work/wanted" /dev/null
 
 # An image that cannot be written at the stop.
 serve --image "$work/none/image"

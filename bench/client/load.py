@@ -16,7 +16,7 @@ from histories import Put, Take
 
 PLAYERS = 6
 CLIENTS = 16
-RECORDS = 4096
+RECORDS = int(os.environ.get("RECORDS", 4096))
 KINDS = {f"q{n}": "durable" if n % 2 == 0 else "log" for n in range(8)}
 
 
