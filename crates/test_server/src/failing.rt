@@ -204,39 +204,6 @@ fn a_reader_fails_after_each_byte(rt: HostRuntime) -> Result<(), Fail> {
     Ok(())
 }
 
-/// The two first lines, and a writer that fails in the second reply.
-#[test]
-fn a_writer_fails_in_the_second_reply(rt: HostRuntime) -> Result<(), Fail> {
-    let (requests, _) = story(rt.alloc())?;
-    let limits = Limits {
-        readable: usize::MAX,
-        writable: 30,
-        each: usize::MAX,
-    };
-    let input = requests.bytes.as_slice().get(..107).ok_or("two lines")?;
-    let found = served(&rt, rt.alloc(), input, limits)?;
-    assert!(rt; found.end == Err(Refusal::WriteFailed));
-    assert!(rt; found.written.as_slice() == b"{\"reply\":\"created\",\"slot\":0}\n{".as_slice());
-    assert_eq!(rt; found.made, 2);
-    Ok(())
-}
-
-/// A reader that fails in the second line.
-#[test]
-fn a_reader_fails_in_the_second_line(rt: HostRuntime) -> Result<(), Fail> {
-    let (requests, _) = story(rt.alloc())?;
-    let limits = Limits {
-        readable: 50,
-        writable: usize::MAX,
-        each: usize::MAX,
-    };
-    let found = served(&rt, rt.alloc(), requests.bytes.as_slice(), limits)?;
-    assert!(rt; found.end == Err(Refusal::ReadFailed));
-    assert!(rt; found.written.as_slice() == b"{\"reply\":\"created\",\"slot\":0}\n".as_slice());
-    assert_eq!(rt; found.made, 1);
-    Ok(())
-}
-
 /// A writer of std's that takes no byte, and says so.
 #[derive(Drop)]
 struct Full;

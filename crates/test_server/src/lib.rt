@@ -2,21 +2,13 @@
 #![tactic(auto)]
 
 #[cfg(test)]
+mod breaking;
+#[cfg(test)]
 mod calling;
 #[cfg(test)]
 mod connections;
 #[cfg(test)]
-mod crowd;
-#[cfg(test)]
-mod errors;
-#[cfg(test)]
 mod failing;
-#[cfg(test)]
-mod hostile;
-#[cfg(test)]
-mod images;
-#[cfg(test)]
-mod lines;
 #[cfg(test)]
 mod playing;
 #[cfg(test)]
@@ -25,7 +17,5 @@ mod sharing;
 mod slow;
 #[cfg(test)]
 mod story;
-#[cfg(test)]
-mod told;
 #[cfg(test)]
 mod waiting;

@@ -38,18 +38,13 @@ pub(crate) fn append_line(text: &mut Vec<u8>, line: &[u8]) -> Result<(), AllocEr
 
 /// What is written for an input, and the image that is left.
 #[derive(Drop)]
-pub(crate) struct Output {
-    pub(crate) written: Vec<u8>,
-    pub(crate) image: Vec<u8>,
+struct Output {
+    written: Vec<u8>,
+    image: Vec<u8>,
 }
 
 /// Pipes the input through the broker.
-pub(crate) fn piped<T: Wait>(
-    rt: &T,
-    alloc: Global,
-    broker: Broker,
-    input: &[u8],
-) -> Result<Output, Fail>
+fn piped<T: Wait>(rt: &T, alloc: Global, broker: Broker, input: &[u8]) -> Result<Output, Fail>
     requires { IsUncalled broker }
 {
     let mut reader = FaultyReader::new(input, usize::MAX);
@@ -62,7 +57,7 @@ pub(crate) fn piped<T: Wait>(
 }
 
 /// The bytes before the first newline, and those behind it; none where there is no newline.
-pub(crate) fn split_line(bytes: &[u8]) -> Option<(&[u8], &[u8])> {
+fn split_line(bytes: &[u8]) -> Option<(&[u8], &[u8])> {
     let n = bytes.iter().position(|byte| *byte == b'\n')?;
     let (line, _) = bytes.split_at_checked(n)?;
     let (_, rest) = bytes.split_at_checked(n.saturating_add(1))?;

@@ -1,7 +1,7 @@
-//! A story of two clients with two records each: numbers that are sent again, a crash, and what is refused.
+//! A story of two clients with two records each: numbers that are sent again, a crash, and what is refused. It is that
+//! of tests/pqd/story.in.
 
-use crate::playing::{Row, fresh, played};
-use std::test::Fail;
+use crate::playing::Row;
 
 pub(crate) static STORY: [Row; 15] = [
     (
@@ -59,10 +59,3 @@ pub(crate) static STORY: [Row; 15] = [
         r#"{"error":11,"name":"NoRoom"}"#,
     ),
 ];
-
-#[test]
-fn a_story_of_two_clients(rt: HostRuntime) -> Result<(), Fail> {
-    let broker = fresh(rt.alloc(), 2, 2)?;
-    played(&rt, rt.alloc(), broker, &STORY)?;
-    Ok(())
-}
