@@ -29,6 +29,20 @@ compare() {
     judge "$1" "$said"
 }
 
+# A command line with a fault: what is wrong, and how the command is used, where that is said, on standard error alone,
+# with status 2: PROGRAM TEXT USAGE WORD.. with the input given.
+bad_line() {
+    local program=$1 text=$2 usage=$3 status=0
+    shift 3
+    {
+        printf 'error: %s\n' "$text"
+        [ -z "$usage" ] || printf '\nUsage: %s\n' "$usage"
+        printf "\nFor more information, try '--help'.\n"
+    } > "$work/wanted"
+    "$program" "$@" > "$work/out" 2> "$work/err" || status=$?
+    compare "options: $*" 2 "$status" /dev/null "$work/wanted"
+}
+
 # How many passed and failed, as the last line, and that as the status.
 count() {
     printf '%d passed, %d failed\n' "$passed" "$failed"

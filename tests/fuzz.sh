@@ -1,12 +1,15 @@
 #!/usr/bin/env bash
-# bench/fuzz.sh for some seconds and with one seed: pqx and pqd say what the plain programs say. And plain programs that
+# The built pqx and pqd say what the plain programs of bench/plain say: of what bench/fuzz.sh draws for some seconds with
+# one seed, and of each byte at each place of requests and scripts (bench/plain/every_byte.py). And plain programs that
 # are wrong in one place are seen to differ, by the same seed: so the comparison can fail. It takes the programs that
 # the last `rt ci`, or `rt run` in their folders, left, or those that PQD and PQX name.
 set -eu
 cd "$(dirname "$0")/.."
 . tests/cases.sh
 export TMPDIR=$work
-need "${PQD:-$PWD/crates/pqd/out/pqd}" "${PQX:-$PWD/crates/pqx/out/pqx}"
+pqd=${PQD:-$PWD/crates/pqd/out/pqd}
+pqx=${PQX:-$PWD/crates/pqx/out/pqx}
+need "$pqd" "$pqx"
 
 # The right ones agree, and something of each kind was tried.
 status=0
@@ -18,23 +21,33 @@ tail -n 1 "$work/out" | grep -qE '^scripts [1-9][0-9]*, lines [1-9][0-9]*, image
     || said+=' the last line is not that of a run without a difference'
 judge 'the plain programs' "$said"
 
-# A copy of the plain programs with one place changed: FILE OLD NEW WHAT-DIFFERS. The old text stands there once.
-wrong() {
-    local status=0 said=
+# Each byte at each place: as many of each kind as the documents make of these texts.
+status=0
+python3 -B bench/plain/every_byte.py "$pqd" "$pqx" "$work" > "$work/out" 2> "$work/err" || status=$?
+compare 'every byte' 0 "$status" tests/every-byte.out /dev/null
+
+# A copy of the plain programs with one place changed: FILE OLD NEW. The old text stands there once.
+change() {
     rm -rf "$work/plain"
     cp -r bench/plain "$work/plain"
-    [ "$(grep -cF -- "$2" "bench/plain/$1")" -eq 1 ] || said="$2 does not stand in one line of $1"
+    [ "$(grep -cF -- "$2" "bench/plain/$1")" -eq 1 ] || judge "$1" "$2 does not stand in one line"
     python3 - "$work/plain/$1" "$2" "$3" << 'PYTHON'
 import sys
 path, old, new = sys.argv[1:]
 text = open(path).read()
 open(path, "w").write(text.replace(old, new))
 PYTHON
+}
+
+# What bench/fuzz.sh says of such a copy: FILE OLD NEW WHAT-DIFFERS
+wrong() {
+    local status=0 said=
+    change "$1" "$2" "$3"
     # It ends at the first difference; the time is what a machine that has much to do may need.
     PLAIN=$work/plain bench/fuzz.sh 3 1 > "$work/out" 2>&1 || status=$?
     sed -n 's/^.* differs at \(seed 1, turn [0-9]*\): .*/a wrong one differs at \1/p' "$work/out"
     if [ "$status" -ne 1 ] || ! grep -qE "^$4.* differs at seed 1, turn [0-9]+: " "$work/out"; then
-        said+="status $status: $(cat "$work/out")"
+        said="status $status: $(cat "$work/out")"
     fi
     judge "plain programs with '$3' in $1" "$said"
 }
@@ -45,5 +58,21 @@ wrong image.py 'require(len(data) == 12 + 8 * count, "TrailingBytes")' 'pass' im
 wrong image.py 'if not self.node(number)[3]]' 'if True]' '(image|lines)'
 wrong machine.py 'self.cached = list(self.kept)' 'pass' '(script|points|alone)'
 wrong machine.py 'self.effects.append([self.takers[value], "done", True])' 'pass' script
+
+# What every_byte.py says of such a copy: FILE OLD NEW WHAT-DIFFERS
+wrong_byte() {
+    local status=0 said=
+    change "$1" "$2" "$3"
+    python3 -B "$work/plain/every_byte.py" "$pqd" "$pqx" "$work" > "$work/out" 2>&1 || status=$?
+    if [ "$status" -ne 1 ] || ! grep -qE "^$4 differs: " "$work/out"; then
+        said="status $status: $(cat "$work/out")"
+    fi
+    judge "every byte by plain programs with '$3' in $1" "$said"
+}
+wrong_byte broker.py '[a-z0-9_-]{1,16}' '[a-z0-8_-]{1,16}' lines
+wrong_byte lines.py 'GREATEST_VALUE = 2**32 - 1' 'GREATEST_VALUE = 2**32' lines
+wrong_byte lines.py 'GREATEST_CLIENT = 2**64 - 1' 'GREATEST_CLIENT = 2**64 - 2' lines
+wrong_byte script.py '"M": (1, 1000)' '"M": (0, 1000)' script
+wrong_byte script.py 're.compile(rb"0|[1-9][0-9]*")' 're.compile(rb"[0-9]+")' script
 
 count

@@ -43,17 +43,9 @@ try pipe-help 0 pipe --help < /dev/null
 try serve-help 0 serve --help < /dev/null
 try version 0 --version < /dev/null
 try short-version 0 -V < /dev/null
-# A fault of a command line, and how the command is used, where that is said: TEXT USAGE WORD..
+# A fault, and how the command is used: TEXT USAGE WORD..
 bad_option() {
-    local text=$1 usage=$2 status=0
-    shift 2
-    {
-        printf 'error: %s\n' "$text"
-        [ -z "$usage" ] || printf '\nUsage: %s\n' "$usage"
-        printf "\nFor more information, try '--help'.\n"
-    } > "$work/wanted"
-    "$pqd" "$@" < /dev/null > "$work/out" 2> "$work/err" || status=$?
-    compare "options: $*" 2 "$status" /dev/null "$work/wanted"
+    bad_line "$pqd" "$@" < /dev/null
 }
 bad_option "'pqd' requires a subcommand but one was not provided"$'\n  [subcommands: pipe, serve]' 'pqd <COMMAND>'
 bad_option "unrecognized subcommand ''" 'pqd <COMMAND>' ''

@@ -66,6 +66,8 @@ reports() {
 }
 reports points points
 reports points points --evict none
+reports points points --draw 0
+reports points points --draw=18446744073709551615 --evict=none
 reports points-all points --evict all
 reports points-drawn points --evict drawn
 reports points-drawn points --draw 1 --evict drawn
@@ -121,20 +123,27 @@ for command in points alone; do
     : > "$work/out"
     compare "$command to a full output" 1 "$status" /dev/null "$work/wanted"
 done
+# Options of points, each given a value that it has not, none, or two; and words that no command takes.
 bad_option() {
-    local status=0
-    "$pqx" "$@" < examples/crash.script > "$work/out" 2> "$work/err" || status=$?
-    [ -s "$work/err" ] || judge "$*" 'nothing on standard error'
-    compare "$*" 2 "$status" /dev/null "$work/err"
+    bad_line "$pqx" "$@" < examples/crash.script
 }
-bad_option points --evict some
-bad_option points --evict
-bad_option points --draw x
-bad_option points --draw -1
-bad_option points --draw 18446744073709551616
-bad_option points crash.script
-bad_option alone --evict all
-bad_option run --evict all
+for value in some '' ALL; do
+    bad_option "the option '--evict' takes none, all or drawn" 'pqx <COMMAND>' points "--evict=$value"
+done
+for value in x '' -1 1.0 18446744073709551616; do
+    bad_option "the option '--draw' takes a whole number from 0 to 18446744073709551615" 'pqx <COMMAND>' \
+        points "--draw=$value"
+done
+for option in 'evict <WORDS>' 'draw <N>' 'page <FILE>'; do
+    bad_option "a value is required for '--$option' but none was supplied" '' points "--${option%% *}"
+    bad_option "the argument '--$option' cannot be used multiple times" 'pqx points [OPTIONS]' \
+        points "--${option%% *}" 1 "--${option%% *}" 1
+done
+bad_option "unexpected argument '-1' found" 'pqx points [OPTIONS]' points --draw -1
+bad_option "unexpected argument 'crash.script' found" 'pqx points [OPTIONS]' points crash.script
+bad_option "unexpected argument 'crash.script' found" 'pqx alone' alone crash.script
+bad_option "unexpected argument '--evict' found" 'pqx alone' alone --evict all
+bad_option "unexpected argument '--evict' found" 'pqx run' run --evict all
 
 # Scripts that are no text: a byte 0, and bytes that no character has.
 printf 'queue durable 1 1\n\0\n' > "$work/in"

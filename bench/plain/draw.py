@@ -15,6 +15,14 @@ ODD_STRINGS = [
     '"\\ud800"', '"\\udc00"', '"\\ud83d\\ude00"', '"\\ud800\\u0041"', '"\\u0061"', '"\\x"', '"\\u12"', '"\t"', '"a',
     '"\\/"', '"\\u0000"', '"\x7f"', "'a'", '"\\uD83D\\uDE00"', '"\\n"',
 ]
+# What odd lines are put together from. None of them stops the server by itself.
+PIECES = [
+    b"{", b"}", b"[", b"]", b":", b",", b'"', b"\\", b"\\u", b"\\ud800", b" ", b"\t", b"\r", b"\0", b"\xff", b"\xc3",
+    b"\xe2\x82\xac", b"\xef\xbb\xbf", b"0", b"-1", b"1.5", b"1e999", b"18446744073709551616", b"null", b"true",
+    b'{"op":"list"}', b'{"op":"crash"}', b'{"op":"recover"}', b'{"op":"', b'"op":"list"', b'"op":"put"', b'"op":"take"',
+    b'"op":"create"', b'"op":"told"', b'"client":0', b'"queue":"a"', b'"kind":"log"', b'"value":7', b'"number":1',
+    b"[" * 32,
+]
 BYTES = b'{}[]:,"\\ \t\r\n0123456789-+.eEaulztrfn/\x00\x1f\x7f\x80\xbf\xc0\xc3\xa9\xe2\xed\xa0\xf0\xff'
 
 
@@ -134,16 +142,23 @@ def odd_line(draw):
     ])
 
 
+def pieces(draw):
+    """Pieces and bytes, some of them too long for a line."""
+    count = draw.randrange(draw.choices([1, 12, 200], [1, 6, 1])[0]) + 1
+    drawn = [draw.choice(PIECES) if draw.random() < 0.9 else bytes([draw.randrange(256)]) for _ in range(count)]
+    return b"".join(drawn).replace(b"\n", b"")
+
+
 def line_for(draw, request):
-    """The request, or a line near it."""
-    how = draw.choices(["good", "odd value", "changed", "odd"], [80, 7, 8, 5])[0]
+    """The request, or a line near it, or one of pieces."""
+    how = draw.choices(["good", "odd value", "changed", "odd", "pieces"], [78, 7, 8, 4, 3])[0]
     if how == "good":
         return spelled(draw, request).encode()
     if how == "odd value":
         return odd_value(draw, request).encode(errors="surrogatepass")
     if how == "changed":
         return changed(draw, json.dumps(request).encode())
-    return odd_line(draw)
+    return odd_line(draw) if how == "odd" else pieces(draw)
 
 
 def input_of(draw, clients, count):
