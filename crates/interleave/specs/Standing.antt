@@ -67,7 +67,8 @@ UnannouncedAreOut order w =
     → WasCutOff w.log.events client p → ¬ (IsAnnounced (machine w).memory.kept w.log.issued client p)
     → ¬ (InOrder order p)
 
--- the one world came of the other: its history goes on from there, nothing is taken back, and ended calls stay
+-- the history of the one world goes on from that of the other, nothing is taken back, and ended calls stay; of the
+-- bases it says nothing
 pub record GoesOn (old new : State) : Type 0 where
   pub grown : IsBeginningOf old.log.events new.log.events
   pub part : IsPartOf (order_in old) (order_in new)

@@ -16,8 +16,8 @@ pub record IsOpenedOver (broker : Brokered) (s : Sessioned) : Type 0 where
   pub kept : AreKeptAsHeard broker s.kept
 
 -- The bytes are the image of the kept words that the session came to; they are read as these words, which boot. What
--- was settled as the session began is so still, no number took effect twice, and the queues and their values came of
--- those that there were.
+-- was settled as the session began is so still, no number took effect twice, and the queues that there were are there,
+-- each with a history that went on or ended with a rotation. Of what they held when it began `came` says nothing.
 pub record IsImageAfter (first : Sessioned) (bytes : List ℕ) : Type 0 where
   pub last : Sessioned
   pub goes_on : SessionGoesOn first last
