@@ -13,7 +13,8 @@ use Rattle.directory.specs.declared.queue.Queue.{Queue}
 use Rattle.arena.specs.declared.broker.SlotId.{SlotId}
 use Rattle.directory.specs.declared.creation.Creation.{Creation}
 use Rattle.directory.specs.declared.creation.CreationPoint.{CreationPoint}
-use Rattle.directory.specs.declared.creation.CreationPoint.TheVariants.{StoreFirstName, FlushFirstName, StoreSecondName, FlushSecondName, StoreKind, FlushKind, StoreGate, FlushGate}
+use Rattle.directory.specs.declared.creation.CreationPoint.TheVariants.{Store as StoreWord, Flush as FlushWord}
+use Rattle.directory.specs.declared.creation.SlotWord.TheVariants.{FirstName as first_name, SecondName as second_name, Kind as kind_word, Gate as gate_word}
 
 -- the memory has the words of the directory
 pub record HasDirectory (ws : Words) : Type 0 where
@@ -92,15 +93,15 @@ HasQueueWords ws slot queue = HasNameWords ws slot queue × HasKind ws slot queu
 
 -- how far a creation has come with the words of its slot
 abbrev pub IsAsFarAs : Words → ℕ → Queue → CreationPoint → Type 0
-IsAsFarAs ws slot queue StoreFirstName = IsClosed ws slot
-IsAsFarAs ws slot queue FlushFirstName = IsClosed ws slot × StoresFirstName ws slot queue
-IsAsFarAs ws slot queue StoreSecondName = IsClosed ws slot × HasFirstName ws slot queue
-IsAsFarAs ws slot queue FlushSecondName =
+IsAsFarAs ws slot queue (StoreWord first_name) = IsClosed ws slot
+IsAsFarAs ws slot queue (FlushWord first_name) = IsClosed ws slot × StoresFirstName ws slot queue
+IsAsFarAs ws slot queue (StoreWord second_name) = IsClosed ws slot × HasFirstName ws slot queue
+IsAsFarAs ws slot queue (FlushWord second_name) =
     IsClosed ws slot × HasFirstName ws slot queue × StoresSecondName ws slot queue
-IsAsFarAs ws slot queue StoreKind = IsClosed ws slot × HasNameWords ws slot queue
-IsAsFarAs ws slot queue FlushKind = IsClosed ws slot × HasNameWords ws slot queue × StoresKind ws slot queue
-IsAsFarAs ws slot queue StoreGate = IsClosed ws slot × HasQueueWords ws slot queue
-IsAsFarAs ws slot queue FlushGate = IsOpening ws slot × HasQueueWords ws slot queue
+IsAsFarAs ws slot queue (StoreWord kind_word) = IsClosed ws slot × HasNameWords ws slot queue
+IsAsFarAs ws slot queue (FlushWord kind_word) = IsClosed ws slot × HasNameWords ws slot queue × StoresKind ws slot queue
+IsAsFarAs ws slot queue (StoreWord gate_word) = IsClosed ws slot × HasQueueWords ws slot queue
+IsAsFarAs ws slot queue (FlushWord gate_word) = IsOpening ws slot × HasQueueWords ws slot queue
 
 -- a creation is under way, of a queue that is not in this directory yet
 pub record IsCreationUnderWay (ws : Words) (creation : Creation) (directory : Directory) : Type 0 where

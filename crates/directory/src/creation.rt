@@ -4,28 +4,30 @@ ghost use Rattle.std.specs.Prelude.{◌≡◌, ◌<◌, ◌≤◌, length};
 ghost use Rattle.arena.specs.Broker.{broker_size};
 ghost use Rattle.directory.specs.Name.{IsName};
 ghost use Rattle.directory.specs.Step.{after_one};
-ghost use Rattle.directory.specs.Creation.{new_creation, access_of, next_of, successor};
+ghost use Rattle.directory.specs.Creation.{access_of, new_creation, next_of, place_in, successor, value_for, word_after};
 
 use crate::places::{flush_at, store_at};
 use crate::queue::{Queue, kind_code};
-use arena::BrokerPlace::{FirstName, Gate, QueueKind, SecondName};
-use arena::{BrokerLayout, OPEN_GATE, SLOTS, SlotId};
+use arena::{BrokerLayout, BrokerPlace, OPEN_GATE, SLOTS, SlotId};
 use persist::WordMemory;
 use stepper::After;
+
+/// A word of a slot that a creation keeps. They are kept in this order.
+#[derive(Clone, Copy, Debug, PartialEq, Eq, Hash)]
+pub enum SlotWord {
+    FirstName,
+    SecondName,
+    Kind,
+    // The gate comes last. With the gate kept and a word of the name not, a crash would leave a queue of another name,
+    // or of none: `gate_before_the_name.edit`.
+    Gate,
+}
 
 /// What a creation is about to do.
 #[derive(Clone, Copy, Debug, PartialEq, Eq, Hash)]
 pub enum CreationPoint {
-    StoreFirstName,
-    FlushFirstName,
-    StoreSecondName,
-    FlushSecondName,
-    StoreKind,
-    FlushKind,
-    // The gate comes last. With the gate kept and a word of the name not, a crash would leave a queue of another name,
-    // or of none: `gate_before_the_name.edit`.
-    StoreGate,
-    FlushGate,
+    Store(SlotWord),
+    Flush(SlotWord),
 }
 
 /// A creation under way: of which queue, in which slot, and what it is about to do.
@@ -47,7 +49,7 @@ impl Creation {
         Creation {
             slot,
             queue,
-            at: CreationPoint::StoreFirstName,
+            at: CreationPoint::Store(SlotWord::FirstName),
         }
     }
 
@@ -75,18 +77,51 @@ impl Creation {
         requires room { broker_size layout.now ≤ length (M.words memory.old).cached }
         ensures { M.words memory.new ≡ after_one layout.now (access_of self.now) (M.words memory.old) }
     {
-        let slot = self.slot;
-        let [first, second] = self.queue.name.words();
-        let kind = kind_code(self.queue.kind);
         match self.at {
-            CreationPoint::StoreFirstName => store_at(layout, memory, FirstName(slot), first),
-            CreationPoint::FlushFirstName => flush_at(layout, memory, FirstName(slot)),
-            CreationPoint::StoreSecondName => store_at(layout, memory, SecondName(slot), second),
-            CreationPoint::FlushSecondName => flush_at(layout, memory, SecondName(slot)),
-            CreationPoint::StoreKind => store_at(layout, memory, QueueKind(slot), kind),
-            CreationPoint::FlushKind => flush_at(layout, memory, QueueKind(slot)),
-            CreationPoint::StoreGate => store_at(layout, memory, Gate(slot), OPEN_GATE),
-            CreationPoint::FlushGate => flush_at(layout, memory, Gate(slot)),
+            CreationPoint::Store(word) => {
+                let value = self.value(word);
+                store_at(layout, memory, self.place(word), value)
+            }
+            CreationPoint::Flush(word) => flush_at(layout, memory, self.place(word)),
+        }
+    }
+
+    /// Where a word of its slot stands.
+    fn place(&self, word: SlotWord) -> BrokerPlace
+        ensures { result ≡ place_in self.now.slot word }
+    {
+        match word {
+            SlotWord::FirstName => BrokerPlace::FirstName(self.slot),
+            SlotWord::SecondName => BrokerPlace::SecondName(self.slot),
+            SlotWord::Kind => BrokerPlace::QueueKind(self.slot),
+            SlotWord::Gate => BrokerPlace::Gate(self.slot),
+        }
+    }
+
+    /// What it stores there.
+    fn value(&self, word: SlotWord) -> u64
+        ensures { result ≡ value_for self.now.queue word }
+    {
+        let [first, second] = self.queue.name.words();
+        match word {
+            SlotWord::FirstName => first,
+            SlotWord::SecondName => second,
+            SlotWord::Kind => kind_code(self.queue.kind),
+            SlotWord::Gate => OPEN_GATE,
+        }
+    }
+}
+
+impl SlotWord {
+    /// The word that is kept after this one, if there is one.
+    fn after(self) -> Option<Self>
+        ensures { result ≡ word_after self }
+    {
+        match self {
+            SlotWord::FirstName => Some(SlotWord::SecondName),
+            SlotWord::SecondName => Some(SlotWord::Kind),
+            SlotWord::Kind => Some(SlotWord::Gate),
+            SlotWord::Gate => None,
         }
     }
 }
@@ -97,14 +132,8 @@ impl CreationPoint {
         ensures { result ≡ next_of self }
     {
         match self {
-            CreationPoint::StoreFirstName => Some(CreationPoint::FlushFirstName),
-            CreationPoint::FlushFirstName => Some(CreationPoint::StoreSecondName),
-            CreationPoint::StoreSecondName => Some(CreationPoint::FlushSecondName),
-            CreationPoint::FlushSecondName => Some(CreationPoint::StoreKind),
-            CreationPoint::StoreKind => Some(CreationPoint::FlushKind),
-            CreationPoint::FlushKind => Some(CreationPoint::StoreGate),
-            CreationPoint::StoreGate => Some(CreationPoint::FlushGate),
-            CreationPoint::FlushGate => None,
+            CreationPoint::Store(word) => Some(CreationPoint::Flush(word)),
+            CreationPoint::Flush(word) => word.after().map(CreationPoint::Store),
         }
     }
 }

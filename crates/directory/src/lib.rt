@@ -12,7 +12,7 @@ mod recovery;
 mod slots;
 mod soundness;
 
-pub use creation::{Creation, CreationPoint};
+pub use creation::{Creation, CreationPoint, SlotWord};
 pub use laws::{
     blocks_stay, creations_begin, creations_crash, creations_end, creations_go_on, creations_stay,
     directories_are_sound, directories_begin, directories_stay, directories_stay_before_blocks,
