@@ -13,7 +13,7 @@ pub trait Desk {
     /// The requests that were made, with their answers, in order.
     ghost served: { Self → List (Request × Answer) };
 
-    /// Makes the request. At an `Err` its place in the list was refused memory, and it was not made.
+    /// Makes the request. At an `Err` its place in the list was refused memory, and the list is as it was.
     fn answer<R: Wait>(&mut self, rt: &R, request: Request) -> Result<Answer, AllocError>
         ensures made { IfOk result (λ answer. served self.new ≡ served self.old ++ (request, answer) ∷ []) }
         ensures not_made { OnErr result (served self.new ≡ served self.old) };

@@ -56,9 +56,8 @@ fn served<J: Naming, T: Wait, R: Reader, W: Writer>(
 }
 
 /// Serves the requests of a reader to a writer, to the end of the input or to an accepted stop, and answers the image
-/// of the broker as it is then. A request is a line of JSON. It is refused before anything is read where a call or a
-/// creation is under way (Busy), where a device fails (ReadFailed, WriteFailed), and for want of memory before or after
-/// all was served (NoMemory).
+/// of the broker as it is then. A request is a line of JSON. It is refused if a call or a creation is under way (Busy),
+/// if a device fails (ReadFailed, WriteFailed), and for want of memory before or after all was served (NoMemory).
 pub fn pipe<T: Wait, R: Reader, W: Writer>(
     rt: &T,
     alloc: Global,

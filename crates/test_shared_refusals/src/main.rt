@@ -1,4 +1,4 @@
-//! Calls that are refused memory, of sessions, shared sessions and desks: a story in parts, as that of `refusals`. A
+//! Calls that are refused memory, of sessions, shared sessions and desks: a story in parts, as that of `test_refusals`. A
 //! shared call that is refused a step is left unfinished, and gone on with. tests/memory.sh refuses each allocation in
 //! turn. Lines that begin with `again`, `unfinished` or `busy` say what was refused.
 #![tactic(auto)]
