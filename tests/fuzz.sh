@@ -24,6 +24,7 @@ judge 'the plain programs' "$said"
 # Each byte at each place: as many of each kind as the documents make of these texts.
 status=0
 python3 -B bench/plain/every_byte.py "$pqd" "$pqx" "$work" > "$work/out" 2> "$work/err" || status=$?
+cat "$work/out"
 compare 'every byte' 0 "$status" tests/every-byte.out /dev/null
 
 # A copy of the plain programs with one place changed: FILE OLD NEW. The old text stands there once.

@@ -98,11 +98,13 @@ class Batch:
     def play(self, pqd, path):
         """What pqd replies, and what its image keeps then."""
         data, wanted = b"".join(self.input), b"".join(self.replies)
+        # A difference leaves its image there.
+        if os.path.exists(path):
+            os.remove(path)
         words = ["--clients", str(CLIENTS), "--records", str(RECORDS), "--image", path]
         compare("lines", data, (wanted, b"", 0), ran([pqd, "pipe", *words], data))
         with open(path, "rb") as file:
             kept = image.content(image.broker_of(file.read()))
-        os.remove(path)
         compare("lines", data, (image.content(self.broker),), (kept,))
 
 
