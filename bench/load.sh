@@ -4,7 +4,8 @@
 # then. When calls are used up, or the time is, all that is left is taken, and each queue's history must be explained by
 # a first-in-first-out order: nothing lost, nothing doubled, nothing overtaken, no empty answer while a value was there.
 # Each server stops half way and starts on its image, where it keeps one. Prints what was seen; at a history that no
-# order explains, the first difference, with status 1. PQD names another pqd than the one that `rt run` left.
+# order explains, the first difference, with status 1. PQD names another pqd than the one that `rt run` left, RECORDS
+# how many calls each client has in a queue (4,096).
 set -eu
 pqd=$(realpath -m "${PQD:-$(dirname "$0")/../crates/pqd/out/pqd}")
 if [ ! -x "$pqd" ]; then

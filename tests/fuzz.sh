@@ -1,8 +1,8 @@
 #!/usr/bin/env bash
-# The built pqx and pqd say what the plain programs of bench/plain say: of what bench/fuzz.sh draws for some seconds with
-# one seed, and of each byte at each place of requests and scripts (bench/plain/every_byte.py). And plain programs that
-# are wrong in one place are seen to differ, by the same seed: so the comparison can fail. It takes the programs that
-# the last `rt ci`, or `rt run` in their folders, left, or those that PQD and PQX name.
+# The built pqx and pqd say what the plain programs of bench/plain say: of what bench/fuzz.sh draws for some seconds
+# with one seed, and of each byte at each place of requests and scripts (bench/plain/every_byte.py). And plain programs
+# that are wrong in one place are seen to differ, by the same seed: so the comparison can fail. It takes the programs
+# that the last `rt ci`, or `rt run` in their folders, left, or those that PQD and PQX name.
 set -eu
 cd "$(dirname "$0")/.."
 . tests/cases.sh
@@ -22,10 +22,12 @@ tail -n 1 "$work/out" | grep -qE '^scripts [1-9][0-9]*, lines [1-9][0-9]*, image
 judge 'the plain programs' "$said"
 
 # Each byte at each place: as many of each kind as the documents make of these texts.
-status=0
-python3 -B bench/plain/every_byte.py "$pqd" "$pqx" "$work" > "$work/out" 2> "$work/err" || status=$?
-cat "$work/out"
-compare 'every byte' 0 "$status" tests/every-byte.out /dev/null
+for part in lines scripts; do
+    status=0
+    python3 -B bench/plain/every_byte.py "$pqd" "$pqx" "$work" "$part" > "$work/out" 2> "$work/err" || status=$?
+    cat "$work/out"
+    compare "every byte of $part" 0 "$status" "tests/every-byte/$part.out" /dev/null
+done
 
 # A copy of the plain programs with one place changed: FILE OLD NEW. The old text stands there once.
 change() {
@@ -60,20 +62,21 @@ wrong image.py 'if not self.node(number)[3]]' 'if True]' '(image|lines)'
 wrong machine.py 'self.cached = list(self.kept)' 'pass' '(script|points|alone)'
 wrong machine.py 'self.effects.append([self.takers[value], "done", True])' 'pass' script
 
-# What every_byte.py says of such a copy: FILE OLD NEW WHAT-DIFFERS
+# What every_byte.py says of such a copy: FILE OLD NEW lines|scripts
 wrong_byte() {
     local status=0 said=
     change "$1" "$2" "$3"
-    python3 -B "$work/plain/every_byte.py" "$pqd" "$pqx" "$work" > "$work/out" 2>&1 || status=$?
-    if [ "$status" -ne 1 ] || ! grep -qE "^$4 differs: " "$work/out"; then
+    python3 -B "$work/plain/every_byte.py" "$pqd" "$pqx" "$work" "$4" > "$work/out" 2>&1 || status=$?
+    if [ "$status" -ne 1 ] || ! grep -q "^$4 differs: " "$work/out"; then
         said="status $status: $(cat "$work/out")"
     fi
     judge "every byte by plain programs with '$3' in $1" "$said"
 }
 wrong_byte broker.py '[a-z0-9_-]{1,16}' '[a-z0-8_-]{1,16}' lines
+wrong_byte broker.py 'self.values.append(value)' 'self.values.insert(0, value)' lines
 wrong_byte lines.py 'GREATEST_VALUE = 2**32 - 1' 'GREATEST_VALUE = 2**32' lines
 wrong_byte lines.py 'GREATEST_CLIENT = 2**64 - 1' 'GREATEST_CLIENT = 2**64 - 2' lines
-wrong_byte script.py '"M": (1, 1000)' '"M": (0, 1000)' script
-wrong_byte script.py 're.compile(rb"0|[1-9][0-9]*")' 're.compile(rb"[0-9]+")' script
+wrong_byte script.py '"M": (1, 1000)' '"M": (0, 1000)' scripts
+wrong_byte script.py 're.compile(rb"0|[1-9][0-9]*")' 're.compile(rb"[0-9]+")' scripts
 
 count

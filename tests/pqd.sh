@@ -375,7 +375,7 @@ try third-run 0 pipe --image "$image" < tests/pqd/third-run.in
 # Every option of serve, in another order, and at the port that was just left.
 asked=$port
 rm "$image"
-serve --workers 3 --image "$image" --records=2 --clients 1
+serve --workers 16 --image "$image" --records=2 --clients 1
 [ "$port" = "$asked" ] || judge 'serve at a port' "it listens at $port"
 over_connection first-run
 stop

@@ -1,6 +1,7 @@
-"""every_byte.py PQD PQX FOLDER: each byte at each place of a request of each kind, and of two scripts that have every
-line, and lines of drawn pieces: what pqd and pqx say is what the plain programs say. Prints what was tried, or the
-first difference, with status 1. Not all of the scripts are tried, since each takes a process of its own."""
+"""every_byte.py PQD PQX FOLDER lines|scripts: each byte at each place of a request of each kind, and lines of drawn
+pieces; or of two scripts that have every line. What pqd and pqx say is what the plain programs say. Prints what was
+tried, or the first difference, with status 1. Not all of the scripts are tried, since each takes a process of its
+own."""
 
 import os
 import random
@@ -147,7 +148,7 @@ def try_scripts(pqx):
             if byte is not None and byte not in NEAR and draw.randrange(OF_OTHERS) != 0:
                 continue
             wanted, _ = script.transcript(text)
-            compare("script", text, wanted, ran([pqx, "run"], text))
+            compare("scripts", text, wanted, ran([pqx, "run"], text))
             tried["refused" if wanted[2] else "followed"] += 1
     return tried
 
@@ -156,19 +157,24 @@ def shown(counts):
     return "lines " + ", ".join(f"{kind} {counts[kind]}" for kind in ("served", *FAULTS.values()))
 
 
-def main(pqd, pqx, folder):
+def report(part, pqd, pqx, path):
+    """What was tried of a part."""
+    if part == "lines":
+        lines, drawn = try_lines(pqd, path), try_pieces(pqd, path)
+        return f"requests {lines['texts']}: {shown(lines)}\nlines of pieces {PIECES}: {shown(drawn)}"
+    tried = try_scripts(pqx)
+    return f"scripts {sum(tried.values())}: followed {tried['followed']}, refused {tried['refused']}"
+
+
+def main(pqd, pqx, folder, part):
     try:
-        lines, drawn = try_lines(pqd, f"{folder}/image"), try_pieces(pqd, f"{folder}/image")
-        scripts = try_scripts(pqx)
+        print(report(part, pqd, pqx, f"{folder}/image"))
     except Different as different:
         kind, data, said = different.args
         with open(f"{folder}/difference", "wb") as file:
             file.write(data)
         print(f"{kind} differs: {said}\nthe input is {folder}/difference")
         return 1
-    print(f"requests {lines['texts']}: {shown(lines)}")
-    print(f"lines of pieces {PIECES}: {shown(drawn)}")
-    print(f"scripts {sum(scripts.values())}: followed {scripts['followed']}, refused {scripts['refused']}")
     return 0
 
 
