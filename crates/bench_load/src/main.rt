@@ -73,7 +73,7 @@ fn play_checks(rt: &HostRuntime, words: &ArgMatches<'_>) -> Result<()> {
     load.run(rt, count(words, "turns"))
 }
 
-/// A small load of each.
+/// A small load of each, but for those of sessions.
 fn small_ones(rt: &HostRuntime) -> Result<()> {
     let queue = Queue {
         kind: Kind::Durable,
@@ -104,8 +104,7 @@ fn small_ones(rt: &HostRuntime) -> Result<()> {
         clients: 4,
         events: 200,
     };
-    load.run(rt, 1)?;
-    few(rt)
+    load.run(rt, 1)
 }
 
 fn main(rt: HostRuntime) -> Result<ExitCode> {
@@ -132,7 +131,10 @@ fn main(rt: HostRuntime) -> Result<ExitCode> {
         Some(("threads", words)) => measure(&rt, By::Threads(count(words, "threads")), words)?,
         Some(("alone", words)) => measure(&rt, By::Steps, words)?,
         Some(("plain", words)) => measure(&rt, By::Calls, words)?,
-        _ => small_ones(&rt)?,
+        _ => {
+            small_ones(&rt)?;
+            few(&rt)?;
+        }
     }
     Ok(ExitCode::SUCCESS)
 }

@@ -72,7 +72,8 @@ fn crashes_after(alloc: Global, creation: Creation) -> Result<bool, Refusal> {
     let mut broker = begun(alloc, creation)?;
     let open = has_open_gate(&kept(alloc, &broker)?, 0);
     let by_chance = creation.steps == GATE_STORED && creation.set & GATE != 0;
-    let right = open == (creation.steps + creation.more == CREATED || by_chance);
+    let ended = creation.steps.saturating_add(creation.more) == CREATED;
+    let right = open == (ended || by_chance);
     restart(&mut broker)?;
     Ok(right && is_whole_or_free(alloc, &mut broker, creation.kind, open)?)
 }
