@@ -7,8 +7,8 @@
 set -eu
 cd "$(dirname "$0")/.."
 . tests/cases.sh
-refusals=${REFUSALS:-$PWD/crates/test_refusals/out/refusals}
-shared_refusals=${SHARED_REFUSALS:-$PWD/crates/test_shared_refusals/out/shared_refusals}
+refusals=${REFUSALS:-$PWD/crates/test_refusals/out/test_refusals}
+shared_refusals=${SHARED_REFUSALS:-$PWD/crates/test_shared_refusals/out/test_shared_refusals}
 pqx=${PQX:-$PWD/crates/pqx/out/pqx}
 pqd=${PQD:-$PWD/crates/pqd/out/pqd}
 need "$refusals" "$shared_refusals" "$pqx" "$pqd"

@@ -5,7 +5,7 @@
 set -eu
 cd "$(dirname "$0")/.."
 . tests/cases.sh
-scenarios=${SCENARIOS:-$PWD/crates/test_scenarios/out/scenarios}
+scenarios=${SCENARIOS:-$PWD/crates/test_scenarios/out/test_scenarios}
 data=crates/test_scenarios/data
 need "$scenarios"
 
