@@ -12,9 +12,8 @@ mod draws;
 pub mod sessions;
 pub mod steps;
 
-pub use draws::{below, index_below};
-
 use arena::{SLOTS, SlotId};
+pub use draws::{below, index_below};
 use history::{Event, check_content};
 use named::Broker;
 use std::alloc::Global;
