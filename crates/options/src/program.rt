@@ -1,7 +1,8 @@
 //! What a program does with its command line, whatever that asks, and with a fault at its end.
 
-ghost use Rattle.std.specs.Prelude.{◌≡◌, ◌⊎◌, IfErr};
+ghost use Rattle.std.specs.Prelude.{◌≡◌, ◌↔◌, ◌⊎◌, IfErr, IsErrOf};
 ghost use Rattle.std.specs.IoError.{error_kind};
+ghost use Rattle.clap.specs.Words.{kind_of};
 ghost use Rattle.options.specs.Faults.{refusal_of_system};
 
 use clap::error::ErrorKind;
@@ -38,7 +39,8 @@ pub fn words(rt: &HostRuntime) -> Result<Vec<String>, Refusal>
 
 /// Says what is wrong with a command line, or what it asks to know, and answers with which status to end.
 pub fn explained(rt: &HostRuntime, error: &clap::Error) -> Result<ExitCode, Refusal>
-    ensures { IfErr result (λ refusal. (refusal ≡ Refusal.NoMemory) ⊎ (refusal ≡ Refusal.WriteFailed)) }
+    ensures memory { IsErrOf result Refusal.NoMemory ↔ kind_of error.now ≡ ErrorKind.OutOfMemory }
+    ensures errors { IfErr result (λ refusal. (refusal ≡ Refusal.NoMemory) ⊎ (refusal ≡ Refusal.WriteFailed)) }
 {
     if let ErrorKind::OutOfMemory = error.kind() {
         return Err(Refusal::NoMemory);
