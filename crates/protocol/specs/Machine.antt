@@ -9,7 +9,7 @@ use Rattle.words.specs.declared.call.Reply.{Reply}
 use Rattle.words.specs.declared.call.Reply.TheVariants.{Done as done, Got}
 use Rattle.words.specs.declared.limits.TheConstants.{MAX_CALL_NUMBER, MAX_VALUE}
 use Rattle.words.specs.declared.told.Told.{Told}
-use Rattle.persist.specs.Memory.{Access, Load, Store, Cas, Flush}
+use Rattle.persist.specs.Memory.{Access, Load, Store, Cas, Flush, Fence}
 use Rattle.arena.specs.Shape.{Shape, record_of, owner}
 use Rattle.arena.specs.Place.{is_same}
 use Rattle.arena.specs.Words.{bumps, values}
@@ -41,7 +41,7 @@ pub record Memory : Type 0 where
 abbrev pub put : (Place → ℕ) → Place → ℕ → Place → ℕ
 put f p v q = if is_same p q then v else f q
 
--- what an access leaves, and what a flush or an eviction
+-- what an access leaves, and what a fence or an eviction
 abbrev pub with_store : Memory → Place → ℕ → Memory
 with_store m p v = record { cached = put m.cached p v; kept = m.kept }
 
@@ -52,7 +52,8 @@ abbrev pub with_access : Memory → Access Place → Memory
 with_access m (Load p) = m
 with_access m (Store p v) = with_store m p v
 with_access m (Cas p old new) = if m.cached p == old then with_store m p new else m
-with_access m (Flush p) = with_flush m p
+with_access m (Flush p) = m
+with_access m (Fence p) = with_flush m p
 
 -- the trace: the history, the records that its calls took, and when they took effect
 pub record Trace : Type 0 where

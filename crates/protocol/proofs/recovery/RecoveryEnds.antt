@@ -23,7 +23,8 @@ use Rattle.stepper.specs.declared.resume.After.TheVariants.{More, Done as Ready}
 use Rattle.recover.specs.declared.recovery.Recovery.{Recovery}
 use Rattle.recover.specs.declared.point.RecoveryPoint.{RecoveryPoint}
 use Rattle.recover.specs.declared.point.Report.{Report}
-use Rattle.recover.specs.declared.point.RecoveryPoint.TheVariants.{RecoveryLoadHead, RecoveryLoadNext, RecoveryLoadInsert, RecoveryStoreStatus, RecoveryLoadMark, RecoveryLoadValue, RecoveryStoreResult, RecoveryStoreHead, RecoveryStoreTail, RecoveryLoadAnnouncement, RecoveryLoadCell, RecoveryLoadNumber, RecoveryLoadKind, RecoveryLoadStatus, RecoveryLoadRemove, RecoveryLoadEntryNode, RecoveryLoadRemovedValue, Flush as FlushPoint}
+use Rattle.recover.specs.declared.point.RecoveryPoint.TheVariants.{RecoveryLoadHead, RecoveryLoadNext, RecoveryLoadInsert, RecoveryStoreStatus, RecoveryLoadMark, RecoveryLoadValue, RecoveryStoreResult, RecoveryStoreHead, RecoveryStoreTail, RecoveryLoadAnnouncement, RecoveryLoadCell, RecoveryLoadNumber, RecoveryLoadKind, RecoveryLoadStatus, RecoveryLoadRemove, RecoveryLoadEntryNode, RecoveryLoadRemovedValue, Flush as FlushPoint, Fence as FencePoint}
+use Rattle.recover.specs.declared.keeping.RecoveryKeeping.{RecoveryKeeping}
 use Rattle.recover.specs.declared.keeping.RecoveryKeeping.TheVariants.{Status as KeepStatus, Result as KeepResult, Head as KeepHead, Tail as KeepTail}
 use Rattle.stepper.specs.declared.resume.After.{After}
 use Rattle.protocol.specs.Machine.{Memory, put, with_store, with_flush}
@@ -42,7 +43,7 @@ use Rattle.protocol.proofs.records.Records.{path_longer, end_longer, answered_ne
 use Rattle.protocol.proofs.records.RecordStores.{entry_stored, one_two, result_node}
 use Rattle.protocol.specs.invariants.Sound.{memory_at_rest, Sound}
 use Rattle.protocol.proofs.recovery.Recovering.{put_tells, MayKeep, put_sound, put_ahead, put_claim, put_last, put_last_node, status_may, head_may, tail_may, node_fits}
-use Rattle.protocol.specs.invariants.Recovery.{Same, SameBut, TakenTo, Position, Ahead, Claim, LastClaimed, LastNode, At, AtPoint, nothing_told}
+use Rattle.protocol.specs.invariants.Recovery.{Same, SameBut, TakenTo, Position, Ahead, Claim, LastClaimed, LastNode, At, AtKeeping, AtPoint, nothing_told}
 
 -- where a result belongs does not depend on the value, and what it is does in a durable queue alone
 result_place : (kind : Kind) (t : Token) (n : NodeId) (v x : ℕ) → (result_of kind t n v).place ≡ (result_of kind t n x).place
@@ -285,48 +286,57 @@ module _ (s : Shape) (m : Memory) (claimed waiting queue : List ℕ) (b : Sound 
   but_flushed p h q ne = same_after m p h q
 
   module _ (told : List Told) where
+    -- what holds where it is about to keep a word
+    record KeptInHand (n : Memory) (k : RecoveryKeeping) : Type 0 where
+      sound : Sound s n.kept claimed waiting queue
+      at : AtKeeping s n claimed k
+
     -- the word in hand is kept by the environment
+    keep_in_hand : (p : Place) → m.kept p ≢ m.cached p → (k : RecoveryKeeping) → AtKeeping s m claimed k → KeptInHand (with_flush m p) k
+    keep_in_hand p ne (KeepStatus q) a = elim (put_cases m.kept (Status q.entry) 0 p) [
+      | inl t ↦
+          let r : Sound s (with_flush m (Status q.entry)).kept claimed waiting queue × Ahead s (with_flush m (Status q.entry)).kept claimed q.moved q.cur.0 q.node.0 × (statuses (with_flush m (Status q.entry)).kept q.node.0 ≡ 1) =
+          kept_status q.cur.0 q.node.0 q.entry.0 q.moved a.0 a.1 a.2 a.3 a.4 in
+          let now : KeptInHand (with_flush m (Status q.entry)) (KeepStatus q) = record { sound = r.0; at = (but_flushed (Status q.entry) a.0, a.1, r.1, a.3, a.4) } in
+          subst (λ x. KeptInHand (with_flush m x) (KeepStatus q)) (sym t.0) now
+      | inr t ↦ absurd (ne (sym (a.0 p t.0)))
+    ]
+    keep_in_hand p ne (KeepResult q) a = elim (put_cases m.kept (result_of s.kind q.mark q.node q.value).place 0 p) [
+      | inl t ↦
+          let r : Sound s (with_flush m (result_of s.kind q.mark q.node q.value).place).kept claimed waiting queue × Claim s (with_flush m (result_of s.kind q.mark q.node q.value).place).kept claimed q.node.0 q.mark.0
+          × (s.kind ≡ Durable → q.value ≡ values (with_flush m (result_of s.kind q.mark q.node q.value).place).kept q.node.0) = kept_result q.node q.mark q.value a.1 a.2 a.3 in
+          let now : KeptInHand (with_flush m (result_of s.kind q.mark q.node q.value).place) (KeepResult q) =
+          record { sound = r.0; at = (but_flushed (result_of s.kind q.mark q.node q.value).place a.0, a.1, r.1, r.2, a.4) } in
+          subst (λ x. KeptInHand (with_flush m x) (KeepResult q)) (sym t.0) now
+      | inr t ↦ absurd (ne (sym (a.0 p t.0)))
+    ]
+    keep_in_hand p ne (KeepHead q) a = elim (put_cases m.kept Head 0 p) [
+      | inl t ↦
+          let r : Sound s (with_flush m Head).kept claimed waiting queue × LastClaimed s (with_flush m Head).kept claimed q.cur.0 q.unclaimed = kept_head q.cur.0 q.unclaimed a.1 a.2 in
+          let now : KeptInHand (with_flush m Head) (KeepHead q) = record { sound = r.0; at = (but_flushed Head a.0, a.1, r.1) } in
+          subst (λ x. KeptInHand (with_flush m x) (KeepHead q)) (sym t.0) now
+      | inr t ↦ absurd (ne (sym (a.0 p t.0)))
+    ]
+    keep_in_hand p ne (KeepTail q) a = elim (put_cases m.kept Tail 0 p) [
+      | inl t ↦
+          let r : Sound s (with_flush m Tail).kept claimed waiting queue × LastNode s (with_flush m Tail).kept claimed a.1.cur = kept_tail a.1.cur a.1.cached a.1.last in
+          let now : KeptInHand (with_flush m Tail) (KeepTail q) = record { sound = r.0; at = (but_flushed Tail a.0, record { cur = a.1.cur; last = r.1; cached = a.1.cached }) } in
+          subst (λ x. KeptInHand (with_flush m x) (KeepTail q)) (sym t.0) now
+      | inr t ↦ absurd (ne (sym (a.0 p t.0)))
+    ]
+
     keep_new : (p : Place) → m.kept p ≢ m.cached p → (at : RecoveryPoint) → AtPoint s m claimed waiting told at → RecoversAt s (with_flush m p) claimed waiting queue told at
     keep_new p ne (RecoveryLoadHead q) a = absurd (ne (sym (a p)))
     keep_new p ne (RecoveryLoadNext q) a = absurd (ne (sym (a.0 p)))
     keep_new p ne (RecoveryLoadInsert q) a = absurd (ne (sym (a.0 p)))
     keep_new p ne (RecoveryStoreStatus q) a = absurd (ne (sym (a.0 p)))
-    keep_new p ne (FlushPoint (KeepStatus q)) a = elim (put_cases m.kept (Status q.entry) 0 p) [
-      | inl t ↦
-          let r : Sound s (with_flush m (Status q.entry)).kept claimed waiting queue × Ahead s (with_flush m (Status q.entry)).kept claimed q.moved q.cur.0 q.node.0 × (statuses (with_flush m (Status q.entry)).kept q.node.0 ≡ 1) =
-          kept_status q.cur.0 q.node.0 q.entry.0 q.moved a.0 a.1 a.2 a.3 a.4 in
-          let now : RecoversAt s (with_flush m (Status q.entry)) claimed waiting queue told (FlushPoint (KeepStatus q)) = record { sound = r.0; at = (but_flushed (Status q.entry) a.0, a.1, r.1, a.3, a.4) } in
-          subst (λ x. RecoversAt s (with_flush m x) claimed waiting queue told (FlushPoint (KeepStatus q))) (sym t.0) now
-      | inr t ↦ absurd (ne (sym (a.0 p t.0)))
-    ]
     keep_new p ne (RecoveryLoadMark q) a = absurd (ne (sym (a.0 p)))
     keep_new p ne (RecoveryLoadValue q) a = absurd (ne (sym (a.0 p)))
     keep_new p ne (RecoveryStoreResult q) a = absurd (ne (sym (a.0 p)))
-    keep_new p ne (FlushPoint (KeepResult q)) a = elim (put_cases m.kept (result_of s.kind q.mark q.node q.value).place 0 p) [
-      | inl t ↦
-          let r : Sound s (with_flush m (result_of s.kind q.mark q.node q.value).place).kept claimed waiting queue × Claim s (with_flush m (result_of s.kind q.mark q.node q.value).place).kept claimed q.node.0 q.mark.0
-          × (s.kind ≡ Durable → q.value ≡ values (with_flush m (result_of s.kind q.mark q.node q.value).place).kept q.node.0) = kept_result q.node q.mark q.value a.1 a.2 a.3 in
-          let now : RecoversAt s (with_flush m (result_of s.kind q.mark q.node q.value).place) claimed waiting queue told (FlushPoint (KeepResult q)) =
-          record { sound = r.0; at = (but_flushed (result_of s.kind q.mark q.node q.value).place a.0, a.1, r.1, r.2, a.4) } in
-          subst (λ x. RecoversAt s (with_flush m x) claimed waiting queue told (FlushPoint (KeepResult q))) (sym t.0) now
-      | inr t ↦ absurd (ne (sym (a.0 p t.0)))
-    ]
     keep_new p ne (RecoveryStoreHead q) a = absurd (ne (sym (a.0 p)))
-    keep_new p ne (FlushPoint (KeepHead q)) a = elim (put_cases m.kept Head 0 p) [
-      | inl t ↦
-          let r : Sound s (with_flush m Head).kept claimed waiting queue × LastClaimed s (with_flush m Head).kept claimed q.cur.0 q.unclaimed = kept_head q.cur.0 q.unclaimed a.1 a.2 in
-          let now : RecoversAt s (with_flush m Head) claimed waiting queue told (FlushPoint (KeepHead q)) = record { sound = r.0; at = (but_flushed Head a.0, a.1, r.1) } in
-          subst (λ x. RecoversAt s (with_flush m x) claimed waiting queue told (FlushPoint (KeepHead q))) (sym t.0) now
-      | inr t ↦ absurd (ne (sym (a.0 p t.0)))
-    ]
     keep_new p ne (RecoveryStoreTail q) a = absurd (ne (sym (a.0 p)))
-    keep_new p ne (FlushPoint (KeepTail q)) a = elim (put_cases m.kept Tail 0 p) [
-      | inl t ↦
-          let r : Sound s (with_flush m Tail).kept claimed waiting queue × LastNode s (with_flush m Tail).kept claimed a.1.cur = kept_tail a.1.cur a.1.cached a.1.last in
-          let now : RecoversAt s (with_flush m Tail) claimed waiting queue told (FlushPoint (KeepTail q)) = record { sound = r.0; at = (but_flushed Tail a.0, record { cur = a.1.cur; last = r.1; cached = a.1.cached }) } in
-          subst (λ x. RecoversAt s (with_flush m x) claimed waiting queue told (FlushPoint (KeepTail q))) (sym t.0) now
-      | inr t ↦ absurd (ne (sym (a.0 p t.0)))
-    ]
+    keep_new p ne (FlushPoint k) a = let r = keep_in_hand p ne k a in record { sound = r.sound; at = r.at }
+    keep_new p ne (FencePoint k) a = let r = keep_in_hand p ne k a in record { sound = r.sound; at = r.at }
     keep_new p ne (RecoveryLoadAnnouncement q) a = absurd (ne (sym (a.0 p)))
     keep_new p ne (RecoveryLoadCell q) a = absurd (ne (sym (a.0 p)))
     keep_new p ne (RecoveryLoadNumber q) a = absurd (ne (sym (a.0 p)))
@@ -337,34 +347,25 @@ module _ (s : Shape) (m : Memory) (claimed waiting queue : List ℕ) (b : Sound 
     keep_new p ne (RecoveryLoadRemovedValue q) a = absurd (ne (sym (a.0 p)))
 
     -- the word in hand may be kept
-    hand_may_at : (p : Place) → m.kept p ≢ m.cached p → (at : RecoveryPoint) → AtPoint s m claimed waiting told at → MayKeep s m.kept p (m.cached p)
-    hand_may_at p ne (RecoveryLoadHead q) a = absurd (ne (sym (a p)))
-    hand_may_at p ne (RecoveryLoadNext q) a = absurd (ne (sym (a.0 p)))
-    hand_may_at p ne (RecoveryLoadInsert q) a = absurd (ne (sym (a.0 p)))
-    hand_may_at p ne (RecoveryStoreStatus q) a = absurd (ne (sym (a.0 p)))
-    hand_may_at p ne (FlushPoint (KeepStatus q)) a = elim (put_cases m.kept (Status q.entry) 0 p) [
+    hand_may_in : (p : Place) → m.kept p ≢ m.cached p → (k : RecoveryKeeping) → AtKeeping s m claimed k → MayKeep s m.kept p (m.cached p)
+    hand_may_in p ne (KeepStatus q) a = elim (put_cases m.kept (Status q.entry) 0 p) [
       | inl t ↦
           let may : MayKeep s m.kept (Status (token_of q.entry.0)) 1 = subst (λ x. MayKeep s m.kept (Status (token_of x)) 1) (sym a.4) (status_may s m.kept claimed waiting queue b q.cur.0 q.node.0 a.2.link a.2.some a.3) in
           subst (λ x. MayKeep s m.kept x (m.cached x)) (sym t.0) (subst (MayKeep s m.kept (Status q.entry)) (sym a.1) may)
       | inr t ↦ absurd (ne (sym (a.0 p t.0)))
     ]
-    hand_may_at p ne (RecoveryLoadMark q) a = absurd (ne (sym (a.0 p)))
-    hand_may_at p ne (RecoveryLoadValue q) a = absurd (ne (sym (a.0 p)))
-    hand_may_at p ne (RecoveryStoreResult q) a = absurd (ne (sym (a.0 p)))
-    hand_may_at p ne (FlushPoint (KeepResult q)) a = elim (put_cases m.kept (result_of s.kind q.mark q.node q.value).place 0 p) [
+    hand_may_in p ne (KeepResult q) a = elim (put_cases m.kept (result_of s.kind q.mark q.node q.value).place 0 p) [
       | inl t ↦ subst (λ x. MayKeep s m.kept x (m.cached x)) (sym t.0)
           (subst (MayKeep s m.kept (result_of s.kind q.mark q.node q.value).place) (sym a.1) (result_may s m.kept claimed waiting queue b q.node q.mark q.value a.2 a.3))
       | inr t ↦ absurd (ne (sym (a.0 p t.0)))
     ]
-    hand_may_at p ne (RecoveryStoreHead q) a = absurd (ne (sym (a.0 p)))
-    hand_may_at p ne (FlushPoint (KeepHead q)) a = elim (put_cases m.kept Head 0 p) [
+    hand_may_in p ne (KeepHead q) a = elim (put_cases m.kept Head 0 p) [
       | inl t ↦
           let fit : q.cur.0 ≤ greatest s = node_fits s m.kept claimed waiting queue b q.cur.0 (in_left q.cur.0 (0 ∷ claimed) waiting (answered_among s m.kept claimed waiting queue b q.cur.0 a.2.answered)) in
           subst (λ x. MayKeep s m.kept x (m.cached x)) (sym t.0) (subst (MayKeep s m.kept Head) (sym a.1) (head_may s m.kept claimed waiting queue b q.cur.0 a.2.answered fit))
       | inr t ↦ absurd (ne (sym (a.0 p t.0)))
     ]
-    hand_may_at p ne (RecoveryStoreTail q) a = absurd (ne (sym (a.0 p)))
-    hand_may_at p ne (FlushPoint (KeepTail q)) a = elim (put_cases m.kept Tail 0 p) [
+    hand_may_in p ne (KeepTail q) a = elim (put_cases m.kept Tail 0 p) [
       | inl t ↦
           let last : record { passed : (s.kind ≡ Log → (n : ℕ) → IsAmong n waiting → statuses m.kept n ≡ 1); at : a.1.cur ≡ end_of 0 (claimed ++ waiting) } = last_all s m.kept claimed waiting queue b a.1.cur a.1.last in
           let among : IsAmong a.1.cur (0 ∷ claimed ++ waiting) = subst (λ x. IsAmong x (0 ∷ claimed ++ waiting)) (sym last.at) (in_end_of 0 (claimed ++ waiting)) in
@@ -373,6 +374,19 @@ module _ (s : Shape) (m : Memory) (claimed waiting queue : List ℕ) (b : Sound 
           (subst (MayKeep s m.kept Tail) (sym a.1.cached) (tail_may s m.kept claimed waiting queue b a.1.cur (leads_from (links m.kept) 0 (claimed ++ waiting) a.1.cur b.chain among) fit))
       | inr t ↦ absurd (ne (sym (a.0 p t.0)))
     ]
+
+    hand_may_at : (p : Place) → m.kept p ≢ m.cached p → (at : RecoveryPoint) → AtPoint s m claimed waiting told at → MayKeep s m.kept p (m.cached p)
+    hand_may_at p ne (RecoveryLoadHead q) a = absurd (ne (sym (a p)))
+    hand_may_at p ne (RecoveryLoadNext q) a = absurd (ne (sym (a.0 p)))
+    hand_may_at p ne (RecoveryLoadInsert q) a = absurd (ne (sym (a.0 p)))
+    hand_may_at p ne (RecoveryStoreStatus q) a = absurd (ne (sym (a.0 p)))
+    hand_may_at p ne (RecoveryLoadMark q) a = absurd (ne (sym (a.0 p)))
+    hand_may_at p ne (RecoveryLoadValue q) a = absurd (ne (sym (a.0 p)))
+    hand_may_at p ne (RecoveryStoreResult q) a = absurd (ne (sym (a.0 p)))
+    hand_may_at p ne (RecoveryStoreHead q) a = absurd (ne (sym (a.0 p)))
+    hand_may_at p ne (RecoveryStoreTail q) a = absurd (ne (sym (a.0 p)))
+    hand_may_at p ne (FlushPoint k) a = hand_may_in p ne k a
+    hand_may_at p ne (FencePoint k) a = hand_may_in p ne k a
     hand_may_at p ne (RecoveryLoadAnnouncement q) a = absurd (ne (sym (a.0 p)))
     hand_may_at p ne (RecoveryLoadCell q) a = absurd (ne (sym (a.0 p)))
     hand_may_at p ne (RecoveryLoadNumber q) a = absurd (ne (sym (a.0 p)))
@@ -449,7 +463,7 @@ module _ (s : Shape) (m : Memory) (claimed waiting queue : List ℕ) (b : Sound 
         )
         go false e = onward (token_at (m.cached (Mark node))) mark (eqb-false (m.cached (Mark node)) 0 e) s.kind refl
 
-    pub row_KeepStatus : (cur node : NodeId) (entry : Token) (moved : Bool) → AtPoint s m claimed waiting told (FlushPoint (KeepStatus (record { cur = cur; node = node; entry = entry; moved = moved })))
+    pub row_KeepStatus : (cur node : NodeId) (entry : Token) (moved : Bool) → AtPoint s m claimed waiting told (FencePoint (KeepStatus (record { cur = cur; node = node; entry = entry; moved = moved })))
         → RecoversAt s (with_flush m (Status entry)) claimed waiting queue told (point_past_status cur node moved)
     row_KeepStatus cur node entry moved a =
         let r : Sound s (with_flush m (Status entry)).kept claimed waiting queue × Ahead s (with_flush m (Status entry)).kept claimed moved cur.0 node.0 × (statuses (with_flush m (Status entry)).kept node.0 ≡ 1) =
@@ -464,7 +478,7 @@ module _ (s : Shape) (m : Memory) (claimed waiting queue : List ℕ) (b : Sound 
         go true h = record { sound = now.0; at = (same_after m (Status entry) a.0, taken_next s (with_flush m (Status entry)).kept claimed waiting queue now.0 cur.0 node.0 h.position h.link h.some (λ l. now.1)) }
         go false h = record { sound = now.0; at = (same_after m (Status entry) a.0, h, λ l. now.1) }
 
-    pub row_KeepResult : (node : NodeId) (mark : Token) (v : ℕ) → AtPoint s m claimed waiting told (FlushPoint (KeepResult (record { node = node; mark = mark; value = v })))
+    pub row_KeepResult : (node : NodeId) (mark : Token) (v : ℕ) → AtPoint s m claimed waiting told (FencePoint (KeepResult (record { node = node; mark = mark; value = v })))
         → RecoversAt s (with_flush m (result_of s.kind mark node v).place) claimed waiting queue told (RecoveryLoadNext (record { cur = node; moved = false }))
     row_KeepResult node mark v a =
         let p : Place = (result_of s.kind mark node v).place in
@@ -489,7 +503,7 @@ module _ (s : Shape) (m : Memory) (claimed waiting queue : List ℕ) (b : Sound 
           );
         }
 
-    pub row_KeepHead : (cur : NodeId) (n : Option NodeId) → AtPoint s m claimed waiting told (FlushPoint (KeepHead (record { cur = cur; unclaimed = n }))) → RecoversAt s (with_flush m Head) claimed waiting queue told (past_head cur n)
+    pub row_KeepHead : (cur : NodeId) (n : Option NodeId) → AtPoint s m claimed waiting told (FencePoint (KeepHead (record { cur = cur; unclaimed = n }))) → RecoversAt s (with_flush m Head) claimed waiting queue told (past_head cur n)
     row_KeepHead cur n a = go n (kept_head cur.0 n a.1 a.2)
       where
         same : Same (with_flush m Head)
@@ -512,7 +526,7 @@ module _ (s : Shape) (m : Memory) (claimed waiting queue : List ℕ) (b : Sound 
         go None r = record { sound = r.0; at = (same, record { taken = taken None r.1; none = r.1.next }) }
         go (Some x) r = record { sound = r.0; at = (same, taken_next s (with_flush m Head).kept claimed waiting queue r.0 cur.0 x.0 (taken (Some x) r.1) r.1.next.0 r.1.next.1 r.1.next.2) }
 
-    pub row_KeepTail : 0 < s.clients → told ≡ nothing_told → AtPoint s m claimed waiting told (FlushPoint (KeepTail (record {})))
+    pub row_KeepTail : 0 < s.clients → told ≡ nothing_told → AtPoint s m claimed waiting told (FencePoint (KeepTail (record {})))
         → RecoversAt s (with_flush m Tail) claimed waiting queue told (RecoveryLoadAnnouncement (record { client = record { 0 = 0 } }))
     row_KeepTail some untold a =
         let r : Sound s (with_flush m Tail).kept claimed waiting queue × LastNode s (with_flush m Tail).kept claimed a.1.cur = kept_tail a.1.cur a.1.cached a.1.last in

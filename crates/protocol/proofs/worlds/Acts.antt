@@ -22,7 +22,7 @@ use Rattle.stepper.specs.declared.resume.After.TheVariants.{More, Done}
 use Rattle.stepper.specs.declared.prepare.Begun.{Begun}
 use Rattle.helping.specs.Table.{access_of, begun_at}
 use Rattle.helping.specs.declared.op.Op.{Op}
-use Rattle.helping.specs.declared.op.Op.TheVariants.{PrepareFlush, DequeueLoadNext, Flush as FlushPoint}
+use Rattle.helping.specs.declared.op.Op.TheVariants.{PrepareFence, DequeueLoadNext, Fence as FencePoint}
 use Rattle.events.specs.Effects.{order_of}
 use Rattle.events.specs.History.{BeginsAt, EndsAt, IsOpenFrom, IsUnderWay, IsDown}
 use Rattle.events.specs.Trace.{IsEffect, IsNumberOf, queue_of}
@@ -97,8 +97,8 @@ module _ (w : World) (v : Working w) (p : Place) where
 
 -- the effects after a step
 pub step_noted : (w : World) (v : Working w) (i : ℕ) (u : UnderWay) → w.calls i ≡ Some u → (op : Op) → Knows w.shape w.memory (ledger_of w) i op → Noted w (effects_after w u op) (ledger_after w.shape w.memory (ledger_of w) i op)
-step_noted w v i u at (PrepareFlush p) h = keep_noted w v p.write.place
-step_noted w v i u at (FlushPoint k) h = keep_noted w v _
+step_noted w v i u at (PrepareFence p) h = keep_noted w v p.write.place
+step_noted w v i u at (FencePoint k) h = keep_noted w v _
 step_noted w v i u at (DequeueLoadNext p) h =
     looked_noted w v i u p.first.0 p.token.0 at (sym (ap (λ x. (record_of_call x).call) at) ∙ h.0.asks) h.0.before h.0.acting h.1
 step_noted w v i u at _ h = nothing_noted w v

@@ -40,7 +40,7 @@ use Rattle.protocol.specs.declared.UnderWay.{UnderWay}
 use Rattle.protocol.specs.Announced.{IsToldOfAnnounced}
 use Rattle.protocol.proofs.told.Issuing.{told_of_announced}
 use Rattle.protocol.specs.Kept.{TellsOf}
-use Rattle.protocol.specs.Measure.{weight, steps_left_at, steps_left}
+use Rattle.protocol.specs.Measure.{most_steps, weight, steps_left_at, steps_left}
 use Rattle.protocol.specs.Recovered.{end_of, IsRecovered}
 use Rattle.protocol.proofs.recovery.RecoveryBound.{IsLess, falls, few_at}
 use Rattle.arena.proofs.Chains.{distinct, parts_apart}
@@ -420,10 +420,10 @@ recovery_reads w v r e =
     reads_fit w.shape w.memory x.claimed x.waiting (queue_of w.log.events w.base w.log.effects) x.sound r x.at
 
 -- recovery never has more steps left than these, each of its steps takes one at least, and evictions take none
-pub few_left : (w : World) → Inv w → steps_left w ≤ 8 * greatest w.shape + 8 * w.shape.clients + 8
+pub few_left : (w : World) → Inv w → steps_left w ≤ most_steps w.shape
 few_left w v = go w.recovery v
   where
-    go : (r : Option Recovery) → InvAt w r → steps_left_at w.shape w.memory.cached r ≤ 8 * greatest w.shape + 8 * w.shape.clients + 8
+    go : (r : Option Recovery) → InvAt w r → steps_left_at w.shape w.memory.cached r ≤ most_steps w.shape
     go None h = omega arith
     go (Some r) h = few_at w.shape w.memory h.claimed h.waiting (queue_of w.log.events w.base w.log.effects) h.sound r h.at
 

@@ -12,7 +12,7 @@ use Rattle.words.specs.declared.told.Row.{Row}
 use Rattle.words.specs.declared.told.Row.TheVariants.{NoCall, Open, Empty as row_empty, Got as row_got}
 use Rattle.words.specs.declared.told.Told.{Told}
 use Rattle.words.specs.declared.told.Told.TheVariants.{None as told_none, Verdict as told_verdict, Row as told_row}
-use Rattle.persist.specs.Memory.{Access, Load, Store, Cas, Flush}
+use Rattle.persist.specs.Memory.{Access, Load, Store, Cas, Flush, Fence}
 use Rattle.arena.specs.Shape.{Shape}
 use Rattle.arena.specs.declared.place.Place.{Place}
 use Rattle.stepper.specs.declared.resume.After.{After}
@@ -61,7 +61,8 @@ access_kept m (Cas p old new) = go (m.cached p == old)
     go : (t : Bool) → KeptBy m (if t then with_store m p new else m)
     go true = inl refl
     go false = inl refl
-access_kept m (Flush p) = inr (record { p = p; same = refl })
+access_kept m (Flush p) = inl refl
+access_kept m (Fence p) = inr (record { p = p; same = refl })
 
 -- no call stands where the history ends
 pub none_at_end : (kind : Kind) (base : List ℕ) (told : List Told) (events : List Event) (effects : List Effect) → IsTrace kind base told events effects → InOrder (order_of effects) (length events) → ⊥

@@ -24,14 +24,15 @@ use Rattle.words.specs.declared.call.Kind.{Kind}
 use Rattle.words.specs.declared.call.Kind.TheVariants.{Durable, Log}
 use Rattle.words.specs.declared.call.Token.{Token}
 use Rattle.arena.specs.declared.codes.TheConstants.{EMPTY_STATUS, TAKEN_STATUS}
-use Rattle.recover.specs.Table.{access_of, successor, boot_recovery, taken_as, not_taken_as, no_call, report_of, recovery_at, recovery_after, point_at_the_end, point_past_status, to_node, to_mark, to_answer, to_outcome, past_head, node_at, token_at, IsPoint}
+use Rattle.recover.specs.Table.{access_of, successor, boot_recovery, taken_as, not_taken_as, no_call, report_of, recovery_at, recovery_after, point_at_the_end, point_past_status, to_node, to_mark, to_answer, to_outcome, past_head, node_at, token_at, IsPoint, kept_place, IsKeeping}
 use Rattle.words.specs.declared.call.Reply.TheVariants.{Done, Got, Empty}
 use Rattle.words.specs.declared.told.Outcome.TheVariants.{Taken}
 use Rattle.stepper.specs.declared.resume.After.TheVariants.{More, Done as Ready}
 use Rattle.recover.specs.declared.recovery.Recovery.{Recovery}
 use Rattle.recover.specs.declared.point.RecoveryPoint.{RecoveryPoint}
 use Rattle.recover.specs.declared.point.Report.{Report}
-use Rattle.recover.specs.declared.point.RecoveryPoint.TheVariants.{RecoveryLoadHead, RecoveryLoadNext, RecoveryLoadInsert, RecoveryStoreStatus, RecoveryLoadMark, RecoveryLoadValue, RecoveryStoreResult, RecoveryStoreHead, RecoveryStoreTail, RecoveryLoadAnnouncement, RecoveryLoadCell, RecoveryLoadNumber, RecoveryLoadKind, RecoveryLoadStatus, RecoveryLoadRemove, RecoveryLoadEntryNode, RecoveryLoadRemovedValue, Flush as FlushPoint}
+use Rattle.recover.specs.declared.point.RecoveryPoint.TheVariants.{RecoveryLoadHead, RecoveryLoadNext, RecoveryLoadInsert, RecoveryStoreStatus, RecoveryLoadMark, RecoveryLoadValue, RecoveryStoreResult, RecoveryStoreHead, RecoveryStoreTail, RecoveryLoadAnnouncement, RecoveryLoadCell, RecoveryLoadNumber, RecoveryLoadKind, RecoveryLoadStatus, RecoveryLoadRemove, RecoveryLoadEntryNode, RecoveryLoadRemovedValue, Flush as FlushPoint, Fence as FencePoint}
+use Rattle.recover.specs.declared.keeping.RecoveryKeeping.{RecoveryKeeping}
 use Rattle.recover.specs.declared.keeping.RecoveryKeeping.TheVariants.{Status as KeepStatus, Result as KeepResult, Head as KeepHead, Tail as KeepTail}
 use Rattle.events.specs.Effects.{order_of, settled_effects}
 use Rattle.events.specs.History.{BeginsAt, IsOpenFrom, IsDown}
@@ -66,7 +67,7 @@ use Rattle.protocol.proofs.told.Rightly.{KeptBy}
 use Rattle.protocol.proofs.worlds.ReadyWorlds.{access_kept, none_at_end}
 use Rattle.protocol.specs.invariants.Sound.{memory_at_rest, idle_ledger, Sound}
 use Rattle.protocol.proofs.recovery.Sound.{crash_sound, wake_base}
-use Rattle.protocol.specs.invariants.Recovery.{Same, SameBut, TakenTo, Position, Claim, Unclaimed, Announced, At, AtPoint, IsUntold, nothing_told}
+use Rattle.protocol.specs.invariants.Recovery.{Same, SameBut, TakenTo, Position, Claim, Unclaimed, Announced, At, AtKeeping, AtPoint, IsUntold, nothing_told}
 use Rattle.protocol.proofs.recovery.Recovering.{node_fits}
 use Rattle.protocol.proofs.recovery.RecoveryEnds.{answered_among, result_fits, Recovers, RecoversAt, RecoversOn, Woken, RecoversNext, but_stored, keep_at, hand_may, tells_kept, row_LoadNext, row_LoadMark, row_KeepStatus, row_KeepResult, row_KeepHead, row_KeepTail}
 use Rattle.protocol.proofs.recovery.RecoveryTelling.{tell, verdict_right, dequeue_entry, row_LoadAnnouncement, row_LoadCell, row_LoadStatus, row_LoadRemove, row_LoadEntryNode}
@@ -84,7 +85,8 @@ point_row s m claimed waiting queue b some told (RecoveryLoadInsert p) u a =
     record { sound = b; at = (a.0, a.1, a.2, a.0 (Insert p.node) ∙ insert) }
 point_row s m claimed waiting queue b some told (RecoveryStoreStatus p) u a =
     record { sound = b; at = (but_stored m (Status p.entry) 1 a.0, put_same m.cached (Status p.entry) 1, a.1, a.2, a.3) }
-point_row s m claimed waiting queue b some told (FlushPoint (KeepStatus p)) u a = row_KeepStatus s m claimed waiting queue b told p.cur p.node p.entry p.moved a
+point_row s m claimed waiting queue b some told (FlushPoint k) u a = record { sound = b; at = a }
+point_row s m claimed waiting queue b some told (FencePoint (KeepStatus p)) u a = row_KeepStatus s m claimed waiting queue b told p.cur p.node p.entry p.moved a
 point_row s m claimed waiting queue b some told (RecoveryLoadMark p) u a = row_LoadMark s m claimed waiting queue b told p.cur p.node a.0 a.1 a.2
 point_row s m claimed waiting queue b some told (RecoveryLoadValue p) u a = record { sound = b; at = (a.0, a.1, λ d. a.0 (Value p.node), subst (λ x. x ≤ 4294967295) (sym (a.0 (Value p.node))) (b.fits (Value p.node) tt)) }
 point_row s m claimed waiting queue b some told (RecoveryStoreResult p) u a =
@@ -99,12 +101,12 @@ point_row s m claimed waiting queue b some told (RecoveryStoreResult p) u a =
         a.3,
       );
     }
-point_row s m claimed waiting queue b some told (FlushPoint (KeepResult p)) u a = row_KeepResult s m claimed waiting queue b told p.node p.mark p.value a
+point_row s m claimed waiting queue b some told (FencePoint (KeepResult p)) u a = row_KeepResult s m claimed waiting queue b told p.node p.mark p.value a
 point_row s m claimed waiting queue b some told (RecoveryStoreHead p) u a = record { sound = b; at = (but_stored m Head p.cur.0 a.0, refl, a.1) }
-point_row s m claimed waiting queue b some told (FlushPoint (KeepHead p)) u a = row_KeepHead s m claimed waiting queue b told p.cur p.unclaimed a
+point_row s m claimed waiting queue b some told (FencePoint (KeepHead p)) u a = row_KeepHead s m claimed waiting queue b told p.cur p.unclaimed a
 point_row s m claimed waiting queue b some told (RecoveryStoreTail p) u a =
     record { sound = b; at = (but_stored m Tail p.cur.0 a.0, record { cur = p.cur.0; last = a.1; cached = refl }) }
-point_row s m claimed waiting queue b some told (FlushPoint (KeepTail p)) u a = row_KeepTail s m claimed waiting queue b told some u a
+point_row s m claimed waiting queue b some told (FencePoint (KeepTail p)) u a = row_KeepTail s m claimed waiting queue b told some u a
 point_row s m claimed waiting queue b some told (RecoveryLoadAnnouncement p) u a = row_LoadAnnouncement s m claimed waiting queue b p.client told a.0 a.1
 point_row s m claimed waiting queue b some told (RecoveryLoadCell p) u a = row_LoadCell s m claimed waiting queue b p.client p.token told a.0 a.1 a.2 a.3
 point_row s m claimed waiting queue b some told (RecoveryLoadNumber p) u a = record { sound = b; at = (a.0, a.1, a.2, a.3, a.0 (Number p.token)) }
@@ -159,7 +161,8 @@ untold_next s told (RecoveryLoadNext p) found u = go (found == 0)
     go false = untold_to_node told u s.kind p.cur (node_at found) p.moved
 untold_next s told (RecoveryLoadInsert p) found u = u
 untold_next s told (RecoveryStoreStatus p) found u = u
-untold_next s told (FlushPoint (KeepStatus p)) found u = untold_past_status told u p.cur p.node p.moved
+untold_next s told (FlushPoint k) found u = u
+untold_next s told (FencePoint (KeepStatus p)) found u = untold_past_status told u p.cur p.node p.moved
 untold_next s told (RecoveryLoadMark p) found u = go (found == 0)
   where
     go : (c : Bool) → IsUntold told (if c then RecoveryStoreHead (record { cur = p.cur; unclaimed = Some p.node }) else to_mark s.kind p.node (token_at found))
@@ -167,11 +170,11 @@ untold_next s told (RecoveryLoadMark p) found u = go (found == 0)
     go false = untold_to_mark told u s.kind p.node (token_at found)
 untold_next s told (RecoveryLoadValue p) found u = u
 untold_next s told (RecoveryStoreResult p) found u = u
-untold_next s told (FlushPoint (KeepResult p)) found u = u
+untold_next s told (FencePoint (KeepResult p)) found u = u
 untold_next s told (RecoveryStoreHead p) found u = u
-untold_next s told (FlushPoint (KeepHead p)) found u = untold_past_head told u p.cur p.unclaimed
+untold_next s told (FencePoint (KeepHead p)) found u = untold_past_head told u p.cur p.unclaimed
 untold_next s told (RecoveryStoreTail p) found u = u
-untold_next s told (FlushPoint (KeepTail p)) found u = tt
+untold_next s told (FencePoint (KeepTail p)) found u = tt
 untold_next s told (RecoveryLoadAnnouncement p) found u = go (found == 0)
   where
     go : (c : Bool) → IsUntoldOn told (if c then report_of p.client (no_call s.kind) else More (to_answer s.kind p.client (token_at found)))
@@ -502,22 +505,26 @@ module _ (s : Shape) (m : Memory) (claimed waiting queue : List ℕ) (b : Sound 
   unclaimed_fits cur None u = tt
   unclaimed_fits cur (Some n) u = link_fits cur n.0 u.0
 
+  keeping_fits : (k : RecoveryKeeping) → AtKeeping s m claimed k → IsKeeping s k
+  keeping_fits (KeepStatus p) a =
+      (a.3, position_fits p.moved p.cur.0 a.2.position, link_fits p.cur.0 p.node.0 a.2.link, subst (IsRecord s) (sym a.4) (omega (arith, a.2.some), link_fits p.cur.0 p.node.0 a.2.link))
+  keeping_fits (KeepResult p) a = (link_fits a.2.cur p.node.0 a.2.ahead.link, mark_fits p.node.0 p.mark.0 a.2, a.4)
+  keeping_fits (KeepHead p) a = (answered_fits p.cur.0 a.2.answered, unclaimed_fits p.cur.0 p.unclaimed a.2.next)
+  keeping_fits (KeepTail p) a = tt
+
   point_fits_at : (told : List Told) (at : RecoveryPoint) → AtPoint s m claimed waiting told at → IsPoint s at
   point_fits_at told (RecoveryLoadHead p) a = tt
   point_fits_at told (RecoveryLoadNext p) a = position_fits p.moved p.cur.0 a.1
   point_fits_at told (RecoveryLoadInsert p) a = (a.2, position_fits p.moved p.cur.0 a.1.position, link_fits p.cur.0 p.node.0 a.1.link)
   point_fits_at told (RecoveryStoreStatus p) a =
       (a.2, position_fits p.moved p.cur.0 a.1.position, link_fits p.cur.0 p.node.0 a.1.link, subst (IsRecord s) (sym a.3) (omega (arith, a.1.some), link_fits p.cur.0 p.node.0 a.1.link))
-  point_fits_at told (FlushPoint (KeepStatus p)) a =
-      (a.3, position_fits p.moved p.cur.0 a.2.position, link_fits p.cur.0 p.node.0 a.2.link, subst (IsRecord s) (sym a.4) (omega (arith, a.2.some), link_fits p.cur.0 p.node.0 a.2.link))
   point_fits_at told (RecoveryLoadMark p) a = (answered_fits p.cur.0 a.1.position, link_fits p.cur.0 p.node.0 a.1.link)
   point_fits_at told (RecoveryLoadValue p) a = (link_fits a.1.cur p.node.0 a.1.ahead.link, mark_fits p.node.0 p.mark.0 a.1)
   point_fits_at told (RecoveryStoreResult p) a = (link_fits a.1.cur p.node.0 a.1.ahead.link, mark_fits p.node.0 p.mark.0 a.1, a.3)
-  point_fits_at told (FlushPoint (KeepResult p)) a = (link_fits a.2.cur p.node.0 a.2.ahead.link, mark_fits p.node.0 p.mark.0 a.2, a.4)
   point_fits_at told (RecoveryStoreHead p) a = (answered_fits p.cur.0 a.1.answered, unclaimed_fits p.cur.0 p.unclaimed a.1.next)
-  point_fits_at told (FlushPoint (KeepHead p)) a = (answered_fits p.cur.0 a.2.answered, unclaimed_fits p.cur.0 p.unclaimed a.2.next)
   point_fits_at told (RecoveryStoreTail p) a = taken_fits p.cur.0 a.1.taken
-  point_fits_at told (FlushPoint (KeepTail p)) a = tt
+  point_fits_at told (FlushPoint k) a = keeping_fits k a
+  point_fits_at told (FencePoint k) a = keeping_fits k a
   point_fits_at told (RecoveryLoadAnnouncement p) a = a.1.below
   point_fits_at told (RecoveryLoadCell p) a = (a.3, a.1.below, token_fits p.client p.token.0 a.2)
   point_fits_at told (RecoveryLoadNumber p) a = (a.3, a.1.below, token_fits p.client p.token.0 a.2)
@@ -555,6 +562,13 @@ module _ (s : Shape) (m : Memory) (claimed waiting queue : List ℕ) (b : Sound 
   same_fits same p read = subst (Fits s p) (sym (same p)) (b.fits p read)
 
   -- each word that recovery reads is in range
+  kept_fits : (k : RecoveryKeeping) → AtKeeping s m claimed k → Fits s (kept_place s.kind k) (m.cached (kept_place s.kind k))
+  kept_fits (KeepStatus p) a = subst (λ x. x ≤ 2) (sym a.1) (omega arith)
+  kept_fits (KeepResult p) a =
+      subst (Fits s (result_of s.kind p.mark p.node p.value).place) (sym a.1) (result_fits s s.kind p.mark p.node p.value (λ d. a.4) (link_fits a.2.cur p.node.0 a.2.ahead.link))
+  kept_fits (KeepHead p) a = subst (λ x. x ≤ greatest s) (sym a.1) (answered_fits p.cur.0 a.2.answered)
+  kept_fits (KeepTail p) a = subst (λ x. x ≤ greatest s) (sym a.1.cached) (taken_fits a.1.cur a.1.last.taken)
+
   reads_fit_at : (told : List Told) (at : RecoveryPoint) → AtPoint s m claimed waiting told at → Fits s (place_of (access_of s.kind at)) (m.cached (place_of (access_of s.kind at)))
   reads_fit_at told (RecoveryLoadHead p) a = same_fits a Head tt
   reads_fit_at told (RecoveryLoadNext p) a = same_fits a.0 (Next p.cur) tt
@@ -563,17 +577,14 @@ module _ (s : Shape) (m : Memory) (claimed waiting queue : List ℕ) (b : Sound 
       let insert : inserts m.kept p.node.0 ≡ p.node.0 = subst (λ x. inserts m.kept x ≡ x) a.1.link ((b.records queue).enqueued a.2 p.cur.0 linked).insert.0 in
       subst (λ x. x ≤ greatest s) (sym (a.0 (Insert p.node) ∙ insert)) (link_fits p.cur.0 p.node.0 a.1.link)
   reads_fit_at told (RecoveryStoreStatus p) a = same_fits a.0 (Status p.entry) tt
-  reads_fit_at told (FlushPoint (KeepStatus p)) a = subst (λ x. x ≤ 2) (sym a.1) (omega arith)
   reads_fit_at told (RecoveryLoadMark p) a = same_fits a.0 (Mark p.node) tt
   reads_fit_at told (RecoveryLoadValue p) a = same_fits a.0 (Value p.node) tt
   reads_fit_at told (RecoveryStoreResult p) a =
       subst (Fits s (result_of s.kind p.mark p.node p.value).place) (sym (a.0 (result_of s.kind p.mark p.node p.value).place)) (result_word_fits p.node p.mark p.value a.1 s.kind refl)
-  reads_fit_at told (FlushPoint (KeepResult p)) a =
-      subst (Fits s (result_of s.kind p.mark p.node p.value).place) (sym a.1) (result_fits s s.kind p.mark p.node p.value (λ d. a.4) (link_fits a.2.cur p.node.0 a.2.ahead.link))
   reads_fit_at told (RecoveryStoreHead p) a = same_fits a.0 Head tt
-  reads_fit_at told (FlushPoint (KeepHead p)) a = subst (λ x. x ≤ greatest s) (sym a.1) (answered_fits p.cur.0 a.2.answered)
   reads_fit_at told (RecoveryStoreTail p) a = same_fits a.0 Tail tt
-  reads_fit_at told (FlushPoint (KeepTail p)) a = subst (λ x. x ≤ greatest s) (sym a.1.cached) (taken_fits a.1.cur a.1.last.taken)
+  reads_fit_at told (FlushPoint k) a = kept_fits k a
+  reads_fit_at told (FencePoint k) a = kept_fits k a
   reads_fit_at told (RecoveryLoadAnnouncement p) a = same_fits a.0 (Announcement p.client) tt
   reads_fit_at told (RecoveryLoadCell p) a = same_fits a.0 (Cell p.token) tt
   reads_fit_at told (RecoveryLoadNumber p) a = number_fits a.3 p.client.0 p.token.0 (m.cached (Number p.token)) a.2 (a.0 (Number p.token))
@@ -595,20 +606,24 @@ module _ (s : Shape) (m : Memory) (claimed waiting queue : List ℕ) (b : Sound 
   ]
 
   -- each word that calls will read is in range
+  all_fit_but : (k : RecoveryKeeping) → AtKeeping s m claimed k → AllFit s m.cached
+  all_fit_but (KeepStatus p) a = but_fits (Status p.entry) a.0 (kept_fits (KeepStatus p) a)
+  all_fit_but (KeepResult p) a = but_fits (result_of s.kind p.mark p.node p.value).place a.0 (kept_fits (KeepResult p) a)
+  all_fit_but (KeepHead p) a = but_fits Head a.0 (kept_fits (KeepHead p) a)
+  all_fit_but (KeepTail p) a = but_fits Tail a.0 (kept_fits (KeepTail p) a)
+
   all_fit_at : (told : List Told) (at : RecoveryPoint) → AtPoint s m claimed waiting told at → AllFit s m.cached
   all_fit_at told (RecoveryLoadHead p) a = same_fits a
   all_fit_at told (RecoveryLoadNext p) a = same_fits a.0
   all_fit_at told (RecoveryLoadInsert p) a = same_fits a.0
   all_fit_at told (RecoveryStoreStatus p) a = same_fits a.0
-  all_fit_at told (FlushPoint (KeepStatus p)) a = but_fits (Status p.entry) a.0 (reads_fit_at told (FlushPoint (KeepStatus p)) a)
   all_fit_at told (RecoveryLoadMark p) a = same_fits a.0
   all_fit_at told (RecoveryLoadValue p) a = same_fits a.0
   all_fit_at told (RecoveryStoreResult p) a = same_fits a.0
-  all_fit_at told (FlushPoint (KeepResult p)) a = but_fits (result_of s.kind p.mark p.node p.value).place a.0 (reads_fit_at told (FlushPoint (KeepResult p)) a)
   all_fit_at told (RecoveryStoreHead p) a = same_fits a.0
-  all_fit_at told (FlushPoint (KeepHead p)) a = but_fits Head a.0 (reads_fit_at told (FlushPoint (KeepHead p)) a)
   all_fit_at told (RecoveryStoreTail p) a = same_fits a.0
-  all_fit_at told (FlushPoint (KeepTail p)) a = but_fits Tail a.0 (reads_fit_at told (FlushPoint (KeepTail p)) a)
+  all_fit_at told (FlushPoint k) a = all_fit_but k a
+  all_fit_at told (FencePoint k) a = all_fit_but k a
   all_fit_at told (RecoveryLoadAnnouncement p) a = same_fits a.0
   all_fit_at told (RecoveryLoadCell p) a = same_fits a.0
   all_fit_at told (RecoveryLoadNumber p) a = same_fits a.0
