@@ -5,7 +5,7 @@ use Rattle.std.proofs.lemmas.Bool.Decides.{nat_tests}
 use mathlib.Core.Path.{fun_ext}
 use Rattle.words.specs.declared.call.Kind.{Kind}
 use Rattle.words.specs.declared.call.Kind.TheVariants.{Durable, Log}
-use Rattle.persist.specs.Memory.{Words, Access, Load, Store, Cas, Flush, words_after_access, words_after_store, words_after_eviction}
+use Rattle.persist.specs.Memory.{Words, Access, Load, Store, Cas, Flush, Fence, words_after_access, words_after_store, words_after_eviction}
 use Rattle.arena.specs.Layout.{size_of, word_at}
 use Rattle.arena.specs.Shape.{Shape, greatest}
 use Rattle.arena.specs.Place.{IsPlace, is_same, is_same-true}
@@ -89,7 +89,8 @@ shown_accessed s ws (Cas p old new) hp long_c long_k =
     go : (b : Bool) → memory_by_place s (words_after_access (if b then words_after_store (word_at s p) new ws else ws)) ≡ (if b then with_store (memory_by_place s ws) p new else memory_by_place s ws)
     go true = ap (λ f. record { cached = f; kept = value_of_place s ws.kept }) (shown_written s ws.cached p new hp long_c)
     go false = refl
-shown_accessed s ws (Flush p) hp long_c long_k = shown_evicted s ws p hp long_k
+shown_accessed s ws (Flush p) hp long_c long_k = refl
+shown_accessed s ws (Fence p) hp long_c long_k = shown_evicted s ws p hp long_k
 
 pub zero_at : (n w : ℕ) → slice_index (replicate n 0) w ≡ 0
 zero_at zero w = refl
