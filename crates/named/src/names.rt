@@ -7,7 +7,7 @@ ghost use Rattle.named.specs.Brokers.{is_creating, is_down, world_at, quiet, IsB
 ghost use Rattle.named.specs.GoingOn.{BrokerGoesOn};
 ghost use Rattle.named.specs.Promises.{KeepsPromises};
 
-use crate::broker::Broker;
+use crate::broker::{Broker, CREATION_PORT};
 use crate::slot::Slot;
 use arena::SlotId;
 use directory::{Creation, Name, Places, Queue};
@@ -85,7 +85,7 @@ impl Broker {
         Ok(())
     }
 
-    /// One step of the creation: exactly one access. The eighth opens the slot, and answers it. It is refused, in this
+    /// One step of the creation: exactly one access. The twelfth opens the slot, and answers it. It is refused, in this
     /// order, while recovery is under way (NotReady), and where no creation is (Idle).
     pub fn create_step(&mut self) -> Result<Option<SlotId>, Refusal>
         ensures down { is_down self.old ≡ true → result ≡ Err Refusal.NotReady }
@@ -104,7 +104,8 @@ impl Broker {
             return Err(Refusal::Idle);
         };
         let queue = creation.queue;
-        let after = creation.step(&self.layout, &mut self.memory);
+        let mut port = self.memory.port(CREATION_PORT).unwrap();
+        let after = creation.step(&self.layout, &mut port);
         match after {
             After::More(next) => {
                 self.creation = Some(next);

@@ -29,7 +29,7 @@ invariant_of-result c =
 
 pub returns-clause-booted : goal.returns-clause-booted
 returns-clause-booted c =
-    let ws : Words = c.args.memory in
+    let ws : Words = c.args.memory.words in
     let layout = c.in_ok-kept.kept.layout in
     let directory = c.in_ok-kept.kept.directory in
     record {

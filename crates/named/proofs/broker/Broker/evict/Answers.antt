@@ -15,44 +15,44 @@ use Rattle.named.proofs.broker.Broker.evict.Goals as goal
 
 pub evict-requires-clause-well : goal.evict-requires-clause-well
 evict-requires-clause-well c =
-    let b : Brokered = record { counts = c.self.inside.layout; words = c.self.inside.memory; slots = c.self.inside.slots.items; directory = c.self.inside.directory; creation = c.self.inside.creation; recovery = c.self.inside.recovery } in
+    let b : Brokered = record { counts = c.self.inside.layout; words = c.self.inside.memory.words; slots = c.self.inside.slots.items; directory = c.self.inside.directory; creation = c.self.inside.creation; recovery = c.self.inside.recovery } in
     let i = c.in-Some.slot.0 in
     let was = c.index_mut.result.now in
-    let here = slice_get_read b.slots 8 i was (sym c.self.invariant.count) c.in-Some.ensures.in_range c.index_mut.ensures.value in
-    slot_is_well b.counts b.words i was (c.self.invariant.slots i was here)
+    let here = slice_get_read b.slots 8 i was (sym c.self.invariant.well.count) c.in-Some.ensures.in_range c.index_mut.ensures.value in
+    slot_is_well b.counts b.words i was (c.self.invariant.well.slots i was here)
 
 pub evict-requires-clause-block : goal.evict-requires-clause-block
 evict-requires-clause-block c =
-    let b : Brokered = record { counts = c.self.inside.layout; words = c.self.inside.memory; slots = c.self.inside.slots.items; directory = c.self.inside.directory; creation = c.self.inside.creation; recovery = c.self.inside.recovery } in
+    let b : Brokered = record { counts = c.self.inside.layout; words = c.self.inside.memory.words; slots = c.self.inside.slots.items; directory = c.self.inside.directory; creation = c.self.inside.creation; recovery = c.self.inside.recovery } in
     let i = c.in-Some.slot.0 in
     let was = c.index_mut.result.now in
-    let here = slice_get_read b.slots 8 i was (sym c.self.invariant.count) c.in-Some.ensures.in_range c.index_mut.ensures.value in
-    word_of_block b.counts i c.args.word b.words was (c.self.invariant.slots i was here) c.in-Some.ensures.low c.in-Some.ensures.high
+    let here = slice_get_read b.slots 8 i was (sym c.self.invariant.well.count) c.in-Some.ensures.in_range c.index_mut.ensures.value in
+    word_of_block b.counts i c.args.word b.words was (c.self.invariant.well.slots i was here) c.in-Some.ensures.low c.in-Some.ensures.high
 
 pub invariant_of-self : goal.invariant_of-self
 invariant_of-self c =
-    let b : Brokered = record { counts = c.self.inside.layout; words = c.self.inside.memory; slots = c.self.inside.slots.items; directory = c.self.inside.directory; creation = c.self.inside.creation; recovery = c.self.inside.recovery } in
+    let b : Brokered = record { counts = c.self.inside.layout; words = c.self.inside.memory.words; slots = c.self.inside.slots.items; directory = c.self.inside.directory; creation = c.self.inside.creation; recovery = c.self.inside.recovery } in
     let i = c.in-Some.slot.0 in
     let was = c.index_mut.result.now in
-    let here = slice_get_read b.slots 8 i was (sym c.self.invariant.count) c.in-Some.ensures.in_range c.index_mut.ensures.value in
-    let outside = outside_evicted b.counts i c.args.word b.words c.evict.new.memory was (c.self.invariant.slots i was here) c.in-Some.ensures.low c.in-Some.ensures.high c.evict.ensures.outside in
-    still_well b i was c.evict.new.self c.evict.new.memory c.self.invariant here c.evict.ensures.well outside c.evict.ensures.same c.evict.ensures.as_ready
+    let here = slice_get_read b.slots 8 i was (sym c.self.invariant.well.count) c.in-Some.ensures.in_range c.index_mut.ensures.value in
+    let outside = outside_evicted b.counts i c.args.word b.words c.evict.new.memory.words was (c.self.invariant.well.slots i was here) c.in-Some.ensures.low c.in-Some.ensures.high c.evict.ensures.outside in
+    still_well b i was c.evict.new.self c.evict.new.memory.words c.self.invariant.well here c.evict.ensures.well outside c.evict.ensures.same c.evict.ensures.as_ready
 
 pub returns-in-Some-clause-worlds : goal.returns-in-Some-clause-worlds
 returns-in-Some-clause-worlds c = λ slot.
-    let b : Brokered = record { counts = c.self.inside.layout; words = c.self.inside.memory; slots = c.self.inside.slots.items; directory = c.self.inside.directory; creation = c.self.inside.creation; recovery = c.self.inside.recovery } in
+    let b : Brokered = record { counts = c.self.inside.layout; words = c.self.inside.memory.words; slots = c.self.inside.slots.items; directory = c.self.inside.directory; creation = c.self.inside.creation; recovery = c.self.inside.recovery } in
     let i = c.in-Some.slot.0 in
     let was = c.index_mut.result.now in
-    let here = slice_get_read b.slots 8 i was (sym c.self.invariant.count) c.in-Some.ensures.in_range c.index_mut.ensures.value in
-    worlds_within b i c.args.word was c.evict.new.self c.evict.new.memory c.self.invariant here c.in-Some.ensures.low c.in-Some.ensures.high c.evict.ensures.words c.evict.ensures.world slot
+    let here = slice_get_read b.slots 8 i was (sym c.self.invariant.well.count) c.in-Some.ensures.in_range c.index_mut.ensures.value in
+    worlds_within b i c.args.word was c.evict.new.self c.evict.new.memory.words c.self.invariant.well here c.in-Some.ensures.low c.in-Some.ensures.high c.evict.ensures.words c.evict.ensures.world slot
     ∙ ap (λ (x : Brokered). acted (world_evicted x.counts slot c.args.word) (world_at x slot)) c.self.view_is
 
 pub returns-in-Some-clause-room : goal.returns-in-Some-clause-room
 returns-in-Some-clause-room c = λ slot.
-    let b : Brokered = record { counts = c.self.inside.layout; words = c.self.inside.memory; slots = c.self.inside.slots.items; directory = c.self.inside.directory; creation = c.self.inside.creation; recovery = c.self.inside.recovery } in
+    let b : Brokered = record { counts = c.self.inside.layout; words = c.self.inside.memory.words; slots = c.self.inside.slots.items; directory = c.self.inside.directory; creation = c.self.inside.creation; recovery = c.self.inside.recovery } in
     let i = c.in-Some.slot.0 in
     let was = c.index_mut.result.now in
-    let here = slice_get_read b.slots 8 i was (sym c.self.invariant.count) c.in-Some.ensures.in_range c.index_mut.ensures.value in
+    let here = slice_get_read b.slots 8 i was (sym c.self.invariant.well.count) c.in-Some.ensures.in_range c.index_mut.ensures.value in
     let go : (slot ≡ i) ⊎ (slot ≡ i → ⊥) → room_of (slice_get (slice_set b.slots i c.evict.new.self) slot) ≡ room_of (slice_get b.slots slot) = elim [
       | inl e ↦ subst (λ (n : ℕ). room_of (slice_get (slice_set b.slots i c.evict.new.self) n) ≡ room_of (slice_get b.slots n)) (sym e)
           (ap room_of (get_set b.slots i c.evict.new.self (slice_get_within b.slots i was here)) ∙ c.evict.ensures.room ∙ sym (ap room_of here))
@@ -62,20 +62,20 @@ returns-in-Some-clause-room c = λ slot.
 
 pub invariant_of-self-in-None : goal.invariant_of-self-in-None
 invariant_of-self-in-None c =
-    let b : Brokered = record { counts = c.self.inside.layout; words = c.self.inside.memory; slots = c.self.inside.slots.items; directory = c.self.inside.directory; creation = c.self.inside.creation; recovery = c.self.inside.recovery } in
+    let b : Brokered = record { counts = c.self.inside.layout; words = c.self.inside.memory.words; slots = c.self.inside.slots.items; directory = c.self.inside.directory; creation = c.self.inside.creation; recovery = c.self.inside.recovery } in
     let outside : IsInNoBlock b.counts c.args.word = search rules in
     let go : IsInNoBlock b.counts c.args.word → IsWell (record b { words = c.evict-in-None.new.self }) = elim [
-      | inl low ↦ subst (λ (w : Words). let x : Brokered = record b { words = w } in IsWell x) (sym (c.evict-in-None.ensures.done (omega (arith, low, c.self.invariant.room.cached)))) (well_before b c.args.word c.self.invariant low)
-      | inr past ↦ subst (λ (w : Words). let x : Brokered = record b { words = w } in IsWell x) (sym (c.evict-in-None.ensures.same (omega (arith, past, c.self.invariant.room.cached)))) c.self.invariant
+      | inl low ↦ subst (λ (w : Words). let x : Brokered = record b { words = w } in IsWell x) (sym (c.evict-in-None.ensures.done (omega (arith, low, c.self.invariant.well.room.cached)))) (well_before b c.args.word c.self.invariant.well low)
+      | inr past ↦ subst (λ (w : Words). let x : Brokered = record b { words = w } in IsWell x) (sym (c.evict-in-None.ensures.same (omega (arith, past, c.self.invariant.well.room.cached)))) c.self.invariant.well
     ] in go outside
 
 pub returns-in-None-clause-worlds : goal.returns-in-None-clause-worlds
 returns-in-None-clause-worlds c = λ slot.
-    let b : Brokered = record { counts = c.self.inside.layout; words = c.self.inside.memory; slots = c.self.inside.slots.items; directory = c.self.inside.directory; creation = c.self.inside.creation; recovery = c.self.inside.recovery } in
+    let b : Brokered = record { counts = c.self.inside.layout; words = c.self.inside.memory.words; slots = c.self.inside.slots.items; directory = c.self.inside.directory; creation = c.self.inside.creation; recovery = c.self.inside.recovery } in
     let outside : IsInNoBlock b.counts c.args.word = search rules in
     let go : IsInNoBlock b.counts c.args.word → world_of c.evict-in-None.new.self (slice_get b.slots slot) ≡ acted (world_evicted b.counts slot c.args.word) (world_at b slot) = elim [
-      | inl low ↦ ap (λ (w : Words). world_of w (slice_get b.slots slot)) (c.evict-in-None.ensures.done (omega (arith, low, c.self.invariant.room.cached))) ∙ worlds_before b c.args.word c.self.invariant low slot
-      | inr past ↦ ap (λ (w : Words). world_of w (slice_get b.slots slot)) (c.evict-in-None.ensures.same (omega (arith, past, c.self.invariant.room.cached))) ∙ worlds_past b c.args.word c.self.invariant past slot
+      | inl low ↦ ap (λ (w : Words). world_of w (slice_get b.slots slot)) (c.evict-in-None.ensures.done (omega (arith, low, c.self.invariant.well.room.cached))) ∙ worlds_before b c.args.word c.self.invariant.well low slot
+      | inr past ↦ ap (λ (w : Words). world_of w (slice_get b.slots slot)) (c.evict-in-None.ensures.same (omega (arith, past, c.self.invariant.well.room.cached))) ∙ worlds_past b c.args.word c.self.invariant.well past slot
     ] in go outside ∙ ap (λ (x : Brokered). acted (world_evicted x.counts slot c.args.word) (world_at x slot)) c.self.view_is
 
 pub returns-in-Some-clause-promises : goal.returns-in-Some-clause-promises
@@ -86,34 +86,34 @@ returns-in-None-clause-promises c = promises_well _ (invariant_of-self-in-None c
 
 pub returns-in-Some-clause-left : goal.returns-in-Some-clause-left
 returns-in-Some-clause-left c =
-    let b : Brokered = record { counts = c.self.inside.layout; words = c.self.inside.memory; slots = c.self.inside.slots.items; directory = c.self.inside.directory; creation = c.self.inside.creation; recovery = c.self.inside.recovery } in
-    let new : Brokered = record b { words = c.evict.new.memory; slots = slice_set b.slots c.in-Some.slot.0 c.evict.new.self } in
+    let b : Brokered = record { counts = c.self.inside.layout; words = c.self.inside.memory.words; slots = c.self.inside.slots.items; directory = c.self.inside.directory; creation = c.self.inside.creation; recovery = c.self.inside.recovery } in
+    let new : Brokered = record b { words = c.evict.new.memory.words; slots = slice_set b.slots c.in-Some.slot.0 c.evict.new.self } in
     let kept : new.words.kept ≡ (words_after_eviction c.args.word c.args.self.now.words).kept = c.evict.ensures.words.kept ∙ ap (λ (x : Brokered). (words_after_eviction c.args.word x.words).kept) c.self.view_is in
-    left_evicted c.args.self.now new c.args.word (subst IsWell c.self.view_is c.self.invariant)
+    left_evicted c.args.self.now new c.args.word (subst IsWell c.self.view_is c.self.invariant.well)
     (ap (λ (x : Brokered). let y : Brokered = record x { words = new.words; slots = new.slots } in y) c.self.view_is) (inl kept) (returns-in-Some-clause-worlds c)
 
 pub returns-in-Some-clause-downtime : goal.returns-in-Some-clause-downtime
 returns-in-Some-clause-downtime c =
-    let b : Brokered = record { counts = c.self.inside.layout; words = c.self.inside.memory; slots = c.self.inside.slots.items; directory = c.self.inside.directory; creation = c.self.inside.creation; recovery = c.self.inside.recovery } in
-    let new : Brokered = record b { words = c.evict.new.memory; slots = slice_set b.slots c.in-Some.slot.0 c.evict.new.self } in
-    eviction_downtime c.args.self.now new c.args.word (subst IsWell c.self.view_is c.self.invariant)
+    let b : Brokered = record { counts = c.self.inside.layout; words = c.self.inside.memory.words; slots = c.self.inside.slots.items; directory = c.self.inside.directory; creation = c.self.inside.creation; recovery = c.self.inside.recovery } in
+    let new : Brokered = record b { words = c.evict.new.memory.words; slots = slice_set b.slots c.in-Some.slot.0 c.evict.new.self } in
+    eviction_downtime c.args.self.now new c.args.word (subst IsWell c.self.view_is c.self.invariant.well)
     (ap (λ (x : Brokered). let y : Brokered = record x { words = new.words; slots = new.slots } in y) c.self.view_is) (returns-in-Some-clause-worlds c)
 
 pub returns-in-None-clause-left : goal.returns-in-None-clause-left
 returns-in-None-clause-left c =
-    let b : Brokered = record { counts = c.self.inside.layout; words = c.self.inside.memory; slots = c.self.inside.slots.items; directory = c.self.inside.directory; creation = c.self.inside.creation; recovery = c.self.inside.recovery } in
+    let b : Brokered = record { counts = c.self.inside.layout; words = c.self.inside.memory.words; slots = c.self.inside.slots.items; directory = c.self.inside.directory; creation = c.self.inside.creation; recovery = c.self.inside.recovery } in
     let new : Brokered = record b { words = c.evict-in-None.new.self } in
     let outside : IsInNoBlock b.counts c.args.word = search rules in
     let kept : (new.words.kept ≡ (words_after_eviction c.args.word c.args.self.now.words).kept) ⊎ (new.words.kept ≡ c.args.self.now.words.kept) = elim outside [
-      | inl low ↦ inl (ap (λ (w : Words). w.kept) (c.evict-in-None.ensures.done (omega (arith, low, c.self.invariant.room.cached))) ∙ ap (λ (x : Brokered). (words_after_eviction c.args.word x.words).kept) c.self.view_is)
-      | inr past ↦ inr (ap (λ (w : Words). w.kept) (c.evict-in-None.ensures.same (omega (arith, past, c.self.invariant.room.cached))) ∙ ap (λ (x : Brokered). x.words.kept) c.self.view_is)
+      | inl low ↦ inl (ap (λ (w : Words). w.kept) (c.evict-in-None.ensures.done (omega (arith, low, c.self.invariant.well.room.cached))) ∙ ap (λ (x : Brokered). (words_after_eviction c.args.word x.words).kept) c.self.view_is)
+      | inr past ↦ inr (ap (λ (w : Words). w.kept) (c.evict-in-None.ensures.same (omega (arith, past, c.self.invariant.well.room.cached))) ∙ ap (λ (x : Brokered). x.words.kept) c.self.view_is)
     ] in
-    left_evicted c.args.self.now new c.args.word (subst IsWell c.self.view_is c.self.invariant)
+    left_evicted c.args.self.now new c.args.word (subst IsWell c.self.view_is c.self.invariant.well)
     (ap (λ (x : Brokered). let y : Brokered = record x { words = new.words; slots = new.slots } in y) c.self.view_is) kept (returns-in-None-clause-worlds c)
 
 pub returns-in-None-clause-downtime : goal.returns-in-None-clause-downtime
 returns-in-None-clause-downtime c =
-    let b : Brokered = record { counts = c.self.inside.layout; words = c.self.inside.memory; slots = c.self.inside.slots.items; directory = c.self.inside.directory; creation = c.self.inside.creation; recovery = c.self.inside.recovery } in
+    let b : Brokered = record { counts = c.self.inside.layout; words = c.self.inside.memory.words; slots = c.self.inside.slots.items; directory = c.self.inside.directory; creation = c.self.inside.creation; recovery = c.self.inside.recovery } in
     let new : Brokered = record b { words = c.evict-in-None.new.self } in
-    eviction_downtime c.args.self.now new c.args.word (subst IsWell c.self.view_is c.self.invariant)
+    eviction_downtime c.args.self.now new c.args.word (subst IsWell c.self.view_is c.self.invariant.well)
     (ap (λ (x : Brokered). let y : Brokered = record x { words = new.words; slots = new.slots } in y) c.self.view_is) (returns-in-None-clause-worlds c)
