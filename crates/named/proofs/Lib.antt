@@ -5,6 +5,7 @@ pub mod EvictedWell
 pub mod Evicted
 pub mod Stays
 pub mod Windows
+pub mod Askings
 pub mod Kept
 pub mod Reserved
 pub mod Begun

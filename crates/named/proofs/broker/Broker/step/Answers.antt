@@ -9,7 +9,8 @@ use Rattle.interleave.proofs.AloneLaws.{get_set}
 use Rattle.named.specs.Slots.{room_in}
 use Rattle.named.specs.Brokers.{Brokered, IsWell, admission, room_at, room_of, world_at, quiet, world_after, answer_at}
 use Rattle.named.proofs.GoingOn.{client_goes_on, broker_stays}
-use Rattle.named.proofs.Kept.{directory_as_it_was, get_set_other, same_directory, slot_is_well, still_well, others_stay, world_done, answer_done}
+use Rattle.named.proofs.Askings.{acted_asked, admitted_client, creation_waits, slot_asked_here}
+use Rattle.named.proofs.Kept.{slot_now, directory_as_it_was, get_set_other, same_directory, slot_is_well, still_well, others_stay, world_done, answer_done}
 use Rattle.named.proofs.Promises.{promises_kept, promises_well}
 use Rattle.named.proofs.broker.Broker.step.Goals as goal
 
@@ -17,13 +18,26 @@ pub step-requires : goal.step-requires
 step-requires c =
     let here = slice_get_read c.self.inside.slots.items 8 c.args.slot.0 c.index_mut.result.now (sym c.self.invariant.well.count) c.if-slot-ge-SLOTS.false c.index_mut.ensures.value in
     let b : Brokered = record { counts = c.self.inside.layout; words = c.self.inside.memory.words; slots = c.self.inside.slots.items; directory = c.self.inside.directory; creation = c.self.inside.creation; recovery = c.self.inside.recovery } in
-    slot_is_well c.self.inside.layout c.self.inside.memory.words c.args.slot.0 c.index_mut.result.now (c.self.invariant.well.slots c.args.slot.0 c.index_mut.result.now here)
+    let at = c.self.invariant.well.slots c.args.slot.0 c.index_mut.result.now here in
+    record {
+      well = slot_is_well b.counts b.words c.args.slot.0 c.index_mut.result.now at;
+      asked = slot_asked_here b c.self.inside.memory c.args.slot.0 c.index_mut.result.now c.self.invariant here;
+      client = admitted_client b c.args.client c.self.invariant.well (ap (λ (x : Brokered). admission x c.args.client) c.self.view_is ∙ sym c.admit.ensures ∙ c.in_ok-admit.was);
+    }
 
 pub invariant_of-self : goal.invariant_of-self
 invariant_of-self c =
     let here = slice_get_read c.self.inside.slots.items 8 c.args.slot.0 c.index_mut.result.now (sym c.self.invariant.well.count) c.if-slot-ge-SLOTS.false c.index_mut.ensures.value in
     let b : Brokered = record { counts = c.self.inside.layout; words = c.self.inside.memory.words; slots = c.self.inside.slots.items; directory = c.self.inside.directory; creation = c.self.inside.creation; recovery = c.self.inside.recovery } in
-    still_well b c.args.slot.0 c.index_mut.result.now c.step.new.self c.step.new.memory.words c.self.invariant.well here c.step.ensures.well c.step.ensures.outside c.step.ensures.same c.step.ensures.as_ready
+    let new = c.step.new.memory in
+    let e = c.step.ensures in
+    record {
+      well = still_well b c.args.slot.0 c.index_mut.result.now c.step.new.self new.words c.self.invariant.well here e.well e.outside e.same e.as_ready;
+      slots = acted_asked b c.self.inside.memory new c.args.slot.0 c.index_mut.result.now c.step.new.self c.self.invariant here c.if-slot-ge-SLOTS.false e.beside new.words
+          (slot_now b.counts b.words new.words c.args.slot.0 c.index_mut.result.now c.step.new.self (c.self.invariant.well.slots c.args.slot.0 c.index_mut.result.now here) e.well e.same e.outside)
+          e.asked (λ j ne. others_stay b c.args.slot.0 c.index_mut.result.now c.step.new.self new.words c.self.invariant.well here e.well e.outside e.same j ne);
+      creation = creation_waits b c.self.inside.memory new c.args.slot.0 c.index_mut.result.now c.step.new.self c.self.invariant here c.if-slot-ge-SLOTS.false e.beside;
+    }
 
 pub returns-clause-others : goal.returns-clause-others
 returns-clause-others c = λ i ne.
@@ -88,7 +102,7 @@ pub returns-then-slot-ge-SLOTS-clause-promises : goal.returns-then-slot-ge-SLOTS
 returns-then-slot-ge-SLOTS-clause-promises c = promises_kept _ _ c.self.invariant.well c.self.view_is
 
 pub returns-clause-promises : goal.returns-clause-promises
-returns-clause-promises c = promises_well _ (invariant_of-self c)
+returns-clause-promises c = promises_well _ (invariant_of-self c).well
 
 pub returns-in_err-admit-clause-directory_words : goal.returns-in_err-admit-clause-directory_words
 returns-in_err-admit-clause-directory_words c = directory_as_it_was _ _ c.self.invariant.well c.self.view_is
