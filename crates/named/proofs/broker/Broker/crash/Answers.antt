@@ -14,6 +14,7 @@ use Rattle.named.specs.declared.slot.Slot.{Slot}
 use Rattle.named.proofs.Downtimes.{crash_downtime}
 use Rattle.named.proofs.GoingOn.{crash_goes_on, same_goes_on}
 use Rattle.named.proofs.Stopped.{few_in_each, rooms_roomier, rooms_stopped, well_roomier, well_stopped, worlds_roomier, worlds_stopped}
+use Rattle.named.proofs.Askings.{same_asked, stopped_asked}
 use Rattle.named.proofs.Promises.{promises_well}
 use Rattle.named.proofs.broker.Broker.crash.Goals as goal
 
@@ -28,7 +29,11 @@ invariant_of-self c =
     let more : List Slot = c.reserve_each.new.slots in
     let each : EachBecame HasMoreRoom b.slots more = subst (λ (l : List Slot). EachBecame HasMoreRoom l more) c.deref_mut.ensures.value c.reserve_each.ensures.same in
     let written : (with_items c.self.inside.slots more).items ≡ more = with_items_is c.self.inside.slots more (each.count ∙ sym c.self.inside.slots.ok.0) in
-    subst (λ (l : List Slot). let y : Brokered = record b { slots = l } in IsWell y) (sym written) (well_roomier b more c.self.invariant.well each)
+    record {
+      well = subst (λ (l : List Slot). let y : Brokered = record b { slots = l } in IsWell y) (sym written) (well_roomier b more c.self.invariant.well each);
+      slots = λ at. same_asked b.counts c.self.inside.memory at (world_at b at) _ (ap (λ (l : List Slot). world_of b.words (slice_get l at)) written ∙ worlds_roomier b more c.self.invariant.well each at) (c.self.invariant.slots at);
+      creation = c.self.invariant.creation;
+    }
 
 pub returns-in_err-reserve_each-clause-same : goal.returns-in_err-reserve_each-clause-same
 returns-in_err-reserve_each-clause-same c =
@@ -72,10 +77,16 @@ invariant_of-self-2 c =
     let each2 : EachBecame HasStopped more stopped = subst (λ (l : List Slot). EachBecame HasStopped l stopped) (c.deref_mut-2.ensures.value ∙ written) (record { count = c.stop_each.ensures.count; each = c.stop_each.ensures.each }) in
     let written2 : (with_items (with_items c.self.inside.slots more) stopped).items ≡ stopped = with_items_is (with_items c.self.inside.slots more) stopped (each2.count ∙ each.count ∙ sym c.self.inside.slots.ok.0) in
     let r : Option BrokerRecovery = Some (ReadDirectory c.boot.result) in
-    subst (λ (ws : Words). let y : Brokered = record { counts = b.counts; words = ws; slots = (with_items (with_items c.self.inside.slots more) stopped).items; directory = b.directory; creation = b.creation; recovery = r } in IsWell y) (sym c.crash.ensures)
-    (subst (λ (l : List Slot). let y : Brokered = record { counts = b.counts; words = words_after_crash b.words; slots = l; directory = b.directory; creation = b.creation; recovery = r } in IsWell y) (sym written2)
-    (subst (λ (o : Option BrokerRecovery). let y : Brokered = record { counts = b.counts; words = words_after_crash b.words; slots = stopped; directory = b.directory; creation = b.creation; recovery = o } in IsWell y) (ap (λ d. Some (ReadDirectory d)) (sym c.boot.ensures))
-    (well_stopped x stopped well each2)))
+    record {
+      well = subst (λ (ws : Words). let y : Brokered = record { counts = b.counts; words = ws; slots = (with_items (with_items c.self.inside.slots more) stopped).items; directory = b.directory; creation = b.creation; recovery = r } in IsWell y) (sym c.crash.ensures.words)
+      (subst (λ (l : List Slot). let y : Brokered = record { counts = b.counts; words = words_after_crash b.words; slots = l; directory = b.directory; creation = b.creation; recovery = r } in IsWell y) (sym written2)
+      (subst (λ (o : Option BrokerRecovery). let y : Brokered = record { counts = b.counts; words = words_after_crash b.words; slots = stopped; directory = b.directory; creation = b.creation; recovery = o } in IsWell y) (ap (λ d. Some (ReadDirectory d)) (sym c.boot.ensures))
+      (well_stopped x stopped well each2)));
+      slots = λ at. stopped_asked b.counts c.crash.new.self at (world_at b at) _
+          (ap (λ (ws : Words). world_of ws (slice_get (with_items (with_items c.self.inside.slots more) stopped).items at)) c.crash.ensures.words ∙ ap (λ (l : List Slot). world_of (words_after_crash b.words) (slice_get l at)) written2
+          ∙ worlds_stopped x stopped well each2 at ∙ ap (acted after_stop) (worlds_roomier b more c.self.invariant.well each at));
+      creation = tt;
+    }
 
 pub returns-clause-stopped : goal.returns-clause-stopped
 returns-clause-stopped c = λ ok.
@@ -89,9 +100,9 @@ returns-clause-stopped c = λ ok.
     let each2 : EachBecame HasStopped more stopped = subst (λ (l : List Slot). EachBecame HasStopped l stopped) (c.deref_mut-2.ensures.value ∙ written) (record { count = c.stop_each.ensures.count; each = c.stop_each.ensures.each }) in
     let written2 : (with_items (with_items c.self.inside.slots more) stopped).items ≡ stopped = with_items_is (with_items c.self.inside.slots more) stopped (each2.count ∙ each.count ∙ sym c.self.inside.slots.ok.0) in
     let r : Option BrokerRecovery = Some (ReadDirectory c.boot.result) in
-    let new : Brokered = record { counts = b.counts; words = c.crash.new.self; slots = (with_items (with_items c.self.inside.slots more) stopped).items; directory = b.directory; creation = b.creation; recovery = r } in
+    let new : Brokered = record { counts = b.counts; words = c.crash.new.self.words; slots = (with_items (with_items c.self.inside.slots more) stopped).items; directory = b.directory; creation = b.creation; recovery = r } in
     let booted : r ≡ booting = ap (λ d. Some (ReadDirectory d)) c.boot.ensures in
-    let words : new.words ≡ words_after_crash b.words = c.crash.ensures in
+    let words : new.words ≡ words_after_crash b.words = c.crash.ensures.words in
     let done : IsStopped b new = record {
       same = cc (words, booted);
       worlds = λ at. ap (λ (ws : Words). world_of ws (slice_get new.slots at)) words ∙ ap (λ (l : List Slot). world_of (words_after_crash b.words) (slice_get l at)) written2
@@ -113,10 +124,10 @@ returns-clause-room c = λ at.
     omega (arith, rooms_roomier b more c.self.invariant.well each at, rooms_stopped x stopped well each2 at, ap (λ (l : List Slot). room_of (slice_get l at)) written2, ap (λ (y : Brokered). room_at y at) c.self.view_is)
 
 pub returns-in_err-reserve_each-clause-promises : goal.returns-in_err-reserve_each-clause-promises
-returns-in_err-reserve_each-clause-promises c = promises_well _ (invariant_of-self c)
+returns-in_err-reserve_each-clause-promises c = promises_well _ (invariant_of-self c).well
 
 pub returns-clause-promises : goal.returns-clause-promises
-returns-clause-promises c = promises_well _ (invariant_of-self-2 c)
+returns-clause-promises c = promises_well _ (invariant_of-self-2 c).well
 
 pub returns-in_err-reserve_each-clause-goes_on : goal.returns-in_err-reserve_each-clause-goes_on
 returns-in_err-reserve_each-clause-goes_on c =

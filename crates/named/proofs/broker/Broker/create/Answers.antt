@@ -6,6 +6,7 @@ use Rattle.named.specs.Brokers.{Brokered, IsWell}
 use Rattle.named.proofs.Begun.{begun_well}
 use Rattle.named.proofs.GoingOn.{begun_goes_on}
 use Rattle.named.proofs.Kept.{ready_there}
+use Rattle.named.proofs.Askings.{begun_asked}
 use Rattle.named.proofs.Promises.{promises_well}
 use Rattle.named.proofs.broker.Broker.create.Goals as goal
 
@@ -16,11 +17,15 @@ invariant_of-self c =
     let idle : c.self.inside.creation ≡ None = search rules in
     let is_new : HasName c.self.inside.directory c.in_ok-name.name → ⊥ = search rules in
     let queue : Queue = record { name = c.in_ok-name.name; kind = c.args.kind } in
-    subst (λ (o : Creation). let x : Brokered = record b { creation = Some o } in IsWell x) (sym c.begin.ensures.made)
-    (begun_well b c.in-Some.slot queue c.self.invariant.well ready idle c.in-Some.ensures.found.free c.begin.ensures.named is_new)
+    record {
+      well = subst (λ (o : Creation). let x : Brokered = record b { creation = Some o } in IsWell x) (sym c.begin.ensures.made)
+      (begun_well b c.in-Some.slot queue c.self.invariant.well ready idle c.in-Some.ensures.found.free c.begin.ensures.named is_new);
+      slots = c.self.invariant.slots;
+      creation = begun_asked b.counts b.recovery c.in-Some.slot queue c.begin.result _ c.begin.ensures.made;
+    }
 
 pub returns-clause-promises : goal.returns-clause-promises
-returns-clause-promises c = promises_well _ (invariant_of-self c)
+returns-clause-promises c = promises_well _ (invariant_of-self c).well
 
 pub returns-clause-goes_on : goal.returns-clause-goes_on
 returns-clause-goes_on c =

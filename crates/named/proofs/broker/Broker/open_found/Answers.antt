@@ -1,13 +1,15 @@
 use Rattle.std.proofs.Common.{◌≡◌, ◌∙◌, ◌≤◌, Option, Some, true, false, slice_get, slice_set, refl, sym, ap, subst, arith}
 use Rattle.std.specs.Prelude.{IfSome, is_none}
-use Rattle.std.proofs.lemmas.Option.{slice_get_read}
+use Rattle.std.proofs.lemmas.Option.{slice_get_read, slice_get_within}
 use Rattle.arena.specs.declared.broker.SlotId.{SlotId}
 use Rattle.directory.specs.Queue.{IsOpenSlot, slot_in}
 use Rattle.directory.specs.declared.creation.Creation.{Creation}
-use Rattle.named.specs.Brokers.{Brokered, room_at, room_of}
+use Rattle.arena.specs.Shape.{shape_of}
+use Rattle.named.specs.Brokers.{Brokered, block_words, room_at, room_of}
 use Rattle.named.specs.Slots.{kind_in, room_in}
 use Rattle.named.specs.Stopping.{IsFound, IsFoundFirst, IsReadingDirectory, found_world}
 use Rattle.named.specs.declared.slot.Slot.{Slot}
+use Rattle.named.proofs.Askings.{down_asked, found_asked, opened_asked}
 use Rattle.named.proofs.Eaches.{rooms_kept}
 use Rattle.named.proofs.Founds.{closed, found_first, found_here, found_known, found_waits, is_free, is_new, known_found, known_open, some_dropped, unused, well_found}
 use Rattle.named.proofs.broker.Broker.open_found.Goals as goal
@@ -73,7 +75,13 @@ invariant_of-self c =
     let is : b.creation ≡ Some k = c.in-Some-dropped.is in
     let at = c.open_found-opened.ensures.at b.words (omega (arith, c.self.invariant.well.room.cached)) (unused b c.self.invariant.well down c.in-Some.slot gate s here is_closed k is) in
     let waits = found_waits b.words c.open_found-opened.result (found_world b k.queue.kind c.in-Some.slot.0 b.words) (c.open_found-opened.ensures.world b.words) refl in
-    well_found b c.self.invariant.well down c.in-Some.slot gate s here is_closed k is c.open_found-opened.result c.open_found-opened.ensures.kind waits at c.open.new.self c.open.ensures.opened c.open.ensures.directory
+    record {
+      well = well_found b c.self.invariant.well down c.in-Some.slot gate s here is_closed k is c.open_found-opened.result c.open_found-opened.ensures.kind waits at c.open.new.self c.open.ensures.opened c.open.ensures.directory;
+      slots = opened_asked b b.words c.self.inside.memory c.in-Some.slot.0 c.open_found-opened.result (slice_get_within b.slots c.in-Some.slot.0 s here)
+          (found_asked b.counts c.self.inside.memory c.in-Some.slot.0 _ (shape_of k.queue.kind b.counts) (block_words b.counts c.in-Some.slot.0 b.words) (c.open_found-opened.ensures.world b.words))
+          (λ j ne. c.self.invariant.slots j);
+      creation = down_asked b.counts b.recovery b.creation _ down;
+    }
 
 pub returns-clause-found : goal.returns-clause-found
 returns-clause-found c =

@@ -1,10 +1,10 @@
-use Rattle.std.proofs.Common.{◌≡◌, ◌∙◌, ◌+◌, ◌≤◌, arith, ℕ, List, Option, Some, Ok, Result, Bool, slice_get, sym, ap, subst}
+use Rattle.std.proofs.Common.{◌≡◌, ◌∙◌, ◌+◌, ◌≤◌, arith, ℕ, List, Option, Some, Ok, Result, Bool, slice_get, refl, sym, ap, subst}
 use Rattle.std.specs.Prelude.{IfSome}
 use Rattle.persist.specs.Memory.{Words}
 use Rattle.directory.specs.Queue.{IsOpenSlot, slot_in}
 use Rattle.directory.specs.declared.recovery.Recovered.{Recovered}
 use Rattle.words.specs.declared.refusal.Refusal.{Refusal}
-use Rattle.named.specs.Brokers.{Brokered, IsWell, is_ready_at, room_of}
+use Rattle.named.specs.Brokers.{Brokered, IsWell, is_ready_at, quiet, room_of, world_at, world_of}
 use Rattle.named.specs.Stopping.{IsDirectoryRead, IsFound, IsReadOn, MayReadOn, found_by, words_read}
 use Rattle.named.specs.declared.recovery.BrokerRecovery.{BrokerRecovery}
 use Rattle.named.specs.declared.recovery.BrokerRecovery.TheVariants.{ReadDirectory}
@@ -13,6 +13,8 @@ use Rattle.directory.specs.Recovering.{most_left}
 use Rattle.directory.specs.Recovery.{access_of}
 use Rattle.directory.specs.Step.{value_found}
 use Rattle.named.specs.Lasting.{left_after_read, left_at, most_kept, steps_left}
+use Rattle.persist.proofs.Requests.{lent_alike}
+use Rattle.named.proofs.Askings.{all_quiet_asked, recovery_asked}
 use Rattle.named.proofs.Lastings.{read_falls}
 use Rattle.named.proofs.Readings.{found_opens, found_over, may_read_on, read_over, well_loaded, worlds_loaded}
 use Rattle.named.proofs.broker.Broker.read_directory.Goals as goal
@@ -21,7 +23,13 @@ pub invariant_of-self : goal.invariant_of-self
 invariant_of-self c =
     let b : Brokered = record { counts = c.self.inside.layout; words = c.self.inside.memory.words; slots = c.self.inside.slots.items; directory = c.self.inside.directory; creation = c.self.inside.creation; recovery = c.self.inside.recovery } in
     let is : b.recovery ≡ Some (ReadDirectory c.args.at) = ap (λ (x : Brokered). x.recovery) c.self.view_is ∙ c.requires in
-    subst (λ (ws : Words). let x : Brokered = record b { words = ws } in IsWell x) (sym c.step-recovered.ensures.one_access) (well_loaded b c.self.invariant.well c.args.at is)
+    record {
+      well = subst (λ (ws : Words). let x : Brokered = record b { words = ws } in IsWell x) (sym c.step-recovered.ensures.one_access) (well_loaded b c.self.invariant.well c.args.at is);
+      slots = all_quiet_asked b (record b { words = c.step-recovered.new.memory.words }) c.self.inside.memory c.step-recovered.new.memory c.self.invariant refl
+          (lent_alike 0 0 c.self.inside.memory c.step-recovered.new.memory c.step-recovered.ensures.lent)
+          (λ slot. subst (λ (ws : Words). quiet (world_of ws (slice_get b.slots slot)) ≡ quiet (world_at b slot)) (sym c.step-recovered.ensures.one_access) (worlds_loaded b c.self.invariant.well c.args.at is slot));
+      creation = recovery_asked b.counts b.recovery (ReadDirectory c.args.at) b.creation _ is;
+    }
 
 pub open_found-requires-clause-well : goal.open_found-requires-clause-well
 open_found-requires-clause-well c =

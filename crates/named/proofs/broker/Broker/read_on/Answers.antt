@@ -11,6 +11,7 @@ use Rattle.named.specs.declared.recovery.BrokerRecovery.{BrokerRecovery}
 use Rattle.named.proofs.Lastings.{few_next, most_is_kept}
 use Rattle.named.proofs.Recovers.{tells_read, well_read, well_read_on}
 use Rattle.named.proofs.Recovers.{well_read, well_read_on}
+use Rattle.named.proofs.Askings.{left_asked}
 use Rattle.named.proofs.Promises.{promises_well}
 use Rattle.named.proofs.broker.Broker.read_on.Goals as goal
 
@@ -20,7 +21,11 @@ invariant_of-self c =
     let down : IsReadingDirectory b.recovery = subst (λ (x : Brokered). IsReadingDirectory x.recovery) (sym c.self.view_is) c.requires.reading in
     let may : MayReadOn b c.args.after = subst (λ (x : Brokered). MayReadOn x c.args.after) (sym c.self.view_is) c.requires.may in
     let next : IsReading b.words c.in-More.next b.creation b.directory = subst (MayReadOn b) c.in-More.is may in
-    well_read_on b c.self.invariant.well down c.in-More.next next
+    record {
+      well = well_read_on b c.self.invariant.well down c.in-More.next next;
+      slots = c.self.invariant.slots;
+      creation = tt;
+    }
 
 pub invariant_of-self-in-Done : goal.invariant_of-self-in-Done
 invariant_of-self-in-Done c =
@@ -30,9 +35,13 @@ invariant_of-self-in-Done c =
     let done : (c.in-Done.places ≡ b.directory) × IsAtRest b.words b.directory = subst (MayReadOn b) c.in-Done.is may in
     let known : c.of-self-inside.result ≡ b.directory = c.of-self-inside.ensures ∙ done.0 in
     let next : IsNext b.directory 0 c.recovery_from-self-inside.result = subst (λ (d : Directory). IsNext d 0 c.recovery_from-self-inside.result) known c.recovery_from-self-inside.ensures in
-    subst (λ (d : Directory). let x : Brokered = record { counts = b.counts; words = b.words; slots = b.slots; directory = d; creation = c.creation_left-self-inside.result; recovery = c.recovery_from-self-inside.result } in IsWell x) (sym known)
-    (subst (λ (k : Option Creation). let x : Brokered = record { counts = b.counts; words = b.words; slots = b.slots; directory = b.directory; creation = k; recovery = c.recovery_from-self-inside.result } in IsWell x) (sym c.creation_left-self-inside.ensures)
-    (well_read b c.self.invariant.well down c.recovery_from-self-inside.result done.1 next))
+    record {
+      well = subst (λ (d : Directory). let x : Brokered = record { counts = b.counts; words = b.words; slots = b.slots; directory = d; creation = c.creation_left-self-inside.result; recovery = c.recovery_from-self-inside.result } in IsWell x) (sym known)
+      (subst (λ (k : Option Creation). let x : Brokered = record { counts = b.counts; words = b.words; slots = b.slots; directory = b.directory; creation = k; recovery = c.recovery_from-self-inside.result } in IsWell x) (sym c.creation_left-self-inside.ensures)
+      (well_read b c.self.invariant.well down c.recovery_from-self-inside.result done.1 next));
+      slots = c.self.invariant.slots;
+      creation = left_asked b.counts c.recovery_from-self-inside.result b.creation c.creation_left-self-inside.result _ c.creation_left-self-inside.ensures;
+    }
 
 pub returns-in-Done-clause-told : goal.returns-in-Done-clause-told
 returns-in-Done-clause-told c = λ at before now.
@@ -61,7 +70,7 @@ returns-in-Done-clause-left c =
     (subst (λ (a : After DirectoryRecovery Directory). left_at (record b { directory = c.of-self-inside.result }) recovery ≤ left_after_read b a) (sym c.in-Done.is) left)
 
 pub returns-in-More-clause-promises : goal.returns-in-More-clause-promises
-returns-in-More-clause-promises c = promises_well _ (invariant_of-self c)
+returns-in-More-clause-promises c = promises_well _ (invariant_of-self c).well
 
 pub returns-in-Done-clause-promises : goal.returns-in-Done-clause-promises
-returns-in-Done-clause-promises c = promises_well _ (invariant_of-self-in-Done c)
+returns-in-Done-clause-promises c = promises_well _ (invariant_of-self-in-Done c).well

@@ -12,8 +12,9 @@ use Rattle.named.specs.Lasting.{left_at, steps_left}
 use Rattle.interleave.specs.Calls.{is_no_memory}
 use Rattle.named.specs.Slots.{room_in}
 use Rattle.named.proofs.Eaches.{rooms_after, rooms_kept}
-use Rattle.named.proofs.Kept.{slot_is_well}
+use Rattle.named.proofs.Kept.{others_stay, slot_is_well, slot_now}
 use Rattle.named.proofs.Queues.{HasSpent, falls_ready, falls_yet, full_here, its_slot, ready_by, recovered, recovering, tells_ready, well_ready, well_recovering}
+use Rattle.named.proofs.Askings.{acted_asked, creation_waits, left_asked, slot_asked_here}
 use Rattle.named.proofs.Promises.{promises_well}
 use Rattle.named.proofs.broker.Broker.recover_queue.Goals as goal
 
@@ -23,7 +24,10 @@ recover_step-requires c =
     let turn : b.recovery ≡ Some (RecoverQueue c.args.slot) = ap (λ (x : Brokered). x.recovery) c.self.view_is ∙ c.requires in
     let was : Slot = c.index_mut.result.now in
     let here : slice_get b.slots c.args.slot.0 ≡ Some was = slice_get_read b.slots 8 c.args.slot.0 was (sym c.self.invariant.well.count) (its_slot b c.self.invariant.well c.args.slot turn) c.index_mut.ensures.value in
-    slot_is_well b.counts b.words c.args.slot.0 was (c.self.invariant.well.slots c.args.slot.0 was here)
+    record {
+      well = slot_is_well b.counts b.words c.args.slot.0 was (c.self.invariant.well.slots c.args.slot.0 was here);
+      asked = slot_asked_here b c.self.inside.memory c.args.slot.0 was c.self.invariant here;
+    }
 
 pub invariant_of-self : goal.invariant_of-self
 invariant_of-self c =
@@ -32,7 +36,16 @@ invariant_of-self c =
     let was : Slot = c.index_mut.result.now in
     let here : slice_get b.slots c.args.slot.0 ≡ Some was = slice_get_read b.slots 8 c.args.slot.0 was (sym c.self.invariant.well.count) (its_slot b c.self.invariant.well c.args.slot turn) c.index_mut.ensures.value in
     let yet : ready_by c.recover_step.result ≡ false = ap ready_by c.in_err-ready.was in
-    well_recovering b c.args.slot was c.recover_step.new.self c.recover_step.new.memory.words c.self.invariant.well here c.recover_step.ensures.well c.recover_step.ensures.outside c.recover_step.ensures.same turn c.recover_step.result c.recover_step.ensures.world c.recover_step.ensures.result yet
+    let e = c.recover_step.ensures in
+    let new = c.recover_step.new.memory in
+    let below = its_slot b c.self.invariant.well c.args.slot turn in
+    record {
+      well = well_recovering b c.args.slot was c.recover_step.new.self c.recover_step.new.memory.words c.self.invariant.well here c.recover_step.ensures.well c.recover_step.ensures.outside c.recover_step.ensures.same turn c.recover_step.result c.recover_step.ensures.world c.recover_step.ensures.result yet;
+      slots = acted_asked b c.self.inside.memory new c.args.slot.0 was c.recover_step.new.self c.self.invariant here below e.beside new.words
+          (slot_now b.counts b.words new.words c.args.slot.0 was c.recover_step.new.self (c.self.invariant.well.slots c.args.slot.0 was here) e.well e.same e.outside)
+          e.asked (λ k ne. others_stay b c.args.slot.0 was c.recover_step.new.self new.words c.self.invariant.well here e.well e.outside e.same k ne);
+      creation = creation_waits b c.self.inside.memory new c.args.slot.0 was c.recover_step.new.self c.self.invariant here below e.beside;
+    }
 
 pub returns-in_err-ready-clause-recovered : goal.returns-in_err-ready-clause-recovered
 returns-in_err-ready-clause-recovered c =
@@ -54,7 +67,16 @@ invariant_of-self-then-not-ready c =
     let was : Slot = c.index_mut.result.now in
     let here : slice_get b.slots c.args.slot.0 ≡ Some was = slice_get_read b.slots 8 c.args.slot.0 was (sym c.self.invariant.well.count) (its_slot b c.self.invariant.well c.args.slot turn) c.index_mut.ensures.value in
     let yet : ready_by c.recover_step.result ≡ false = ap ready_by c.in_ok-ready.was ∙ c.if-not-ready.true in
-    well_recovering b c.args.slot was c.recover_step.new.self c.recover_step.new.memory.words c.self.invariant.well here c.recover_step.ensures.well c.recover_step.ensures.outside c.recover_step.ensures.same turn c.recover_step.result c.recover_step.ensures.world c.recover_step.ensures.result yet
+    let e = c.recover_step.ensures in
+    let new = c.recover_step.new.memory in
+    let below = its_slot b c.self.invariant.well c.args.slot turn in
+    record {
+      well = well_recovering b c.args.slot was c.recover_step.new.self c.recover_step.new.memory.words c.self.invariant.well here c.recover_step.ensures.well c.recover_step.ensures.outside c.recover_step.ensures.same turn c.recover_step.result c.recover_step.ensures.world c.recover_step.ensures.result yet;
+      slots = acted_asked b c.self.inside.memory new c.args.slot.0 was c.recover_step.new.self c.self.invariant here below e.beside new.words
+          (slot_now b.counts b.words new.words c.args.slot.0 was c.recover_step.new.self (c.self.invariant.well.slots c.args.slot.0 was here) e.well e.same e.outside)
+          e.asked (λ k ne. others_stay b c.args.slot.0 was c.recover_step.new.self new.words c.self.invariant.well here e.well e.outside e.same k ne);
+      creation = creation_waits b c.self.inside.memory new c.args.slot.0 was c.recover_step.new.self c.self.invariant here below e.beside;
+    }
 
 pub returns-then-not-ready-clause-recovered : goal.returns-then-not-ready-clause-recovered
 returns-then-not-ready-clause-recovered c =
@@ -79,8 +101,17 @@ invariant_of-self-2 c =
     let recovery : Option BrokerRecovery = c.recovery_from-self-inside.result in
     let next : IsNext b.directory (c.args.slot.0 + 1) recovery = c.recovery_from-self-inside.ensures in
     let now : Brokered = with_slot b c.args.slot.0 c.recover_step.new.self c.recover_step.new.memory.words in
-    subst (λ (k : Option Creation). let x : Brokered = record now { recovery = recovery; creation = k } in IsWell x) (sym c.creation_left-self-inside.ensures)
-    (well_ready b c.args.slot was c.recover_step.new.self c.recover_step.new.memory.words c.self.invariant.well here c.recover_step.ensures.well c.recover_step.ensures.outside c.recover_step.ensures.same turn c.recover_step.result c.recover_step.ensures.world c.recover_step.ensures.result ready recovery next)
+    let e = c.recover_step.ensures in
+    let new = c.recover_step.new.memory in
+    let below = its_slot b c.self.invariant.well c.args.slot turn in
+    record {
+      well = subst (λ (k : Option Creation). let x : Brokered = record now { recovery = recovery; creation = k } in IsWell x) (sym c.creation_left-self-inside.ensures)
+      (well_ready b c.args.slot was c.recover_step.new.self c.recover_step.new.memory.words c.self.invariant.well here c.recover_step.ensures.well c.recover_step.ensures.outside c.recover_step.ensures.same turn c.recover_step.result c.recover_step.ensures.world c.recover_step.ensures.result ready recovery next);
+      slots = acted_asked b c.self.inside.memory new c.args.slot.0 was c.recover_step.new.self c.self.invariant here below e.beside new.words
+          (slot_now b.counts b.words new.words c.args.slot.0 was c.recover_step.new.self (c.self.invariant.well.slots c.args.slot.0 was here) e.well e.same e.outside)
+          e.asked (λ k ne. others_stay b c.args.slot.0 was c.recover_step.new.self new.words c.self.invariant.well here e.well e.outside e.same k ne);
+      creation = left_asked b.counts recovery b.creation c.creation_left-self-inside.result _ c.creation_left-self-inside.ensures;
+    }
 
 pub returns-clause-recovered : goal.returns-clause-recovered
 returns-clause-recovered c =
@@ -186,10 +217,10 @@ returns-clause-room c = λ other.
     (rooms_after b.slots c.args.slot.0 was c.recover_step.new.self here c.recover_step.ensures.room other)
 
 pub returns-in_err-ready-clause-promises : goal.returns-in_err-ready-clause-promises
-returns-in_err-ready-clause-promises c = promises_well _ (invariant_of-self c)
+returns-in_err-ready-clause-promises c = promises_well _ (invariant_of-self c).well
 
 pub returns-then-not-ready-clause-promises : goal.returns-then-not-ready-clause-promises
-returns-then-not-ready-clause-promises c = promises_well _ (invariant_of-self-then-not-ready c)
+returns-then-not-ready-clause-promises c = promises_well _ (invariant_of-self-then-not-ready c).well
 
 pub returns-clause-promises : goal.returns-clause-promises
-returns-clause-promises c = promises_well _ (invariant_of-self-2 c)
+returns-clause-promises c = promises_well _ (invariant_of-self-2 c).well

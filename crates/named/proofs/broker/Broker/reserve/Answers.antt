@@ -7,6 +7,7 @@ use Rattle.named.specs.Brokers.{Brokered, room_at, room_of, world_at, world_of}
 use Rattle.named.proofs.GoingOn.{same_goes_on, broker_stays}
 use Rattle.named.proofs.Kept.{get_set_other, slot_is_well, still_well}
 use Rattle.named.proofs.Reserved.{few, room_here, rooms_kept, same_outside, slot_reserved, worlds_same}
+use Rattle.named.proofs.Askings.{same_asked}
 use Rattle.named.proofs.Promises.{promises_kept, promises_well}
 use Rattle.named.proofs.broker.Broker.reserve.Goals as goal
 
@@ -22,7 +23,11 @@ invariant_of-self c =
     let here : slice_get c.self.inside.slots.items c.args.slot.0 ≡ Some c.index_mut.result.now = slice_get_read c.self.inside.slots.items (length c.self.inside.slots.items) c.args.slot.0 c.index_mut.result.now refl below c.index_mut.ensures.value in
     let b : Brokered = record { counts = c.self.inside.layout; words = c.self.inside.memory.words; slots = c.self.inside.slots.items; directory = c.self.inside.directory; creation = c.self.inside.creation; recovery = c.self.inside.recovery } in
     let well = slot_reserved c.self.inside.memory.words c.index_mut.result.now c.reserve.new.self (slot_is_well c.self.inside.layout c.self.inside.memory.words c.args.slot.0 c.index_mut.result.now (c.self.invariant.well.slots c.args.slot.0 c.index_mut.result.now here)) c.reserve.ensures.same (c.reserve.ensures.world c.self.inside.memory.words) in
-    still_well b c.args.slot.0 c.index_mut.result.now c.reserve.new.self c.self.inside.memory.words c.self.invariant.well here well (same_outside c.self.inside.memory.words c.index_mut.result.now) c.reserve.ensures.same c.reserve.ensures.as_ready
+    record {
+      well = still_well b c.args.slot.0 c.index_mut.result.now c.reserve.new.self c.self.inside.memory.words c.self.invariant.well here well (same_outside c.self.inside.memory.words c.index_mut.result.now) c.reserve.ensures.same c.reserve.ensures.as_ready;
+      slots = λ at. same_asked b.counts c.self.inside.memory at (world_at b at) _ (worlds_same b c.args.slot.0 c.index_mut.result.now c.reserve.new.self here (c.reserve.ensures.world c.self.inside.memory.words) at) (c.self.invariant.slots at);
+      creation = c.self.invariant.creation;
+    }
 
 pub returns-clause-worlds : goal.returns-clause-worlds
 returns-clause-worlds c = λ at.
@@ -69,7 +74,7 @@ pub returns-then-slot-len-clause-promises : goal.returns-then-slot-len-clause-pr
 returns-then-slot-len-clause-promises c = promises_kept _ _ c.self.invariant.well c.self.view_is
 
 pub returns-clause-promises : goal.returns-clause-promises
-returns-clause-promises c = promises_well _ (invariant_of-self c)
+returns-clause-promises c = promises_well _ (invariant_of-self c).well
 
 pub returns-clause-goes_on : goal.returns-clause-goes_on
 returns-clause-goes_on c =

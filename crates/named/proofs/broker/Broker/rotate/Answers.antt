@@ -4,10 +4,11 @@ use Rattle.std.specs.Prelude.{is_some}
 use Rattle.std.specs.Vec.{with_items}
 use Rattle.std.proofs.lemmas.List.{with_items_is}
 use Rattle.words.specs.declared.refusal.Refusal.TheVariants.{NotReady}
-use Rattle.named.specs.Brokers.{Brokered, IsWell, room_at, room_of, world_of}
+use Rattle.named.specs.Brokers.{Brokered, IsWell, room_at, room_of, world_at, world_of}
 use Rattle.named.specs.Rotating.{AreBegunAnew, AreQuiet, IsRotated, has_calls_in}
 use Rattle.named.specs.declared.slot.Slot.{Slot}
 use Rattle.named.proofs.Kept.{ready_there}
+use Rattle.named.proofs.Askings.{rotated_asked}
 use Rattle.named.proofs.Promises.{promises_kept, promises_well}
 use Rattle.named.proofs.Rotated.{all_quiet, rotated_rooms, rotated_well, rotated_worlds}
 use Rattle.named.proofs.broker.Broker.rotate.Goals as goal
@@ -36,7 +37,11 @@ invariant_of-self c =
     let anew : List Slot = c.begin_each.new.slots in
     let begun : AreBegunAnew b.words b.slots anew = subst (λ (l : List Slot). AreBegunAnew b.words l anew) c.deref_mut.ensures.value c.begin_each.ensures in
     let written : (with_items c.self.inside.slots anew).items ≡ anew = with_items_is c.self.inside.slots anew (begun.count ∙ sym c.self.inside.slots.ok.0) in
-    subst (λ (l : List Slot). let y : Brokered = record b { slots = l } in IsWell y) (sym written) (rotated_well b anew c.self.invariant.well begun)
+    record {
+      well = subst (λ (l : List Slot). let y : Brokered = record b { slots = l } in IsWell y) (sym written) (rotated_well b anew c.self.invariant.well begun);
+      slots = λ at. rotated_asked b.counts c.self.inside.memory at (world_at b at) _ (ap (λ (l : List Slot). world_of b.words (slice_get l at)) written ∙ rotated_worlds b anew c.self.invariant.well begun at) (c.self.invariant.slots at);
+      creation = c.self.invariant.creation;
+    }
 
 pub returns-clause-rotated : goal.returns-clause-rotated
 returns-clause-rotated c = λ ok.
@@ -60,7 +65,7 @@ returns-clause-room c = λ at.
     omega (arith, rotated_rooms b anew c.self.invariant.well begun at, ap (λ (l : List Slot). room_of (slice_get l at)) written, ap (λ (y : Brokered). room_at y at) c.self.view_is)
 
 pub returns-clause-promises : goal.returns-clause-promises
-returns-clause-promises c = promises_well _ (invariant_of-self c)
+returns-clause-promises c = promises_well _ (invariant_of-self c).well
 
 pub returns-in_err-check_ready-clause-promises : goal.returns-in_err-check_ready-clause-promises
 returns-in_err-check_ready-clause-promises c = promises_kept _ _ c.self.invariant.well c.self.view_is
