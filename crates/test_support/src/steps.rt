@@ -27,10 +27,7 @@ pub const LOG_LINK_KEPT: u32 = 27;
 /// A log queue's dequeue is announced.
 pub const LOG_DEQUEUE_ANNOUNCED: u32 = 12;
 
-/// It has claimed its node. The claim is not kept yet.
-pub const LOG_CLAIMED: u32 = 18;
-
-/// A flush has asked for the claim. It is not kept yet.
+/// It has claimed its node, and a flush has asked for the claim. It is not kept yet.
 pub const LOG_CLAIM_ASKED: u32 = 19;
 
 /// Its claim is kept: it takes effect.
