@@ -283,7 +283,7 @@ pub struct RecoveryStoreHead {
     pub(crate) unclaimed: Option<NodeId>,
 }
 
-// A dequeue that found the head far behind would help along claimed nodes one by one, and take more than its 64 steps.
+// A dequeue that found the head far behind would help along claimed nodes one by one, and take more than its 96 steps.
 impl Resume for RecoveryStoreHead {
     type Point = RecoveryPoint;
 
