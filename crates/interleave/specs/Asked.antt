@@ -1,5 +1,5 @@
--- What was asked for through the ports of a world's clients and of its recovery: each that waits to complete a flush has
--- asked for it.
+-- What was asked for through the ports of a world's clients and of its recovery: each that waits to complete a flush
+-- has asked for it.
 use Rattle.std.specs.Prelude.{ℕ, zero, suc, Bool, false, List, Option, Some, None, Result, Ok, Err, slice_get, slice_index_or, if◌then◌else◌}
 use Rattle.words.specs.declared.call.Client.{Client}
 use Rattle.words.specs.declared.limits.TheConstants.{RECOVERY_PORT}

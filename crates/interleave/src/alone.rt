@@ -15,9 +15,9 @@ use words::{Client, MAX_STEPS_ALONE, Refusal, Reply};
 
 impl<L: Layout + Drop> Core<L> {
     /// A client's call goes on alone until it answers: its reply, and how many steps that took, at most
-    /// [`MAX_STEPS_ALONE`] from wherever it waits. It is refused, in this order, where there is no such client
-    /// (NoClient), where recovery is under way (NotReady), where it has no call (Idle), and, before its first step, for
-    /// want of memory (NoMemory).
+    /// [`MAX_STEPS_ALONE`] from wherever it waits. The words are lent through the client's port, as to
+    /// [`Core::step`]. It is refused, in this order, where there is no such client (NoClient), where recovery is under
+    /// way (NotReady), where it has no call (Idle), and, before its first step, for want of memory (NoMemory).
     pub fn run_alone<M: EvictableWords>(
         &mut self,
         memory: &mut M,

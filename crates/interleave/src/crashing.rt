@@ -105,7 +105,8 @@ impl<L: Layout + Drop> Core<L> {
     }
 
     /// One step of recovery: exactly one access. It answers whether the queue is ready now, and then each client is
-    /// told what became of its last call. The words are lent through recovery's port. It is refused, in this order, where no recovery is under way (AlreadyReady),
+    /// told what became of its last call. The words are lent through recovery's port: where recovery waits to complete
+    /// a flush, it has asked for it there. It is refused, in this order, where no recovery is under way (AlreadyReady),
     /// and for want of memory (NoMemory).
     pub fn recover_step<M: WordMemory>(&mut self, memory: &mut M) -> Result<bool, Refusal>
         requires holds { Holds (state_of self.old (M.words memory.old)) }

@@ -1,4 +1,5 @@
-//! A world's acts on a memory of its own: each client's through the client's port, and recovery's through one of its own.
+//! A world's acts on a memory of its own: each client's through the client's port, and recovery's through one of its
+//! own.
 
 ghost use Rattle.std.specs.Prelude.{◌≡◌, ◌≤◌, ◌+◌, ◌⊎◌, is_some, slice_get, true, false, Ok, Err, None, IfOk, IfErr};
 ghost use Rattle.words.specs.declared.refusal.Refusal.{Refusal as AnyRefusal};
@@ -50,6 +51,8 @@ impl<L: Layout + Drop> Core<L> {
         ensures stays { result ≡ Ok None → self.old.trace.room ≤ self.new.trace.room }
         ensures holds { HoldsOver self.new memory.new }
     {
+        // Of two clients at one port the one would keep what the other asked for, in place of its own word
+        // (`two_clients_act_through_one_port`).
         let mut port = memory.port(client.0 as usize)?;
         self.step(&mut port, client)
     }

@@ -149,9 +149,9 @@ impl<L: Layout + Drop> Core<L> {
         self.go_on(client, stepped.after)
     }
 
-    /// One step of a client's call: exactly one access. It answers the reply where that was the last. The words are lent
-    /// through the client's port: a call that waits to complete a flush has asked for it there. It is refused, in this
-    /// order, where there is no such client (NoClient), where recovery is under way (NotReady), where it has no
+    /// One step of a client's call: exactly one access. It answers the reply where that was the last. The words are
+    /// lent through the client's port: a call that waits to complete a flush has asked for it there. It is refused, in
+    /// this order, where there is no such client (NoClient), where recovery is under way (NotReady), where it has no
     /// call (Idle), and for want of memory (NoMemory).
     #[inline(always)]
     pub fn step<M: EvictableWords>(

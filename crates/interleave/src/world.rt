@@ -30,7 +30,8 @@ use words::{Call, Client, MAX_STEPS_ALONE, Refusal, Reply, Told};
 
 /// One queue over its memory, the calls that its clients have under way, and what happened. A call is started, and
 /// then goes on by single steps, each of them one access to the memory, in any interleaving with the others; at any
-/// moment the environment may keep a word, or the whole system may stop, and then recover by single steps.
+/// moment the environment may keep a word, or the whole system may stop, and then recover by single steps. Each client
+/// acts through the memory's port of its number, and recovery through [`RECOVERY_PORT`](words::RECOVERY_PORT).
 #[derive(Drop)]
 pub struct World<L: Layout + Drop> {
     core: Core<L>,

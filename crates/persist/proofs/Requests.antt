@@ -45,7 +45,7 @@ completed_in from len (Some w) ws =
           let near : w - from < len = omega (arith, t.1, t.2) in
           let far : from + (w - from) ≡ w = omega (arith, t.1) in
           rw (t.0) (ap words_after_access (subst (λ (n : ℕ). words_in from len (words_after_eviction n ws) ≡ words_after_eviction (w - from) (words_in from len ws)) far
-              (part_evicted from len (w - from) ws near)))
+          (part_evicted from len (w - from) ws near)))
       | inr f ↦ rw f refl
     ]
 

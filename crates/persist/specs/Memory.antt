@@ -1,5 +1,5 @@
--- The memory model: words with a cached and a kept value, ports through which flushes are asked for, and what becomes of
--- both.
+-- The memory model: words with a cached and a kept value, ports through which flushes are asked for, and what becomes
+-- of both.
 use Rattle.std.specs.Prelude.{◌≡◌, ℕ, ◌+◌, ◌-◌, Bool, ◌&&◌, min, nat_le, nat_lt, List, [], Option, Some, None, take, drop, replicate, slice_index, slice_index_or, slice_set, if◌then◌else◌, ◌==◌}
 
 -- two values for each word, and how many accesses there were

@@ -95,7 +95,8 @@ fn image(alloc: Global, words: &[u64]) -> Result<Vec<u8>, AllocError>
 }
 
 impl Memory {
-    /// The kept words as bytes. A value that is only cached is not in it. It is refused where memory is (NoMemory).
+    /// The kept words as bytes. A value that is only cached is not in it, and neither is what ports ask for. It is
+    /// refused where memory is (NoMemory).
     pub fn to_image(&self) -> Result<Vec<u8>, Refusal>
         ensures image { IfOk result (λ bytes. bytes.items ≡ image_of self.now.words.kept) }
         ensures read { IfOk result (λ bytes. reading bytes.items ≡ Ok self.now.words.kept) }
@@ -107,11 +108,11 @@ impl Memory {
         }
     }
 
-    /// The memory whose image the bytes are: it has the words cached and kept, no access counted, nothing asked for, and
-    /// room for a change of each word. The bytes are refused in this order: where what there is of the first four differs from the magic
-    /// (BadMagic), where the count is cut off (Truncated), where it is 0 or above [`MAX_WORDS`] (BadCount), where words
-    /// are cut off (Truncated), where something stands after them (TrailingBytes), and where memory is refused
-    /// (NoMemory).
+    /// The memory whose image the bytes are: it has the words cached and kept, no access counted, nothing asked for,
+    /// and room for a change of each word. The bytes are refused in this order: where what there is of the first four
+    /// differs from the magic (BadMagic), where the count is cut off (Truncated), where it is 0 or above [`MAX_WORDS`]
+    /// (BadCount), where words are cut off (Truncated), where something stands after them (TrailingBytes), and where
+    /// memory is refused (NoMemory).
     pub fn from_image(alloc: Global, bytes: &[u8]) -> Result<Self, Refusal>
         ensures read { IfOk result (λ m. reading bytes.now ≡ Ok m.words.kept) }
         ensures at_rest { IfOk result (λ m. m.words ≡ words_at_rest m.words.kept) }

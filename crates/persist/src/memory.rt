@@ -20,7 +20,7 @@ use words::Refusal;
 /// The most words of one memory.
 pub const MAX_WORDS: usize = 8_388_608;
 
-/// How many ports a memory has.
+/// How many ports a memory has. They are numbered from 0.
 pub const PORTS: usize = 137;
 
 /// The port through which a memory itself acts.
@@ -28,7 +28,11 @@ const OWN_PORT: usize = 0;
 
 /// Words that a crash of the whole system sets back to what is kept, and ports through which flushes are asked for and
 /// completed, as in the model of Izraelevitz, Mendes and Scott (2016). Of the cached values it has those alone that are
-/// not the kept ones, in a list. A port is of one client: a flush through it is completed by the next fence through it.
+/// not the kept ones, in a list.
+///
+/// A port is of one client. It asks for one word at most, and the next fence through it keeps that word. What others do
+/// through their ports leaves its request, and so does an eviction; a crash drops it. What is done to the memory itself
+/// goes through port 0.
 #[derive(Drop)]
 pub struct Memory {
     kept: Vec<u64>,
@@ -89,7 +93,8 @@ fn set_to_zero(words: &mut [u64])
 
 impl Memory {
     /// A memory of `n` words, all zero, cached and kept. It is refused where `n` is 0 or above [`MAX_WORDS`]
-    /// (BadCount), and where memory is refused (NoMemory). It has room for a change of each word.
+    /// (BadCount), and where memory is refused (NoMemory). It has room for a change of each word, and no port asks for
+    /// any.
     pub fn new(alloc: Global, n: usize) -> Result<Self, Refusal>
         ensures bad_count { result ≡ Err Refusal.BadCount ↔ (n ≡ 0) ⊎ (MAX_WORDS < n) }
         ensures errors { IfErr result (λ e. (e ≡ Refusal.BadCount) ⊎ (e ≡ Refusal.NoMemory)) }
@@ -157,15 +162,16 @@ impl Memory {
         self.changes.len()
     }
 
-    /// How many loads, stores, swaps, flushes and fences were not refused. It stays at its greatest value.
+    /// How many loads, stores, swaps, flushes and fences were not refused. A swap counts that found another value, and
+    /// a fence without a request. The count stays at its greatest value.
     pub fn accesses(&self) -> u64
         ensures { result ≡ self.now.words.accesses }
     {
         self.accesses
     }
 
-    /// Lends the memory through a port. It copies nothing, and while it is there nothing else reaches the memory. It is
-    /// refused where there is no such port (NoClient).
+    /// Lends the memory through a port, whose request stays as it is. It copies nothing, and while it is there nothing
+    /// else reaches the memory. It is refused where `port` is not below [`PORTS`] (NoClient).
     pub fn port(&mut self, port: usize) -> Result<Port<'_>, Refusal>
         ensures* rests { sem 𝓛 (RestsIfErr the_row self.entry (λ p. p.memory.ghost_name) result (λ m. m ≡ self.old)) }
         ensures same_memory { IfOk result (λ p. p.memory.ghost_name ≡ self.entry.ghost_name) }
@@ -180,9 +186,10 @@ impl Memory {
         Ok(Port::new(self, port))
     }
 
-    /// Lends a part of the memory through a port: `len` words from the word `from` on, which the window numbers from 0.
-    /// It copies nothing, and while it is there nothing else reaches the memory. It is refused, in this order, where
-    /// there is no such port (NoClient), and where `len` is 0 or the part is not inside (NoWord).
+    /// Lends a part of the memory through a port, whose request stays as it is: `len` words from the word `from` on,
+    /// which the window numbers from 0. It copies nothing, and while it is there nothing else reaches the memory. It is
+    /// refused, in this order, where `port` is not below [`PORTS`] (NoClient), and where `len` is 0 or the part is not
+    /// inside (NoWord).
     #[tactic(auto, using(crate::proofs::Overlays::length_overlay))]
     pub fn window(&mut self, from: usize, len: usize, port: usize) -> Result<Window<'_>, Refusal>
         ensures* rests { sem 𝓛 (RestsIfErr the_row self.entry (λ w. w.memory.ghost_name) result (λ m. m ≡ self.old)) }
@@ -219,8 +226,8 @@ impl Memory {
         Ok(View::new(self, from, len))
     }
 
-    /// Makes it a new memory again: all words zero, cached and kept, no access counted, and nothing asked for. It takes
-    /// no memory.
+    /// Makes it a new memory again, of as many words: all zero, cached and kept, no access counted, and nothing asked
+    /// for. It takes no memory.
     pub fn clear(&mut self)
         ensures words { self.new.words ≡ zero_words (length self.old.words.kept) }
         ensures unasked { IsUnasked self.new }
@@ -228,7 +235,7 @@ impl Memory {
         set_to_zero(&mut self.kept);
         self.changes.clear();
         self.accesses = 0;
-        forget(&mut self.requests);
+        self.requests = no_requests();
     }
 
     /// Makes every cached value the kept one, and drops every request. It is no access.

@@ -8,7 +8,8 @@ use crate::access::{Change, EvictableWords, KeptWords, Swap, WordMemory};
 use crate::memory::{Memory, PORTS};
 use words::Refusal;
 
-/// A memory as a client reaches it: what it flushes is asked for through this port.
+/// A memory as a client reaches it: all its words, with their numbers. What is flushed is asked for through this port,
+/// and a fence completes what this port asks for.
 #[derive(Drop)]
 pub struct Port<'a> {
     memory: &'a mut Memory,

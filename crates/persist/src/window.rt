@@ -9,7 +9,8 @@ use crate::access::{Change, EvictableWords, KeptWords, Swap, WordMemory};
 use crate::memory::{Memory, PORTS};
 use words::Refusal;
 
-/// A part of a memory, lent through a port, with its words numbered from 0.
+/// A part of a memory, lent through a port, with its words numbered from 0, also in the changes that it answers. What
+/// is outside stays as it is: a fence is refused while the port asks for a word there.
 #[derive(Drop)]
 pub struct Window<'a> {
     memory: &'a mut Memory,
@@ -52,12 +53,7 @@ fn numbered_from(change: Option<Change>, from: usize) -> Option<Change>
 }
 
 impl<'a> Window<'a> {
-    pub(crate) fn new(
-        memory: &'a mut Memory,
-        port: usize,
-        from: usize,
-        len: usize,
-    ) -> Window<'a>
+    pub(crate) fn new(memory: &'a mut Memory, port: usize, from: usize, len: usize) -> Window<'a>
         requires real { port < PORTS }
         requires inside { from + len ≤ length memory.old.words.cached }
         requires fits { from + len ≤ 18446744073709551615 }
@@ -160,7 +156,8 @@ impl<'a> View<'a> {
     pub(crate) fn new(memory: &'a Memory, from: usize, len: usize) -> View<'a>
         requires inside { from + len ≤ length memory.now.words.kept }
         requires fits { from + len ≤ usize.MAX }
-        ensures { take result.len (drop result.from result.memory.now.words.kept) ≡ take len (drop from memory.now.words.kept) }
+        ensures { take result.len (drop result.from result.memory.now.words.kept)
+            ≡ take len (drop from memory.now.words.kept) }
     {
         View { memory, from, len }
     }

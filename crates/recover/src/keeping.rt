@@ -1,5 +1,5 @@
-//! What recovery keeps on its way, by a flush and a fence: which word, and what comes once that is kept. The `//` at each
-//! says what goes wrong without its fence, with the must-fail edit that shows it.
+//! What recovery keeps on its way, by a flush and a fence: which word, and what comes once that is kept. The `//` at
+//! each says what goes wrong without its fence, with the must-fail edit that shows it.
 
 ghost use Rattle.std.specs.Prelude.{◌≡◌, ◌≤◌, length, None};
 ghost use Rattle.persist.specs.Memory.{Fence, Flush};

@@ -8,11 +8,11 @@ pub const MAX_CLIENTS: usize = 16;
 /// The most records of one client in a queue.
 pub const MAX_RECORDS: u32 = 4_096;
 
-/// A queue's clients each reach its words through the port of their number, and its recovery through this one: a queue has
-/// so many ports, and one more.
+/// The port of a queue's recovery, behind those of its clients: the client of each number reaches the queue's words
+/// through the port of that number.
 pub const RECOVERY_PORT: usize = MAX_CLIENTS;
 
-/// How many ports a queue has.
+/// How many ports a queue has: one for each client that it may have, and that of its recovery.
 pub const QUEUE_PORTS: usize = MAX_CLIENTS + 1;
 
 /// The greatest number that a record, or a node, of a queue can have: that of the last record of the last client.

@@ -23,7 +23,7 @@ returns-clause-holds g c =
     c.recover_step.ensures.lent ∙ ap (λ (ws : Words). lent_after_recover full (state_of core ws) lent) c.in_ok-port.ensures.words in
     let back : Returned (requests_of old) (requests_of v.memory.now) RECOVERY_PORT (lent_after_recover full was lent) =
     returned _ v.memory.ghost_name RECOVERY_PORT v.port old v.memory.now (lent_after_recover full was lent) left
-        (around_recovered full was lent ∙ ap (λ (l : Lent). l.around) c.in_ok-port.ensures.lent) in
+    (around_recovered full was lent ∙ ap (λ (l : Lent). l.around) c.in_ok-port.ensures.lent) in
     let asked = asked_recovered full was lent (requests_of old) (requests_of v.memory.now) c.requires.world (ap (λ (l : Lent). l.request) c.in_ok-port.ensures.lent) back.here back.there c.requires.asked in
     let world : state_of c.recover_step.new.self v.memory.now.words ≡ after_recover full was =
     c.recover_step.ensures.world ∙ ap (λ (ws : Words). after_recover full (state_of core ws)) c.in_ok-port.ensures.words in

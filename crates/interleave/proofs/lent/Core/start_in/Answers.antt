@@ -15,7 +15,7 @@ returns-clause-holds g c =
     let new : MemoryState = c.start.new.memory in
     let was : State = state_of c.args.self.now old.words in
     let asked = asked_started (is_no_memory c.start.result) was c.args.client c.args.number c.args.call (requests_of old) (requests_of new) c.requires.world
-        (unasked_for 0 0 old new c.start.ensures.lent) c.requires.asked in
+    (unasked_for 0 0 old new c.start.ensures.lent) c.requires.asked in
     record {
       world = c.start.ensures.holds;
       asked = subst (λ (w : State). AreAsked w.shape w.calls w.recovery (requests_of new)) (sym c.start.ensures.world) asked;

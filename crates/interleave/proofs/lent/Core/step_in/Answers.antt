@@ -34,7 +34,7 @@ returns-clause-holds g c =
     c.step.ensures.lent ∙ ap (λ (ws : Words). lent_after_step full (state_of core ws) c.args.client lent) c.in_ok-port.ensures.words in
     let back : Returned (requests_of old) (requests_of v.memory.now) c.args.client.0 (lent_after_step full was c.args.client lent) =
     returned _ v.memory.ghost_name c.args.client.0 v.port old v.memory.now (lent_after_step full was c.args.client lent) left
-        (around_stepped full was c.args.client lent ∙ ap (λ (l : Lent). l.around) c.in_ok-port.ensures.lent) in
+    (around_stepped full was c.args.client lent ∙ ap (λ (l : Lent). l.around) c.in_ok-port.ensures.lent) in
     let asked = asked_stepped full was c.args.client lent (requests_of old) (requests_of v.memory.now) c.requires.world (ap (λ (l : Lent). l.request) c.in_ok-port.ensures.lent) back.here back.there c.requires.asked in
     let world : state_of c.step.new.self v.memory.now.words ≡ after_step full was c.args.client =
     c.step.ensures.world ∙ ap (λ (ws : Words). after_step full (state_of core ws) c.args.client) c.in_ok-port.ensures.words in

@@ -8,7 +8,7 @@ use Rattle.persist.proofs.memory.Memory.ask.Goals as goal
 pub invariant_of-self : goal.invariant_of-self
 invariant_of-self c =
     let inside = below c.self.inside.kept.items c.self.inside.changes.entries c.self.inside.accesses c.args.self.now.words
-        (ap (λ (m : MemoryState). m.words) c.self.view_is) c.args.word c.requires.word in
+    (ap (λ (m : MemoryState). m.words) c.self.view_is) c.args.word c.requires.word in
     record {
       words = c.self.invariant.words;
       ports = length-set c.self.inside.requests c.args.port (Some c.args.word) ∙ c.self.invariant.ports;
