@@ -53,8 +53,7 @@ impl<L: Layout + Drop> Core<L> {
     {
         // Of two clients at one port the one would keep what the other asked for, in place of its own word
         // (`two_clients_act_through_one_port`).
-        let mut port = memory.port(client.0 as usize)?;
-        self.step(&mut port, client)
+        self.step(&mut memory.port(client.0 as usize)?, client)
     }
 
     /// As [`Core::run_alone`], through the client's port.
@@ -79,8 +78,7 @@ impl<L: Layout + Drop> Core<L> {
         ensures spare { IfErr result (λ e. self.old.trace.room ≤ self.new.trace.room) }
         ensures holds { HoldsOver self.new memory.new }
     {
-        let mut port = memory.port(client.0 as usize)?;
-        self.run_alone(&mut port, client)
+        self.run_alone(&mut memory.port(client.0 as usize)?, client)
     }
 
     /// As [`Core::evict`]. It leaves every request, so that the port does not matter.
@@ -110,7 +108,6 @@ impl<L: Layout + Drop> Core<L> {
         ensures stays { result ≡ Ok false → self.old.trace.room ≤ self.new.trace.room }
         ensures holds { HoldsOver self.new memory.new }
     {
-        let mut port = memory.port(RECOVERY_PORT)?;
-        self.recover_step(&mut port)
+        self.recover_step(&mut memory.port(RECOVERY_PORT)?)
     }
 }

@@ -42,18 +42,18 @@ lender_stays w client name2 port2 left first (Ok answer) same on =
 
 pub returns-clause-world : goal.returns-clause-world
 returns-clause-world g c =
-    let p = c.in_ok-port.port in
+    let p = c.in_ok-memory.field-0 in
     let v = c.run_alone.new.memory in
     let core : CoreState = c.args.self.now in
     let world : IfOk c.run_alone.result (λ answer. state_of c.run_alone.new.self v.memory.now.words ≡ after_alone answer.1 (state_of core c.args.memory.now.words) c.args.client) =
-    subst (λ (ws : Words). IfOk c.run_alone.result (λ answer. state_of c.run_alone.new.self v.memory.now.words ≡ after_alone answer.1 (state_of core ws) c.args.client)) c.in_ok-port.ensures.words c.run_alone.ensures.world in
+    subst (λ (ws : Words). IfOk c.run_alone.result (λ answer. state_of c.run_alone.new.self v.memory.now.words ≡ after_alone answer.1 (state_of core ws) c.args.client)) c.in_ok-memory.ensures.words c.run_alone.ensures.world in
     let name : v.memory.ghost_name ≡ p.memory.ghost_name =
     lender_stays (state_of core p.memory.now.words) c.args.client v.memory.ghost_name v.port v.memory.now (port_lent p) c.run_alone.result c.run_alone.ensures.left c.run_alone.ensures.lent in
     search rules
 
 pub returns-clause-holds : goal.returns-clause-holds
 returns-clause-holds g c =
-    let p = c.in_ok-port.port in
+    let p = c.in_ok-memory.field-0 in
     let v = c.run_alone.new.memory in
     let core : CoreState = c.args.self.now in
     let old : MemoryState = c.args.memory.now in
@@ -61,12 +61,12 @@ returns-clause-holds g c =
     let new : CoreState = c.run_alone.new.self in
     let first : Lent = port_lent p in
     let same : IfErr result (λ e. state_of new v.memory.now.words ≡ state_of core old.words) =
-    subst (λ (ws : Words). IfErr result (λ e. state_of new v.memory.now.words ≡ state_of core ws)) c.in_ok-port.ensures.words c.run_alone.ensures.same in
+    subst (λ (ws : Words). IfErr result (λ e. state_of new v.memory.now.words ≡ state_of core ws)) c.in_ok-memory.ensures.words c.run_alone.ensures.same in
     let world : IfOk result (λ answer. state_of new v.memory.now.words ≡ after_alone answer.1 (state_of core old.words) c.args.client) =
-    subst (λ (ws : Words). IfOk result (λ answer. state_of new v.memory.now.words ≡ after_alone answer.1 (state_of core ws) c.args.client)) c.in_ok-port.ensures.words c.run_alone.ensures.world in
+    subst (λ (ws : Words). IfOk result (λ answer. state_of new v.memory.now.words ≡ after_alone answer.1 (state_of core ws) c.args.client)) c.in_ok-memory.ensures.words c.run_alone.ensures.world in
     let on : IfOk result (λ answer. port_lent v ≡ lent_after_alone answer.1 (state_of core old.words) c.args.client first) =
-    subst (λ (ws : Words). IfOk result (λ answer. port_lent v ≡ lent_after_alone answer.1 (state_of core ws) c.args.client first)) c.in_ok-port.ensures.words c.run_alone.ensures.lent in
-    let asked = asked_after core new c.args.client _ v.memory.ghost_name v.port old v.memory.now first result c.requires.world c.requires.asked c.in_ok-port.ensures.lent same c.run_alone.ensures.left world on in
+    subst (λ (ws : Words). IfOk result (λ answer. port_lent v ≡ lent_after_alone answer.1 (state_of core ws) c.args.client first)) c.in_ok-memory.ensures.words c.run_alone.ensures.lent in
+    let asked = asked_after core new c.args.client _ v.memory.ghost_name v.port old v.memory.now first result c.requires.world c.requires.asked c.in_ok-memory.ensures.lent same c.run_alone.ensures.left world on in
     let over : HoldsOver c.run_alone.new.self v.memory.now = record { world = c.run_alone.ensures.holds; asked = asked } in
     let name : v.memory.ghost_name ≡ p.memory.ghost_name =
     lender_stays (state_of core p.memory.now.words) c.args.client v.memory.ghost_name v.port v.memory.now (port_lent p) c.run_alone.result c.run_alone.ensures.left c.run_alone.ensures.lent in
