@@ -1,0 +1,4 @@
+mod Turns
+mod Patterns
+mod Pigeons
+mod Lacking

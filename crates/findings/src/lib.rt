@@ -1,0 +1,8 @@
+//! What is known of the calls on a queue, and why no order explains it: four patterns, and the function that judges them.
+#![tactic(auto)]
+
+mod laws;
+mod witness;
+
+pub use laws::patterns_refute;
+pub use witness::{Ahead, Lack, Piece, Since, Witness};
