@@ -1,4 +1,7 @@
 mod Turns
 mod Patterns
 mod Pigeons
-mod Lacking
+mod Showing
+mod Rising
+mod Listing
+mod Covering

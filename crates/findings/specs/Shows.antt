@@ -69,6 +69,11 @@ pub record CanHaveTaken (events : List Event) (learnt : List (Option Outcome)) (
   pub not_refused : IsLearnt learnt take NotTaken → ⊥
   pub not_over : WasOver events since take → ⊥
 
+-- if the take can have taken a value of the puts, it is one of these takes
+pub record IsListed (events : List Event) (learnt : List (Option Outcome)) (puts takes : List ℕ)
+    (since : Option Since) (take : ℕ) : Type 0 where
+  pub contained : CanHaveTaken events learnt puts since take → Contains takes take
+
 -- a put that is known to have taken effect
 pub record IsKnownPut (events : List Event) (learnt : List (Option Outcome)) (put : ℕ) : Type 0 where
   pub value : ℕ
@@ -81,7 +86,7 @@ pub record IsFew (events : List Event) (learnt : List (Option Outcome)) (bound :
   pub certain : All (λ put. IsKnownPut events learnt put) puts
   pub different : AllPairs (λ p q. p ≢ q) puts
   pub in_since : AreInSince events learnt puts since
-  pub listed : (take : ℕ) → take < bound → CanHaveTaken events learnt puts since take → Contains takes take
+  pub listed : (take : ℕ) → take < bound → IsListed events learnt puts takes since take
   pub fewer : length takes < length puts
 
 -- the value of the put is known to have come out, by a take that began at `bound` or later
@@ -122,6 +127,13 @@ pub record IsHeld (events : List Event) (learnt : List (Option Outcome)) (piece 
 abbrev pub IsWithin : Piece → ℕ → Type 0
 IsWithin piece m = (piece.from ≤ m) × (m < piece.to)
 
+-- the place lies in one of the pieces
+pub record IsCovered (pieces : List Piece) (m : ℕ) : Type 0 where
+  pub index : ℕ
+  pub piece : Piece
+  pub at : slice_get pieces index ≡ Some piece
+  pub within : IsWithin piece m
+
 -- a take found nothing, but the queue held something at each place from its begin up to `end`, at which it ended, or
 -- which nothing follows
 pub record ShowsNotEmpty (events : List Event) (learnt : List (Option Outcome)) (take end : ℕ)
@@ -129,8 +141,7 @@ pub record ShowsNotEmpty (events : List Event) (learnt : List (Option Outcome)) 
   pub empty : IsKnown events learnt take Empty
   pub bounded : IsOverBy events take end ⊎ (length events ≤ end)
   pub held : All (λ piece. IsHeld events learnt piece) pieces
-  pub covered : (m : ℕ) → take ≤ m → m < end → (k : ℕ) × (piece : Piece) × (slice_get pieces k ≡ Some piece)
-      × IsWithin piece m
+  pub covered : (m : ℕ) → take ≤ m → m < end → IsCovered pieces m
 
 -- what the witness says is so
 abbrev pub IsShown : List Event → List (Option Outcome) → Witness → Type 0

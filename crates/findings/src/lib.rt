@@ -1,8 +1,13 @@
 //! What is known of the calls on a queue, and why no order explains it: four patterns, and the function that judges them.
 #![tactic(auto)]
 
+mod distinct;
+mod judging;
+mod known;
+mod lacking;
 mod laws;
 mod witness;
 
+pub use judging::refutes;
 pub use laws::patterns_refute;
 pub use witness::{Ahead, Lack, Piece, Since, Witness};

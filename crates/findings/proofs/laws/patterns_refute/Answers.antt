@@ -1,4 +1,4 @@
-use Rattle.findings.proofs.Lacking.{shown_refutes}
+use Rattle.findings.proofs.Showing.{shown_refutes}
 use Rattle.findings.proofs.laws.patterns_refute.Goals as goal
 
 pub returns : goal.returns

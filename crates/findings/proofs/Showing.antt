@@ -196,7 +196,7 @@ lack_refutes events learnt order explains distinct bound (Few puts takes since) 
     let taken : IsTakenBefore order bound known.value = each p known.value contained known.puts in
     record {
       one = taken.got.entry.place;
-      contained = in_from_contains takes.items taken.got.entry.place (lacks.listed taken.got.entry.place taken.early
+      contained = in_from_contains takes.items taken.got.entry.place ((lacks.listed taken.got.entry.place taken.early).contained
           (can_have_taken events learnt order explains distinct puts.items since lacks.in_since p known.value taken.index
           contained known.puts taken.got));
       related = record {
@@ -308,7 +308,7 @@ named : (events : List Event) (learnt : List (Option Outcome)) (order : List Ent
 named events learnt order explains i x at =
     let served = (explains.replays i (slice_get_within order i x at)).served x at in (served.call, served.names)
 
-within_events : (events : List Event) (p : ℕ) (call : Call) → call_at events p ≡ Some call → p < length events
+pub within_events : (events : List Event) (p : ℕ) (call : Call) → call_at events p ≡ Some call → p < length events
 within_events [] p call is = cc
 within_events (event ∷ events) zero call is = omega arith
 within_events (event ∷ events) (suc p) call is =
@@ -415,8 +415,8 @@ not_empty_refutes events learnt take end pieces distinct shows order explains =
     shows.bounded))
     (cases_lt moment.entry.place end) in
     let inside = shows.covered moment.entry.place (omega (arith, has.place, low)) high in
-    in_piece has moment calls inside.1
-    (held_at inside.0 inside.1 inside.2) inside.3
+    in_piece has moment calls inside.piece
+    (held_at inside.index inside.piece inside.at) inside.within
   where
     held_at : (k : ℕ) (piece : Piece) → slice_get pieces k ≡ Some piece → IsHeld events learnt piece
     held_at k piece at = subst (IsHeld events learnt) (get_or_from_slice_get pieces k piece piece at)
