@@ -5,3 +5,4 @@ mod Showing
 mod Rising
 mod Listing
 mod Covering
+mod Tables

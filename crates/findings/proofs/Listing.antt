@@ -1,5 +1,5 @@
 -- Which takes are listed.
-use Rattle.std.proofs.Common.{ℕ, ◌≡◌, ◌≢◌, ◌<◌, ◌≤◌, List, Option, length, arith, min, get_or}
+use Rattle.std.proofs.Common.{ℕ, ◌≡◌, ◌≢◌, ◌<◌, List, Option, length, arith, min, get_or}
 use Rattle.std.specs.Prelude.{AllPairs}
 use Rattle.words.specs.declared.call.Call.TheVariants.{Deq}
 use Rattle.words.specs.declared.told.Outcome.{Outcome}

@@ -1,8 +1,7 @@
 -- Values that rise from call to call.
-use Rattle.std.proofs.Common.{ℕ, zero, suc, ◌≡◌, ◌≢◌, ◌<◌, ◌≤◌, ◌+◌, ◌⊎◌, List, Option, Some, None, slice_get, length}
-use Rattle.std.proofs.Common.{arith, ap, sym, ◌∙◌, subst, ⊎_elim, refl}
+use Rattle.std.proofs.Common.{ℕ, ◌≡◌, ◌<◌, ◌≤◌, ◌+◌, List, Some, length}
+use Rattle.std.proofs.Common.{arith, ap, sym, ◌∙◌, subst, ⊎_elim}
 use Rattle.std.proofs.lemmas.Bool.{cases_lt}
-use Rattle.words.specs.declared.call.Call.{Call}
 use Rattle.words.specs.declared.call.Call.TheVariants.{Enq}
 use Rattle.events.specs.declared.event.Event.{Event}
 use Rattle.events.specs.Replay.{call_at}

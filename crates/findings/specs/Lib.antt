@@ -4,3 +4,4 @@ pub use Rattle.events.specs.Replay
 pub use Rattle.events.specs.Explains
 pub mod Findings
 pub mod Shows
+pub mod Agreeing

@@ -45,10 +45,12 @@ pub(crate) fn value_of_put(events: &[Event], p: usize) -> Option<u32>
     ensures none { IfNone result ((value : ℕ) → PutsAt events.now p value → ⊥) }
 {
     match events.get(p) {
-        Some(Event::Call {
-            call: Call::Enq(value),
-            ..
-        }) => Some(*value),
+        Some(
+            Event::Call {
+                call: Call::Enq(value),
+                ..
+            },
+        ) => Some(*value),
         _ => None,
     }
 }
@@ -84,11 +86,7 @@ fn returned_reply(events: &[Event], p: usize) -> Option<Reply>
 }
 
 /// The reply with which the call at `p` is known to have taken effect, if it is.
-pub(crate) fn known_reply(
-    events: &[Event],
-    learnt: &[Option<Outcome>],
-    p: usize,
-) -> Option<Reply>
+pub(crate) fn known_reply(events: &[Event], learnt: &[Option<Outcome>], p: usize) -> Option<Reply>
     ensures { IfSome result (λ reply. IsKnown events.now learnt.now p reply) }
 {
     if let Some(Some(Outcome::Taken(reply))) = learnt.get(p) {
@@ -98,12 +96,7 @@ pub(crate) fn known_reply(
 }
 
 /// Whether the call at `p` is known to have taken effect with this reply.
-pub(crate) fn is_known(
-    events: &[Event],
-    learnt: &[Option<Outcome>],
-    p: usize,
-    reply: Reply,
-) -> bool
+pub(crate) fn is_known(events: &[Event], learnt: &[Option<Outcome>], p: usize, reply: Reply) -> bool
     ensures { IsTrue result → IsKnown events.now learnt.now p reply }
 {
     match known_reply(events, learnt, p) {

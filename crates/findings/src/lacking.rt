@@ -72,12 +72,7 @@ fn is_value_of(events: &[Event], puts: &[usize], value: u32) -> bool
 }
 
 /// Whether what is known of the take's reply allows that it took a value of the puts.
-fn allows_value(
-    events: &[Event],
-    learnt: &[Option<Outcome>],
-    puts: &[usize],
-    take: usize,
-) -> bool
+fn allows_value(events: &[Event], learnt: &[Option<Outcome>], puts: &[usize], take: usize) -> bool
     ensures { (since : Option Since) → CanHaveTaken events.now learnt.now puts.now since take → IsTrue result }
 {
     match known_reply(events, learnt, take) {
@@ -210,12 +205,7 @@ fn is_late(
 }
 
 /// Whether takes that began before the bound cannot have taken all values of the puts of this lack.
-pub(crate) fn lacks(
-    events: &[Event],
-    learnt: &[Option<Outcome>],
-    bound: usize,
-    lack: &Lack,
-) -> bool
+pub(crate) fn lacks(events: &[Event], learnt: &[Option<Outcome>], bound: usize, lack: &Lack) -> bool
     ensures { IsTrue result → Lacks events.now learnt.now bound lack.now }
 {
     match lack {

@@ -1,5 +1,3 @@
-use Rattle.std.proofs.Common.{ℕ, ◌≡◌, ◌<◌, ◌≤◌}
-use Rattle.findings.specs.Findings.{PutsAt}
 use Rattle.findings.proofs.Rising.{RisesTo}
 use Rattle.findings.proofs.distinct.values_rise.Given as goal
 

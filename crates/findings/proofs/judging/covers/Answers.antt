@@ -1,4 +1,4 @@
-use Rattle.std.proofs.Common.{◌<◌, ◌≤◌, arith, rules}
+use Rattle.std.proofs.Common.{arith, rules}
 use Rattle.findings.proofs.Covering.{covered_more}
 use Rattle.findings.proofs.judging.covers.Goals as goal
 
