@@ -18,6 +18,15 @@ pub struct PointOptions<'a> {
     pub page: Option<&'a str>,
 }
 
+/// What a verdict on a recording is asked to be.
+#[derive(Clone, Copy, Debug, PartialEq, Eq)]
+pub struct CheckOptions<'a> {
+    /// The entries of the order that explains the recording are printed, too.
+    pub order: bool,
+    /// The path of the file for the recording's page, if there is to be one.
+    pub page: Option<&'a str>,
+}
+
 /// What `pqx` is asked to do.
 #[derive(Clone, Copy, Debug, PartialEq, Eq)]
 pub enum PqxAsked<'a> {
@@ -27,4 +36,6 @@ pub enum PqxAsked<'a> {
     Points(PointOptions<'a>),
     /// What becomes of each call that stopped at a point of a script, where it goes on alone.
     Alone,
+    /// Whether an order explains a recording.
+    Check(CheckOptions<'a>),
 }

@@ -6,10 +6,10 @@ ghost use Rattle.clap.specs.Words.{first_value, found_of, kind_of, subcommand_ro
 ghost use Rattle.options.specs.Asked.{name_in, values_in};
 ghost use Rattle.options.specs.declared.limits.TheConstants.{DEFAULT_DRAW, MAX_DRAW};
 ghost use Rattle.options.specs.Numbers.{Fits, number_of};
-ghost use Rattle.options.specs.PqxAsked.{AllFit, Asks, AsksPoints, Chooses, IsChoice, IsPqxAsked, RefusesPqx};
+ghost use Rattle.options.specs.PqxAsked.{AllFit, Asks, AsksCheck, AsksPoints, Chooses, IsChoice, IsPqxAsked, RefusesPqx};
 
 use crate::limits::DEFAULT_DRAW;
-use crate::pqx::{Choice, PointOptions, PqxAsked};
+use crate::pqx::{CheckOptions, Choice, PointOptions, PqxAsked};
 use crate::pqx_commands::pqx;
 use clap::error::ErrorKind;
 use clap::{ArgMatches, Command, Error};
@@ -72,6 +72,16 @@ fn point_options<'a>(given: &ArgMatches<'a>) -> Result<PointOptions<'a>, Misfit>
     })
 }
 
+/// What a verdict on a recording is asked to be.
+fn check_options<'a>(given: &ArgMatches<'a>) -> CheckOptions<'a>
+    ensures { AsksCheck (first_value (found_of given.now)) result }
+{
+    CheckOptions {
+        order: given.get_flag("order"),
+        page: given.get_str("page"),
+    }
+}
+
 /// What a command asks with the options that it was given.
 fn asked_by<'a>(command: &str, given: &ArgMatches<'a>) -> Result<PqxAsked<'a>, Misfit>
     ensures asked { IfOk result (Asks (Some command.now) (first_value (found_of given.now))) }
@@ -80,6 +90,7 @@ fn asked_by<'a>(command: &str, given: &ArgMatches<'a>) -> Result<PqxAsked<'a>, M
     match command {
         "points" => Ok(PqxAsked::Points(point_options(given)?)),
         "alone" => Ok(PqxAsked::Alone),
+        "check" => Ok(PqxAsked::Check(check_options(given))),
         _ => Ok(PqxAsked::Run),
     }
 }
