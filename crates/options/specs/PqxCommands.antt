@@ -24,9 +24,12 @@ check_app = with_rule (with_rule (new_app (codes "check"))
 abbrev pub top_app : App
 top_app = on_top (λ s. record s { has_version = true; subcommand_required = true }) (new_app (codes "pqx"))
 
-abbrev pub pqx_app : App
-pqx_app = with_subcommand (with_subcommand (with_subcommand (with_subcommand top_app
+-- with the commands that follow scripts
+abbrev pub scripts_app : App
+scripts_app = with_subcommand (with_subcommand (with_subcommand top_app
     (new_app (codes "run")).top)
     points_app.top)
-    (new_app (codes "alone")).top)
-    check_app.top
+    (new_app (codes "alone")).top
+
+abbrev pub pqx_app : App
+pqx_app = with_subcommand scripts_app check_app.top

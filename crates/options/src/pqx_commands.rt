@@ -3,7 +3,7 @@
 ghost use Rattle.std.specs.Prelude.{◌≡◌, IfOk, false};
 ghost use Rattle.clap.specs.Words.{app_of, new_app};
 ghost use Rattle.clap.specs.declared.builder.command.Command.TheViews.{out-Command};
-ghost use Rattle.options.specs.PqxCommands.{check_app, points_app, pqx_app, top_app};
+ghost use Rattle.options.specs.PqxCommands.{check_app, points_app, pqx_app, scripts_app, top_app};
 
 use crate::commands::option;
 use crate::program::VERSION;
@@ -110,9 +110,9 @@ fn top<'a>(alloc: Global) -> Command<'a>
         .subcommand_required(true)
 }
 
-/// `pqx run`, `pqx points`, `pqx alone`, `pqx check`
-pub(crate) fn pqx<'a>(alloc: Global) -> Result<Command<'a>, AllocError>
-    ensures app { IfOk result (λ c. app_of c ≡ pqx_app) }
+/// `pqx` with the commands that follow scripts
+fn with_scripts<'a>(alloc: Global) -> Result<Command<'a>, AllocError>
+    ensures app { IfOk result (λ c. app_of c ≡ scripts_app) }
 {
     let run = plain(
         alloc,
@@ -127,6 +127,13 @@ pub(crate) fn pqx<'a>(alloc: Global) -> Result<Command<'a>, AllocError>
     top(alloc)
         .subcommand(run)?
         .subcommand(points(alloc)?)?
-        .subcommand(alone)?
-        .subcommand(check(alloc)?)
+        .subcommand(alone)
+}
+
+/// `pqx run`, `pqx points`, `pqx alone`, `pqx check`
+pub(crate) fn pqx<'a>(alloc: Global) -> Result<Command<'a>, AllocError>
+    ensures app { IfOk result (λ c. app_of c ≡ pqx_app) }
+{
+    let command = check(alloc)?;
+    with_scripts(alloc)?.subcommand(command)
 }

@@ -6,7 +6,7 @@ use std::alloc::AllocError;
 use std::io::{IsTerminal, Read, Write};
 use std::process::ExitCode;
 use std::time::{Clock, Duration};
-use std::{fs, io};
+use std::io;
 use words::Refusal;
 
 /// For so many milliseconds nothing is shown.

@@ -1,12 +1,14 @@
-//! Follows scripts of single steps on a queue, and crashes them everywhere.
+//! Follows scripts of single steps on a queue, and crashes them everywhere; finds an order for recordings of any queue.
 #![tactic(auto)]
 
 ghost use Rattle.std.specs.Prelude.{◌≡◌};
 ghost use Rattle.pqx.specs.Faults.{fault_of};
 
+mod checking;
 mod evictions;
 mod progress;
 
+use crate::checking::check;
 use crate::evictions::evictions;
 use crate::progress::Progress;
 use devices::{CountedReader, CountedWriter};
@@ -94,29 +96,28 @@ fn report<H: Threads + Sync>(
     }
 }
 
-/// Does what was asked for.
+/// Does what was asked for, and answers with which status to end.
 fn answer<H: Threads + Sync>(
     threads: &H,
     rt: &HostRuntime,
     asked: PqxAsked<'_>,
-) -> Result<(), Refusal> {
+) -> Result<ExitCode, Refusal> {
     let mut reader = CountedReader::new(rt.reader());
     let mut writer = CountedWriter::new(io::writer(rt));
     match asked {
-        PqxAsked::Run => explore::run(rt.alloc(), &mut reader, &mut writer),
-        PqxAsked::Alone => explore::run_alone(rt.alloc(), &mut reader, &mut writer),
-        PqxAsked::Points(points) => report(threads, rt, points),
+        PqxAsked::Run => explore::run(rt.alloc(), &mut reader, &mut writer)?,
+        PqxAsked::Alone => explore::run_alone(rt.alloc(), &mut reader, &mut writer)?,
+        PqxAsked::Points(points) => report(threads, rt, points)?,
+        PqxAsked::Check(asked) => return check(rt, asked),
     }
+    Ok(ExitCode::SUCCESS)
 }
 
 /// Does what the command line asks for, and answers with which status to end.
 fn follow<H: Threads + Sync>(threads: &H, rt: &HostRuntime) -> Result<ExitCode, Fault> {
     let words = options::words(rt)?;
     match pqx_command_line(rt.alloc(), &words) {
-        Ok(asked) => {
-            answer(threads, rt, asked)?;
-            Ok(ExitCode::SUCCESS)
-        }
+        Ok(asked) => Ok(answer(threads, rt, asked)?),
         Err(error) => Ok(options::explained(rt, &error)?),
     }
 }
