@@ -3,10 +3,10 @@
 use options::CheckOptions;
 use recording::{Answer, Fault, Recording, Watch, answer_of, print_order, read, verdict};
 use std::alloc::AllocError;
+use std::io;
 use std::io::{IsTerminal, Read, Write};
 use std::process::ExitCode;
 use std::time::{Clock, Duration};
-use std::io;
 use words::Refusal;
 
 /// For so many milliseconds nothing is shown.
@@ -100,7 +100,11 @@ fn text(
 }
 
 /// Answers for a recording, and says which status to end with.
-fn answered(rt: &HostRuntime, recording: &Recording, asked: CheckOptions<'_>) -> Result<ExitCode, Refusal> {
+fn answered(
+    rt: &HostRuntime,
+    recording: &Recording,
+    asked: CheckOptions<'_>,
+) -> Result<ExitCode, Refusal> {
     let mut searching = Searching::new(rt);
     let answer = answer_of(rt.alloc(), recording, &mut searching);
     searching.clear();
