@@ -6,3 +6,5 @@ mod Rising
 mod Listing
 mod Covering
 mod Tables
+mod Same
+mod Filled

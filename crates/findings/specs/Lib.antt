@@ -5,3 +5,4 @@ pub use Rattle.events.specs.Explains
 pub mod Findings
 pub mod Shows
 pub mod Agreeing
+pub mod Filling

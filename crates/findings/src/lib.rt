@@ -11,5 +11,5 @@ mod witness;
 
 pub use agreeing::explains_known;
 pub use judging::refutes;
-pub use laws::patterns_refute;
+pub use laws::{findings_are_fillings, patterns_refute};
 pub use witness::{Ahead, Lack, Piece, Since, Witness};
