@@ -60,7 +60,7 @@ fn mark(
 ) -> Result<usize, AllocError> {
     for place in from..list.len() {
         let (key, number) = list[place];
-        if key >= below && key != NEVER {
+        if key >= below && below != NEVER {
             return Ok(place);
         }
         let count = at(marks, number).wrapping_add(1);

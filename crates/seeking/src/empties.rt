@@ -47,8 +47,10 @@ fn changes_at(
     };
     for item in items {
         if item.is_known {
-            change(&mut changes.cover, item.in_by(), 1);
-            change(&mut changes.cover, item.out_from(), -1);
+            if item.in_by() < item.out_from() {
+                change(&mut changes.cover, item.in_by(), 1);
+                change(&mut changes.cover, item.out_from(), -1);
+            }
         } else {
             change(&mut changes.missing, item.put.end, 1);
             if item.release > item.put.end {
