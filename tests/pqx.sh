@@ -28,6 +28,8 @@ try run-help 0 run --help < /dev/null
 try help-run 0 help run < /dev/null
 try points-help 0 points --help < /dev/null
 try alone-help 0 alone --help < /dev/null
+try check-help 0 check --help < /dev/null
+try help-check 0 help check < /dev/null
 try version 0 --version < /dev/null
 try short-version 0 -V < /dev/null
 try no-command 2 < /dev/null
@@ -144,6 +146,11 @@ bad_option "unexpected argument 'crash.script' found" 'pqx points [OPTIONS]' poi
 bad_option "unexpected argument 'crash.script' found" 'pqx alone' alone crash.script
 bad_option "unexpected argument '--evict' found" 'pqx alone' alone --evict all
 bad_option "unexpected argument '--evict' found" 'pqx run' run --evict all
+bad_option "unexpected argument '--evict' found" 'pqx check [OPTIONS]' check --evict all
+bad_option "unexpected argument 'crash.script' found" 'pqx check [OPTIONS]' check crash.script
+bad_option "unexpected value 'yes' for '--order' found; no more were expected" 'pqx check --order' check --order=yes
+bad_option "the argument '--order' cannot be used multiple times" 'pqx check [OPTIONS]' check --order --order
+bad_option "a value is required for '--page <FILE>' but none was supplied" '' check --page
 
 # Scripts that are no text: a byte 0, and bytes that no character has.
 printf 'queue durable 1 1\n\0\n' > "$work/in"

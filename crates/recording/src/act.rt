@@ -1,7 +1,5 @@
 //! What was recorded, one thing after another.
 
-use std::alloc::Global;
-
 /// What a call was answered.
 #[derive(Clone, Copy, Debug, PartialEq, Eq)]
 pub enum Said {
@@ -59,27 +57,8 @@ pub struct Recording {
 }
 
 impl Recording {
-    pub fn new(alloc: Global) -> Self {
-        Recording {
-            calls: Vec::new(alloc),
-            steps: Vec::new(alloc),
-            clients: Vec::new(alloc),
-            values: Vec::new(alloc),
-            times: Vec::new(alloc),
-            ranks: Vec::new(alloc),
-        }
-    }
-
     /// The number of a value among those that are put.
-    pub fn rank(&self, value: usize) -> u32 {
+    pub(crate) fn rank(&self, value: usize) -> u32 {
         self.ranks.get(value).copied().unwrap_or(u32::MAX)
-    }
-
-    /// The value that is put as the one of this number.
-    pub fn value_of(&self, rank: u32) -> usize {
-        self.ranks
-            .iter()
-            .position(|other| *other == rank)
-            .unwrap_or(usize::MAX)
     }
 }

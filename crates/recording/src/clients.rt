@@ -23,18 +23,18 @@ pub(crate) struct Clients {
 }
 
 impl Clients {
-    pub fn new(alloc: Global) -> Self {
+    pub(crate) fn new(alloc: Global) -> Self {
         Clients {
             states: Vec::new(alloc),
             holders: [false; 16],
         }
     }
 
-    pub fn state(&self, client: usize) -> State {
+    pub(crate) fn state(&self, client: usize) -> State {
         self.states.get(client).copied().unwrap_or(State::Idle)
     }
 
-    pub fn set(&mut self, client: usize, state: State) -> Result<(), AllocError> {
+    pub(crate) fn set(&mut self, client: usize, state: State) -> Result<(), AllocError> {
         for _ in self.states.len()..client.saturating_add(1) {
             self.states.push(State::Idle)?;
         }
@@ -45,7 +45,7 @@ impl Clients {
     }
 
     /// The lowest number that is free, which is free no more.
-    pub fn hold(&mut self) -> Option<u8> {
+    pub(crate) fn hold(&mut self) -> Option<u8> {
         for number in 0..16u8 {
             if !self.holders[number as usize] {
                 self.holders[number as usize] = true;
@@ -55,14 +55,14 @@ impl Clients {
         None
     }
 
-    pub fn free(&mut self, number: u8) {
+    pub(crate) fn free(&mut self, number: u8) {
         if let Some(holder) = self.holders.get_mut(number as usize) {
             *holder = false;
         }
     }
 
     /// Every call that is open is over.
-    pub fn crash(&mut self) {
+    pub(crate) fn crash(&mut self) {
         self.holders = [false; 16];
         for state in self.states.iter_mut() {
             *state = match *state {

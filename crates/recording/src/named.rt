@@ -11,7 +11,7 @@ pub(crate) struct Named {
 }
 
 impl Named {
-    pub fn new(alloc: Global) -> Self {
+    pub(crate) fn new(alloc: Global) -> Self {
         Named {
             numbers: HashMap::new(alloc),
             texts: Vec::new(alloc),
@@ -19,7 +19,7 @@ impl Named {
     }
 
     /// The number of a text, a new one if it has none.
-    pub fn number(&mut self, text: String) -> Result<usize, AllocError> {
+    pub(crate) fn number(&mut self, text: String) -> Result<usize, AllocError> {
         if let Some(number) = self.numbers.get(text.as_str()) {
             return Ok(*number);
         }
@@ -31,7 +31,7 @@ impl Named {
     }
 
     /// The texts.
-    pub fn into_texts(self) -> Vec<String> {
+    pub(crate) fn into_texts(self) -> Vec<String> {
         let Named { numbers: _, texts } = self;
         texts
     }

@@ -134,7 +134,11 @@ impl Walk {
 }
 
 /// The calls of the first so many steps.
-pub fn prefix_of(alloc: Global, recording: &Recording, count: usize) -> Result<Prefix, AllocError> {
+pub(crate) fn prefix_of(
+    alloc: Global,
+    recording: &Recording,
+    count: usize,
+) -> Result<Prefix, AllocError> {
     let refused = refused(alloc, recording, count)?;
     let mut number_of = Vec::with_capacity(alloc, recording.calls.len())?;
     for _ in 0..recording.calls.len() {
@@ -170,7 +174,7 @@ pub fn prefix_of(alloc: Global, recording: &Recording, count: usize) -> Result<P
 
 impl Prefix {
     /// The call that begins at a place.
-    pub fn call_at(&self, recording: &Recording, place: usize) -> Option<usize> {
+    pub(crate) fn call_at(&self, recording: &Recording, place: usize) -> Option<usize> {
         let step = self.step_of.get(place).copied()?;
         match recording.steps.get(step)?.act {
             Act::Begin(call) => Some(call),
@@ -179,7 +183,7 @@ impl Prefix {
     }
 
     /// What was learnt of calls, by their places.
-    pub fn learnt(&self, alloc: Global) -> Result<Vec<Option<Outcome>>, AllocError> {
+    pub(crate) fn learnt(&self, alloc: Global) -> Result<Vec<Option<Outcome>>, AllocError> {
         let mut learnt = Vec::with_capacity(alloc, self.calls.places)?;
         for _ in 0..self.calls.places {
             learnt.push(None)?;
@@ -204,7 +208,11 @@ impl Prefix {
     }
 
     /// The events, whose Readys tell nothing.
-    pub fn events(&self, alloc: Global, recording: &Recording) -> Result<Vec<Event>, AllocError> {
+    pub(crate) fn events(
+        &self,
+        alloc: Global,
+        recording: &Recording,
+    ) -> Result<Vec<Event>, AllocError> {
         let mut events = Vec::with_capacity(alloc, self.calls.places)?;
         for place in 0..self.calls.places.min(self.step_of.len()) {
             let number = self.step_of[place];

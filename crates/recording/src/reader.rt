@@ -30,7 +30,7 @@ pub(crate) struct At {
 }
 
 impl Reader {
-    pub fn new(alloc: Global) -> Self {
+    pub(crate) fn new(alloc: Global) -> Self {
         Reader {
             alloc,
             clients: Named::new(alloc),
@@ -45,7 +45,7 @@ impl Reader {
     }
 
     /// Keeps the text of a time, and answers one more than its number.
-    pub fn keep_time(&mut self, text: String) -> Result<u32, Fault> {
+    pub(crate) fn keep_time(&mut self, text: String) -> Result<u32, Fault> {
         self.times.push(text)?;
         Ok(u32::try_from(self.times.len()).unwrap_or(0))
     }
@@ -86,7 +86,7 @@ impl Reader {
     }
 
     /// A call of a client begins.
-    pub fn begin(
+    pub(crate) fn begin(
         &mut self,
         client: usize,
         puts: Option<String>,
@@ -132,7 +132,7 @@ impl Reader {
     }
 
     /// The call is answered, refused or given up. The answer is whether it is open still.
-    pub fn answer(
+    pub(crate) fn answer(
         &mut self,
         client: usize,
         call: usize,
@@ -160,12 +160,12 @@ impl Reader {
         Ok(false)
     }
 
-    pub fn crash(&mut self, at: At) -> Result<(), Fault> {
+    pub(crate) fn crash(&mut self, at: At) -> Result<(), Fault> {
         self.states.crash();
         self.add(Act::Crash, at)
     }
 
-    pub fn client(&mut self, text: String) -> Result<usize, Fault> {
+    pub(crate) fn client(&mut self, text: String) -> Result<usize, Fault> {
         Ok(self.clients.number(text)?)
     }
 
@@ -241,7 +241,7 @@ impl Reader {
     }
 
     /// Takes what a line without times says.
-    pub fn take(&mut self, line: Line, at: At) -> Result<(), Fault> {
+    pub(crate) fn take(&mut self, line: Line, at: At) -> Result<(), Fault> {
         if self.is_over {
             return Err(Fault::Line(at.line, Why::AfterFinal));
         }
@@ -290,7 +290,7 @@ impl Reader {
         Ok(ranks)
     }
 
-    pub fn recording(self) -> Result<Recording, Fault> {
+    pub(crate) fn recording(self) -> Result<Recording, Fault> {
         let ranks = self.ranks()?;
         Ok(Recording {
             calls: self.calls,

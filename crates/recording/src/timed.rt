@@ -51,14 +51,14 @@ pub(crate) struct Clock {
 }
 
 impl Clock {
-    pub fn new(alloc: Global) -> Self {
+    pub(crate) fn new(alloc: Global) -> Self {
         Clock {
             timed: Vec::new(alloc),
             ticks: Vec::new(alloc),
         }
     }
 
-    pub fn is_empty(&self) -> bool {
+    pub(crate) fn is_empty(&self) -> bool {
         self.timed.is_empty()
     }
 
@@ -107,7 +107,7 @@ impl Clock {
     }
 
     /// Takes a line with times.
-    pub fn take(&mut self, reader: &mut Reader, said: Line, line: u32) -> Result<(), Fault> {
+    pub(crate) fn take(&mut self, reader: &mut Reader, said: Line, line: u32) -> Result<(), Fault> {
         match said {
             Line::Whole(whole) => self.take_call(reader, whole, line),
             Line::CrashAt(moment) => {
@@ -126,7 +126,7 @@ impl Clock {
     }
 
     /// Gives everything to the reader, in order.
-    pub fn play(mut self, reader: &mut Reader) -> Result<(), Fault> {
+    pub(crate) fn play(mut self, reader: &mut Reader) -> Result<(), Fault> {
         self.ticks.sort_by(order)?;
         for tick in &self.ticks {
             let Some(timed) = self.timed.get_mut(tick.call) else {

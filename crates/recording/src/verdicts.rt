@@ -19,6 +19,8 @@ struct Pen<'a> {
     prefix: &'a Prefix,
     /// For each call one more than the step that says last what became of it.
     ends: Vec<usize>,
+    /// The values as they were put.
+    values: Vec<usize>,
     text: String,
 }
 
@@ -47,6 +49,36 @@ fn ends(alloc: Global, recording: &Recording, count: usize) -> Result<Vec<usize>
     Ok(ends)
 }
 
+/// The values by their numbers among those that are put.
+fn values_by_rank(alloc: Global, recording: &Recording) -> Result<Vec<usize>, AllocError> {
+    let mut pairs = Vec::with_capacity(alloc, recording.ranks.len())?;
+    for (value, rank) in recording.ranks.iter().enumerate() {
+        pairs.push((*rank, value))?;
+    }
+    pairs.sort()?;
+    let mut values = Vec::with_capacity(alloc, pairs.len())?;
+    for pair in &pairs {
+        values.push(pair.1)?;
+    }
+    Ok(values)
+}
+
+/// For each value one more than the step at which it is known to have come out.
+fn outs(alloc: Global, recording: &Recording) -> Result<Vec<usize>, AllocError> {
+    let mut outs = Vec::with_capacity(alloc, recording.values.len())?;
+    for _ in 0..recording.values.len() {
+        outs.push(0usize)?;
+    }
+    for (number, step) in recording.steps.iter().enumerate() {
+        if let Act::Answer(_, Said::Got(value)) | Act::LearnTaken(_, Said::Got(value)) = step.act {
+            if let Some(out) = outs.get_mut(value) {
+                *out = number.saturating_add(1);
+            }
+        }
+    }
+    Ok(outs)
+}
+
 impl<'a> Pen<'a> {
     fn new(
         alloc: Global,
@@ -58,6 +90,7 @@ impl<'a> Pen<'a> {
             recording,
             prefix,
             ends: ends(alloc, recording, prefix.count)?,
+            values: values_by_rank(alloc, recording)?,
             text: String::new(alloc),
         })
     }
@@ -207,12 +240,12 @@ impl<'a> Pen<'a> {
             .unwrap_or(usize::MAX)
     }
 
-    /// The step at which a value is known to have come out, in all of the recording.
-    fn came_out(&self, value: usize) -> Option<usize> {
-        self.recording.steps.iter().position(|step| match step.act {
-            Act::Answer(_, said) | Act::LearnTaken(_, said) => said == Said::Got(value),
-            _ => false,
-        })
+    /// The value that is put as the one of this number.
+    fn value_of(&self, rank: u32) -> usize {
+        self.values
+            .get(rank as usize)
+            .copied()
+            .unwrap_or(usize::MAX)
     }
 
     /// Since when the values were in the queue, or not yet in it.
@@ -304,38 +337,33 @@ impl<'a> Pen<'a> {
         }
     }
 
+    /// What became of the value of one put that was passed over, in all of the recording.
+    fn later_of_one(&mut self, outs: &[usize], put: usize) -> Result<(), AllocError> {
+        let out = outs.get(self.value_at(put)).copied().unwrap_or(0);
+        if out == 0 {
+            return self.say("  it never came out\n");
+        }
+        self.say("  it came out at ")?;
+        self.line(out.wrapping_sub(1))?;
+        self.say("\n")
+    }
+
     /// What became of the values that were passed over, in all of the recording.
     fn later(&mut self, lack: &Lack) -> Result<(), AllocError> {
-        let mut lost = 0usize;
-        let mut last = None;
-        let count = match lack {
-            Lack::Late { put, .. } => {
-                last = self.came_out(self.value_at(*put));
-                1
-            }
-            Lack::Few { puts, .. } => {
-                for put in puts {
-                    last = self.came_out(self.value_at(*put));
-                    if last.is_none() {
-                        lost = lost.saturating_add(1);
-                    }
-                }
-                puts.len()
-            }
+        let outs = outs(self.alloc, self.recording)?;
+        let puts = match lack {
+            Lack::Few { puts, .. } if puts.len() > 1 => puts,
+            _ => return self.later_of_one(&outs, first_put(lack)),
         };
-        match last {
-            Some(step) if count == 1 => {
-                self.say("  it came out at ")?;
-                self.line(step)?;
-                self.say("\n")
-            }
-            _ if count == 1 => self.say("  it never came out\n"),
-            _ => {
-                self.say("  ")?;
-                self.count(lost)?;
-                self.say(" of them never came out\n")
+        let mut lost = 0usize;
+        for put in puts {
+            if outs.get(self.value_at(*put)).copied().unwrap_or(0) == 0 {
+                lost = lost.saturating_add(1);
             }
         }
+        self.say("  ")?;
+        self.count(lost)?;
+        self.say(" of them never came out\n")
     }
 
     /// Values that were passed over.
@@ -382,7 +410,7 @@ impl<'a> Pen<'a> {
 
     /// A value that nobody can have put.
     fn invented(&mut self, take: usize, rank: u32) -> Result<(), AllocError> {
-        let value = self.recording.value_of(rank);
+        let value = self.value_of(rank);
         self.value(value)?;
         self.say(" came out and was not put\n  ")?;
         self.take_at(take)?;
@@ -417,7 +445,7 @@ impl<'a> Pen<'a> {
     }
 
     fn twice(&mut self, first: usize, second: usize, rank: u32) -> Result<(), AllocError> {
-        let value = self.recording.value_of(rank);
+        let value = self.value_of(rank);
         self.value(value)?;
         self.say(" came out twice\n  ")?;
         self.take_at(first)?;
@@ -476,7 +504,7 @@ impl<'a> Pen<'a> {
         }
         match entry.reply {
             Reply::Done => self.value(of.and_then(|of| of.puts).unwrap_or(usize::MAX))?,
-            Reply::Got(rank) => self.value(self.recording.value_of(rank))?,
+            Reply::Got(rank) => self.value(self.value_of(rank))?,
             Reply::Empty => {}
         }
         self.say("\n")

@@ -31,7 +31,7 @@ pub(crate) struct Item {
 
 impl Item {
     /// Where its take ends, at the latest.
-    pub fn out_by(&self) -> usize {
+    pub(crate) fn out_by(&self) -> usize {
         match self.take {
             Some(take) => take.end,
             None => NEVER,
@@ -39,7 +39,7 @@ impl Item {
     }
 
     /// From where it can be taken.
-    pub fn out_from(&self) -> usize {
+    pub(crate) fn out_from(&self) -> usize {
         match self.take {
             Some(take) => take.begin.max(self.put.begin).max(self.release),
             None => NEVER,
@@ -47,12 +47,12 @@ impl Item {
     }
 
     /// Where it is in, at the latest.
-    pub fn in_by(&self) -> usize {
+    pub(crate) fn in_by(&self) -> usize {
         self.put.end.min(self.out_by())
     }
 
     /// Its put and its take.
-    pub fn ahead(&self) -> Ahead {
+    pub(crate) fn ahead(&self) -> Ahead {
         Ahead {
             put: self.put.begin,
             take: match self.take {
@@ -259,7 +259,7 @@ pub(crate) struct Reaches {
 
 impl Reaches {
     /// Of the known items that are in by a place, the one that can be taken last.
-    pub fn furthest_by(&self, place: usize) -> usize {
+    pub(crate) fn furthest_by(&self, place: usize) -> usize {
         let count = count_below(&self.ins, place.saturating_add(1));
         if count == 0 {
             return NEVER;

@@ -16,7 +16,7 @@ pub(crate) struct OpenTakes {
 }
 
 impl OpenTakes {
-    pub fn span(&self, number: usize) -> Span {
+    pub(crate) fn span(&self, number: usize) -> Span {
         Span {
             begin: at(&self.begins, number),
             end: at(&self.ends, number),
@@ -24,7 +24,7 @@ impl OpenTakes {
     }
 
     /// How many were over by a place.
-    pub fn over_by(&self, since: Option<usize>) -> usize {
+    pub(crate) fn over_by(&self, since: Option<usize>) -> usize {
         match since {
             Some(place) => count_up_to(&self.ends, place),
             None => 0,
@@ -32,7 +32,7 @@ impl OpenTakes {
     }
 
     /// Those that began before a place and were not over by another one.
-    pub fn between(
+    pub(crate) fn between(
         &self,
         alloc: Global,
         since: Option<usize>,
