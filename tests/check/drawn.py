@@ -1,7 +1,8 @@
 #!/usr/bin/env python3
 # Draws small recordings of queues, and compares what `pqx check` says of each with brute force: whether an order explains
 # it, and otherwise the first line with which there is none. COUNT recordings are drawn, from SEED on: runs of a queue that
-# is right, such runs with answers changed, and lines that mean anything. PQX names the program.
+# is right, such runs with answers changed, and lines that mean anything; some are written as whole calls with times. PQX
+# names the program.
 import json, os, random, subprocess, sys
 from concurrent.futures import ThreadPoolExecutor
 import brute
@@ -143,6 +144,38 @@ def some_answer(draw, op):
     return {"reply": "got", "got": draw.randint(1, 4)} if draw.random() < 0.75 else {"reply": "empty"}
 
 
+def as_whole_calls(draw, lines):
+    """The lines as whole calls with times, in any order, and what each time is called."""
+    calls, under_way, first, last = [], {}, [], []
+    for time, line in enumerate(lines, 1):
+        if "base" in line:
+            first = [line]
+        elif "final" in line:
+            last = [line]
+        elif line.get("op") == "crash":
+            calls.append({"op": "crash", "at": time})
+            under_way = {}
+        elif "op" in line:
+            under_way[line["client"]] = {**line, "from": time}
+            calls.append(under_way[line["client"]])
+        elif line["reply"] != "unknown":
+            under_way[line["client"]].update({"to": time, **line})
+    draw.shuffle(calls)
+    names = {len(lines): f"line {len(first) + len(calls) + 1}"}
+    for number, call in enumerate(calls, len(first) + 1):
+        names.update({call[key]: f"line {number} (time {call[key]})" for key in ("from", "to", "at") if key in call})
+    return first + calls + last, names
+
+
+def written(seed):
+    """A recording, the lines that it is written in, and what each of its lines is called."""
+    lines = drawn(seed)
+    draw = random.Random(-seed)
+    if draw.random() < 0.2 and not any("told" in line for line in lines):
+        return lines, *as_whole_calls(draw, lines)
+    return lines, lines, {number: f"line {number}" for number in range(1, len(lines) + 1)}
+
+
 def drawn(seed):
     draw = random.Random(seed)
     kind = draw.random()
@@ -159,15 +192,15 @@ def said(lines):
     return ran.returncode, ran.stdout, ran.stderr
 
 
-def wanted(lines):
+def wanted(lines, names):
     line = brute.first_bad(lines)
-    return (0, "explained: ") if line is None else (1, f"impossible from line {line} on: ")
+    return (0, "explained: ") if line is None else (1, f"impossible from {names[line]} on: ")
 
 
 def compare(seed):
-    lines = drawn(seed)
+    recorded, lines, names = written(seed)
     status, out, err = said(lines)
-    want = wanted(lines)
+    want = wanted(recorded, names)
     if (status, err) == (want[0], "") and out.startswith(want[1]):
         return want[0], None
     text = "\n".join(json.dumps(line) for line in lines)
