@@ -53,7 +53,7 @@ no order is left, a line across shows from which line on, and the calls that sho
 /// How wide the names of clients are, and a step, and how high a lane.
 const LABELS: usize = 120;
 
-const STEP: usize = 26;
+const STEP: usize = 38;
 
 const LANE: usize = 34;
 
@@ -288,6 +288,30 @@ impl<'a> Page<'a> {
         self.answer(call)
     }
 
+    /// What stands in a bar: the same in fewer words.
+    fn label(&mut self, call: usize) -> Result<(), AllocError> {
+        let puts = self
+            .recording
+            .calls
+            .get(call)
+            .copied()
+            .and_then(|of| of.puts);
+        let end = self.ends.get(call).copied().unwrap_or(0).wrapping_sub(1);
+        let act = self.recording.steps.get(end).copied().map(|step| step.act);
+        match (puts, act) {
+            (Some(value), _) => {
+                self.text.push_str("put ")?;
+                self.value(value)
+            }
+            (None, Some(Act::Answer(_, Said::Got(value)))) => {
+                self.text.push_str("got ")?;
+                self.value(value)
+            }
+            (None, Some(Act::Answer(_, Said::Empty))) => self.text.push_str("empty"),
+            _ => self.text.push_str("take"),
+        }
+    }
+
     /// The bar of a call that begins at a step.
     fn bar(&mut self, call: usize, step: usize) -> Result<(), AllocError> {
         let Some(of) = self.recording.calls.get(call).copied() else {
@@ -310,14 +334,12 @@ impl<'a> Page<'a> {
             "<rect class=\"{kind}{open}{named}\" x=\"{x}\" y=\"{y}\" width=\"{width}\" height=\"24\" rx=\"4\"><title>"
         )?;
         self.words(call)?;
-        let low = y.saturating_add(22);
-        let right = x.saturating_add(3);
         write!(
             self.text,
-            "</title></rect>\n<text x=\"{right}\" y=\"{low}\">"
+            "</title></rect>\n<svg x=\"{x}\" y=\"{y}\" width=\"{width}\" height=\"24\"><text x=\"4\" y=\"20\">"
         )?;
-        self.words(call)?;
-        self.text.push_str("</text>\n")
+        self.label(call)?;
+        self.text.push_str("</text></svg>\n")
     }
 
     fn bars(&mut self) -> Result<(), AllocError> {
