@@ -1,9 +1,9 @@
 //! The verdict on a recording.
 
 use options::CheckOptions;
-use recording::{Answer, Fault, Recording, Watch, answer_of, print_order, read, verdict};
+use recording::{Answer, Fault, Recording, Watch, answer_of, page_of, print_order, read, verdict};
 use std::alloc::AllocError;
-use std::io;
+use std::{fs, io};
 use std::io::{IsTerminal, Read, Write};
 use std::process::ExitCode;
 use std::time::{Clock, Duration};
@@ -99,6 +99,18 @@ fn text(
     Ok(text)
 }
 
+/// Writes the page of a recording to a file.
+fn show(rt: &HostRuntime, recording: &Recording, answer: &Answer, path: &str) -> Result<(), Refusal> {
+    let page = match verdict(rt.alloc(), recording, answer) {
+        Ok(text) => page_of(rt.alloc(), recording, answer, text.as_str()),
+        Err(error) => Err(error),
+    };
+    match page {
+        Ok(page) => fs::write(rt, path, page.as_bytes()).map_err(|_| Refusal::WriteFailed),
+        Err(_) => Err(Refusal::NoMemory),
+    }
+}
+
 /// Answers for a recording, and says which status to end with.
 fn answered(
     rt: &HostRuntime,
@@ -115,6 +127,9 @@ fn answered(
         return Err(Refusal::NoMemory);
     };
     print(rt, text.as_str())?;
+    if let Some(path) = asked.page {
+        show(rt, recording, &answer, path)?;
+    }
     Ok(status(&answer))
 }
 
