@@ -3,10 +3,10 @@
 use options::CheckOptions;
 use recording::{Answer, Fault, Recording, Watch, answer_of, page_of, print_order, read, verdict};
 use std::alloc::AllocError;
-use std::{fs, io};
 use std::io::{IsTerminal, Read, Write};
 use std::process::ExitCode;
 use std::time::{Clock, Duration};
+use std::{fs, io};
 use words::Refusal;
 
 /// For so many milliseconds nothing is shown.
@@ -100,7 +100,12 @@ fn text(
 }
 
 /// Writes the page of a recording to a file.
-fn show(rt: &HostRuntime, recording: &Recording, answer: &Answer, path: &str) -> Result<(), Refusal> {
+fn show(
+    rt: &HostRuntime,
+    recording: &Recording,
+    answer: &Answer,
+    path: &str,
+) -> Result<(), Refusal> {
     let page = match verdict(rt.alloc(), recording, answer) {
         Ok(text) => page_of(rt.alloc(), recording, answer, text.as_str()),
         Err(error) => Err(error),
