@@ -58,7 +58,7 @@ const LABELS_WIDTH: u64 = 90;
 
 const COLUMN_WIDTH: u64 = 34;
 
-const NAMES_END: u64 = 110;
+const NAMES_END: u64 = 160;
 
 const LANE_HEIGHT: u64 = 34;
 
@@ -129,8 +129,12 @@ fn write_bar(text: &mut String, bar: &Bar) -> Result<(), AllocError> {
         .saturating_mul(LANE_HEIGHT)
         .saturating_add(NAMES_END + 5);
     let left = column(bar.from).saturating_add(1);
-    let right = column(bar.to.saturating_add(1)).saturating_sub(1);
-    let class = if bar.answer.is_some() { "done" } else { "open" };
+    let mut right = column(bar.to);
+    let mut class = "open";
+    if bar.answer.is_some() {
+        right = right.saturating_add(COLUMN_WIDTH).saturating_sub(1);
+        class = "done";
+    }
     writeln!(
         text,
         "<rect class=\"{class}\" x=\"{left}\" y=\"{top}\" width=\"{}\" height=\"24\" rx=\"4\"/>",
@@ -165,7 +169,7 @@ fn write_name(text: &mut String, number: u64, act: Act) -> Result<(), AllocError
 
 /// A line across where everything stopped.
 fn write_crash(text: &mut String, number: u64, end: u64) -> Result<(), AllocError> {
-    let x = column(number).saturating_add(COLUMN_WIDTH / 2);
+    let x = column(number);
     writeln!(
         text,
         "<line class=\"crash\" x1=\"{x}\" x2=\"{x}\" y1=\"{}\" y2=\"{end}\"/>",
