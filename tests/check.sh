@@ -51,4 +51,9 @@ status=0
 PQX=$pqx python3 -B tests/check/drawn.py 4000 1 > "$work/out" 2>&1 || status=$?
 judge 'drawn recordings' "$([ "$status" -eq 0 ] || tail -n 3 "$work/out")"
 
+# The recorder of README: threads on a queue that is right.
+status=0
+python3 -B examples/record.py | "$pqx" check > "$work/out" 2> "$work/err" || status=$?
+judge 'examples/record.py' "$([ "$status" -eq 0 ] && grep -q '^explained: ' "$work/out" || head -n 2 "$work/out")"
+
 count

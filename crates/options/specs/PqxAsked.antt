@@ -11,6 +11,7 @@ use Rattle.options.specs.declared.pqx.Choice.{Choice}
 use Rattle.options.specs.declared.pqx.Choice.TheVariants.{None as no_word, All as all_words, Drawn as drawn_words}
 use Rattle.options.specs.declared.pqx.PointOptions.{PointOptions}
 use Rattle.options.specs.declared.pqx.CheckOptions.{CheckOptions}
+use Rattle.options.specs.declared.pqx.RunOptions.{RunOptions}
 use Rattle.options.specs.declared.pqx.PqxAsked.{PqxAsked}
 use Rattle.options.specs.declared.pqx.PqxAsked.TheVariants.{Run, Points, Alone, Check}
 
@@ -32,14 +33,18 @@ pub record AsksPoints (given : Text → Option Text) (o : PointOptions) : Type 0
   pub draw : o.draw ≡ number_of DEFAULT_DRAW (given (codes "draw"))
   pub page : option_map (λ s. s.now) o.page ≡ given (codes "page")
 
+-- the options of a transcript say this
+pub record AsksRun (given : Text → Option Text) (o : RunOptions) : Type 0 where
+  pub page : option_map (λ s. s.now) o.page ≡ given (codes "page")
+
 -- the options of a verdict on a recording say this
 pub record AsksCheck (given : Text → Option Text) (o : CheckOptions) : Type 0 where
   pub page : option_map (λ s. s.now) o.page ≡ given (codes "page")
 
 -- the command and the values of its options ask this
 abbrev pub Asks : Option Text → (Text → Option Text) → PqxAsked → Type 0
-Asks command given Run = (command ≢ Some (codes "points")) × (command ≢ Some (codes "alone"))
-    × (command ≢ Some (codes "check"))
+Asks command given (Run o) = (command ≢ Some (codes "points")) × (command ≢ Some (codes "alone"))
+    × (command ≢ Some (codes "check")) × AsksRun given o
 Asks command given (Points o) = (command ≡ Some (codes "points")) × AsksPoints given o
 Asks command given Alone = command ≡ Some (codes "alone")
 Asks command given (Check o) = (command ≡ Some (codes "check")) × AsksCheck given o

@@ -11,6 +11,9 @@ points_app = with_rule (with_rule (with_rule (new_app (codes "points"))
     (option_rule (codes "draw")))
     (option_rule (codes "page"))
 
+abbrev pub run_app : App
+run_app = with_rule (new_app (codes "run")) (option_rule (codes "page"))
+
 -- `--name`, which takes no value
 abbrev pub flag_rule : Text → Rule
 flag_rule name = record (new_rule name) { long = Some name; action = Some SetTrue }
@@ -27,7 +30,7 @@ top_app = on_top (λ s. record s { has_version = true; subcommand_required = tru
 -- with the commands that follow scripts
 abbrev pub scripts_app : App
 scripts_app = with_subcommand (with_subcommand (with_subcommand top_app
-    (new_app (codes "run")).top)
+    run_app.top)
     points_app.top)
     (new_app (codes "alone")).top
 

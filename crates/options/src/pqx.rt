@@ -18,6 +18,13 @@ pub struct PointOptions<'a> {
     pub page: Option<&'a str>,
 }
 
+/// What the transcript of a script is asked to be.
+#[derive(Clone, Copy, Debug, PartialEq, Eq)]
+pub struct RunOptions<'a> {
+    /// The path of the file for the run's page, if there is to be one.
+    pub page: Option<&'a str>,
+}
+
 /// What a verdict on a recording is asked to be.
 #[derive(Clone, Copy, Debug, PartialEq, Eq)]
 pub struct CheckOptions<'a> {
@@ -31,7 +38,7 @@ pub struct CheckOptions<'a> {
 #[derive(Clone, Copy, Debug, PartialEq, Eq)]
 pub enum PqxAsked<'a> {
     /// The transcript of a script.
-    Run,
+    Run(RunOptions<'a>),
     /// What a crash at each point of a script comes to.
     Points(PointOptions<'a>),
     /// What becomes of each call that stopped at a point of a script, where it goes on alone.

@@ -3,7 +3,7 @@
 ghost use Rattle.std.specs.Prelude.{◌≡◌, IfOk, false};
 ghost use Rattle.clap.specs.Words.{app_of, new_app};
 ghost use Rattle.clap.specs.declared.builder.command.Command.TheViews.{out-Command};
-ghost use Rattle.options.specs.PqxCommands.{check_app, points_app, pqx_app, scripts_app, top_app};
+ghost use Rattle.options.specs.PqxCommands.{check_app, points_app, run_app, pqx_app, scripts_app, top_app};
 
 use crate::commands::option;
 use crate::program::VERSION;
@@ -92,6 +92,23 @@ fn points<'a>(alloc: Global) -> Result<Command<'a>, AllocError>
     command.arg(evict)?.arg(draw)?.arg(page)
 }
 
+/// `run [--page FILE]`
+fn run<'a>(alloc: Global) -> Result<Command<'a>, AllocError>
+    ensures app { IfOk result (λ c. app_of c ≡ run_app) }
+    ensures local { IfOk result (λ c. (out-Command c).has_globals ≡ false) }
+{
+    let command = Command::new(alloc, "run")
+        .about("Follows the script that standard input has, and prints what happens")
+        .after_help(SCRIPTS);
+    let page = option(
+        alloc,
+        "page",
+        "FILE",
+        "Shows the acts of the run on a page, which is written to this file",
+    );
+    command.arg(page)
+}
+
 /// A command that takes no option.
 fn plain<'a>(alloc: Global, name: &'a str, about: &'a str) -> Command<'a>
     ensures app { app_of result ≡ new_app name.entry.now }
@@ -114,11 +131,7 @@ fn top<'a>(alloc: Global) -> Command<'a>
 fn with_scripts<'a>(alloc: Global) -> Result<Command<'a>, AllocError>
     ensures app { IfOk result (λ c. app_of c ≡ scripts_app) }
 {
-    let run = plain(
-        alloc,
-        "run",
-        "Follows the script that standard input has, and prints what happens",
-    );
+    let run = run(alloc)?;
     let alone = plain(
         alloc,
         "alone",

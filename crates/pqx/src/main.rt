@@ -13,7 +13,7 @@ use crate::evictions::evictions;
 use crate::progress::Progress;
 use devices::{CountedReader, CountedWriter};
 use explore::Evictions;
-use options::{PointOptions, PqxAsked, pqx_command_line};
+use options::{PointOptions, PqxAsked, RunOptions, pqx_command_line};
 use std::process::ExitCode;
 use std::thread::Threads;
 use std::{fs, io};
@@ -96,6 +96,17 @@ fn report<H: Threads + Sync>(
     }
 }
 
+/// Follows a script, and writes the page of that to a file, if it is to.
+fn follow_script(rt: &HostRuntime, asked: RunOptions<'_>) -> Result<(), Refusal> {
+    let mut reader = CountedReader::new(rt.reader());
+    let mut writer = CountedWriter::new(io::writer(rt));
+    let Some(path) = asked.page else {
+        return explore::run(rt.alloc(), &mut reader, &mut writer);
+    };
+    let page = explore::run_story(rt.alloc(), &mut reader, &mut writer)?;
+    fs::write(rt, path, &page).map_err(|_| Refusal::WriteFailed)
+}
+
 /// Does what was asked for, and answers with which status to end.
 fn answer<H: Threads + Sync>(
     threads: &H,
@@ -105,7 +116,7 @@ fn answer<H: Threads + Sync>(
     let mut reader = CountedReader::new(rt.reader());
     let mut writer = CountedWriter::new(io::writer(rt));
     match asked {
-        PqxAsked::Run => explore::run(rt.alloc(), &mut reader, &mut writer)?,
+        PqxAsked::Run(asked) => follow_script(rt, asked)?,
         PqxAsked::Alone => explore::run_alone(rt.alloc(), &mut reader, &mut writer)?,
         PqxAsked::Points(points) => report(threads, rt, points)?,
         PqxAsked::Check(asked) => return check(rt, asked),
