@@ -35,6 +35,18 @@ for name in final base texts put-told-not-taken; do
     compare "check --order $name" 0 "$status" "tests/check/$name.order" /dev/null
 done
 
+# Pages: the same on standard output, and the stored page in the file. A file that cannot be written.
+for name in passed-over-two texts; do
+    status=0
+    "$pqx" check --page "$work/page" < "$rows/$name.in" > "$work/out" 2> "$work/err" || status=$?
+    compare "check --page $name" "$(wanted_status "$name")" "$status" "$rows/$name.out" /dev/null
+    judge "the page of $name" "$(difference 'the page' "tests/pages/check-$name.html" "$work/page")"
+done
+status=0
+printf 'pqx: 27 WriteFailed\n' > "$work/wanted"
+"$pqx" check --page "$work/none/page" < "$rows/texts.in" > "$work/out" 2> "$work/err" || status=$?
+compare 'check --page without a folder' 1 "$status" "$rows/texts.out" "$work/wanted"
+
 # Devices that fail.
 status=0
 printf 'pqx: 26 ReadFailed\n' > "$work/wanted"
