@@ -28,6 +28,8 @@ try run-help 0 run --help < /dev/null
 try help-run 0 help run < /dev/null
 try points-help 0 points --help < /dev/null
 try alone-help 0 alone --help < /dev/null
+try check-help 0 check --help < /dev/null
+try help-check 0 help check < /dev/null
 try version 0 --version < /dev/null
 try short-version 0 -V < /dev/null
 try no-command 2 < /dev/null
@@ -102,6 +104,24 @@ printf 'pqx: 27 WriteFailed\n' > "$work/wanted"
 "$pqx" points --page "$work/none/page" < "$data/points-log-enqueue.script" > "$work/out" 2> "$work/err" || status=$?
 compare 'a page without a folder' 1 "$status" "$data/points-log-enqueue.points" "$work/wanted"
 
+# The page of a run: the same on standard output, and the stored page in its file. A file that cannot be written.
+for script in crash kept; do
+    status=0
+    "$pqx" run < "examples/$script.script" > "$work/wanted"
+    "$pqx" run --page "$work/page" < "examples/$script.script" > "$work/out" 2> "$work/err" || status=$?
+    compare "run --page $script" 0 "$status" "$work/wanted" /dev/null
+    judge "the page of $script" "$(difference 'the page' "tests/pages/$script.html" "$work/page")"
+done
+status=0
+cp "$work/wanted" "$work/transcript"
+printf 'pqx: 27 WriteFailed\n' > "$work/wanted"
+"$pqx" run --page "$work/none/page" < examples/kept.script > "$work/out" 2> "$work/err" || status=$?
+compare 'a run without a folder for its page' 1 "$status" "$work/transcript" "$work/wanted"
+status=0
+"$pqx" run --page "$work/page" < "$data/bad-step-0.script" > "$work/out" 2> "$work/err" || status=$?
+sed 's/^/pqx: /' "$data/bad-step-0.out" > "$work/wanted"
+compare 'a page of a bad script' 1 "$status" /dev/null "$work/wanted"
+
 # What the reports say of bad scripts, options and devices.
 : > "$work/nothing"
 for command in points alone; do
@@ -143,7 +163,14 @@ bad_option "unexpected argument '-1' found" 'pqx points [OPTIONS]' points --draw
 bad_option "unexpected argument 'crash.script' found" 'pqx points [OPTIONS]' points crash.script
 bad_option "unexpected argument 'crash.script' found" 'pqx alone' alone crash.script
 bad_option "unexpected argument '--evict' found" 'pqx alone' alone --evict all
-bad_option "unexpected argument '--evict' found" 'pqx run' run --evict all
+bad_option "unexpected argument '--evict' found" 'pqx run [OPTIONS]' run --evict all
+bad_option "a value is required for '--page <FILE>' but none was supplied" '' run --page
+bad_option "the argument '--page <FILE>' cannot be used multiple times" 'pqx run [OPTIONS]' run --page 1 --page 1
+bad_option "unexpected argument '--evict' found" 'pqx check [OPTIONS]' check --evict all
+bad_option "unexpected argument 'crash.script' found" 'pqx check [OPTIONS]' check crash.script
+bad_option "unexpected value 'yes' for '--order' found; no more were expected" 'pqx check --order' check --order=yes
+bad_option "the argument '--order' cannot be used multiple times" 'pqx check [OPTIONS]' check --order --order
+bad_option "a value is required for '--page <FILE>' but none was supplied" '' check --page
 
 # Scripts that are no text: a byte 0, and bytes that no character has.
 printf 'queue durable 1 1\n\0\n' > "$work/in"

@@ -88,7 +88,7 @@ const CONTENT_GAP: u64 = 12;
 
 /// An act as the page spells it.
 #[derive(Drop)]
-struct Spelt(Act);
+pub(crate) struct Spelt(pub(crate) Act);
 
 impl fmt::Display for Spelt {
     fn fmt<W: fmt::Write>(&self, f: &mut fmt::Formatter<W>) -> fmt::Result {

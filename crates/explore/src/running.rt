@@ -12,6 +12,7 @@ use crate::parse::parse_script;
 use crate::play::transcript;
 use crate::reports::{pictured_points, points_text, stopped_text};
 use crate::script::Script;
+use crate::story::story;
 use crate::watch::Watch;
 use devices::{MAX_FAILURES, Reader, Unread, Writer, read_all, send};
 use std::alloc::Global;
@@ -75,6 +76,35 @@ pub fn run<R: Reader, W: Writer>(
     let script = read_script(alloc, reader)?;
     let printed = transcript(alloc, &script)?;
     print(writer, &printed)
+}
+
+/// Reads the whole script before anything runs, follows it, and writes what it prints, as `run` does. It answers a page
+/// that shows its acts, one by one: an HTML file, empty where the script has no queue.
+pub fn run_story<R: Reader, W: Writer>(
+    alloc: Global,
+    reader: &mut R,
+    writer: &mut W,
+) -> Result<Vec<u8>, Refusal>
+    requires reads { R.failures reader.old < MAX_FAILURES }
+    requires writes { W.failures writer.old < MAX_FAILURES }
+    ensures printed { OnOk result
+        (Prints script_text (R.left reader.old) (W.written writer.old) (W.written writer.new)) }
+    ensures flushed { OnOk result (IsFlushed (W.written writer.new) (W.flushed writer.new)) }
+    ensures refusals { IfErr result IsRunRefusal }
+    ensures read_failed { IsErrOf result Refusal.ReadFailed ↔ (R.failures reader.old < R.failures reader.new) }
+    ensures write_failed { IsErrOf result Refusal.WriteFailed ↔ (W.failures writer.old < W.failures writer.new) }
+    ensures bad_line { IfErr result (NamesBadLine (R.left reader.old)) }
+    ensures unwritten { IfErr result (WritesNothing (W.written writer.old) (W.written writer.new)) }
+    ensures beginning { IsErrOf result Refusal.WriteFailed
+        → PrintsBeginning script_text (R.left reader.old) (W.written writer.old) (W.written writer.new) }
+{
+    let script = read_script(alloc, reader)?;
+    let text = transcript(alloc, &script)?;
+    let page = story(alloc, &script)?;
+    match print(writer, &text) {
+        Ok(()) => Ok(page),
+        Err(refusal) => Err(refusal),
+    }
 }
 
 /// Reads the whole script before anything runs, and writes what a crash at each of its points comes to. `watch` is told

@@ -1,6 +1,6 @@
 mod Converting
 mod ReplaySteps
-mod CountSteps
+pub mod CountSteps
 mod Greatest
 mod FrontSteps
 mod Turns

@@ -10,8 +10,10 @@ use Rattle.options.specs.PqxCommands.{pqx_app}
 use Rattle.options.specs.declared.pqx.Choice.{Choice}
 use Rattle.options.specs.declared.pqx.Choice.TheVariants.{None as no_word, All as all_words, Drawn as drawn_words}
 use Rattle.options.specs.declared.pqx.PointOptions.{PointOptions}
+use Rattle.options.specs.declared.pqx.CheckOptions.{CheckOptions}
+use Rattle.options.specs.declared.pqx.RunOptions.{RunOptions}
 use Rattle.options.specs.declared.pqx.PqxAsked.{PqxAsked}
-use Rattle.options.specs.declared.pqx.PqxAsked.TheVariants.{Run, Points, Alone}
+use Rattle.options.specs.declared.pqx.PqxAsked.TheVariants.{Run, Points, Alone, Check}
 
 -- the words that are kept are those of the choice that is given, and none where none is
 abbrev pub Chooses : Option Text → Choice → Type 0
@@ -31,11 +33,21 @@ pub record AsksPoints (given : Text → Option Text) (o : PointOptions) : Type 0
   pub draw : o.draw ≡ number_of DEFAULT_DRAW (given (codes "draw"))
   pub page : option_map (λ s. s.now) o.page ≡ given (codes "page")
 
+-- the options of a transcript say this
+pub record AsksRun (given : Text → Option Text) (o : RunOptions) : Type 0 where
+  pub page : option_map (λ s. s.now) o.page ≡ given (codes "page")
+
+-- the options of a verdict on a recording say this
+pub record AsksCheck (given : Text → Option Text) (o : CheckOptions) : Type 0 where
+  pub page : option_map (λ s. s.now) o.page ≡ given (codes "page")
+
 -- the command and the values of its options ask this
 abbrev pub Asks : Option Text → (Text → Option Text) → PqxAsked → Type 0
-Asks command given Run = (command ≢ Some (codes "points")) × (command ≢ Some (codes "alone"))
+Asks command given (Run o) = (command ≢ Some (codes "points")) × (command ≢ Some (codes "alone"))
+    × (command ≢ Some (codes "check")) × AsksRun given o
 Asks command given (Points o) = (command ≡ Some (codes "points")) × AsksPoints given o
 Asks command given Alone = command ≡ Some (codes "alone")
+Asks command given (Check o) = (command ≡ Some (codes "check")) × AsksCheck given o
 
 -- each option that has one of some values, or a number, was given such a one
 pub record AllFit (given : Text → Option Text) : Type 0 where

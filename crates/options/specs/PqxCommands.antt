@@ -1,6 +1,7 @@
 -- The commands of `pqx`, and the options that they take, as clap sees them.
-use Rattle.std.specs.Prelude.{true, codes}
-use Rattle.clap.specs.Words.{App, new_app, with_rule, with_subcommand}
+use Rattle.std.specs.Prelude.{Some, true, codes}
+use Rattle.clap.specs.Words.{App, Rule, Text, new_app, new_rule, with_rule, with_subcommand}
+use Rattle.clap.specs.declared.builder.action.ArgAction.TheVariants.{SetTrue}
 use Rattle.clap.specs.Simple.{on_top}
 use Rattle.options.specs.Commands.{option_rule}
 
@@ -10,12 +11,28 @@ points_app = with_rule (with_rule (with_rule (new_app (codes "points"))
     (option_rule (codes "draw")))
     (option_rule (codes "page"))
 
+abbrev pub run_app : App
+run_app = with_rule (new_app (codes "run")) (option_rule (codes "page"))
+
+-- `--name`, which takes no value
+abbrev pub flag_rule : Text → Rule
+flag_rule name = record (new_rule name) { long = Some name; action = Some SetTrue }
+
+abbrev pub check_app : App
+check_app = with_rule (with_rule (new_app (codes "check"))
+    (flag_rule (codes "order")))
+    (option_rule (codes "page"))
+
 -- `pqx` itself, which wants a command, and tells its version
 abbrev pub top_app : App
 top_app = on_top (λ s. record s { has_version = true; subcommand_required = true }) (new_app (codes "pqx"))
 
-abbrev pub pqx_app : App
-pqx_app = with_subcommand (with_subcommand (with_subcommand top_app
-    (new_app (codes "run")).top)
+-- with the commands that follow scripts
+abbrev pub scripts_app : App
+scripts_app = with_subcommand (with_subcommand (with_subcommand top_app
+    run_app.top)
     points_app.top)
     (new_app (codes "alone")).top
+
+abbrev pub pqx_app : App
+pqx_app = with_subcommand scripts_app check_app.top

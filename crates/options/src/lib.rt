@@ -18,6 +18,6 @@ pub use limits::{
     MAX_PORT, MAX_WORKERS,
 };
 pub use line::command_line;
-pub use pqx::{Choice, PointOptions, PqxAsked};
+pub use pqx::{CheckOptions, Choice, PointOptions, PqxAsked, RunOptions};
 pub use pqx_line::pqx_command_line;
 pub use program::{ended, explained, refusal_of, words};

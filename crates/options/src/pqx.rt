@@ -18,13 +18,31 @@ pub struct PointOptions<'a> {
     pub page: Option<&'a str>,
 }
 
+/// What the transcript of a script is asked to be.
+#[derive(Clone, Copy, Debug, PartialEq, Eq)]
+pub struct RunOptions<'a> {
+    /// The path of the file for the run's page, if there is to be one.
+    pub page: Option<&'a str>,
+}
+
+/// What a verdict on a recording is asked to be.
+#[derive(Clone, Copy, Debug, PartialEq, Eq)]
+pub struct CheckOptions<'a> {
+    /// The entries of the order that explains the recording are printed, too.
+    pub order: bool,
+    /// The path of the file for the recording's page, if there is to be one.
+    pub page: Option<&'a str>,
+}
+
 /// What `pqx` is asked to do.
 #[derive(Clone, Copy, Debug, PartialEq, Eq)]
 pub enum PqxAsked<'a> {
     /// The transcript of a script.
-    Run,
+    Run(RunOptions<'a>),
     /// What a crash at each point of a script comes to.
     Points(PointOptions<'a>),
     /// What becomes of each call that stopped at a point of a script, where it goes on alone.
     Alone,
+    /// Whether an order explains a recording.
+    Check(CheckOptions<'a>),
 }

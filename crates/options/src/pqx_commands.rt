@@ -3,11 +3,11 @@
 ghost use Rattle.std.specs.Prelude.{◌≡◌, IfOk, false};
 ghost use Rattle.clap.specs.Words.{app_of, new_app};
 ghost use Rattle.clap.specs.declared.builder.command.Command.TheViews.{out-Command};
-ghost use Rattle.options.specs.PqxCommands.{points_app, pqx_app, top_app};
+ghost use Rattle.options.specs.PqxCommands.{check_app, points_app, run_app, pqx_app, scripts_app, top_app};
 
 use crate::commands::option;
 use crate::program::VERSION;
-use clap::Command;
+use clap::{Arg, ArgAction, Command};
 use std::alloc::{AllocError, Global};
 
 /// What help says of scripts.
@@ -24,6 +24,42 @@ nothing. This one has a client call, stops everything before the call's effect i
 
 The other lines: queue durable T K, deq C N, end C, evict W, recover M, order; on a durable queue enq C V and deq C.
 docs/SCRIPT.md has all of them, and every line that is printed.";
+
+/// What help says of recordings.
+const RECORDINGS: &str = "\
+A recording has a JSON object in each line, of what clients called, what they were answered, and crashes:
+
+  {\"client\":\"a\",\"op\":\"put\",\"value\":5}     written before the call is made
+  {\"client\":\"a\",\"reply\":\"done\"}            written after the answer came
+  {\"client\":\"b\",\"op\":\"take\"}
+  {\"client\":\"b\",\"reply\":\"got\",\"got\":5}    or \"empty\", \"refused\", or \"unknown\" where b gives up
+  {\"op\":\"crash\"}                          all calls that are open end here
+
+The status is 0 if one order explains every answer, 1 if none does, 2 if a line is refused, and 3 if neither was found.
+docs/HISTORIES.md has the other lines, the verdicts, and how to record.";
+
+/// `check [--order] [--page FILE]`
+fn check<'a>(alloc: Global) -> Result<Command<'a>, AllocError>
+    ensures app { IfOk result (λ c. app_of c ≡ check_app) }
+    ensures local { IfOk result (λ c. (out-Command c).has_globals ≡ false) }
+{
+    let command = Command::new(alloc, "check")
+        .about(
+            "Finds an order that explains the recording that standard input has, or says why there is none",
+        )
+        .after_help(RECORDINGS);
+    let order = Arg::new(alloc, "order")
+        .long("order")
+        .action(ArgAction::SetTrue)
+        .help("Prints the entries of the order, too");
+    let page = option(
+        alloc,
+        "page",
+        "FILE",
+        "Shows the recording on a page, which is written to this file",
+    );
+    command.arg(order)?.arg(page)
+}
 
 /// `points [--evict none|all|drawn] [--draw N] [--page FILE]`
 fn points<'a>(alloc: Global) -> Result<Command<'a>, AllocError>
@@ -56,6 +92,23 @@ fn points<'a>(alloc: Global) -> Result<Command<'a>, AllocError>
     command.arg(evict)?.arg(draw)?.arg(page)
 }
 
+/// `run [--page FILE]`
+fn run<'a>(alloc: Global) -> Result<Command<'a>, AllocError>
+    ensures app { IfOk result (λ c. app_of c ≡ run_app) }
+    ensures local { IfOk result (λ c. (out-Command c).has_globals ≡ false) }
+{
+    let command = Command::new(alloc, "run")
+        .about("Follows the script that standard input has, and prints what happens")
+        .after_help(SCRIPTS);
+    let page = option(
+        alloc,
+        "page",
+        "FILE",
+        "Shows the acts of the run on a page, which is written to this file",
+    );
+    command.arg(page)
+}
+
 /// A command that takes no option.
 fn plain<'a>(alloc: Global, name: &'a str, about: &'a str) -> Command<'a>
     ensures app { app_of result ≡ new_app name.entry.now }
@@ -74,15 +127,11 @@ fn top<'a>(alloc: Global) -> Command<'a>
         .subcommand_required(true)
 }
 
-/// `pqx run`, `pqx points`, `pqx alone`
-pub(crate) fn pqx<'a>(alloc: Global) -> Result<Command<'a>, AllocError>
-    ensures app { IfOk result (λ c. app_of c ≡ pqx_app) }
+/// `pqx` with the commands that follow scripts
+fn with_scripts<'a>(alloc: Global) -> Result<Command<'a>, AllocError>
+    ensures app { IfOk result (λ c. app_of c ≡ scripts_app) }
 {
-    let run = plain(
-        alloc,
-        "run",
-        "Follows the script that standard input has, and prints what happens",
-    );
+    let run = run(alloc)?;
     let alone = plain(
         alloc,
         "alone",
@@ -92,4 +141,12 @@ pub(crate) fn pqx<'a>(alloc: Global) -> Result<Command<'a>, AllocError>
         .subcommand(run)?
         .subcommand(points(alloc)?)?
         .subcommand(alone)
+}
+
+/// `pqx run`, `pqx points`, `pqx alone`, `pqx check`
+pub(crate) fn pqx<'a>(alloc: Global) -> Result<Command<'a>, AllocError>
+    ensures app { IfOk result (λ c. app_of c ≡ pqx_app) }
+{
+    let command = check(alloc)?;
+    with_scripts(alloc)?.subcommand(command)
 }

@@ -6,10 +6,10 @@ ghost use Rattle.clap.specs.Words.{first_value, found_of, kind_of, subcommand_ro
 ghost use Rattle.options.specs.Asked.{name_in, values_in};
 ghost use Rattle.options.specs.declared.limits.TheConstants.{DEFAULT_DRAW, MAX_DRAW};
 ghost use Rattle.options.specs.Numbers.{Fits, number_of};
-ghost use Rattle.options.specs.PqxAsked.{AllFit, Asks, AsksPoints, Chooses, IsChoice, IsPqxAsked, RefusesPqx};
+ghost use Rattle.options.specs.PqxAsked.{AllFit, Asks, AsksCheck, AsksPoints, AsksRun, Chooses, IsChoice, IsPqxAsked, RefusesPqx};
 
 use crate::limits::DEFAULT_DRAW;
-use crate::pqx::{Choice, PointOptions, PqxAsked};
+use crate::pqx::{CheckOptions, Choice, PointOptions, PqxAsked, RunOptions};
 use crate::pqx_commands::pqx;
 use clap::error::ErrorKind;
 use clap::{ArgMatches, Command, Error};
@@ -72,6 +72,25 @@ fn point_options<'a>(given: &ArgMatches<'a>) -> Result<PointOptions<'a>, Misfit>
     })
 }
 
+/// What the transcript of a script is asked to be.
+fn run_options<'a>(given: &ArgMatches<'a>) -> RunOptions<'a>
+    ensures { AsksRun (first_value (found_of given.now)) result }
+{
+    RunOptions {
+        page: given.get_str("page"),
+    }
+}
+
+/// What a verdict on a recording is asked to be.
+fn check_options<'a>(given: &ArgMatches<'a>) -> CheckOptions<'a>
+    ensures { AsksCheck (first_value (found_of given.now)) result }
+{
+    CheckOptions {
+        order: given.get_flag("order"),
+        page: given.get_str("page"),
+    }
+}
+
 /// What a command asks with the options that it was given.
 fn asked_by<'a>(command: &str, given: &ArgMatches<'a>) -> Result<PqxAsked<'a>, Misfit>
     ensures asked { IfOk result (Asks (Some command.now) (first_value (found_of given.now))) }
@@ -80,7 +99,8 @@ fn asked_by<'a>(command: &str, given: &ArgMatches<'a>) -> Result<PqxAsked<'a>, M
     match command {
         "points" => Ok(PqxAsked::Points(point_options(given)?)),
         "alone" => Ok(PqxAsked::Alone),
-        _ => Ok(PqxAsked::Run),
+        "check" => Ok(PqxAsked::Check(check_options(given))),
+        _ => Ok(PqxAsked::Run(run_options(given))),
     }
 }
 
@@ -92,7 +112,7 @@ fn asked<'a>(matches: &ArgMatches<'a>) -> Result<PqxAsked<'a>, Misfit>
 {
     match matches.subcommand() {
         Some((command, given)) => asked_by(command, given),
-        None => Ok(PqxAsked::Run),
+        None => Ok(PqxAsked::Run(RunOptions { page: None })),
     }
 }
 

@@ -1,17 +1,19 @@
-//! Follows scripts of single steps on a queue, and crashes them everywhere.
+//! Follows scripts of single steps on a queue, and crashes them everywhere; finds an order for recordings of any queue.
 #![tactic(auto)]
 
 ghost use Rattle.std.specs.Prelude.{◌≡◌};
 ghost use Rattle.pqx.specs.Faults.{fault_of};
 
+mod checking;
 mod evictions;
 mod progress;
 
+use crate::checking::check;
 use crate::evictions::evictions;
 use crate::progress::Progress;
 use devices::{CountedReader, CountedWriter};
 use explore::Evictions;
-use options::{PointOptions, PqxAsked, pqx_command_line};
+use options::{PointOptions, PqxAsked, RunOptions, pqx_command_line};
 use std::process::ExitCode;
 use std::thread::Threads;
 use std::{fs, io};
@@ -94,29 +96,39 @@ fn report<H: Threads + Sync>(
     }
 }
 
-/// Does what was asked for.
+/// Follows a script, and writes the page of that to a file, if it is to.
+fn follow_script(rt: &HostRuntime, asked: RunOptions<'_>) -> Result<(), Refusal> {
+    let mut reader = CountedReader::new(rt.reader());
+    let mut writer = CountedWriter::new(io::writer(rt));
+    let Some(path) = asked.page else {
+        return explore::run(rt.alloc(), &mut reader, &mut writer);
+    };
+    let page = explore::run_story(rt.alloc(), &mut reader, &mut writer)?;
+    fs::write(rt, path, &page).map_err(|_| Refusal::WriteFailed)
+}
+
+/// Does what was asked for, and answers with which status to end.
 fn answer<H: Threads + Sync>(
     threads: &H,
     rt: &HostRuntime,
     asked: PqxAsked<'_>,
-) -> Result<(), Refusal> {
+) -> Result<ExitCode, Refusal> {
     let mut reader = CountedReader::new(rt.reader());
     let mut writer = CountedWriter::new(io::writer(rt));
     match asked {
-        PqxAsked::Run => explore::run(rt.alloc(), &mut reader, &mut writer),
-        PqxAsked::Alone => explore::run_alone(rt.alloc(), &mut reader, &mut writer),
-        PqxAsked::Points(points) => report(threads, rt, points),
+        PqxAsked::Run(asked) => follow_script(rt, asked)?,
+        PqxAsked::Alone => explore::run_alone(rt.alloc(), &mut reader, &mut writer)?,
+        PqxAsked::Points(points) => report(threads, rt, points)?,
+        PqxAsked::Check(asked) => return check(rt, asked),
     }
+    Ok(ExitCode::SUCCESS)
 }
 
 /// Does what the command line asks for, and answers with which status to end.
 fn follow<H: Threads + Sync>(threads: &H, rt: &HostRuntime) -> Result<ExitCode, Fault> {
     let words = options::words(rt)?;
     match pqx_command_line(rt.alloc(), &words) {
-        Ok(asked) => {
-            answer(threads, rt, asked)?;
-            Ok(ExitCode::SUCCESS)
-        }
+        Ok(asked) => Ok(answer(threads, rt, asked)?),
         Err(error) => Ok(options::explained(rt, &error)?),
     }
 }

@@ -1,0 +1,113 @@
+//! What each act of a script does: the answer that it gives, and the words that differ after it.
+
+ghost use Rattle.std.specs.Prelude.{◌≡◌, IfErr};
+ghost use Rattle.explore.specs.Grammar.{IsServedQueue};
+
+use crate::attempts::attempt;
+use crate::command::{Command, QueueLine};
+use crate::laid::{Laid, layout_of};
+use crate::lists::push;
+use crate::recording::accepted_acts;
+use arena::Layout;
+use interleave::{Act, World};
+use persist::KeptWords;
+use std::alloc::Global;
+use words::{Refusal, Reply};
+
+/// A word whose cached value is not the kept one.
+#[derive(Clone, Copy, Debug)]
+pub(crate) struct Differs {
+    pub(crate) word: u64,
+    pub(crate) cached: u64,
+    pub(crate) kept: u64,
+}
+
+/// An act, the reply with which a call returned by it, and the words that differ after it, ascending.
+#[derive(Drop)]
+pub(crate) struct Frame {
+    pub(crate) act: Act,
+    pub(crate) reply: Option<Reply>,
+    pub(crate) differs: Vec<Differs>,
+}
+
+/// Makes an act, and answers with which reply a call returned by it.
+fn make<L: Layout + Drop>(world: &mut World<L>, act: Act) -> Result<Option<Reply>, Refusal>
+    ensures errors { IfErr result (λ e. e ≡ Refusal.NoMemory) }
+{
+    let Act::Step { client } = act else {
+        attempt(world, act)?;
+        return Ok(None);
+    };
+    match world.step(client) {
+        Ok(answer) => Ok(answer),
+        Err(Refusal::NoMemory) => Err(Refusal::NoMemory),
+        Err(_) => Ok(None),
+    }
+}
+
+/// The words of a world that differ.
+fn differing<L: Layout + Drop>(alloc: Global, world: &World<L>) -> Result<Vec<Differs>, Refusal>
+    ensures errors { IfErr result (λ e. e ≡ Refusal.NoMemory) }
+{
+    let memory = world.memory();
+    let mut differs = Vec::new(alloc);
+    for change in memory.changes() {
+        let word = change.0 as usize;
+        let kept = if word < memory.size() {
+            memory.kept(word)
+        } else {
+            0
+        };
+        push(
+            &mut differs,
+            Differs {
+                word: change.0,
+                cached: change.1,
+                kept,
+            },
+        )?;
+    }
+    Ok(differs)
+}
+
+/// The frames of acts on a new world.
+fn frames_on<L: Layout + Drop>(
+    alloc: Global,
+    layout: L,
+    acts: &[Act],
+) -> Result<Vec<Frame>, Refusal>
+    ensures errors { IfErr result (λ e. e ≡ Refusal.NoMemory) }
+{
+    let mut world = World::make(alloc, layout)?;
+    let mut frames = Vec::new(alloc);
+    for act in acts {
+        let reply = make(&mut world, *act)?;
+        let differs = differing(alloc, &world)?;
+        push(
+            &mut frames,
+            Frame {
+                act: *act,
+                reply,
+                differs,
+            },
+        )?;
+    }
+    Ok(frames)
+}
+
+/// The frames of a script's acts.
+pub(crate) fn frames(
+    alloc: Global,
+    queue: QueueLine,
+    commands: &[Command],
+) -> Result<Vec<Frame>, Refusal>
+    requires { IsServedQueue queue }
+    ensures errors { IfErr result (λ e. e ≡ Refusal.NoMemory) }
+{
+    let laid = layout_of(queue)?;
+    let acts = accepted_acts(alloc, &laid, commands)?;
+    match laid {
+        Laid::Durable(layout) => frames_on(alloc, layout, &acts),
+        Laid::Log(layout) => frames_on(alloc, layout, &acts),
+    }
+}

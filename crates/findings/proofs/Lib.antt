@@ -1,0 +1,10 @@
+mod Turns
+mod Patterns
+mod Pigeons
+mod Showing
+mod Rising
+mod Listing
+mod Covering
+mod Tables
+mod Same
+mod Filled

@@ -1,0 +1,37 @@
+//! Whether values differ.
+
+ghost use Rattle.std.specs.Prelude.{◌≡◌, IsTrue};
+ghost use Rattle.std.specs.List.Sorted.{IsStrictlyIncreasing};
+ghost use Rattle.findings.specs.Findings.{HasDistinctValues};
+
+use crate::known::value_of_put;
+use events::Event;
+
+/// Whether the values that calls put rise from call to call: then no two are the same. Whoever numbers values by their
+/// puts has them rise.
+pub(crate) fn values_rise(events: &[Event]) -> bool
+    ensures { IsTrue result → HasDistinctValues events.now }
+{
+    let mut least: u64 = 0;
+    for p in 0..events.len() {
+        if let Some(value) = value_of_put(events, p) {
+            if u64::from(value) < least {
+                return false;
+            }
+            least = u64::from(value) + 1;
+        }
+    }
+    true
+}
+
+/// Whether each number is greater than the one before.
+pub(crate) fn numbers_rise(numbers: &[usize]) -> bool
+    ensures { IsTrue result → IsStrictlyIncreasing numbers.now }
+{
+    for i in 1..numbers.len() {
+        if numbers[i] <= numbers[i - 1] {
+            return false;
+        }
+    }
+    true
+}

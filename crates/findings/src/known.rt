@@ -1,0 +1,142 @@
+//! What is known of one call.
+
+ghost use Rattle.std.specs.Prelude.{◌≡◌, ◌<◌, ◌≤◌, ◌↔◌, ℕ, length, IfNone, IfSome, IsTrue};
+ghost use Rattle.events.specs.History.{EndsAt, Precedes};
+ghost use Rattle.findings.specs.Findings.{IsLearnt, IsReturned, IsKnown, PutsAt, TakesAt, IsOverBy};
+
+use events::Event;
+use words::{Call, Client, Outcome, Reply};
+
+/// Whether what stands at `p` ends a call of the client.
+fn ends_at(events: &[Event], client: Client, p: usize) -> bool
+    requires { p < length events.now }
+    ensures { IsTrue result ↔ EndsAt events.now client p }
+{
+    match events[p] {
+        Event::Return { client: other, .. } => other == client,
+        Event::Crash => true,
+        _ => false,
+    }
+}
+
+/// Whether the call at `p` puts this value.
+pub(crate) fn puts_at(events: &[Event], p: usize, value: u32) -> bool
+    ensures { IsTrue result ↔ PutsAt events.now p value }
+{
+    match events.get(p) {
+        Some(Event::Call { call, .. }) => *call == Call::Enq(value),
+        _ => false,
+    }
+}
+
+/// Whether the call at `p` takes.
+pub(crate) fn takes_at(events: &[Event], p: usize) -> bool
+    ensures { IsTrue result ↔ TakesAt events.now p }
+{
+    match events.get(p) {
+        Some(Event::Call { call, .. }) => *call == Call::Deq,
+        _ => false,
+    }
+}
+
+/// The value that the call at `p` puts, if it puts one.
+pub(crate) fn value_of_put(events: &[Event], p: usize) -> Option<u32>
+    ensures found { IfSome result (λ value. PutsAt events.now p value) }
+    ensures none { IfNone result ((value : ℕ) → PutsAt events.now p value → ⊥) }
+{
+    match events.get(p) {
+        Some(
+            Event::Call {
+                call: Call::Enq(value),
+                ..
+            },
+        ) => Some(*value),
+        _ => None,
+    }
+}
+
+/// Whether this was learnt of the call at `p`.
+pub(crate) fn is_learnt(learnt: &[Option<Outcome>], p: usize, outcome: Outcome) -> bool
+    ensures { IsTrue result ↔ IsLearnt learnt.now p outcome }
+{
+    match learnt.get(p) {
+        Some(Some(other)) => *other == outcome,
+        _ => false,
+    }
+}
+
+/// The reply that the call at `p` returned, if it returned one.
+fn returned_reply(events: &[Event], p: usize) -> Option<Reply>
+    ensures { IfSome result (λ reply. IsReturned events.now p reply) }
+{
+    let Some(Event::Call { client, .. }) = events.get(p) else {
+        return None;
+    };
+    for k in p + 1..events.len() {
+        match events[k] {
+            Event::Return {
+                client: other,
+                reply,
+            } if other == *client => return Some(reply),
+            Event::Crash => return None,
+            _ => {}
+        }
+    }
+    None
+}
+
+/// The reply with which the call at `p` is known to have taken effect, if it is.
+pub(crate) fn known_reply(events: &[Event], learnt: &[Option<Outcome>], p: usize) -> Option<Reply>
+    ensures { IfSome result (λ reply. IsKnown events.now learnt.now p reply) }
+{
+    if let Some(Some(Outcome::Taken(reply))) = learnt.get(p) {
+        return Some(*reply);
+    }
+    returned_reply(events, p)
+}
+
+/// Whether the call at `p` is known to have taken effect with this reply.
+pub(crate) fn is_known(events: &[Event], learnt: &[Option<Outcome>], p: usize, reply: Reply) -> bool
+    ensures { IsTrue result → IsKnown events.now learnt.now p reply }
+{
+    match known_reply(events, learnt, p) {
+        Some(other) => other == reply,
+        None => false,
+    }
+}
+
+/// Whether the call at `p` ended at `t` or before.
+pub(crate) fn is_over_by(events: &[Event], p: usize, t: usize) -> bool
+    ensures { IsTrue result ↔ IsOverBy events.now p t }
+{
+    let Some(Event::Call { client, .. }) = events.get(p) else {
+        return false;
+    };
+    for k in p + 1..events.len() {
+        if k > t {
+            return false;
+        }
+        if ends_at(events, *client, k) {
+            return true;
+        }
+    }
+    false
+}
+
+/// Whether the call at `a` ended before `b`.
+pub(crate) fn precedes(events: &[Event], a: usize, b: usize) -> bool
+    ensures { IsTrue result → Precedes events.now a b }
+{
+    let Some(Event::Call { client, .. }) = events.get(a) else {
+        return false;
+    };
+    for k in a + 1..events.len() {
+        if k >= b {
+            return false;
+        }
+        if ends_at(events, *client, k) {
+            return true;
+        }
+    }
+    false
+}

@@ -1,0 +1,215 @@
+//! Whether takes lack: whether those that began before a bound cannot have taken all values of some puts.
+
+ghost use Rattle.std.specs.Prelude.{◌≡◌, ◌<◌, ◌≤◌, ◌↔◌, ℕ, length, IsTrue, All, Any, Contains, Option};
+ghost use Rattle.words.specs.declared.call.Reply.TheVariants.{Got};
+ghost use Rattle.findings.specs.Findings.{IsKnownGot, PutsAt};
+ghost use Rattle.findings.specs.Shows.{IsAhead, IsInAt, AreInSince, WasOver, IsValueOf, CanHaveTaken, IsListed, IsKnownPut, IsFew, IsLate, Lacks};
+
+use crate::distinct::numbers_rise;
+use crate::known::{
+    is_known, is_learnt, is_over_by, known_reply, precedes, puts_at, takes_at, value_of_put,
+};
+use crate::witness::{Ahead, Lack, Since};
+use events::Event;
+use words::{Outcome, Reply};
+
+/// Whether the value of `ahead` is ahead of the put's, and came out by its take.
+fn is_ahead(events: &[Event], learnt: &[Option<Outcome>], ahead: &Ahead, put: usize) -> bool
+    ensures { IsTrue result → IsAhead events.now learnt.now ahead.now put }
+{
+    let Some(value) = value_of_put(events, ahead.put) else {
+        return false;
+    };
+    if !is_known(events, learnt, ahead.take, Reply::Got(value)) {
+        return false;
+    }
+    precedes(events, ahead.put, put)
+}
+
+/// Whether the value of the put was not out of the queue at this place.
+fn is_in_at(events: &[Event], learnt: &[Option<Outcome>], since: &Since, put: usize) -> bool
+    ensures { IsTrue result → IsInAt events.now learnt.now since.now put }
+{
+    if since.place < put {
+        return true;
+    }
+    match &since.ahead {
+        Some(ahead) => since.place < ahead.take && is_ahead(events, learnt, ahead, put),
+        None => false,
+    }
+}
+
+/// Whether no value of the puts was out of the queue at the place that is named, if one is.
+fn are_in_since(
+    events: &[Event],
+    learnt: &[Option<Outcome>],
+    puts: &[usize],
+    since: &Option<Since>,
+) -> bool
+    ensures { IsTrue result → AreInSince events.now learnt.now puts.now since.now }
+{
+    match since {
+        None => true,
+        Some(since) => puts.iter().all(|put| is_in_at(events, learnt, since, *put)),
+    }
+}
+
+/// Whether the take was over by then.
+fn was_over(events: &[Event], since: &Option<Since>, take: usize) -> bool
+    ensures { IsTrue result ↔ WasOver events.now since.now take }
+{
+    match since {
+        None => false,
+        Some(since) => is_over_by(events, take, since.place),
+    }
+}
+
+/// Whether one of the puts puts this value.
+fn is_value_of(events: &[Event], puts: &[usize], value: u32) -> bool
+    ensures { IsTrue result ↔ Any (λ put. PutsAt events.now put value) puts.now }
+{
+    puts.iter().any(|put| puts_at(events, *put, value))
+}
+
+/// Whether what is known of the take's reply allows that it took a value of the puts.
+fn allows_value(events: &[Event], learnt: &[Option<Outcome>], puts: &[usize], take: usize) -> bool
+    ensures { (since : Option Since) → CanHaveTaken events.now learnt.now puts.now since take → IsTrue result }
+{
+    match known_reply(events, learnt, take) {
+        Some(Reply::Got(value)) => is_value_of(events, puts, value),
+        Some(_) => false,
+        None => true,
+    }
+}
+
+/// Whether the take can have taken a value of the puts, since then. It says so of some that cannot, and then less is
+/// shown than could be.
+fn can_have_taken(
+    events: &[Event],
+    learnt: &[Option<Outcome>],
+    puts: &[usize],
+    since: &Option<Since>,
+    take: usize,
+) -> bool
+    ensures { CanHaveTaken events.now learnt.now puts.now since.now take → IsTrue result }
+{
+    if !takes_at(events, take) {
+        return false;
+    }
+    if is_learnt(learnt, take, Outcome::NotTaken) {
+        return false;
+    }
+    if was_over(events, since, take) {
+        return false;
+    }
+    allows_value(events, learnt, puts, take)
+}
+
+/// Whether the take is one of these takes, if it can have taken a value of the puts.
+fn is_listed(
+    events: &[Event],
+    learnt: &[Option<Outcome>],
+    puts: &[usize],
+    takes: &[usize],
+    since: &Option<Since>,
+    take: usize,
+) -> bool
+    ensures { IsTrue result → IsListed events.now learnt.now puts.now takes.now since.now take }
+{
+    if can_have_taken(events, learnt, puts, since, take) {
+        return takes.contains(&take);
+    }
+    true
+}
+
+/// Whether each take that began before the bound and can have taken a value of the puts is one of these takes.
+fn are_listed(
+    events: &[Event],
+    learnt: &[Option<Outcome>],
+    bound: usize,
+    puts: &[usize],
+    takes: &[usize],
+    since: &Option<Since>,
+) -> bool
+    ensures { IsTrue result → ((take : ℕ) → take < bound
+        → IsListed events.now learnt.now puts.now takes.now since.now take) }
+{
+    for k in 0..bound.min(events.len()) {
+        if !is_listed(events, learnt, puts, takes, since, k) {
+            return false;
+        }
+    }
+    true
+}
+
+/// Whether the put is known to have taken effect.
+fn is_known_put(events: &[Event], learnt: &[Option<Outcome>], put: usize) -> bool
+    ensures { IsTrue result → IsKnownPut events.now learnt.now put }
+{
+    match value_of_put(events, put) {
+        Some(_) => is_known(events, learnt, put, Reply::Done),
+        None => false,
+    }
+}
+
+/// Whether each of the puts is known to have taken effect.
+fn are_known_puts(events: &[Event], learnt: &[Option<Outcome>], puts: &[usize]) -> bool
+    ensures { IsTrue result → All (λ put. IsKnownPut events.now learnt.now put) puts.now }
+{
+    puts.iter().all(|put| is_known_put(events, learnt, *put))
+}
+
+/// Whether fewer takes can have taken a value of the puts than there are puts.
+fn is_few(
+    events: &[Event],
+    learnt: &[Option<Outcome>],
+    bound: usize,
+    puts: &[usize],
+    takes: &[usize],
+    since: &Option<Since>,
+) -> bool
+    ensures { IsTrue result → IsFew events.now learnt.now bound puts.now takes.now since.now }
+{
+    if takes.len() >= puts.len() {
+        return false;
+    }
+    if !numbers_rise(puts) {
+        return false;
+    }
+    if !are_known_puts(events, learnt, puts) {
+        return false;
+    }
+    if !are_in_since(events, learnt, puts, since) {
+        return false;
+    }
+    are_listed(events, learnt, bound, puts, takes, since)
+}
+
+/// Whether the value of the put came out by a take that began at the bound or later.
+fn is_late(
+    events: &[Event],
+    learnt: &[Option<Outcome>],
+    bound: usize,
+    put: usize,
+    take: usize,
+) -> bool
+    ensures { IsTrue result → IsLate events.now learnt.now bound put take }
+{
+    if take < bound {
+        return false;
+    }
+    match value_of_put(events, put) {
+        Some(value) => is_known(events, learnt, take, Reply::Got(value)),
+        None => false,
+    }
+}
+
+/// Whether takes that began before the bound cannot have taken all values of the puts of this lack.
+pub(crate) fn lacks(events: &[Event], learnt: &[Option<Outcome>], bound: usize, lack: &Lack) -> bool
+    ensures { IsTrue result → Lacks events.now learnt.now bound lack.now }
+{
+    match lack {
+        Lack::Late { put, take } => is_late(events, learnt, bound, *put, *take),
+        Lack::Few { puts, takes, since } => is_few(events, learnt, bound, puts, takes, since),
+    }
+}

@@ -1,0 +1,23 @@
+//! What each pattern shows.
+
+ghost use Rattle.std.specs.Prelude.{◌≡◌, ◌↔◌, ℕ, List, Option};
+ghost use Rattle.words.specs.declared.told.Outcome.{Outcome};
+ghost use Rattle.events.specs.declared.event.Event.{Event};
+ghost use Rattle.events.specs.declared.event.Entry.{Entry};
+ghost use Rattle.findings.specs.Filling.{IsRecorded, SomeFillingIsExplained};
+ghost use Rattle.findings.specs.Findings.{ExplainsFindings, HasNoOrder};
+ghost use Rattle.findings.specs.Shows.{Shows};
+ghost use Rattle.findings.specs.declared.witness.Witness.{Witness};
+
+/// Where a witness shows its pattern, no order explains what is known.
+pub fn patterns_refute()
+    ensures { (events : List Event) (learnt : List (Option Outcome)) (witness : Witness)
+        → Shows events learnt witness → HasNoOrder events learnt }
+{}
+
+/// Of a recorded history an order explains what is known exactly if some filling of the Readys is explained by it.
+pub fn findings_are_fillings()
+    ensures { (events : List Event) (learnt : List (Option Outcome)) (order : List Entry)
+        → IsRecorded events learnt
+        → (ExplainsFindings events learnt order ↔ SomeFillingIsExplained events learnt order) }
+{}

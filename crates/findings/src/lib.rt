@@ -1,0 +1,15 @@
+//! What is known of the calls on a queue, and why no order explains it: four patterns, and the function that judges them.
+#![tactic(auto)]
+
+mod agreeing;
+mod distinct;
+mod judging;
+mod known;
+mod lacking;
+mod laws;
+mod witness;
+
+pub use agreeing::explains_known;
+pub use judging::refutes;
+pub use laws::{findings_are_fillings, patterns_refute};
+pub use witness::{Ahead, Lack, Piece, Since, Witness};

@@ -1,0 +1,2 @@
+pub use Rattle.findings.specs.Findings
+pub mod Answers

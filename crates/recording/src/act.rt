@@ -1,0 +1,64 @@
+//! What was recorded, one thing after another.
+
+/// What a call was answered.
+#[derive(Clone, Copy, Debug, PartialEq, Eq)]
+pub enum Said {
+    Done,
+    /// The value of this number.
+    Got(usize),
+    Empty,
+}
+
+/// What happened. Calls and values go by their numbers.
+#[derive(Clone, Copy, Debug, PartialEq, Eq)]
+pub enum Act {
+    Begin(usize),
+    Answer(usize, Said),
+    /// The call certainly did nothing.
+    Refuse(usize),
+    /// The client gave up on the call, which stays open.
+    GiveUp(usize),
+    Crash,
+    /// The interrupted call took effect, with this answer.
+    LearnTaken(usize, Said),
+    /// It did not.
+    LearnNotTaken(usize),
+}
+
+/// What happened, the line that says so, and one more than the number of its time, if it has one.
+#[derive(Clone, Copy, Debug)]
+pub struct Step {
+    pub act: Act,
+    pub line: u32,
+    pub time: u32,
+}
+
+/// A call: its client, the number by which the history knows that, and the value that it puts.
+#[derive(Clone, Copy, Debug)]
+pub struct CallOf {
+    pub client: usize,
+    pub number: u8,
+    /// The number of the value, or nothing if it takes.
+    pub puts: Option<usize>,
+    /// The queue held the value at first.
+    pub is_base: bool,
+}
+
+/// A recording. Clients, values and times are kept as JSON texts.
+#[derive(Drop)]
+pub struct Recording {
+    pub calls: Vec<CallOf>,
+    pub steps: Vec<Step>,
+    pub clients: Vec<String>,
+    pub values: Vec<String>,
+    pub times: Vec<String>,
+    /// For each value its number among those that are put, as they are put; those that are not come behind.
+    pub ranks: Vec<u32>,
+}
+
+impl Recording {
+    /// The number of a value among those that are put.
+    pub(crate) fn rank(&self, value: usize) -> u32 {
+        self.ranks.get(value).copied().unwrap_or(u32::MAX)
+    }
+}

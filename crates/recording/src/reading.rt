@@ -1,0 +1,135 @@
+//! Reads the lines of a recording.
+
+use crate::act::Recording;
+use crate::fault::{Fault, Why};
+use crate::line::Line;
+use crate::members::line;
+use crate::reader::{At, Reader};
+use crate::timed::Clock;
+use serde_json::Value;
+use std::alloc::Global;
+use std::str;
+
+/// What a line says.
+fn said(alloc: Global, bytes: &[u8], number: u32) -> Result<Line, Fault> {
+    let Ok(text) = str::from_utf8(bytes) else {
+        return Err(Fault::Line(number, Why::NoObject));
+    };
+    let value = match Value::from_str(alloc, text) {
+        Ok(value) => value,
+        Err(error) if error.is_memory() => return Err(Fault::Memory),
+        Err(_) => return Err(Fault::Line(number, Why::NoObject)),
+    };
+    if value.as_object().is_none() {
+        return Err(Fault::Line(number, Why::NoObject));
+    }
+    match line(alloc, &value)? {
+        Some(said) => Ok(said),
+        None => Err(Fault::Line(number, Why::NoLine)),
+    }
+}
+
+/// Whether a line has times.
+fn has_times(line: &Line) -> bool {
+    matches!(line, Line::Whole(_) | Line::CrashAt(_))
+}
+
+/// Whether a line says what was left.
+fn is_final(line: &Line) -> bool {
+    matches!(line, Line::Final(_))
+}
+
+/// Whether a line says what there was at first.
+fn is_base(line: &Line) -> bool {
+    matches!(line, Line::Base(_))
+}
+
+/// What has been read: lines without times, lines with times, and the last line, if that says what was left.
+#[derive(Drop)]
+struct Lines {
+    reader: Reader,
+    clock: Clock,
+    is_plain: bool,
+    left: Option<Line>,
+    left_at: u32,
+}
+
+impl Lines {
+    fn take(&mut self, said: Line, number: u32) -> Result<(), Fault> {
+        if self.left.is_some() {
+            return Err(Fault::Line(number, Why::AfterFinal));
+        }
+        if has_times(&said) {
+            if self.is_plain {
+                return Err(Fault::Line(number, Why::TimesAndNone));
+            }
+            return self.clock.take(&mut self.reader, said, number);
+        }
+        if is_final(&said) {
+            self.left = Some(said);
+            self.left_at = number;
+            return Ok(());
+        }
+        if !self.clock.is_empty() {
+            return Err(Fault::Line(number, Why::TimesAndNone));
+        }
+        self.is_plain = self.is_plain || !is_base(&said);
+        self.reader.take(
+            said,
+            At {
+                line: number,
+                time: 0,
+            },
+        )
+    }
+
+    fn recording(self) -> Result<Recording, Fault> {
+        let Lines {
+            mut reader,
+            clock,
+            is_plain: _,
+            left,
+            left_at,
+        } = self;
+        clock.play(&mut reader)?;
+        if let Some(left) = left {
+            reader.take(
+                left,
+                At {
+                    line: left_at,
+                    time: 0,
+                },
+            )?;
+        }
+        reader.recording()
+    }
+}
+
+/// The recording that some lines are. An empty line says nothing.
+pub fn read(alloc: Global, bytes: &[u8]) -> Result<Recording, Fault> {
+    let mut lines = Lines {
+        reader: Reader::new(alloc),
+        clock: Clock::new(alloc),
+        is_plain: false,
+        left: None,
+        left_at: 0,
+    };
+    let mut number = 0u32;
+    let mut from = 0usize;
+    for (place, byte) in bytes.iter().enumerate() {
+        if *byte == b'\n' {
+            number = number.saturating_add(1);
+            let text = bytes.get(from..place).unwrap_or(&[]);
+            from = place.saturating_add(1);
+            if !text.is_empty() {
+                lines.take(said(alloc, text, number)?, number)?;
+            }
+        }
+    }
+    let text = bytes.get(from..).unwrap_or(&[]);
+    if !text.is_empty() {
+        number = number.saturating_add(1);
+        lines.take(said(alloc, text, number)?, number)?;
+    }
+    lines.recording()
+}

@@ -1,0 +1,71 @@
+#!/usr/bin/env bash
+# What pqx check says of recordings: the rows of tests/check/rows, each NAME.in with what is wanted of it on standard
+# output (NAME.out) and on standard error (NAME.err); entries of orders; drawn recordings against brute force; devices that
+# fail. It takes the program that the last `rt ci`, or `rt run` in crates/pqx, left, or the one that PQX names.
+set -eu
+cd "$(dirname "$0")/.."
+. tests/cases.sh
+pqx=${PQX:-$PWD/crates/pqx/out/pqx}
+need "$pqx"
+rows=tests/check/rows
+
+# The status that goes with what is wanted: NAME
+wanted_status() {
+    [ ! -e "$rows/$1.err" ] || { echo 2; return; }
+    case $(head -c 9 "$rows/$1.out") in
+        explained) echo 0 ;;
+        impossibl) echo 1 ;;
+        *) echo 3 ;;
+    esac
+}
+
+for row in "$rows"/*.in; do
+    name=$(basename "$row" .in)
+    status=0 out=/dev/null err=/dev/null
+    "$pqx" check < "$row" > "$work/out" 2> "$work/err" || status=$?
+    [ ! -e "$rows/$name.out" ] || out=$rows/$name.out
+    [ ! -e "$rows/$name.err" ] || err=$rows/$name.err
+    compare "check $name" "$(wanted_status "$name")" "$status" "$out" "$err"
+done
+
+# The entries of an order.
+for name in final base texts put-told-not-taken; do
+    status=0
+    "$pqx" check --order < "$rows/$name.in" > "$work/out" 2> "$work/err" || status=$?
+    compare "check --order $name" 0 "$status" "tests/check/$name.order" /dev/null
+done
+
+# Pages: the same on standard output, and the stored page in the file. A file that cannot be written.
+for name in passed-over-two texts; do
+    status=0
+    "$pqx" check --page "$work/page" < "$rows/$name.in" > "$work/out" 2> "$work/err" || status=$?
+    compare "check --page $name" "$(wanted_status "$name")" "$status" "$rows/$name.out" /dev/null
+    judge "the page of $name" "$(difference 'the page' "tests/pages/check-$name.html" "$work/page")"
+done
+status=0
+printf 'pqx: 27 WriteFailed\n' > "$work/wanted"
+"$pqx" check --page "$work/none/page" < "$rows/texts.in" > "$work/out" 2> "$work/err" || status=$?
+compare 'check --page without a folder' 1 "$status" "$rows/texts.out" "$work/wanted"
+
+# Devices that fail.
+status=0
+printf 'pqx: 26 ReadFailed\n' > "$work/wanted"
+"$pqx" check < tests > "$work/out" 2> "$work/err" || status=$?
+compare 'check of a folder' 1 "$status" /dev/null "$work/wanted"
+status=0
+printf 'pqx: 27 WriteFailed\n' > "$work/wanted"
+: > "$work/out"
+"$pqx" check < "$rows/final.in" > /dev/full 2> "$work/err" || status=$?
+compare 'check to a full output' 1 "$status" /dev/null "$work/wanted"
+
+# Drawn recordings, each as brute force says, and what it names is in the recording.
+status=0
+PQX=$pqx python3 -B tests/check/drawn.py 4000 1 > "$work/out" 2>&1 || status=$?
+judge 'drawn recordings' "$([ "$status" -eq 0 ] || tail -n 3 "$work/out")"
+
+# The recorder of README: threads on a queue that is right.
+status=0
+python3 -B examples/record.py | "$pqx" check > "$work/out" 2> "$work/err" || status=$?
+judge 'examples/record.py' "$([ "$status" -eq 0 ] && grep -q '^explained: ' "$work/out" || head -n 2 "$work/out")"
+
+count
