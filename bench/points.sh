@@ -28,7 +28,7 @@ seconds() {
 }
 
 for records in 64 4096; do
-    script "$records" 45 > "$work/$records"
+    script "$records" 36 > "$work/$records"
     points=$(./out/pqx points < "$work/$records" | awk 'END { print $2 }')
     awk -v records="$records" -v points="$points" -v one="$(seconds 1 "$work/$records")" \
         -v four="$(seconds 4 "$work/$records")" 'BEGIN {

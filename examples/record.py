@@ -12,6 +12,9 @@ def note(**line):
     with lock:
         lines.append(line)
 
+def written():
+    print("\n".join(json.dumps(line) for line in lines))
+
 def put(client, value):
     note(client=client, op="put", value=value)
     recorded.put(value)
@@ -28,7 +31,8 @@ def run(client):
     for number in range(500):
         put(client, f"{client}:{number}") if random.random() < 0.5 else take(client)
 
-threads = [threading.Thread(target=run, args=(client,)) for client in "abcdefgh"]
-[thread.start() for thread in threads]
-[thread.join() for thread in threads]
-print("\n".join(json.dumps(line) for line in lines))
+if __name__ == "__main__":
+    threads = [threading.Thread(target=run, args=(client,)) for client in "abcdefgh"]
+    [thread.start() for thread in threads]
+    [thread.join() for thread in threads]
+    written()

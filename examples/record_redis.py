@@ -4,13 +4,8 @@
 Eight clients put by RPUSH and take by LPOP. Three times the server is killed (`kill -9`) and started again, and at last
 the list is drained. What is asked for is how it keeps its list: not at all, or by `appendonly yes` with that appendfsync.
 """
-import json, random, signal, socket, subprocess, sys, tempfile, threading, time
-
-lines, lock = [], threading.Lock()
-
-def note(**line):
-    with lock:
-        lines.append(line)
+import random, signal, socket, subprocess, sys, tempfile, threading, time
+from record import note, written
 
 class Client:
     """A connection to the server; a call that gets no answer raises OSError."""
@@ -88,6 +83,6 @@ def main():
             pass
         server.kill()
         server.wait()
-    print("\n".join(json.dumps(line) for line in lines))
+    written()
 
 main()

@@ -60,6 +60,7 @@ wrong lines.py 'GREATEST_VALUE = 2**32 - 1' 'GREATEST_VALUE = 2**32 - 2' lines
 wrong image.py 'require(len(data) == 12 + 8 * count, "TrailingBytes")' 'pass' image
 wrong image.py 'if not self.node(number)[3]]' 'if True]' '(image|lines)'
 wrong machine.py 'self.cached = list(self.kept)' 'pass' '(script|points|alone)'
+wrong machine.py 'self.requests[port] = word' 'self.keep(word)' '(script|points|alone)'
 wrong machine.py 'self.effects.append([self.takers[value], "done", True])' 'pass' script
 
 # What every_byte.py says of such a copy: FILE OLD NEW lines|scripts

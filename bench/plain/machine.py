@@ -1,12 +1,22 @@
 """One queue step by step over a plain memory, by docs/TABLES.md and docs/SCRIPT.md. A call and a recovery are
-generators: each `yield` is one access to the memory, and what comes back is what the access found."""
+generators: each `yield` is one access to the memory, and what comes back is what the access found. A client makes them
+through the port of its number, and recovery through one of its own."""
 
 from image import Block
 
 HEAD, TAIL = 0, 1
+RECOVERY_PORT = 16
+# So many steps a call takes at most that goes on alone.
+MAX_STEPS_ALONE = 96
 EMPTY = {"durable": 1, "log": 2}
 NODE_PARTS = ("value", "next", "insert", "mark")
 ANSWER_PARTS = {"durable": ("cell",), "log": ("number", "kind", "status", "node")}
+
+
+def keeping(word):
+    """A flush asks that a word be kept, and a fence completes that."""
+    yield "flush", word
+    yield ("fence",)
 
 
 class Call:
@@ -28,6 +38,8 @@ class Machine:
         self.places = Block(kind, clients, records, [])
         self.cached = [0] * self.places.size
         self.kept = [0] * self.places.size
+        # Of each port that has a request: the word.
+        self.requests = {}
         # Of each client: its call under way with the access that comes next, and the last number that it may not use.
         self.calls = [None] * clients
         self.floors = [0] * clients
@@ -66,18 +78,22 @@ class Machine:
 
     # The memory.
 
-    def access(self, what, word, value=None, new=None):
+    def access(self, port, what, word=None, value=None, new=None):
+        """An access through a port. A fence names no word: it keeps the one that the port's last flush asked for."""
+        if what == "fence":
+            asked = self.requests.pop(port, None)
+            return asked is not None and self.keep(asked)
         found = self.cached[word]
         if what == "store":
             self.cached[word] = value
         elif what == "swap" and found == value:
             self.cached[word] = new
         elif what == "flush":
-            self.keep(word)
+            self.requests[port] = word
         return found
 
     def keep(self, word):
-        """The kept value becomes the cached one; whether it changed. By this calls take effect."""
+        """The kept value becomes the cached one; whether it changed. By this calls take effect. Requests stay."""
         value = self.cached[word]
         if self.kept[word] == value:
             return False
@@ -125,7 +141,7 @@ class Machine:
             words += [(self.announcement(client), record)]
         for word, value in words:
             yield "store", word, value
-            yield "flush", word
+            yield from keeping(word)
 
     def enqueue(self, call):
         yield from self.prepare(call)
@@ -136,10 +152,10 @@ class Machine:
             if (yield "load", TAIL) != last:
                 continue
             if following != 0:
-                yield "flush", link
+                yield from keeping(link)
                 yield "swap", TAIL, last, following
             elif (yield "swap", link, 0, call.record) == 0:
-                yield "flush", link
+                yield from keeping(link)
                 yield "swap", TAIL, last, call.record
                 return "done"
 
@@ -154,20 +170,20 @@ class Machine:
                 continue
             if first == last and following == 0:
                 yield "store", self.empty_word(call.record), EMPTY[self.kind]
-                yield "flush", self.empty_word(call.record)
+                yield from keeping(self.empty_word(call.record))
                 return "empty"
             if first == last:
-                yield "flush", self.node(last, "next")
+                yield from keeping(self.node(last, "next"))
                 yield "swap", TAIL, last, following
                 continue
             value = yield "load", self.node(following, "value")
             mark = self.node(following, "mark")
             found = yield "swap", mark, 0, call.record
             winner = found or call.record
-            yield "flush", mark
+            yield from keeping(mark)
             result = self.result(winner, following, value)
             yield "store", *result
-            yield "flush", result[0]
+            yield from keeping(result[0])
             yield "swap", HEAD, first, following
             if found == 0:
                 return f"got {value}"
@@ -206,7 +222,7 @@ class Machine:
         call, steps, access = self.calls[client]
         call.steps += 1
         try:
-            self.calls[client][2] = steps.send(self.access(*access))
+            self.calls[client][2] = steps.send(self.access(client, *access))
         except StopIteration as end:
             call.reply = end.value
             self.calls[client] = None
@@ -217,6 +233,7 @@ class Machine:
 
     def crash(self):
         self.cached = list(self.kept)
+        self.requests = {}
         self.calls = [None] * self.clients
         self.effects = [effect for effect in self.effects if effect[2]]
         steps = self.recover()
@@ -228,7 +245,7 @@ class Machine:
         """One step of recovery: what each client is told, once it is done."""
         steps, access, count = self.recovery
         try:
-            self.recovery = [steps, steps.send(self.access(*access)), count + 1]
+            self.recovery = [steps, steps.send(self.access(RECOVERY_PORT, *access)), count + 1]
         except StopIteration as end:
             self.recovery = None
             self.set_floors(end.value)
@@ -249,7 +266,7 @@ class Machine:
             if node and self.kind == "log":
                 entry = yield "load", self.node(node, "insert")
                 yield "store", self.entry(entry, "status"), 1
-                yield "flush", self.entry(entry, "status")
+                yield from keeping(self.entry(entry, "status"))
             mark = 0
             if node and not has_moved:
                 mark = yield "load", self.node(node, "mark")
@@ -259,18 +276,18 @@ class Machine:
                     value = yield "load", self.node(node, "value")
                 result = self.result(mark, node, value)
                 yield "store", *result
-                yield "flush", result[0]
+                yield from keeping(result[0])
                 at = node
                 continue
             if not has_moved:
                 yield "store", HEAD, at
-                yield "flush", HEAD
+                yield from keeping(HEAD)
                 has_moved = True
             if not node:
                 break
             at = node
         yield "store", TAIL, at
-        yield "flush", TAIL
+        yield from keeping(TAIL)
         told = []
         for client in range(self.clients):
             told.append((yield from self.tell(client)))

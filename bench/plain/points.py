@@ -1,6 +1,6 @@
 """What `pqx points` and `pqx alone` print of a script, by docs/SCRIPT.md, on the plain machine."""
 
-from machine import Machine
+from machine import MAX_STEPS_ALONE, Machine
 from script import parsed
 
 
@@ -49,7 +49,7 @@ def attempts_of(kind, word, numbers):
     if word in ("enq", "deq"):
         return [("start", numbers[0], numbers[1] if kind == "log" else None, numbers[-1] if word == "enq" else None)]
     if word in ("step", "end"):
-        return [("step", numbers[0])] * (numbers[1] if word == "step" else 64)
+        return [("step", numbers[0])] * (numbers[1] if word == "step" else MAX_STEPS_ALONE)
     if word == "recover":
         return [("recover",)] * (numbers[0] if numbers else 100000)
     return [(word, *numbers)] if word in ("evict", "crash") else []

@@ -4,14 +4,17 @@
 
 plays each script on the plain machine of the folder OLD, which is bench/plain as it was, and side by side on this one.
 A `step C M` or `recover M` gets the count after which this machine waits where the old one waits: at the same kind of
-access to the same place, for as many a time. An `evict W` gets the word that the place of W has now. The script's file
-is written anew where a line changed, and so is what stands beside it of what the script prints (NAME.out, NAME.points,
-..), by the plain machine. Comments stay as they are. A line that has no such count is told, and stays.
+access to the same place, for as many a time. (A fence is of the place that its flush asked for.) An `evict W` gets the
+word that the place of W has now. The script's file is written anew where a line changed, and so is what stands beside
+it of what the script prints (NAME.out, NAME.points, ..), by the plain machine. Comments stay as they are. A line that
+has no such count is told, and stays.
 """
 
 import importlib
 import pathlib
 import sys
+
+from machine import RECOVERY_PORT
 
 HERE = pathlib.Path(__file__).resolve().parent
 COMMANDS = {
@@ -46,10 +49,15 @@ class Side:
         under_way = self.machine.recovery if who is None else self.machine.calls[who]
         return under_way and (under_way[1] if who is None else under_way[2])
 
+    def word(self, who, access):
+        """The word of an access that comes next. A fence names none: it is the one that its port asked for."""
+        port = RECOVERY_PORT if who is None else who
+        return access[1] if len(access) > 1 else self.machine.requests[port]
+
     def note(self, who):
         access = self.waiting(who)
         if access:
-            point = access[0], self.machine.place(access[1])
+            point = access[0], self.machine.place(self.word(who, access))
             self.waited.setdefault(who, []).append(point)
 
     def play(self, line, word, numbers):
@@ -124,7 +132,7 @@ def anew(old, new, line, word, numbers):
         return f"evict {now}", True
     if word == "end" or word == "recover":
         who = numbers[0] if word == "end" else None
-        return line, follow(old, new, who, 64 if word == "end" else 10**6)[1]
+        return line, follow(old, new, who, 10**6)[1]
     old.play(line, word, numbers)
     new.play(line, word, numbers)
     return line, True

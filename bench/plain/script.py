@@ -3,7 +3,7 @@ transcript."""
 
 import re
 
-from machine import Machine
+from machine import MAX_STEPS_ALONE, Machine
 
 NUMBER = re.compile(rb"0|[1-9][0-9]*")
 LIMITS = {
@@ -118,7 +118,7 @@ def play(machine, line, word, numbers):
     if word in ("enq", "deq"):
         return begin(machine, line, numbers)
     if word in ("step", "end"):
-        return step(machine, numbers[0], numbers[1] if word == "step" else 64)
+        return step(machine, numbers[0], numbers[1] if word == "step" else MAX_STEPS_ALONE)
     if word == "recover":
         return recover(machine, numbers[0] if numbers else -1)
     if word == "evict":

@@ -3,6 +3,7 @@
 use crate::turns::Load;
 use anyhow::Result;
 use arena::{Layout, SlotId};
+use directory::CREATION_STEPS;
 use interleave::World;
 use named::Broker;
 use std::alloc::Global;
@@ -86,7 +87,7 @@ fn last_of_eight<L: Layout>(alloc: Global, layout: &L) -> Result<Named, Refusal>
     let mut slot = SlotId(0);
     for name in names {
         broker.create(name, layout.kind())?;
-        for _ in 0..8 {
+        for _ in 0..CREATION_STEPS {
             if let Some(opened) = broker.create_step()? {
                 slot = opened;
             }

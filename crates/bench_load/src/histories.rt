@@ -1,19 +1,25 @@
 //! A made history, checked so many times.
 
 use anyhow::Result;
-use history::{Entry, Event, History, Order, Sequence, check, check_plainly};
+use history::{Entry, Event, Events, History, Order, Sequence, check, check_plainly};
 use std::alloc::{AllocError, Global};
 use words::{Call, Client, Reply, Row, Told};
 
 /// A history in the making, and its order.
 #[derive(Drop)]
 struct Making {
-    events: Vec<Event>,
+    events: Events,
     entries: Vec<Entry>,
     told: [Told; 16],
 }
 
 impl Making {
+    fn add(&mut self, event: Event) -> Result<(), AllocError> {
+        self.events.reserve(1)?;
+        self.events.push(event);
+        Ok(())
+    }
+
     /// Each client calls, then each is answered: in one round they put values, in the next one they get them.
     fn round(&mut self, clients: u8, gets: bool) -> Result<(), AllocError> {
         let first = self.events.len();
@@ -21,7 +27,7 @@ impl Making {
             let value = t as u32;
             let call = if gets { Call::Deq } else { Call::Enq(value) };
             let reply = if gets { Reply::Got(value) } else { Reply::Done };
-            self.events.push(Event::Call {
+            self.add(Event::Call {
                 client: Client(t),
                 number: 0,
                 call,
@@ -34,7 +40,7 @@ impl Making {
         for t in 0..clients {
             let value = t as u32;
             let reply = if gets { Reply::Got(value) } else { Reply::Done };
-            self.events.push(Event::Return {
+            self.add(Event::Return {
                 client: Client(t),
                 reply,
             })?;
@@ -47,8 +53,8 @@ impl Making {
 
     /// Everything stops, and each client is told of its last dequeue.
     fn stop(&mut self) -> Result<(), AllocError> {
-        self.events.push(Event::Crash)?;
-        self.events.push(Event::Ready { told: self.told })?;
+        self.add(Event::Crash)?;
+        self.add(Event::Ready { told: self.told })?;
         Ok(())
     }
 }
@@ -56,7 +62,7 @@ impl Making {
 /// A history of about so many events, with a crash every eight rounds, and its order.
 fn made(alloc: Global, clients: u8, events: usize) -> Result<(History, Order), AllocError> {
     let mut making = Making {
-        events: Vec::new(alloc),
+        events: Events::new(alloc),
         entries: Vec::new(alloc),
         told: [Told::None; 16],
     };
@@ -72,7 +78,7 @@ fn made(alloc: Global, clients: u8, events: usize) -> Result<(History, Order), A
     let history = History {
         base: Sequence::new(alloc),
         told: [Told::None; 16],
-        events: Sequence::from_vec(making.events),
+        events: making.events,
     };
     let order = Order {
         entries: Sequence::from_vec(making.entries),

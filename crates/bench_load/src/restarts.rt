@@ -2,6 +2,7 @@
 
 use anyhow::Result;
 use arena::SlotId;
+use directory::CREATION_STEPS;
 use named::Broker;
 use std::time::Instant;
 use words::{Call, Client, Kind, Refusal};
@@ -10,7 +11,7 @@ use words::{Call, Client, Kind, Refusal};
 const CRASHES: u64 = 60;
 
 /// How many steps a call makes before the crash.
-const STEPS: u32 = 5;
+const STEPS: u32 = 7;
 
 /// How many steps a recovery may take here: the directory's, and those of a queue with no more values than crashes.
 const MOST_STEPS: u32 = 1_000;
@@ -30,7 +31,7 @@ fn broker(rt: &HostRuntime, clients: u32, records: u32) -> Result<(Broker, SlotI
     let mut broker = Broker::make(rt.alloc(), clients, records)?;
     broker.create(b"q", Kind::Durable)?;
     let mut slot = SlotId(0);
-    for _ in 0..8 {
+    for _ in 0..CREATION_STEPS {
         if let Some(opened) = broker.create_step()? {
             slot = opened;
         }

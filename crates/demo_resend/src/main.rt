@@ -24,7 +24,7 @@ fn play(rt: &HostRuntime, steps: u32) -> Result<()> {
 
 fn main(rt: HostRuntime) -> Result<()> {
     println!(rt; "A crash when number 2 has taken effect, but is not answered")?;
-    play(&rt, 15)?;
+    play(&rt, 20)?;
     println!(rt; "\nA crash when it has only been announced")?;
-    play(&rt, 8)
+    play(&rt, 12)
 }

@@ -2,6 +2,7 @@
 
 use anyhow::Result;
 use arena::SlotId;
+use directory::CREATION_STEPS;
 use named::Broker;
 use session::Session;
 use std::alloc::Global;
@@ -19,7 +20,7 @@ const MOST_STEPS: u32 = 1_000;
 pub(crate) fn open(alloc: Global) -> Result<Session, Refusal> {
     let mut session = Session::open(Broker::make(alloc, 1, 4)?);
     session.create(b"orders", Kind::Log)?;
-    for _ in 0..8 {
+    for _ in 0..CREATION_STEPS {
         session.create_step()?;
     }
     Ok(session)

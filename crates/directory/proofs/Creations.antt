@@ -18,26 +18,34 @@ use Rattle.directory.specs.Creation.{access_at, access_of, next_of, after_point,
 use Rattle.directory.specs.declared.queue.Queue.{Queue}
 use Rattle.directory.specs.declared.creation.Creation.{Creation}
 use Rattle.directory.specs.declared.creation.CreationPoint.{CreationPoint}
-use Rattle.directory.specs.declared.creation.CreationPoint.TheVariants.{Store as StoreWord, Flush as FlushWord}
+use Rattle.directory.specs.declared.creation.CreationPoint.TheVariants.{Store as StoreWord, Flush as FlushWord, Fence as FenceWord}
+use Rattle.directory.specs.declared.creation.SlotWord.{SlotWord}
 use Rattle.directory.specs.declared.creation.SlotWord.TheVariants.{FirstName as first_name, SecondName as second_name, Kind as kind_word, Gate as gate_word}
-use Rattle.directory.specs.UnderWay.{HasDirectory, IsKept, IsStored, IsSlotAtRest, IsAtRest, IsAtRestBut, IsOpening, HasQueueWords, IsAsFarAs, IsCreationUnderWay, ComesTo, IsAsItWasOrWith, HaveSameDirectory}
+use Rattle.directory.specs.UnderWay.{HasDirectory, IsKept, IsStored, IsSlotAtRest, IsAtRest, IsAtRestBut, IsOpening, HasQueueWords, HasStored, IsAsFarAs, IsCreationUnderWay, ComesTo, IsAsItWasOrWith, HaveSameDirectory}
 use Rattle.directory.proofs.Rows.{name_again}
 use Rattle.std.proofs.lemmas.List.FromFn.{fill_by_all}
 use Rattle.directory.proofs.SlotWords.{slot_in-same, written_here, written_there, evicted, evicted_both, SameSlot, same_slot, below_same, written_same, evicted_same, slot_moves, slot_crashes}
 
 -- how far a creation has come stays where kept and stored words of the directory stay so
+stored_map : (old new : Words) (slot : ℕ) (queue : Queue) → slot < 8
+    → ((w v : ℕ) → w < 34 → IsKept old w v → IsKept new w v) → ((w v : ℕ) → w < 34 → IsStored old w v → IsStored new w v)
+    → (IsOpening old slot → IsOpening new slot)
+    → (word : SlotWord) → HasStored old slot queue word → HasStored new slot queue word
+stored_map old new slot queue below kept stored opening first_name h = (kept _ _ (omega arith) h.0, stored _ _ (omega arith) h.1)
+stored_map old new slot queue below kept stored opening second_name h = (kept _ _ (omega arith) h.0, kept _ _ (omega arith) h.1, stored _ _ (omega arith) h.2)
+stored_map old new slot queue below kept stored opening kind_word h = (kept _ _ (omega arith) h.0, (kept _ _ (omega arith) h.1.0, kept _ _ (omega arith) h.1.1), stored _ _ (omega arith) h.2)
+stored_map old new slot queue below kept stored opening gate_word h = (opening h.0, ((kept _ _ (omega arith) h.1.0.0, kept _ _ (omega arith) h.1.0.1), kept _ _ (omega arith) h.1.1))
+
 own_map : (old new : Words) (slot : ℕ) (queue : Queue) → slot < 8
     → ((w v : ℕ) → w < 34 → IsKept old w v → IsKept new w v) → ((w v : ℕ) → w < 34 → IsStored old w v → IsStored new w v)
     → (IsOpening old slot → IsOpening new slot)
     → (at : CreationPoint) → IsAsFarAs old slot queue at → IsAsFarAs new slot queue at
 own_map old new slot queue below kept stored opening (StoreWord first_name) h = kept _ _ (omega arith) h
-own_map old new slot queue below kept stored opening (FlushWord first_name) h = (kept _ _ (omega arith) h.0, stored _ _ (omega arith) h.1)
 own_map old new slot queue below kept stored opening (StoreWord second_name) h = (kept _ _ (omega arith) h.0, kept _ _ (omega arith) h.1)
-own_map old new slot queue below kept stored opening (FlushWord second_name) h = (kept _ _ (omega arith) h.0, kept _ _ (omega arith) h.1, stored _ _ (omega arith) h.2)
 own_map old new slot queue below kept stored opening (StoreWord kind_word) h = (kept _ _ (omega arith) h.0, (kept _ _ (omega arith) h.1.0, kept _ _ (omega arith) h.1.1))
-own_map old new slot queue below kept stored opening (FlushWord kind_word) h = (kept _ _ (omega arith) h.0, (kept _ _ (omega arith) h.1.0, kept _ _ (omega arith) h.1.1), stored _ _ (omega arith) h.2)
 own_map old new slot queue below kept stored opening (StoreWord gate_word) h = (kept _ _ (omega arith) h.0, ((kept _ _ (omega arith) h.1.0.0, kept _ _ (omega arith) h.1.0.1), kept _ _ (omega arith) h.1.1))
-own_map old new slot queue below kept stored opening (FlushWord gate_word) h = (opening h.0, ((kept _ _ (omega arith) h.1.0.0, kept _ _ (omega arith) h.1.0.1), kept _ _ (omega arith) h.1.1))
+own_map old new slot queue below kept stored opening (FlushWord word) h = stored_map old new slot queue below kept stored opening word h
+own_map old new slot queue below kept stored opening (FenceWord word) h = stored_map old new slot queue below kept stored opening word h
 
 -- where the words of the directory stay, so does all that is said of them
 module _ (old new : Words) (same : HaveSameDirectory old new) where
@@ -243,9 +251,9 @@ module _ (c : Counts) (ws : Words) (slot : SlotId) (queue : Queue) (directory : 
       let rest = others_stored ws slot.0 field w v small at directory others in
       creation_moves (words_after_store w v ws) (words_after_access (words_after_store w v ws)) (counted (words_after_store w v ws) rest.room) (creation_at slot queue next) directory (record { others = rest; named = named; own = own })
 
-  flush_step : (w : ℕ) → (next : CreationPoint) → IsAsFarAs (words_after_eviction w ws) slot.0 queue next
+  fence_step : (w : ℕ) → (next : CreationPoint) → IsAsFarAs (words_after_eviction w ws) slot.0 queue next
       → IsCreationUnderWay (words_after_access (words_after_eviction w ws)) (creation_at slot queue next) directory
-  flush_step w next own =
+  fence_step w next own =
       let rest = others_evicted ws w slot.0 directory others in
       creation_moves (words_after_eviction w ws) (words_after_access (words_after_eviction w ws)) (counted (words_after_eviction w ws) rest.room) (creation_at slot queue next) directory (record { others = rest; named = named; own = own })
 
@@ -268,34 +276,36 @@ module _ (c : Counts) (ws : Words) (slot : SlotId) (queue : Queue) (directory : 
       let v : ℕ = first_word queue.name in
       store_step 0 w v (omega arith) (omega arith) (FlushWord first_name)
       (still 0 w v _ _ (omega arith) (omega arith) (λ e. omega arith) h, here 0 w v (omega arith) (omega arith))
-  goes_on (FlushWord first_name) h =
+  goes_on (FlushWord word) h =
+      creation_moves ws (words_after_access ws) (counted ws others.room) (creation_at slot queue (FenceWord word)) directory (record { others = others; named = named; own = h })
+  goes_on (FenceWord first_name) h =
       let below : slot.0 < 8 = others.in_range in
       let w : ℕ = first_name_at slot.0 in
-      flush_step w (StoreWord second_name) (too w _ _ (omega arith) h.0, now w _ (omega arith) h.1)
+      fence_step w (StoreWord second_name) (too w _ _ (omega arith) h.0, now w _ (omega arith) h.1)
   goes_on (StoreWord second_name) h =
       let w : ℕ = second_name_at slot.0 in
       let v : ℕ = second_word queue.name in
       store_step 1 w v (omega arith) (omega arith) (FlushWord second_name)
       (still 1 w v _ _ (omega arith) (omega arith) (λ e. omega arith) h.0, still 1 w v _ _ (omega arith) (omega arith) (λ e. omega arith) h.1, here 1 w v (omega arith) (omega arith))
-  goes_on (FlushWord second_name) h =
+  goes_on (FenceWord second_name) h =
       let below : slot.0 < 8 = others.in_range in
       let w : ℕ = second_name_at slot.0 in
-      flush_step w (StoreWord kind_word) (too w _ _ (omega arith) h.0, (too w _ _ (omega arith) h.1, now w _ (omega arith) h.2))
+      fence_step w (StoreWord kind_word) (too w _ _ (omega arith) h.0, (too w _ _ (omega arith) h.1, now w _ (omega arith) h.2))
   goes_on (StoreWord kind_word) h =
       let w : ℕ = kind_at slot.0 in
       let v : ℕ = kind_code queue.kind in
       store_step 2 w v (omega arith) (omega arith) (FlushWord kind_word)
       (still 2 w v _ _ (omega arith) (omega arith) (λ e. omega arith) h.0, (still 2 w v _ _ (omega arith) (omega arith) (λ e. omega arith) h.1.0, still 2 w v _ _ (omega arith) (omega arith) (λ e. omega arith) h.1.1), here 2 w v (omega arith) (omega arith))
-  goes_on (FlushWord kind_word) h =
+  goes_on (FenceWord kind_word) h =
       let below : slot.0 < 8 = others.in_range in
       let w : ℕ = kind_at slot.0 in
-      flush_step w (StoreWord gate_word) (too w _ _ (omega arith) h.0, ((too w _ _ (omega arith) h.1.0, too w _ _ (omega arith) h.1.1), now w _ (omega arith) h.2))
+      fence_step w (StoreWord gate_word) (too w _ _ (omega arith) h.0, ((too w _ _ (omega arith) h.1.0, too w _ _ (omega arith) h.1.1), now w _ (omega arith) h.2))
   goes_on (StoreWord gate_word) h =
       let w : ℕ = gate_at slot.0 in
       let opening : IsOpening (words_after_store w 1 ws) slot.0 = record { cached = (here 3 w 1 (omega arith) (omega arith)).cached; kept = inl h.0.kept } in
       store_step 3 w 1 (omega arith) (omega arith) (FlushWord gate_word)
       (opening, ((still 3 w 1 _ _ (omega arith) (omega arith) (λ e. omega arith) h.1.0.0, still 3 w 1 _ _ (omega arith) (omega arith) (λ e. omega arith) h.1.0.1), still 3 w 1 _ _ (omega arith) (omega arith) (λ e. omega arith) h.1.1))
-  goes_on (FlushWord gate_word) h =
+  goes_on (FenceWord gate_word) h =
       let below : slot.0 < 8 = others.in_range in
       let w : ℕ = gate_at slot.0 in
       let rest = others_evicted ws w slot.0 directory others in
@@ -365,15 +375,19 @@ module _ (ws : Words) (slot : ℕ) (queue : Queue) (directory : Directory) (othe
       (record { cached = opened; kept = opened })
       ((record { cached = h.0.0.kept; kept = h.0.0.kept }, record { cached = h.0.1.kept; kept = h.0.1.kept }), record { cached = h.1.kept; kept = h.1.kept })
 
+  stored_crashed : (word : SlotWord) → HasStored ws slot queue word → IsAtRest (words_after_crash ws) directory ⊎ IsAtRest (words_after_crash ws) (slice_set directory slot (Some queue))
+  stored_crashed first_name h = inl (lost h.0.kept)
+  stored_crashed second_name h = inl (lost h.0.kept)
+  stored_crashed kind_word h = inl (lost h.0.kept)
+  stored_crashed gate_word h = elim h.0.kept [ inl closed ↦ inl (lost closed) | inr opened ↦ inr (kept_whole opened h.1) ]
+
   pub crashed : (at : CreationPoint) → IsAsFarAs ws slot queue at → IsAtRest (words_after_crash ws) directory ⊎ IsAtRest (words_after_crash ws) (slice_set directory slot (Some queue))
   crashed (StoreWord first_name) h = inl (lost h.kept)
-  crashed (FlushWord first_name) h = inl (lost h.0.kept)
   crashed (StoreWord second_name) h = inl (lost h.0.kept)
-  crashed (FlushWord second_name) h = inl (lost h.0.kept)
   crashed (StoreWord kind_word) h = inl (lost h.0.kept)
-  crashed (FlushWord kind_word) h = inl (lost h.0.kept)
   crashed (StoreWord gate_word) h = inl (lost h.0.kept)
-  crashed (FlushWord gate_word) h = elim h.0.kept [ inl closed ↦ inl (lost closed) | inr opened ↦ inr (kept_whole opened h.1) ]
+  crashed (FlushWord word) h = stored_crashed word h
+  crashed (FenceWord word) h = stored_crashed word h
 
 pub creation_crashed : (ws : Words) (creation : Creation) (directory : Directory) → IsCreationUnderWay ws creation directory → IsAsItWasOrWith (words_after_crash ws) creation directory
 creation_crashed ws creation directory h = crashed ws creation.slot.0 creation.queue directory h.others h.named creation.at h.own
@@ -397,12 +411,16 @@ cached_directory ws directory h = directory_is ws.cached directory h.count (λ s
 less_at : (slot : SlotId) (queue : Queue) (at : CreationPoint) → left_after (after_point slot queue (next_of at)) + 1 ≡ left_at at
 less_at slot queue (StoreWord first_name) = refl
 less_at slot queue (FlushWord first_name) = refl
+less_at slot queue (FenceWord first_name) = refl
 less_at slot queue (StoreWord second_name) = refl
 less_at slot queue (FlushWord second_name) = refl
+less_at slot queue (FenceWord second_name) = refl
 less_at slot queue (StoreWord kind_word) = refl
 less_at slot queue (FlushWord kind_word) = refl
+less_at slot queue (FenceWord kind_word) = refl
 less_at slot queue (StoreWord gate_word) = refl
 less_at slot queue (FlushWord gate_word) = refl
+less_at slot queue (FenceWord gate_word) = refl
 
 pub creation_less : (creation : Creation) → left_after (successor creation) + 1 ≡ left_at creation.at
 creation_less creation = less_at creation.slot creation.queue creation.at

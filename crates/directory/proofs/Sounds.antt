@@ -18,7 +18,7 @@ use Rattle.directory.specs.UnderWay.{HasDirectory, HasHead, HaveSameDirectory, I
 use Rattle.directory.specs.declared.queue.Queue.{Queue}
 use Rattle.directory.specs.declared.creation.Creation.{Creation}
 use Rattle.directory.specs.declared.creation.CreationPoint.{CreationPoint}
-use Rattle.directory.specs.declared.creation.CreationPoint.TheVariants.{Store as StoreWord, Flush as FlushWord}
+use Rattle.directory.specs.declared.creation.CreationPoint.TheVariants.{Store as StoreWord, Flush as FlushWord, Fence as FenceWord}
 use Rattle.directory.specs.declared.creation.SlotWord.TheVariants.{FirstName as first_name, SecondName as second_name, Kind as kind_word, Gate as gate_word}
 use Rattle.directory.proofs.SlotWords.{slot_crashes, written_there, evicted_both}
 use Rattle.directory.proofs.Creations.{slot_closed, kept_directory}
@@ -85,13 +85,14 @@ module _ (c : Counts) (ws : Words) (slot : SlotId) (queue : Queue) (below : slot
 
   pub blocks_at : (at : CreationPoint) → HaveSameBlocks ws (after_one c (access_at slot queue at) ws)
   blocks_at (StoreWord first_name) = record { cached = stored (first_name_at slot.0) (first_word queue.name) (omega arith); kept = refl }
-  blocks_at (FlushWord first_name) = record { cached = refl; kept = flushed (first_name_at slot.0) (omega arith) }
+  blocks_at (FlushWord word) = record { cached = refl; kept = refl }
+  blocks_at (FenceWord first_name) = record { cached = refl; kept = flushed (first_name_at slot.0) (omega arith) }
   blocks_at (StoreWord second_name) = record { cached = stored (second_name_at slot.0) (second_word queue.name) (omega arith); kept = refl }
-  blocks_at (FlushWord second_name) = record { cached = refl; kept = flushed (second_name_at slot.0) (omega arith) }
+  blocks_at (FenceWord second_name) = record { cached = refl; kept = flushed (second_name_at slot.0) (omega arith) }
   blocks_at (StoreWord kind_word) = record { cached = stored (kind_at slot.0) (kind_code queue.kind) (omega arith); kept = refl }
-  blocks_at (FlushWord kind_word) = record { cached = refl; kept = flushed (kind_at slot.0) (omega arith) }
+  blocks_at (FenceWord kind_word) = record { cached = refl; kept = flushed (kind_at slot.0) (omega arith) }
   blocks_at (StoreWord gate_word) = record { cached = stored (gate_at slot.0) 1 (omega arith); kept = refl }
-  blocks_at (FlushWord gate_word) = record { cached = refl; kept = flushed (gate_at slot.0) (omega arith) }
+  blocks_at (FenceWord gate_word) = record { cached = refl; kept = flushed (gate_at slot.0) (omega arith) }
 
 pub creation_blocks : (c : Counts) (ws : Words) (creation : Creation) → creation.slot.0 < 8 → HaveSameBlocks ws (after_one c (access_of creation) ws)
 creation_blocks c ws creation below = blocks_at c ws creation.slot creation.queue below creation.at
@@ -123,8 +124,8 @@ module _ (c : Counts) (ws : Words) (slot : SlotId) (queue : Queue) (room : HasDi
     records = record { cached = written_there ws.cached w v 1 (λ e. omega arith) ∙ h.records.cached; kept = h.records.kept };
   }
 
-  head_flushed : (w : ℕ) → HasHead (words_after_access (words_after_eviction w ws)) c
-  head_flushed w =
+  head_fenced : (w : ℕ) → HasHead (words_after_access (words_after_eviction w ws)) c
+  head_fenced w =
       let kept = head_evicted ws w c room h in
       record {
         clients = record { cached = kept.clients.cached; kept = kept.clients.kept };
@@ -133,13 +134,14 @@ module _ (c : Counts) (ws : Words) (slot : SlotId) (queue : Queue) (room : HasDi
 
   head_at : (k : Counts) (at : CreationPoint) → HasHead (after_one k (access_at slot queue at) ws) c
   head_at k (StoreWord first_name) = head_stored (first_name_at slot.0) (first_word queue.name) (omega arith)
-  head_at k (FlushWord first_name) = head_flushed (first_name_at slot.0)
+  head_at k (FlushWord word) = record { clients = record { cached = h.clients.cached; kept = h.clients.kept }; records = record { cached = h.records.cached; kept = h.records.kept } }
+  head_at k (FenceWord first_name) = head_fenced (first_name_at slot.0)
   head_at k (StoreWord second_name) = head_stored (second_name_at slot.0) (second_word queue.name) (omega arith)
-  head_at k (FlushWord second_name) = head_flushed (second_name_at slot.0)
+  head_at k (FenceWord second_name) = head_fenced (second_name_at slot.0)
   head_at k (StoreWord kind_word) = head_stored (kind_at slot.0) (kind_code queue.kind) (omega arith)
-  head_at k (FlushWord kind_word) = head_flushed (kind_at slot.0)
+  head_at k (FenceWord kind_word) = head_fenced (kind_at slot.0)
   head_at k (StoreWord gate_word) = head_stored (gate_at slot.0) 1 (omega arith)
-  head_at k (FlushWord gate_word) = head_flushed (gate_at slot.0)
+  head_at k (FenceWord gate_word) = head_fenced (gate_at slot.0)
 
 pub creation_head : (k c : Counts) (ws : Words) (creation : Creation) → HasDirectory ws → HasHead ws c → HasHead (after_one k (access_of creation) ws) c
 creation_head k c ws creation room h = head_at c ws creation.slot creation.queue room h k creation.at

@@ -1,18 +1,21 @@
 -- The steps of a creation: one access each, and what comes then.
-use Rattle.std.specs.Prelude.{ℕ, ◌*◌, ◌-◌, Option, Some, None, option_map}
-use Rattle.persist.specs.Memory.{Access, Store, Flush}
+use Rattle.std.specs.Prelude.{ℕ, ◌+◌, ◌*◌, ◌-◌, Option, Some, None, option_map}
+use Rattle.persist.specs.Memory.{Access, Store, Flush, Fence, Request}
+use Rattle.arena.specs.Shape.{Counts}
 use Rattle.arena.specs.declared.broker.SlotId.{SlotId}
 use Rattle.arena.specs.declared.broker.BrokerPlace.{BrokerPlace}
 use Rattle.arena.specs.declared.broker.BrokerPlace.TheVariants.{FirstName, SecondName, QueueKind, Gate}
 use Rattle.arena.specs.declared.codes.TheConstants.{OPEN_GATE}
+use Rattle.stepper.specs.Steps.{keep_steps}
 use Rattle.stepper.specs.declared.resume.After.{After}
 use Rattle.stepper.specs.declared.resume.After.TheVariants.{More, Done}
 use Rattle.directory.specs.Name.{first_word, second_word}
 use Rattle.directory.specs.Queue.{kind_code}
+use Rattle.directory.specs.Step.{IsAskedFor}
 use Rattle.directory.specs.declared.queue.Queue.{Queue}
 use Rattle.directory.specs.declared.creation.Creation.{Creation}
 use Rattle.directory.specs.declared.creation.CreationPoint.{CreationPoint}
-use Rattle.directory.specs.declared.creation.CreationPoint.TheVariants.{Store as StoreWord, Flush as FlushWord}
+use Rattle.directory.specs.declared.creation.CreationPoint.TheVariants.{Store as StoreWord, Flush as FlushWord, Fence as FenceWord}
 use Rattle.directory.specs.declared.creation.SlotWord.{SlotWord}
 use Rattle.directory.specs.declared.creation.SlotWord.TheVariants.{FirstName as first_name, SecondName as second_name, Kind as kind_word, Gate as gate_word}
 
@@ -39,6 +42,7 @@ value_for queue gate_word = OPEN_GATE
 abbrev pub access_at : SlotId → Queue → CreationPoint → Access BrokerPlace
 access_at slot queue (StoreWord word) = Store (place_in slot word) (value_for queue word)
 access_at slot queue (FlushWord word) = Flush (place_in slot word)
+access_at slot queue (FenceWord word) = Fence (place_in slot word)
 
 abbrev pub access_of : Creation → Access BrokerPlace
 access_of creation = access_at creation.slot creation.queue creation.at
@@ -53,7 +57,8 @@ word_after gate_word = None
 -- what comes then
 abbrev pub next_of : CreationPoint → Option CreationPoint
 next_of (StoreWord word) = Some (FlushWord word)
-next_of (FlushWord word) = option_map StoreWord (word_after word)
+next_of (FlushWord word) = Some (FenceWord word)
+next_of (FenceWord word) = option_map StoreWord (word_after word)
 
 -- the last step answers the slot
 abbrev pub after_point : SlotId → Queue → Option CreationPoint → After Creation SlotId
@@ -63,6 +68,11 @@ after_point slot queue None = Done slot
 abbrev pub successor : Creation → After Creation SlotId
 successor creation = after_point creation.slot creation.queue (next_of creation.at)
 
+-- the next step has what it asks for: a fence, that its word was asked for
+abbrev pub IsNextAskedFor : Counts → After Creation SlotId → Request → Type 0
+IsNextAskedFor c (More next) request = IsAskedFor c (access_of next) request
+IsNextAskedFor c (Done slot) request = Unit {0}
+
 -- how many words a creation keeps from this one on
 abbrev pub words_from : SlotWord → ℕ
 words_from first_name = 4
@@ -70,10 +80,11 @@ words_from second_name = 3
 words_from kind_word = 2
 words_from gate_word = 1
 
--- how many steps it has left: two a word, a store and a flush, so eight at first, and one less after each
+-- how many steps it has left: a store and those of keeping a word, so twelve at first, and one less after each
 abbrev pub left_at : CreationPoint → ℕ
-left_at (StoreWord word) = 2 * words_from word
-left_at (FlushWord word) = 2 * words_from word - 1
+left_at (StoreWord word) = (1 + keep_steps) * words_from word
+left_at (FlushWord word) = (1 + keep_steps) * words_from word - 1
+left_at (FenceWord word) = (1 + keep_steps) * words_from word - 2
 
 abbrev pub left_after : After Creation SlotId → ℕ
 left_after (More next) = left_at next.at

@@ -13,7 +13,8 @@ use Rattle.directory.specs.declared.queue.Queue.{Queue}
 use Rattle.arena.specs.declared.broker.SlotId.{SlotId}
 use Rattle.directory.specs.declared.creation.Creation.{Creation}
 use Rattle.directory.specs.declared.creation.CreationPoint.{CreationPoint}
-use Rattle.directory.specs.declared.creation.CreationPoint.TheVariants.{Store as StoreWord, Flush as FlushWord}
+use Rattle.directory.specs.declared.creation.CreationPoint.TheVariants.{Store as StoreWord, Flush as FlushWord, Fence as FenceWord}
+use Rattle.directory.specs.declared.creation.SlotWord.{SlotWord}
 use Rattle.directory.specs.declared.creation.SlotWord.TheVariants.{FirstName as first_name, SecondName as second_name, Kind as kind_word, Gate as gate_word}
 
 -- the memory has the words of the directory
@@ -91,17 +92,21 @@ HasNameWords ws slot queue = HasFirstName ws slot queue × HasSecondName ws slot
 abbrev pub HasQueueWords : Words → ℕ → Queue → Type 0
 HasQueueWords ws slot queue = HasNameWords ws slot queue × HasKind ws slot queue
 
--- how far a creation has come with the words of its slot
+-- how far a creation has come with the words of its slot where it stored one, which may be kept
+abbrev pub HasStored : Words → ℕ → Queue → SlotWord → Type 0
+HasStored ws slot queue first_name = IsClosed ws slot × StoresFirstName ws slot queue
+HasStored ws slot queue second_name = IsClosed ws slot × HasFirstName ws slot queue × StoresSecondName ws slot queue
+HasStored ws slot queue kind_word = IsClosed ws slot × HasNameWords ws slot queue × StoresKind ws slot queue
+HasStored ws slot queue gate_word = IsOpening ws slot × HasQueueWords ws slot queue
+
+-- and at each point
 abbrev pub IsAsFarAs : Words → ℕ → Queue → CreationPoint → Type 0
 IsAsFarAs ws slot queue (StoreWord first_name) = IsClosed ws slot
-IsAsFarAs ws slot queue (FlushWord first_name) = IsClosed ws slot × StoresFirstName ws slot queue
 IsAsFarAs ws slot queue (StoreWord second_name) = IsClosed ws slot × HasFirstName ws slot queue
-IsAsFarAs ws slot queue (FlushWord second_name) =
-    IsClosed ws slot × HasFirstName ws slot queue × StoresSecondName ws slot queue
 IsAsFarAs ws slot queue (StoreWord kind_word) = IsClosed ws slot × HasNameWords ws slot queue
-IsAsFarAs ws slot queue (FlushWord kind_word) = IsClosed ws slot × HasNameWords ws slot queue × StoresKind ws slot queue
 IsAsFarAs ws slot queue (StoreWord gate_word) = IsClosed ws slot × HasQueueWords ws slot queue
-IsAsFarAs ws slot queue (FlushWord gate_word) = IsOpening ws slot × HasQueueWords ws slot queue
+IsAsFarAs ws slot queue (FlushWord word) = HasStored ws slot queue word
+IsAsFarAs ws slot queue (FenceWord word) = HasStored ws slot queue word
 
 -- a creation is under way, of a queue that is not in this directory yet
 pub record IsCreationUnderWay (ws : Words) (creation : Creation) (directory : Directory) : Type 0 where

@@ -3,16 +3,16 @@
 ghost use Rattle.std.specs.Prelude.{◌≡◌, ◌<◌, ◌≤◌, length};
 ghost use Rattle.arena.specs.Broker.{broker_size};
 ghost use Rattle.directory.specs.Name.{IsName};
-ghost use Rattle.directory.specs.Step.{after_one};
-ghost use Rattle.directory.specs.Creation.{access_of, new_creation, next_of, place_in, successor, value_for, word_after};
+ghost use Rattle.directory.specs.Step.{after_one, lent_after_one, IsAskedFor};
+ghost use Rattle.directory.specs.Creation.{access_of, new_creation, next_of, place_in, successor, value_for, word_after, IsNextAskedFor};
 
-use crate::places::{flush_at, store_at};
+use crate::places::{fence_at, flush_at, store_at};
 use crate::queue::{Queue, kind_code};
 use arena::{BrokerLayout, BrokerPlace, OPEN_GATE, SLOTS, SlotId};
 use persist::WordMemory;
 use stepper::After;
 
-/// A word of a slot that a creation keeps. They are kept in this order.
+/// A word of a slot that a creation keeps, by a flush and a fence. They are kept in this order.
 #[derive(Clone, Copy, Debug, PartialEq, Eq, Hash)]
 pub enum SlotWord {
     FirstName,
@@ -28,6 +28,7 @@ pub enum SlotWord {
 pub enum CreationPoint {
     Store(SlotWord),
     Flush(SlotWord),
+    Fence(SlotWord),
 }
 
 /// A creation under way: of which queue, in which slot, and what it is about to do.
@@ -53,7 +54,7 @@ impl Creation {
         }
     }
 
-    /// One step: exactly one access. The last one, the eighth, answers the slot.
+    /// One step: exactly one access. The last one answers the slot: there are [`crate::CREATION_STEPS`].
     pub fn step<M: WordMemory>(
         self,
         layout: &BrokerLayout,
@@ -61,8 +62,11 @@ impl Creation {
     ) -> After<Creation, SlotId>
         requires slot { self.slot.0 < SLOTS }
         requires room { broker_size layout.now ≤ length (M.words memory.old).cached }
+        requires asked { IsAskedFor layout.now (access_of self) (M.lent memory.old).request }
         ensures one_access { M.words memory.new ≡ after_one layout.now (access_of self) (M.words memory.old) }
+        ensures lent { M.lent memory.new ≡ lent_after_one layout.now (access_of self) (M.lent memory.old) }
         ensures next { result ≡ successor self }
+        ensures asked { IsNextAskedFor layout.now result (M.lent memory.new).request }
     {
         self.access(layout, memory);
         match self.at.next() {
@@ -75,7 +79,9 @@ impl Creation {
     fn access<M: WordMemory>(&self, layout: &BrokerLayout, memory: &mut M)
         requires slot { self.now.slot.0 < SLOTS }
         requires room { broker_size layout.now ≤ length (M.words memory.old).cached }
-        ensures { M.words memory.new ≡ after_one layout.now (access_of self.now) (M.words memory.old) }
+        requires asked { IsAskedFor layout.now (access_of self.now) (M.lent memory.old).request }
+        ensures one_access { M.words memory.new ≡ after_one layout.now (access_of self.now) (M.words memory.old) }
+        ensures lent { M.lent memory.new ≡ lent_after_one layout.now (access_of self.now) (M.lent memory.old) }
     {
         match self.at {
             CreationPoint::Store(word) => {
@@ -83,6 +89,7 @@ impl Creation {
                 store_at(layout, memory, self.place(word), value)
             }
             CreationPoint::Flush(word) => flush_at(layout, memory, self.place(word)),
+            CreationPoint::Fence(word) => fence_at(layout, memory, self.place(word)),
         }
     }
 
@@ -133,7 +140,8 @@ impl CreationPoint {
     {
         match self {
             CreationPoint::Store(word) => Some(CreationPoint::Flush(word)),
-            CreationPoint::Flush(word) => word.after().map(CreationPoint::Store),
+            CreationPoint::Flush(word) => Some(CreationPoint::Fence(word)),
+            CreationPoint::Fence(word) => word.after().map(CreationPoint::Store),
         }
     }
 }

@@ -1,9 +1,9 @@
 //! One access, at a place of a broker.
 
 ghost use Rattle.std.specs.Prelude.{◌≡◌, ◌≤◌, length};
-ghost use Rattle.arena.specs.Broker.{broker_size, IsBrokerPlace};
-ghost use Rattle.persist.specs.Memory.{Load, Store, Flush};
-ghost use Rattle.directory.specs.Step.{after_one, value_found};
+ghost use Rattle.arena.specs.Broker.{broker_size, broker_word, IsBrokerPlace};
+ghost use Rattle.persist.specs.Memory.{Load, Store, Flush, Fence, Word};
+ghost use Rattle.directory.specs.Step.{after_one, lent_after_one, value_found};
 
 use arena::{BrokerLayout, BrokerPlace};
 use persist::WordMemory;
@@ -18,6 +18,7 @@ pub(crate) fn load_at<M: WordMemory>(
     requires room { broker_size layout.now ≤ length (M.words memory.old).cached }
     ensures value { result ≡ value_found layout.now (Load place) (M.words memory.old) }
     ensures one_access { M.words memory.new ≡ after_one layout.now (Load place) (M.words memory.old) }
+    ensures lent { M.lent memory.new ≡ M.lent memory.old }
 {
     memory.load(layout.word(place)).unwrap()
 }
@@ -31,16 +32,27 @@ pub(crate) fn store_at<M: WordMemory>(
 )
     requires place { IsBrokerPlace layout.now place }
     requires room { broker_size layout.now ≤ length (M.words memory.old).cached }
-    ensures { M.words memory.new ≡ after_one layout.now (Store place value) (M.words memory.old) }
+    ensures one_access { M.words memory.new ≡ after_one layout.now (Store place value) (M.words memory.old) }
+    ensures lent { M.lent memory.new ≡ M.lent memory.old }
 {
     memory.store(layout.word(place), value).unwrap()
 }
 
-/// Keeps the cached value of a place's word.
+/// Asks that a place's word be kept.
 pub(crate) fn flush_at<M: WordMemory>(layout: &BrokerLayout, memory: &mut M, place: BrokerPlace)
     requires place { IsBrokerPlace layout.now place }
     requires room { broker_size layout.now ≤ length (M.words memory.old).cached }
-    ensures { M.words memory.new ≡ after_one layout.now (Flush place) (M.words memory.old) }
+    ensures one_access { M.words memory.new ≡ after_one layout.now (Flush place) (M.words memory.old) }
+    ensures lent { M.lent memory.new ≡ lent_after_one layout.now (Flush place) (M.lent memory.old) }
 {
-    let _change = memory.flush(layout.word(place)).unwrap();
+    memory.flush(layout.word(place)).unwrap()
+}
+
+/// Keeps the cached value of a place's word, which was asked for.
+pub(crate) fn fence_at<M: WordMemory>(layout: &BrokerLayout, memory: &mut M, place: BrokerPlace)
+    requires asked { (M.lent memory.old).request ≡ Word (broker_word layout.now place) }
+    ensures one_access { M.words memory.new ≡ after_one layout.now (Fence place) (M.words memory.old) }
+    ensures lent { M.lent memory.new ≡ lent_after_one layout.now (Fence place) (M.lent memory.old) }
+{
+    let _change = memory.fence().unwrap();
 }

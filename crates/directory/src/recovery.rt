@@ -65,6 +65,7 @@ impl DirectoryRecovery {
         requires slot { slot_at self.at < SLOTS }
         requires room { broker_size layout.now ≤ length (M.words memory.old).cached }
         ensures one_access { M.words memory.new ≡ after_one layout.now (access_of self) (M.words memory.old) }
+        ensures lent { M.lent memory.new ≡ M.lent memory.old }
         ensures next { result ≡ recovered self (value_found layout.now (access_of self) (M.words memory.old)) }
     {
         match self.at {

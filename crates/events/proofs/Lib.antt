@@ -1,4 +1,5 @@
 pub mod Lists
+pub mod KeptEvents
 pub mod Growing
 pub mod Members
 pub mod EffectLists

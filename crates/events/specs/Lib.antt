@@ -1,4 +1,5 @@
 pub mod Sequence
+pub mod Kept
 pub mod Effects
 pub mod History
 pub mod Orders

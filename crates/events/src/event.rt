@@ -1,5 +1,6 @@
 //! Events, histories and orders.
 
+use crate::list::Events;
 use crate::sequence::Sequence;
 use words::{Call, Client, Reply, Reports};
 
@@ -30,7 +31,7 @@ pub enum Event {
 pub struct History {
     pub base: Sequence<u32>,
     pub told: Reports,
-    pub events: Sequence<Event>,
+    pub events: Events,
 }
 
 /// A call, named by the place of its Call event in the history, and its reply.

@@ -3,8 +3,11 @@
 
 mod event;
 mod keeping;
+mod kept;
+mod list;
 mod sequence;
 
 pub use event::{Effect, Entry, Event, History, Order};
 pub use keeping::{keep_settled, order};
+pub use list::Events;
 pub use sequence::Sequence;

@@ -7,7 +7,7 @@ ghost use Rattle.explore.specs.Acts.{IsSteady};
 
 use arena::Layout;
 use interleave::{Act, World};
-use words::Refusal;
+use words::{Refusal, STEPS_BESIDES, STEPS_PER_CLIENT, STEPS_PER_RECORD};
 
 /// Whether an act was accepted; want of memory is no answer.
 fn accepted<T: Drop>(answer: &Result<T, Refusal>) -> Result<bool, Refusal>
@@ -91,5 +91,7 @@ pub(crate) fn repeat<L: Layout + Drop>(
 pub(crate) fn most_to_ready<L: Layout>(layout: &L) -> u32
     ensures { result ≡ most_to_ready (L.shape layout.now) }
 {
-    8 * (layout.clients() * layout.records()) + 8 * layout.clients() + 8
+    STEPS_PER_RECORD * (layout.clients() * layout.records())
+        + STEPS_PER_CLIENT * layout.clients()
+        + STEPS_BESIDES
 }

@@ -3,7 +3,7 @@
 ghost use Rattle.std.specs.Prelude.{◌≡◌};
 ghost use Rattle.explore.specs.Transcript.{call_in_order_at};
 
-use events::{Entry, Event};
+use events::{Entry, Event, Events};
 use std::fmt;
 use words::{Call, Client, Reply};
 
@@ -38,8 +38,8 @@ impl fmt::Display for Ordered {
 }
 
 /// The call that an entry names, with its reply.
-pub(crate) fn named_call(events: &[Event], entry: Entry) -> Option<Ordered>
-    ensures { result ≡ call_in_order_at events.now entry }
+pub(crate) fn named_call(events: &Events, entry: Entry) -> Option<Ordered>
+    ensures { result ≡ call_in_order_at events.now.items entry }
 {
     match events.get(entry.place) {
         Some(
@@ -49,9 +49,9 @@ pub(crate) fn named_call(events: &[Event], entry: Entry) -> Option<Ordered>
                 call,
             },
         ) => Some(Ordered {
-            client: *client,
-            number: *number,
-            call: *call,
+            client,
+            number,
+            call,
             reply: entry.reply,
         }),
         _ => None,

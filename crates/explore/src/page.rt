@@ -18,9 +18,9 @@ const HEAD: &str = "<!DOCTYPE html>
 <meta charset=\"utf-8\">
 <title>A crash at every point</title>
 <style>
-:root { --paper: #fdfdfb; --ink: #22262b; --faint: #8a9099; --line: #e4e4de; --bar: #4a7ab5;
+:root { --paper: #fdfdfb; --ink: #22262b; --faint: #646b74; --line: #e4e4de; --bar: #4a7ab5;
   --none: #ecece6; --left: #f3cf8e; --done: #a9d8b0; --bad: #d64541 }
-@media (prefers-color-scheme: dark) { :root { --paper: #16191d; --ink: #e8e8e3; --faint: #8f959d; --line: #2b3036;
+@media (prefers-color-scheme: dark) { :root { --paper: #16191d; --ink: #e8e8e3; --faint: #a2a8b0; --line: #2b3036;
   --bar: #6f9fd8; --none: #262b31; --left: #7a5a1c; --done: #2e6a3c; --bad: #ff6b66 } }
 body { background: var(--paper); color: var(--ink); font: 15px/1.5 system-ui, sans-serif; margin: 2em }
 h1 { font-size: 1.4em; margin: 0 0 .2em }

@@ -233,7 +233,7 @@ impl<L: Layout + Drop> Player<L> {
         ensures errors { IfErr result (λ e. e ≡ Refusal.NoMemory) }
     {
         let order = self.world.order()?;
-        let events = self.world.history().events.as_slice();
+        let events = &self.world.history().events;
         add(lines, Line::Order(order.entries.len()))?;
         for entry in order.entries.as_slice() {
             if let Some(ordered) = named_call(events, *entry) {

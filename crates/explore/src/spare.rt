@@ -26,7 +26,7 @@ impl Spare {
     fn zero_memory(&mut self, alloc: Global, size: usize) -> Result<Memory, Refusal>
         requires some { 0 < size }
         requires small { size ≤ MAX_WORDS }
-        ensures zero { IfOk result (λ m. m ≡ zero_words size) }
+        ensures zero { IfOk result (λ m. m.words ≡ zero_words size) }
         ensures errors { IfErr result (λ e. e ≡ Refusal.NoMemory) }
     {
         if let Some(mut memory) = self.memory.take() {

@@ -18,14 +18,18 @@ const HEAD: &str = "<!DOCTYPE html>
 <meta charset=\"utf-8\">
 <title>A script, act by act</title>
 <style>
-:root { --paper: #fdfdfb; --ink: #22262b; --faint: #8a9099; --line: #e4e4de; --call: #cfe0f3; --done: #a9d8b0;
+:root { --paper: #fdfdfb; --ink: #22262b; --faint: #646b74; --line: #e4e4de; --call: #cfe0f3; --done: #a9d8b0;
   --open: #f3cf8e; --crash: #d64541; --differs: #efe3f6; --lost: #f6d3d1 }
-@media (prefers-color-scheme: dark) { :root { --paper: #16191d; --ink: #e8e8e3; --faint: #8f959d; --line: #2b3036;
+@media (prefers-color-scheme: dark) { :root { --paper: #16191d; --ink: #e8e8e3; --faint: #a2a8b0; --line: #2b3036;
   --call: #27405c; --done: #2e6a3c; --open: #7a5a1c; --crash: #ff6b66; --differs: #3d2f4a; --lost: #5c2b29 } }
 body { background: var(--paper); color: var(--ink); font: 15px/1.5 system-ui, sans-serif; margin: 2em }
 h1 { font-size: 1.4em; margin: 0 0 .2em }
 p { margin: 0 0 1em; color: var(--faint) }
-figure { margin: 0; overflow-x: auto }
+figure { margin: 0 0 1em; overflow: auto; max-height: 88vh }
+.row { display: flex; width: max-content }
+.row svg { flex: none }
+.heads { position: sticky; top: 0; z-index: 2; background: var(--paper) }
+.names { position: sticky; left: 0; z-index: 1; background: var(--paper) }
 svg text { fill: var(--ink); font: 11px ui-monospace, monospace }
 svg .label { font: 12px system-ui, sans-serif; fill: var(--faint) }
 svg .small { font-size: 9px; text-anchor: middle }
@@ -45,7 +49,7 @@ svg .crash { stroke: var(--crash); stroke-width: 2 }
 ";
 
 /// What the colours mean.
-const FOOT: &str = "</svg></figure>
+const FOOT: &str = "</svg></div></figure>
 <p class=\"key\"><span class=\"done\">answered</span><span class=\"open\">interrupted, or still open</span>
 <span class=\"differs\">cached value above, kept value below</span><span class=\"lost\">cached value that a crash took
 away</span> Each column is an act. A crash is a line across. A word is shown where its two values differ.</p>
@@ -53,12 +57,15 @@ away</span> Each column is an act. A crash is a line across. A word is shown whe
 </html>
 ";
 
-/// How wide the labels are, and a column; how far down the acts' names end; how high a lane and a word are.
+/// How wide the labels are, a column, and a character of an act's name; how far down the lanes begin; how
+/// high a lane and a word are.
 const LABELS_WIDTH: u64 = 90;
 
 const COLUMN_WIDTH: u64 = 34;
 
-const NAMES_END: u64 = 160;
+const CHARACTER_WIDTH: u64 = 7;
+
+const LANES_TOP: u64 = 1;
 
 const LANE_HEIGHT: u64 = 34;
 
@@ -124,10 +131,7 @@ fn bar_of(alloc: Global, frames: &[Frame], from: usize) -> Result<Option<Bar>, A
 
 /// A call in its client's lane.
 fn write_bar(text: &mut String, bar: &Bar) -> Result<(), AllocError> {
-    let top = bar
-        .client
-        .saturating_mul(LANE_HEIGHT)
-        .saturating_add(NAMES_END + 5);
+    let top = lane_of(bar.client).saturating_add(5);
     let left = column(bar.from).saturating_add(1);
     let mut right = column(bar.to);
     let mut class = "open";
@@ -156,14 +160,27 @@ fn write_bar(text: &mut String, bar: &Bar) -> Result<(), AllocError> {
     writeln!(text, "</text>")
 }
 
-/// The name of an act, read from below, above its column.
-fn write_name(text: &mut String, number: u64, act: Act) -> Result<(), AllocError> {
+/// The name of an act, read from below, above its column, in a head that is so high.
+fn write_name(text: &mut String, number: u64, act: Act, high: u64) -> Result<(), AllocError> {
     let spelt = Spelt(act);
     writeln!(
         text,
         "<text class=\"faint\" transform=\"translate({},{}) rotate(-90)\">{spelt}</text>",
         column(number).saturating_add(21),
-        NAMES_END - 8
+        high.saturating_sub(8)
+    )
+}
+
+/// How high the head is that holds the names of all acts.
+fn head_of(alloc: Global, frames: &[Frame]) -> Result<u64, AllocError> {
+    let mut longest = 0usize;
+    for frame in frames {
+        longest = longest.max(format!(in alloc; "{}", Spelt(frame.act))?.len());
+    }
+    Ok(
+        (longest as u64)
+            .saturating_mul(CHARACTER_WIDTH)
+            .saturating_add(16),
     )
 }
 
@@ -173,16 +190,21 @@ fn write_crash(text: &mut String, number: u64, end: u64) -> Result<(), AllocErro
     writeln!(
         text,
         "<line class=\"crash\" x1=\"{x}\" x2=\"{x}\" y1=\"{}\" y2=\"{end}\"/>",
-        NAMES_END
+        LANES_TOP
+    )
+}
+
+/// A rule from one place across to another.
+fn write_rule(text: &mut String, from: u64, to: u64, top: u64) -> Result<(), AllocError> {
+    writeln!(
+        text,
+        "<line class=\"rule\" x1=\"{from}\" x2=\"{to}\" y1=\"{top}\" y2=\"{top}\"/>"
     )
 }
 
 /// A label at the left, and a rule above it.
-fn write_label(text: &mut String, width: u64, top: u64, what: &str) -> Result<(), AllocError> {
-    writeln!(
-        text,
-        "<line class=\"rule\" x1=\"0\" x2=\"{width}\" y1=\"{top}\" y2=\"{top}\"/>"
-    )?;
+fn write_label(text: &mut String, top: u64, what: &str) -> Result<(), AllocError> {
+    write_rule(text, 0, LABELS_WIDTH, top)?;
     writeln!(
         text,
         "<text class=\"label\" x=\"0\" y=\"{}\">{what}</text>",
@@ -209,14 +231,21 @@ fn row_of(words: &[u64], clients: u64, word: u64) -> u64 {
         Ok(row) => row as u64,
         Err(row) => row as u64,
     };
-    clients
-        .saturating_mul(LANE_HEIGHT)
-        .saturating_add(NAMES_END)
-        .saturating_add(row.saturating_mul(WORD_HEIGHT))
+    lane_of(clients).saturating_add(row.saturating_mul(WORD_HEIGHT))
+}
+
+/// A value, or the last digits of one that is too long for its column.
+fn brief(alloc: Global, value: u64) -> Result<String, AllocError> {
+    if value < 1_000_000 {
+        return format!(in alloc; "{value}");
+    }
+    let last = value % 10_000;
+    format!(in alloc; "…{last:04}")
 }
 
 /// A word at an act: its cached value, and its kept one below.
 fn write_word(
+    alloc: Global,
     text: &mut String,
     number: u64,
     top: u64,
@@ -232,6 +261,8 @@ fn write_word(
         text,
         "<g><title>word {word}: cached {cached}, kept {kept}</title>"
     )?;
+    let cached = brief(alloc, cached)?;
+    let kept = brief(alloc, kept)?;
     writeln!(
         text,
         "<rect class=\"{class}\" x=\"{left}\" y=\"{}\" width=\"{COLUMN_WIDTH}\" height=\"24\"/>",
@@ -249,17 +280,23 @@ fn write_word(
     )
 }
 
-/// What is drawn: the frames, the words, how many clients there are, and how far down the picture ends.
+/// What is drawn: the frames, the words, how many clients there are, and how far to the right and down the picture ends.
 #[derive(Clone, Copy)]
 struct Picture<'a> {
     frames: &'a [Frame],
     words: &'a [u64],
     clients: u64,
+    width: u64,
     end: u64,
 }
 
 /// The words that differ after an act; at a crash those that differed before it, which it took away.
-fn write_words(text: &mut String, picture: &Picture<'_>, number: usize) -> Result<(), AllocError> {
+fn write_words(
+    alloc: Global,
+    text: &mut String,
+    picture: &Picture<'_>,
+    number: usize,
+) -> Result<(), AllocError> {
     let Some(frame) = picture.frames.get(number) else {
         return Ok(());
     };
@@ -273,27 +310,38 @@ fn write_words(text: &mut String, picture: &Picture<'_>, number: usize) -> Resul
     }
     for differs in &shown.differs {
         let top = row_of(picture.words, picture.clients, differs.word);
-        write_word(text, number as u64, top, *differs, class)?;
+        write_word(alloc, text, number as u64, top, *differs, class)?;
     }
     Ok(())
 }
 
+/// Where the lane of a client begins.
+fn lane_of(client: u64) -> u64 {
+    client.saturating_mul(LANE_HEIGHT).saturating_add(LANES_TOP)
+}
+
 /// The labels of lanes and of words.
-fn write_labels(
-    alloc: Global,
-    text: &mut String,
-    picture: &Picture<'_>,
-    width: u64,
-) -> Result<(), AllocError> {
+fn write_labels(alloc: Global, text: &mut String, picture: &Picture<'_>) -> Result<(), AllocError> {
     for client in 0..picture.clients {
         let what = format!(in alloc; "client {client}")?;
-        let top = client.saturating_mul(LANE_HEIGHT).saturating_add(NAMES_END);
-        write_label(text, width, top, what.as_str())?;
+        write_label(text, lane_of(client), what.as_str())?;
     }
     for word in picture.words {
         let what = format!(in alloc; "word {word}")?;
         let top = row_of(picture.words, picture.clients, *word);
-        write_label(text, width, top, what.as_str())?;
+        write_label(text, top, what.as_str())?;
+    }
+    Ok(())
+}
+
+/// The rules above lanes and words.
+fn write_rules(text: &mut String, picture: &Picture<'_>) -> Result<(), AllocError> {
+    for client in 0..picture.clients {
+        write_rule(text, LABELS_WIDTH, picture.width, lane_of(client))?;
+    }
+    for word in picture.words {
+        let top = row_of(picture.words, picture.clients, *word);
+        write_rule(text, LABELS_WIDTH, picture.width, top)?;
     }
     Ok(())
 }
@@ -301,17 +349,52 @@ fn write_labels(
 /// All acts.
 fn write_acts(alloc: Global, text: &mut String, picture: &Picture<'_>) -> Result<(), AllocError> {
     for number in 0..picture.frames.len() {
-        let act = picture.frames[number].act;
-        write_name(text, number as u64, act)?;
-        write_words(text, picture, number)?;
+        write_words(alloc, text, picture, number)?;
         if let Some(bar) = bar_of(alloc, picture.frames, number)? {
             write_bar(text, &bar)?;
         }
-        if act == Act::Crash {
+        if picture.frames[number].act == Act::Crash {
             write_crash(text, number as u64, picture.end)?;
         }
     }
     Ok(())
+}
+
+/// The names of the acts, which stay where they are while the rest is scrolled down.
+fn write_head(alloc: Global, text: &mut String, picture: &Picture<'_>) -> Result<(), AllocError> {
+    let wide = picture.width.saturating_sub(LABELS_WIDTH);
+    let high = head_of(alloc, picture.frames)?;
+    writeln!(
+        text,
+        "<figure><div class=\"row heads\"><svg class=\"names\" width=\"{LABELS_WIDTH}\" height=\"{high}\"></svg>"
+    )?;
+    writeln!(
+        text,
+        "<svg width=\"{wide}\" height=\"{high}\" viewBox=\"{LABELS_WIDTH} 0 {wide} {high}\">"
+    )?;
+    for number in 0..picture.frames.len() {
+        write_name(text, number as u64, picture.frames[number].act, high)?;
+    }
+    writeln!(text, "</svg></div>")
+}
+
+/// The labels, which stay where they are while the rest is scrolled to the left, and beside them the lanes and words.
+fn write_body(alloc: Global, text: &mut String, picture: &Picture<'_>) -> Result<(), AllocError> {
+    let wide = picture.width.saturating_sub(LABELS_WIDTH);
+    let high = picture.end;
+    writeln!(
+        text,
+        "<div class=\"row\"><svg class=\"names\" width=\"{LABELS_WIDTH}\" height=\"{high}\""
+    )?;
+    writeln!(text, " viewBox=\"0 0 {LABELS_WIDTH} {high}\">")?;
+    write_labels(alloc, text, picture)?;
+    writeln!(text, "</svg>")?;
+    writeln!(
+        text,
+        "<svg width=\"{wide}\" height=\"{high}\" viewBox=\"{LABELS_WIDTH} 0 {wide} {high}\" role=\"img\">"
+    )?;
+    write_rules(text, picture)?;
+    write_acts(alloc, text, picture)
 }
 
 /// The whole page.
@@ -328,26 +411,21 @@ fn write_page(
         Kind::Log => "log",
     };
     let count = frames.len();
-    let width = column(count as u64).saturating_add(1);
-    let end = row_of(&words, clients, u64::MAX).saturating_add(2);
+    let picture = Picture {
+        frames,
+        words: &words,
+        clients,
+        width: column(count as u64).saturating_add(1),
+        end: row_of(&words, clients, u64::MAX).saturating_add(2),
+    };
     write!(text, "{HEAD}")?;
     writeln!(
         text,
         "<p>queue {kind} {} {}; acts {count}</p>",
         queue.clients, queue.records
     )?;
-    writeln!(
-        text,
-        "<figure><svg width=\"{width}\" height=\"{end}\" viewBox=\"0 0 {width} {end}\" role=\"img\">"
-    )?;
-    let picture = Picture {
-        frames,
-        words: &words,
-        clients,
-        end,
-    };
-    write_labels(alloc, text, &picture, width)?;
-    write_acts(alloc, text, &picture)?;
+    write_head(alloc, text, &picture)?;
+    write_body(alloc, text, &picture)?;
     write!(text, "{FOOT}")
 }
 

@@ -1,5 +1,6 @@
 -- Findings are explained by an order exactly if some filling of the Readys makes it explain the history.
-use Rattle.std.proofs.Common.{ℕ, zero, suc, ◌≡◌, ◌<◌, ◌≤◌, ◌+◌, ◌⊎◌, List, [], ◌∷◌, Option, Some, None, slice_get, get_or}
+use Rattle.std.proofs.Common.{ℕ, zero, suc, ◌≡◌, ◌<◌, ◌≤◌, ◌+◌, ◌⊎◌, List, []}
+use Rattle.std.proofs.Common.{◌∷◌, Option, Some, None, slice_get, get_or}
 use Rattle.std.proofs.Common.{length, inl, inr, refl, ap, arith, subst, sym, ◌∙◌, ⊎_elim}
 use Rattle.std.specs.Prelude.{EachIndex, replicate}
 use Rattle.std.proofs.lemmas.Bool.{cases_lt, cases_eq}
@@ -58,7 +59,8 @@ next_ready_there a b there back e q tells next =
 numbers_there : (a b : List Event) → HasEventsOf b a
     → ((p number : ℕ) (client : Client) (call : Call) → CallAt a p client number call → number ≡ p + 1)
     → (p number : ℕ) (client : Client) (call : Call) → CallAt b p client number call → number ≡ p + 1
-numbers_there a b back numbers p number client call at = numbers p number client call (back.calls p number client call at)
+numbers_there a b back numbers p number client call at =
+    numbers p number client call (back.calls p number client call at)
 
 -- what was learnt is so in an order that explains a filling
 filling_agrees : (events : List Event) (learnt : List (Option Outcome)) (filled : List Event) (order : List Entry)
@@ -76,7 +78,8 @@ filling_agrees events learnt filled order recorded fills explains = record {
       next_ready_there events filled fills.there fills.back was.end was.ready was.tells was.next in
       let verdict : slice_get next.0 was.client.0
       ≡ Some (told_verdict (record { number = was.number; outcome = outcome })) =
-      (fills.tells p outcome is).tells was.client was.number was.end was.ready was.call next.0 calls ends crash next.1 in
+      (fills.tells p outcome is).tells was.client was.number was.end was.ready was.call next.0 calls ends crash
+      next.1 in
       let numbers = numbers_there events filled fills.back recorded.numbers in
       let rightly = (explains.verdicts (not_durable filled numbers) was.ready
       (slice_get_within filled was.ready _ next.1.ready)).told next.0 next.1.ready in
@@ -229,7 +232,8 @@ outcome_same order p once (inr none) NotTaken is = refl
 told_by : (events : List Event) (order : List Entry) (client : Client) (q : ℕ)
     → HasLast events client q ⊎ HasNone events client q → Told
 told_by events order client q (inl last) =
-    told_verdict (record { number = last.place + 1; outcome = outcome_of order last.place (taken_or_not order last.place) })
+    told_verdict
+    (record { number = last.place + 1; outcome = outcome_of order last.place (taken_or_not order last.place) })
 told_by events order client q (inr none) = told_none
 
 -- so many items of a function, from one number on
@@ -541,8 +545,10 @@ filling_learnt events learnt order recorded explains p outcome is = record {
       let before : p < ready = omega (arith, ends.after, next.after) in
       ap (λ (xs : List Told). slice_get xs client.0) (tells_is events order ready told next.ready)
       ∙ tells_at events order ready client small
-      ∙ ap Some (told_learnt events order recorded.numbers explains.is_order.once client p number ready call outcome calls
-      before (none_between events recorded.arises.places client p end ready was_next.0 begins was_end was_crash was_next.1)
+      ∙ ap Some
+      (told_learnt events order recorded.numbers explains.is_order.once client p number ready call outcome calls
+      before
+      (none_between events recorded.arises.places client p end ready was_next.0 begins was_end was_crash was_next.1)
       (explains.agrees.each p outcome is) (last_or_none events client ready));
 }
 

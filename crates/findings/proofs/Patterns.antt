@@ -14,7 +14,8 @@ use Rattle.events.specs.Orders.{IsTakenAs, IsOrder}
 use Rattle.events.proofs.Growing.{begins_within}
 use Rattle.findings.specs.Findings.{IsReturned, IsLearnt, IsKnown, ExplainsFindings}
 use Rattle.findings.specs.Findings.{HasDistinctValues}
-use Rattle.findings.proofs.Turns.{put_before, got_before, got_before_next, IsPutAt, put_before_here, IsPutBefore, put_from}
+use Rattle.findings.proofs.Turns.{put_before, got_before, got_before_next, IsPutAt, put_before_here}
+use Rattle.findings.proofs.Turns.{IsPutBefore, put_from}
 use Rattle.history.specs.Counting.{dequeue_count}
 use Rattle.findings.proofs.Turns.{IsGotAt, got_front, empty_front, IsGotBefore, got_in_turn, put_longer}
 

@@ -21,7 +21,8 @@ without (x ∷ ys) y is = go is
         (λ (first : x ≡ y). record {
           rest = ys;
           shorter = refl;
-          others = λ z in_all. ⊎_elim (λ (here : x ≡ z). inl (sym first ∙ here)) (λ (later : IsIn z ys). inr later) in_all;
+          others = λ z in_all. ⊎_elim (λ (here : x ≡ z). inl (sym first ∙ here))
+              (λ (later : IsIn z ys). inr later) in_all;
         })
         (λ (later : IsIn y ys).
         let so : IsWithout ys y = again later in

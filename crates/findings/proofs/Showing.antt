@@ -29,7 +29,8 @@ use Rattle.findings.specs.Shows.{ShowsInvented, ShowsTwice, IsAhead, IsInAt, Are
 use Rattle.findings.specs.Shows.{CanHaveTaken, IsKnownPut, Lacks, IsPutOf, ShowsPassedOver, IsHeld}
 use Rattle.findings.specs.Shows.{IsWithin, ShowsNotEmpty, Shows}
 use Rattle.findings.proofs.Turns.{IsPutAt, IsGotAt}
-use Rattle.findings.proofs.Patterns.{HasEntry, known_entry, one_entry, got_once, IsPutEarlier, got_was_put, IsGotEarlier}
+use Rattle.findings.proofs.Patterns.{HasEntry, known_entry, one_entry, got_once, IsPutEarlier}
+use Rattle.findings.proofs.Patterns.{got_was_put, IsGotEarlier}
 use Rattle.findings.proofs.Patterns.{got_ahead, got_before_empty}
 use Rattle.findings.proofs.Pigeons.{no_more}
 
@@ -114,7 +115,8 @@ not_over_since events learnt order explains distinct since p value j puts is_in 
         let takes : TakesAt events its.entry.place =
         got_takes events learnt order explains its.index is.value its_got in
         let first : Precedes events got.entry.place its.entry.place =
-        over_precedes events got.entry.place its.entry.place since.place Deq over (omega (arith, its.place, later)) takes in
+        over_precedes events got.entry.place its.entry.place since.place Deq over
+        (omega (arith, its.place, later)) takes in
         let lt : j < its.index = stands_before events learnt order explains j its.index got.entry its.entry got.at
         its.at first in
         let its_put : IsPutEarlier events order its.index is.value =
@@ -122,7 +124,8 @@ not_over_since events learnt order explains distinct since p value j puts is_in 
         let its_place : its_put.put.entry.place ≡ ahead.put =
         distinct.each its_put.put.entry.place ahead.put is.value its_put.put.puts is.puts in
         let put_first : its_put.index < was.index =
-        stands_before events learnt order explains its_put.index was.index its_put.put.entry was.put.entry its_put.put.at
+        stands_before events learnt order explains its_put.index was.index its_put.put.entry was.put.entry
+        its_put.put.at
         was.put.at (subst (λ (n : ℕ). Precedes events n was.put.entry.place) (sym its_place)
         (subst (Precedes events ahead.put) (sym place) is.before)) in
         let earlier : IsGotEarlier order j is.value =
@@ -182,7 +185,8 @@ lack_refutes events learnt order explains distinct bound (Late put late_take) la
     let taken : IsTakenBefore order bound lacks.value = each put lacks.value refl lacks.puts in
     let has : HasEntry order late_take (Got lacks.value) =
     known_entry events learnt order explains late_take (Got lacks.value) lacks.got in
-    let same : taken.index ≡ has.index = got_once events learnt order explains distinct taken.index has.index lacks.value
+    let same : taken.index ≡ has.index = got_once events learnt order explains distinct taken.index has.index
+    lacks.value
     taken.got (record { entry = has.entry; at = has.at; got = has.is }) in
     let entries : taken.got.entry ≡ has.entry = cc (taken.got.at, has.at, ap (slice_get order) same) in
     omega (arith, ap (λ (e : Entry). e.place) entries, has.place, lacks.late, taken.early)
@@ -196,8 +200,10 @@ lack_refutes events learnt order explains distinct bound (Few puts takes since) 
     let taken : IsTakenBefore order bound known.value = each p known.value contained known.puts in
     record {
       one = taken.got.entry.place;
-      contained = in_from_contains takes.items taken.got.entry.place ((lacks.listed taken.got.entry.place taken.early).contained
-          (can_have_taken events learnt order explains distinct puts.items since lacks.in_since p known.value taken.index
+      contained = in_from_contains takes.items taken.got.entry.place
+          ((lacks.listed taken.got.entry.place taken.early).contained
+          (can_have_taken events learnt order explains distinct puts.items since lacks.in_since p known.value
+          taken.index
           contained known.puts taken.got));
       related = record {
         value = known.value;
@@ -380,7 +386,8 @@ passed_over_refutes events learnt take put bound lack distinct shows order expla
           (λ (over : IsOverBy events take bound).
           let before : Precedes events take earlier.got.entry.place =
           over_precedes events take earlier.got.entry.place bound Deq over late takes in
-          let lt : has.index < earlier.index = stands_before events learnt order explains has.index earlier.index has.entry
+          let lt : has.index < earlier.index = stands_before events learnt order explains has.index
+          earlier.index has.entry
           earlier.got.entry has.at earlier.got.at
           (subst (λ (n : ℕ). Precedes events n earlier.got.entry.place) (sym has.place) before) in
           omega (arith, earlier.before, lt))
@@ -435,7 +442,8 @@ not_empty_refutes events learnt take end pieces distinct shows order explains =
         over_precedes events p moment.entry.place piece.from calls.0 (held.ended p is) within.0 calls.1 in
         let lt : mine.0 < moment.index = stands_before events learnt order explains mine.0 moment.index mine.1.entry
         moment.entry mine.1.at moment.at (subst (λ (n : ℕ). Precedes events n moment.entry.place) (sym place) before) in
-        let earlier : IsGotEarlier order has.index value = got_before_empty events learnt order explains has.index mine.0
+        let earlier : IsGotEarlier order has.index value = got_before_empty events learnt order explains
+        has.index mine.0
         value has.entry has.at has.is (omega (arith, moment.upto, lt)) mine.1 in
         let le : earlier.got.entry.place ≤ moment.entry.place =
         moment.above earlier.index earlier.got.entry (omega (arith, earlier.before)) earlier.got.at in

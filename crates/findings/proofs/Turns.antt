@@ -1,6 +1,7 @@
 -- The replay of an order, by what was put so far and how many values were got.
 use Rattle.std.proofs.Common.{ℕ, zero, suc, ◌≡◌, ◌<◌, ◌≤◌, ◌+◌, ◌⊎◌, List, [], ◌∷◌, ◌++◌, Option, Some, None, slice_get}
-use Rattle.std.proofs.Common.{get_or, length, take, drop, inl, inr, refl, ap, arith, subst, sym, ◌∙◌, ⊎_elim, append-nil}
+use Rattle.std.proofs.Common.{get_or, length, take, drop, inl, inr, refl, ap, arith}
+use Rattle.std.proofs.Common.{subst, sym, ◌∙◌, ⊎_elim, append-nil}
 use Rattle.std.proofs.lemmas.Bool.{cases_lt}
 use Rattle.std.proofs.lemmas.Option.{slice_get_within, slice_get-get_or, get_or_from_slice_get}
 use Rattle.words.specs.PlainQueue.{reply_of}

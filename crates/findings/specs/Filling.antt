@@ -27,8 +27,8 @@ pub record IsInterrupted (events : List Event) (p : ℕ) : Type 0 where
   pub tells : List Told
   pub next : IsNextReady events end ready tells
 
--- what a recorder knows: a history that may arise, whose calls have numbers by their places, so none twice, and what was
--- learnt of calls that crashes interrupted
+-- what a recorder knows: a history that may arise, whose calls have numbers by their places, so none twice, and what
+-- was learnt of calls that crashes interrupted
 pub record IsRecorded (events : List Event) (learnt : List (Option Outcome)) : Type 0 where
   pub arises : IsHistory events
   pub numbers : (p number : ℕ) (client : Client) (call : Call) → CallAt events p client number call → number ≡ p + 1
@@ -38,7 +38,8 @@ pub record IsRecorded (events : List Event) (learnt : List (Option Outcome)) : T
 pub record HasEventsOf (events other : List Event) : Type 0 where
   pub calls : (p number : ℕ) (client : Client) (call : Call) → CallAt events p client number call
       → CallAt other p client number call
-  pub returns : (p : ℕ) (client : Client) (reply : Reply) → ReturnAt events p client reply → ReturnAt other p client reply
+  pub returns : (p : ℕ) (client : Client) (reply : Reply) → ReturnAt events p client reply
+      → ReturnAt other p client reply
   pub crashes : (p : ℕ) → CrashAt events p → CrashAt other p
   pub readys : (p : ℕ) (tells : List Told) → ReadyAt events p tells → (told : List Told) × ReadyAt other p told
 

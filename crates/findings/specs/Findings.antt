@@ -34,8 +34,8 @@ IsKnown events learnt p reply = IsReturned events p reply ⊎ IsLearnt learnt p 
 pub record Agrees (learnt : List (Option Outcome)) (order : List Entry) : Type 0 where
   pub each : (p : ℕ) (outcome : Outcome) → IsLearnt learnt p outcome → IsOutcome order p outcome
 
--- the order explains what is known of the calls on a queue that is empty at first: it has the parts of `Explains` that do
--- not speak of Readys, and agrees with what was learnt
+-- the order explains what is known of the calls on a queue that is empty at first: it has the parts of `Explains` that
+-- do not speak of Readys, and agrees with what was learnt
 pub record ExplainsFindings (events : List Event) (learnt : List (Option Outcome)) (order : List Entry) : Type 0 where
   pub is_order : IsOrder events order
   pub answers : EachIndex events (λ p. IsAnswered events order p)

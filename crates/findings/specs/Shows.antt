@@ -1,5 +1,6 @@
 -- What a witness shows: why no order explains the findings.
-use Rattle.std.specs.Prelude.{ℕ, ◌≡◌, ◌≢◌, ◌<◌, ◌≤◌, ◌⊎◌, ⊤, All, AllPairs, List, Option, Some, None, Contains, slice_get, length}
+use Rattle.std.specs.Prelude.{ℕ, ◌≡◌, ◌≢◌, ◌<◌, ◌≤◌, ◌⊎◌, ⊤, All, AllPairs, List, Option, Some, None, Contains}
+use Rattle.std.specs.Prelude.{slice_get, length}
 use Rattle.words.specs.declared.call.Reply.{Reply}
 use Rattle.words.specs.declared.call.Reply.TheVariants.{Done, Got, Empty}
 use Rattle.words.specs.declared.told.Outcome.{Outcome}
@@ -37,8 +38,8 @@ pub record IsAhead (events : List Event) (learnt : List (Option Outcome)) (ahead
   pub got : IsKnownGot events learnt ahead.take value
   pub before : Precedes events ahead.put put
 
--- the value of the put was still in the queue, or not yet in it, at this place: the put began later, or a value ahead of
--- it came out by a take that began later
+-- the value of the put was still in the queue, or not yet in it, at this place: the put began later, or a value ahead
+-- of it came out by a take that began later
 abbrev pub IsInAt : List Event → List (Option Outcome) → Since → ℕ → Type 0
 IsInAt events learnt since put =
     (since.place < put)
@@ -106,8 +107,8 @@ abbrev pub IsPutOf : Lack → ℕ → Type 0
 IsPutOf (Late put take) p = p ≡ put
 IsPutOf (Few puts takes since) p = Contains puts.items p
 
--- values were passed over: a value came out, whose put each of the puts precedes, by a take that ended at `bound` or did
--- not end
+-- values were passed over: a value came out, whose put each of the puts precedes, by a take that ended at `bound` or
+-- did not end
 pub record ShowsPassedOver (events : List Event) (learnt : List (Option Outcome)) (take put bound : ℕ)
     (lack : Lack) : Type 0 where
   pub value : ℕ

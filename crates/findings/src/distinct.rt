@@ -5,12 +5,12 @@ ghost use Rattle.std.specs.List.Sorted.{IsStrictlyIncreasing};
 ghost use Rattle.findings.specs.Findings.{HasDistinctValues};
 
 use crate::known::value_of_put;
-use events::Event;
+use events::Events;
 
 /// Whether the values that calls put rise from call to call: then no two are the same. Whoever numbers values by their
 /// puts has them rise.
-pub(crate) fn values_rise(events: &[Event]) -> bool
-    ensures { IsTrue result → HasDistinctValues events.now }
+pub(crate) fn values_rise(events: &Events) -> bool
+    ensures { IsTrue result → HasDistinctValues events.now.items }
 {
     let mut least: u64 = 0;
     for p in 0..events.len() {

@@ -3,31 +3,32 @@
 ghost use Rattle.std.specs.Prelude.{◌≡◌, ◌<◌, ◌≤◌, ◌⊎◌, ℕ, length, IsTrue, All, List, Option};
 ghost use Rattle.events.specs.History.{Precedes};
 ghost use Rattle.findings.specs.Findings.{HasNoOrder, IsOverBy, PutsAt};
-ghost use Rattle.findings.specs.Shows.{IsNoSource, IsPutOf, IsShown, Shows, ShowsInvented, ShowsTwice, ShowsPassedOver, IsHeld, IsCovered, ShowsNotEmpty};
+ghost use Rattle.findings.specs.Shows.{IsNoSource, IsPutOf, IsShown, Shows, ShowsInvented, ShowsTwice};
+ghost use Rattle.findings.specs.Shows.{ShowsPassedOver, IsHeld, IsCovered, ShowsNotEmpty};
 
 use crate::distinct::values_rise;
 use crate::known::{is_known, is_learnt, is_over_by, precedes, puts_at, value_of_put};
 use crate::lacking::lacks;
 use crate::witness::{Lack, Piece, Witness};
-use events::Event;
+use events::Events;
 use words::{Outcome, Reply};
 
 /// Whether the put cannot stand before the take.
-fn is_no_source(events: &[Event], learnt: &[Option<Outcome>], take: usize, put: usize) -> bool
-    ensures { IsTrue result → IsNoSource events.now learnt.now take put }
+fn is_no_source(events: &Events, learnt: &[Option<Outcome>], take: usize, put: usize) -> bool
+    ensures { IsTrue result → IsNoSource events.now.items learnt.now take put }
 {
     is_learnt(learnt, put, Outcome::NotTaken) || precedes(events, take, put)
 }
 
 /// Whether what stands at `p` cannot have put the value before the take.
 fn did_not_put(
-    events: &[Event],
+    events: &Events,
     learnt: &[Option<Outcome>],
     take: usize,
     value: u32,
     p: usize,
 ) -> bool
-    ensures { IsTrue result → PutsAt events.now p value → IsNoSource events.now learnt.now take p }
+    ensures { IsTrue result → PutsAt events.now.items p value → IsNoSource events.now.items learnt.now take p }
 {
     if puts_at(events, p, value) {
         return is_no_source(events, learnt, take, p);
@@ -36,8 +37,9 @@ fn did_not_put(
 }
 
 /// Whether nobody can have put the value before the take.
-fn nobody_put(events: &[Event], learnt: &[Option<Outcome>], take: usize, value: u32) -> bool
-    ensures { IsTrue result → ((p : ℕ) → PutsAt events.now p value → IsNoSource events.now learnt.now take p) }
+fn nobody_put(events: &Events, learnt: &[Option<Outcome>], take: usize, value: u32) -> bool
+    ensures { IsTrue result
+        → ((p : ℕ) → PutsAt events.now.items p value → IsNoSource events.now.items learnt.now take p) }
 {
     for k in 0..events.len() {
         if !did_not_put(events, learnt, take, value, k) {
@@ -48,8 +50,8 @@ fn nobody_put(events: &[Event], learnt: &[Option<Outcome>], take: usize, value: 
 }
 
 /// Whether a value came out that nobody can have put.
-fn shows_invented(events: &[Event], learnt: &[Option<Outcome>], take: usize, value: u32) -> bool
-    ensures { IsTrue result → ShowsInvented events.now learnt.now take value }
+fn shows_invented(events: &Events, learnt: &[Option<Outcome>], take: usize, value: u32) -> bool
+    ensures { IsTrue result → ShowsInvented events.now.items learnt.now take value }
 {
     if !is_known(events, learnt, take, Reply::Got(value)) {
         return false;
@@ -59,13 +61,13 @@ fn shows_invented(events: &[Event], learnt: &[Option<Outcome>], take: usize, val
 
 /// Whether a value came out twice.
 fn shows_twice(
-    events: &[Event],
+    events: &Events,
     learnt: &[Option<Outcome>],
     first: usize,
     second: usize,
     value: u32,
 ) -> bool
-    ensures { IsTrue result → ShowsTwice events.now learnt.now first second value }
+    ensures { IsTrue result → ShowsTwice events.now.items learnt.now first second value }
 {
     if first == second {
         return false;
@@ -77,8 +79,8 @@ fn shows_twice(
 }
 
 /// Whether each put of the lack precedes this one.
-fn are_ahead(events: &[Event], lack: &Lack, put: usize) -> bool
-    ensures { IsTrue result → ((p : ℕ) → IsPutOf lack.now p → Precedes events.now p put) }
+fn are_ahead(events: &Events, lack: &Lack, put: usize) -> bool
+    ensures { IsTrue result → ((p : ℕ) → IsPutOf lack.now p → Precedes events.now.items p put) }
 {
     match lack {
         Lack::Late { put: late, .. } => precedes(events, *late, put),
@@ -87,8 +89,8 @@ fn are_ahead(events: &[Event], lack: &Lack, put: usize) -> bool
 }
 
 /// Whether each put of the lack ended at `t` or before.
-fn are_over(events: &[Event], lack: &Lack, t: usize) -> bool
-    ensures { IsTrue result → ((p : ℕ) → IsPutOf lack.now p → IsOverBy events.now p t) }
+fn are_over(events: &Events, lack: &Lack, t: usize) -> bool
+    ensures { IsTrue result → ((p : ℕ) → IsPutOf lack.now p → IsOverBy events.now.items p t) }
 {
     match lack {
         Lack::Late { put, .. } => is_over_by(events, *put, t),
@@ -97,22 +99,22 @@ fn are_over(events: &[Event], lack: &Lack, t: usize) -> bool
 }
 
 /// Whether the call at `p` ended at `t` or before, or nothing stands there any more.
-fn is_bounded(events: &[Event], p: usize, t: usize) -> bool
-    ensures { IsTrue result → (IsOverBy events.now p t ⊎ (length events.now ≤ t)) }
+fn is_bounded(events: &Events, p: usize, t: usize) -> bool
+    ensures { IsTrue result → (IsOverBy events.now.items p t ⊎ (length events.now.items ≤ t)) }
 {
     is_over_by(events, p, t) || events.len() <= t
 }
 
 /// Whether values were passed over.
 fn shows_passed_over(
-    events: &[Event],
+    events: &Events,
     learnt: &[Option<Outcome>],
     take: usize,
     put: usize,
     bound: usize,
     lack: &Lack,
 ) -> bool
-    ensures { IsTrue result → ShowsPassedOver events.now learnt.now take put bound lack.now }
+    ensures { IsTrue result → ShowsPassedOver events.now.items learnt.now take put bound lack.now }
 {
     let Some(value) = value_of_put(events, put) else {
         return false;
@@ -130,8 +132,8 @@ fn shows_passed_over(
 }
 
 /// Whether the queue held something all through the piece.
-fn is_held(events: &[Event], learnt: &[Option<Outcome>], piece: &Piece) -> bool
-    ensures { IsTrue result → IsHeld events.now learnt.now piece.now }
+fn is_held(events: &Events, learnt: &[Option<Outcome>], piece: &Piece) -> bool
+    ensures { IsTrue result → IsHeld events.now.items learnt.now piece.now }
 {
     if !are_over(events, &piece.lack, piece.from) {
         return false;
@@ -140,8 +142,8 @@ fn is_held(events: &[Event], learnt: &[Option<Outcome>], piece: &Piece) -> bool
 }
 
 /// Whether the queue held something all through each of the pieces.
-fn are_held(events: &[Event], learnt: &[Option<Outcome>], pieces: &[Piece]) -> bool
-    ensures { IsTrue result → All (λ piece. IsHeld events.now learnt.now piece) pieces.now }
+fn are_held(events: &Events, learnt: &[Option<Outcome>], pieces: &[Piece]) -> bool
+    ensures { IsTrue result → All (λ piece. IsHeld events.now.items learnt.now piece) pieces.now }
 {
     pieces.iter().all(|piece| is_held(events, learnt, piece))
 }
@@ -163,13 +165,13 @@ fn covers(pieces: &[Piece], from: usize, to: usize) -> bool
 
 /// Whether a take found nothing, though the queue held something all the while.
 fn shows_not_empty(
-    events: &[Event],
+    events: &Events,
     learnt: &[Option<Outcome>],
     take: usize,
     end: usize,
     pieces: &[Piece],
 ) -> bool
-    ensures { IsTrue result → ShowsNotEmpty events.now learnt.now take end pieces.now }
+    ensures { IsTrue result → ShowsNotEmpty events.now.items learnt.now take end pieces.now }
 {
     if !is_known(events, learnt, take, Reply::Empty) {
         return false;
@@ -184,8 +186,8 @@ fn shows_not_empty(
 }
 
 /// Whether what the witness says is so.
-fn is_shown(events: &[Event], learnt: &[Option<Outcome>], witness: &Witness) -> bool
-    ensures { IsTrue result → IsShown events.now learnt.now witness.now }
+fn is_shown(events: &Events, learnt: &[Option<Outcome>], witness: &Witness) -> bool
+    ensures { IsTrue result → IsShown events.now.items learnt.now witness.now }
 {
     match witness {
         Witness::Invented { take, value } => shows_invented(events, learnt, *take, *value),
@@ -206,11 +208,11 @@ fn is_shown(events: &[Event], learnt: &[Option<Outcome>], witness: &Witness) -> 
     }
 }
 
-/// Whether the witness shows its pattern: then no order explains what is known. Its time grows with the events, for each
-/// piece of the witness, where at most so many calls are open at once. It takes no memory.
-pub fn refutes(events: &[Event], learnt: &[Option<Outcome>], witness: &Witness) -> bool
-    ensures shows { IsTrue result → Shows events.now learnt.now witness.now }
-    ensures refuted { IsTrue result → HasNoOrder events.now learnt.now }
+/// Whether the witness shows its pattern: then no order explains what is known. Its time grows with the events, for
+/// each piece of the witness, where at most so many calls are open at once. It takes no memory.
+pub fn refutes(events: &Events, learnt: &[Option<Outcome>], witness: &Witness) -> bool
+    ensures shows { IsTrue result → Shows events.now.items learnt.now witness.now }
+    ensures refuted { IsTrue result → HasNoOrder events.now.items learnt.now }
 {
     if !values_rise(events) {
         return false;

@@ -4,15 +4,15 @@ ghost use Rattle.std.specs.Prelude.{◌≡◌, ◌<◌, ◌≤◌, ◌↔◌, �
 ghost use Rattle.events.specs.History.{EndsAt, Precedes};
 ghost use Rattle.findings.specs.Findings.{IsLearnt, IsReturned, IsKnown, PutsAt, TakesAt, IsOverBy};
 
-use events::Event;
+use events::{Event, Events};
 use words::{Call, Client, Outcome, Reply};
 
 /// Whether what stands at `p` ends a call of the client.
-fn ends_at(events: &[Event], client: Client, p: usize) -> bool
-    requires { p < length events.now }
-    ensures { IsTrue result ↔ EndsAt events.now client p }
+fn ends_at(events: &Events, client: Client, p: usize) -> bool
+    requires { p < length events.now.items }
+    ensures { IsTrue result ↔ EndsAt events.now.items client p }
 {
-    match events[p] {
+    match events.at(p) {
         Event::Return { client: other, .. } => other == client,
         Event::Crash => true,
         _ => false,
@@ -20,29 +20,29 @@ fn ends_at(events: &[Event], client: Client, p: usize) -> bool
 }
 
 /// Whether the call at `p` puts this value.
-pub(crate) fn puts_at(events: &[Event], p: usize, value: u32) -> bool
-    ensures { IsTrue result ↔ PutsAt events.now p value }
+pub(crate) fn puts_at(events: &Events, p: usize, value: u32) -> bool
+    ensures { IsTrue result ↔ PutsAt events.now.items p value }
 {
     match events.get(p) {
-        Some(Event::Call { call, .. }) => *call == Call::Enq(value),
+        Some(Event::Call { call, .. }) => call == Call::Enq(value),
         _ => false,
     }
 }
 
 /// Whether the call at `p` takes.
-pub(crate) fn takes_at(events: &[Event], p: usize) -> bool
-    ensures { IsTrue result ↔ TakesAt events.now p }
+pub(crate) fn takes_at(events: &Events, p: usize) -> bool
+    ensures { IsTrue result ↔ TakesAt events.now.items p }
 {
     match events.get(p) {
-        Some(Event::Call { call, .. }) => *call == Call::Deq,
+        Some(Event::Call { call, .. }) => call == Call::Deq,
         _ => false,
     }
 }
 
 /// The value that the call at `p` puts, if it puts one.
-pub(crate) fn value_of_put(events: &[Event], p: usize) -> Option<u32>
-    ensures found { IfSome result (λ value. PutsAt events.now p value) }
-    ensures none { IfNone result ((value : ℕ) → PutsAt events.now p value → ⊥) }
+pub(crate) fn value_of_put(events: &Events, p: usize) -> Option<u32>
+    ensures found { IfSome result (λ value. PutsAt events.now.items p value) }
+    ensures none { IfNone result ((value : ℕ) → PutsAt events.now.items p value → ⊥) }
 {
     match events.get(p) {
         Some(
@@ -50,7 +50,7 @@ pub(crate) fn value_of_put(events: &[Event], p: usize) -> Option<u32>
                 call: Call::Enq(value),
                 ..
             },
-        ) => Some(*value),
+        ) => Some(value),
         _ => None,
     }
 }
@@ -66,18 +66,18 @@ pub(crate) fn is_learnt(learnt: &[Option<Outcome>], p: usize, outcome: Outcome) 
 }
 
 /// The reply that the call at `p` returned, if it returned one.
-fn returned_reply(events: &[Event], p: usize) -> Option<Reply>
-    ensures { IfSome result (λ reply. IsReturned events.now p reply) }
+fn returned_reply(events: &Events, p: usize) -> Option<Reply>
+    ensures { IfSome result (λ reply. IsReturned events.now.items p reply) }
 {
     let Some(Event::Call { client, .. }) = events.get(p) else {
         return None;
     };
     for k in p + 1..events.len() {
-        match events[k] {
+        match events.at(k) {
             Event::Return {
                 client: other,
                 reply,
-            } if other == *client => return Some(reply),
+            } if other == client => return Some(reply),
             Event::Crash => return None,
             _ => {}
         }
@@ -86,8 +86,8 @@ fn returned_reply(events: &[Event], p: usize) -> Option<Reply>
 }
 
 /// The reply with which the call at `p` is known to have taken effect, if it is.
-pub(crate) fn known_reply(events: &[Event], learnt: &[Option<Outcome>], p: usize) -> Option<Reply>
-    ensures { IfSome result (λ reply. IsKnown events.now learnt.now p reply) }
+pub(crate) fn known_reply(events: &Events, learnt: &[Option<Outcome>], p: usize) -> Option<Reply>
+    ensures { IfSome result (λ reply. IsKnown events.now.items learnt.now p reply) }
 {
     if let Some(Some(Outcome::Taken(reply))) = learnt.get(p) {
         return Some(*reply);
@@ -96,8 +96,8 @@ pub(crate) fn known_reply(events: &[Event], learnt: &[Option<Outcome>], p: usize
 }
 
 /// Whether the call at `p` is known to have taken effect with this reply.
-pub(crate) fn is_known(events: &[Event], learnt: &[Option<Outcome>], p: usize, reply: Reply) -> bool
-    ensures { IsTrue result → IsKnown events.now learnt.now p reply }
+pub(crate) fn is_known(events: &Events, learnt: &[Option<Outcome>], p: usize, reply: Reply) -> bool
+    ensures { IsTrue result → IsKnown events.now.items learnt.now p reply }
 {
     match known_reply(events, learnt, p) {
         Some(other) => other == reply,
@@ -106,8 +106,8 @@ pub(crate) fn is_known(events: &[Event], learnt: &[Option<Outcome>], p: usize, r
 }
 
 /// Whether the call at `p` ended at `t` or before.
-pub(crate) fn is_over_by(events: &[Event], p: usize, t: usize) -> bool
-    ensures { IsTrue result ↔ IsOverBy events.now p t }
+pub(crate) fn is_over_by(events: &Events, p: usize, t: usize) -> bool
+    ensures { IsTrue result ↔ IsOverBy events.now.items p t }
 {
     let Some(Event::Call { client, .. }) = events.get(p) else {
         return false;
@@ -116,7 +116,7 @@ pub(crate) fn is_over_by(events: &[Event], p: usize, t: usize) -> bool
         if k > t {
             return false;
         }
-        if ends_at(events, *client, k) {
+        if ends_at(events, client, k) {
             return true;
         }
     }
@@ -124,8 +124,8 @@ pub(crate) fn is_over_by(events: &[Event], p: usize, t: usize) -> bool
 }
 
 /// Whether the call at `a` ended before `b`.
-pub(crate) fn precedes(events: &[Event], a: usize, b: usize) -> bool
-    ensures { IsTrue result → Precedes events.now a b }
+pub(crate) fn precedes(events: &Events, a: usize, b: usize) -> bool
+    ensures { IsTrue result → Precedes events.now.items a b }
 {
     let Some(Event::Call { client, .. }) = events.get(a) else {
         return false;
@@ -134,7 +134,7 @@ pub(crate) fn precedes(events: &[Event], a: usize, b: usize) -> bool
         if k >= b {
             return false;
         }
-        if ends_at(events, *client, k) {
+        if ends_at(events, client, k) {
             return true;
         }
     }

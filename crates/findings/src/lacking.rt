@@ -3,19 +3,20 @@
 ghost use Rattle.std.specs.Prelude.{◌≡◌, ◌<◌, ◌≤◌, ◌↔◌, ℕ, length, IsTrue, All, Any, Contains, Option};
 ghost use Rattle.words.specs.declared.call.Reply.TheVariants.{Got};
 ghost use Rattle.findings.specs.Findings.{IsKnownGot, PutsAt};
-ghost use Rattle.findings.specs.Shows.{IsAhead, IsInAt, AreInSince, WasOver, IsValueOf, CanHaveTaken, IsListed, IsKnownPut, IsFew, IsLate, Lacks};
+ghost use Rattle.findings.specs.Shows.{IsAhead, IsInAt, AreInSince, WasOver, IsValueOf, CanHaveTaken, IsListed};
+ghost use Rattle.findings.specs.Shows.{IsKnownPut, IsFew, IsLate, Lacks};
 
 use crate::distinct::numbers_rise;
 use crate::known::{
     is_known, is_learnt, is_over_by, known_reply, precedes, puts_at, takes_at, value_of_put,
 };
 use crate::witness::{Ahead, Lack, Since};
-use events::Event;
+use events::Events;
 use words::{Outcome, Reply};
 
 /// Whether the value of `ahead` is ahead of the put's, and came out by its take.
-fn is_ahead(events: &[Event], learnt: &[Option<Outcome>], ahead: &Ahead, put: usize) -> bool
-    ensures { IsTrue result → IsAhead events.now learnt.now ahead.now put }
+fn is_ahead(events: &Events, learnt: &[Option<Outcome>], ahead: &Ahead, put: usize) -> bool
+    ensures { IsTrue result → IsAhead events.now.items learnt.now ahead.now put }
 {
     let Some(value) = value_of_put(events, ahead.put) else {
         return false;
@@ -27,8 +28,8 @@ fn is_ahead(events: &[Event], learnt: &[Option<Outcome>], ahead: &Ahead, put: us
 }
 
 /// Whether the value of the put was not out of the queue at this place.
-fn is_in_at(events: &[Event], learnt: &[Option<Outcome>], since: &Since, put: usize) -> bool
-    ensures { IsTrue result → IsInAt events.now learnt.now since.now put }
+fn is_in_at(events: &Events, learnt: &[Option<Outcome>], since: &Since, put: usize) -> bool
+    ensures { IsTrue result → IsInAt events.now.items learnt.now since.now put }
 {
     if since.place < put {
         return true;
@@ -41,12 +42,12 @@ fn is_in_at(events: &[Event], learnt: &[Option<Outcome>], since: &Since, put: us
 
 /// Whether no value of the puts was out of the queue at the place that is named, if one is.
 fn are_in_since(
-    events: &[Event],
+    events: &Events,
     learnt: &[Option<Outcome>],
     puts: &[usize],
     since: &Option<Since>,
 ) -> bool
-    ensures { IsTrue result → AreInSince events.now learnt.now puts.now since.now }
+    ensures { IsTrue result → AreInSince events.now.items learnt.now puts.now since.now }
 {
     match since {
         None => true,
@@ -55,8 +56,8 @@ fn are_in_since(
 }
 
 /// Whether the take was over by then.
-fn was_over(events: &[Event], since: &Option<Since>, take: usize) -> bool
-    ensures { IsTrue result ↔ WasOver events.now since.now take }
+fn was_over(events: &Events, since: &Option<Since>, take: usize) -> bool
+    ensures { IsTrue result ↔ WasOver events.now.items since.now take }
 {
     match since {
         None => false,
@@ -65,15 +66,15 @@ fn was_over(events: &[Event], since: &Option<Since>, take: usize) -> bool
 }
 
 /// Whether one of the puts puts this value.
-fn is_value_of(events: &[Event], puts: &[usize], value: u32) -> bool
-    ensures { IsTrue result ↔ Any (λ put. PutsAt events.now put value) puts.now }
+fn is_value_of(events: &Events, puts: &[usize], value: u32) -> bool
+    ensures { IsTrue result ↔ Any (λ put. PutsAt events.now.items put value) puts.now }
 {
     puts.iter().any(|put| puts_at(events, *put, value))
 }
 
 /// Whether what is known of the take's reply allows that it took a value of the puts.
-fn allows_value(events: &[Event], learnt: &[Option<Outcome>], puts: &[usize], take: usize) -> bool
-    ensures { (since : Option Since) → CanHaveTaken events.now learnt.now puts.now since take → IsTrue result }
+fn allows_value(events: &Events, learnt: &[Option<Outcome>], puts: &[usize], take: usize) -> bool
+    ensures { (since : Option Since) → CanHaveTaken events.now.items learnt.now puts.now since take → IsTrue result }
 {
     match known_reply(events, learnt, take) {
         Some(Reply::Got(value)) => is_value_of(events, puts, value),
@@ -85,13 +86,13 @@ fn allows_value(events: &[Event], learnt: &[Option<Outcome>], puts: &[usize], ta
 /// Whether the take can have taken a value of the puts, since then. It says so of some that cannot, and then less is
 /// shown than could be.
 fn can_have_taken(
-    events: &[Event],
+    events: &Events,
     learnt: &[Option<Outcome>],
     puts: &[usize],
     since: &Option<Since>,
     take: usize,
 ) -> bool
-    ensures { CanHaveTaken events.now learnt.now puts.now since.now take → IsTrue result }
+    ensures { CanHaveTaken events.now.items learnt.now puts.now since.now take → IsTrue result }
 {
     if !takes_at(events, take) {
         return false;
@@ -107,14 +108,14 @@ fn can_have_taken(
 
 /// Whether the take is one of these takes, if it can have taken a value of the puts.
 fn is_listed(
-    events: &[Event],
+    events: &Events,
     learnt: &[Option<Outcome>],
     puts: &[usize],
     takes: &[usize],
     since: &Option<Since>,
     take: usize,
 ) -> bool
-    ensures { IsTrue result → IsListed events.now learnt.now puts.now takes.now since.now take }
+    ensures { IsTrue result → IsListed events.now.items learnt.now puts.now takes.now since.now take }
 {
     if can_have_taken(events, learnt, puts, since, take) {
         return takes.contains(&take);
@@ -124,7 +125,7 @@ fn is_listed(
 
 /// Whether each take that began before the bound and can have taken a value of the puts is one of these takes.
 fn are_listed(
-    events: &[Event],
+    events: &Events,
     learnt: &[Option<Outcome>],
     bound: usize,
     puts: &[usize],
@@ -132,7 +133,7 @@ fn are_listed(
     since: &Option<Since>,
 ) -> bool
     ensures { IsTrue result → ((take : ℕ) → take < bound
-        → IsListed events.now learnt.now puts.now takes.now since.now take) }
+        → IsListed events.now.items learnt.now puts.now takes.now since.now take) }
 {
     for k in 0..bound.min(events.len()) {
         if !is_listed(events, learnt, puts, takes, since, k) {
@@ -143,8 +144,8 @@ fn are_listed(
 }
 
 /// Whether the put is known to have taken effect.
-fn is_known_put(events: &[Event], learnt: &[Option<Outcome>], put: usize) -> bool
-    ensures { IsTrue result → IsKnownPut events.now learnt.now put }
+fn is_known_put(events: &Events, learnt: &[Option<Outcome>], put: usize) -> bool
+    ensures { IsTrue result → IsKnownPut events.now.items learnt.now put }
 {
     match value_of_put(events, put) {
         Some(_) => is_known(events, learnt, put, Reply::Done),
@@ -153,22 +154,22 @@ fn is_known_put(events: &[Event], learnt: &[Option<Outcome>], put: usize) -> boo
 }
 
 /// Whether each of the puts is known to have taken effect.
-fn are_known_puts(events: &[Event], learnt: &[Option<Outcome>], puts: &[usize]) -> bool
-    ensures { IsTrue result → All (λ put. IsKnownPut events.now learnt.now put) puts.now }
+fn are_known_puts(events: &Events, learnt: &[Option<Outcome>], puts: &[usize]) -> bool
+    ensures { IsTrue result → All (λ put. IsKnownPut events.now.items learnt.now put) puts.now }
 {
     puts.iter().all(|put| is_known_put(events, learnt, *put))
 }
 
 /// Whether fewer takes can have taken a value of the puts than there are puts.
 fn is_few(
-    events: &[Event],
+    events: &Events,
     learnt: &[Option<Outcome>],
     bound: usize,
     puts: &[usize],
     takes: &[usize],
     since: &Option<Since>,
 ) -> bool
-    ensures { IsTrue result → IsFew events.now learnt.now bound puts.now takes.now since.now }
+    ensures { IsTrue result → IsFew events.now.items learnt.now bound puts.now takes.now since.now }
 {
     if takes.len() >= puts.len() {
         return false;
@@ -187,13 +188,13 @@ fn is_few(
 
 /// Whether the value of the put came out by a take that began at the bound or later.
 fn is_late(
-    events: &[Event],
+    events: &Events,
     learnt: &[Option<Outcome>],
     bound: usize,
     put: usize,
     take: usize,
 ) -> bool
-    ensures { IsTrue result → IsLate events.now learnt.now bound put take }
+    ensures { IsTrue result → IsLate events.now.items learnt.now bound put take }
 {
     if take < bound {
         return false;
@@ -205,8 +206,8 @@ fn is_late(
 }
 
 /// Whether takes that began before the bound cannot have taken all values of the puts of this lack.
-pub(crate) fn lacks(events: &[Event], learnt: &[Option<Outcome>], bound: usize, lack: &Lack) -> bool
-    ensures { IsTrue result → Lacks events.now learnt.now bound lack.now }
+pub(crate) fn lacks(events: &Events, learnt: &[Option<Outcome>], bound: usize, lack: &Lack) -> bool
+    ensures { IsTrue result → Lacks events.now.items learnt.now bound lack.now }
 {
     match lack {
         Lack::Late { put, take } => is_late(events, learnt, bound, *put, *take),

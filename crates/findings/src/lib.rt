@@ -1,4 +1,5 @@
-//! What is known of the calls on a queue, and why no order explains it: four patterns, and the function that judges them.
+//! What is known of the calls on a queue, and why no order explains it: four patterns, and the function that judges
+//! them.
 #![tactic(auto)]
 
 mod agreeing;

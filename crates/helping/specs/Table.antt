@@ -8,7 +8,7 @@ use Rattle.words.specs.declared.call.Call.TheVariants.{Enq, Deq}
 use Rattle.words.specs.declared.call.Reply.{Reply}
 use Rattle.words.specs.declared.limits.TheConstants.{MAX_VALUE}
 use Rattle.words.specs.declared.call.Reply.TheVariants.{Done as Answered, Got, Empty}
-use Rattle.persist.specs.Memory.{Access, Load, Store, Cas, Flush}
+use Rattle.persist.specs.Memory.{Access, Load, Store, Cas, Flush, Fence}
 use Rattle.arena.specs.Shape.{Shape}
 use Rattle.arena.specs.Place.{IsNode, IsRecord}
 use Rattle.arena.specs.Answers.{empty_answer_of, result_of}
@@ -20,14 +20,14 @@ use Rattle.stepper.specs.declared.resume.After.{After}
 use Rattle.stepper.specs.declared.resume.After.TheVariants.{More, Done}
 use Rattle.stepper.specs.declared.prepare.Begun.{Begun}
 use Rattle.stepper.specs.declared.prepare.Prepare.{Prepare}
-use Rattle.stepper.specs.declared.prepare.Prepare.TheVariants.{Store as prepare_store, Flush as prepare_flush}
+use Rattle.stepper.specs.declared.prepare.Prepare.TheVariants.{Store as prepare_store, Flush as prepare_flush, Fence as prepare_fence}
 use Rattle.helping.specs.Claims.{winner}
 use Rattle.helping.specs.declared.dequeue.Claim.{Claim}
 use Rattle.helping.specs.declared.dequeue.Claimed.{Claimed}
 use Rattle.helping.specs.declared.dequeue.DequeueClaim.{DequeueClaim as ClaimPoint}
 use Rattle.helping.specs.declared.dequeue.Claim.TheVariants.{Won, LostTo}
 use Rattle.helping.specs.declared.op.Op.{Op}
-use Rattle.helping.specs.declared.op.Op.TheVariants.{PrepareStore, PrepareFlush, EnqueueLoadTail, EnqueueLoadNext, EnqueueCheckTail, EnqueueLink, EnqueueMoveTail, EnqueueHelpTail, DequeueLoadHead, DequeueLoadTail, DequeueLoadNext, DequeueCheckHead, DequeueStoreEmpty, DequeueHelpTail, DequeueLoadValue, DequeueClaim, DequeueStoreResult, DequeueMoveHead, Flush as FlushPoint}
+use Rattle.helping.specs.declared.op.Op.TheVariants.{PrepareStore, PrepareFlush, PrepareFence, EnqueueLoadTail, EnqueueLoadNext, EnqueueCheckTail, EnqueueLink, EnqueueMoveTail, EnqueueHelpTail, DequeueLoadHead, DequeueLoadTail, DequeueLoadNext, DequeueCheckHead, DequeueStoreEmpty, DequeueHelpTail, DequeueLoadValue, DequeueClaim, DequeueStoreResult, DequeueMoveHead, Flush as FlushPoint, Fence as FencePoint}
 use Rattle.helping.specs.declared.keeping.Keeping.{Keeping}
 use Rattle.helping.specs.declared.keeping.Keeping.TheVariants.{Link as KeepLink, PassedLink as KeepPassedLink, Empty as KeepEmpty, DequeuePassedLink as KeepDequeuePassedLink, Claim as KeepClaim, Result as KeepResult}
 
@@ -55,6 +55,7 @@ kept_place kind (KeepResult p) =
 abbrev pub access_of : Kind → Op → Access Place
 access_of kind (PrepareStore p) = prepare_access (prepare_store p)
 access_of kind (PrepareFlush p) = prepare_access (prepare_flush p)
+access_of kind (PrepareFence p) = prepare_access (prepare_fence p)
 access_of kind (EnqueueLoadTail p) = Load Tail
 access_of kind (EnqueueLoadNext p) = Load (Next p.last)
 access_of kind (EnqueueCheckTail p) = Load Tail
@@ -73,6 +74,7 @@ access_of kind (DequeueStoreResult p) =
     store (result_of kind (winner p.claimed.claim p.claimed.token) p.claimed.next p.claimed.value)
 access_of kind (DequeueMoveHead p) = Cas Head p.claimed.first.0 p.claimed.next.0
 access_of kind (FlushPoint k) = Flush (kept_place kind k)
+access_of kind (FencePoint k) = Fence (kept_place kind k)
 
 -- where a call acts, once its record is prepared
 abbrev pub first_from : Call → Begun → Op
@@ -86,6 +88,7 @@ first_of b = first_from b.call b
 abbrev pub prepared_op : After Prepare Begun → Op
 prepared_op (More (prepare_store p)) = PrepareStore p
 prepared_op (More (prepare_flush p)) = PrepareFlush p
+prepared_op (More (prepare_fence p)) = PrepareFence p
 prepared_op (Done b) = first_of b
 
 -- where a call begins that took its record
@@ -118,6 +121,7 @@ after_keeping (KeepResult p) = More (DequeueMoveHead (record { claimed = p.claim
 abbrev pub successor : Kind → Op → ℕ → After Op Reply
 successor kind (PrepareStore p) found = More (prepared_op (prepare_successor kind (prepare_store p)))
 successor kind (PrepareFlush p) found = More (prepared_op (prepare_successor kind (prepare_flush p)))
+successor kind (PrepareFence p) found = More (prepared_op (prepare_successor kind (prepare_fence p)))
 successor kind (EnqueueLoadTail p) found = More (EnqueueLoadNext (record { node = p.node; last = node_of found }))
 successor kind (EnqueueLoadNext p) found =
     More (EnqueueCheckTail (record { node = p.node; last = p.last; next = node_of found }))
@@ -153,7 +157,8 @@ successor kind (DequeueLoadValue p) found =
 successor kind (DequeueClaim p) found = More (FlushPoint (KeepClaim (record { claimed = claimed_at p (claim_by found) })))
 successor kind (DequeueStoreResult p) found = More (FlushPoint (KeepResult (record { claimed = p.claimed })))
 successor kind (DequeueMoveHead p) found = answer_or_again p.claimed.claim p.claimed.token p.claimed.value
-successor kind (FlushPoint k) found = after_keeping k
+successor kind (FlushPoint k) found = More (FencePoint k)
+successor kind (FencePoint k) found = after_keeping k
 
 -- the numbers of a claim, and of what follows it
 abbrev pub IsClaiming : Shape → ℕ → ℕ → ℕ → ℕ → Type 0
@@ -175,6 +180,7 @@ IsKeeping s (KeepResult p) = IsClaimedAt s p.claimed
 abbrev pub IsPoint : Shape → Op → Type 0
 IsPoint s (PrepareStore p) = IsPreparePoint s (prepare_store p)
 IsPoint s (PrepareFlush p) = IsPreparePoint s (prepare_flush p)
+IsPoint s (PrepareFence p) = IsPreparePoint s (prepare_fence p)
 IsPoint s (EnqueueLoadTail p) = IsRecord s p.node.0
 IsPoint s (EnqueueLoadNext p) = IsRecord s p.node.0 × IsNode s p.last.0
 IsPoint s (EnqueueCheckTail p) = IsRecord s p.node.0 × IsNode s p.last.0 × IsNode s p.next.0
@@ -192,3 +198,4 @@ IsPoint s (DequeueClaim p) = IsClaiming s p.token.0 p.first.0 p.next.0 p.value
 IsPoint s (DequeueStoreResult p) = IsClaimedAt s p.claimed
 IsPoint s (DequeueMoveHead p) = IsClaimedAt s p.claimed
 IsPoint s (FlushPoint k) = IsKeeping s k
+IsPoint s (FencePoint k) = IsKeeping s k

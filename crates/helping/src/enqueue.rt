@@ -1,7 +1,7 @@
 //! The waiting points of an enqueue, after Michael and Scott (1996): the node is linked behind the last one, the
 //! link is kept, and only then the tail moves. Whoever meets a tail that lags keeps the link that it has to pass, and
-//! moves it on. The `//` at a point says what goes wrong without it, with the must-fail edit that shows it; what is kept on
-//! the way stands in `keeping`.
+//! moves it on. The `//` at a point says what goes wrong without it, with the must-fail edit that shows it; what is kept
+//! on the way stands in `keeping`.
 
 use crate::Op;
 use crate::keeping::{KeepLink, KeepPassedLink, Keeping};

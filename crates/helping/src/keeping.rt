@@ -1,17 +1,22 @@
-//! What a call keeps on its way: which word, and what comes once that is kept. Helpers keep the same words, so each of
-//! these may be kept before the call comes to it. The `//` at each says what goes wrong without it, with the must-fail
-//! edit that shows it.
+//! What a call keeps on its way, by a flush and a fence: which word, and what comes once that is kept. Helpers keep the
+//! same words, so each of these may be kept before the call comes to it. The `//` at each says what goes wrong without
+//! its fence, with the must-fail edit that shows it.
 
-ghost use Rattle.std.specs.Prelude.{◌≡◌};
+ghost use Rattle.std.specs.Prelude.{◌≡◌, ◌≤◌, length, None};
+ghost use Rattle.persist.specs.Memory.{Fence, Flush};
+ghost use Rattle.arena.specs.Layout.{size_of};
 ghost use Rattle.arena.specs.Place.{IsPlace};
+ghost use Rattle.stepper.specs.Step.{after_one, change_by, lent_after_one, IsAskedFor};
+ghost use Rattle.stepper.specs.declared.resume.After.TheVariants.{More};
 ghost use Rattle.helping.specs.Table.{IsKeeping, after_keeping, kept_place};
+ghost use Rattle.helping.specs.declared.op.Op.TheVariants.{Fence as FencePoint};
 
 use crate::Op;
 use crate::dequeue::{Claimed, DequeueHelpTail, DequeueMoveHead, DequeueStoreResult};
 use crate::enqueue::{EnqueueHelpTail, EnqueueMoveTail};
 use arena::{Layout, Place};
 use persist::WordMemory;
-use stepper::{After, Resume, Stepped, flush_at};
+use stepper::{After, Stepped, fence_at, flush_at};
 use words::{NodeId, Reply, Token};
 
 /// What a call is about to keep.
@@ -21,10 +26,10 @@ pub enum Keeping {
     // (`answers_before_the_link_is_kept`).
     Link(KeepLink),
     // Behind a link that is not kept this enqueue's own node would be lost with it, though its own link was kept
-    // (`tail_passes_an_unkept_link` shows it on a dequeue's).
+    // (`enqueue_passes_an_unkept_link`).
     PassedLink(KeepPassedLink),
     // A crash would lose an answer that is not kept, and the client would be told that its answered call was not taken
-    // (the scenarios of empty dequeues).
+    // (`answers_before_the_empty_answer_is_kept`).
     Empty(KeepEmpty),
     // A claimed node behind a link that is not kept would be lost in a crash, with the dequeue that was answered with
     // it (`tail_passes_an_unkept_link`).
@@ -37,7 +42,7 @@ pub enum Keeping {
     Result(KeepResult),
 }
 
-/// The link to an enqueue's own node: the enqueue takes effect, if no other flush or eviction kept it before.
+/// The link to an enqueue's own node: the enqueue takes effect, if no other fence or eviction kept it before.
 #[derive(Clone, Copy, Debug, PartialEq, Eq, Hash)]
 pub struct KeepLink {
     pub(crate) node: NodeId,
@@ -66,7 +71,7 @@ pub struct KeepDequeuePassedLink {
     pub(crate) next: NodeId,
 }
 
-/// The claim, the call's own or another's: the winner's dequeue takes effect, if no other flush or eviction kept it
+/// The claim, the call's own or another's: the winner's dequeue takes effect, if no other fence or eviction kept it
 /// before.
 #[derive(Clone, Copy, Debug, PartialEq, Eq, Hash)]
 pub struct KeepClaim {
@@ -121,18 +126,46 @@ impl Keeping {
             }
         })
     }
-}
 
-impl Resume for Keeping {
-    type Point = Op;
-
-    ghost use Rattle.helping.specs.declared.op.Op.TheVariants.{Flush};
-
-    ghost point = { Flush };
-
+    /// Asks that the word be kept. What waits then is the fence.
     #[inline(always)]
-    fn step<L: Layout, M: WordMemory>(self, layout: &L, memory: &mut M) -> Stepped<Op, Reply> {
-        let change = flush_at(layout, memory, self.place(layout));
+    pub(crate) fn ask<L: Layout, M: WordMemory>(
+        self,
+        layout: &L,
+        memory: &mut M,
+    ) -> Stepped<Op, Reply>
+        requires room { size_of (L.shape layout.now) ≤ length (M.words memory.old).cached }
+        requires point { IsKeeping (L.shape layout.now) self }
+        ensures one_access { let s = L.shape layout.now in
+            M.words memory.new ≡ after_one s (Flush (kept_place s.kind self)) (M.words memory.old) }
+        ensures lent { let s = L.shape layout.now in
+            M.lent memory.new ≡ lent_after_one s (Flush (kept_place s.kind self)) (M.lent memory.old) }
+        ensures next { result.after ≡ More (FencePoint self) }
+        ensures change { result.change ≡ None }
+    {
+        flush_at(layout, memory, self.place(layout));
+        Stepped::quiet(After::More(Op::Fence(self)))
+    }
+
+    /// Keeps the word, which was asked for.
+    #[inline(always)]
+    pub(crate) fn complete<L: Layout, M: WordMemory>(
+        self,
+        layout: &L,
+        memory: &mut M,
+    ) -> Stepped<Op, Reply>
+        requires point { IsKeeping (L.shape layout.now) self }
+        requires asked { let s = L.shape layout.now in
+            IsAskedFor s (Fence (kept_place s.kind self)) (M.lent memory.old).request }
+        ensures one_access { let s = L.shape layout.now in
+            M.words memory.new ≡ after_one s (Fence (kept_place s.kind self)) (M.words memory.old) }
+        ensures lent { let s = L.shape layout.now in
+            M.lent memory.new ≡ lent_after_one s (Fence (kept_place s.kind self)) (M.lent memory.old) }
+        ensures next { result.after ≡ after_keeping self }
+        ensures change { let s = L.shape layout.now in
+            result.change ≡ change_by s (Fence (kept_place s.kind self)) (M.words memory.old) }
+    {
+        let change = fence_at(layout, memory, self.place(layout));
         Stepped {
             after: self.next(),
             change,

@@ -17,7 +17,8 @@ use crate::keeping::Keeping;
 use arena::Layout;
 use persist::WordMemory;
 use stepper::{
-    After, Begun, Points, Prepare, PrepareFlush, PrepareStore, Prepared, Resume, Stepped,
+    After, Begun, Points, Prepare, PrepareFence, PrepareFlush, PrepareStore, Prepared, Resume,
+    Stepped,
 };
 use words::{Call, Kind, NodeId, Reply};
 
@@ -26,6 +27,7 @@ use words::{Call, Kind, NodeId, Reply};
 pub enum Op {
     PrepareStore(PrepareStore),
     PrepareFlush(PrepareFlush),
+    PrepareFence(PrepareFence),
     EnqueueLoadTail(EnqueueLoadTail),
     EnqueueLoadNext(EnqueueLoadNext),
     EnqueueCheckTail(EnqueueCheckTail),
@@ -42,8 +44,10 @@ pub enum Op {
     DequeueClaim(DequeueClaim),
     DequeueStoreResult(DequeueStoreResult),
     DequeueMoveHead(DequeueMoveHead),
-    /// About to keep a word.
+    /// About to ask that a word be kept.
     Flush(Keeping),
+    /// About to keep it.
+    Fence(Keeping),
 }
 
 impl Op {
@@ -90,6 +94,7 @@ impl Op {
         match after {
             After::More(Prepare::Store(point)) => Op::PrepareStore(point),
             After::More(Prepare::Flush(point)) => Op::PrepareFlush(point),
+            After::More(Prepare::Fence(point)) => Op::PrepareFence(point),
             After::Done(begun) => Op::first(begun),
         }
     }
@@ -127,6 +132,7 @@ impl Resume for Op {
         match self {
             Op::PrepareStore(point) => go_on(point.step(layout, memory)),
             Op::PrepareFlush(point) => go_on(point.step(layout, memory)),
+            Op::PrepareFence(point) => go_on(point.step(layout, memory)),
             Op::EnqueueLoadTail(point) => point.step(layout, memory),
             Op::EnqueueLoadNext(point) => point.step(layout, memory),
             Op::EnqueueCheckTail(point) => point.step(layout, memory),
@@ -143,7 +149,8 @@ impl Resume for Op {
             Op::DequeueClaim(point) => point.step(layout, memory),
             Op::DequeueStoreResult(point) => point.step(layout, memory),
             Op::DequeueMoveHead(point) => point.step(layout, memory),
-            Op::Flush(keeping) => keeping.step(layout, memory),
+            Op::Flush(keeping) => keeping.ask(layout, memory),
+            Op::Fence(keeping) => keeping.complete(layout, memory),
         }
     }
 }

@@ -8,7 +8,7 @@ use Rattle.std.proofs.lemmas.List.Concat.{flat_map-append}
 use Rattle.words.specs.declared.call.Call.{Call}
 use Rattle.words.specs.declared.call.Call.TheVariants.{Enq, Deq}
 use Rattle.words.specs.declared.call.Reply.{Reply}
-use Rattle.words.specs.PlainQueue.{reply_of, served}
+use Rattle.words.specs.PlainQueue.{reply_of}
 use Rattle.events.specs.declared.event.Event.{Event}
 use Rattle.events.specs.declared.event.Entry.{Entry}
 use Rattle.history.specs.Counting.{values_of_call, values_of_order}

@@ -9,7 +9,7 @@ ghost use Rattle.events.specs.Orders.{IsNew};
 ghost use Rattle.history.specs.Sweeps.{IsAnsweredOf, IsAnsweredTo, IsNextEntry, HasNoEntryFrom};
 
 use crate::places::begins_at;
-use events::{Entry, Event};
+use events::{Entry, Event, Events};
 use words::{Client, Reply};
 
 /// Where a client's pass stands: its last call, and the entry from which on its next one stands.
@@ -39,12 +39,12 @@ fn place_after_entry(entries: &[Entry], from: usize, p: usize, reply: Reply) -> 
 }
 
 /// What the client's call is answered at `k`, if it is.
-fn return_at(events: &[Event], client: Client, k: usize) -> Option<Reply>
-    requires { k < length events.now }
-    ensures some { IfSome result (λ reply. ReturnAt events.now k client reply) }
-    ensures none { IfNone result ((reply : Reply) → ReturnAt events.now k client reply → ⊥) }
+fn return_at(events: &Events, client: Client, k: usize) -> Option<Reply>
+    requires { k < length events.now.items }
+    ensures some { IfSome result (λ reply. ReturnAt events.now.items k client reply) }
+    ensures none { IfNone result ((reply : Reply) → ReturnAt events.now.items k client reply → ⊥) }
 {
-    match events[k] {
+    match events.at(k) {
         Event::Return {
             client: other,
             reply,
@@ -55,19 +55,20 @@ fn return_at(events: &[Event], client: Client, k: usize) -> Option<Reply>
 
 /// Where the client's pass stands after the event at `k`; nothing where that returned a reply that the order has not.
 fn after_event(
-    events: &[Event],
+    events: &Events,
     entries: &[Entry],
     client: Client,
     k: usize,
     pass: Pass,
 ) -> Option<Pass>
-    requires within { k < length events.now }
-    requires history { IsHistory events.now }
+    requires within { k < length events.now.items }
+    requires history { IsHistory events.now.items }
     requires once { EachIndex entries.now (λ i. IsNew entries.now i) }
-    requires precedence { KeepsPrecedence events.now entries.now }
-    requires so_far { IsAnsweredTo events.now entries.now client k pass.call pass.from }
-    ensures some { IfSome result (λ after. IsAnsweredTo events.now entries.now client (k + 1) after.call after.from) }
-    ensures none { IfNone result (IsAnsweredOf events.now entries.now client → ⊥) }
+    requires precedence { KeepsPrecedence events.now.items entries.now }
+    requires so_far { IsAnsweredTo events.now.items entries.now client k pass.call pass.from }
+    ensures some { IfSome result (λ after.
+        IsAnsweredTo events.now.items entries.now client (k + 1) after.call after.from) }
+    ensures none { IfNone result (IsAnsweredOf events.now.items entries.now client → ⊥) }
 {
     if begins_at(events, client, k) {
         return Some(Pass { call: k, ..pass });
@@ -82,11 +83,11 @@ fn after_event(
 }
 
 /// Whether each complete call of the client is in the order with the reply that it returned.
-fn is_answered_of(events: &[Event], entries: &[Entry], client: Client) -> bool
-    requires history { IsHistory events.now }
+fn is_answered_of(events: &Events, entries: &[Entry], client: Client) -> bool
+    requires history { IsHistory events.now.items }
     requires once { EachIndex entries.now (λ i. IsNew entries.now i) }
-    requires precedence { KeepsPrecedence events.now entries.now }
-    ensures { IsTrue result ↔ IsAnsweredOf events.now entries.now client }
+    requires precedence { KeepsPrecedence events.now.items entries.now }
+    ensures { IsTrue result ↔ IsAnsweredOf events.now.items entries.now client }
 {
     let mut pass = Pass { call: 0, from: 0 };
     for k in 0..events.len() {
@@ -100,11 +101,11 @@ fn is_answered_of(events: &[Event], entries: &[Entry], client: Client) -> bool
 
 /// Whether each complete call is in the order with the reply that it returned, where the history may arise and the
 /// order names no call twice and keeps precedence.
-pub(crate) fn all_answered(events: &[Event], entries: &[Entry]) -> bool
-    requires history { IsHistory events.now }
+pub(crate) fn all_answered(events: &Events, entries: &[Entry]) -> bool
+    requires history { IsHistory events.now.items }
     requires once { EachIndex entries.now (λ i. IsNew entries.now i) }
-    requires precedence { KeepsPrecedence events.now entries.now }
-    ensures { IsTrue result ↔ EachIndex events.now (λ p. IsAnswered events.now entries.now p) }
+    requires precedence { KeepsPrecedence events.now.items entries.now }
+    ensures { IsTrue result ↔ EachIndex events.now.items (λ p. IsAnswered events.now.items entries.now p) }
 {
     for t in 0..16u8 {
         if !is_answered_of(events, entries, Client(t)) {

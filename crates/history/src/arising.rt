@@ -7,7 +7,7 @@ ghost use Rattle.events.specs.History.{IsDown, IsUnderWay, IsHistory};
 ghost use Rattle.history.specs.Sweeps.{HasClient, StandsUp, StandsInTurn, IsInTurn};
 
 use crate::places::has_one_kind;
-use events::Event;
+use events::{Event, Events};
 use words::Client;
 
 /// Whether a Call or a Return is of a client from 0 to 15.
@@ -22,19 +22,24 @@ fn has_client(event: &Event) -> bool
 }
 
 /// Whether so it is of each event.
-fn has_clients(events: &[Event]) -> bool
-    ensures { IsTrue result ↔ All (λ event. HasClient event) events.now }
+fn has_clients(events: &Events) -> bool
+    ensures { IsTrue result ↔ All (λ event. HasClient event) events.now.items }
 {
-    events.iter().all(has_client)
+    for p in 0..events.len() {
+        if !has_client(&events.at(p)) {
+            return false;
+        }
+    }
+    true
 }
 
 /// Whether the place after `p` lies between a Crash and the next Ready, where it is known of `p`.
-fn down_after(events: &[Event], p: usize, down: bool) -> bool
-    requires within { p < length events.now }
-    requires down { IsTrue down ↔ IsDown events.now p }
-    ensures { IsTrue result ↔ IsDown events.now (p + 1) }
+fn down_after(events: &Events, p: usize, down: bool) -> bool
+    requires within { p < length events.now.items }
+    requires down { IsTrue down ↔ IsDown events.now.items p }
+    ensures { IsTrue result ↔ IsDown events.now.items (p + 1) }
 {
-    match events[p] {
+    match events.at(p) {
         Event::Crash => true,
         Event::Ready { .. } => false,
         _ => down,
@@ -42,9 +47,9 @@ fn down_after(events: &[Event], p: usize, down: bool) -> bool
 }
 
 /// Whether a Call or a Return does not stand in between.
-fn stands_up(events: &[Event], p: usize, event: &Event, down: bool) -> bool
-    requires { IsTrue down ↔ IsDown events.now p }
-    ensures { IsTrue result ↔ StandsUp events.now p event.now }
+fn stands_up(events: &Events, p: usize, event: &Event, down: bool) -> bool
+    requires { IsTrue down ↔ IsDown events.now.items p }
+    ensures { IsTrue result ↔ StandsUp events.now.items p event.now }
 {
     match event {
         Event::Call { .. } => !down,
@@ -54,13 +59,13 @@ fn stands_up(events: &[Event], p: usize, event: &Event, down: bool) -> bool
 }
 
 /// Whether so it is of each event.
-fn all_stand_up(events: &[Event]) -> bool
+fn all_stand_up(events: &Events) -> bool
     ensures { IsTrue result ↔
-        ((p : ℕ) (event : Event) → slice_get events.now p ≡ Some event → StandsUp events.now p event) }
+        ((p : ℕ) (event : Event) → slice_get events.now.items p ≡ Some event → StandsUp events.now.items p event) }
 {
     let mut down = false;
-    for (p, event) in events.iter().enumerate() {
-        if !stands_up(events, p, event, down) {
+    for p in 0..events.len() {
+        if !stands_up(events, p, &events.at(p), down) {
             return false;
         }
         down = down_after(events, p, down);
@@ -69,12 +74,12 @@ fn all_stand_up(events: &[Event]) -> bool
 }
 
 /// Whether the client has a call without an end before the place after `p`, where it is known of `p`.
-fn open_after(events: &[Event], client: Client, p: usize, busy: bool) -> bool
-    requires within { p < length events.now }
-    requires busy { IsTrue busy ↔ IsUnderWay events.now client p }
-    ensures { IsTrue result ↔ IsUnderWay events.now client (p + 1) }
+fn open_after(events: &Events, client: Client, p: usize, busy: bool) -> bool
+    requires within { p < length events.now.items }
+    requires busy { IsTrue busy ↔ IsUnderWay events.now.items client p }
+    ensures { IsTrue result ↔ IsUnderWay events.now.items client (p + 1) }
 {
-    match events[p] {
+    match events.at(p) {
         Event::Call { client: other, .. } => busy || other == client,
         Event::Return { client: other, .. } => busy && other != client,
         Event::Crash => false,
@@ -83,9 +88,9 @@ fn open_after(events: &[Event], client: Client, p: usize, busy: bool) -> bool
 }
 
 /// Whether a Call of the client stands only while it has no call without an end, a Return only while it has one.
-fn stands_in_turn(events: &[Event], client: Client, p: usize, event: &Event, busy: bool) -> bool
-    requires { IsTrue busy ↔ IsUnderWay events.now client p }
-    ensures { IsTrue result ↔ StandsInTurn events.now client p event.now }
+fn stands_in_turn(events: &Events, client: Client, p: usize, event: &Event, busy: bool) -> bool
+    requires { IsTrue busy ↔ IsUnderWay events.now.items client p }
+    ensures { IsTrue result ↔ StandsInTurn events.now.items client p event.now }
 {
     match event {
         Event::Call { client: other, .. } => *other != client || !busy,
@@ -95,12 +100,12 @@ fn stands_in_turn(events: &[Event], client: Client, p: usize, event: &Event, bus
 }
 
 /// Whether so it is of each event.
-fn is_in_turn(events: &[Event], client: Client) -> bool
-    ensures { IsTrue result ↔ IsInTurn events.now client }
+fn is_in_turn(events: &Events, client: Client) -> bool
+    ensures { IsTrue result ↔ IsInTurn events.now.items client }
 {
     let mut busy = false;
-    for (p, event) in events.iter().enumerate() {
-        if !stands_in_turn(events, client, p, event, busy) {
+    for p in 0..events.len() {
+        if !stands_in_turn(events, client, p, &events.at(p), busy) {
             return false;
         }
         busy = open_after(events, client, p, busy);
@@ -109,8 +114,8 @@ fn is_in_turn(events: &[Event], client: Client) -> bool
 }
 
 /// Whether so it is of each client from 0 to 15.
-fn all_in_turn(events: &[Event]) -> bool
-    ensures { IsTrue result ↔ ((client : Client) → client.0 < 16 → IsInTurn events.now client) }
+fn all_in_turn(events: &Events) -> bool
+    ensures { IsTrue result ↔ ((client : Client) → client.0 < 16 → IsInTurn events.now.items client) }
 {
     for t in 0..16u8 {
         if !is_in_turn(events, Client(t)) {
@@ -121,8 +126,8 @@ fn all_in_turn(events: &[Event]) -> bool
 }
 
 /// Whether the history may arise.
-pub(crate) fn arises(events: &[Event]) -> bool
-    ensures { IsTrue result ↔ IsHistory events.now }
+pub(crate) fn arises(events: &Events) -> bool
+    ensures { IsTrue result ↔ IsHistory events.now.items }
 {
     if !has_clients(events) {
         return false;

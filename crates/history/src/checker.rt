@@ -16,18 +16,18 @@ use crate::ordering::names_calls;
 use crate::places::is_durable;
 use crate::preceding::precedence_is_kept;
 use crate::replaying::replay;
-use events::{Entry, Event, History, Order};
+use events::{Entry, Events, History, Order};
 use std::alloc::Global;
 use words::{Kind, Refusal, Reports};
 
 /// Whether what clients are told agrees with the order. That of interrupted calls follows from the rest: such a call is
 /// its client's last one begun before the next Ready.
-fn tells(told: &Reports, events: &[Event], entries: &[Entry]) -> bool
-    requires calls { All (λ entry. entry.place < length events.now) entries.now }
-    requires history { IsHistory events.now }
+fn tells(told: &Reports, events: &Events, entries: &[Entry]) -> bool
+    requires calls { All (λ entry. entry.place < length events.now.items) entries.now }
+    requires history { IsHistory events.now.items }
     requires once { EachIndex entries.now (λ i. IsNew entries.now i) }
-    requires precedence { KeepsPrecedence events.now entries.now }
-    ensures { IsTrue result ↔ Tells told.now events.now entries.now }
+    requires precedence { KeepsPrecedence events.now.items entries.now }
+    ensures { IsTrue result ↔ Tells told.now events.now.items entries.now }
 {
     if is_durable(events) {
         return all_told(Kind::Durable, told, events, entries);
@@ -36,9 +36,9 @@ fn tells(told: &Reports, events: &[Event], entries: &[Entry]) -> bool
 }
 
 /// Whether the order explains the history, which may arise.
-fn explains(base: &[u32], told: &Reports, events: &[Event], entries: &[Entry]) -> bool
-    requires { IsHistory events.now }
-    ensures { IsTrue result ↔ Explains base.now told.now events.now entries.now }
+fn explains(base: &[u32], told: &Reports, events: &Events, entries: &[Entry]) -> bool
+    requires { IsHistory events.now.items }
+    ensures { IsTrue result ↔ Explains base.now told.now events.now.items entries.now }
 {
     if !names_calls(events, entries) {
         return false;
@@ -63,11 +63,11 @@ fn explains(base: &[u32], told: &Reports, events: &[Event], entries: &[Entry]) -
 pub fn check(history: &History, order: &Order) -> bool
     ensures { IsTrue result ↔ IsExplained history.now order.now }
 {
-    arises(history.events.as_slice())
+    arises(&history.events)
         && explains(
             history.base.as_slice(),
             &history.told,
-            history.events.as_slice(),
+            &history.events,
             order.entries.as_slice(),
         )
 }

@@ -6,18 +6,18 @@ ghost use Rattle.history.specs.Plainly.{IsNotAfter};
 
 use crate::ordering::is_taken_as;
 use crate::places::precedes;
-use events::{Entry, Event};
+use events::{Entry, Event, Events};
 
 /// Whether the call at `p`, if it is complete, is in the order with the reply that it returned.
-fn is_answered(events: &[Event], entries: &[Entry], p: usize) -> bool
-    requires { p < length events.now }
-    ensures { IsTrue result ↔ IsAnswered events.now entries.now p }
+fn is_answered(events: &Events, entries: &[Entry], p: usize) -> bool
+    requires { p < length events.now.items }
+    ensures { IsTrue result ↔ IsAnswered events.now.items entries.now p }
 {
-    let Event::Call { client, .. } = events[p] else {
+    let Event::Call { client, .. } = events.at(p) else {
         return true;
     };
     for k in p + 1..events.len() {
-        match events[k] {
+        match events.at(k) {
             Event::Return {
                 client: other,
                 reply,
@@ -32,8 +32,8 @@ fn is_answered(events: &[Event], entries: &[Entry], p: usize) -> bool
 }
 
 /// Whether each complete call is in the order with the reply that it returned.
-pub(crate) fn has_answers(events: &[Event], entries: &[Entry]) -> bool
-    ensures { IsTrue result ↔ EachIndex events.now (λ p. IsAnswered events.now entries.now p) }
+pub(crate) fn has_answers(events: &Events, entries: &[Entry]) -> bool
+    ensures { IsTrue result ↔ EachIndex events.now.items (λ p. IsAnswered events.now.items entries.now p) }
 {
     for p in 0..events.len() {
         if !is_answered(events, entries, p) {
@@ -44,20 +44,20 @@ pub(crate) fn has_answers(events: &[Event], entries: &[Entry]) -> bool
 }
 
 /// Whether the call of the entry at `i` precedes none of the entry at `j`.
-fn is_not_after(events: &[Event], entries: &[Entry], i: usize, j: usize) -> bool
+fn is_not_after(events: &Events, entries: &[Entry], i: usize, j: usize) -> bool
     requires first { i < length entries.now }
     requires second { j < length entries.now }
-    requires calls { All (λ entry. entry.place < length events.now) entries.now }
-    ensures { IsTrue result ↔ IsNotAfter events.now entries.now i j }
+    requires calls { All (λ entry. entry.place < length events.now.items) entries.now }
+    ensures { IsTrue result ↔ IsNotAfter events.now.items entries.now i j }
 {
     !precedes(events, entries[i].place, entries[j].place)
 }
 
 /// Whether the call of the entry at `i` precedes none of the entries up to it.
-fn keeps_precedence_at(events: &[Event], entries: &[Entry], i: usize) -> bool
+fn keeps_precedence_at(events: &Events, entries: &[Entry], i: usize) -> bool
     requires first { i < length entries.now }
-    requires calls { All (λ entry. entry.place < length events.now) entries.now }
-    ensures { IsTrue result ↔ ((j : ℕ) → j ≤ i → IsNotAfter events.now entries.now i j) }
+    requires calls { All (λ entry. entry.place < length events.now.items) entries.now }
+    ensures { IsTrue result ↔ ((j : ℕ) → j ≤ i → IsNotAfter events.now.items entries.now i j) }
 {
     for j in 0..i + 1 {
         if !is_not_after(events, entries, i, j) {
@@ -68,9 +68,9 @@ fn keeps_precedence_at(events: &[Event], entries: &[Entry], i: usize) -> bool
 }
 
 /// Whether calls stand in the order before those that they precede.
-pub(crate) fn keeps_precedence(events: &[Event], entries: &[Entry]) -> bool
-    requires { All (λ entry. entry.place < length events.now) entries.now }
-    ensures { IsTrue result ↔ KeepsPrecedence events.now entries.now }
+pub(crate) fn keeps_precedence(events: &Events, entries: &[Entry]) -> bool
+    requires { All (λ entry. entry.place < length events.now.items) entries.now }
+    ensures { IsTrue result ↔ KeepsPrecedence events.now.items entries.now }
 {
     for i in 0..entries.len() {
         if !keeps_precedence_at(events, entries, i) {

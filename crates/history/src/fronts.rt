@@ -6,7 +6,7 @@ ghost use Rattle.history.specs.Fronts.{values_between, queue_from, reply_of_fron
 ghost use Rattle.events.specs.Replay.{queue_after, IsRightAt, Replays};
 
 use crate::replaying::named_call;
-use events::{Entry, Event};
+use events::{Entry, Events};
 use words::{Call, Reply};
 
 /// Where the front of the queue stands: after so many values of the base, and of the entries from one on.
@@ -17,13 +17,13 @@ struct Fronts {
 }
 
 /// Takes the first value that the entries from `front` on, before `to`, put into the queue.
-fn take_put(events: &[Event], entries: &[Entry], front: &mut usize, to: usize) -> Option<u32>
+fn take_put(events: &Events, entries: &[Entry], front: &mut usize, to: usize) -> Option<u32>
     requires below { front.old ≤ to }
     requires within { to ≤ length entries.now }
     ensures below { front.new ≤ to }
-    ensures front { values_between events.now entries.now front.old to ≡
-        option_to_list result ++ values_between events.now entries.now front.new to }
-    ensures none { IfNone result (values_between events.now entries.now front.old to ≡ []) }
+    ensures front { values_between events.now.items entries.now front.old to ≡
+        option_to_list result ++ values_between events.now.items entries.now front.new to }
+    ensures none { IfNone result (values_between events.now.items entries.now front.old to ≡ []) }
 {
     let from = *front;
     for k in from..to {
@@ -38,7 +38,7 @@ fn take_put(events: &[Event], entries: &[Entry], front: &mut usize, to: usize) -
 
 /// Takes the first value of the queue.
 fn take_front(
-    events: &[Event],
+    events: &Events,
     base: &[u32],
     entries: &[Entry],
     fronts: &mut Fronts,
@@ -49,9 +49,10 @@ fn take_front(
     requires within { to ≤ length entries.now }
     ensures base { fronts.new.base ≤ length base.now }
     ensures entry { fronts.new.entry ≤ to }
-    ensures front { queue_from events.now base.now entries.now fronts.old.base fronts.old.entry to ≡
-        option_to_list result ++ queue_from events.now base.now entries.now fronts.new.base fronts.new.entry to }
-    ensures none { IfNone result (queue_from events.now base.now entries.now fronts.old.base fronts.old.entry to ≡ []) }
+    ensures front { queue_from events.now.items base.now entries.now fronts.old.base fronts.old.entry to ≡
+        option_to_list result ++ queue_from events.now.items base.now entries.now fronts.new.base fronts.new.entry to }
+    ensures none { IfNone result
+        (queue_from events.now.items base.now entries.now fronts.old.base fronts.old.entry to ≡ []) }
 {
     if fronts.base < base.len() {
         let value = base[fronts.base];
@@ -73,16 +74,17 @@ fn reply_with(front: Option<u32>) -> Reply
 
 /// Whether the entry at `i` names a call and has the plain queue's reply to it; the front moves on past the call.
 fn is_right_next(
-    events: &[Event],
+    events: &Events,
     base: &[u32],
     entries: &[Entry],
     fronts: &mut Fronts,
     i: usize,
 ) -> bool
     requires within { i < length entries.now }
-    requires front { IsFront events.now base.now entries.now fronts.old.base fronts.old.entry i }
-    ensures right { IsTrue result ↔ IsRightAt events.now base.now entries.now i }
-    ensures front { IsTrue result → IsFront events.now base.now entries.now fronts.new.base fronts.new.entry (i + 1) }
+    requires front { IsFront events.now.items base.now entries.now fronts.old.base fronts.old.entry i }
+    ensures right { IsTrue result ↔ IsRightAt events.now.items base.now entries.now i }
+    ensures front { IsTrue result
+        → IsFront events.now.items base.now entries.now fronts.new.base fronts.new.entry (i + 1) }
 {
     match named_call(events, entries[i].place) {
         None => false,
@@ -94,8 +96,8 @@ fn is_right_next(
 }
 
 /// Whether the replay gives every reply.
-pub(crate) fn replay_is_right(events: &[Event], base: &[u32], entries: &[Entry]) -> bool
-    ensures { IsTrue result ↔ Replays events.now base.now entries.now }
+pub(crate) fn replay_is_right(events: &Events, base: &[u32], entries: &[Entry]) -> bool
+    ensures { IsTrue result ↔ Replays events.now.items base.now entries.now }
 {
     let mut fronts = Fronts { base: 0, entry: 0 };
     for i in 0..entries.len() {

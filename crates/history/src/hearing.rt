@@ -1,7 +1,7 @@
 //! What clients are told at a Ready, by a pass for each client. Its last call in the order is known from Ready to
 //! Ready.
 
-ghost use Rattle.std.specs.Prelude.{◌≡◌, ◌<◌, ◌≤◌, ◌+◌, ◌↔◌, ◌⊎◌, Some, length, IsTrue, IfSome, IfNone, All};
+ghost use Rattle.std.specs.Prelude.{◌≡◌, ◌<◌, ◌≤◌, ◌+◌, ◌^◌, ◌↔◌, ◌⊎◌, Some, length, IsTrue, IfSome, IfNone, All};
 ghost use Rattle.std.specs.Prelude.{EachIndex, slice_get};
 ghost use Rattle.events.specs.Telling.{IsToldSome, IsToldBase, TellsAt};
 ghost use Rattle.history.specs.Hearing.{IsOutcomeTaken, IsRowTaken, SaysTaken, SaysNotTaken, IsToldNotTaken};
@@ -15,7 +15,7 @@ ghost use Rattle.events.specs.Orders.{IsNew};
 
 use crate::places::begins_at;
 use crate::telling::{Listener, is_told, is_told_of};
-use events::{Entry, Event};
+use events::{Entry, Event, Events};
 use words::{Client, Kind, Outcome, Reply, Reports, Row, Told};
 
 /// Whether the outcome is that the call took effect with this reply.
@@ -70,10 +70,10 @@ fn says_not_taken(kind: Kind, number: u64, told: Told) -> bool
 
 /// Whether a call of the client begins at `p`, and what is told says that it took no effect.
 fn is_told_not_taken(who: &Listener, told: Told, p: usize) -> bool
-    requires { p < length who.now.events.now }
-    ensures { IsTrue result ↔ IsToldNotTaken who.now.kind who.now.events.now who.now.client told p }
+    requires { p < length who.now.events.now.items }
+    ensures { IsTrue result ↔ IsToldNotTaken who.now.kind who.now.events.now.items who.now.client told p }
 {
-    match who.events[p] {
+    match who.events.at(p) {
         Event::Call {
             client,
             number,
@@ -95,8 +95,8 @@ fn is_told_not_taken_in(
     to: usize,
     found: &mut usize,
 ) -> bool
-    requires { to ≤ length who.now.events.now }
-    ensures { IsTrue result ↔ IsToldNotTakenIn who.now.kind who.now.events.now who.now.client told from to }
+    requires { to ≤ length who.now.events.now.items }
+    ensures { IsTrue result ↔ IsToldNotTakenIn who.now.kind who.now.events.now.items who.now.client told from to }
 {
     for p in from..to {
         if is_told_not_taken(who, told, p) {
@@ -110,11 +110,11 @@ fn is_told_not_taken_in(
 /// Whether what is told says what became of the client's call of the entry at `i`.
 fn says_last(who: &Listener, told: Told, i: usize) -> bool
     requires within { i < length who.now.entries.now }
-    requires calls { All (λ entry. entry.place < length who.now.events.now) who.now.entries.now }
-    ensures { IsTrue result ↔ SaysLast who.now.kind who.now.events.now who.now.entries.now who.now.client told i }
+    requires calls { All (λ entry. entry.place < length who.now.events.now.items) who.now.entries.now }
+    ensures { IsTrue result ↔ SaysLast who.now.kind who.now.events.now.items who.now.entries.now who.now.client told i }
 {
     let entry = who.entries[i];
-    match who.events[entry.place] {
+    match who.events.at(entry.place) {
         Event::Call {
             client,
             number,
@@ -144,8 +144,9 @@ struct Progress {
 /// Whether what is told says what became of the client's last call in the order, if there is one.
 fn says_of_last(who: &Listener, told: Told, last: Option<usize>) -> bool
     requires within { IfSome last (λ i. i < length who.now.entries.now) }
-    requires calls { All (λ entry. entry.place < length who.now.events.now) who.now.entries.now }
-    ensures { IsTrue result ↔ IsSaidLast who.now.kind who.now.events.now who.now.entries.now who.now.client told last }
+    requires calls { All (λ entry. entry.place < length who.now.events.now.items) who.now.entries.now }
+    ensures { IsTrue result ↔
+        IsSaidLast who.now.kind who.now.events.now.items who.now.entries.now who.now.client told last }
 {
     match last {
         Some(i) => says_last(who, told, i),
@@ -156,8 +157,8 @@ fn says_of_last(who: &Listener, told: Told, last: Option<usize>) -> bool
 /// Whether it says of a later call that it took no effect. Mostly that is the client's last call, or the one that was
 /// `found` at an earlier Ready.
 fn says_of_later(who: &Listener, told: Told, from: usize, to: usize, found: &mut usize) -> bool
-    requires { to ≤ length who.now.events.now }
-    ensures { IsTrue result ↔ IsToldNotTakenIn who.now.kind who.now.events.now who.now.client told from to }
+    requires { to ≤ length who.now.events.now.items }
+    ensures { IsTrue result ↔ IsToldNotTakenIn who.now.kind who.now.events.now.items who.now.client told from to }
 {
     if from >= to {
         return false;
@@ -184,16 +185,16 @@ fn tells_it_rightly(
     found: &mut usize,
 ) -> bool
     requires within { IfSome progress.last (λ i. i < length who.now.entries.now) }
-    requires calls { All (λ entry. entry.place < length who.now.events.now) who.now.entries.now }
+    requires calls { All (λ entry. entry.place < length who.now.events.now.items) who.now.entries.now }
     requires once { EachIndex who.now.entries.now (λ i. IsNew who.now.entries.now i) }
-    requires ready { q ≤ length who.now.events.now }
-    requires progress { IsProgress who.now.kind who.now.events.now who.now.entries.now who.now.client q
+    requires ready { q ≤ length who.now.events.now.items }
+    requires progress { IsProgress who.now.kind who.now.events.now.items who.now.entries.now who.now.client q
         progress.from progress.last }
     requires few { progress.calls ≤ q }
-    requires later { HasNoCall who.now.kind who.now.events.now who.now.client progress.calls q }
+    requires later { HasNoCall who.now.kind who.now.events.now.items who.now.client progress.calls q }
     ensures { IsTrue result ↔
-        IsToldSome who.now.kind who.now.events.now who.now.entries.now who.now.client q told
-        ⊎ IsToldBase who.now.kind base.now who.now.events.now who.now.entries.now who.now.client q told }
+        IsToldSome who.now.kind who.now.events.now.items who.now.entries.now who.now.client q told
+        ⊎ IsToldBase who.now.kind base.now who.now.events.now.items who.now.entries.now who.now.client q told }
 {
     if says_of_last(who, told, progress.last) {
         return true;
@@ -210,8 +211,8 @@ fn tells_it_rightly(
 /// Whether the entry at `i` is of a call of the client that begins at `q` or later.
 fn is_later(who: &Listener, q: usize, i: usize) -> bool
     requires within { i < length who.now.entries.now }
-    requires calls { All (λ entry. entry.place < length who.now.events.now) who.now.entries.now }
-    ensures { IsTrue result ↔ IsLaterEntry who.now.events.now who.now.entries.now who.now.client q i }
+    requires calls { All (λ entry. entry.place < length who.now.events.now.items) who.now.entries.now }
+    ensures { IsTrue result ↔ IsLaterEntry who.now.events.now.items who.now.entries.now who.now.client q i }
 {
     let place = who.entries[i].place;
     place >= q && begins_at(who.events, who.client, place)
@@ -219,10 +220,11 @@ fn is_later(who: &Listener, q: usize, i: usize) -> bool
 
 /// Whether a call of the client that it may be told of begins at `p`.
 fn begins_told(who: &Listener, p: usize) -> bool
-    requires { p < length who.now.events.now }
-    ensures { IsTrue result ↔ BeginsSomeTold who.now.kind who.now.events.now who.now.client p }
+    requires { p < length who.now.events.now.items }
+    ensures begins { IsTrue result ↔ BeginsSomeTold who.now.kind who.now.events.now.items who.now.client p }
+    ensures few { p + 1 < 2 ^ 64 }
 {
-    match who.events[p] {
+    match who.events.at(p) {
         Event::Call { client, call, .. } => client == who.client && is_told_of(who.kind, call),
         _ => false,
     }
@@ -231,12 +233,12 @@ fn begins_told(who: &Listener, p: usize) -> bool
 /// What is known after the entry at `i`, which begins before the Ready if it is the client's.
 fn after_entry(who: &Listener, q: usize, i: usize, progress: Progress) -> Progress
     requires within { i < length who.now.entries.now }
-    requires calls { All (λ entry. entry.place < length who.now.events.now) who.now.entries.now }
-    requires ascends { Ascends who.now.events.now who.now.entries.now who.now.client }
-    requires earlier { IsLaterEntry who.now.events.now who.now.entries.now who.now.client q i → ⊥ }
-    requires so_far { IsProgressTo who.now.kind who.now.events.now who.now.entries.now who.now.client q
+    requires calls { All (λ entry. entry.place < length who.now.events.now.items) who.now.entries.now }
+    requires ascends { Ascends who.now.events.now.items who.now.entries.now who.now.client }
+    requires earlier { IsLaterEntry who.now.events.now.items who.now.entries.now who.now.client q i → ⊥ }
+    requires so_far { IsProgressTo who.now.kind who.now.events.now.items who.now.entries.now who.now.client q
         progress.from progress.last i }
-    ensures so_far { IsProgressTo who.now.kind who.now.events.now who.now.entries.now who.now.client q
+    ensures so_far { IsProgressTo who.now.kind who.now.events.now.items who.now.entries.now who.now.client q
         result.from result.last (i + 1) }
     ensures calls { result.calls ≡ progress.calls }
 {
@@ -253,15 +255,15 @@ fn after_entry(who: &Listener, q: usize, i: usize, progress: Progress) -> Progre
 
 /// What is known before the Ready at `q`: the entries are looked at up to the client's first that begins later.
 fn before_ready(who: &Listener, q: usize, progress: Progress) -> Progress
-    requires calls { All (λ entry. entry.place < length who.now.events.now) who.now.entries.now }
-    requires ascends { Ascends who.now.events.now who.now.entries.now who.now.client }
+    requires calls { All (λ entry. entry.place < length who.now.events.now.items) who.now.entries.now }
+    requires ascends { Ascends who.now.events.now.items who.now.entries.now who.now.client }
     requires entries { progress.entries ≤ length who.now.entries.now }
-    requires so_far { IsProgressTo who.now.kind who.now.events.now who.now.entries.now who.now.client q
+    requires so_far { IsProgressTo who.now.kind who.now.events.now.items who.now.entries.now who.now.client q
         progress.from progress.last progress.entries }
     ensures entries { result.entries ≤ length who.now.entries.now }
-    ensures so_far { IsProgressTo who.now.kind who.now.events.now who.now.entries.now who.now.client q
+    ensures so_far { IsProgressTo who.now.kind who.now.events.now.items who.now.entries.now who.now.client q
         result.from result.last result.entries }
-    ensures progress { IsProgress who.now.kind who.now.events.now who.now.entries.now who.now.client q
+    ensures progress { IsProgress who.now.kind who.now.events.now.items who.now.entries.now who.now.client q
         result.from result.last }
     ensures calls { result.calls ≡ progress.calls }
 {
@@ -280,11 +282,11 @@ fn before_ready(who: &Listener, q: usize, progress: Progress) -> Progress
 
 /// The place after the client's last call before the place after `q`, where it is known of `q`.
 fn calls_after(who: &Listener, q: usize, calls: usize) -> usize
-    requires within { q < length who.now.events.now }
+    requires within { q < length who.now.events.now.items }
     requires few { calls ≤ q }
-    requires later { HasNoCall who.now.kind who.now.events.now who.now.client calls q }
+    requires later { HasNoCall who.now.kind who.now.events.now.items who.now.client calls q }
     ensures few { result ≤ q + 1 }
-    ensures later { HasNoCall who.now.kind who.now.events.now who.now.client result (q + 1) }
+    ensures later { HasNoCall who.now.kind who.now.events.now.items who.now.client result (q + 1) }
 {
     if begins_told(who, q) { q + 1 } else { calls }
 }
@@ -306,18 +308,18 @@ fn is_told_at(
     found: &mut usize,
 ) -> bool
     requires within { IfSome progress.last (λ i. i < length who.now.entries.now) }
-    requires calls { All (λ entry. entry.place < length who.now.events.now) who.now.entries.now }
+    requires calls { All (λ entry. entry.place < length who.now.events.now.items) who.now.entries.now }
     requires once { EachIndex who.now.entries.now (λ i. IsNew who.now.entries.now i) }
-    requires ready { q < length who.now.events.now }
-    requires progress { IsProgress who.now.kind who.now.events.now who.now.entries.now who.now.client q
+    requires ready { q < length who.now.events.now.items }
+    requires progress { IsProgress who.now.kind who.now.events.now.items who.now.entries.now who.now.client q
         progress.from progress.last }
     requires few { progress.calls ≤ q }
-    requires later { HasNoCall who.now.kind who.now.events.now who.now.client progress.calls q }
+    requires later { HasNoCall who.now.kind who.now.events.now.items who.now.client progress.calls q }
     ensures told { IsTrue result ↔
-        IsToldAt who.now.kind base.now who.now.events.now who.now.entries.now who.now.client q }
-    ensures sixteen { TellsSixteen who.now.events.now q }
+        IsToldAt who.now.kind base.now who.now.events.now.items who.now.entries.now who.now.client q }
+    ensures sixteen { TellsSixteen who.now.events.now.items q }
 {
-    match who.events[q] {
+    match who.events.at(q) {
         Event::Ready { told } => match report_to(&told, who.client) {
             Some(told) => tells_it_rightly(who, base, q, told, progress, found),
             None => true,
@@ -328,12 +330,13 @@ fn is_told_at(
 
 /// Whether each Ready tells the client rightly.
 fn is_told_of_all(who: &Listener, base: &Reports) -> bool
-    requires calls { All (λ entry. entry.place < length who.now.events.now) who.now.entries.now }
+    requires calls { All (λ entry. entry.place < length who.now.events.now.items) who.now.entries.now }
     requires once { EachIndex who.now.entries.now (λ i. IsNew who.now.entries.now i) }
-    requires ascends { Ascends who.now.events.now who.now.entries.now who.now.client }
+    requires ascends { Ascends who.now.events.now.items who.now.entries.now who.now.client }
     ensures told { IsTrue result ↔
-        IsToldOfAll who.now.kind base.now who.now.events.now who.now.entries.now who.now.client }
-    ensures sixteen { IsTrue result → EachIndex who.now.events.now (λ q. TellsSixteen who.now.events.now q) }
+        IsToldOfAll who.now.kind base.now who.now.events.now.items who.now.entries.now who.now.client }
+    ensures sixteen { IsTrue result
+        → EachIndex who.now.events.now.items (λ q. TellsSixteen who.now.events.now.items q) }
 {
     let mut progress = Progress {
         last: None,
@@ -353,13 +356,14 @@ fn is_told_of_all(who: &Listener, base: &Reports) -> bool
 }
 
 /// Whether each Ready tells each client rightly.
-pub(crate) fn all_told(kind: Kind, base: &Reports, events: &[Event], entries: &[Entry]) -> bool
-    requires calls { All (λ entry. entry.place < length events.now) entries.now }
-    requires history { IsHistory events.now }
+pub(crate) fn all_told(kind: Kind, base: &Reports, events: &Events, entries: &[Entry]) -> bool
+    requires calls { All (λ entry. entry.place < length events.now.items) entries.now }
+    requires history { IsHistory events.now.items }
     requires once { EachIndex entries.now (λ i. IsNew entries.now i) }
-    requires precedence { KeepsPrecedence events.now entries.now }
-    ensures told { IsTrue result ↔ EachIndex events.now (λ q. TellsAt kind base.now events.now entries.now q) }
-    ensures sixteen { IsTrue result → EachIndex events.now (λ q. TellsSixteen events.now q) }
+    requires precedence { KeepsPrecedence events.now.items entries.now }
+    ensures told { IsTrue result ↔
+        EachIndex events.now.items (λ q. TellsAt kind base.now events.now.items entries.now q) }
+    ensures sixteen { IsTrue result → EachIndex events.now.items (λ q. TellsSixteen events.now.items q) }
 {
     for t in 0..16u8 {
         let who = Listener {

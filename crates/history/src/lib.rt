@@ -17,7 +17,7 @@ mod replaying;
 mod telling;
 
 pub use checker::{check, check_content};
-pub use events::{Effect, Entry, Event, History, Order, Sequence, keep_settled, order};
+pub use events::{Effect, Entry, Event, Events, History, Order, Sequence, keep_settled, order};
 pub use laws::{calls_in_turn_are_served, calls_in_turn_have_one_order};
 pub use plain::check_plainly;
 pub use replaying::replay;

@@ -9,22 +9,22 @@ ghost use Rattle.events.specs.Orders.{IsNew};
 ghost use Rattle.history.specs.Sweeps.{Ascends, AscendsTo};
 
 use crate::places::begins_at;
-use events::{Entry, Event};
+use events::{Entry, Events};
 use words::Client;
 
 /// Where the client's next call in the order may begin, after the entry at `i`; nothing where that stands too low.
 fn next_after(
-    events: &[Event],
+    events: &Events,
     entries: &[Entry],
     client: Client,
     i: usize,
     next: usize,
 ) -> Option<usize>
     requires within { i < length entries.now }
-    requires calls { All (λ entry. entry.place < length events.now) entries.now }
-    requires so_far { AscendsTo events.now entries.now client i next }
-    ensures some { IfSome result (λ after. AscendsTo events.now entries.now client (i + 1) after) }
-    ensures none { IfNone result (Ascends events.now entries.now client → ⊥) }
+    requires calls { All (λ entry. entry.place < length events.now.items) entries.now }
+    requires so_far { AscendsTo events.now.items entries.now client i next }
+    ensures some { IfSome result (λ after. AscendsTo events.now.items entries.now client (i + 1) after) }
+    ensures none { IfNone result (Ascends events.now.items entries.now client → ⊥) }
 {
     let place = entries[i].place;
     if !begins_at(events, client, place) {
@@ -37,9 +37,9 @@ fn next_after(
 }
 
 /// Whether the client's calls stand in the order in ascending places.
-fn ascends(events: &[Event], entries: &[Entry], client: Client) -> bool
-    requires { All (λ entry. entry.place < length events.now) entries.now }
-    ensures { IsTrue result ↔ Ascends events.now entries.now client }
+fn ascends(events: &Events, entries: &[Entry], client: Client) -> bool
+    requires { All (λ entry. entry.place < length events.now.items) entries.now }
+    ensures { IsTrue result ↔ Ascends events.now.items entries.now client }
 {
     let mut next = 0;
     for i in 0..entries.len() {
@@ -53,11 +53,11 @@ fn ascends(events: &[Event], entries: &[Entry], client: Client) -> bool
 
 /// Whether no call is named twice, in the order of a history that may arise which keeps precedence: then each client's
 /// calls stand in ascending places.
-pub(crate) fn names_once(events: &[Event], entries: &[Entry]) -> bool
-    requires calls { All (λ entry. entry.place < length events.now) entries.now }
-    requires names { All (λ entry. IsSome (call_at events.now entry.place)) entries.now }
-    requires history { IsHistory events.now }
-    requires precedence { KeepsPrecedence events.now entries.now }
+pub(crate) fn names_once(events: &Events, entries: &[Entry]) -> bool
+    requires calls { All (λ entry. entry.place < length events.now.items) entries.now }
+    requires names { All (λ entry. IsSome (call_at events.now.items entry.place)) entries.now }
+    requires history { IsHistory events.now.items }
+    requires precedence { KeepsPrecedence events.now.items entries.now }
     ensures { IsTrue result ↔ EachIndex entries.now (λ i. IsNew entries.now i) }
 {
     for t in 0..16u8 {

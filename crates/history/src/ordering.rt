@@ -5,7 +5,7 @@ ghost use Rattle.events.specs.Replay.{call_at};
 ghost use Rattle.events.specs.Orders.{IsTakenAs, InOrder, IsNew, IsOrder};
 
 use crate::replaying::named_call;
-use events::{Entry, Event};
+use events::{Entry, Events};
 use words::Reply;
 
 /// Whether the call at `p` is in the order, with this reply.
@@ -23,8 +23,8 @@ pub(crate) fn in_order(entries: &[Entry], p: usize) -> bool
 }
 
 /// Whether each entry names a call.
-pub(crate) fn names_calls(events: &[Event], entries: &[Entry]) -> bool
-    ensures { IsTrue result ↔ All (λ entry. IsSome (call_at events.now entry.place)) entries.now }
+pub(crate) fn names_calls(events: &Events, entries: &[Entry]) -> bool
+    ensures { IsTrue result ↔ All (λ entry. IsSome (call_at events.now.items entry.place)) entries.now }
 {
     entries
         .iter()
@@ -52,8 +52,8 @@ fn all_new(entries: &[Entry]) -> bool
 }
 
 /// Whether the entries name calls, none twice.
-pub(crate) fn is_order(events: &[Event], entries: &[Entry]) -> bool
-    ensures { IsTrue result ↔ IsOrder events.now entries.now }
+pub(crate) fn is_order(events: &Events, entries: &[Entry]) -> bool
+    ensures { IsTrue result ↔ IsOrder events.now.items entries.now }
 {
     names_calls(events, entries) && all_new(entries)
 }

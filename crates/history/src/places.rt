@@ -1,30 +1,31 @@
 //! What stands at a place of a history.
 
-ghost use Rattle.std.specs.Prelude.{◌≡◌, ◌<◌, ◌≤◌, ◌↔◌, ℕ, Some, length, IsTrue, slice_get, All};
+ghost use Rattle.std.specs.Prelude.{◌≡◌, ◌+◌, ◌^◌, ◌<◌, ◌≤◌, ◌↔◌, ℕ, Some, length, IsTrue, slice_get, All};
 ghost use Rattle.events.specs.declared.event.Event.{Event};
 ghost use Rattle.events.specs.History.{BeginsAt, EndsAt, Precedes, IsOpenFrom, IsUnderWay, IsDown, MayStand};
 ghost use Rattle.events.specs.History.{IsDurable, IsNumbered, IsUnnumbered, IsHistory};
 
-use events::Event;
+use events::{Event, Events};
 use words::Client;
 
 /// Whether a call of the client begins at `p`.
-pub(crate) fn begins_at(events: &[Event], client: Client, p: usize) -> bool
-    requires { p < length events.now }
-    ensures { IsTrue result ↔ BeginsAt events.now client p }
+pub(crate) fn begins_at(events: &Events, client: Client, p: usize) -> bool
+    requires { p < length events.now.items }
+    ensures begins { IsTrue result ↔ BeginsAt events.now.items client p }
+    ensures few { p + 1 < 2 ^ 64 }
 {
-    match events[p] {
+    match events.at(p) {
         Event::Call { client: other, .. } => other == client,
         _ => false,
     }
 }
 
 /// Whether what stands at `p` ends a call of the client.
-pub(crate) fn ends_at(events: &[Event], client: Client, p: usize) -> bool
-    requires { p < length events.now }
-    ensures { IsTrue result ↔ EndsAt events.now client p }
+pub(crate) fn ends_at(events: &Events, client: Client, p: usize) -> bool
+    requires { p < length events.now.items }
+    ensures { IsTrue result ↔ EndsAt events.now.items client p }
 {
-    match events[p] {
+    match events.at(p) {
         Event::Return { client: other, .. } => other == client,
         Event::Crash => true,
         _ => false,
@@ -32,12 +33,12 @@ pub(crate) fn ends_at(events: &[Event], client: Client, p: usize) -> bool
 }
 
 /// Whether the call at `a` precedes what stands at `b`.
-pub(crate) fn precedes(events: &[Event], a: usize, b: usize) -> bool
-    requires first { a < length events.now }
-    requires second { b < length events.now }
-    ensures { IsTrue result ↔ Precedes events.now a b }
+pub(crate) fn precedes(events: &Events, a: usize, b: usize) -> bool
+    requires first { a < length events.now.items }
+    requires second { b < length events.now.items }
+    ensures { IsTrue result ↔ Precedes events.now.items a b }
 {
-    let Event::Call { client, .. } = events[a] else {
+    let Event::Call { client, .. } = events.at(a) else {
         return false;
     };
     for k in a + 1..b {
@@ -49,10 +50,10 @@ pub(crate) fn precedes(events: &[Event], a: usize, b: usize) -> bool
 }
 
 /// Whether the client has a call that begins at `q` and has no end before `p`.
-fn is_open_from(events: &[Event], client: Client, p: usize, q: usize) -> bool
+fn is_open_from(events: &Events, client: Client, p: usize, q: usize) -> bool
     requires first { q < p }
-    requires second { p ≤ length events.now }
-    ensures { IsTrue result ↔ IsOpenFrom events.now client p q }
+    requires second { p ≤ length events.now.items }
+    ensures { IsTrue result ↔ IsOpenFrom events.now.items client p q }
 {
     if !begins_at(events, client, q) {
         return false;
@@ -66,9 +67,9 @@ fn is_open_from(events: &[Event], client: Client, p: usize, q: usize) -> bool
 }
 
 /// Whether the client has a call without an end before `p`.
-fn is_under_way(events: &[Event], client: Client, p: usize) -> bool
-    requires { p ≤ length events.now }
-    ensures { IsTrue result ↔ IsUnderWay events.now client p }
+fn is_under_way(events: &Events, client: Client, p: usize) -> bool
+    requires { p ≤ length events.now.items }
+    ensures { IsTrue result ↔ IsUnderWay events.now.items client p }
 {
     for q in 0..p {
         if is_open_from(events, client, p, q) {
@@ -79,12 +80,12 @@ fn is_under_way(events: &[Event], client: Client, p: usize) -> bool
 }
 
 /// Whether `p` lies between a Crash and the next Ready.
-fn is_down(events: &[Event], p: usize) -> bool
-    requires { p ≤ length events.now }
-    ensures { IsTrue result ↔ IsDown events.now p }
+fn is_down(events: &Events, p: usize) -> bool
+    requires { p ≤ length events.now.items }
+    ensures { IsTrue result ↔ IsDown events.now.items p }
 {
     for k in (0..p).rev() {
-        match events[k] {
+        match events.at(k) {
             Event::Crash => return true,
             Event::Ready { .. } => return false,
             _ => {}
@@ -94,9 +95,9 @@ fn is_down(events: &[Event], p: usize) -> bool
 }
 
 /// Whether the event may stand at `p`.
-fn may_stand(events: &[Event], p: usize, event: &Event) -> bool
-    requires { p ≤ length events.now }
-    ensures { IsTrue result ↔ MayStand events.now p event.now }
+fn may_stand(events: &Events, p: usize, event: &Event) -> bool
+    requires { p ≤ length events.now.items }
+    ensures { IsTrue result ↔ MayStand events.now.items p event.now }
 {
     match event {
         Event::Call { client, .. } => {
@@ -108,12 +109,12 @@ fn may_stand(events: &[Event], p: usize, event: &Event) -> bool
 }
 
 /// Whether each event may stand where it stands.
-fn may_all_stand(events: &[Event]) -> bool
+fn may_all_stand(events: &Events) -> bool
     ensures { IsTrue result ↔
-        ((p : ℕ) (event : Event) → slice_get events.now p ≡ Some event → MayStand events.now p event) }
+        ((p : ℕ) (event : Event) → slice_get events.now.items p ≡ Some event → MayStand events.now.items p event) }
 {
-    for (p, event) in events.iter().enumerate() {
-        if !may_stand(events, p, event) {
+    for p in 0..events.len() {
+        if !may_stand(events, p, &events.at(p)) {
             return false;
         }
     }
@@ -141,29 +142,39 @@ fn is_numbered(event: &Event) -> bool
 }
 
 /// Whether some Call has the number 0.
-pub(crate) fn is_durable(events: &[Event]) -> bool
-    ensures { IsTrue result ↔ IsDurable events.now }
+pub(crate) fn is_durable(events: &Events) -> bool
+    ensures { IsTrue result ↔ IsDurable events.now.items }
 {
-    events.iter().any(is_unnumbered)
+    for p in 0..events.len() {
+        if is_unnumbered(&events.at(p)) {
+            return true;
+        }
+    }
+    false
 }
 
 /// Whether no Call has another number than 0.
-fn none_numbered(events: &[Event]) -> bool
-    ensures { IsTrue result ↔ All (λ event. ¬ (IsNumbered event)) events.now }
+fn none_numbered(events: &Events) -> bool
+    ensures { IsTrue result ↔ All (λ event. ¬ (IsNumbered event)) events.now.items }
 {
-    events.iter().all(|event| !is_numbered(event))
+    for p in 0..events.len() {
+        if is_numbered(&events.at(p)) {
+            return false;
+        }
+    }
+    true
 }
 
 /// Whether numbers are 0 in every Call or in none.
-pub(crate) fn has_one_kind(events: &[Event]) -> bool
-    ensures { IsTrue result ↔ (IsDurable events.now → All (λ event. ¬ (IsNumbered event)) events.now) }
+pub(crate) fn has_one_kind(events: &Events) -> bool
+    ensures { IsTrue result ↔ (IsDurable events.now.items → All (λ event. ¬ (IsNumbered event)) events.now.items) }
 {
     !is_durable(events) || none_numbered(events)
 }
 
 /// Whether the history may arise.
-pub(crate) fn is_history(events: &[Event]) -> bool
-    ensures { IsTrue result ↔ IsHistory events.now }
+pub(crate) fn is_history(events: &Events) -> bool
+    ensures { IsTrue result ↔ IsHistory events.now.items }
 {
     may_all_stand(events) && has_one_kind(events)
 }

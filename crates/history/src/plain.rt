@@ -8,12 +8,12 @@ use crate::ordering::is_order;
 use crate::places::{is_durable, is_history};
 use crate::replaying::replays;
 use crate::telling::{tells_at_each_ready, tells_interrupted};
-use events::{Entry, Event, History, Order};
+use events::{Entry, Events, History, Order};
 use words::{Kind, Reports};
 
 /// Whether the order explains the history.
-fn explains(base: &[u32], told: &Reports, events: &[Event], entries: &[Entry]) -> bool
-    ensures { IsTrue result ↔ Explains base.now told.now events.now entries.now }
+fn explains(base: &[u32], told: &Reports, events: &Events, entries: &[Entry]) -> bool
+    ensures { IsTrue result ↔ Explains base.now told.now events.now.items entries.now }
 {
     if !is_order(events, entries) {
         return false;
@@ -41,11 +41,11 @@ fn explains(base: &[u32], told: &Reports, events: &[Event], entries: &[Entry]) -
 pub fn check_plainly(history: &History, order: &Order) -> bool
     ensures { IsTrue result ↔ IsExplained history.now order.now }
 {
-    is_history(history.events.as_slice())
+    is_history(&history.events)
         && explains(
             history.base.as_slice(),
             &history.told,
-            history.events.as_slice(),
+            &history.events,
             order.entries.as_slice(),
         )
 }

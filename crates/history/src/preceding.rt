@@ -6,7 +6,7 @@ ghost use Rattle.history.specs.Plainly.{IsNotAfter};
 ghost use Rattle.history.specs.Sweeps.{IsGreatest};
 
 use crate::places::precedes;
-use events::{Entry, Event};
+use events::{Entry, Events};
 
 /// The greater of two numbers.
 fn greater(a: usize, b: usize) -> usize
@@ -19,19 +19,19 @@ fn greater(a: usize, b: usize) -> usize
 
 /// Whether the call of the entry at `i` precedes none of the entries up to it. As it has no end before the greatest
 /// of their places, the search for one stays within the call.
-fn precedes_none(events: &[Event], entries: &[Entry], i: usize, greatest: usize) -> bool
+fn precedes_none(events: &Events, entries: &[Entry], i: usize, greatest: usize) -> bool
     requires within { i < length entries.now }
-    requires calls { All (λ entry. entry.place < length events.now) entries.now }
+    requires calls { All (λ entry. entry.place < length events.now.items) entries.now }
     requires greatest { IsGreatest entries.now (i + 1) greatest }
-    ensures { IsTrue result ↔ ((j : ℕ) → j ≤ i → IsNotAfter events.now entries.now i j) }
+    ensures { IsTrue result ↔ ((j : ℕ) → j ≤ i → IsNotAfter events.now.items entries.now i j) }
 {
     !precedes(events, entries[i].place, greatest)
 }
 
 /// Whether calls stand in the order before those that they precede.
-pub(crate) fn precedence_is_kept(events: &[Event], entries: &[Entry]) -> bool
-    requires { All (λ entry. entry.place < length events.now) entries.now }
-    ensures { IsTrue result ↔ KeepsPrecedence events.now entries.now }
+pub(crate) fn precedence_is_kept(events: &Events, entries: &[Entry]) -> bool
+    requires { All (λ entry. entry.place < length events.now.items) entries.now }
+    ensures { IsTrue result ↔ KeepsPrecedence events.now.items entries.now }
 {
     let mut greatest = 0;
     for i in 0..entries.len() {

@@ -6,16 +6,16 @@ ghost use Rattle.words.specs.PlainQueue.{reply_of, served};
 ghost use Rattle.history.specs.Counting.{values_of_order, dequeue_count};
 ghost use Rattle.events.specs.Replay.{call_at, queue_after_call, queue_after, IsServed, Replays, IsFirstWrong};
 
-use events::{Entry, Event, History, Order};
+use events::{Entry, Event, Events, History, Order};
 use std::alloc::{AllocError, Global};
 use words::{Call, Refusal, Reply};
 
 /// The call that begins at `p`, if one does.
-pub(crate) fn named_call(events: &[Event], p: usize) -> Option<Call>
-    ensures { result ≡ call_at events.now p }
+pub(crate) fn named_call(events: &Events, p: usize) -> Option<Call>
+    ensures { result ≡ call_at events.now.items p }
 {
     match events.get(p) {
-        Some(Event::Call { call, .. }) => Some(*call),
+        Some(Event::Call { call, .. }) => Some(call),
         _ => None,
     }
 }
@@ -41,10 +41,10 @@ fn answer(queue: &mut Vec<u32>, call: Call) -> Result<Reply, AllocError>
 }
 
 /// Serves the call of the entry, and says whether the entry names one and has the queue's reply.
-fn is_served(queue: &mut Vec<u32>, events: &[Event], entry: &Entry) -> Result<bool, AllocError>
-    ensures served { IfOk result (λ yes. IsTrue yes ↔ IsServed events.now queue.old.items entry.now) }
+fn is_served(queue: &mut Vec<u32>, events: &Events, entry: &Entry) -> Result<bool, AllocError>
+    ensures served { IfOk result (λ yes. IsTrue yes ↔ IsServed events.now.items queue.old.items entry.now) }
     ensures left { IfOk result (λ yes. IsTrue yes → queue.new.items ≡
-        queue_after_call queue.old.items (call_at events.now entry.now.place)) }
+        queue_after_call queue.old.items (call_at events.now.items entry.now.place)) }
 {
     let Some(call) = named_call(events, entry.place) else {
         return Ok(false);
@@ -56,13 +56,14 @@ fn is_served(queue: &mut Vec<u32>, events: &[Event], entry: &Entry) -> Result<bo
 /// What the plain queue leaves from the base, or the place of the first wrong entry.
 fn replay_from(
     alloc: Global,
-    events: &[Event],
+    events: &Events,
     base: &[u32],
     entries: &[Entry],
 ) -> Result<Result<Vec<u32>, usize>, AllocError>
     ensures { IfOk result (λ answer. MatchResult answer
-        (λ left. Replays events.now base.now entries.now × (left.items ≡ queue_after events.now base.now entries.now))
-        (λ i. IsFirstWrong events.now base.now entries.now i)) }
+        (λ left. Replays events.now.items base.now entries.now
+        × (left.items ≡ queue_after events.now.items base.now entries.now))
+        (λ i. IsFirstWrong events.now.items base.now entries.now i)) }
 {
     let mut queue = Vec::from_slice(alloc, base)?;
     for (i, entry) in entries.iter().enumerate() {
@@ -86,10 +87,9 @@ pub fn replay(
         (λ i. IsFirstWrong history.now.events.items history.now.base.items order.now.entries.items i)) }
     ensures errors { IfErr result (λ e. e ≡ Refusal.NoMemory) }
 {
-    let events = history.events.as_slice();
     match replay_from(
         alloc,
-        events,
+        &history.events,
         history.base.as_slice(),
         order.entries.as_slice(),
     ) {
@@ -110,8 +110,8 @@ pub(crate) fn count_of_reply(reply: Reply) -> usize
 }
 
 /// The n-th of the values that were ever in the queue.
-fn value_at(events: &[Event], base: &[u32], before: &[Entry], n: usize) -> Option<u32>
-    ensures { result ≡ slice_get (base.now ++ values_of_order events.now before.now) n }
+fn value_at(events: &Events, base: &[u32], before: &[Entry], n: usize) -> Option<u32>
+    ensures { result ≡ slice_get (base.now ++ values_of_order events.now.items before.now) n }
 {
     if n < base.len() {
         return Some(base[n]);
@@ -129,10 +129,10 @@ fn value_at(events: &[Event], base: &[u32], before: &[Entry], n: usize) -> Optio
 }
 
 /// The queue's reply to a call, where `taken` values were taken out before.
-fn reply_after(events: &[Event], base: &[u32], before: &[Entry], taken: usize, call: Call) -> Reply
-    requires { queue_after events.now base.now before.now ≡
-        drop taken (base.now ++ values_of_order events.now before.now) }
-    ensures { result ≡ reply_of (queue_after events.now base.now before.now) call }
+fn reply_after(events: &Events, base: &[u32], before: &[Entry], taken: usize, call: Call) -> Reply
+    requires { queue_after events.now.items base.now before.now ≡
+        drop taken (base.now ++ values_of_order events.now.items before.now) }
+    ensures { result ≡ reply_of (queue_after events.now.items base.now before.now) call }
 {
     match call {
         Call::Enq(_) => Reply::Done,
@@ -145,15 +145,15 @@ fn reply_after(events: &[Event], base: &[u32], before: &[Entry], taken: usize, c
 
 /// Whether the entry has the queue's reply, where `taken` values were taken out before.
 fn is_served_after(
-    events: &[Event],
+    events: &Events,
     base: &[u32],
     before: &[Entry],
     taken: usize,
     entry: &Entry,
 ) -> bool
-    requires { queue_after events.now base.now before.now ≡
-        drop taken (base.now ++ values_of_order events.now before.now) }
-    ensures { IsTrue result ↔ IsServed events.now (queue_after events.now base.now before.now) entry.now }
+    requires { queue_after events.now.items base.now before.now ≡
+        drop taken (base.now ++ values_of_order events.now.items before.now) }
+    ensures { IsTrue result ↔ IsServed events.now.items (queue_after events.now.items base.now before.now) entry.now }
 {
     match named_call(events, entry.place) {
         None => false,
@@ -163,8 +163,8 @@ fn is_served_after(
 
 /// Whether the replay gives every reply. It takes no memory: what the queue holds is what was ever put into it,
 /// without as many values as were taken out.
-pub(crate) fn replays(events: &[Event], base: &[u32], entries: &[Entry]) -> bool
-    ensures { IsTrue result ↔ Replays events.now base.now entries.now }
+pub(crate) fn replays(events: &Events, base: &[u32], entries: &[Entry]) -> bool
+    ensures { IsTrue result ↔ Replays events.now.items base.now entries.now }
 {
     let mut taken = 0;
     for i in 0..entries.len() {

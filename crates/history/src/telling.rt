@@ -6,14 +6,14 @@ ghost use Rattle.events.specs.Telling.{IsToldSome, IsToldBase, TellsRightly, Tel
 ghost use Rattle.events.specs.Telling.{IsToldIfInterrupted};
 
 use crate::ordering::{in_order, is_taken_as};
-use events::{Entry, Event};
+use events::{Entry, Event, Events};
 use words::{Call, Client, Kind, Outcome, Reply, Reports, Row, Told, Verdict};
 
 /// A client of a queue of this kind, in a history with its order.
 #[derive(Clone, Copy)]
 pub(crate) struct Listener<'a> {
     pub(crate) kind: Kind,
-    pub(crate) events: &'a [Event],
+    pub(crate) events: &'a Events,
     pub(crate) entries: &'a [Entry],
     pub(crate) client: Client,
 }
@@ -30,10 +30,10 @@ pub(crate) fn is_told_of(kind: Kind, call: Call) -> bool
 
 /// Whether a call of the client that it may be told of begins at `p`, and is in the order.
 fn begins_taken(who: &Listener, p: usize) -> bool
-    requires { p < length who.now.events.now }
-    ensures { IsTrue result ↔ BeginsTaken who.now.kind who.now.events.now who.now.entries.now who.now.client p }
+    requires { p < length who.now.events.now.items }
+    ensures { IsTrue result ↔ BeginsTaken who.now.kind who.now.events.now.items who.now.entries.now who.now.client p }
 {
-    match who.events[p] {
+    match who.events.at(p) {
         Event::Call { client, call, .. } => {
             client == who.client && is_told_of(who.kind, call) && in_order(who.entries, p)
         }
@@ -43,8 +43,9 @@ fn begins_taken(who: &Listener, p: usize) -> bool
 
 /// Whether none of these calls from one place up to another is in the order.
 fn has_none_taken(who: &Listener, from: usize, to: usize) -> bool
-    requires { to ≤ length who.now.events.now }
-    ensures { IsTrue result ↔ HasNoneTaken who.now.kind who.now.events.now who.now.entries.now who.now.client from to }
+    requires { to ≤ length who.now.events.now.items }
+    ensures { IsTrue result ↔
+        HasNoneTaken who.now.kind who.now.events.now.items who.now.entries.now who.now.client from to }
 {
     for p in from..to {
         if begins_taken(who, p) {
@@ -92,11 +93,11 @@ fn says(kind: Kind, entries: &[Entry], p: usize, number: u64, told: Told) -> boo
 /// Whether the client is told of its call at `p`, and no later one before the Ready is in the order.
 fn is_told_call(who: &Listener, ready: usize, told: Told, p: usize) -> bool
     requires first { p < ready }
-    requires second { ready ≤ length who.now.events.now }
+    requires second { ready ≤ length who.now.events.now.items }
     ensures { IsTrue result ↔
-        IsToldCall who.now.kind who.now.events.now who.now.entries.now who.now.client ready told p }
+        IsToldCall who.now.kind who.now.events.now.items who.now.entries.now who.now.client ready told p }
 {
-    match who.events[p] {
+    match who.events.at(p) {
         Event::Call {
             client,
             number,
@@ -113,8 +114,9 @@ fn is_told_call(who: &Listener, ready: usize, told: Told, p: usize) -> bool
 
 /// Whether the client is told of one of its calls begun before the Ready.
 fn is_told_some(who: &Listener, ready: usize, told: Told) -> bool
-    requires { ready ≤ length who.now.events.now }
-    ensures { IsTrue result ↔ IsToldSome who.now.kind who.now.events.now who.now.entries.now who.now.client ready told }
+    requires { ready ≤ length who.now.events.now.items }
+    ensures { IsTrue result ↔
+        IsToldSome who.now.kind who.now.events.now.items who.now.entries.now who.now.client ready told }
 {
     for p in 0..ready {
         if is_told_call(who, ready, told, p) {
@@ -136,19 +138,19 @@ pub(crate) fn is_told(tells: &Reports, client: Client, told: Told) -> bool
 
 /// Whether none of the client's calls before the Ready is in the order, and it is told what the base tells.
 fn is_told_base(who: &Listener, base: &Reports, ready: usize, told: Told) -> bool
-    requires { ready ≤ length who.now.events.now }
+    requires { ready ≤ length who.now.events.now.items }
     ensures { IsTrue result ↔
-        IsToldBase who.now.kind base.now who.now.events.now who.now.entries.now who.now.client ready told }
+        IsToldBase who.now.kind base.now who.now.events.now.items who.now.entries.now who.now.client ready told }
 {
     is_told(base, who.client, told) && has_none_taken(who, 0, ready)
 }
 
 /// Whether the client is told the one or the other.
 fn is_told_rightly(who: &Listener, base: &Reports, ready: usize, told: Told) -> bool
-    requires { ready ≤ length who.now.events.now }
+    requires { ready ≤ length who.now.events.now.items }
     ensures { IsTrue result ↔
-        IsToldSome who.now.kind who.now.events.now who.now.entries.now who.now.client ready told
-        ⊎ IsToldBase who.now.kind base.now who.now.events.now who.now.entries.now who.now.client ready told }
+        IsToldSome who.now.kind who.now.events.now.items who.now.entries.now who.now.client ready told
+        ⊎ IsToldBase who.now.kind base.now who.now.events.now.items who.now.entries.now who.now.client ready told }
 {
     is_told_some(who, ready, told) || is_told_base(who, base, ready, told)
 }
@@ -157,13 +159,13 @@ fn is_told_rightly(who: &Listener, base: &Reports, ready: usize, told: Told) -> 
 fn tells_rightly(
     kind: Kind,
     base: &Reports,
-    events: &[Event],
+    events: &Events,
     entries: &[Entry],
     ready: usize,
     tells: &Reports,
 ) -> bool
-    requires { ready ≤ length events.now }
-    ensures { IsTrue result ↔ TellsRightly kind base.now events.now entries.now ready tells.now }
+    requires { ready ≤ length events.now.items }
+    ensures { IsTrue result ↔ TellsRightly kind base.now events.now.items entries.now ready tells.now }
 {
     for t in 0..16u8 {
         let who = Listener {
@@ -180,11 +182,11 @@ fn tells_rightly(
 }
 
 /// Whether a Ready that stands at `q` tells each client the one or the other.
-fn tells_at(kind: Kind, base: &Reports, events: &[Event], entries: &[Entry], q: usize) -> bool
-    requires { q < length events.now }
-    ensures { IsTrue result ↔ TellsAt kind base.now events.now entries.now q }
+fn tells_at(kind: Kind, base: &Reports, events: &Events, entries: &[Entry], q: usize) -> bool
+    requires { q < length events.now.items }
+    ensures { IsTrue result ↔ TellsAt kind base.now events.now.items entries.now q }
 {
-    match events[q] {
+    match events.at(q) {
         Event::Ready { told } => tells_rightly(kind, base, events, entries, q, &told),
         _ => true,
     }
@@ -194,10 +196,10 @@ fn tells_at(kind: Kind, base: &Reports, events: &[Event], entries: &[Entry], q: 
 pub(crate) fn tells_at_each_ready(
     kind: Kind,
     base: &Reports,
-    events: &[Event],
+    events: &Events,
     entries: &[Entry],
 ) -> bool
-    ensures { IsTrue result ↔ EachIndex events.now (λ q. TellsAt kind base.now events.now entries.now q) }
+    ensures { IsTrue result ↔ EachIndex events.now.items (λ q. TellsAt kind base.now events.now.items entries.now q) }
 {
     for q in 0..events.len() {
         if !tells_at(kind, base, events, entries, q) {
@@ -208,12 +210,13 @@ pub(crate) fn tells_at_each_ready(
 }
 
 /// Whether the next Ready after `e`, where there is one, tells the client that the call took effect.
-fn is_told_taken(events: &[Event], client: Client, number: u64, reply: Reply, e: usize) -> bool
-    requires { e < length events.now }
-    ensures { IsTrue result ↔ IsToldTaken events.now client number reply e }
+fn is_told_taken(events: &Events, client: Client, number: u64, reply: Reply, e: usize) -> bool
+    requires { e < length events.now.items }
+    ensures { IsTrue result ↔ IsToldTaken events.now.items client number reply e }
 {
-    for q in e + 1..events.len() {
-        if let Event::Ready { told } = events[q] {
+    let end = events.len();
+    for q in e + 1..end {
+        if let Event::Ready { told } = events.at(q) {
             return is_told(
                 &told,
                 client,
@@ -228,14 +231,14 @@ fn is_told_taken(events: &[Event], client: Client, number: u64, reply: Reply, e:
 }
 
 /// Whether so it is, where a Crash ended the call of the entry.
-fn is_told_if_interrupted(events: &[Event], entry: &Entry) -> bool
-    ensures { IsTrue result ↔ IsToldIfInterrupted events.now entry.now }
+fn is_told_if_interrupted(events: &Events, entry: &Entry) -> bool
+    ensures { IsTrue result ↔ IsToldIfInterrupted events.now.items entry.now }
 {
-    let Some(Event::Call { client, number, .. }) = events.get(entry.place).copied() else {
+    let Some(Event::Call { client, number, .. }) = events.get(entry.place) else {
         return true;
     };
     for k in entry.place + 1..events.len() {
-        match events[k] {
+        match events.at(k) {
             Event::Return { client: other, .. } if other == client => return true,
             Event::Crash => return is_told_taken(events, client, number, entry.reply, k),
             _ => {}
@@ -245,8 +248,8 @@ fn is_told_if_interrupted(events: &[Event], entry: &Entry) -> bool
 }
 
 /// Whether so it is of every entry.
-pub(crate) fn tells_interrupted(events: &[Event], entries: &[Entry]) -> bool
-    ensures { IsTrue result ↔ All (λ entry. IsToldIfInterrupted events.now entry) entries.now }
+pub(crate) fn tells_interrupted(events: &Events, entries: &[Entry]) -> bool
+    ensures { IsTrue result ↔ All (λ entry. IsToldIfInterrupted events.now.items entry) entries.now }
 {
     entries
         .iter()

@@ -3,6 +3,7 @@ use Rattle.words.specs.declared.call.Reply.{Reply}
 use Rattle.std.proofs.Common.{◌≡◌, ℕ, zero, suc, ◌≤◌, ◌<◌, false, List, [], ◌∷◌, length, Option, Some, None, Ok, slice_get, slice_set, refl, sym, ap, ◌∙◌, subst, arith}
 use Rattle.std.proofs.lemmas.Option.{slice_get_within}
 use Rattle.words.specs.declared.call.Client.{Client}
+use Rattle.words.specs.declared.limits.TheConstants.{MAX_STEPS_ALONE}
 use Rattle.stepper.specs.declared.resume.After.{After}
 use Rattle.stepper.specs.declared.resume.After.TheVariants.{More, Done}
 use Rattle.helping.specs.declared.op.Op.{Op}
@@ -26,10 +27,10 @@ left_of w None = 0
 abbrev pub left_in : State → Client → ℕ
 left_in w client = left_of w (slice_get w.calls client.0)
 
-pub left_few : (w : State) (client : Client) → left_in w client ≤ 64
+pub left_few : (w : State) (client : Client) → left_in w client ≤ MAX_STEPS_ALONE
 left_few w client = go (slice_get w.calls client.0)
   where
-    go : (o : Option (Option UnderWay)) → left_of w o ≤ 64
+    go : (o : Option (Option UnderWay)) → left_of w o ≤ MAX_STEPS_ALONE
     go (Some (Some u)) = left_most w.shape (machine w).memory u.op
     go (Some None) = omega arith
     go None = omega arith

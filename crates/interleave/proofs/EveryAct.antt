@@ -6,7 +6,7 @@ use Rattle.std.proofs.lemmas.Bool.Decides.{eqb_tells}
 use Rattle.words.specs.declared.call.Call.{Call}
 use Rattle.words.specs.declared.call.Client.{Client}
 use Rattle.words.specs.declared.refusal.Refusal.{Refusal}
-use Rattle.persist.specs.Memory.{Words, Access, Load, Store, Cas, Flush}
+use Rattle.persist.specs.Memory.{Words, Access, Load, Store, Cas, Flush, Fence}
 use Rattle.arena.specs.Shape.{Shape}
 use Rattle.arena.specs.Layout.{place_at, word_at}
 use Rattle.arena.specs.declared.place.Place.{Place}
@@ -50,7 +50,8 @@ one_access s (Cas p old new) ws =
       | inl e ↦ rw e.0 (stored s p new ws)
       | inr e ↦ rw e.0 (record { accesses = omega arith; word = 0; cached = λ u h. refl; kept = λ u h. refl; one_value = inl refl })
     ]
-one_access s (Flush p) ws = record {
+one_access s (Flush p) ws = record { accesses = omega arith; word = 0; cached = λ u h. refl; kept = λ u h. refl; one_value = inl refl }
+one_access s (Fence p) ws = record {
   accesses = omega arith;
   word = word_at s p;
   cached = λ u h. refl;

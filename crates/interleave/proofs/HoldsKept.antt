@@ -28,7 +28,7 @@ use Rattle.stepper.specs.declared.resume.After.{After}
 use Rattle.stepper.specs.declared.resume.After.TheVariants.{More, Done}
 use Rattle.helping.specs.Table.{access_of}
 use Rattle.helping.specs.declared.op.Op.{Op}
-use Rattle.protocol.specs.Machine.{World, Memory, MayStart, MayStep, FitsKind, FitsCall, with_call, with_next, next_of, begun_of, call_begun, with_start, with_step, with_eviction, with_flush, with_crash as machine_crashed, with_recovery_step, next_recovery, recovery_events, new_world as new_machine}
+use Rattle.protocol.specs.Machine.{World, Memory, MayStart, MayStep, FitsKind, FitsCall, with_call, with_next, next_of, begun_of, call_begun, with_start, with_step, with_eviction, with_fence, with_crash as machine_crashed, with_recovery_step, next_recovery, recovery_events, new_world as new_machine}
 use Rattle.protocol.specs.declared.UnderWay.{UnderWay}
 use Rattle.recover.specs.Table.{no_call as no_call_told, access_of as recovery_access, recovery_after}
 use Rattle.stepper.specs.declared.resume.After.{After}
@@ -317,7 +317,7 @@ pub evicted_is : (w : State) (word : ℕ) (p : Place) → Holds w → place_at w
 evicted_is w word p holds named =
     let s = w.shape in
     let at = place_of_word s word p named in
-    let memory : memory_by_place s (words_after_eviction word w.words) ≡ with_flush (memory_by_place s w.words) p =
+    let memory : memory_by_place s (words_after_eviction word w.words) ≡ with_fence (memory_by_place s w.words) p =
     ap (λ (v : ℕ). memory_by_place s (words_after_eviction v w.words)) (sym at.1)
     ∙ shown_evicted s w.words p at.0 (omega (arith, holds.safe.words.room, holds.safe.words.same)) in
     ap (λ (m : Memory). let x : World = record (with_eviction (machine w) p) { memory = m } in x) memory

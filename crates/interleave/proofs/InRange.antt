@@ -7,15 +7,16 @@ use Rattle.words.specs.declared.call.Kind.TheVariants.{Durable, Log}
 use Rattle.words.specs.declared.call.Token.{Token}
 use Rattle.words.specs.declared.call.Call.{Call}
 use Rattle.words.specs.declared.call.Call.TheVariants.{Enq, Deq}
-use Rattle.persist.specs.Memory.{Access, Load, Store, Cas, Flush}
+use Rattle.persist.specs.Memory.{Access, Load, Store, Cas, Flush, Fence}
 use Rattle.arena.specs.Shape.{Shape}
 use Rattle.arena.specs.Place.{IsPlace}
 use Rattle.arena.specs.Ranges.{Fits, IsReadByCalls}
 use Rattle.arena.specs.declared.place.Place.{Place}
 use Rattle.arena.specs.declared.place.Write.{Write}
-use Rattle.recover.specs.Table.{access_of as recovery_access, IsPoint as IsRecoveryPoint}
+use Rattle.recover.specs.Table.{access_of as recovery_access, kept_place as recovery_kept_place, IsKeeping as IsRecoveryKeeping, IsPoint as IsRecoveryPoint}
 use Rattle.recover.specs.declared.point.RecoveryPoint.{RecoveryPoint}
-use Rattle.recover.specs.declared.point.RecoveryPoint.TheVariants.{RecoveryLoadHead, RecoveryLoadNext, RecoveryLoadInsert, RecoveryStoreStatus, RecoveryLoadMark, RecoveryLoadValue, RecoveryStoreResult, RecoveryStoreHead, RecoveryStoreTail, RecoveryLoadAnnouncement, RecoveryLoadCell, RecoveryLoadNumber, RecoveryLoadKind, RecoveryLoadStatus, RecoveryLoadRemove, RecoveryLoadEntryNode, RecoveryLoadRemovedValue, Flush as RecoveryFlush}
+use Rattle.recover.specs.declared.point.RecoveryPoint.TheVariants.{RecoveryLoadHead, RecoveryLoadNext, RecoveryLoadInsert, RecoveryStoreStatus, RecoveryLoadMark, RecoveryLoadValue, RecoveryStoreResult, RecoveryStoreHead, RecoveryStoreTail, RecoveryLoadAnnouncement, RecoveryLoadCell, RecoveryLoadNumber, RecoveryLoadKind, RecoveryLoadStatus, RecoveryLoadRemove, RecoveryLoadEntryNode, RecoveryLoadRemovedValue, Flush as RecoveryFlush, Fence as RecoveryFence}
+use Rattle.recover.specs.declared.keeping.RecoveryKeeping.{RecoveryKeeping}
 use Rattle.recover.specs.declared.keeping.RecoveryKeeping.TheVariants.{Status as RecoveryKeepStatus, Result as RecoveryKeepResult, Head as RecoveryKeepHead, Tail as RecoveryKeepTail}
 use Rattle.stepper.specs.Step.{place_of, IsReadInRange}
 use Rattle.stepper.specs.Preparation.{preparation_from, preparation_of, prepared_with, IsBegun, IsPreparing}
@@ -24,9 +25,10 @@ use Rattle.stepper.specs.declared.resume.After.TheVariants.{More, Done}
 use Rattle.stepper.specs.declared.prepare.Begun.{Begun}
 use Rattle.helping.specs.declared.dequeue.Claim.{Claim}
 use Rattle.helping.specs.declared.dequeue.Claim.TheVariants.{Won, LostTo}
-use Rattle.helping.specs.Table.{access_of, successor, first_from, prepared_op, begun_at, answer_or_again, IsPoint}
+use Rattle.helping.specs.Table.{access_of, after_keeping, kept_place, successor, first_from, prepared_op, begun_at, answer_or_again, IsKeeping, IsPoint}
 use Rattle.helping.specs.declared.op.Op.{Op}
-use Rattle.helping.specs.declared.op.Op.TheVariants.{PrepareStore, PrepareFlush, EnqueueLoadTail, EnqueueLoadNext, EnqueueCheckTail, EnqueueLink, EnqueueMoveTail, EnqueueHelpTail, DequeueLoadHead, DequeueLoadTail, DequeueLoadNext, DequeueCheckHead, DequeueStoreEmpty, DequeueHelpTail, DequeueLoadValue, DequeueClaim, DequeueStoreResult, DequeueMoveHead, Flush as FlushPoint}
+use Rattle.helping.specs.declared.op.Op.TheVariants.{PrepareStore, PrepareFlush, PrepareFence, EnqueueLoadTail, EnqueueLoadNext, EnqueueCheckTail, EnqueueLink, EnqueueMoveTail, EnqueueHelpTail, DequeueLoadHead, DequeueLoadTail, DequeueLoadNext, DequeueCheckHead, DequeueStoreEmpty, DequeueHelpTail, DequeueLoadValue, DequeueClaim, DequeueStoreResult, DequeueMoveHead, Flush as FlushPoint, Fence as FencePoint}
+use Rattle.helping.specs.declared.keeping.Keeping.{Keeping}
 use Rattle.helping.specs.declared.keeping.Keeping.TheVariants.{Link as KeepLink, PassedLink as KeepPassedLink, Empty as KeepEmpty, DequeuePassedLink as KeepDequeuePassedLink, Claim as KeepClaim, Result as KeepResult}
 
 -- the access is at a place, and what it may write fits there
@@ -35,6 +37,7 @@ AccessFits s (Load p) = IsPlace s p
 AccessFits s (Store p v) = IsPlace s p × Fits s p v
 AccessFits s (Cas p old new) = IsPlace s p × Fits s p new
 AccessFits s (Flush p) = IsPlace s p
+AccessFits s (Fence p) = IsPlace s p
 
 abbrev pub AfterFits : Shape → After Op Reply → Type 0
 AfterFits s (More op) = IsPoint s op
@@ -45,6 +48,7 @@ at_place s (Load p) h = h
 at_place s (Store p v) h = h.0
 at_place s (Cas p old new) h = h.0
 at_place s (Flush p) h = h
+at_place s (Fence p) h = h
 
 record WriteFits (s : Shape) (w : Write) : Type 0 where
   is_place : IsPlace s w.place
@@ -91,15 +95,18 @@ ReadsByCalls (Load p) = IsReadByCalls p
 ReadsByCalls (Store p v) = Unit {0}
 ReadsByCalls (Cas p old new) = IsReadByCalls p
 ReadsByCalls (Flush p) = Unit {0}
+ReadsByCalls (Fence p) = Unit {0}
 
 pub reads_by_calls : (kind : Kind) (op : Op) → ReadsByCalls (access_of kind op)
 reads_by_calls kind (PrepareStore p) = tt
 reads_by_calls kind (PrepareFlush p) = tt
+reads_by_calls kind (PrepareFence p) = tt
 reads_by_calls kind (EnqueueLoadTail p) = tt
 reads_by_calls kind (EnqueueLoadNext p) = tt
 reads_by_calls kind (EnqueueCheckTail p) = tt
 reads_by_calls kind (EnqueueLink p) = tt
 reads_by_calls kind (FlushPoint k) = tt
+reads_by_calls kind (FencePoint k) = tt
 reads_by_calls kind (EnqueueMoveTail p) = tt
 reads_by_calls kind (EnqueueHelpTail p) = tt
 reads_by_calls kind (DequeueLoadHead p) = tt
@@ -118,23 +125,36 @@ in_range s (Load p) v fits = fits
 in_range s (Store p w) v fits = tt
 in_range s (Cas p old new) v fits = fits
 in_range s (Flush p) v fits = tt
+in_range s (Fence p) v fits = tt
 
 pub read_in_range : (s : Shape) (access : Access Place) (v : ℕ) → ReadsByCalls access → (IsReadByCalls (place_of access) → Fits s (place_of access) v) → IsReadInRange s access v
 read_in_range s (Load p) v read fits = fits read
 read_in_range s (Store p w) v read fits = tt
 read_in_range s (Cas p old new) v read fits = fits read
 read_in_range s (Flush p) v read fits = tt
+read_in_range s (Fence p) v read fits = tt
+
+kept_fits : (s : Shape) (kind : Kind) (q : Keeping) → s.kind ≡ kind → IsKeeping s q → IsPlace s (kept_place kind q)
+kept_fits s kind (KeepLink p) k h = grind arith
+kept_fits s kind (KeepPassedLink p) k h = grind arith
+kept_fits s Durable (KeepEmpty p) k h = grind arith
+kept_fits s Log (KeepEmpty p) k h = grind arith
+kept_fits s kind (KeepDequeuePassedLink p) k h = grind arith
+kept_fits s kind (KeepClaim p) k h = grind arith
+kept_fits s Durable (KeepResult p) k h = grind arith
+kept_fits s Log (KeepResult p) k h = grind arith
 
 pub access_fits : (s : Shape) (kind : Kind) (op : Op) → s.kind ≡ kind → IsPoint s op → AccessFits s (access_of kind op)
 access_fits s kind (PrepareStore p) k h = let w = in_hand_fits s p.begun p.index p.write h in (w.is_place, w.fits)
 access_fits s kind (PrepareFlush p) k h = (in_hand_fits s p.begun p.index p.write h).is_place
+access_fits s kind (PrepareFence p) k h = (in_hand_fits s p.begun p.index p.write h).is_place
 access_fits s kind (EnqueueLoadTail p) k h = tt
 access_fits s kind (EnqueueLoadNext p) k h = grind arith
 access_fits s kind (EnqueueCheckTail p) k h = tt
 access_fits s kind (EnqueueLink p) k h = grind arith
-access_fits s kind (FlushPoint (KeepLink p)) k h = grind arith
+access_fits s kind (FlushPoint q) k h = kept_fits s kind q k h
+access_fits s kind (FencePoint q) k h = kept_fits s kind q k h
 access_fits s kind (EnqueueMoveTail p) k h = grind arith
-access_fits s kind (FlushPoint (KeepPassedLink p)) k h = grind arith
 access_fits s kind (EnqueueHelpTail p) k h = grind arith
 access_fits s kind (DequeueLoadHead p) k h = tt
 access_fits s kind (DequeueLoadTail p) k h = tt
@@ -142,18 +162,19 @@ access_fits s kind (DequeueLoadNext p) k h = grind arith
 access_fits s kind (DequeueCheckHead p) k h = tt
 access_fits s Durable (DequeueStoreEmpty p) k h = grind arith
 access_fits s Log (DequeueStoreEmpty p) k h = grind arith
-access_fits s Durable (FlushPoint (KeepEmpty p)) k h = grind arith
-access_fits s Log (FlushPoint (KeepEmpty p)) k h = grind arith
-access_fits s kind (FlushPoint (KeepDequeuePassedLink p)) k h = grind arith
 access_fits s kind (DequeueHelpTail p) k h = grind arith
 access_fits s kind (DequeueLoadValue p) k h = grind arith
 access_fits s kind (DequeueClaim p) k h = grind arith
-access_fits s kind (FlushPoint (KeepClaim p)) k h = grind arith
 access_fits s Durable (DequeueStoreResult p) k h = grind arith
 access_fits s Log (DequeueStoreResult p) k h = grind arith
-access_fits s Durable (FlushPoint (KeepResult p)) k h = grind arith
-access_fits s Log (FlushPoint (KeepResult p)) k h = grind arith
 access_fits s kind (DequeueMoveHead p) k h = grind arith
+
+recovery_kept_fits : (s : Shape) (kind : Kind) (q : RecoveryKeeping) → s.kind ≡ kind → IsRecoveryKeeping s q → IsPlace s (recovery_kept_place kind q)
+recovery_kept_fits s kind (RecoveryKeepStatus p) k h = (h.0, h.3)
+recovery_kept_fits s Durable (RecoveryKeepResult p) k h = grind arith
+recovery_kept_fits s Log (RecoveryKeepResult p) k h = grind arith
+recovery_kept_fits s kind (RecoveryKeepHead p) k h = tt
+recovery_kept_fits s kind (RecoveryKeepTail p) k h = tt
 
 -- the same of recovery
 pub recovery_access_fits : (s : Shape) (kind : Kind) (at : RecoveryPoint) → s.kind ≡ kind → IsRecoveryPoint s at → AccessFits s (recovery_access kind at)
@@ -161,17 +182,14 @@ recovery_access_fits s kind (RecoveryLoadHead p) k h = tt
 recovery_access_fits s kind (RecoveryLoadNext p) k h = grind arith
 recovery_access_fits s kind (RecoveryLoadInsert p) k h = grind arith
 recovery_access_fits s kind (RecoveryStoreStatus p) k h = ((h.0, h.3), omega arith)
-recovery_access_fits s kind (RecoveryFlush (RecoveryKeepStatus p)) k h = (h.0, h.3)
 recovery_access_fits s kind (RecoveryLoadMark p) k h = grind arith
 recovery_access_fits s kind (RecoveryLoadValue p) k h = grind arith
 recovery_access_fits s Durable (RecoveryStoreResult p) k h = grind arith
 recovery_access_fits s Log (RecoveryStoreResult p) k h = grind arith
-recovery_access_fits s Durable (RecoveryFlush (RecoveryKeepResult p)) k h = grind arith
-recovery_access_fits s Log (RecoveryFlush (RecoveryKeepResult p)) k h = grind arith
 recovery_access_fits s kind (RecoveryStoreHead p) k h = grind arith
-recovery_access_fits s kind (RecoveryFlush (RecoveryKeepHead p)) k h = tt
 recovery_access_fits s kind (RecoveryStoreTail p) k h = grind arith
-recovery_access_fits s kind (RecoveryFlush (RecoveryKeepTail p)) k h = tt
+recovery_access_fits s kind (RecoveryFlush q) k h = recovery_kept_fits s kind q k h
+recovery_access_fits s kind (RecoveryFence q) k h = recovery_kept_fits s kind q k h
 recovery_access_fits s kind (RecoveryLoadAnnouncement p) k h = h
 recovery_access_fits s kind (RecoveryLoadCell p) k h = grind arith
 recovery_access_fits s kind (RecoveryLoadNumber p) k h = grind arith
@@ -181,28 +199,33 @@ recovery_access_fits s kind (RecoveryLoadRemove p) k h = grind arith
 recovery_access_fits s kind (RecoveryLoadEntryNode p) k h = grind arith
 recovery_access_fits s kind (RecoveryLoadRemovedValue p) k h = grind arith
 
+after_keeping_fits : (s : Shape) (q : Keeping) → IsKeeping s q → AfterFits s (after_keeping q)
+after_keeping_fits s (KeepLink p) h = grind (arith, nat_tests)
+after_keeping_fits s (KeepPassedLink p) h = grind (arith, nat_tests)
+after_keeping_fits s (KeepEmpty p) h = tt
+after_keeping_fits s (KeepDequeuePassedLink p) h = grind (arith, nat_tests)
+after_keeping_fits s (KeepClaim p) h = grind (arith, nat_tests)
+after_keeping_fits s (KeepResult p) h = grind (arith, nat_tests)
+
 pub successor_fits : (s : Shape) (op : Op) (v : ℕ) → IsPoint s op → IsReadInRange s (access_of s.kind op) v → AfterFits s (successor s.kind op v)
 successor_fits s (PrepareStore p) v h f = h
-successor_fits s (PrepareFlush p) v h f = prepared_fits s p.begun (p.index + 1) (slice_get (preparation_of s.kind p.begun) (p.index + 1)) refl h.begun
+successor_fits s (PrepareFlush p) v h f = h
+successor_fits s (FlushPoint q) v h f = h
+successor_fits s (FencePoint q) v h f = after_keeping_fits s q h
+successor_fits s (PrepareFence p) v h f = prepared_fits s p.begun (p.index + 1) (slice_get (preparation_of s.kind p.begun) (p.index + 1)) refl h.begun
 successor_fits s (EnqueueLoadTail p) v h f = grind (arith, nat_tests)
 successor_fits s (EnqueueLoadNext p) v h f = grind (arith, nat_tests)
 successor_fits s (EnqueueCheckTail p) v h f = grind (arith, nat_tests)
 successor_fits s (EnqueueLink p) v h f = grind (arith, nat_tests)
-successor_fits s (FlushPoint (KeepLink p)) v h f = grind (arith, nat_tests)
 successor_fits s (EnqueueMoveTail p) v h f = tt
-successor_fits s (FlushPoint (KeepPassedLink p)) v h f = grind (arith, nat_tests)
 successor_fits s (EnqueueHelpTail p) v h f = grind (arith, nat_tests)
 successor_fits s (DequeueLoadHead p) v h f = grind (arith, nat_tests)
 successor_fits s (DequeueLoadTail p) v h f = grind (arith, nat_tests)
 successor_fits s (DequeueLoadNext p) v h f = grind (arith, nat_tests)
 successor_fits s (DequeueCheckHead p) v h f = grind (arith, nat_tests)
 successor_fits s (DequeueStoreEmpty p) v h f = grind (arith, nat_tests)
-successor_fits s (FlushPoint (KeepEmpty p)) v h f = tt
-successor_fits s (FlushPoint (KeepDequeuePassedLink p)) v h f = grind (arith, nat_tests)
 successor_fits s (DequeueHelpTail p) v h f = grind (arith, nat_tests)
 successor_fits s (DequeueLoadValue p) v h f = grind (arith, nat_tests)
 successor_fits s (DequeueClaim p) v h f = grind (arith, nat_tests)
-successor_fits s (FlushPoint (KeepClaim p)) v h f = grind (arith, nat_tests)
 successor_fits s (DequeueStoreResult p) v h f = grind (arith, nat_tests)
-successor_fits s (FlushPoint (KeepResult p)) v h f = grind (arith, nat_tests)
 successor_fits s (DequeueMoveHead p) v h f = again_fits s p.claimed.claim p.claimed.token p.claimed.value h.0.0

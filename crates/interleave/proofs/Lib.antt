@@ -22,6 +22,7 @@ pub mod StartLaws
 pub mod AloneLaws
 pub mod EveryAct
 pub mod HoldsKept
+pub mod AskedKept
 pub mod KeptTells
 pub mod BootLaws
 pub mod UnusedLaws

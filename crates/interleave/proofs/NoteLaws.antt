@@ -5,7 +5,7 @@ use Rattle.std.proofs.lemmas.Bool.{eq-eqb, ne_eqb, cases_eq}
 use Rattle.words.specs.declared.told.Told.{Told}
 use Rattle.persist.specs.Changes.{change_of}
 use Rattle.persist.specs.declared.access.Change.{Change}
-use Rattle.persist.specs.Memory.{Words, Access, Load, Store, Cas, Flush, words_after_eviction}
+use Rattle.persist.specs.Memory.{Words, Access, Load, Store, Cas, Flush, Fence, words_after_eviction}
 use Rattle.arena.specs.Layout.{laid_out, place_at, size_of, word_at}
 use Rattle.arena.specs.Shape.{Shape}
 use Rattle.arena.specs.Place.{IsPlace}
@@ -16,7 +16,7 @@ use Rattle.helping.specs.Looks.{is_look}
 use Rattle.helping.specs.Table.{access_of, IsPoint}
 use Rattle.helping.specs.declared.op.Op.{Op}
 use Rattle.helping.specs.declared.op.Op.TheVariants.{DequeueLoadNext}
-use Rattle.protocol.specs.Machine.{World, Memory, Trace, put, effects_on_keep, after_keeping, after_flush, effects_after, next_of}
+use Rattle.protocol.specs.Machine.{World, Memory, Trace, put, effects_on_keep, after_keeping, after_fence, effects_after, next_of}
 use Rattle.protocol.specs.declared.UnderWay.{UnderWay}
 use Rattle.interleave.specs.Changes.{effects_at, effects_on_change, effects_on_step}
 use Rattle.interleave.specs.Calls.{went_on_to_nothing}
@@ -26,8 +26,8 @@ use Rattle.interleave.specs.State.{machine_of}
 use Rattle.interleave.proofs.InRange.{AccessFits, access_fits}
 use Rattle.interleave.proofs.ValueLaws.{shown_evicted, shown_at}
 
--- a step that looks at nothing takes effect by its flush alone
-pub not_a_look : (w : World) (u : UnderWay) (op : Op) → is_look op ≡ false → effects_after w u op ≡ after_flush w (kept_by (access_of w.shape.kind op))
+-- a step that looks at nothing takes effect by its fence alone
+pub not_a_look : (w : World) (u : UnderWay) (op : Op) → is_look op ≡ false → effects_after w u op ≡ after_fence w (kept_by (access_of w.shape.kind op))
 not_a_look w u (DequeueLoadNext p) h = cc
 not_a_look w u _ h = refl
 
@@ -91,14 +91,15 @@ effects_of_change s ws calls base told log p at long = elim (cases_eq (slice_ind
     change : Change
     change = record { word = word_at s p; old = slice_index ws.kept (word_at s p); new = slice_index ws.cached (word_at s p) }
 
--- of an access: a flush alone makes a change
+-- of an access: a fence alone makes a change
 effects_by_access : (s : Shape) (ws : Words) (calls : List (Option UnderWay)) (base : List ℕ) (told : List Told) (log : Trace) (a : Access Place)
     → AccessFits s a → size_of s ≤ length ws.kept
-    → effects_on_change (machine_of s (after_one s a ws) calls base told log) (change_by s a ws) ≡ after_flush (machine_of s ws calls base told log) (kept_by a)
+    → effects_on_change (machine_of s (after_one s a ws) calls base told log) (change_by s a ws) ≡ after_fence (machine_of s ws calls base told log) (kept_by a)
 effects_by_access s ws calls base told log (Load p) fits long = refl
 effects_by_access s ws calls base told log (Store p v) fits long = refl
 effects_by_access s ws calls base told log (Cas p old new) fits long = refl
-effects_by_access s ws calls base told log (Flush p) fits long = effects_of_change s ws calls base told log p fits long
+effects_by_access s ws calls base told log (Flush p) fits long = refl
+effects_by_access s ws calls base told log (Fence p) fits long = effects_of_change s ws calls base told log p fits long
 
 -- what is noted of a step are the machine's effects after it
 pub noted_is : (s : Shape) (ws : Words) (calls : List (Option UnderWay)) (base : List ℕ) (told : List Told) (log : Trace) (u : UnderWay)

@@ -73,9 +73,9 @@ kept_below w inv t = go w.recovery inv
     ]
 
 -- so keeping a word lowers none
-rise_flushed : (m : Memory) → ((t : ℕ) → bumps m.kept t ≤ bumps m.cached t) → (p : Place) (t : ℕ)
+rise_fenced : (m : Memory) → ((t : ℕ) → bumps m.kept t ≤ bumps m.cached t) → (p : Place) (t : ℕ)
     → bumps m.kept t ≤ bumps (put m.kept p (m.cached p)) t
-rise_flushed m below p t = elim (put_cases m.kept p (m.cached p) (Bump (record { 0 = t }))) [
+rise_fenced m below p t = elim (put_cases m.kept p (m.cached p) (Bump (record { 0 = t }))) [
   | inl at ↦ subst (λ x. bumps m.kept t ≤ x) (sym (at.1 ∙ ap m.cached (sym at.0))) (below t)
   | inr other ↦ subst (λ x. bumps m.kept t ≤ x) (sym other.1) (omega arith)
 ]
@@ -85,7 +85,7 @@ rise_accessed : (m : Memory) → ((t : ℕ) → bumps m.kept t ≤ bumps m.cache
     → bumps m.kept t ≤ bumps (with_access m a).kept t
 rise_accessed m below a t = elim (access_kept m a) [
   | inl same ↦ subst (λ (f : Place → ℕ). bumps m.kept t ≤ bumps f t) (sym same) (omega arith)
-  | inr one ↦ subst (λ (f : Place → ℕ). bumps m.kept t ≤ bumps f t) (sym one.same) (rise_flushed m below one.p t)
+  | inr one ↦ subst (λ (f : Place → ℕ). bumps m.kept t ≤ bumps f t) (sym one.same) (rise_fenced m below one.p t)
 ]
 
 -- a call that acts has its bump word kept
@@ -258,7 +258,7 @@ accounted_evicted w inv p kept k x at = record {
   unused = (kept k x at).unused;
   stands = elim (kept k x at).stands [
     | inl issued ↦ inl (issued_more w.shape w.memory.kept (put w.memory.kept p (w.memory.cached p))
-        (rise_flushed w.memory (kept_below w inv) p) x.begun.token.0 issued)
+        (rise_fenced w.memory (kept_below w inv) p) x.begun.token.0 issued)
     | inr rest ↦ elim rest [
       | inl still ↦ inr (inl (record { u = still.u; at = still.at; is = still.is }))
       | inr lost ↦ inr (inr (lost_stays w.log.events w.log.events (begins_itself w.log.events) w.log.effects

@@ -7,7 +7,7 @@ use Rattle.std.proofs.lemmas.Option.{get_or_from_slice_get, slice_get_within}
 use Rattle.words.specs.declared.call.Call.{Call}
 use Rattle.words.specs.declared.call.Call.TheVariants.{Enq}
 use Rattle.words.specs.declared.call.Client.{Client}
-use Rattle.persist.specs.Memory.{Words, Access, Load, Store, Cas, Flush, words_after_eviction}
+use Rattle.persist.specs.Memory.{Words, Access, Load, Store, Cas, Flush, Fence, words_after_eviction}
 use Rattle.arena.specs.Layout.{laid_out, size_of, word_at}
 use Rattle.arena.specs.Shape.{Shape, record_of}
 use Rattle.arena.specs.Place.{IsPlace, is_same, is_same-true}
@@ -81,7 +81,8 @@ WordsFit-after s (Cas p old new) h ws w =
       })
       | inr e ↦ rw e (record { room = w.room; same = w.same; cached_count = w.cached_count; count = w.count; cached = w.cached; kept = w.kept })
     ]
-WordsFit-after s (Flush p) h ws w = record {
+WordsFit-after s (Flush p) h ws w = record { room = w.room; same = w.same; cached_count = w.cached_count; count = w.count; cached = w.cached; kept = w.kept }
+WordsFit-after s (Fence p) h ws w = record {
   room = w.room;
   same = grind (arith, common_steps, w.same);
   cached_count = w.cached_count;
@@ -152,9 +153,9 @@ IsSafe-gone_on s ws calls base told log t u safe here =
 -- an eviction
 pub IsSafe-evicted : (s : Shape) (ws : Words) (calls : List (Option UnderWay)) (p : Place) → IsPlace s p → IsSafe s ws calls → IsSafe s (words_after_eviction (word_at s p) ws) calls
 IsSafe-evicted s ws calls p hp safe =
-    let flushed = IsSafe-accessed s ws calls (Flush p) hp safe in
+    let fenced = IsSafe-accessed s ws calls (Fence p) hp safe in
     record {
-      words = record { room = flushed.words.room; same = flushed.words.same; cached_count = flushed.words.cached_count; count = flushed.words.count; cached = flushed.words.cached; kept = flushed.words.kept };
+      words = record { room = fenced.words.room; same = fenced.words.same; cached_count = fenced.words.cached_count; count = fenced.words.count; cached = fenced.words.cached; kept = fenced.words.kept };
       clients = safe.clients;
       few = safe.few;
       calls_fit = safe.calls_fit;

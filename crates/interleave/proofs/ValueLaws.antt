@@ -5,7 +5,7 @@ use Rattle.std.proofs.lemmas.Bool.Decides.{nat_tests}
 use mathlib.Core.Path.{fun_ext}
 use Rattle.words.specs.declared.call.Kind.{Kind}
 use Rattle.words.specs.declared.call.Kind.TheVariants.{Durable, Log}
-use Rattle.persist.specs.Memory.{Words, Access, Load, Store, Cas, Flush, words_after_access, words_after_store, words_after_eviction}
+use Rattle.persist.specs.Memory.{Words, Access, Load, Store, Cas, Flush, Fence, words_after_access, words_after_store, words_after_eviction}
 use Rattle.arena.specs.Layout.{size_of, word_at}
 use Rattle.arena.specs.Shape.{Shape, greatest}
 use Rattle.arena.specs.Place.{IsPlace, is_same, is_same-true}
@@ -13,7 +13,7 @@ use Rattle.arena.specs.Laws.{at-written}
 use Rattle.arena.specs.declared.place.Place.{Place}
 use Rattle.arena.specs.declared.place.Place.TheVariants.{Head, Tail, Announcement, Bump, Value, Next, Mark, Cell, Insert, Number, EntryKind, Status, EntryNode}
 use Rattle.stepper.specs.Step.{after_one, place_of}
-use Rattle.protocol.specs.Machine.{put, with_store, with_flush, with_access}
+use Rattle.protocol.specs.Machine.{put, with_store, with_fence, with_access}
 use Rattle.interleave.specs.Values.{is_durable, is_log, is_record, is_place, value_of_place, memory_by_place}
 
 -- the test is true exactly at the layout's places
@@ -72,7 +72,7 @@ written_at s ws p v hp long q false e = rw (e, not_same s p q (is_same p q) refl
 pub shown_written : (s : Shape) (ws : List ℕ) (p : Place) (v : ℕ) → IsPlace s p → size_of s ≤ length ws → value_of_place s (slice_set ws (word_at s p) v) ≡ put (value_of_place s ws) p v
 shown_written s ws p v hp long = fun_ext (λ q. written_at s ws p v hp long q (is_place s q) refl)
 
-pub shown_evicted : (s : Shape) (ws : Words) (p : Place) → IsPlace s p → size_of s ≤ length ws.kept → memory_by_place s (words_after_eviction (word_at s p) ws) ≡ with_flush (memory_by_place s ws) p
+pub shown_evicted : (s : Shape) (ws : Words) (p : Place) → IsPlace s p → size_of s ≤ length ws.kept → memory_by_place s (words_after_eviction (word_at s p) ws) ≡ with_fence (memory_by_place s ws) p
 shown_evicted s ws p hp long =
     ap (λ f. record { cached = value_of_place s ws.cached; kept = f })
     (shown_written s ws.kept p (slice_index ws.cached (word_at s p)) hp long ∙ ap (λ v. put (value_of_place s ws.kept) p v) (sym (shown_at s ws.cached p hp)))
@@ -89,7 +89,8 @@ shown_accessed s ws (Cas p old new) hp long_c long_k =
     go : (b : Bool) → memory_by_place s (words_after_access (if b then words_after_store (word_at s p) new ws else ws)) ≡ (if b then with_store (memory_by_place s ws) p new else memory_by_place s ws)
     go true = ap (λ f. record { cached = f; kept = value_of_place s ws.kept }) (shown_written s ws.cached p new hp long_c)
     go false = refl
-shown_accessed s ws (Flush p) hp long_c long_k = shown_evicted s ws p hp long_k
+shown_accessed s ws (Flush p) hp long_c long_k = refl
+shown_accessed s ws (Fence p) hp long_c long_k = shown_evicted s ws p hp long_k
 
 pub zero_at : (n w : ℕ) → slice_index (replicate n 0) w ≡ 0
 zero_at zero w = refl

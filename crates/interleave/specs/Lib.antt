@@ -11,6 +11,7 @@ pub mod Numbers
 pub mod Reuse
 pub mod Floors
 pub mod Holds
+pub mod Asked
 pub mod Changes
 pub mod Ranges
 pub mod OneAccess

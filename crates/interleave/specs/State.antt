@@ -10,7 +10,7 @@ use Rattle.persist.specs.Changes.{change_of}
 use Rattle.persist.specs.declared.access.Change.{Change}
 use Rattle.persist.specs.Memory.{Words, words_after_access, zero_words, words_after_eviction, words_after_crash}
 use Rattle.arena.specs.Layout.{place_at, size_of}
-use Rattle.arena.specs.Shape.{Shape, greatest}
+use Rattle.arena.specs.Shape.{Shape}
 use Rattle.arena.specs.Words.{bumps}
 use Rattle.arena.specs.Content.{kept_content as content_of}
 use Rattle.arena.specs.declared.place.Place.{Place}
@@ -27,7 +27,7 @@ use Rattle.recover.specs.Table.{boot_recovery, access_of as recovery_access}
 use Rattle.stepper.specs.declared.resume.After.TheVariants.{More as go_on, Done as Ready}
 use Rattle.recover.specs.declared.recovery.Recovery.{Recovery}
 use Rattle.protocol.specs.Announced.{IsToldOfAnnounced}
-use Rattle.protocol.specs.Measure.{steps_left}
+use Rattle.protocol.specs.Measure.{most_steps, steps_left}
 use Rattle.protocol.specs.Recovered.{IsRecovered}
 use Rattle.protocol.specs.Machine.{World, Trace, begun_of, call_begun, with_start, next_of, with_step, with_next, with_eviction, with_crash as machine_crashed, next_recovery, recovery_left, recovery_events}
 use Rattle.protocol.specs.declared.UnderWay.{UnderWay}
@@ -319,7 +319,7 @@ abbrev pub steps_to_ready : State → ℕ
 steps_to_ready w = steps_left (machine w)
 
 abbrev pub most_to_ready : Shape → ℕ
-most_to_ready s = 8 * greatest s + 8 * s.clients + 8
+most_to_ready s = most_steps s
 
 -- what the kept words hold
 abbrev pub kept_content : State → List ℕ

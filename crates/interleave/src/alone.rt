@@ -1,7 +1,8 @@
 //! A call that goes on alone.
 
-ghost use Rattle.std.specs.Prelude.{◌≡◌, ◌≤◌, ◌+◌, ◌⊎◌, is_some, slice_get, true, Err, IfOk, IfErr};
+ghost use Rattle.std.specs.Prelude.{◌≡◌, ◌≤◌, ◌+◌, ◌⊎◌, is_some, slice_get, slice_index_or, true, Err, None, IfOk, IfErr};
 ghost use Rattle.words.specs.declared.refusal.Refusal.{Refusal as AnyRefusal};
+ghost use Rattle.interleave.specs.Asked.{lent_after_alone, IfCallAsked};
 ghost use Rattle.interleave.specs.Calls.{is_no_memory, waiting_result};
 ghost use Rattle.interleave.specs.Core.{state_of};
 ghost use Rattle.interleave.specs.Holds.{Holds};
@@ -14,15 +15,17 @@ use words::{Client, MAX_STEPS_ALONE, Refusal, Reply};
 
 impl<L: Layout + Drop> Core<L> {
     /// A client's call goes on alone until it answers: its reply, and how many steps that took, at most
-    /// [`MAX_STEPS_ALONE`] from wherever it waits. It is refused, in this order, where there is no such client
-    /// (NoClient), where recovery is under way (NotReady), where it has no call (Idle), and, before its first step, for
-    /// want of memory (NoMemory).
+    /// [`MAX_STEPS_ALONE`] from wherever it waits. The words are lent through the client's port, as to
+    /// [`Core::step`]. It is refused, in this order, where there is no such client (NoClient), where recovery is under
+    /// way (NotReady), where it has no call (Idle), and, before its first step, for want of memory (NoMemory).
     pub fn run_alone<M: EvictableWords>(
         &mut self,
         memory: &mut M,
         client: Client,
     ) -> Result<(Reply, u32), Refusal>
         requires holds { Holds (state_of self.old (M.words memory.old)) }
+        requires asked { IfCallAsked self.old.shape (slice_index_or self.old.calls client.0 None)
+            (M.lent memory.old).request }
         ensures refused { (refusal : AnyRefusal) → waiting_result (is_some self.old.trace.recovery)
             (slice_get self.old.calls client.0) ≡ Err refusal → result ≡ Err refusal }
         ensures errors { IfErr result (λ e. (e ≡ Refusal.NoMemory)
@@ -38,6 +41,9 @@ impl<L: Layout + Drop> Core<L> {
         ensures room { self.old.trace.room ≤ self.new.trace.room + 1 }
         ensures spare { IfErr result (λ e. self.old.trace.room ≤ self.new.trace.room) }
         ensures holds { Holds (state_of self.new (M.words memory.new)) }
+        ensures lent { IfOk result (λ answer. M.lent memory.new
+            ≡ lent_after_alone answer.1 (state_of self.old (M.words memory.old)) client (M.lent memory.old)) }
+        ensures left { IfErr result (λ e. M.lent memory.new ≡ M.lent memory.old) }
     {
         self.waiting(client)?;
         self.reserve(1)?;

@@ -3,10 +3,11 @@
 ghost use Rattle.std.specs.Prelude.{◌≡◌, ◌<◌, ◌≤◌, ◌+◌, ◌++◌, ◌∷◌, [], true, false, is_some, length, IfSome, Some, None, Ok, IfErr};
 ghost use Rattle.persist.specs.Memory.{Words, words_after_crash};
 ghost use Rattle.events.specs.declared.event.Event.TheVariants.{Ready as ready_event};
-ghost use Rattle.stepper.specs.Step.{after_one, value_found};
+ghost use Rattle.stepper.specs.Step.{after_one, lent_after_one, value_found};
 ghost use Rattle.recover.specs.Table.{access_of, recovery_after};
 ghost use Rattle.recover.specs.declared.recovery.Recovery.{Recovery as AnyRecovery};
 ghost use Rattle.protocol.specs.Machine.{recovery_left, recovery_events};
+ghost use Rattle.interleave.specs.Asked.{lent_after_recover, IfRecoveryAsked};
 ghost use Rattle.interleave.specs.Calls.{is_no_memory};
 ghost use Rattle.interleave.specs.Core.{core_with_room, state_of};
 ghost use Rattle.interleave.specs.Holds.{Holds};
@@ -78,6 +79,7 @@ impl<L: Layout + Drop> Core<L> {
         requires down { is_some self.old.trace.recovery ≡ true }
         requires room { 0 < self.old.trace.room }
         requires may { IfSome self.old.trace.recovery (λ r. MayRecover self.old.shape (M.words memory.old) r) }
+        requires asked { IfRecoveryAsked self.old.shape self.old.trace.recovery (M.lent memory.old).request }
         ensures shape { self.new.shape ≡ self.old.shape }
         ensures calls { self.new.calls ≡ self.old.calls }
         ensures base { self.new.trace.base ≡ self.old.trace.base }
@@ -90,7 +92,8 @@ impl<L: Layout + Drop> Core<L> {
             (M.words memory.new ≡ after_one s access (M.words memory.old))
             × (self.new.trace.recovery ≡ recovery_left next)
             × (self.new.trace.log.events ≡ recovery_events self.old.trace.log.events next)
-            × (self.new.queue ≡ queue_at_ready self.old.queue next) × (result ≡ is_ready next) }
+            × (self.new.queue ≡ queue_at_ready self.old.queue next) × (result ≡ is_ready next)
+            × (M.lent memory.new ≡ lent_after_one s access (M.lent memory.old)) }
         ensures room { self.old.trace.room ≤ self.new.trace.room + 1 }
         ensures stays { result ≡ false → self.old.trace.room ≤ self.new.trace.room }
     {
@@ -102,10 +105,12 @@ impl<L: Layout + Drop> Core<L> {
     }
 
     /// One step of recovery: exactly one access. It answers whether the queue is ready now, and then each client is
-    /// told what became of its last call. It is refused, in this order, where no recovery is under way (AlreadyReady),
+    /// told what became of its last call. The words are lent through recovery's port: where recovery waits to complete
+    /// a flush, it has asked for it there. It is refused, in this order, where no recovery is under way (AlreadyReady),
     /// and for want of memory (NoMemory).
     pub fn recover_step<M: WordMemory>(&mut self, memory: &mut M) -> Result<bool, Refusal>
         requires holds { Holds (state_of self.old (M.words memory.old)) }
+        requires asked { IfRecoveryAsked self.old.shape self.old.trace.recovery (M.lent memory.old).request }
         ensures world { state_of self.new (M.words memory.new)
             ≡ after_recover (is_no_memory result) (state_of self.old (M.words memory.old)) }
         ensures result { result ≡ recover_result (is_no_memory result) (state_of self.old (M.words memory.old)) }
@@ -114,6 +119,8 @@ impl<L: Layout + Drop> Core<L> {
         ensures spare { IfErr result (λ e. self.old.trace.room ≤ self.new.trace.room) }
         ensures stays { result ≡ Ok false → self.old.trace.room ≤ self.new.trace.room }
         ensures holds { Holds (state_of self.new (M.words memory.new)) }
+        ensures lent { M.lent memory.new ≡ lent_after_recover (is_no_memory result)
+            (state_of self.old (M.words memory.old)) (M.lent memory.old) }
     {
         if !self.is_down() {
             return Err(Refusal::AlreadyReady);

@@ -24,6 +24,7 @@ impl<L: Layout + Drop> Core<L> {
         ensures result { result ≡ evict_result (state_of self.old (M.words memory.old)) word }
         ensures room { self.new.trace.room ≡ self.old.trace.room }
         ensures holds { Holds (state_of self.new (M.words memory.new)) }
+        ensures lent { M.lent memory.new ≡ M.lent memory.old }
     {
         let change = memory.evict(word)?;
         self.note_change(memory, change);

@@ -29,7 +29,8 @@ use words::{Client, Refusal, Told};
 
 /// A world without its memory: what a queue keeps for its clients, the calls that they have under way, and what
 /// happened. Each act is lent the memory, or a window on it, and is the act of a [`World`](crate::World) on those
-/// words; the caller lends the same words each time.
+/// words; the caller lends the same words each time. Each client has a port of its own, and recovery another, through
+/// which the words are lent to it: so each completes the flushes that it asked for, and no other ones.
 #[derive(Drop)]
 pub struct Core<L: Layout + Drop> {
     pub(crate) layout: L,

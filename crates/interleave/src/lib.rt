@@ -11,6 +11,7 @@ mod evicting;
 mod laws;
 mod lent;
 mod notice;
+mod ported;
 mod queue;
 mod rotating;
 mod starting;

@@ -84,7 +84,7 @@ impl<L: Layout + Drop> Core<L> {
         }
     }
 
-    /// What takes effect by a change of a kept word, if there was one: by a step's flush, or by an eviction.
+    /// What takes effect by a change of a kept word, if there was one: by a step's fence, or by an eviction.
     pub(crate) fn note_change<M: EvictableWords>(&mut self, memory: &M, change: Option<Change>)
         requires fit { WordsFit self.old.shape (M.words memory.now) }
         requires sequence { AreInSequence self.old.trace.log.effects }

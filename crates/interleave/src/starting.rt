@@ -29,6 +29,7 @@ impl<L: Layout + Drop> Core<L> {
         requires room { size_of self.now.shape ≤ length (M.words memory.old).cached }
         ensures value { result ≡ slice_index (M.words memory.old).cached (word_at self.now.shape (Bump client)) }
         ensures one_access { M.words memory.new ≡ after_one self.now.shape (Load (Bump client)) (M.words memory.old) }
+        ensures lent { M.lent memory.new ≡ M.lent memory.old }
     {
         load_at(&self.layout, memory, Place::Bump(client))
     }
@@ -76,6 +77,7 @@ impl<L: Layout + Drop> Core<L> {
             ≡ start_with (is_no_memory result) (state_of self.old (M.words memory.old)) client call (Ok number) }
         ensures result { result
             ≡ start_result_with (is_no_memory result) (state_of self.old (M.words memory.old)) client (Ok number) }
+        ensures lent { M.lent memory.new ≡ M.lent memory.old }
         ensures full { is_no_memory result ≡ true → self.old.trace.room ≡ 0 }
         ensures room { self.old.trace.room ≤ self.new.trace.room + 1 }
         ensures spare { IfErr result (λ e. self.old.trace.room ≤ self.new.trace.room) }
@@ -115,6 +117,7 @@ impl<L: Layout + Drop> Core<L> {
             ≡ after_start (is_no_memory result) (state_of self.old (M.words memory.old)) client number call }
         ensures result { result
             ≡ start_result (is_no_memory result) (state_of self.old (M.words memory.old)) client number }
+        ensures lent { M.lent memory.new ≡ M.lent memory.old }
         ensures full { is_no_memory result ≡ true → self.old.trace.room ≡ 0 }
         ensures room { self.old.trace.room ≤ self.new.trace.room + 1 }
         ensures spare { IfErr result (λ e. self.old.trace.room ≤ self.new.trace.room) }

@@ -1,11 +1,12 @@
 //! One step of a call.
 
-ghost use Rattle.std.specs.Prelude.{◌≡◌, ◌≤◌, ◌<◌, ◌+◌, length, is_some, slice_get, slice_set, Some, None, Ok, true, false, IfErr};
+ghost use Rattle.std.specs.Prelude.{◌≡◌, ◌≤◌, ◌<◌, ◌+◌, length, is_some, slice_get, slice_index_or, slice_set, Some, None, Ok, true, false, IfErr};
 ghost use Rattle.arena.specs.Layout.{size_of};
-ghost use Rattle.stepper.specs.Step.{after_one, change_by, value_found, IsReadInRange};
+ghost use Rattle.stepper.specs.Step.{after_one, change_by, lent_after_one, value_found, IsAskedFor, IsReadInRange};
 ghost use Rattle.helping.specs.Table.{access_of, successor, IsPoint};
 ghost use Rattle.protocol.specs.declared.UnderWay.{UnderWay as AnyUnderWay};
 ghost use Rattle.protocol.specs.Machine.{effects_after, events_after, next_of, with_step, with_next};
+ghost use Rattle.interleave.specs.Asked.{lent_after_step, IfCallAsked};
 ghost use Rattle.interleave.specs.Calls.{answer_of, is_no_memory, waiting_result, went_on_to_nothing};
 ghost use Rattle.interleave.specs.Core.{core_with_effects, machine_over, state_of};
 ghost use Rattle.interleave.specs.Effects.{AreInSequence};
@@ -46,8 +47,11 @@ impl<L: Layout + Drop> Core<L> {
         requires point { IsPoint self.now.shape op }
         requires read { let s = self.now.shape in let access = access_of s.kind op in
             IsReadInRange s access (value_found s access (M.words memory.old)) }
+        requires asked { let s = self.now.shape in IsAskedFor s (access_of s.kind op) (M.lent memory.old).request }
         ensures one_access { let s = self.now.shape in
             M.words memory.new ≡ after_one s (access_of s.kind op) (M.words memory.old) }
+        ensures lent { let s = self.now.shape in
+            M.lent memory.new ≡ lent_after_one s (access_of s.kind op) (M.lent memory.old) }
         ensures next { let s = self.now.shape in let access = access_of s.kind op in
             result.after ≡ successor s.kind op (value_found s access (M.words memory.old)) }
         ensures change { let s = self.now.shape in
@@ -116,6 +120,8 @@ impl<L: Layout + Drop> Core<L> {
         under_way: UnderWay,
     ) -> Option<Reply>
         requires safe { IsSafe self.old.shape (M.words memory.old) self.old.calls }
+        requires asked { let s = self.old.shape in
+            IsAskedFor s (access_of s.kind under_way.op) (M.lent memory.old).request }
         requires waits { slice_get self.old.calls client.0 ≡ Some (Some under_way) }
         requires sequence { AreInSequence self.old.trace.log.effects }
         requires effects { length (effects_after (machine_over self.old (M.words memory.old)) under_way under_way.op)
@@ -123,6 +129,8 @@ impl<L: Layout + Drop> Core<L> {
         requires room { 0 < self.old.trace.room }
         ensures words { M.words memory.new
             ≡ after_one self.old.shape (access_of self.old.shape.kind under_way.op) (M.words memory.old) }
+        ensures lent { M.lent memory.new
+            ≡ lent_after_one self.old.shape (access_of self.old.shape.kind under_way.op) (M.lent memory.old) }
         ensures shape { self.new.shape ≡ self.old.shape }
         ensures queue { self.new.queue ≡ self.old.queue }
         ensures calls { self.new.calls ≡ slice_set self.old.calls client.0
@@ -141,7 +149,8 @@ impl<L: Layout + Drop> Core<L> {
         self.go_on(client, stepped.after)
     }
 
-    /// One step of a client's call: exactly one access. It answers the reply where that was the last. It is refused, in
+    /// One step of a client's call: exactly one access. It answers the reply where that was the last. The words are
+    /// lent through the client's port: a call that waits to complete a flush has asked for it there. It is refused, in
     /// this order, where there is no such client (NoClient), where recovery is under way (NotReady), where it has no
     /// call (Idle), and for want of memory (NoMemory).
     #[inline(always)]
@@ -151,6 +160,8 @@ impl<L: Layout + Drop> Core<L> {
         client: Client,
     ) -> Result<Option<Reply>, Refusal>
         requires holds { Holds (state_of self.old (M.words memory.old)) }
+        requires asked { IfCallAsked self.old.shape (slice_index_or self.old.calls client.0 None)
+            (M.lent memory.old).request }
         ensures world { state_of self.new (M.words memory.new)
             ≡ after_step (is_no_memory result) (state_of self.old (M.words memory.old)) client }
         ensures result { result ≡ step_result (is_no_memory result) (state_of self.old (M.words memory.old)) client }
@@ -159,6 +170,8 @@ impl<L: Layout + Drop> Core<L> {
         ensures spare { IfErr result (λ e. self.old.trace.room ≤ self.new.trace.room) }
         ensures stays { result ≡ Ok None → self.old.trace.room ≤ self.new.trace.room }
         ensures holds { Holds (state_of self.new (M.words memory.new)) }
+        ensures lent { M.lent memory.new ≡ lent_after_step (is_no_memory result)
+            (state_of self.old (M.words memory.old)) client (M.lent memory.old) }
     {
         let under_way = self.waiting(client)?;
         self.reserve(1)?;

@@ -5,16 +5,17 @@ ghost use Rattle.std.specs.Prelude.{◌≡◌, ◌<◌, ◌≤◌, ◌+◌, ◌+
 ghost use Rattle.events.specs.Effects.{with_effect, without_pending, with_settled, settled_effects};
 ghost use Rattle.interleave.specs.Effects.{effects_with_look, AreInSequence};
 ghost use Rattle.events.specs.declared.event.Event.TheVariants.{Call as call_event, Return as return_event, Crash as crash_event, Ready as ready_event};
-ghost use Rattle.stepper.specs.Step.{after_one, value_found};
+ghost use Rattle.stepper.specs.Step.{after_one, lent_after_one, value_found};
 ghost use Rattle.recover.specs.Table.{access_of, boot_recovery, recovery_after};
 ghost use Rattle.recover.specs.declared.recovery.Recovery.{Recovery as AnyRecovery};
+ghost use Rattle.interleave.specs.Asked.{IfRecoveryAsked};
 ghost use Rattle.interleave.specs.Recoveries.{HasReached, MayRecover};
 ghost use Rattle.protocol.specs.Rotated.{empty_trace};
 ghost use Rattle.interleave.specs.Trace.{with_effects};
 
 use crate::effects::{forget, settle};
 use arena::Layout;
-use events::{Effect, Event, History, Sequence, keep_settled};
+use events::{Effect, Event, Events, History, Sequence, keep_settled};
 use persist::WordMemory;
 use protocol::Issued;
 use recover::{Recovery, boot};
@@ -63,7 +64,7 @@ impl Trace {
             history: History {
                 base: Sequence::new(alloc),
                 told,
-                events: Sequence::new(alloc),
+                events: Events::new(alloc),
             },
             issued: Vec::new(alloc),
             effects: Vec::new(alloc),
@@ -82,7 +83,7 @@ impl Trace {
             history: History {
                 base: Sequence::from_vec(base),
                 told,
-                events: Sequence::new(alloc),
+                events: Events::new(alloc),
             },
             issued: Vec::new(alloc),
             effects: Vec::new(alloc),
@@ -201,11 +202,13 @@ impl Trace {
     pub(crate) fn recover<L: Layout, M: WordMemory>(&mut self, layout: &L, memory: &mut M) -> bool
         requires down { is_some self.old.recovery ≡ true }
         requires may { IfSome self.old.recovery (λ r. MayRecover (L.shape layout.now) (M.words memory.old) r) }
+        requires asked { IfRecoveryAsked (L.shape layout.now) self.old.recovery (M.lent memory.old).request }
         ensures base { self.new.base ≡ self.old.base }
         ensures told { self.new.told ≡ self.old.told }
         ensures log { self.new.log ≡ self.old.log }
         ensures step { (r : AnyRecovery) → self.old.recovery ≡ Some r → let s = L.shape layout.now in
             let access = access_of s.kind r.at in (M.words memory.new ≡ after_one s access (M.words memory.old))
+            × (M.lent memory.new ≡ lent_after_one s access (M.lent memory.old))
             × HasReached result self.new.recovery (recovery_after s r (value_found s access (M.words memory.old))) }
         ensures room { self.new.room ≡ self.old.room }
     {

@@ -30,7 +30,8 @@ use words::{Call, Client, MAX_STEPS_ALONE, Refusal, Reply, Told};
 
 /// One queue over its memory, the calls that its clients have under way, and what happened. A call is started, and
 /// then goes on by single steps, each of them one access to the memory, in any interleaving with the others; at any
-/// moment the environment may keep a word, or the whole system may stop, and then recover by single steps.
+/// moment the environment may keep a word, or the whole system may stop, and then recover by single steps. Each client
+/// acts through the memory's port of its number, and recovery through [`RECOVERY_PORT`](words::RECOVERY_PORT).
 #[derive(Drop)]
 pub struct World<L: Layout + Drop> {
     core: Core<L>,
@@ -38,15 +39,15 @@ pub struct World<L: Layout + Drop> {
 }
 
 impl<L: Layout + Drop> Model for World<L> {
-    ghost use Rattle.interleave.specs.Holds.{Holds};
+    ghost use Rattle.interleave.specs.Asked.{HoldsOver};
     ghost use Rattle.interleave.specs.Core.{state_of};
     ghost use Rattle.interleave.specs.Trace.{Roomy};
 
     ghost Value = { Roomy };
 
-    ghost view = { λ w. record { now = state_of w.core w.memory; room = w.core.trace.room } };
+    ghost view = { λ w. record { now = state_of w.core w.memory.words; room = w.core.trace.room } };
 
-    ghost invariant = { λ w. Holds (state_of w.core w.memory) };
+    ghost invariant = { λ w. HoldsOver w.core w.memory };
 }
 
 impl<L: Layout + Drop> World<L> {
@@ -62,8 +63,8 @@ impl<L: Layout + Drop> World<L> {
     /// A world of a new queue on a given memory, in which no client has called. It takes no memory. The caller's
     /// condition is that all words are zero, cached and kept, and as many as the layout has, or a broker's block.
     pub fn over(alloc: Global, layout: L, memory: Memory) -> Self
-        requires { AreUnused (L.shape layout) memory }
-        ensures { result.now ≡ world_over (L.shape layout) memory }
+        requires { AreUnused (L.shape layout) memory.words }
+        ensures { result.now ≡ world_over (L.shape layout) memory.words }
     {
         World {
             core: Core::new(alloc, layout),
@@ -75,9 +76,9 @@ impl<L: Layout + Drop> World<L> {
     /// Its history begins with what the kept words hold and tell. It is refused, in this order, where the words break a
     /// rule (Damaged, with the first such rule), and for want of memory (NoMemory).
     pub fn boot(alloc: Global, layout: L, memory: Memory) -> Result<Self, Refusal>
-        ensures booted { IfOk result (λ w. w.now ≡ booted_world (L.shape layout) memory) }
-        ensures sound { IfOk result (λ w. AreSoundWords (L.shape layout) memory.kept) }
-        ensures errors { IfErr result (λ e. MayRefuse (L.shape layout) memory.kept e) }
+        ensures booted { IfOk result (λ w. w.now ≡ booted_world (L.shape layout) memory.words) }
+        ensures sound { IfOk result (λ w. AreSoundWords (L.shape layout) memory.words.kept) }
+        ensures errors { IfErr result (λ e. MayRefuse (L.shape layout) memory.words.kept e) }
     {
         let core = Core::boot(alloc, layout, &memory)?;
         let mut memory = memory;
@@ -101,7 +102,7 @@ impl<L: Layout + Drop> World<L> {
         ensures reused { result ≡ Ok tt → EarlierLeftNothing self.old.now client }
         ensures turn { result ≡ Ok tt → NobodyCalls self.old.now → IsInTurn self.new.now client call }
     {
-        self.core.start(&mut self.memory, client, number, call)
+        self.core.start_in(&mut self.memory, client, number, call)
     }
 
     /// One step of a client's call: exactly one access. It answers the reply where that was the last. It is
@@ -119,7 +120,7 @@ impl<L: Layout + Drop> World<L> {
         ensures order { IsPartOf (order_in self.old.now) (order_in self.new.now) }
         ensures ended { EndedCallsStay self.old.now self.new.now }
     {
-        self.core.step(&mut self.memory, client)
+        self.core.step_in(&mut self.memory, client)
     }
 
     /// The environment keeps a word. It is no access, takes no memory, and may make a call take effect. It is refused
@@ -136,7 +137,7 @@ impl<L: Layout + Drop> World<L> {
         ensures holds { is_down self.old.now ≡ true → kept_content self.new.now ≡ kept_content self.old.now }
         ensures left { steps_to_ready self.new.now ≡ steps_to_ready self.old.now }
     {
-        self.core.evict(&mut self.memory, word)
+        self.core.evict_in(&mut self.memory, word)
     }
 
     /// The whole system stops: what is not kept is lost, calls under way end without an answer, and recovery begins
@@ -183,7 +184,7 @@ impl<L: Layout + Drop> World<L> {
         ensures few { steps_to_ready self.old.now ≤ most_to_ready (self.old.now.shape) }
         ensures falls { IfOk result (λ ready. steps_to_ready self.new.now < steps_to_ready self.old.now) }
     {
-        self.core.recover_step(&mut self.memory)
+        self.core.recover_step_in(&mut self.memory)
     }
 
     /// The history ends, and another begins: its base is what the kept words hold and tell, so that a log queue's
@@ -215,14 +216,14 @@ impl<L: Layout + Drop> World<L> {
 
     /// Its memory, to look at what is kept.
     pub fn memory(&self) -> &Memory
-        ensures { result.now ≡ self.now.now.words }
+        ensures { result.now.words ≡ self.now.now.words }
     {
         &self.memory
     }
 
     /// Ends the world, and hands back its memory.
     pub fn into_memory(self) -> Memory
-        ensures { result ≡ self.now.words }
+        ensures { result.words ≡ self.now.words }
     {
         self.memory
     }
@@ -302,7 +303,7 @@ impl<L: Layout + Drop> World<L> {
         ensures turn { IfOk result (λ answer. (call : AnyCall) → IsInTurn self.old.now client call
             → IsServedAlone self.old.now call answer.0 self.new.now) }
     {
-        self.core.run_alone(&mut self.memory, client)
+        self.core.run_alone_in(&mut self.memory, client)
     }
 
     /// Makes room, so that the next acts, so many of them, are not refused for want of memory.

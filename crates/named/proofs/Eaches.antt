@@ -63,8 +63,8 @@ module _ (become : Slot → Slot → Type 0) where
 
 same_slot : (s : Slot) → IsSameSlot s s
 same_slot Closed = tt
-same_slot (Durable block) = (refl, refl, refl)
-same_slot (Log block) = (refl, refl, refl)
+same_slot (Durable block) = (refl, refl, refl, refl)
+same_slot (Log block) = (refl, refl, refl, refl)
 
 as_ready : (s : Slot) → IsAsReady s s
 as_ready Closed = tt

@@ -1,10 +1,10 @@
 -- An eviction through a window on a block is one of the whole memory.
-use Rattle.std.proofs.Common.{◌≡◌, ℕ, ◌+◌, ◌-◌, ◌<◌, ◌≤◌, ◌++◌, List, length, take, drop, slice_index, Bool, true, false, if◌then◌else◌, ◌==◌, Option, Some, None, Ok, refl, sym, ap, ◌∙◌, subst, arith}
+use Rattle.std.proofs.Common.{◌≡◌, ℕ, ◌+◌, ◌-◌, ◌<◌, ◌≤◌, ◌++◌, List, length, take, drop, slice_index, Bool, true, false, if◌then◌else◌, ◌==◌, Option, Some, None, Ok, refl, sym, ap, ◌∙◌, subst, arith, length-drop, length-take}
 use Rattle.std.proofs.lemmas.List.{take-append-drop, drop-drop}
 use Rattle.persist.specs.Changes.{change_at, change_of}
 use Rattle.persist.specs.declared.access.Change.{Change}
-use Rattle.persist.specs.Memory.{Words, part, words_after_eviction}
-use Rattle.persist.proofs.Parts.{change_within, part_evicted}
+use Rattle.persist.specs.Memory.{IsSameOutside, Words, words_after_eviction, words_in}
+use Rattle.persist.proofs.Parts.{change_within, part_evicted, set_after, set_before}
 use Rattle.interleave.specs.Changes.{effects_on_change}
 use Rattle.interleave.specs.Core.{CoreState, state_of}
 use Rattle.interleave.specs.Holds.{Holds}
@@ -25,10 +25,10 @@ whole from len c d before here after_it =
     sym (take-append-drop from c) ∙ ap (λ (h : List ℕ). h ++ drop from c) before ∙ ap (λ (t : List ℕ). take from d ++ t) rest ∙ take-append-drop from d
 
 -- so it is of the values of two memories that show the same in a part, and lie alike around it
-pub same_words : (name from len : ℕ) (u v : Words) → part name from len u ≡ part name from len v → IsSameWords v u
-same_words name from len u v e = record {
-  cached = whole from len u.cached v.cached (ap (λ (ws : Words). ws.around.cached_before) e) (ap (λ (ws : Words). ws.cached) e) (ap (λ (ws : Words). ws.around.cached_after) e);
-  kept = whole from len u.kept v.kept (ap (λ (ws : Words). ws.around.kept_before) e) (ap (λ (ws : Words). ws.kept) e) (ap (λ (ws : Words). ws.around.kept_after) e);
+same_words : (from len : ℕ) (u v : Words) → IsSameOutside from len v u → words_in from len u ≡ words_in from len v → IsSameWords v u
+same_words from len u v around e = record {
+  cached = whole from len u.cached v.cached around.cached_before (ap (λ (ws : Words). ws.cached) e) around.cached_after;
+  kept = whole from len u.kept v.kept around.kept_before (ap (λ (ws : Words). ws.kept) e) around.kept_after;
   accesses = ap (λ (ws : Words). ws.accesses) e;
 }
 
@@ -44,22 +44,21 @@ module _ (c : CoreState) (ws : Words) (word : ℕ) (holds : Holds (state_of c ws
   result_evicted = evicted_change c.shape ws c.queue c.calls c.trace word holds within
 
 -- the words of the whole memory, where its part was evicted so
-pub whole_evicted : (name from len name2 from2 len2 word : ℕ) (old new : Words) → from ≤ word → word < from + len
-    → part name2 from2 len2 new ≡ words_after_eviction (word - from) (part name from len old)
-    → IsSameWords (words_after_eviction word old) new
-whole_evicted name from len name2 from2 len2 word old new low high e =
+pub whole_evicted : (from len word : ℕ) (old new : Words) → from ≤ word → word < from + len → IsSameOutside from len old new
+    → words_in from len new ≡ words_after_eviction (word - from) (words_in from len old) → IsSameWords (words_after_eviction word old) new
+whole_evicted from len word old new low high outside e =
     let at : from + (word - from) ≡ word = omega (arith, low) in
-    let there : part name from len (words_after_eviction word old) ≡ words_after_eviction (word - from) (part name from len old) =
-    subst (λ n. part name from len (words_after_eviction n old) ≡ words_after_eviction (word - from) (part name from len old)) at
-    (part_evicted name from len (word - from) old (omega (arith, low, high))) in
-    let f : from2 ≡ from = ap (λ (ws : Words). ws.around.from) e in
-    let l : len2 ≡ len = ap (λ (ws : Words). ws.around.len) e in
-    let n : name2 ≡ name = ap (λ (ws : Words). ws.around.lender) e in
-    let here : part name from len new ≡ words_after_eviction (word - from) (part name from len old) =
-    subst (λ x. part x from len new ≡ words_after_eviction (word - from) (part name from len old)) n
-    (subst (λ x. part name2 x len new ≡ words_after_eviction (word - from) (part name from len old)) f
-    (subst (λ x. part name2 from2 x new ≡ words_after_eviction (word - from) (part name from len old)) l e)) in
-    same_words name from len new (words_after_eviction word old) (here ∙ sym there)
+    let near : word - from < len = omega (arith, low, high) in
+    let there : words_in from len (words_after_eviction word old) ≡ words_after_eviction (word - from) (words_in from len old) =
+    subst (λ n. words_in from len (words_after_eviction n old) ≡ words_after_eviction (word - from) (words_in from len old)) at (part_evicted from len (word - from) old near) in
+    let around : IsSameOutside from len (words_after_eviction word old) new = record {
+      cached_before = outside.cached_before;
+      cached_after = outside.cached_after;
+      kept_before = outside.kept_before ∙ sym (subst (λ n. take from (words_after_eviction n old).kept ≡ take from old.kept) at (set_before old.kept from (word - from) (slice_index old.cached (from + (word - from)))));
+      kept_after = outside.kept_after
+          ∙ sym (subst (λ n. drop (from + len) (words_after_eviction n old).kept ≡ drop (from + len) old.kept) at (set_after old.kept from len (word - from) (slice_index old.cached (from + (word - from))) near));
+    } in
+    same_words from len new (words_after_eviction word old) around (e ∙ sym there)
 
 -- the change in the whole memory's numbers
 own_number : (word : ℕ) (ws : Words) → change_at word (change_of ws word) ≡ change_of ws word
@@ -74,10 +73,16 @@ twice : (a b : ℕ) (o : Option Change) → change_at a (change_at b o) ≡ chan
 twice a b None = refl
 twice a b (Some change) = refl
 
-pub change_there : (name from len word : ℕ) (old : Words) → from ≤ word → word < from + len
-    → change_at word (change_of (part name from len old) (word - from)) ≡ change_of old word
-change_there name from len word old low high =
+pub change_there : (from len word : ℕ) (old : Words) → from ≤ word → word < from + len
+    → change_at word (change_of (words_in from len old) (word - from)) ≡ change_of old word
+change_there from len word old low high =
     let at : from + (word - from) ≡ word = omega (arith, low) in
-    let e : change_at (word - from) (change_of old (from + (word - from))) ≡ change_of (part name from len old) (word - from) =
-    change_within name from len (word - from) old (omega (arith, low, high)) in
+    let e : change_at (word - from) (change_of old (from + (word - from))) ≡ change_of (words_in from len old) (word - from) =
+    change_within from len (word - from) old (omega (arith, low, high)) in
     ap (change_at word) (sym e) ∙ twice word (word - from) (change_of old (from + (word - from))) ∙ ap (λ n. change_at word (change_of old n)) at ∙ own_number word old
+
+-- a word of a block, by its number there
+pub within_block : (from len word : ℕ) (ws : Words) → from ≤ word → word < from + len → from + len ≤ length ws.cached → word - from < length (words_in from len ws).cached
+within_block from len word ws low high inside =
+    let size : length (words_in from len ws).cached ≡ len = omega (arith, length-take len (drop from ws.cached), length-drop from ws.cached, inside) in
+    omega (arith, low, high, size)

@@ -69,9 +69,11 @@ block_stays c j kind block old new same long here = record {
   shape = here.shape;
   from = here.from;
   len = here.len;
+  port = here.port;
   well = record {
     some = here.well.some;
     inside = omega (arith, here.well.inside, long);
+    ports = here.well.ports;
     holds = holds_alike block.core (words_in block.from block.len old) (words_in block.from block.len new)
         (rw (here.from, here.len) same.0) (rw (here.from, here.len) same.1) here.well.holds;
   };
@@ -189,8 +191,8 @@ directory_stays old new (Some recovery) creation directory same here = down_stay
 pub slot_now : (c : Counts) (old new : Words) (i : ℕ) (was is : Slot) → IsSlotAt c old i was → IsSlotWell new is → IsSameSlot was is
     → IsSameOutsideSlot was old new → IsSlotAt c new i is
 slot_now c old new i Closed Closed here well place outside = subst (λ (ws : Words). IsUnusedBlock c ws i) (sym outside) here
-slot_now c old new i (Durable was) (Durable is) here well place outside = record { shape = place.2 ∙ here.shape; from = place.0 ∙ here.from; len = place.1 ∙ here.len; well = well }
-slot_now c old new i (Log was) (Log is) here well place outside = record { shape = place.2 ∙ here.shape; from = place.0 ∙ here.from; len = place.1 ∙ here.len; well = well }
+slot_now c old new i (Durable was) (Durable is) here well place outside = record { shape = place.3 ∙ here.shape; from = place.0 ∙ here.from; len = place.1 ∙ here.len; port = place.2 ∙ here.port; well = well }
+slot_now c old new i (Log was) (Log is) here well place outside = record { shape = place.3 ∙ here.shape; from = place.0 ∙ here.from; len = place.1 ∙ here.len; port = place.2 ∙ here.port; well = well }
 slot_now c old new i Closed (Durable is) here well place outside = absurd place
 slot_now c old new i Closed (Log is) here well place outside = absurd place
 slot_now c old new i (Durable was) Closed here well place outside = absurd place

@@ -4,6 +4,8 @@ pub mod Comings
 pub mod EvictedWell
 pub mod Evicted
 pub mod Stays
+pub mod Windows
+pub mod Askings
 pub mod Kept
 pub mod Reserved
 pub mod Begun

@@ -16,7 +16,7 @@ use Rattle.named.specs.declared.slot.Slot.TheVariants.{Closed}
 use Rattle.named.specs.Slots.{IsReadyIn}
 use Rattle.named.proofs.Kept.{length_set}
 
-get_replicate : {X : Type 0} (n : ℕ) (x : X) (i : ℕ) (y : X) → slice_get (replicate n x) i ≡ Some y → y ≡ x
+pub get_replicate : {X : Type 0} (n : ℕ) (x : X) (i : ℕ) (y : X) → slice_get (replicate n x) i ≡ Some y → y ≡ x
 get_replicate zero x i y e = absurd (cc)
 get_replicate (suc n) x zero y e = cc
 get_replicate (suc n) x (suc i) y e = get_replicate n x i y e

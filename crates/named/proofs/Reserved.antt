@@ -28,6 +28,7 @@ block_reserved : (ws : Words) (was is : BlockState) → IsWellIn ws was → LieI
 block_reserved ws was is here place same = record {
   some = omega (arith, here.some, place.1);
   inside = omega (arith, here.inside, place.0, place.1);
+  ports = omega (arith, here.ports, place.2);
   holds = subst Holds (some_is (Some (state_in ws was)) (state_in ws was) (state_in ws is) refl (sym same)) here.holds;
 }
 

@@ -145,8 +145,8 @@ all_quiet b holds ready nobody at slot here = (
 
 anew_at : (c : Counts) (ws : Words) (at : ℕ) (was is : Slot) → IsSlotAt c ws at was → IsSlotWell ws is → IsSameSlot was is → IsSlotAt c ws at is
 anew_at c ws at Closed Closed here well place = here
-anew_at c ws at (Durable was) (Durable is) here well place = record { shape = place.2 ∙ here.shape; from = place.0 ∙ here.from; len = place.1 ∙ here.len; well = well }
-anew_at c ws at (Log was) (Log is) here well place = record { shape = place.2 ∙ here.shape; from = place.0 ∙ here.from; len = place.1 ∙ here.len; well = well }
+anew_at c ws at (Durable was) (Durable is) here well place = record { shape = place.3 ∙ here.shape; from = place.0 ∙ here.from; len = place.1 ∙ here.len; port = place.2 ∙ here.port; well = well }
+anew_at c ws at (Log was) (Log is) here well place = record { shape = place.3 ∙ here.shape; from = place.0 ∙ here.from; len = place.1 ∙ here.len; port = place.2 ∙ here.port; well = well }
 anew_at c ws at Closed (Durable is) here well place = absurd place
 anew_at c ws at Closed (Log is) here well place = absurd place
 anew_at c ws at (Durable was) Closed here well place = absurd place

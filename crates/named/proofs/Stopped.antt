@@ -108,8 +108,8 @@ few_in_each b holds at slot e = few b.words slot (slot_is_well b.counts b.words 
 block_stopped : (c : Counts) (old new : Words) (at : ℕ) (was is : Slot) → (IsUnusedBlock c old at → IsUnusedBlock c new at) → IsSlotAt c old at was
     → IsSlotWell new is → IsSameSlot was is → IsSlotAt c new at is
 block_stopped c old new at Closed Closed unused here well place = unused here
-block_stopped c old new at (Durable was) (Durable is) unused here well place = record { shape = place.2 ∙ here.shape; from = place.0 ∙ here.from; len = place.1 ∙ here.len; well = well }
-block_stopped c old new at (Log was) (Log is) unused here well place = record { shape = place.2 ∙ here.shape; from = place.0 ∙ here.from; len = place.1 ∙ here.len; well = well }
+block_stopped c old new at (Durable was) (Durable is) unused here well place = record { shape = place.3 ∙ here.shape; from = place.0 ∙ here.from; len = place.1 ∙ here.len; port = place.2 ∙ here.port; well = well }
+block_stopped c old new at (Log was) (Log is) unused here well place = record { shape = place.3 ∙ here.shape; from = place.0 ∙ here.from; len = place.1 ∙ here.len; port = place.2 ∙ here.port; well = well }
 block_stopped c old new at Closed (Durable is) unused here well place = absurd place
 block_stopped c old new at Closed (Log is) unused here well place = absurd place
 block_stopped c old new at (Durable was) Closed unused here well place = absurd place

@@ -1,8 +1,9 @@
 -- A broker: one memory, and eight slots in it.
-use Rattle.std.specs.Prelude.{◌≡◌, ℕ, ◌+◌, ◌<◌, ◌≤◌, ◌⊎◌, Bool, true, false, ◌&&◌, not, IsSome, is_some, is_ok, List, Ok, Option, Some, None, Result, Err, length, replicate, slice_get, slice_set, nat_lt, if◌then◌else◌}
+use Rattle.std.specs.Prelude.{◌≡◌, ℕ, ◌+◌, ◌*◌, ◌<◌, ◌≤◌, ◌⊎◌, Bool, true, false, ◌&&◌, not, IsSome, is_some, is_ok, List, Ok, Option, Some, None, Result, Err, length, replicate, slice_get, slice_set, nat_lt, if◌then◌else◌}
 use Rattle.std.specs.Option.{option_map}
 use Rattle.words.specs.declared.call.Client.{Client}
 use Rattle.words.specs.declared.call.Kind.{Kind}
+use Rattle.words.specs.declared.limits.TheConstants.{QUEUE_PORTS}
 use Rattle.words.specs.declared.call.Kind.TheVariants.{Durable as durable_kind, Log as log_kind}
 use Rattle.words.specs.declared.refusal.Refusal.{Refusal}
 use Rattle.words.specs.declared.refusal.Refusal.TheVariants.{NoClient, NotReady, BadName, Busy, Exists, DirectoryFull}
@@ -99,11 +100,13 @@ pub record IsUnusedBlock (c : Counts) (ws : Words) (slot : ℕ) : Type 0 where
   pub cached : (block_words c slot ws).cached ≡ replicate (block_size_of c.clients c.records) 0
   pub kept : (block_words c slot ws).kept ≡ replicate (block_size_of c.clients c.records) 0
 
--- the queue lies in the slot's block, is laid out as the broker's counts say, and its world holds there
+-- the queue lies in the slot's block, acts through the slot's ports, is laid out as the broker's counts say, and its
+-- world holds there
 pub record IsInBlock (c : Counts) (ws : Words) (slot : ℕ) (kind : Kind) (block : BlockState) : Type 0 where
   pub shape : block.core.shape ≡ shape_of kind c
   pub from : block.from ≡ block_from c slot
   pub len : block.len ≡ block_size_of c.clients c.records
+  pub port : block.port ≡ QUEUE_PORTS * slot
   pub well : IsWellIn ws block
 
 -- a closed slot has nothing in its block

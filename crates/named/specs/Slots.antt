@@ -4,9 +4,9 @@ use Rattle.words.specs.declared.call.Kind.{Kind}
 use Rattle.words.specs.declared.call.Kind.TheVariants.{Durable as durable_kind, Log as log_kind}
 use Rattle.words.specs.declared.refusal.Refusal.{Refusal}
 use Rattle.words.specs.declared.refusal.Refusal.TheVariants.{NoMemory, NoQueue}
-use Rattle.persist.specs.Memory.{Words, IsSameOutside, words_after_eviction}
+use Rattle.persist.specs.Memory.{MemoryState, Words, IsSameOutside, words_after_eviction}
 use Rattle.interleave.specs.State.{State, after_evict}
-use Rattle.named.specs.Blocks.{BlockState, state_in, IsWellIn}
+use Rattle.named.specs.Blocks.{AskAlikeBeside, BlockState, IsAskedIn, state_in, IsWellIn}
 use Rattle.named.specs.declared.slot.Slot.{Slot}
 use Rattle.named.specs.declared.slot.Slot.TheVariants.{Closed, Durable, Log}
 
@@ -60,15 +60,28 @@ IsSlotWell ws Closed = Unit {0}
 IsSlotWell ws (Durable block) = IsWellIn ws block
 IsSlotWell ws (Log block) = IsWellIn ws block
 
+-- what waits in the slot's queue to complete a flush has asked for it
+abbrev pub IsSlotAsked : MemoryState → Slot → Type 0
+IsSlotAsked m Closed = Unit {0}
+IsSlotAsked m (Durable block) = IsAskedIn m block
+IsSlotAsked m (Log block) = IsAskedIn m block
+
+-- through every port that is not the slot's queue's the same was asked for
+abbrev pub AskAlikeBesideSlot : Slot → MemoryState → MemoryState → Type 0
+AskAlikeBesideSlot Closed old new = new.asked ≡ old.asked
+AskAlikeBesideSlot (Durable block) old new = AskAlikeBeside block.port old new
+AskAlikeBesideSlot (Log block) old new = AskAlikeBeside block.port old new
+
 -- two memories differ within the slot's block at most
 abbrev pub IsSameOutsideSlot : Slot → Words → Words → Type 0
 IsSameOutsideSlot Closed old new = new ≡ old
 IsSameOutsideSlot (Durable block) old new = IsSameOutside block.from block.len old new
 IsSameOutsideSlot (Log block) old new = IsSameOutside block.from block.len old new
 
--- two blocks lie in the same place, and are laid out in the same way
+-- two blocks lie in the same place, have the same ports, and are laid out in the same way
 abbrev pub LieInOnePlace : BlockState → BlockState → Type 0
-LieInOnePlace old new = (new.from ≡ old.from) × (new.len ≡ old.len) × (new.core.shape ≡ old.core.shape)
+LieInOnePlace old new =
+    (new.from ≡ old.from) × (new.len ≡ old.len) × (new.port ≡ old.port) × (new.core.shape ≡ old.core.shape)
 
 -- the slot is closed, or open with a queue of the same kind in the same place
 abbrev pub IsSameSlot : Slot → Slot → Type 0

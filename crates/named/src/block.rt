@@ -5,6 +5,7 @@ ghost use Rattle.events.specs.Effects.{order_of};
 ghost use Rattle.interleave.specs.Queue.{told_in, told_to};
 ghost use Rattle.words.specs.declared.refusal.Refusal.{Refusal as AnyRefusal};
 ghost use Rattle.persist.specs.Changes.{change_at, change_of};
+ghost use Rattle.persist.specs.declared.memory.TheConstants.{PORTS};
 ghost use Rattle.persist.specs.Memory.{IsSameOutside, Words, words_in, words_after_crash, words_after_eviction};
 ghost use Rattle.recover.specs.Table.{boot_recovery};
 ghost use Rattle.interleave.specs.Booted.{booted_world, MayRefuse};
@@ -13,7 +14,7 @@ ghost use Rattle.interleave.specs.Ranges.{AreUnused};
 ghost use Rattle.interleave.specs.Calls.{is_no_memory};
 ghost use Rattle.interleave.specs.State.{world_over, after_step, step_result, after_start, start_result, after_alone, after_evict, after_stop, after_recover, recover_result, kept_content, IsAnsweredAlone};
 ghost use Rattle.interleave.specs.Verdicts.{number_under_way};
-ghost use Rattle.named.specs.Blocks.{state_in, waiting_in, IsSameWords, IsWellIn};
+ghost use Rattle.named.specs.Blocks.{state_in, waiting_in, AskAlikeBeside, IsAskedIn, IsSameWords, IsWellIn};
 ghost use Rattle.named.specs.Slots.{LieInOnePlace};
 
 use arena::Layout;
@@ -22,14 +23,16 @@ use interleave::Core;
 use persist::{Change, Memory};
 use std::alloc::Global;
 use std::marker::Model;
-use words::{Call, Client, MAX_STEPS_ALONE, Refusal, Reply, Told};
+use words::{Call, Client, MAX_STEPS_ALONE, QUEUE_PORTS, RECOVERY_PORT, Refusal, Reply, Told};
 
-/// A queue's core, and where its words lie: in the block of a slot.
+/// A queue's core, where its words lie, in the block of a slot, and the first of its ports: each client has one, and
+/// recovery the one behind them.
 #[derive(Drop)]
 pub(crate) struct Block<L: Layout + Drop> {
     core: Core<L>,
     from: usize,
     len: usize,
+    port: usize,
 }
 
 /// The same change, of the word of this number.
@@ -44,22 +47,24 @@ impl<L: Layout + Drop> Model for Block<L> {
 
     ghost Value = { BlockState };
 
-    ghost view = { λ s. record { core = s.core; from = s.from; len = s.len } };
+    ghost view = { λ s. record { core = s.core; from = s.from; len = s.len; port = s.port } };
 }
 
 impl<L: Layout + Drop> Block<L> {
     /// A new queue in a block that is all zero. It takes no memory.
-    pub(crate) fn new(alloc: Global, layout: L, from: usize, len: usize) -> Self
+    pub(crate) fn new(alloc: Global, layout: L, from: usize, len: usize, port: usize) -> Self
         ensures state { (ws : Words) → state_in ws result ≡ world_over (L.shape layout) (words_in from len ws) }
         ensures well { (ws : Words) → 1 ≤ len → from + len ≤ length ws.cached
-            → AreUnused (L.shape layout) (words_in from len ws) → IsWellIn ws result }
+            → port + QUEUE_PORTS ≤ PORTS → AreUnused (L.shape layout) (words_in from len ws) → IsWellIn ws result }
         ensures from { result.from ≡ from }
         ensures len { result.len ≡ len }
+        ensures port { result.port ≡ port }
     {
         Block {
             core: Core::new(alloc, layout),
             from,
             len,
+            port,
         }
     }
 
@@ -70,36 +75,52 @@ impl<L: Layout + Drop> Block<L> {
         memory: &Memory,
         from: usize,
         len: usize,
+        port: usize,
     ) -> Result<Self, Refusal>
         requires some { 1 ≤ len }
-        requires inside { from + len ≤ length memory.now.cached }
-        requires kept { from + len ≤ length memory.now.kept }
-        ensures booted { IfOk result (λ b. state_in (words_after_crash memory.now) b
-            ≡ booted_world (L.shape layout) (words_in from len memory.now)) }
-        ensures well { IfOk result (IsWellIn (words_after_crash memory.now)) }
+        requires inside { from + len ≤ length memory.now.words.cached }
+        requires kept { from + len ≤ length memory.now.words.kept }
+        requires ports { port + QUEUE_PORTS ≤ PORTS }
+        ensures booted { IfOk result (λ b. state_in (words_after_crash memory.now.words) b
+            ≡ booted_world (L.shape layout) (words_in from len memory.now.words)) }
+        ensures well { IfOk result (IsWellIn (words_after_crash memory.now.words)) }
         ensures from { IfOk result (λ b. b.from ≡ from) }
         ensures len { IfOk result (λ b. b.len ≡ len) }
-        ensures errors { IfErr result (MayRefuse (L.shape layout) (words_in from len memory.now).kept) }
+        ensures port { IfOk result (λ b. b.port ≡ port) }
+        ensures errors { IfErr result (MayRefuse (L.shape layout) (words_in from len memory.now.words).kept) }
     {
         let view = memory.view(from, len)?;
         let core = Core::boot(alloc, layout, &view)?;
-        Ok(Block { core, from, len })
+        Ok(Block {
+            core,
+            from,
+            len,
+            port,
+        })
     }
 
     /// A queue in a block that is all zero, which recovery is the first to find: its recovery is to come. It takes no
     /// memory.
-    pub(crate) fn boot_unused(alloc: Global, layout: L, from: usize, len: usize) -> Self
+    pub(crate) fn boot_unused(
+        alloc: Global,
+        layout: L,
+        from: usize,
+        len: usize,
+        port: usize,
+    ) -> Self
         ensures state { (ws : Words) → state_in ws result
             ≡ record (world_over (L.shape layout) (words_in from len ws)) { recovery = Some boot_recovery } }
         ensures well { (ws : Words) → 1 ≤ len → from + len ≤ length ws.cached
-            → AreUnused (L.shape layout) (words_in from len ws) → IsWellIn ws result }
+            → port + QUEUE_PORTS ≤ PORTS → AreUnused (L.shape layout) (words_in from len ws) → IsWellIn ws result }
         ensures from { result.from ≡ from }
         ensures len { result.len ≡ len }
+        ensures port { result.port ≡ port }
     {
         Block {
             core: Core::boot_unused(alloc, layout),
             from,
             len,
+            port,
         }
     }
 
@@ -109,20 +130,24 @@ impl<L: Layout + Drop> Block<L> {
         memory: &mut Memory,
         client: Client,
     ) -> Result<Option<Reply>, Refusal>
-        requires { IsWellIn memory.old self.old }
-        ensures state { state_in memory.new self.new
-            ≡ after_step (is_no_memory result) (state_in memory.old self.old) client }
-        ensures result { result ≡ step_result (is_no_memory result) (state_in memory.old self.old) client }
+        requires well { IsWellIn memory.old.words self.old }
+        requires asked { IsAskedIn memory.old self.old }
+        requires client { client.0 < QUEUE_PORTS }
+        ensures state { state_in memory.new.words self.new
+            ≡ after_step (is_no_memory result) (state_in memory.old.words self.old) client }
+        ensures result { result ≡ step_result (is_no_memory result) (state_in memory.old.words self.old) client }
         ensures full { is_no_memory result ≡ true → self.old.core.trace.room ≡ 0 }
         ensures room { self.old.core.trace.room ≤ self.new.core.trace.room + 1 }
         ensures spare { IfErr result (λ e. self.old.core.trace.room ≤ self.new.core.trace.room) }
         ensures stays { result ≡ Ok None → self.old.core.trace.room ≤ self.new.core.trace.room }
-        ensures well { IsWellIn memory.new self.new }
-        ensures outside { IsSameOutside self.old.from self.old.len memory.old memory.new }
+        ensures well { IsWellIn memory.new.words self.new }
+        ensures asked { IsAskedIn memory.new self.new }
+        ensures beside { AskAlikeBeside self.old.port memory.old memory.new }
+        ensures outside { IsSameOutside self.old.from self.old.len memory.old.words memory.new.words }
         ensures recovery { self.new.core.trace.recovery ≡ self.old.core.trace.recovery }
         ensures place { LieInOnePlace self.old self.new }
     {
-        let mut window = memory.window(self.from, self.len)?;
+        let mut window = memory.window(self.from, self.len, self.port + client.0 as usize)?;
         self.core.step(&mut window, client)
     }
 
@@ -134,19 +159,22 @@ impl<L: Layout + Drop> Block<L> {
         number: u64,
         call: Call,
     ) -> Result<(), Refusal>
-        requires { IsWellIn memory.old self.old }
-        ensures state { state_in memory.new self.new
-            ≡ after_start (is_no_memory result) (state_in memory.old self.old) client number call }
-        ensures result { result ≡ start_result (is_no_memory result) (state_in memory.old self.old) client number }
+        requires well { IsWellIn memory.old.words self.old }
+        requires asked { IsAskedIn memory.old self.old }
+        ensures state { state_in memory.new.words self.new
+            ≡ after_start (is_no_memory result) (state_in memory.old.words self.old) client number call }
+        ensures result { result ≡ start_result (is_no_memory result) (state_in memory.old.words self.old) client number }
         ensures full { is_no_memory result ≡ true → self.old.core.trace.room ≡ 0 }
         ensures room { self.old.core.trace.room ≤ self.new.core.trace.room + 1 }
         ensures spare { IfErr result (λ e. self.old.core.trace.room ≤ self.new.core.trace.room) }
-        ensures well { IsWellIn memory.new self.new }
-        ensures outside { IsSameOutside self.old.from self.old.len memory.old memory.new }
+        ensures well { IsWellIn memory.new.words self.new }
+        ensures asked { IsAskedIn memory.new self.new }
+        ensures beside { AskAlikeBeside self.old.port memory.old memory.new }
+        ensures outside { IsSameOutside self.old.from self.old.len memory.old.words memory.new.words }
         ensures recovery { self.new.core.trace.recovery ≡ self.old.core.trace.recovery }
         ensures place { LieInOnePlace self.old self.new }
     {
-        let mut window = memory.window(self.from, self.len)?;
+        let mut window = memory.window(self.from, self.len, self.port)?;
         self.core.start(&mut window, client, number, call)
     }
 
@@ -156,26 +184,30 @@ impl<L: Layout + Drop> Block<L> {
         memory: &mut Memory,
         client: Client,
     ) -> Result<(Reply, u32), Refusal>
-        requires { IsWellIn memory.old self.old }
-        ensures refused { (refusal : AnyRefusal) → waiting_in (state_in memory.old self.old) client ≡ Err refusal
+        requires well { IsWellIn memory.old.words self.old }
+        requires asked { IsAskedIn memory.old self.old }
+        requires client { client.0 < QUEUE_PORTS }
+        ensures refused { (refusal : AnyRefusal) → waiting_in (state_in memory.old.words self.old) client ≡ Err refusal
             → result ≡ Err refusal }
         ensures errors { IfErr result (λ e. (e ≡ Refusal.NoMemory)
-            ⊎ (waiting_in (state_in memory.old self.old) client ≡ Err e)) }
-        ensures same { IfErr result (λ e. state_in memory.new self.new ≡ state_in memory.old self.old) }
+            ⊎ (waiting_in (state_in memory.old.words self.old) client ≡ Err e)) }
+        ensures same { IfErr result (λ e. state_in memory.new.words self.new ≡ state_in memory.old.words self.old) }
         ensures full { is_no_memory result ≡ true → self.old.core.trace.room ≡ 0 }
         ensures room { self.old.core.trace.room ≤ self.new.core.trace.room + 1 }
         ensures spare { IfErr result (λ e. self.old.core.trace.room ≤ self.new.core.trace.room) }
         ensures steps { IfOk result (λ answer. answer.1 ≤ MAX_STEPS_ALONE) }
         ensures answer { IfOk result (λ answer.
-            IsAnsweredAlone (state_in memory.old self.old) client answer.1 answer.0) }
-        ensures world { IfOk result (λ answer. state_in memory.new self.new
-            ≡ after_alone answer.1 (state_in memory.old self.old) client) }
-        ensures well { IsWellIn memory.new self.new }
-        ensures outside { IsSameOutside self.old.from self.old.len memory.old memory.new }
+            IsAnsweredAlone (state_in memory.old.words self.old) client answer.1 answer.0) }
+        ensures world { IfOk result (λ answer. state_in memory.new.words self.new
+            ≡ after_alone answer.1 (state_in memory.old.words self.old) client) }
+        ensures well { IsWellIn memory.new.words self.new }
+        ensures asked { IsAskedIn memory.new self.new }
+        ensures beside { AskAlikeBeside self.old.port memory.old memory.new }
+        ensures outside { IsSameOutside self.old.from self.old.len memory.old.words memory.new.words }
         ensures recovery { self.new.core.trace.recovery ≡ self.old.core.trace.recovery }
         ensures place { LieInOnePlace self.old self.new }
     {
-        let mut window = memory.window(self.from, self.len)?;
+        let mut window = memory.window(self.from, self.len, self.port + client.0 as usize)?;
         self.core.run_alone(&mut window, client)
     }
 
@@ -212,8 +244,8 @@ impl<L: Layout + Drop> Block<L> {
 
     /// What the queue holds by the kept words of its block.
     pub(crate) fn content(&self, memory: &Memory) -> Result<Vec<u32>, Refusal>
-        requires { IsWellIn memory.now self.now }
-        ensures content { IfOk result (λ values. values.items ≡ kept_content (state_in memory.now self.now)) }
+        requires { IsWellIn memory.now.words self.now }
+        ensures content { IfOk result (λ values. values.items ≡ kept_content (state_in memory.now.words self.now)) }
         ensures errors { IfErr result (λ e. e ≡ Refusal.NoMemory) }
     {
         let view = memory.view(self.from, self.len)?;
@@ -240,20 +272,23 @@ impl<L: Layout + Drop> Block<L> {
         memory: &mut Memory,
         word: usize,
     ) -> Result<Option<Change>, Refusal>
-        requires well { IsWellIn memory.old self.old }
+        requires well { IsWellIn memory.old.words self.old }
+        requires asked { IsAskedIn memory.old self.old }
         requires from { self.old.from ≤ word }
         requires len { word < self.old.from + self.old.len }
-        ensures state { state_in memory.new self.new
-            ≡ after_evict (state_in memory.old self.old) (word - self.old.from) }
-        ensures words { IsSameWords (words_after_eviction word memory.old) memory.new }
-        ensures result { result ≡ Ok (change_of memory.old word) }
-        ensures well { IsWellIn memory.new self.new }
-        ensures outside { IsSameOutside self.old.from self.old.len memory.old memory.new }
+        ensures state { state_in memory.new.words self.new
+            ≡ after_evict (state_in memory.old.words self.old) (word - self.old.from) }
+        ensures words { IsSameWords (words_after_eviction word memory.old.words) memory.new.words }
+        ensures result { result ≡ Ok (change_of memory.old.words word) }
+        ensures well { IsWellIn memory.new.words self.new }
+        ensures asked { IsAskedIn memory.new self.new }
+        ensures beside { AskAlikeBeside self.old.port memory.old memory.new }
+        ensures outside { IsSameOutside self.old.from self.old.len memory.old.words memory.new.words }
         ensures room { self.new.core.trace.room ≡ self.old.core.trace.room }
         ensures recovery { self.new.core.trace.recovery ≡ self.old.core.trace.recovery }
         ensures place { LieInOnePlace self.old self.new }
     {
-        let mut window = memory.window(self.from, self.len)?;
+        let mut window = memory.window(self.from, self.len, self.port)?;
         let change = self.core.evict(&mut window, word - self.from)?;
         Ok(renumbered(change, word))
     }
@@ -271,19 +306,22 @@ impl<L: Layout + Drop> Block<L> {
 
     /// One step of the queue's recovery, through a window on the block. It answers whether the queue is ready now.
     pub(crate) fn recover_step(&mut self, memory: &mut Memory) -> Result<bool, Refusal>
-        requires { IsWellIn memory.old self.old }
-        ensures state { state_in memory.new self.new
-            ≡ after_recover (is_no_memory result) (state_in memory.old self.old) }
-        ensures result { result ≡ recover_result (is_no_memory result) (state_in memory.old self.old) }
+        requires well { IsWellIn memory.old.words self.old }
+        requires asked { IsAskedIn memory.old self.old }
+        ensures state { state_in memory.new.words self.new
+            ≡ after_recover (is_no_memory result) (state_in memory.old.words self.old) }
+        ensures result { result ≡ recover_result (is_no_memory result) (state_in memory.old.words self.old) }
         ensures full { is_no_memory result ≡ true → self.old.core.trace.room ≡ 0 }
         ensures room { self.old.core.trace.room ≤ self.new.core.trace.room + 1 }
         ensures spare { IfErr result (λ e. self.old.core.trace.room ≤ self.new.core.trace.room) }
         ensures stays { result ≡ Ok false → self.old.core.trace.room ≤ self.new.core.trace.room }
-        ensures well { IsWellIn memory.new self.new }
-        ensures outside { IsSameOutside self.old.from self.old.len memory.old memory.new }
+        ensures well { IsWellIn memory.new.words self.new }
+        ensures asked { IsAskedIn memory.new self.new }
+        ensures beside { AskAlikeBeside self.old.port memory.old memory.new }
+        ensures outside { IsSameOutside self.old.from self.old.len memory.old.words memory.new.words }
         ensures place { LieInOnePlace self.old self.new }
     {
-        let mut window = memory.window(self.from, self.len)?;
+        let mut window = memory.window(self.from, self.len, self.port + RECOVERY_PORT)?;
         self.core.recover_step(&mut window)
     }
 
@@ -296,8 +334,8 @@ impl<L: Layout + Drop> Block<L> {
 
     /// What another history would begin with, were this one to end now.
     pub(crate) fn prepare_rotation(&self, memory: &Memory) -> Result<Vec<u32>, Refusal>
-        requires { IsWellIn memory.now self.now }
-        ensures base { IfOk result (λ base. base.items ≡ kept_content (state_in memory.now self.now)) }
+        requires { IsWellIn memory.now.words self.now }
+        ensures base { IfOk result (λ base. base.items ≡ kept_content (state_in memory.now.words self.now)) }
         ensures quiet { (ws : Words) → OnOk result (rotate_result false (state_in ws self.now) ≡ Ok tt) }
         ensures errors { (ws : Words) → IfErr result (λ e. rotate_result true (state_in ws self.now) ≡ Err e) }
     {
@@ -307,11 +345,11 @@ impl<L: Layout + Drop> Block<L> {
 
     /// The history ends, and another begins with this base.
     pub(crate) fn begin_anew(&mut self, memory: &Memory, base: Vec<u32>)
-        requires well { IsWellIn memory.now self.old }
+        requires well { IsWellIn memory.now.words self.old }
         requires quiet { (ws : Words) → rotate_result false (state_in ws self.old) ≡ Ok tt }
-        requires base { base.items ≡ kept_content (state_in memory.now self.old) }
-        ensures state { state_in memory.now self.new ≡ after_rotation (state_in memory.now self.old) }
-        ensures well { IsWellIn memory.now self.new }
+        requires base { base.items ≡ kept_content (state_in memory.now.words self.old) }
+        ensures state { state_in memory.now.words self.new ≡ after_rotation (state_in memory.now.words self.old) }
+        ensures well { IsWellIn memory.now.words self.new }
         ensures room { self.old.core.trace.room ≤ self.new.core.trace.room }
         ensures recovery { self.new.core.trace.recovery ≡ self.old.core.trace.recovery }
         ensures place { LieInOnePlace self.old self.new }

@@ -26,12 +26,12 @@ fn check_block(
     kind: Kind,
 ) -> Result<(), Refusal>
     requires slot { slot.0 < SLOTS }
-    requires room { broker_size layout.now ≤ length memory.now.cached }
-    requires kept { broker_size layout.now ≤ length memory.now.kept }
+    requires room { broker_size layout.now ≤ length memory.now.words.cached }
+    requires kept { broker_size layout.now ≤ length memory.now.words.kept }
     ensures sound { OnOk result
-        (AreSoundWords (shape_of kind layout.now) (kept_block layout.now slot.0 memory.now.kept)) }
+        (AreSoundWords (shape_of kind layout.now) (kept_block layout.now slot.0 memory.now.words.kept)) }
     ensures damaged { IfErr result
-        (IsDamaged (shape_of kind layout.now) (kept_block layout.now slot.0 memory.now.kept)) }
+        (IsDamaged (shape_of kind layout.now) (kept_block layout.now slot.0 memory.now.words.kept)) }
 {
     let block = memory.view(layout.block(slot), layout.block_size())?;
     match kind {
@@ -42,9 +42,9 @@ fn check_block(
 
 /// Whether so it is of each open slot, in slot order.
 fn check_blocks(kept: &KeptBroker, memory: &Memory) -> Result<(), Refusal>
-    requires { AreRead memory.now kept.now.layout kept.now.directory }
-    ensures sound { OnOk result (AreBootWords memory.now.kept) }
-    ensures damaged { IfErr result (IsBlockDamaged memory.now.kept) }
+    requires { AreRead memory.now.words kept.now.layout kept.now.directory }
+    ensures sound { OnOk result (AreBootWords memory.now.words.kept) }
+    ensures damaged { IfErr result (IsBlockDamaged memory.now.words.kept) }
 {
     let places = kept.directory.queues();
     for slot in 0..SLOTS {
@@ -61,9 +61,9 @@ impl Broker {
     /// kept words hold and tell. It is refused, in this order, where the words break a rule (Damaged, with the first
     /// such rule: of the head, of the directory, of the open blocks in slot order), and for want of memory (NoMemory).
     pub fn boot(alloc: Global, mut memory: Memory) -> Result<Self, Refusal>
-        ensures booted { IfOk result (IsBooted memory) }
-        ensures sound { OnOk result (AreBootWords memory.kept) }
-        ensures errors { IfErr result (MayRefuse memory.kept) }
+        ensures booted { IfOk result (IsBooted memory.words) }
+        ensures sound { OnOk result (AreBootWords memory.words.kept) }
+        ensures errors { IfErr result (MayRefuse memory.words.kept) }
         ensures promises { IfOk result KeepsPromises }
     {
         memory.crash();

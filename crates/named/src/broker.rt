@@ -25,7 +25,10 @@ use persist::{Memory, WordMemory};
 use std::alloc::Global;
 use std::marker::Model;
 use stepper::After;
-use words::{Call, Client, Kind, MAX_CLIENTS, MAX_RECORDS, Refusal, Reply, Told};
+use words::{Call, Client, Kind, MAX_CLIENTS, MAX_RECORDS, QUEUE_PORTS, Refusal, Reply, Told};
+
+/// The port through which a creation acts: the one behind those of the slots' queues.
+pub(crate) const CREATION_PORT: usize = SLOTS * QUEUE_PORTS;
 
 /// A broker: one memory, and up to eight queues in it, each of which has a name, a kind and a slot.
 #[derive(Drop)]
@@ -41,37 +44,39 @@ pub struct Broker {
 }
 
 impl Model for Broker {
-    ghost use Rattle.named.specs.Brokers.{Brokered, IsWell};
+    ghost use Rattle.named.specs.Asked.{IsWellOver};
+    ghost use Rattle.named.specs.Brokers.{Brokered};
 
     ghost Value = { Brokered };
 
     ghost view = { λ b. record {
       counts = b.layout;
-      words = b.memory;
+      words = b.memory.words;
       slots = b.slots.items;
       directory = b.directory;
       creation = b.creation;
       recovery = b.recovery;
     } };
 
-    ghost invariant = { λ b. IsWell (record {
+    ghost invariant = { λ b. IsWellOver (record {
       counts = b.layout;
-      words = b.memory;
+      words = b.memory.words;
       slots = b.slots.items;
       directory = b.directory;
       creation = b.creation;
       recovery = b.recovery;
-    }) };
+    }) b.memory };
 }
 
 /// Stores a value in a word, and keeps it.
 fn keep(memory: &mut Memory, word: usize, value: u64)
-    requires cached { word < length memory.old.cached }
-    ensures cached { memory.new.cached ≡ slice_set memory.old.cached word value }
-    ensures kept { memory.new.kept ≡ slice_set memory.old.kept word value }
+    requires cached { word < length memory.old.words.cached }
+    ensures cached { memory.new.words.cached ≡ slice_set memory.old.words.cached word value }
+    ensures kept { memory.new.words.kept ≡ slice_set memory.old.words.kept word value }
 {
     memory.store(word, value).unwrap();
-    let _change = memory.flush(word).unwrap();
+    memory.flush(word).unwrap();
+    let _change = memory.fence().unwrap();
 }
 
 /// The memory of a new broker: its head says how many clients and records there are.
@@ -82,8 +87,8 @@ fn new_memory(
     records: u32,
 ) -> Result<Memory, Refusal>
     requires counts { layout.now ≡ record { clients = clients; records = records } }
-    ensures cached { IfOk result (λ memory. memory.cached ≡ new_words layout.now) }
-    ensures kept { IfOk result (λ memory. memory.kept ≡ new_words layout.now) }
+    ensures cached { IfOk result (λ memory. memory.words.cached ≡ new_words layout.now) }
+    ensures kept { IfOk result (λ memory. memory.words.kept ≡ new_words layout.now) }
     ensures errors { IfErr result (λ e. e ≡ Refusal.NoMemory) }
 {
     let Ok(mut memory) = Memory::new(alloc, layout.size()) else {

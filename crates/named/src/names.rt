@@ -2,17 +2,43 @@
 
 ghost use Rattle.std.specs.Prelude.{◌≡◌, ◌≢◌, ◌↔◌, ◌⊎◌, ◌<◌, ◌≤◌, ◌+◌, ℕ, true, length, replicate, slice_set, Ok, Err, IfOk, IfErr, OnOk, OnErr, IfSome, IfNone, IsSome, None, if◌then◌else◌};
 ghost use Rattle.directory.specs.Directory.{IsDirectory, IsNamed, HasName};
-ghost use Rattle.directory.specs.Creation.{successor};
+ghost use Rattle.persist.specs.Memory.{asked_through, seen_whole};
+ghost use Rattle.arena.specs.Broker.{broker_size};
+ghost use Rattle.directory.specs.Creation.{access_of, successor, IsNextAskedFor};
+ghost use Rattle.directory.specs.Step.{after_one, IsAskedFor};
 ghost use Rattle.named.specs.Brokers.{is_creating, is_down, world_at, quiet, IsBegun, IsNotCreated, MayCreate, IsStepCreated};
 ghost use Rattle.named.specs.GoingOn.{BrokerGoesOn};
 ghost use Rattle.named.specs.Promises.{KeepsPromises};
 
-use crate::broker::Broker;
+use crate::broker::{Broker, CREATION_PORT};
 use crate::slot::Slot;
-use arena::SlotId;
+use arena::{BrokerLayout, SLOTS, SlotId};
 use directory::{Creation, Name, Places, Queue};
+use persist::Memory;
 use stepper::After;
 use words::{Kind, Refusal};
+
+/// One step of a creation, through the port of creations.
+fn step_creation(
+    creation: Creation,
+    layout: &BrokerLayout,
+    memory: &mut Memory,
+) -> After<Creation, SlotId>
+    requires slot { creation.slot.0 < SLOTS }
+    requires room { broker_size layout.now ≤ length memory.old.words.cached }
+    requires asked { IsAskedFor layout.now (access_of creation) (seen_whole (asked_through memory.old CREATION_PORT)) }
+    ensures one_access { memory.new.words ≡ after_one layout.now (access_of creation) memory.old.words }
+    ensures next { result ≡ successor creation }
+    ensures asked { IsNextAskedFor layout.now result (seen_whole (asked_through memory.new CREATION_PORT)) }
+    ensures others { (port : ℕ) → port ≢ CREATION_PORT
+        → asked_through memory.new port ≡ asked_through memory.old port }
+{
+    // The ports of a memory are as many as the queues and a creation take.
+    let Ok(mut port) = memory.port(CREATION_PORT) else {
+        unreachable!();
+    };
+    creation.step(layout, &mut port)
+}
 
 impl Broker {
     /// Refuses while recovery is under way.
@@ -85,7 +111,7 @@ impl Broker {
         Ok(())
     }
 
-    /// One step of the creation: exactly one access. The eighth opens the slot, and answers it. It is refused, in this
+    /// One step of the creation: exactly one access. The twelfth opens the slot, and answers it. It is refused, in this
     /// order, while recovery is under way (NotReady), and where no creation is (Idle).
     pub fn create_step(&mut self) -> Result<Option<SlotId>, Refusal>
         ensures down { is_down self.old ≡ true → result ≡ Err Refusal.NotReady }
@@ -104,7 +130,7 @@ impl Broker {
             return Err(Refusal::Idle);
         };
         let queue = creation.queue;
-        let after = creation.step(&self.layout, &mut self.memory);
+        let after = step_creation(creation, &self.layout, &mut self.memory);
         match after {
             After::More(next) => {
                 self.creation = Some(next);

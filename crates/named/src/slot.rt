@@ -1,12 +1,13 @@
 //! A slot of a broker: closed, or open with a queue.
 
-ghost use Rattle.std.specs.Prelude.{◌≡◌, ◌⊎◌, ◌<◌, ◌≤◌, ◌+◌, true, false, is_none, length, IfOk, IfErr, OnOk, OnErr, IsSome, Ok, Err, Some, None};
+ghost use Rattle.std.specs.Prelude.{◌≡◌, ◌⊎◌, ◌<◌, ◌≤◌, ◌+◌, ◌*◌, true, false, is_none, length, IfOk, IfErr, OnOk, OnErr, IsSome, Ok, Err, Some, None};
 ghost use Rattle.persist.specs.Changes.{change_of};
+ghost use Rattle.persist.specs.declared.memory.TheConstants.{PORTS};
 ghost use Rattle.recover.specs.Table.{boot_recovery};
 ghost use Rattle.interleave.specs.Booted.{booted_world, MayRefuse};
 ghost use Rattle.named.specs.Rotating.{has_calls_in, IsBaseIn, IsBegunAnew, IsQuietIn};
 ghost use Rattle.named.specs.Each.{HasMoreRoom};
-ghost use Rattle.named.specs.Slots.{IsAsReady, IsReadyIn, IsEvictedOutside, IsWordOf, world_evicted_in, HasRoomFor};
+ghost use Rattle.named.specs.Slots.{IsAsReady, IsReadyIn, AskAlikeBesideSlot, IsEvictedOutside, IsSlotAsked, IsWordOf, world_evicted_in, HasRoomFor};
 ghost use Rattle.interleave.specs.Queue.{told_in, told_to};
 ghost use Rattle.words.specs.declared.refusal.Refusal.{Refusal as AnyRefusal};
 ghost use Rattle.interleave.specs.Calls.{is_no_memory};
@@ -24,7 +25,7 @@ use arena::{BrokerLayout, DurableLayout, LogLayout, SLOTS, SlotId};
 use events::{History, Order};
 use persist::{Change, EvictableWords, Memory};
 use std::alloc::Global;
-use words::{Call, Client, Kind, MAX_STEPS_ALONE, Refusal, Reply, Told};
+use words::{Call, Client, Kind, MAX_STEPS_ALONE, QUEUE_PORTS, Refusal, Reply, Told};
 
 /// A slot: nobody has created a queue in it, or it has one of either kind.
 #[derive(Drop)]
@@ -32,6 +33,16 @@ pub(crate) enum Slot {
     Closed,
     Durable(Block<DurableLayout>),
     Log(Block<LogLayout>),
+}
+
+/// The first of the ports of a slot's queue: each slot has a port for each client that there may be, and one for
+/// recovery.
+fn first_port(slot: SlotId) -> usize
+    requires { slot.0 < SLOTS }
+    ensures first { result ≡ QUEUE_PORTS * slot.0 }
+    ensures ports { result + QUEUE_PORTS ≤ PORTS }
+{
+    QUEUE_PORTS * slot.0 as usize
 }
 
 impl Slot {
@@ -43,16 +54,19 @@ impl Slot {
         number: u64,
         call: Call,
     ) -> Result<(), Refusal>
-        requires { IsSlotWell memory.old self.old }
-        ensures world { world_in memory.new self.new
-            ≡ acted (λ w. after_start (is_no_memory result) w client number call) (world_in memory.old self.old) }
+        requires well { IsSlotWell memory.old.words self.old }
+        requires asked { IsSlotAsked memory.old self.old }
+        ensures world { world_in memory.new.words self.new
+            ≡ acted (λ w. after_start (is_no_memory result) w client number call) (world_in memory.old.words self.old) }
         ensures result { result
-            ≡ answered (λ w. start_result (is_no_memory result) w client number) (world_in memory.old self.old) }
+            ≡ answered (λ w. start_result (is_no_memory result) w client number) (world_in memory.old.words self.old) }
         ensures full { is_no_memory result ≡ true → room_in self.old ≡ 0 }
         ensures room { room_in self.old ≤ room_in self.new + 1 }
         ensures spare { IfErr result (λ e. room_in self.old ≤ room_in self.new) }
-        ensures well { IsSlotWell memory.new self.new }
-        ensures outside { IsSameOutsideSlot self.old memory.old memory.new }
+        ensures well { IsSlotWell memory.new.words self.new }
+        ensures asked { IsSlotAsked memory.new self.new }
+        ensures beside { AskAlikeBesideSlot self.old memory.old memory.new }
+        ensures outside { IsSameOutsideSlot self.old memory.old.words memory.new.words }
         ensures same { IsSameSlot self.old self.new }
         ensures as_ready { IsAsReady self.old self.new }
     {
@@ -69,17 +83,21 @@ impl Slot {
         memory: &mut Memory,
         client: Client,
     ) -> Result<Option<Reply>, Refusal>
-        requires { IsSlotWell memory.old self.old }
-        ensures world { world_in memory.new self.new
-            ≡ acted (λ w. after_step (is_no_memory result) w client) (world_in memory.old self.old) }
+        requires well { IsSlotWell memory.old.words self.old }
+        requires asked { IsSlotAsked memory.old self.old }
+        requires client { client.0 < QUEUE_PORTS }
+        ensures world { world_in memory.new.words self.new
+            ≡ acted (λ w. after_step (is_no_memory result) w client) (world_in memory.old.words self.old) }
         ensures result { result
-            ≡ answered (λ w. step_result (is_no_memory result) w client) (world_in memory.old self.old) }
+            ≡ answered (λ w. step_result (is_no_memory result) w client) (world_in memory.old.words self.old) }
         ensures full { is_no_memory result ≡ true → room_in self.old ≡ 0 }
         ensures room { room_in self.old ≤ room_in self.new + 1 }
         ensures spare { IfErr result (λ e. room_in self.old ≤ room_in self.new) }
         ensures stays { result ≡ Ok None → room_in self.old ≤ room_in self.new }
-        ensures well { IsSlotWell memory.new self.new }
-        ensures outside { IsSameOutsideSlot self.old memory.old memory.new }
+        ensures well { IsSlotWell memory.new.words self.new }
+        ensures asked { IsSlotAsked memory.new self.new }
+        ensures beside { AskAlikeBesideSlot self.old memory.old memory.new }
+        ensures outside { IsSameOutsideSlot self.old memory.old.words memory.new.words }
         ensures same { IsSameSlot self.old self.new }
         ensures as_ready { IsAsReady self.old self.new }
     {
@@ -96,22 +114,26 @@ impl Slot {
         memory: &mut Memory,
         client: Client,
     ) -> Result<(Reply, u32), Refusal>
-        requires { IsSlotWell memory.old self.old }
+        requires well { IsSlotWell memory.old.words self.old }
+        requires asked { IsSlotAsked memory.old self.old }
+        requires client { client.0 < QUEUE_PORTS }
         ensures refused { (refusal : AnyRefusal)
-            → answered (λ w. waiting_in w client) (world_in memory.old self.old) ≡ Err refusal → result ≡ Err refusal }
+            → answered (λ w. waiting_in w client) (world_in memory.old.words self.old) ≡ Err refusal → result ≡ Err refusal }
         ensures errors { IfErr result (λ e. (e ≡ Refusal.NoMemory)
-            ⊎ (answered (λ w. waiting_in w client) (world_in memory.old self.old) ≡ Err e)) }
-        ensures same_world { IfErr result (λ e. world_in memory.new self.new ≡ world_in memory.old self.old) }
+            ⊎ (answered (λ w. waiting_in w client) (world_in memory.old.words self.old) ≡ Err e)) }
+        ensures same_world { IfErr result (λ e. world_in memory.new.words self.new ≡ world_in memory.old.words self.old) }
         ensures full { is_no_memory result ≡ true → room_in self.old ≡ 0 }
         ensures room { room_in self.old ≤ room_in self.new + 1 }
         ensures spare { IfErr result (λ e. room_in self.old ≤ room_in self.new) }
         ensures steps { IfOk result (λ answer. answer.1 ≤ MAX_STEPS_ALONE) }
-        ensures answer { IfOk result (λ answer. IfWorld (world_in memory.old self.old)
+        ensures answer { IfOk result (λ answer. IfWorld (world_in memory.old.words self.old)
             (λ w. IsAnsweredAlone w client answer.1 answer.0)) }
-        ensures world { IfOk result (λ answer. world_in memory.new self.new
-            ≡ acted (λ w. after_alone answer.1 w client) (world_in memory.old self.old)) }
-        ensures well { IsSlotWell memory.new self.new }
-        ensures outside { IsSameOutsideSlot self.old memory.old memory.new }
+        ensures world { IfOk result (λ answer. world_in memory.new.words self.new
+            ≡ acted (λ w. after_alone answer.1 w client) (world_in memory.old.words self.old)) }
+        ensures well { IsSlotWell memory.new.words self.new }
+        ensures asked { IsSlotAsked memory.new self.new }
+        ensures beside { AskAlikeBesideSlot self.old memory.old memory.new }
+        ensures outside { IsSameOutsideSlot self.old memory.old.words memory.new.words }
         ensures same { IsSameSlot self.old self.new }
         ensures as_ready { IsAsReady self.old self.new }
     {
@@ -190,11 +212,11 @@ impl Slot {
 
     /// What its queue holds by the kept words.
     pub(crate) fn content(&self, memory: &Memory) -> Result<Vec<u32>, Refusal>
-        requires { IsSlotWell memory.now self.now }
-        ensures content { IfOk result (λ values. IfWorld (world_in memory.now self.now)
+        requires { IsSlotWell memory.now.words self.now }
+        ensures content { IfOk result (λ values. IfWorld (world_in memory.now.words self.now)
             (λ w. values.items ≡ kept_content w)) }
-        ensures open { OnOk result (IsSome (world_in memory.now self.now)) }
-        ensures errors { IfErr result (IsWhyUnread (world_in memory.now self.now)) }
+        ensures open { OnOk result (IsSome (world_in memory.now.words self.now)) }
+        ensures errors { IfErr result (IsWhyUnread (world_in memory.now.words self.now)) }
     {
         match self {
             Slot::Closed => Err(Refusal::NoQueue),
@@ -234,9 +256,10 @@ impl Slot {
     {
         let from = layout.block(slot);
         let len = layout.block_size();
+        let port = first_port(slot);
         match kind {
-            Kind::Durable => Slot::Durable(Block::new(alloc, layout.durable(), from, len)),
-            Kind::Log => Slot::Log(Block::new(alloc, layout.log(), from, len)),
+            Kind::Durable => Slot::Durable(Block::new(alloc, layout.durable(), from, len, port)),
+            Kind::Log => Slot::Log(Block::new(alloc, layout.log(), from, len, port)),
         }
     }
 
@@ -253,9 +276,16 @@ impl Slot {
     {
         let from = layout.block(slot);
         let len = layout.block_size();
+        let port = first_port(slot);
         match kind {
-            Kind::Durable => Slot::Durable(Block::boot_unused(alloc, layout.durable(), from, len)),
-            Kind::Log => Slot::Log(Block::boot_unused(alloc, layout.log(), from, len)),
+            Kind::Durable => Slot::Durable(Block::boot_unused(
+                alloc,
+                layout.durable(),
+                from,
+                len,
+                port,
+            )),
+            Kind::Log => Slot::Log(Block::boot_unused(alloc, layout.log(), from, len, port)),
         }
     }
 
@@ -268,17 +298,18 @@ impl Slot {
         memory: &Memory,
     ) -> Result<Self, Refusal>
         requires slot { slot.0 < SLOTS }
-        requires room { broker_size layout.now ≤ length memory.now.cached }
-        requires kept { broker_size layout.now ≤ length memory.now.kept }
+        requires room { broker_size layout.now ≤ length memory.now.words.cached }
+        requires kept { broker_size layout.now ≤ length memory.now.words.kept }
         ensures kind { IfOk result (λ s. kind_in s ≡ Some kind) }
-        ensures world { IfOk result (λ s. world_in (words_after_crash memory.now) s
-            ≡ Some (booted_world (shape_of kind layout.now) (block_words layout.now slot.0 memory.now))) }
-        ensures at { IfOk result (IsSlotAt layout.now (words_after_crash memory.now) slot.0) }
+        ensures world { IfOk result (λ s. world_in (words_after_crash memory.now.words) s
+            ≡ Some (booted_world (shape_of kind layout.now) (block_words layout.now slot.0 memory.now.words))) }
+        ensures at { IfOk result (IsSlotAt layout.now (words_after_crash memory.now.words) slot.0) }
         ensures errors { IfErr result
-            (MayRefuse (shape_of kind layout.now) (block_words layout.now slot.0 memory.now).kept) }
+            (MayRefuse (shape_of kind layout.now) (block_words layout.now slot.0 memory.now.words).kept) }
     {
         let from = layout.block(slot);
         let len = layout.block_size();
+        let port = first_port(slot);
         match kind {
             Kind::Durable => Ok(Slot::Durable(Block::boot(
                 alloc,
@@ -286,8 +317,9 @@ impl Slot {
                 memory,
                 from,
                 len,
+                port,
             )?)),
-            Kind::Log => Ok(Slot::Log(Block::boot(alloc, layout.log(), memory, from, len)?)),
+            Kind::Log => Ok(Slot::Log(Block::boot(alloc, layout.log(), memory, from, len, port)?)),
         }
     }
 
@@ -297,14 +329,17 @@ impl Slot {
         memory: &mut Memory,
         word: usize,
     ) -> Result<Option<Change>, Refusal>
-        requires well { IsSlotWell memory.old self.old }
+        requires well { IsSlotWell memory.old.words self.old }
+        requires asked { IsSlotAsked memory.old self.old }
         requires block { IsWordOf self.old word }
-        requires word { word < length memory.old.cached }
-        ensures world { world_in memory.new self.new ≡ world_evicted_in self.old word memory.old }
-        ensures words { IsSameWords (words_after_eviction word memory.old) memory.new }
-        ensures outside { IsEvictedOutside self.old word memory.old memory.new }
-        ensures result { result ≡ Ok (change_of memory.old word) }
-        ensures well { IsSlotWell memory.new self.new }
+        requires word { word < length memory.old.words.cached }
+        ensures world { world_in memory.new.words self.new ≡ world_evicted_in self.old word memory.old.words }
+        ensures words { IsSameWords (words_after_eviction word memory.old.words) memory.new.words }
+        ensures outside { IsEvictedOutside self.old word memory.old.words memory.new.words }
+        ensures result { result ≡ Ok (change_of memory.old.words word) }
+        ensures well { IsSlotWell memory.new.words self.new }
+        ensures asked { IsSlotAsked memory.new self.new }
+        ensures beside { AskAlikeBesideSlot self.old memory.old memory.new }
         ensures room { room_in self.new ≡ room_in self.old }
         ensures same { IsSameSlot self.old self.new }
         ensures as_ready { IsAsReady self.old self.new }
@@ -334,17 +369,20 @@ impl Slot {
 
     /// One step of recovery of the slot's queue. It answers whether that is ready now.
     pub(crate) fn recover_step(&mut self, memory: &mut Memory) -> Result<bool, Refusal>
-        requires { IsSlotWell memory.old self.old }
-        ensures world { world_in memory.new self.new
-            ≡ acted (after_recover (is_no_memory result)) (world_in memory.old self.old) }
+        requires well { IsSlotWell memory.old.words self.old }
+        requires asked { IsSlotAsked memory.old self.old }
+        ensures world { world_in memory.new.words self.new
+            ≡ acted (after_recover (is_no_memory result)) (world_in memory.old.words self.old) }
         ensures result { result
-            ≡ answered (recover_result (is_no_memory result)) (world_in memory.old self.old) }
+            ≡ answered (recover_result (is_no_memory result)) (world_in memory.old.words self.old) }
         ensures full { is_no_memory result ≡ true → room_in self.old ≡ 0 }
         ensures room { room_in self.old ≤ room_in self.new + 1 }
         ensures spare { IfErr result (λ e. room_in self.old ≤ room_in self.new) }
         ensures stays { result ≡ Ok false → room_in self.old ≤ room_in self.new }
-        ensures well { IsSlotWell memory.new self.new }
-        ensures outside { IsSameOutsideSlot self.old memory.old memory.new }
+        ensures well { IsSlotWell memory.new.words self.new }
+        ensures asked { IsSlotAsked memory.new self.new }
+        ensures beside { AskAlikeBesideSlot self.old memory.old memory.new }
+        ensures outside { IsSameOutsideSlot self.old memory.old.words memory.new.words }
         ensures same { IsSameSlot self.old self.new }
     {
         match self {
@@ -397,9 +435,9 @@ impl Slot {
         alloc: Global,
         memory: &Memory,
     ) -> Result<Vec<u32>, Refusal>
-        requires well { IsSlotWell memory.now self.now }
+        requires well { IsSlotWell memory.now.words self.now }
         requires quiet { IsQuietIn self.now }
-        ensures base { IfOk result (λ base. IsBaseIn memory.now self.now base.items) }
+        ensures base { IfOk result (λ base. IsBaseIn memory.now.words self.now base.items) }
         ensures errors { IfErr result (λ e. e ≡ Refusal.NoMemory) }
     {
         match self {
@@ -411,10 +449,10 @@ impl Slot {
 
     /// The history of its queue ends, and another begins with this base.
     pub(crate) fn begin_anew(&mut self, memory: &Memory, base: Vec<u32>)
-        requires well { IsSlotWell memory.now self.old }
+        requires well { IsSlotWell memory.now.words self.old }
         requires quiet { IsQuietIn self.old }
-        requires base { IsBaseIn memory.now self.old base.items }
-        ensures { IsBegunAnew memory.now self.old self.new }
+        requires base { IsBaseIn memory.now.words self.old base.items }
+        ensures { IsBegunAnew memory.now.words self.old self.new }
     {
         match self {
             Slot::Closed => {}

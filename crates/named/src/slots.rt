@@ -46,10 +46,10 @@ fn boot_slot(
     memory: &Memory,
 ) -> Result<Slot, Refusal>
     requires slot { slot.0 < SLOTS }
-    requires read { AreRead memory.now kept.now.layout kept.now.directory }
-    requires sound { AreBootWords memory.now.kept }
+    requires read { AreRead memory.now.words kept.now.layout kept.now.directory }
+    requires sound { AreBootWords memory.now.words.kept }
     ensures booted { IfOk result (λ s. (place : Option Place) → slice_get kept.now.directory slot.0 ≡ Some place
-        → IsSlotBooted kept.now.layout memory.now slot.0 place s) }
+        → IsSlotBooted kept.now.layout memory.now.words slot.0 place s) }
     ensures errors { IfErr result (λ e. e ≡ Refusal.NoMemory) }
 {
     match &kept.directory.queues()[slot.0 as usize] {
@@ -64,10 +64,10 @@ pub(crate) fn boot_each(
     kept: &KeptBroker,
     memory: &Memory,
 ) -> Result<Vec<Slot>, Refusal>
-    requires read { AreRead memory.now kept.now.layout kept.now.directory }
-    requires sound { AreBootWords memory.now.kept }
+    requires read { AreRead memory.now.words kept.now.layout kept.now.directory }
+    requires sound { AreBootWords memory.now.words.kept }
     ensures booted { IfOk result (λ slots.
-        AreSlotsBooted kept.now.layout memory.now kept.now.directory slots.items) }
+        AreSlotsBooted kept.now.layout memory.now.words kept.now.directory slots.items) }
     ensures errors { IfErr result (λ e. e ≡ Refusal.NoMemory) }
 {
     let mut slots = closed_slots(alloc)?;
@@ -110,8 +110,8 @@ pub(crate) fn have_calls(slots: &[Slot]) -> bool
 
 /// What the next history of each slot's queue would begin with; of a closed one, nothing.
 pub(crate) fn prepare_each(slots: &Vec<Slot>, memory: &Memory) -> Result<Vec<Vec<u32>>, Refusal>
-    requires { AreQuiet memory.now slots.now.items }
-    ensures bases { IfOk result (λ bases. AreBases memory.now slots.now.items (map (λ base. base.items) bases.items)) }
+    requires { AreQuiet memory.now.words slots.now.items }
+    ensures bases { IfOk result (λ bases. AreBases memory.now.words slots.now.items (map (λ base. base.items) bases.items)) }
     ensures errors { IfErr result (λ e. e ≡ Refusal.NoMemory) }
 {
     let alloc = *slots.allocator();
@@ -129,9 +129,9 @@ pub(crate) fn prepare_each(slots: &Vec<Slot>, memory: &Memory) -> Result<Vec<Vec
 
 /// The history of each open slot's queue ends, and another begins with its base.
 pub(crate) fn begin_each(slots: &mut [Slot], memory: &Memory, mut bases: Vec<Vec<u32>>)
-    requires quiet { AreQuiet memory.now slots.old }
-    requires bases { AreBases memory.now slots.old (map (λ base. base.items) bases.items) }
-    ensures { AreBegunAnew memory.now slots.old slots.new }
+    requires quiet { AreQuiet memory.now.words slots.old }
+    requires bases { AreBases memory.now.words slots.old (map (λ base. base.items) bases.items) }
+    ensures { AreBegunAnew memory.now.words slots.old slots.new }
 {
     while let Some(base) = bases.pop() {
         slots[bases.len()].begin_anew(memory, base);

@@ -17,7 +17,7 @@ nothing. This one has a client call, stops everything before the call's effect i
 
   queue log 1 2    a log queue of 1 client, who can begin 2 calls
   enq 0 1 9        client 0 calls: to enqueue 9, as its call number 1
-  step 0 18        the call goes on by 18 steps, and has then linked its node
+  step 0 25        the call goes on by 25 steps, and has then linked its node
   crash            the whole system stops, and what is not kept is lost
   recover          recovery goes on to its end, and client 0 is told that its call was not taken
   content          prints what the queue holds: nothing

@@ -7,3 +7,4 @@ pub mod Overlays
 pub mod Sound
 pub mod Shown
 pub mod Images
+pub mod Requests

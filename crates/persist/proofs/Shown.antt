@@ -2,7 +2,7 @@
 use Rattle.std.proofs.Common.{◌≡◌, ◌≢◌, ℕ, ◌<◌, inl, inr, List, length, slice_index, slice_set, Option, Some, None, Bool, if◌then◌else◌, sym, ap, ◌∙◌, subst, arith}
 use Rattle.std.proofs.lemmas.Bool.Decides.{eqb_tells}
 use Rattle.std.proofs.lemmas.List.{set-get_or}
-use Rattle.persist.specs.Memory.{Words, words_after_store, words_after_eviction, nothing}
+use Rattle.persist.specs.Memory.{MemoryState, Words, words_after_store, words_after_eviction}
 use Rattle.persist.specs.ChangeList.{Entries, get, or_kept, overlaid, RemovesOnly}
 use Rattle.persist.specs.Changes.{change_of}
 use Rattle.persist.specs.declared.access.Change.{Change}
@@ -10,9 +10,16 @@ use Rattle.persist.proofs.Overlays.{length_overlay, value_at, overlaid_set, over
 
 -- what is shown of kept words, entries and a count of accesses
 abbrev pub shown : List ℕ → Entries → ℕ → Words
-shown kept entries accesses = record { cached = overlaid kept entries; kept = kept; accesses = accesses; around = nothing }
+shown kept entries accesses = record { cached = overlaid kept entries; kept = kept; accesses = accesses }
 
--- a flush of a word with no entry changes nothing
+-- a memory with other words, and what was asked for as before
+pub with_words : (asked : List (Option ℕ)) (m : MemoryState) → asked ≡ m.asked → (ws new : Words) → ws ≡ new
+    → (let was : MemoryState = record { words = ws; asked = asked } in was) ≡ record m { words = new }
+with_words asked m same ws new e =
+    ap (λ (ws : Words). let was : MemoryState = record { words = ws; asked = asked } in was) e
+    ∙ ap (λ (asked : List (Option ℕ)). let now : MemoryState = record { words = new; asked = asked } in now) same
+
+-- a fence of a word with no entry changes nothing
 no_change : (ws : Words) (w : ℕ) → slice_index ws.cached w ≡ slice_index ws.kept w → None ≡ change_of ws w
 no_change ws w same =
     let made : Option Change = Some (record { word = w; old = slice_index ws.kept w; new = slice_index ws.cached w }) in
@@ -21,7 +28,7 @@ no_change ws w same =
       | inr t ↦ absurd (t.1 (sym same))
     ]
 
--- a flush of a word with an entry changes its kept value to the entry's
+-- a fence of a word with an entry changes its kept value to the entry's
 change_to : (ws : Words) (w v : ℕ) → slice_index ws.cached w ≡ v → v ≢ slice_index ws.kept w
     → (let made : Option Change = Some (record { word = w; old = slice_index ws.kept w; new = v }) in made) ≡ change_of ws w
 change_to ws w v is differs =
@@ -43,7 +50,7 @@ module _ (kept : List ℕ) (entries : Entries) (accesses : ℕ) (ws : Words) (is
   pub stored : (new : Entries) (v : ℕ) → or_kept (get new w) (slice_index kept w) ≡ v → ((q : ℕ) → q ≢ w → get new q ≡ get entries q)
       → shown kept new accesses ≡ words_after_store w v ws
   stored new v here others =
-      ap (λ (cached : List ℕ). let now : Words = record { cached = cached; kept = kept; accesses = accesses; around = nothing } in now) (overlaid_set kept entries new w v below here others)
+      ap (λ (cached : List ℕ). let now : Words = record { cached = cached; kept = kept; accesses = accesses } in now) (overlaid_set kept entries new w v below here others)
       ∙ ap (words_after_store w v) is
 
   -- an eviction of a word with no entry changes nothing
@@ -51,7 +58,7 @@ module _ (kept : List ℕ) (entries : Entries) (accesses : ℕ) (ws : Words) (is
   stays none =
       let same = ap (slice_set kept w) (value_at kept entries w below ∙ ap (λ (o : Option ℕ). or_kept o (slice_index kept w)) (sym none)) ∙ set-get_or kept w 0 in
       sym is
-      ∙ ap (λ (l : List ℕ). let now : Words = record { cached = overlaid kept entries; kept = l; accesses = accesses; around = nothing } in now) (sym same)
+      ∙ ap (λ (l : List ℕ). let now : Words = record { cached = overlaid kept entries; kept = l; accesses = accesses } in now) (sym same)
       ∙ ap (words_after_eviction w) is
 
   pub stays_told : None ≡ get entries w → None ≡ change_of ws w
@@ -61,8 +68,8 @@ module _ (kept : List ℕ) (entries : Entries) (accesses : ℕ) (ws : Words) (is
   pub evicted : (new : Entries) (v : ℕ) → Some v ≡ get entries w → RemovesOnly entries new w → shown (slice_set kept w v) new accesses ≡ words_after_eviction w ws
   evicted new v found removes =
       let here = value_at kept entries w below ∙ ap (λ (o : Option ℕ). or_kept o (slice_index kept w)) (sym found) in
-      ap (λ (cached : List ℕ). let now : Words = record { cached = cached; kept = slice_set kept w v; accesses = accesses; around = nothing } in now) (overlaid_kept kept entries new w v below here removes)
-      ∙ ap (λ (v : ℕ). let now : Words = record { cached = overlaid kept entries; kept = slice_set kept w v; accesses = accesses; around = nothing } in now) (sym here)
+      ap (λ (cached : List ℕ). let now : Words = record { cached = cached; kept = slice_set kept w v; accesses = accesses } in now) (overlaid_kept kept entries new w v below here removes)
+      ∙ ap (λ (v : ℕ). let now : Words = record { cached = overlaid kept entries; kept = slice_set kept w v; accesses = accesses } in now) (sym here)
       ∙ ap (words_after_eviction w) is
 
   pub evicted_told : (old v : ℕ) → old ≡ slice_index kept w → Some v ≡ get entries w → v ≢ slice_index kept w

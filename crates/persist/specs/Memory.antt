@@ -1,34 +1,41 @@
--- The memory model: words with a cached and a kept value, and what becomes of them.
-use Rattle.std.specs.Prelude.{◌≡◌, ℕ, ◌+◌, min, List, [], take, drop, replicate, slice_index, slice_set, if◌then◌else◌, ◌==◌}
+-- The memory model: words with a cached and a kept value, ports through which flushes are asked for, and what becomes
+-- of both.
+use Rattle.std.specs.Prelude.{◌≡◌, ℕ, ◌+◌, ◌-◌, Bool, ◌&&◌, min, nat_le, nat_lt, List, [], Option, Some, None, take, drop, replicate, slice_index, slice_index_or, slice_set, if◌then◌else◌, ◌==◌}
 
--- what lies around words that are a part of a memory: the name of the memory that lends them, from which word on and
--- how many, and the memory's words before and after them
+-- two values for each word, and how many accesses there were
+pub record Words : Type 0 where
+  pub cached : List ℕ
+  pub kept : List ℕ
+  pub accesses : ℕ
+
+-- a memory: its words, and for each port the word whose flush was asked for through it, if one was
+pub record MemoryState : Type 0 where
+  pub words : Words
+  pub asked : List (Option ℕ)
+
+-- a port's request, as words that are lent through it show it: for nothing, for one of these words, or for a word of
+-- the memory that is none of them
+pub data Request : Type 0 where
+  Nothing : Request
+  Word : (word : ℕ) → Request
+  Elsewhere : (word : ℕ) → Request
+
+-- what lies around words that are lent: the name of the memory that lends them, and through which port; from which word
+-- on and how many, where they are a part of it; the memory's words before and after them, and the other ports' requests
 pub record Around : Type 0 where
   pub lender : ℕ
+  pub port : ℕ
   pub from : ℕ
   pub len : ℕ
   pub cached_before : List ℕ
   pub cached_after : List ℕ
   pub kept_before : List ℕ
   pub kept_after : List ℕ
+  pub others : List (Option ℕ)
 
--- a memory's own words are no part of any
-abbrev pub nothing : Around
-nothing = record {
-  lender = 0;
-  from = 0;
-  len = 0;
-  cached_before = [];
-  cached_after = [];
-  kept_before = [];
-  kept_after = [];
-}
-
--- two values for each word, how many accesses there were, and what lies around. No access changes what lies around
-pub record Words : Type 0 where
-  pub cached : List ℕ
-  pub kept : List ℕ
-  pub accesses : ℕ
+-- how words are lent: their port's request, and what lies around, which no access changes
+pub record Lent : Type 0 where
+  pub request : Request
   pub around : Around
 
 -- an access to a word, by whatever names a word
@@ -37,6 +44,8 @@ pub data Access (A : Type 0) : Type 0 where
   Store : (word : A) (value : ℕ) → Access A
   Cas : (word : A) (old new : ℕ) → Access A
   Flush : (word : A) → Access A
+  -- it completes the request of this word
+  Fence : (word : A) → Access A
 
 -- one access more; the count stays at its greatest value
 abbrev pub words_after_access : Words → Words
@@ -56,7 +65,32 @@ after (Load word) ws = words_after_access ws
 after (Store word value) ws = words_after_access (words_after_store word value ws)
 after (Cas word old new) ws =
     words_after_access (if slice_index ws.cached word == old then words_after_store word new ws else ws)
-after (Flush word) ws = words_after_access (words_after_eviction word ws)
+after (Flush word) ws = words_after_access ws
+after (Fence word) ws = words_after_access (words_after_eviction word ws)
+
+-- the port's request becomes this one
+abbrev pub asking : Request → Lent → Lent
+asking request lent = record lent { request = request }
+
+-- a flush asks, in place of an earlier request, and a fence clears
+abbrev pub lent_after : Access ℕ → Lent → Lent
+lent_after (Load word) lent = lent
+lent_after (Store word value) lent = lent
+lent_after (Cas word old new) lent = lent
+lent_after (Flush word) lent = asking (Word word) lent
+lent_after (Fence word) lent = asking Nothing lent
+
+-- a fence completes the request, whatever the word has cached by now; without one it is an access that changes nothing.
+-- A request for a word that is not lent stays, and then the fence is no access
+abbrev pub after_fence : Request → Words → Words
+after_fence Nothing ws = words_after_access ws
+after_fence (Word word) ws = after (Fence word) ws
+after_fence (Elsewhere word) ws = ws
+
+abbrev pub request_after_fence : Request → Request
+request_after_fence Nothing = Nothing
+request_after_fence (Word word) = Nothing
+request_after_fence (Elsewhere word) = Elsewhere word
 
 -- a crash makes every cached value the kept one
 abbrev pub words_after_crash : Words → Words
@@ -64,36 +98,72 @@ words_after_crash ws = record ws { cached = ws.kept }
 
 -- n words, all zero
 abbrev pub zero_words : ℕ → Words
-zero_words n = record { cached = replicate n 0; kept = replicate n 0; accesses = 0; around = nothing }
+zero_words n = record { cached = replicate n 0; kept = replicate n 0; accesses = 0 }
 
 -- words whose cached values are these kept ones, never accessed
 abbrev pub words_at_rest : List ℕ → Words
-words_at_rest kept = record { cached = kept; kept = kept; accesses = 0; around = nothing }
+words_at_rest kept = record { cached = kept; kept = kept; accesses = 0 }
 
--- the words of a part of a memory of this name, numbered from 0; the rest lies around them
-abbrev pub part : ℕ → ℕ → ℕ → Words → Words
-part lender from len ws = record {
-  cached = take len (drop from ws.cached);
-  kept = take len (drop from ws.kept);
-  accesses = ws.accesses;
-  around = record {
-    lender = lender;
-    from = from;
-    len = len;
-    cached_before = take from ws.cached;
-    cached_after = drop (from + len) ws.cached;
-    kept_before = take from ws.kept;
-    kept_after = drop (from + len) ws.kept;
-  };
-}
-
--- the words of a part, as if they were a memory's own
+-- the words of a part, numbered from 0
 abbrev pub words_in : ℕ → ℕ → Words → Words
 words_in from len ws = record {
   cached = take len (drop from ws.cached);
   kept = take len (drop from ws.kept);
   accesses = ws.accesses;
-  around = nothing;
+}
+
+-- what was asked for through a port
+abbrev pub asked_through : MemoryState → ℕ → Option ℕ
+asked_through m port = slice_index_or m.asked port None
+
+-- nothing is asked for: so it is of a new memory, and after a crash
+pub record IsUnasked (m : MemoryState) : Type 0 where
+  pub none : (port : ℕ) → asked_through m port ≡ None
+
+-- a request as the whole memory shows it, and as a part does
+abbrev pub seen_whole : Option ℕ → Request
+seen_whole None = Nothing
+seen_whole (Some word) = Word word
+
+abbrev pub is_within : ℕ → ℕ → ℕ → Bool
+is_within from len word = nat_le from word && nat_lt word (from + len)
+
+abbrev pub seen_in : ℕ → ℕ → Option ℕ → Request
+seen_in from len None = Nothing
+seen_in from len (Some word) = if is_within from len word then Word (word - from) else Elsewhere word
+
+-- how the whole memory of this name is lent through a port
+abbrev pub lent_whole : ℕ → ℕ → MemoryState → Lent
+lent_whole lender port m = record {
+  request = seen_whole (asked_through m port);
+  around = record {
+    lender = lender;
+    port = port;
+    from = 0;
+    len = 0;
+    cached_before = [];
+    cached_after = [];
+    kept_before = [];
+    kept_after = [];
+    others = slice_set m.asked port None;
+  };
+}
+
+-- how a part of it is
+abbrev pub lent_part : ℕ → ℕ → ℕ → ℕ → MemoryState → Lent
+lent_part lender port from len m = record {
+  request = seen_in from len (asked_through m port);
+  around = record {
+    lender = lender;
+    port = port;
+    from = from;
+    len = len;
+    cached_before = take from m.words.cached;
+    cached_after = drop (from + len) m.words.cached;
+    kept_before = take from m.words.kept;
+    kept_after = drop (from + len) m.words.kept;
+    others = slice_set m.asked port None;
+  };
 }
 
 -- the words outside a part are as they were

@@ -2,7 +2,7 @@
 
 ghost use Rattle.std.specs.Prelude.{◌≡◌, ◌⊎◌, ◌^◌, ◌<◌, ◌≤◌, length, drop, map, All, Ok, Err, IsOk, IfOk, IfErr, IfSome, IfNone};
 ghost use Rattle.std.specs.Int.{w64, from_le_bytes};
-ghost use Rattle.persist.specs.Memory.{words_at_rest};
+ghost use Rattle.persist.specs.Memory.{words_at_rest, IsUnasked};
 ghost use Rattle.persist.specs.Image.{image_of, begins_as_image, count_in, reading};
 
 use crate::memory::{MAX_WORDS, Memory};
@@ -95,10 +95,11 @@ fn image(alloc: Global, words: &[u64]) -> Result<Vec<u8>, AllocError>
 }
 
 impl Memory {
-    /// The kept words as bytes. A value that is only cached is not in it. It is refused where memory is (NoMemory).
+    /// The kept words as bytes. A value that is only cached is not in it, and neither is what ports ask for. It is
+    /// refused where memory is (NoMemory).
     pub fn to_image(&self) -> Result<Vec<u8>, Refusal>
-        ensures image { IfOk result (λ bytes. bytes.items ≡ image_of self.now.kept) }
-        ensures read { IfOk result (λ bytes. reading bytes.items ≡ Ok self.now.kept) }
+        ensures image { IfOk result (λ bytes. bytes.items ≡ image_of self.now.words.kept) }
+        ensures read { IfOk result (λ bytes. reading bytes.items ≡ Ok self.now.words.kept) }
         ensures errors { IfErr result (λ e. e ≡ Refusal.NoMemory) }
     {
         match image(self.allocator(), self.kept_words()) {
@@ -107,15 +108,16 @@ impl Memory {
         }
     }
 
-    /// The memory whose image the bytes are: it has the words cached and kept, no access counted, and room for a change
-    /// of each word. The bytes are refused in this order: where what there is of the first four differs from the magic
-    /// (BadMagic), where the count is cut off (Truncated), where it is 0 or above [`MAX_WORDS`] (BadCount), where words
-    /// are cut off (Truncated), where something stands after them (TrailingBytes), and where memory is refused
-    /// (NoMemory).
+    /// The memory whose image the bytes are: it has the words cached and kept, no access counted, nothing asked for,
+    /// and room for a change of each word. The bytes are refused in this order: where what there is of the first four
+    /// differs from the magic (BadMagic), where the count is cut off (Truncated), where it is 0 or above [`MAX_WORDS`]
+    /// (BadCount), where words are cut off (Truncated), where something stands after them (TrailingBytes), and where
+    /// memory is refused (NoMemory).
     pub fn from_image(alloc: Global, bytes: &[u8]) -> Result<Self, Refusal>
-        ensures read { IfOk result (λ m. reading bytes.now ≡ Ok m.kept) }
-        ensures at_rest { IfOk result (λ m. m ≡ words_at_rest m.kept) }
-        ensures image { IfOk result (λ m. image_of m.kept ≡ bytes.now) }
+        ensures read { IfOk result (λ m. reading bytes.now ≡ Ok m.words.kept) }
+        ensures at_rest { IfOk result (λ m. m.words ≡ words_at_rest m.words.kept) }
+        ensures unasked { IfOk result IsUnasked }
+        ensures image { IfOk result (λ m. image_of m.words.kept ≡ bytes.now) }
         ensures errors { IfErr result (λ e. (reading bytes.now ≡ Err e)
             ⊎ (e ≡ Refusal.NoMemory) × IsOk (reading bytes.now)) }
     {

@@ -6,10 +6,12 @@ mod changes;
 mod image;
 mod laws;
 mod memory;
+mod port;
 mod window;
 
 pub use access::{Change, EvictableWords, KeptWords, Swap, WordMemory};
 pub use image::{HEADER_BYTES, NUMBER_BYTES};
 pub use laws::words_have_one_image;
-pub use memory::{MAX_WORDS, Memory};
+pub use memory::{MAX_WORDS, Memory, PORTS};
+pub use port::Port;
 pub use window::{View, Window};

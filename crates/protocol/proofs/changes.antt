@@ -1,4 +1,4 @@
 pub mod Puts
 pub mod Keeps
-pub mod Flushes
+pub mod Fences
 pub mod Stores

@@ -9,7 +9,7 @@ use Rattle.words.specs.declared.call.Reply.{Reply}
 use Rattle.words.specs.declared.call.Reply.TheVariants.{Done as done, Got}
 use Rattle.words.specs.declared.limits.TheConstants.{MAX_CALL_NUMBER, MAX_VALUE}
 use Rattle.words.specs.declared.told.Told.{Told}
-use Rattle.persist.specs.Memory.{Access, Load, Store, Cas, Flush}
+use Rattle.persist.specs.Memory.{Access, Load, Store, Cas, Flush, Fence}
 use Rattle.arena.specs.Shape.{Shape, record_of, owner}
 use Rattle.arena.specs.Place.{is_same}
 use Rattle.arena.specs.Words.{bumps, values}
@@ -41,18 +41,19 @@ pub record Memory : Type 0 where
 abbrev pub put : (Place → ℕ) → Place → ℕ → Place → ℕ
 put f p v q = if is_same p q then v else f q
 
--- what an access leaves, and what a flush or an eviction
+-- what an access leaves, and what a fence or an eviction
 abbrev pub with_store : Memory → Place → ℕ → Memory
 with_store m p v = record { cached = put m.cached p v; kept = m.kept }
 
-abbrev pub with_flush : Memory → Place → Memory
-with_flush m p = record { cached = m.cached; kept = put m.kept p (m.cached p) }
+abbrev pub with_fence : Memory → Place → Memory
+with_fence m p = record { cached = m.cached; kept = put m.kept p (m.cached p) }
 
 abbrev pub with_access : Memory → Access Place → Memory
 with_access m (Load p) = m
 with_access m (Store p v) = with_store m p v
 with_access m (Cas p old new) = if m.cached p == old then with_store m p new else m
-with_access m (Flush p) = with_flush m p
+with_access m (Flush p) = m
+with_access m (Fence p) = with_fence m p
 
 -- the trace: the history, the records that its calls took, and when they took effect
 pub record Trace : Type 0 where
@@ -107,15 +108,15 @@ abbrev pub effects_on_look : ℕ → ℕ → ℕ → List Effect → List Effect
 effects_on_look place moment found effects =
     if found == 0 then with_pending place moment (without_pending place effects) else without_pending place effects
 
-abbrev pub after_flush : World → Option Place → List Effect
-after_flush w (Some p) = after_keeping w p
-after_flush w None = w.log.effects
+abbrev pub after_fence : World → Option Place → List Effect
+after_fence w (Some p) = after_keeping w p
+after_fence w None = w.log.effects
 
 -- the effects after a call's step
 abbrev pub effects_after : World → UnderWay → Op → List Effect
 effects_after w u (DequeueLoadNext p) =
     effects_on_look u.place (length w.log.events) (w.memory.cached (Next p.first)) w.log.effects
-effects_after w u op = after_flush w (kept_by (access_of w.shape.kind op))
+effects_after w u op = after_fence w (kept_by (access_of w.shape.kind op))
 
 -- what a step leaves under way, and the events
 abbrev pub with_next : UnderWay → After Op Reply → Option UnderWay
@@ -170,7 +171,7 @@ with_start w client number call = with_start_of w (begun_of w client number call
 -- the environment keeps a word
 abbrev pub with_eviction : World → Place → World
 with_eviction w p = record w {
-  memory = with_flush w.memory p;
+  memory = with_fence w.memory p;
   log = record { events = w.log.events; issued = w.log.issued; effects = after_keeping w p };
 }
 
@@ -206,7 +207,7 @@ with_recovery_step w r = record w {
   log = record {
     events = recovery_events w.log.events (next_recovery w r);
     issued = w.log.issued;
-    effects = after_flush w (kept_by (recovery_access w.shape.kind r.at));
+    effects = after_fence w (kept_by (recovery_access w.shape.kind r.at));
   };
 }
 

@@ -1,14 +1,16 @@
 -- How many steps recovery has left.
 use Rattle.std.specs.Prelude.{ℕ, ◌+◌, ◌-◌, ◌*◌, length, Bool, true, false, Option, Some, None}
 use Rattle.words.specs.declared.call.NodeId.{NodeId}
+use Rattle.words.specs.declared.limits.TheConstants.{STEPS_BESIDES, STEPS_PER_CLIENT, STEPS_PER_RECORD}
 use Rattle.arena.specs.Chain.{walk}
 use Rattle.arena.specs.Shape.{Shape, greatest}
 use Rattle.arena.specs.Words.{links}
 use Rattle.arena.specs.declared.place.Place.{Place}
 use Rattle.arena.specs.declared.place.Place.TheVariants.{Head}
+use Rattle.stepper.specs.Steps.{keep_steps, load_steps}
 use Rattle.recover.specs.declared.recovery.Recovery.{Recovery}
 use Rattle.recover.specs.declared.point.RecoveryPoint.{RecoveryPoint}
-use Rattle.recover.specs.declared.point.RecoveryPoint.TheVariants.{RecoveryLoadHead, RecoveryLoadNext, RecoveryLoadInsert, RecoveryStoreStatus, RecoveryLoadMark, RecoveryLoadValue, RecoveryStoreResult, RecoveryStoreHead, RecoveryStoreTail, RecoveryLoadAnnouncement, RecoveryLoadCell, RecoveryLoadNumber, RecoveryLoadKind, RecoveryLoadStatus, RecoveryLoadRemove, RecoveryLoadEntryNode, RecoveryLoadRemovedValue, Flush as FlushPoint}
+use Rattle.recover.specs.declared.point.RecoveryPoint.TheVariants.{RecoveryLoadHead, RecoveryLoadNext, RecoveryLoadInsert, RecoveryStoreStatus, RecoveryLoadMark, RecoveryLoadValue, RecoveryStoreResult, RecoveryStoreHead, RecoveryStoreTail, RecoveryLoadAnnouncement, RecoveryLoadCell, RecoveryLoadNumber, RecoveryLoadKind, RecoveryLoadStatus, RecoveryLoadRemove, RecoveryLoadEntryNode, RecoveryLoadRemovedValue, Flush as FlushPoint, Fence as FencePoint}
 use Rattle.recover.specs.declared.keeping.RecoveryKeeping.{RecoveryKeeping}
 use Rattle.recover.specs.declared.keeping.RecoveryKeeping.TheVariants.{Status as KeepStatus, Result as KeepResult, Head as KeepHead, Tail as KeepTail}
 use Rattle.protocol.specs.Machine.{World}
@@ -19,40 +21,51 @@ rest s link n = length (walk (greatest s) link n)
 
 -- the steps at a node, and at the next one, before the head is moved and after it
 abbrev pub steps_beyond : Bool → ℕ
-steps_beyond true = 3
-steps_beyond false = 5
+steps_beyond true = 2 + keep_steps
+steps_beyond false = 3 + 2 * keep_steps
 
 abbrev pub steps_on_arrival : Bool → ℕ
-steps_on_arrival true = 3
-steps_on_arrival false = 9
+steps_on_arrival true = 2 + keep_steps
+steps_on_arrival false = 6 + 3 * keep_steps
 
 -- the steps past the head
 abbrev pub steps_onward : Shape → (ℕ → ℕ) → Option NodeId → ℕ
 steps_onward s link None = 0
-steps_onward s link (Some n) = 8 * rest s link n.0 + 1
+steps_onward s link (Some n) = STEPS_PER_RECORD * rest s link n.0 + 1
 
 -- the steps while clients are told
 abbrev pub steps_to_tell : Shape → ℕ → ℕ
-steps_to_tell s client = 8 * (s.clients - client)
+steps_to_tell s client = STEPS_PER_CLIENT * (s.clients - client)
 
--- what is left where it is about to keep a word
-abbrev pub weight_keeping : Shape → (Place → ℕ) → RecoveryKeeping → ℕ
-weight_keeping s c (KeepStatus p) = 8 * rest s (links c) p.node.0 + steps_on_arrival p.moved + 1 + 8 * s.clients
-weight_keeping s c (KeepResult p) = 8 * rest s (links c) p.node.0 + 6 + 8 * s.clients
-weight_keeping s c (KeepHead p) = steps_onward s (links c) p.unclaimed + 3 + 8 * s.clients
-weight_keeping s c (KeepTail p) = 1 + 8 * s.clients
+-- the steps while each client is told
+abbrev pub steps_to_tell_all : Shape → ℕ
+steps_to_tell_all s = STEPS_PER_CLIENT * s.clients
+
+-- what is left once it has kept a word
+abbrev pub weight_kept : Shape → (Place → ℕ) → RecoveryKeeping → ℕ
+weight_kept s c (KeepStatus p) =
+    STEPS_PER_RECORD * rest s (links c) p.node.0 + steps_on_arrival p.moved + steps_to_tell_all s
+weight_kept s c (KeepResult p) = STEPS_PER_RECORD * rest s (links c) p.node.0 + 3 + 2 * keep_steps + steps_to_tell_all s
+weight_kept s c (KeepHead p) = steps_onward s (links c) p.unclaimed + 1 + keep_steps + steps_to_tell_all s
+weight_kept s c (KeepTail p) = steps_to_tell_all s
 
 -- a number that falls at each step
 abbrev pub weight : Shape → (Place → ℕ) → RecoveryPoint → ℕ
-weight s c (RecoveryLoadHead p) = 8 * rest s (links c) (c Head) + 6 + 8 * s.clients
-weight s c (RecoveryLoadNext p) = 8 * rest s (links c) p.cur.0 + steps_beyond p.moved + 8 * s.clients
-weight s c (RecoveryLoadInsert p) = 8 * rest s (links c) p.node.0 + steps_on_arrival p.moved + 3 + 8 * s.clients
-weight s c (RecoveryStoreStatus p) = 8 * rest s (links c) p.node.0 + steps_on_arrival p.moved + 2 + 8 * s.clients
-weight s c (RecoveryLoadMark p) = 8 * rest s (links c) p.node.0 + 9 + 8 * s.clients
-weight s c (RecoveryLoadValue p) = 8 * rest s (links c) p.node.0 + 8 + 8 * s.clients
-weight s c (RecoveryStoreResult p) = 8 * rest s (links c) p.node.0 + 7 + 8 * s.clients
-weight s c (RecoveryStoreHead p) = steps_onward s (links c) p.unclaimed + 4 + 8 * s.clients
-weight s c (RecoveryStoreTail p) = 2 + 8 * s.clients
+weight s c (RecoveryLoadHead p) =
+    STEPS_PER_RECORD * rest s (links c) (c Head) + 4 + 2 * keep_steps + steps_to_tell_all s
+weight s c (RecoveryLoadNext p) =
+    STEPS_PER_RECORD * rest s (links c) p.cur.0 + steps_beyond p.moved + steps_to_tell_all s
+weight s c (RecoveryLoadInsert p) =
+    STEPS_PER_RECORD * rest s (links c) p.node.0 + steps_on_arrival p.moved + 2 + keep_steps + steps_to_tell_all s
+weight s c (RecoveryStoreStatus p) =
+    STEPS_PER_RECORD * rest s (links c) p.node.0 + steps_on_arrival p.moved + 1 + keep_steps + steps_to_tell_all s
+weight s c (RecoveryLoadMark p) = STEPS_PER_RECORD * rest s (links c) p.node.0 + steps_on_arrival false + steps_to_tell_all s
+weight s c (RecoveryLoadValue p) =
+    STEPS_PER_RECORD * rest s (links c) p.node.0 + 4 + load_steps + 3 * keep_steps + steps_to_tell_all s
+weight s c (RecoveryStoreResult p) =
+    STEPS_PER_RECORD * rest s (links c) p.node.0 + 4 + 3 * keep_steps + steps_to_tell_all s
+weight s c (RecoveryStoreHead p) = steps_onward s (links c) p.unclaimed + 2 + 2 * keep_steps + steps_to_tell_all s
+weight s c (RecoveryStoreTail p) = 1 + keep_steps + steps_to_tell_all s
 weight s c (RecoveryLoadAnnouncement p) = steps_to_tell s p.client.0
 weight s c (RecoveryLoadCell p) = steps_to_tell s p.client.0 - 1
 weight s c (RecoveryLoadNumber p) = steps_to_tell s p.client.0 - 1
@@ -61,7 +74,8 @@ weight s c (RecoveryLoadStatus p) = steps_to_tell s p.client.0 - 3
 weight s c (RecoveryLoadRemove p) = steps_to_tell s p.client.0 - 4
 weight s c (RecoveryLoadEntryNode p) = steps_to_tell s p.client.0 - 4
 weight s c (RecoveryLoadRemovedValue p) = steps_to_tell s p.client.0 - 5
-weight s c (FlushPoint k) = weight_keeping s c k
+weight s c (FlushPoint k) = weight_kept s c k + keep_steps
+weight s c (FencePoint k) = weight_kept s c k + keep_steps - 1
 
 -- how many steps are left at most, none in a ready queue
 abbrev pub steps_left_at : Shape → (Place → ℕ) → Option Recovery → ℕ
@@ -70,3 +84,7 @@ steps_left_at s c (Some r) = weight s c r.at + 1
 
 abbrev pub steps_left : World → ℕ
 steps_left w = steps_left_at w.shape w.memory.cached w.recovery
+
+-- and how many a recovery has at most, wherever it is
+abbrev pub most_steps : Shape → ℕ
+most_steps s = STEPS_PER_RECORD * greatest s + STEPS_PER_CLIENT * s.clients + STEPS_BESIDES

@@ -1,10 +1,11 @@
 //! What holds after any acts, crashes and evictions among them.
 
-ghost use Rattle.std.specs.Prelude.{◌≡◌, ◌+◌, ◌*◌, ◌≤◌, ◌++◌, List, [], ◌∷◌, Some, None, ℕ, slice_get, replicate};
+ghost use Rattle.std.specs.Prelude.{◌≡◌, ◌≤◌, ◌++◌, List, [], ◌∷◌, Some, None, ℕ, slice_get, replicate};
 ghost use Rattle.arena.specs.Content.{chain_of, kept_content};
-ghost use Rattle.arena.specs.Shape.{Shape, greatest};
+ghost use Rattle.arena.specs.Shape.{Shape};
 ghost use Rattle.arena.specs.declared.place.Place.{Place};
 ghost use Rattle.words.specs.declared.call.Client.{Client};
+ghost use Rattle.words.specs.declared.limits.TheConstants.{MAX_STEPS_ALONE};
 ghost use Rattle.words.specs.declared.told.Told.{Told};
 ghost use Rattle.events.specs.Effects.{order_of};
 ghost use Rattle.events.specs.Parts.{IsPartOf};
@@ -12,6 +13,7 @@ ghost use Rattle.protocol.specs.Acts.{IsNew, IsExplained, TellsByKept, HasNoCras
 ghost use Rattle.protocol.specs.Booted.{MayBoot, world_on};
 ghost use Rattle.protocol.specs.Down.{IsDown, TellsAfter};
 ghost use Rattle.protocol.specs.Machine.{with_crash};
+ghost use Rattle.protocol.specs.Measure.{most_steps};
 ghost use Rattle.protocol.specs.Recovered.{IsRecovered};
 ghost use Rattle.protocol.specs.declared.acts.Act.{Act};
 ghost use Rattle.protocol.specs.declared.acts.Act.TheVariants.{Step, Recover};
@@ -55,19 +57,19 @@ pub fn kept_words_are_told()
         → IsNew s told → TellsByKept (world_after s told acts) }
 {}
 
-/// After a crash the queue is ready once recovery has made 8 steps a record and 8 a client, and 8 more, whatever else
-/// happens meanwhile but another crash.
+/// After a crash the queue is ready once recovery has made so many steps for each record and each client, and so many
+/// more, whatever else happens meanwhile but another crash.
 pub fn recovery_ends()
     ensures { (s : Shape) (told : List Told) (acts later : List (Act Place))
-        → IsNew s told → HasNoCrash later → 8 * greatest s + 8 * s.clients + 8 ≤ recoveries later
+        → IsNew s told → HasNoCrash later → most_steps s ≤ recoveries later
         → (run (with_crash (world_after s told acts)) later).recovery ≡ None }
 {}
 
-/// In a ready queue a client that goes on alone has ended its call after 64 steps.
+/// In a ready queue a client that goes on alone has ended its call after [`MAX_STEPS_ALONE`] steps.
 pub fn a_call_alone_ends()
     ensures { (s : Shape) (told : List Told) (acts : List (Act Place)) (client : Client)
         → IsNew s told → (world_after s told acts).recovery ≡ None
-        → (run (world_after s told acts) (replicate 64 (Step client))).calls client.0 ≡ None }
+        → (run (world_after s told acts) (replicate MAX_STEPS_ALONE (Step client))).calls client.0 ≡ None }
 {}
 
 /// While the queue is down nothing changes what the kept words tell, further crashes among it.
@@ -155,6 +157,6 @@ pub fn what_its_recovery_leaves()
 /// Its recovery ends as after a crash.
 pub fn its_recovery_ends()
     ensures { (s : Shape) (kept : Place → ℕ) (acts : List (Act Place))
-        → MayBoot s kept → HasNoCrash acts → 8 * greatest s + 8 * s.clients + 8 ≤ recoveries acts
+        → MayBoot s kept → HasNoCrash acts → most_steps s ≤ recoveries acts
         → (run (world_on s kept) acts).recovery ≡ None }
 {}

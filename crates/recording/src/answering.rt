@@ -4,9 +4,9 @@ ghost use Rattle.std.specs.Prelude.{IfOk, IfSome};
 ghost use Rattle.recording.specs.Answers.{IsExplanation, IsRefutation, IsRight};
 
 use crate::act::Recording;
-use crate::filling::fill;
+use crate::filling::told_events;
 use crate::prefix::{Prefix, prefix_of};
-use events::{Entry, Event, History, Order, Sequence};
+use events::{Entry, Events, History, Order, Sequence};
 use findings::{Lack, Witness, explains_known, refutes};
 use seeking::{Found, search};
 use std::alloc::{AllocError, Global};
@@ -29,7 +29,7 @@ pub struct Explanation {
 /// A history, what was learnt of its calls, and a witness.
 #[derive(Drop)]
 pub struct Refutation {
-    pub events: Vec<Event>,
+    pub events: Events,
     pub learnt: Vec<Option<Outcome>>,
     pub witness: Witness,
 }
@@ -52,13 +52,12 @@ fn judge_order(
 ) -> Result<Option<Explanation>, AllocError>
     ensures { IfOk result (λ found. IfSome found (λ e. IsExplanation e)) }
 {
-    let mut events = prefix.events(alloc, recording)?;
-    fill(alloc, &mut events, &entries)?;
+    let events = told_events(alloc, recording, prefix, &entries)?;
     let learnt = prefix.learnt(alloc)?;
     let history = History {
         base: Sequence::new(alloc),
         told: [Told::None; 16],
-        events: Sequence::from_vec(events),
+        events,
     };
     let order = Order {
         entries: Sequence::from_vec(entries),
@@ -277,9 +276,9 @@ fn first<W: Watch>(
     judged(alloc, recording, between)
 }
 
-/// Whether an order explains the recording, or why none does: an order is explained with only if the checker of histories
-/// accepts it, and a recording is impossible only where a witness was judged to show so, of the first steps, and an order
-/// was accepted of those before the last of these.
+/// Whether an order explains the recording, or why none does: an order is explained with only if the checker of
+/// histories accepts it, and a recording is impossible only where a witness was judged to show so, of the first steps,
+/// and an order was accepted of those before the last of these.
 pub fn answer_of<W: Watch>(
     alloc: Global,
     recording: &Recording,

@@ -1,6 +1,8 @@
 //! What recovery tells clients, by an order.
 
-use events::{Entry, Event};
+use crate::act::Recording;
+use crate::prefix::Prefix;
+use events::{Entry, Event, Events};
 use std::alloc::{AllocError, Global};
 use words::{Client, Outcome, Reply, Reports, Told, Verdict};
 
@@ -33,30 +35,24 @@ fn tell(told: &mut Reports, client: Client, number: u64, reply: Option<Reply>) {
     }
 }
 
-/// Fills each Ready: a client is told of its last call, and whether that is in the order.
-pub(crate) fn fill(
+/// The events of the first steps. Each Ready tells a client of its last call, and whether that is in the order.
+pub(crate) fn told_events(
     alloc: Global,
-    events: &mut Vec<Event>,
+    recording: &Recording,
+    prefix: &Prefix,
     entries: &[Entry],
-) -> Result<(), AllocError> {
-    let replies = replies(alloc, events.len(), entries)?;
+) -> Result<Events, AllocError> {
+    let replies = replies(alloc, prefix.calls.places, entries)?;
     let mut told = [Told::None; 16];
-    for place in 0..events.len() {
-        let Some(event) = events.get(place).copied() else {
-            break;
-        };
-        match event {
-            Event::Call { client, number, .. } => {
-                let reply = replies.get(place).copied().unwrap_or(None);
-                tell(&mut told, client, number, reply);
-            }
-            Event::Ready { .. } => {
-                if let Some(event) = events.get_mut(place) {
-                    *event = Event::Ready { told };
-                }
-            }
-            _ => {}
+    let mut events = prefix.room(alloc)?;
+    for place in 0..prefix.count_events() {
+        let event = prefix.event(recording, place, &told);
+        if let Event::Call { client, number, .. } = event {
+            let reply = replies.get(place).copied().unwrap_or(None);
+            tell(&mut told, client, number, reply);
         }
+        events.reserve(1)?;
+        events.push(event);
     }
-    Ok(())
+    Ok(events)
 }

@@ -15,15 +15,18 @@ const HEAD: &str = "<!DOCTYPE html>
 <meta charset=\"utf-8\">
 <title>A recording and its order</title>
 <style>
-:root { --paper: #fdfdfb; --ink: #22262b; --faint: #8a9099; --line: #e4e4de; --put: #a9c8ec; --take: #a9d8b0;
+:root { --paper: #fdfdfb; --ink: #22262b; --faint: #646b74; --line: #e4e4de; --put: #a9c8ec; --take: #a9d8b0;
   --open: #ecece6; --effect: #22262b; --crash: #d64541; --named: #d64541 }
-@media (prefers-color-scheme: dark) { :root { --paper: #16191d; --ink: #e8e8e3; --faint: #8f959d; --line: #2b3036;
+@media (prefers-color-scheme: dark) { :root { --paper: #16191d; --ink: #e8e8e3; --faint: #a2a8b0; --line: #2b3036;
   --put: #2f5580; --take: #2e6a3c; --open: #262b31; --effect: #e8e8e3; --crash: #ff6b66; --named: #ff6b66 } }
 body { background: var(--paper); color: var(--ink); font: 15px/1.5 system-ui, sans-serif; margin: 2em }
 h1 { font-size: 1.4em; margin: 0 0 .2em }
 p { color: var(--faint) }
 pre { font: 13px/1.45 ui-monospace, monospace; overflow-x: auto }
-figure { margin: 0; overflow-x: auto }
+figure { margin: 0; overflow-x: auto; display: flex }
+figure svg { flex: none }
+.names { position: sticky; left: 0; background: var(--paper) }
+a { color: var(--ink) }
 svg text { fill: var(--ink); font: 11px ui-monospace, monospace }
 svg .label { font: 12px system-ui, sans-serif; fill: var(--faint) }
 svg .line { text-anchor: middle; fill: var(--faint); font-size: 9px }
@@ -41,6 +44,10 @@ svg .effect { fill: var(--effect) }
 <h1>A recording and its order</h1>
 ";
 
+/// Leads to the line from which on there is no order.
+const TO_THE_LIMIT: &str =
+    "<p><a href=\"#limit\">To the line from which on there is no order</a></p>\n";
+
 /// What the marks mean.
 const FOOT: &str = "</svg></figure>
 <p>A lane is a client, a bar a call from its begin to its end, over the lines of the recording. A dot is the moment at
@@ -50,8 +57,10 @@ no order is left, a line across shows from which line on, and the calls that sho
 </html>
 ";
 
-/// How wide the names of clients are, and a step, and how high a lane.
-const LABELS: usize = 120;
+/// How wide the names of clients are, and where the first step is drawn; how wide a step, and how high a lane.
+const NAMES: usize = 100;
+
+const FIRST: usize = 120;
 
 const STEP: usize = 38;
 
@@ -85,7 +94,7 @@ fn noes(alloc: Global, count: usize) -> Result<Vec<bool>, AllocError> {
 
 /// Where a step is drawn.
 fn across(step: usize) -> usize {
-    LABELS.saturating_add(step.saturating_mul(STEP))
+    FIRST.saturating_add(step.saturating_mul(STEP))
 }
 
 /// Where the lane of a client is drawn.
@@ -218,29 +227,50 @@ impl<'a> Page<'a> {
     }
 
     /// The value of this number, as it is shown.
+    fn shown_value(&self, value: usize) -> Result<String, AllocError> {
+        match self.recording.values.get(value) {
+            Some(text) => shown(self.alloc, text.as_str()),
+            None => Ok(String::new(self.alloc)),
+        }
+    }
+
     fn value(&mut self, value: usize) -> Result<(), AllocError> {
-        let text = match self.recording.values.get(value) {
-            Some(text) => shown(self.alloc, text.as_str())?,
-            None => return Ok(()),
-        };
+        let text = self.shown_value(value)?;
         self.escaped(text.as_str())
     }
 
-    fn lanes(&mut self) -> Result<(), AllocError> {
-        let wide = across(self.recording.steps.len().saturating_add(1));
+    /// The names of the clients, which stay where they are while the rest is scrolled.
+    fn names(&mut self, high: usize) -> Result<(), AllocError> {
+        write!(
+            self.text,
+            "<svg class=\"names\" width=\"{NAMES}\" height=\"{high}\">\n"
+        )?;
         for client in 0..self.recording.clients.len() {
             let y = down(client);
             let middle = y.saturating_add(19);
             write!(
                 self.text,
-                "<line class=\"rule\" x1=\"0\" x2=\"{wide}\" y1=\"{y}\" y2=\"{y}\"/>\n<text class=\"label\" x=\"0\" y=\"{middle}\">"
+                "<line class=\"rule\" x1=\"0\" x2=\"{NAMES}\" y1=\"{y}\" y2=\"{y}\"/>\n"
             )?;
+            write!(self.text, "<text class=\"label\" x=\"0\" y=\"{middle}\">")?;
             let text = match self.recording.clients.get(client) {
                 Some(text) => shown(self.alloc, text.as_str())?,
                 None => String::new(self.alloc),
             };
             self.escaped(text.as_str())?;
             self.text.push_str("</text>\n")?;
+        }
+        self.text.push_str("</svg>\n")
+    }
+
+    /// The lanes of the clients.
+    fn lanes(&mut self, wide: usize) -> Result<(), AllocError> {
+        for client in 0..self.recording.clients.len() {
+            let y = down(client);
+            write!(
+                self.text,
+                "<line class=\"rule\" x1=\"{NAMES}\" x2=\"{wide}\" y1=\"{y}\" y2=\"{y}\"/>\n"
+            )?;
         }
         Ok(())
     }
@@ -249,9 +279,14 @@ impl<'a> Page<'a> {
     fn line_across(&mut self, class: &str, step: usize) -> Result<(), AllocError> {
         let x = across(step);
         let low = down(self.recording.clients.len());
+        let id = if class == "limit" {
+            " id=\"limit\""
+        } else {
+            ""
+        };
         write!(
             self.text,
-            "<line class=\"{class}\" x1=\"{x}\" x2=\"{x}\" y1=\"14\" y2=\"{low}\"/>\n"
+            "<line class=\"{class}\"{id} x1=\"{x}\" x2=\"{x}\" y1=\"14\" y2=\"{low}\"/>\n"
         )
     }
 
@@ -288,8 +323,8 @@ impl<'a> Page<'a> {
         self.answer(call)
     }
 
-    /// What stands in a bar: the same in fewer words.
-    fn label(&mut self, call: usize) -> Result<(), AllocError> {
+    /// The same in fewer words, and the value that comes behind them.
+    fn in_short(&self, call: usize) -> (&'static str, Option<usize>) {
         let puts = self
             .recording
             .calls
@@ -299,16 +334,29 @@ impl<'a> Page<'a> {
         let end = self.ends.get(call).copied().unwrap_or(0).wrapping_sub(1);
         let act = self.recording.steps.get(end).copied().map(|step| step.act);
         match (puts, act) {
-            (Some(value), _) => {
-                self.text.push_str("put ")?;
-                self.value(value)
-            }
-            (None, Some(Act::Answer(_, Said::Got(value)))) => {
-                self.text.push_str("got ")?;
-                self.value(value)
-            }
-            (None, Some(Act::Answer(_, Said::Empty))) => self.text.push_str("empty"),
-            _ => self.text.push_str("take"),
+            (Some(value), _) => ("put ", Some(value)),
+            (None, Some(Act::Answer(_, Said::Got(value)))) => ("got ", Some(value)),
+            (None, Some(Act::Answer(_, Said::Empty))) => ("empty", None),
+            _ => ("take", None),
+        }
+    }
+
+    /// What stands in a bar that is so wide: these words, or the value alone, or dots where there is no room for it.
+    fn label(&mut self, call: usize, width: usize) -> Result<(), AllocError> {
+        let (words, value) = self.in_short(call);
+        let text = match value {
+            Some(value) => self.shown_value(value)?,
+            None => String::new(self.alloc),
+        };
+        let room = width.saturating_sub(4).saturating_mul(10) / 67;
+        let count = text.chars().count();
+        if words.len().saturating_add(count) <= room {
+            self.text.push_str(words)?;
+            self.escaped(text.as_str())
+        } else if value.is_some() && count <= room {
+            self.escaped(text.as_str())
+        } else {
+            self.text.push('…')
         }
     }
 
@@ -338,7 +386,7 @@ impl<'a> Page<'a> {
             self.text,
             "</title></rect>\n<svg x=\"{x}\" y=\"{y}\" width=\"{width}\" height=\"24\"><text x=\"4\" y=\"20\">"
         )?;
-        self.label(call)?;
+        self.label(call, width)?;
         self.text.push_str("</text></svg>\n")
     }
 
@@ -395,13 +443,16 @@ impl<'a> Page<'a> {
     }
 
     fn picture(&mut self) -> Result<(), AllocError> {
-        let wide = across(self.recording.steps.len().saturating_add(1));
+        let end = across(self.recording.steps.len().saturating_add(1));
+        let wide = end.saturating_sub(NAMES);
         let high = down(self.recording.clients.len()).saturating_add(4);
+        self.text.push_str("<figure>")?;
+        self.names(high)?;
         write!(
             self.text,
-            "<figure><svg width=\"{wide}\" height=\"{high}\" viewBox=\"0 0 {wide} {high}\" role=\"img\">\n"
+            "<svg width=\"{wide}\" height=\"{high}\" viewBox=\"{NAMES} 0 {wide} {high}\" role=\"img\">\n"
         )?;
-        self.lanes()?;
+        self.lanes(end)?;
         self.bars()
     }
 }
@@ -418,6 +469,9 @@ pub fn page_of(
     page.text.push_str("<pre>")?;
     page.escaped(verdict)?;
     page.text.push_str("</pre>\n")?;
+    if let Answer::Impossible(..) = answer {
+        page.text.push_str(TO_THE_LIMIT)?;
+    }
     match answer {
         Answer::Explained(prefix, explanation) => {
             page.picture()?;

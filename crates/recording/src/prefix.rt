@@ -1,10 +1,10 @@
 //! The first so many steps of a recording, as calls and as events.
 
 use crate::act::{Act, Recording, Said};
-use events::Event;
+use events::{Event, Events};
 use seeking::{Calls, Known};
 use std::alloc::{AllocError, Global};
-use words::{Call, Client, Outcome, Reply, Told};
+use words::{Call, Client, Outcome, Reply, Reports, Told};
 
 /// The calls of the first so many steps, and the step of each place.
 #[derive(Drop)]
@@ -207,39 +207,48 @@ impl Prefix {
         self.calls.crashes.binary_search(&place).is_ok()
     }
 
+    /// No events, and room for those of these steps.
+    pub(crate) fn room(&self, alloc: Global) -> Result<Events, AllocError> {
+        let readys = self.calls.crashes.len().saturating_add(1);
+        Events::with_room(alloc, self.calls.places, readys)
+    }
+
+    /// How many events there are.
+    pub(crate) fn count_events(&self) -> usize {
+        self.calls.places.min(self.step_of.len())
+    }
+
     /// The events, whose Readys tell nothing.
     pub(crate) fn events(
         &self,
         alloc: Global,
         recording: &Recording,
-    ) -> Result<Vec<Event>, AllocError> {
-        let mut events = Vec::with_capacity(alloc, self.calls.places)?;
-        for place in 0..self.calls.places.min(self.step_of.len()) {
-            let number = self.step_of[place];
-            let Some(step) = recording.steps.get(number) else {
-                continue;
-            };
-            let is_second = place > 0 && self.step_of[place - 1] == number;
-            events.push(self.event(recording, step.act, place, is_second))?;
+    ) -> Result<Events, AllocError> {
+        let mut events = self.room(alloc)?;
+        for place in 0..self.count_events() {
+            events.reserve(1)?;
+            events.push(self.event(recording, place, &[Told::None; 16]));
         }
         Ok(events)
     }
 
-    fn event(&self, recording: &Recording, act: Act, place: usize, is_second: bool) -> Event {
+    /// The event at a place. If it is a Ready, it tells this.
+    pub(crate) fn event(&self, recording: &Recording, place: usize, told: &Reports) -> Event {
+        let number = self.step_of.get(place).copied().unwrap_or(0);
+        let before = self.step_of.get(place.wrapping_sub(1)).copied();
+        let act = recording.steps.get(number).copied().map(|step| step.act);
         match act {
-            Act::Begin(call) => Event::Call {
+            Some(Act::Begin(call)) => Event::Call {
                 client: Client(client_of(recording, call)),
                 number: (place as u64).saturating_add(1),
                 call: call_of(recording, call),
             },
-            Act::Answer(call, said) => Event::Return {
+            Some(Act::Answer(call, said)) => Event::Return {
                 client: Client(client_of(recording, call)),
                 reply: reply_of(recording, said),
             },
-            Act::Crash if !is_second => Event::Crash,
-            _ => Event::Ready {
-                told: [Told::None; 16],
-            },
+            Some(Act::Crash) if before != Some(number) => Event::Crash,
+            _ => Event::Ready { told: *told },
         }
     }
 }

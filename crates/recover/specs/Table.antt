@@ -14,7 +14,7 @@ use Rattle.words.specs.declared.told.Told.{Told}
 use Rattle.words.specs.declared.told.Told.TheVariants.{None as told_none, Verdict as told_verdict, Row as told_row}
 use Rattle.words.specs.declared.limits.TheConstants.{MAX_CALL_NUMBER, MAX_CLIENTS, MAX_VALUE}
 use Rattle.arena.specs.declared.codes.TheConstants.{EMPTY_CELL, EMPTY_STATUS, ENQUEUE_KIND, GOT_CELL, TAKEN_STATUS}
-use Rattle.persist.specs.Memory.{Access, Load, Store, Flush}
+use Rattle.persist.specs.Memory.{Access, Load, Store, Flush, Fence}
 use Rattle.arena.specs.Shape.{Shape}
 use Rattle.arena.specs.Place.{IsClient, IsNode, IsRecord}
 use Rattle.arena.specs.Answers.{result_of}
@@ -26,7 +26,7 @@ use Rattle.stepper.specs.declared.resume.After.TheVariants.{More, Done as Ended}
 use Rattle.recover.specs.declared.recovery.Recovery.{Recovery}
 use Rattle.recover.specs.declared.point.Report.{Report}
 use Rattle.recover.specs.declared.point.RecoveryPoint.{RecoveryPoint}
-use Rattle.recover.specs.declared.point.RecoveryPoint.TheVariants.{RecoveryLoadHead, RecoveryLoadNext, RecoveryLoadInsert, RecoveryStoreStatus, RecoveryLoadMark, RecoveryLoadValue, RecoveryStoreResult, RecoveryStoreHead, RecoveryStoreTail, RecoveryLoadAnnouncement, RecoveryLoadCell, RecoveryLoadNumber, RecoveryLoadKind, RecoveryLoadStatus, RecoveryLoadRemove, RecoveryLoadEntryNode, RecoveryLoadRemovedValue, Flush as FlushPoint}
+use Rattle.recover.specs.declared.point.RecoveryPoint.TheVariants.{RecoveryLoadHead, RecoveryLoadNext, RecoveryLoadInsert, RecoveryStoreStatus, RecoveryLoadMark, RecoveryLoadValue, RecoveryStoreResult, RecoveryStoreHead, RecoveryStoreTail, RecoveryLoadAnnouncement, RecoveryLoadCell, RecoveryLoadNumber, RecoveryLoadKind, RecoveryLoadStatus, RecoveryLoadRemove, RecoveryLoadEntryNode, RecoveryLoadRemovedValue, Flush as FlushPoint, Fence as FencePoint}
 use Rattle.recover.specs.declared.keeping.RecoveryKeeping.{RecoveryKeeping}
 use Rattle.recover.specs.declared.keeping.RecoveryKeeping.TheVariants.{Status as KeepStatus, Result as KeepResult, Head as KeepHead, Tail as KeepTail}
 
@@ -66,6 +66,7 @@ access_of kind (RecoveryLoadRemove p) = Load (Mark (node_at p.token.0))
 access_of kind (RecoveryLoadEntryNode p) = Load (EntryNode p.token)
 access_of kind (RecoveryLoadRemovedValue p) = Load (Value p.node)
 access_of kind (FlushPoint k) = Flush (kept_place kind k)
+access_of kind (FencePoint k) = Fence (kept_place kind k)
 
 -- past the last node: the head, if it is not right yet, else the tail
 abbrev pub point_at_the_end : NodeId → Bool → RecoveryPoint
@@ -159,7 +160,8 @@ successor s (RecoveryLoadEntryNode p) found =
     if found == 0 then report_of p.client (not_taken_as p.number)
     else More (RecoveryLoadRemovedValue (record { client = p.client; number = p.number; node = node_at found }))
 successor s (RecoveryLoadRemovedValue p) found = report_of p.client (taken_as p.number (Got found))
-successor s (FlushPoint k) found = More (point_after_keeping k)
+successor s (FlushPoint k) found = More (FencePoint k)
+successor s (FencePoint k) found = More (point_after_keeping k)
 
 -- a client's report is noted, and the next client comes; after the last the queue is ready, and each is told what was
 -- noted
@@ -220,3 +222,4 @@ IsPoint s (RecoveryLoadEntryNode p) =
     (s.kind ≡ Log) × IsClient s p.client.0 × IsRecord s p.token.0 × (p.number ≤ MAX_CALL_NUMBER)
 IsPoint s (RecoveryLoadRemovedValue p) = IsClient s p.client.0 × IsNode s p.node.0 × (p.number ≤ MAX_CALL_NUMBER)
 IsPoint s (FlushPoint k) = IsKeeping s k
+IsPoint s (FencePoint k) = IsKeeping s k

@@ -283,7 +283,8 @@ pub struct RecoveryStoreHead {
     pub(crate) unclaimed: Option<NodeId>,
 }
 
-// A dequeue that found the head far behind would help along claimed nodes one by one, and take more than its 64 steps.
+// A dequeue that found the head far behind would help along claimed nodes one by one, and take more steps than a call
+// alone may take (`MAX_STEPS_ALONE` of words).
 impl Resume for RecoveryStoreHead {
     type Point = RecoveryPoint;
 
@@ -315,8 +316,8 @@ pub struct RecoveryStoreTail {
     pub(crate) cur: NodeId,
 }
 
-// The kept tail may be anywhere on the chain: an enqueue would walk from there node by node, and take more than its 64
-// steps.
+// The kept tail may be anywhere on the chain: an enqueue would walk from there node by node, and take more steps than a
+// call alone may take (`MAX_STEPS_ALONE` of words).
 impl Resume for RecoveryStoreTail {
     type Point = RecoveryPoint;
 

@@ -1,31 +1,36 @@
-//! What recovery keeps on its way: which word, and what comes once that is kept. The `//` at each says what goes wrong
-//! without it, with the must-fail edit that shows it.
+//! What recovery keeps on its way, by a flush and a fence: which word, and what comes once that is kept. The `//` at
+//! each says what goes wrong without its fence, with the must-fail edit that shows it.
 
-ghost use Rattle.std.specs.Prelude.{◌≡◌};
+ghost use Rattle.std.specs.Prelude.{◌≡◌, ◌≤◌, length, None};
+ghost use Rattle.persist.specs.Memory.{Fence, Flush};
+ghost use Rattle.arena.specs.Layout.{size_of};
 ghost use Rattle.arena.specs.Place.{IsPlace};
+ghost use Rattle.stepper.specs.Step.{after_one, change_by, lent_after_one, IsAskedFor};
+ghost use Rattle.stepper.specs.declared.resume.After.TheVariants.{More};
 ghost use Rattle.recover.specs.Table.{IsKeeping, kept_place, past_head, point_after_keeping};
+ghost use Rattle.recover.specs.declared.point.RecoveryPoint.TheVariants.{Fence as FencePoint};
 
 use crate::ends::{RecoveryLoadNext, RecoveryStoreTail, past_status};
 use crate::point::{RecoveryPoint, Report};
 use crate::telling::RecoveryLoadAnnouncement;
 use arena::{Layout, Place};
 use persist::WordMemory;
-use stepper::{After, Resume, Stepped, flush_at};
+use stepper::{After, Stepped, fence_at, flush_at};
 use words::{Client, NodeId, Token};
 
 /// What recovery is about to keep.
 #[derive(Clone, Copy, Debug, PartialEq, Eq, Hash)]
 pub enum RecoveryKeeping {
     // A status that is not kept is lost where recovery is cut off once the client was told by it
-    // (`recovery_does_not_flush_a_status`).
+    // (`recovery_does_not_keep_a_status`).
     Status(KeepStatus),
     // The head is about to pass the node: an answer that is not kept would be lost in the next crash
-    // (`recovery_does_not_flush_a_result`).
+    // (`recovery_does_not_keep_a_result`).
     Result(KeepResult),
     // What recovery leaves is cached and kept alike; the next recovery begins its walk here
-    // (`recovery_does_not_flush_the_head`).
+    // (`recovery_does_not_keep_the_head`).
     Head(KeepHead),
-    // What recovery leaves is cached and kept alike (`recovery_does_not_flush_the_tail`,
+    // What recovery leaves is cached and kept alike (`recovery_does_not_keep_the_tail`,
     // `recovery_takes_the_tail_for_kept`).
     Tail(KeepTail),
 }
@@ -117,22 +122,46 @@ impl RecoveryKeeping {
             }
         }
     }
-}
 
-impl Resume for RecoveryKeeping {
-    type Point = RecoveryPoint;
-
-    ghost use Rattle.recover.specs.declared.point.RecoveryPoint.TheVariants.{Flush};
-
-    ghost point = { Flush };
-
+    /// Asks that the word be kept. What waits then is the fence.
     #[inline(always)]
-    fn step<L: Layout, M: WordMemory>(
+    pub(crate) fn ask<L: Layout, M: WordMemory>(
         self,
         layout: &L,
         memory: &mut M,
-    ) -> Stepped<RecoveryPoint, Report> {
-        let change = flush_at(layout, memory, self.place(layout));
+    ) -> Stepped<RecoveryPoint, Report>
+        requires room { size_of (L.shape layout.now) ≤ length (M.words memory.old).cached }
+        requires point { IsKeeping (L.shape layout.now) self }
+        ensures one_access { let s = L.shape layout.now in
+            M.words memory.new ≡ after_one s (Flush (kept_place s.kind self)) (M.words memory.old) }
+        ensures lent { let s = L.shape layout.now in
+            M.lent memory.new ≡ lent_after_one s (Flush (kept_place s.kind self)) (M.lent memory.old) }
+        ensures next { result.after ≡ More (FencePoint self) }
+        ensures change { result.change ≡ None }
+    {
+        flush_at(layout, memory, self.place(layout));
+        Stepped::quiet(After::More(RecoveryPoint::Fence(self)))
+    }
+
+    /// Keeps the word, which was asked for.
+    #[inline(always)]
+    pub(crate) fn complete<L: Layout, M: WordMemory>(
+        self,
+        layout: &L,
+        memory: &mut M,
+    ) -> Stepped<RecoveryPoint, Report>
+        requires point { IsKeeping (L.shape layout.now) self }
+        requires asked { let s = L.shape layout.now in
+            IsAskedFor s (Fence (kept_place s.kind self)) (M.lent memory.old).request }
+        ensures one_access { let s = L.shape layout.now in
+            M.words memory.new ≡ after_one s (Fence (kept_place s.kind self)) (M.words memory.old) }
+        ensures lent { let s = L.shape layout.now in
+            M.lent memory.new ≡ lent_after_one s (Fence (kept_place s.kind self)) (M.lent memory.old) }
+        ensures next { result.after ≡ More (point_after_keeping self) }
+        ensures change { let s = L.shape layout.now in
+            result.change ≡ change_by s (Fence (kept_place s.kind self)) (M.words memory.old) }
+    {
+        let change = fence_at(layout, memory, self.place(layout));
         Stepped {
             after: After::More(self.next()),
             change,

@@ -34,8 +34,10 @@ pub enum RecoveryPoint {
     RecoveryLoadRemove(RecoveryLoadRemove),
     RecoveryLoadEntryNode(RecoveryLoadEntryNode),
     RecoveryLoadRemovedValue(RecoveryLoadRemovedValue),
-    /// About to keep a word.
+    /// About to ask that a word be kept.
     Flush(RecoveryKeeping),
+    /// About to keep it.
+    Fence(RecoveryKeeping),
 }
 
 /// What recovery tells a client.
@@ -87,7 +89,8 @@ impl Resume for RecoveryPoint {
             RecoveryPoint::RecoveryLoadRemove(point) => point.step(layout, memory),
             RecoveryPoint::RecoveryLoadEntryNode(point) => point.step(layout, memory),
             RecoveryPoint::RecoveryLoadRemovedValue(point) => point.step(layout, memory),
-            RecoveryPoint::Flush(keeping) => keeping.step(layout, memory),
+            RecoveryPoint::Flush(keeping) => keeping.ask(layout, memory),
+            RecoveryPoint::Fence(keeping) => keeping.complete(layout, memory),
         }
     }
 }

@@ -2,7 +2,7 @@
 
 ghost use Rattle.std.specs.Prelude.{◌≡◌, ◌<◌, ◌≤◌, length};
 ghost use Rattle.arena.specs.Layout.{size_of};
-ghost use Rattle.stepper.specs.Step.{after_one, value_found, IsReadInRange};
+ghost use Rattle.stepper.specs.Step.{after_one, lent_after_one, value_found, IsAskedFor, IsReadInRange};
 ghost use Rattle.recover.specs.Table.{access_of, after_report, boot_recovery, recovery_after, recovery_reached, IsPoint};
 
 use crate::ends::RecoveryLoadHead;
@@ -38,8 +38,12 @@ impl Recovery {
         requires point { IsPoint (L.shape layout.now) self.old.at }
         requires read { let s = L.shape layout.now in let access = access_of s.kind self.old.at in
             IsReadInRange s access (value_found s access (M.words memory.old)) }
+        requires asked { let s = L.shape layout.now in
+            IsAskedFor s (access_of s.kind self.old.at) (M.lent memory.old).request }
         ensures one_access { let s = L.shape layout.now in
             M.words memory.new ≡ after_one s (access_of s.kind self.old.at) (M.words memory.old) }
+        ensures lent { let s = L.shape layout.now in
+            M.lent memory.new ≡ lent_after_one s (access_of s.kind self.old.at) (M.lent memory.old) }
         ensures next { let s = L.shape layout.now in let access = access_of s.kind self.old.at in
             recovery_reached result self.new ≡ recovery_after s self.old (value_found s access (M.words memory.old)) }
     {

@@ -1,5 +1,5 @@
-//! Looks for an order of calls that explains what is known of them, or for a witness that there is none. Nothing here is
-//! proved but that it ends and is safe: what it finds is judged elsewhere.
+//! Looks for an order of calls that explains what is known of them, or for a witness that there is none. Nothing here
+//! is proved but that it ends and is safe: what it finds is judged elsewhere.
 #![tactic(auto)]
 
 mod blocks;

@@ -17,8 +17,8 @@ use words::{MAX_CLIENTS, MAX_RECORDS, Refusal};
 /// The broker that a memory keeps, once it has recovered. It is refused as [`Broker::boot`] is, and recovery for want
 /// of memory alone (NoMemory).
 fn recovered(alloc: Global, memory: Memory) -> Result<Broker, Refusal>
-    ensures opened { IfOk result (IsOpened memory) }
-    ensures errors { IfErr result (MayRefuse memory.kept) }
+    ensures opened { IfOk result (IsOpened memory.words) }
+    ensures errors { IfErr result (MayRefuse memory.words.kept) }
     ensures uncalled { IfOk result IsUncalled }
     ensures promises { IfOk result KeepsPromises }
 {

@@ -1,4 +1,4 @@
--- What a call prepares in its record before it acts: words that each take a store and a flush, in order.
+-- What a call prepares in its record before it acts: words that each take a store, a flush and a fence, in order.
 use Rattle.std.specs.Prelude.{◌≡◌, ℕ, ◌+◌, ◌≤◌, ◌<◌, List, [], ◌∷◌, Option, Some, None, slice_get}
 use Rattle.words.specs.declared.call.Kind.{Kind}
 use Rattle.words.specs.declared.call.Kind.TheVariants.{Durable, Log}
@@ -11,14 +11,15 @@ use Rattle.arena.specs.Place.{IsClient, IsRecord}
 use Rattle.arena.specs.declared.place.Write.{Write}
 use Rattle.arena.specs.declared.place.Place.{Place}
 use Rattle.arena.specs.declared.place.Place.TheVariants.{Announcement, Bump, Value, Insert, Number, EntryKind, EntryNode}
-use Rattle.persist.specs.Memory.{Access, Store, Flush}
+use Rattle.persist.specs.Memory.{Access, Store, Flush, Fence}
 use Rattle.stepper.specs.declared.resume.After.{After}
 use Rattle.stepper.specs.declared.resume.After.TheVariants.{More, Done}
 use Rattle.stepper.specs.declared.prepare.Begun.{Begun}
 use Rattle.stepper.specs.declared.prepare.Prepare.{Prepare}
-use Rattle.stepper.specs.declared.prepare.Prepare.TheVariants.{Store as store_next, Flush as flush_next}
+use Rattle.stepper.specs.declared.prepare.Prepare.TheVariants.{Store as store_next, Flush as flush_next, Fence as fence_next}
 use Rattle.stepper.specs.declared.prepare.PrepareStore.{PrepareStore}
 use Rattle.stepper.specs.declared.prepare.PrepareFlush.{PrepareFlush}
+use Rattle.stepper.specs.declared.prepare.PrepareFence.{PrepareFence}
 
 abbrev pub write : Place → ℕ → Write
 write place value = record { place = place; value = value }
@@ -56,11 +57,13 @@ prepared_to kind b index = prepared_with b index (slice_get (preparation_of kind
 abbrev pub access_of : Prepare → Access Place
 access_of (store_next p) = Store p.write.place p.write.value
 access_of (flush_next p) = Flush p.write.place
+access_of (fence_next p) = Fence p.write.place
 
 -- what comes then
 abbrev pub successor : Kind → Prepare → After Prepare Begun
 successor kind (store_next p) = More (flush_next (record { begun = p.begun; index = p.index; write = p.write }))
-successor kind (flush_next p) = prepared_to kind p.begun (p.index + 1)
+successor kind (flush_next p) = More (fence_next (record { begun = p.begun; index = p.index; write = p.write }))
+successor kind (fence_next p) = prepared_to kind p.begun (p.index + 1)
 
 -- a call that took a record of its client's
 pub record IsBegun (s : Shape) (b : Begun) : Type 0 where
@@ -80,3 +83,4 @@ pub record IsPreparing (s : Shape) (b : Begun) (index : ℕ) (w : Write) : Type 
 abbrev pub IsPoint : Shape → Prepare → Type 0
 IsPoint s (store_next p) = IsPreparing s p.begun p.index p.write
 IsPoint s (flush_next p) = IsPreparing s p.begun p.index p.write
+IsPoint s (fence_next p) = IsPreparing s p.begun p.index p.write

@@ -5,6 +5,6 @@ mod places;
 mod prepare;
 mod resume;
 
-pub use places::{cas_at, flush_at, load_at, store_at};
-pub use prepare::{Begun, Prepare, PrepareFlush, PrepareStore, Prepared};
+pub use places::{cas_at, fence_at, flush_at, load_at, store_at};
+pub use prepare::{Begun, Prepare, PrepareFence, PrepareFlush, PrepareStore, Prepared};
 pub use resume::{After, Points, Resume, Stepped};

@@ -1,12 +1,12 @@
 //! One access, at a place of a layout.
 
 ghost use Rattle.std.specs.Prelude.{◌≡◌, ◌≤◌, length, slice_index};
-ghost use Rattle.persist.specs.Memory.{Load, Store, Cas, Flush};
+ghost use Rattle.persist.specs.Memory.{Load, Store, Cas, Flush, Fence, Word};
 ghost use Rattle.persist.specs.Changes.{change_of, swap_of};
 ghost use Rattle.arena.specs.Shape.{greatest};
 ghost use Rattle.arena.specs.Layout.{size_of, word_at};
 ghost use Rattle.arena.specs.Place.{IsPlace};
-ghost use Rattle.stepper.specs.Step.{after_one};
+ghost use Rattle.stepper.specs.Step.{after_one, lent_after_one};
 
 use arena::{Layout, Place, Write};
 use persist::{Change, Swap, WordMemory};
@@ -21,6 +21,7 @@ pub fn load_at<L: Layout, M: WordMemory>(layout: &L, memory: &mut M, place: Plac
     requires room { size_of (L.shape layout.now) ≤ length (M.words memory.old).cached }
     ensures value { result ≡ slice_index (M.words memory.old).cached (word_at (L.shape layout.now) place) }
     ensures one_access { M.words memory.new ≡ after_one (L.shape layout.now) (Load place) (M.words memory.old) }
+    ensures lent { M.lent memory.new ≡ M.lent memory.old }
     ensures few { greatest (L.shape layout.now) ≤ MAX_RECORD_NUMBER }
 {
     let word = layout.word(place);
@@ -32,7 +33,9 @@ pub fn load_at<L: Layout, M: WordMemory>(layout: &L, memory: &mut M, place: Plac
 pub fn store_at<L: Layout, M: WordMemory>(layout: &L, memory: &mut M, write: Write)
     requires place { IsPlace (L.shape layout.now) write.place }
     requires room { size_of (L.shape layout.now) ≤ length (M.words memory.old).cached }
-    ensures { M.words memory.new ≡ after_one (L.shape layout.now) (Store write.place write.value) (M.words memory.old) }
+    ensures one_access { M.words memory.new
+        ≡ after_one (L.shape layout.now) (Store write.place write.value) (M.words memory.old) }
+    ensures lent { M.lent memory.new ≡ M.lent memory.old }
 {
     let word = layout.word(write.place);
     memory.store(word, write.value).unwrap()
@@ -46,24 +49,36 @@ pub fn cas_at<L: Layout, M: WordMemory>(layout: &L, memory: &mut M, old: u64, wr
     ensures swap { result ≡ swap_of (M.words memory.old) (word_at (L.shape layout.now) write.place) old }
     ensures one_access { M.words memory.new
         ≡ after_one (L.shape layout.now) (Cas write.place old write.value) (M.words memory.old) }
+    ensures lent { M.lent memory.new ≡ M.lent memory.old }
     ensures few { greatest (L.shape layout.now) ≤ MAX_RECORD_NUMBER }
 {
     let word = layout.word(write.place);
     memory.cas(word, old, write.value).unwrap()
 }
 
-/// Keeps the cached value of a place's word. It answers the change, where the kept value changed.
+/// Asks that a place's word be kept.
 #[inline(always)]
-pub fn flush_at<L: Layout, M: WordMemory>(
+pub fn flush_at<L: Layout, M: WordMemory>(layout: &L, memory: &mut M, place: Place)
+    requires place { IsPlace (L.shape layout.now) place }
+    requires room { size_of (L.shape layout.now) ≤ length (M.words memory.old).cached }
+    ensures one_access { M.words memory.new ≡ after_one (L.shape layout.now) (Flush place) (M.words memory.old) }
+    ensures lent { M.lent memory.new ≡ lent_after_one (L.shape layout.now) (Flush place) (M.lent memory.old) }
+{
+    let word = layout.word(place);
+    memory.flush(word).unwrap()
+}
+
+/// Keeps the cached value of a place's word, which was asked for. It answers the change, where the kept value changed.
+#[inline(always)]
+pub fn fence_at<L: Layout, M: WordMemory>(
     layout: &L,
     memory: &mut M,
     place: Place,
 ) -> Option<Change>
-    requires place { IsPlace (L.shape layout.now) place }
-    requires room { size_of (L.shape layout.now) ≤ length (M.words memory.old).cached }
+    requires asked { (M.lent memory.old).request ≡ Word (word_at (L.shape layout.now) place) }
     ensures change { result ≡ change_of (M.words memory.old) (word_at (L.shape layout.now) place) }
-    ensures one_access { M.words memory.new ≡ after_one (L.shape layout.now) (Flush place) (M.words memory.old) }
+    ensures one_access { M.words memory.new ≡ after_one (L.shape layout.now) (Fence place) (M.words memory.old) }
+    ensures lent { M.lent memory.new ≡ lent_after_one (L.shape layout.now) (Fence place) (M.lent memory.old) }
 {
-    let word = layout.word(place);
-    memory.flush(word).unwrap()
+    memory.fence().unwrap()
 }

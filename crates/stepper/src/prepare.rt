@@ -1,9 +1,9 @@
-//! The preparation of a call: it writes its record, each word with a store and a flush, before it acts.
+//! The preparation of a call: it writes its record, each word with a store, a flush and a fence, before it acts.
 
 ghost use Rattle.std.specs.Prelude.{◌≡◌, slice_get};
 ghost use Rattle.stepper.specs.Preparation.{preparation_from, prepared_to, bump as bump_of, announcement as announcement_of};
 
-use crate::places::{flush_at, store_at};
+use crate::places::{fence_at, flush_at, store_at};
 use crate::resume::{After, Points, Resume, Stepped};
 use arena::{DEQUEUE_KIND, ENQUEUE_KIND, Layout, Place, Write};
 use persist::WordMemory;
@@ -32,9 +32,10 @@ pub enum Prepare {
     // after a crash; an announcement kept before its record would name a call that is not there:
     // `announces_before_the_node.edit`.
     Store(PrepareStore),
-    // Each word is kept before the next is stored. A link to a node whose value is not kept would lose the value in a
-    // crash, though the enqueue had answered: `flush_of_a_preparation_dropped.edit`.
     Flush(PrepareFlush),
+    // Each word is kept before the next is stored. A link to a node whose value is not kept would lose the value in a
+    // crash, though the enqueue had answered: `fence_of_a_preparation_dropped.edit`.
+    Fence(PrepareFence),
 }
 
 /// About to store a word of the record. Its fields stand in the order in which a step moves them at the least cost:
@@ -46,9 +47,17 @@ pub struct PrepareStore {
     pub(crate) begun: Begun,
 }
 
-/// About to keep it. Its fields stand as those of `PrepareStore`.
+/// About to ask that it be kept. Its fields stand as those of `PrepareStore`.
 #[derive(Clone, Copy, Debug, PartialEq, Eq, Hash)]
 pub struct PrepareFlush {
+    pub(crate) write: Write,
+    pub(crate) index: u8,
+    pub(crate) begun: Begun,
+}
+
+/// About to keep it. Its fields stand as those of `PrepareStore`.
+#[derive(Clone, Copy, Debug, PartialEq, Eq, Hash)]
+pub struct PrepareFence {
     pub(crate) write: Write,
     pub(crate) index: u8,
     pub(crate) begun: Begun,
@@ -216,7 +225,33 @@ impl Resume for PrepareFlush {
             index,
             write,
         } = self;
-        let change = flush_at(layout, memory, write.place);
+        flush_at(layout, memory, write.place);
+        Stepped::quiet(After::More(Prepare::Fence(PrepareFence {
+            begun,
+            index,
+            write,
+        })))
+    }
+}
+
+impl Resume for PrepareFence {
+    type Point = Prepare;
+
+    ghost use Rattle.stepper.specs.declared.prepare.Prepare.TheVariants.{Fence};
+
+    ghost point = { Fence };
+
+    fn step<L: Layout, M: WordMemory>(
+        self,
+        layout: &L,
+        memory: &mut M,
+    ) -> Stepped<Prepare, Prepared> {
+        let PrepareFence {
+            begun,
+            index,
+            write,
+        } = self;
+        let change = fence_at(layout, memory, write.place);
         Stepped {
             after: prepare_at(layout.kind(), begun, index + 1),
             change,

@@ -14,7 +14,7 @@ pub enum After<P, A> {
     Done(A),
 }
 
-/// What a step did: what comes after it, and the change of a kept value, where it was a flush that made one.
+/// What a step did: what comes after it, and the change of a kept value, where it was a fence that made one.
 #[derive(Clone, Copy, Debug, PartialEq, Eq, Hash)]
 pub struct Stepped<P, A> {
     pub after: After<P, A>,
@@ -60,7 +60,7 @@ pub trait Points {
 pub trait Resume {
     ghost use Rattle.std.specs.Prelude.{◌≡◌, ◌≤◌, length};
     ghost use Rattle.arena.specs.Layout.{size_of};
-    ghost use Rattle.stepper.specs.Step.{after_one, change_by, value_found, IsReadInRange};
+    ghost use Rattle.stepper.specs.Step.{after_one, change_by, lent_after_one, value_found, IsAskedFor, IsReadInRange};
 
     /// The points of its machine.
     type Point: Points;
@@ -78,8 +78,12 @@ pub trait Resume {
         requires point { Self.Point.in_range (L.shape layout.now) (point self) }
         requires read { let s = L.shape layout.now in let access = Self.Point.access s.kind (point self) in
             IsReadInRange s access (value_found s access (M.words memory.old)) }
+        requires asked { let s = L.shape layout.now in
+            IsAskedFor s (Self.Point.access s.kind (point self)) (M.lent memory.old).request }
         ensures one_access { let s = L.shape layout.now in
             M.words memory.new ≡ after_one s (Self.Point.access s.kind (point self)) (M.words memory.old) }
+        ensures lent { let s = L.shape layout.now in
+            M.lent memory.new ≡ lent_after_one s (Self.Point.access s.kind (point self)) (M.lent memory.old) }
         ensures next { let s = L.shape layout.now in let access = Self.Point.access s.kind (point self) in
             result.after ≡ Self.Point.successor s (point self) (value_found s access (M.words memory.old)) }
         ensures change { let s = L.shape layout.now in

@@ -67,8 +67,9 @@ fn begins_with<L: Layout + Drop>(old: &World<L>, new: &World<L>) -> Result<bool,
 /// How often the queue became ready again.
 fn recoveries<L: Layout + Drop>(world: &World<L>) -> usize {
     let mut count = 0usize;
-    for event in world.history().events.as_slice() {
-        if let Event::Ready { .. } = event {
+    let events = &world.history().events;
+    for place in 0..events.len() {
+        if let Event::Ready { .. } = events.at(place) {
             count = count.saturating_add(1);
         }
     }

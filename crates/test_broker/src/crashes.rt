@@ -8,7 +8,7 @@ use std::alloc::Global;
 use std::test::Fail;
 use test_support::are_explained;
 use test_support::brokers::{create, finish, not_taken, recover, restart, taken};
-use test_support::steps::{GATE_STORED, LOG_CLAIM_KEPT, LOG_CLAIMED};
+use test_support::steps::{GATE_ASKED, LOG_CLAIM_ASKED, LOG_CLAIM_KEPT};
 use words::{Call, Kind, Refusal, Reply, Row, Told};
 
 /// A durable queue in slot 0 through which three values went, and a log queue in slot 1 whose dequeue stopped after so
@@ -60,7 +60,7 @@ fn crashes_twice(alloc: Global, steps: u32, first: u32, second: u32) -> Result<b
 #[test]
 fn two_crashes_at_each_step_of_recovery(rt: HostRuntime) -> Result<(), Fail> {
     let alloc = rt.alloc();
-    for steps in [LOG_CLAIMED, LOG_CLAIM_KEPT] {
+    for steps in [LOG_CLAIM_ASKED, LOG_CLAIM_KEPT] {
         let all = recover(&mut stopped(alloc, steps)?)?;
         for first in 0..=all {
             for second in 0..=all / 3 {
@@ -77,7 +77,7 @@ fn to_be_found(alloc: Global) -> Result<Broker, Refusal> {
     let mut broker = Broker::make(alloc, 1, 2)?;
     create(&mut broker, b"d", Kind::Durable)?;
     broker.create(b"found", Kind::Log)?;
-    create_on(&mut broker, GATE_STORED)?;
+    create_on(&mut broker, GATE_ASKED)?;
     broker.evict(9)?;
     broker.crash()?;
     Ok(broker)

@@ -71,7 +71,7 @@ fn is_whole_or_free(
 fn crashes_after(alloc: Global, creation: Creation) -> Result<bool, Refusal> {
     let mut broker = begun(alloc, creation)?;
     let open = has_open_gate(&kept(alloc, &broker)?, 0);
-    let by_chance = creation.steps == GATE_STORED && creation.set & GATE != 0;
+    let by_chance = creation.steps >= GATE_STORED && creation.set & GATE != 0;
     let ended = creation.steps.saturating_add(creation.more) == CREATED;
     let right = open == (ended || by_chance);
     restart(&mut broker)?;

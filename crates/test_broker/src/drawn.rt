@@ -56,7 +56,7 @@ fn word(rng: &mut Pcg32, layout: &BrokerLayout) -> usize {
 /// A call goes on by some steps.
 fn go_on(broker: &mut Broker, rng: &mut Pcg32, client: Client) -> Result<(), Refusal> {
     let slot = slot(rng);
-    for _ in 0..=below(rng, 6) {
+    for _ in 0..=below(rng, 8) {
         pass_over(broker.step(slot, client))?;
     }
     Ok(())
@@ -64,7 +64,7 @@ fn go_on(broker: &mut Broker, rng: &mut Pcg32, client: Client) -> Result<(), Ref
 
 /// A creation goes on by some steps.
 fn create_on(broker: &mut Broker, rng: &mut Pcg32) -> Result<(), Refusal> {
-    for _ in 0..=below(rng, 3) {
+    for _ in 0..=below(rng, 5) {
         pass_over(broker.create_step())?;
     }
     Ok(())

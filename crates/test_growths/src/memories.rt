@@ -10,6 +10,7 @@ use words::Refusal;
 pub enum Act {
     Store(usize, u64),
     Flush(usize),
+    Fence,
     Evict(usize),
     Crash,
     Image,
@@ -36,7 +37,8 @@ impl Subject for Memory {
     fn act(&mut self, act: Act) -> Result<Answer, Refusal> {
         match act {
             Act::Store(word, value) => self.store(word, value).map(|()| Answer::Done),
-            Act::Flush(word) => self.flush(word).map(Answer::Kept),
+            Act::Flush(word) => self.flush(word).map(|()| Answer::Done),
+            Act::Fence => self.fence().map(Answer::Kept),
             Act::Evict(word) => self.evict(word).map(Answer::Kept),
             Act::Crash => {
                 self.crash();

@@ -29,8 +29,18 @@ pub enum Act {
 pub(crate) fn write_history(history: &History, text: &mut String) -> Result<(), Refusal> {
     let base = history.base.as_slice();
     let told = history.told;
-    let events = history.events.as_slice();
-    write!(text, "base {base:?} told {told:?} events {events:?} ").map_err(|_| Refusal::NoMemory)
+    let events = &history.events;
+    if write!(text, "base {base:?} told {told:?} events [").is_err() {
+        return Err(Refusal::NoMemory);
+    }
+    for place in 0..events.len() {
+        let event = events.at(place);
+        let mark = if place > 0 { ", " } else { "" };
+        if write!(text, "{mark}{event:?}").is_err() {
+            return Err(Refusal::NoMemory);
+        }
+    }
+    write!(text, "] ").map_err(|_| Refusal::NoMemory)
 }
 
 /// Makes the act by a list of it alone. A list's act that is refused memory is passed over.

@@ -3,6 +3,7 @@
 use history::{Entry, Event, History, Order, Sequence, check, check_plainly, replay};
 use std::alloc::{AllocError, Global};
 use std::test::Fail;
+use test_support::events_of;
 use words::{Call, Client, Outcome, Reply, Row, Told, Verdict};
 
 const NONE: [Told; 16] = [Told::None; 16];
@@ -55,7 +56,7 @@ fn history(
     Ok(History {
         base: Sequence::from_vec(base.to_vec(alloc)?),
         told,
-        events: Sequence::from_vec(events.to_vec(alloc)?),
+        events: events_of(alloc, events)?,
     })
 }
 

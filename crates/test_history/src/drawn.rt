@@ -3,9 +3,9 @@
 use history::{Entry, Event, History, Order, Sequence, check, check_plainly};
 use rand_core::Rng;
 use rand_pcg::Pcg32;
-use std::alloc::Global;
+use std::alloc::{AllocError, Global};
 use std::test::Fail;
-use test_support::index_below;
+use test_support::{events_of, index_below};
 use words::{Call, Client, Kind, Outcome, Reply, Row, Told, Verdict};
 
 /// A call under way, and its reply once it took effect.
@@ -182,20 +182,20 @@ impl Scene {
     }
 
     /// What both checkers answer, if they agree.
-    fn checked(self) -> Option<bool> {
+    fn checked(self, alloc: Global) -> Result<Option<bool>, AllocError> {
         let history = History {
             base: Sequence::from_vec(self.queue),
             told: [Told::None; 16],
-            events: Sequence::from_vec(self.events),
+            events: events_of(alloc, &self.events)?,
         };
         let order = Order {
             entries: Sequence::from_vec(self.entries),
         };
         let fast = check(&history, &order);
         if fast == check_plainly(&history, &order) {
-            Some(fast)
+            Ok(Some(fast))
         } else {
-            None
+            Ok(None)
         }
     }
 }
@@ -212,7 +212,7 @@ fn drawn(alloc: Global, kind: Kind, draw: u64, spoils: usize) -> Result<Option<b
         scene.spoil(&mut rng);
     }
     scene.queue.clear();
-    Ok(scene.checked())
+    Ok(scene.checked(alloc)?)
 }
 
 #[test]

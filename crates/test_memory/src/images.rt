@@ -17,10 +17,13 @@ fn what_is_kept_is_written_and_read(rt: HostRuntime) -> Result<(), Fail> {
     let mut memory = Memory::new(rt.alloc(), 2)?;
     memory.store(0, FIRST)?;
     memory.store(1, 5)?;
-    memory.flush(0)?;
-    memory.flush(1)?;
-    // What is cached alone is in no image.
+    for word in [0, 1] {
+        memory.flush(word)?;
+        memory.fence()?;
+    }
+    // What is cached alone is in no image, and neither is what is asked for.
     memory.store(1, 6)?;
+    memory.flush(1)?;
     let image = memory.to_image()?;
     assert_eq!(rt; image.as_slice(), TWO_WORDS.as_slice());
     let mut read = Memory::from_image(rt.alloc(), &TWO_WORDS)?;

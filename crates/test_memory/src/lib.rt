@@ -1,4 +1,4 @@
-//! A memory beside a plain one on drawn operations, and its image, written out.
+//! A memory beside a plain one on drawn operations, what its ports do, row by row, and its image, written out.
 #![tactic(auto)]
 
 #[cfg(test)]
@@ -7,3 +7,5 @@ mod drawn;
 mod images;
 #[cfg(test)]
 mod plain;
+#[cfg(test)]
+mod rows;

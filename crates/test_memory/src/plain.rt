@@ -1,73 +1,68 @@
-//! The memory model as a plain program: each word's two values stand in two lists, and a crash copies one to the other.
+//! The memory model as a plain program: each word has its two values side by side, and each port the word that it asks
+//! for. A fence copies one value to the other, and a crash the other way.
 
-ghost use Rattle.std.specs.Prelude.{◌≡◌, ◌+◌, ◌<◌, min, length, slice_index, slice_set, Ok, Err};
-ghost use Rattle.persist.specs.Memory.{words_after_crash, nothing};
-ghost use Rattle.persist.specs.Changes.{change_of};
-
-use persist::{Change, EvictableWords, KeptWords, Swap, WordMemory};
+use persist::{Change, PORTS, Swap};
 use std::alloc::{AllocError, Global};
-use std::marker::Model;
 use words::Refusal;
 
-/// Words with a cached and a kept value, and how many accesses there were.
-#[derive(Drop)]
-pub(crate) struct PlainMemory {
-    cached: Vec<u64>,
-    kept: Vec<u64>,
-    accesses: u64,
+/// The two values of a word.
+#[derive(Clone, Copy)]
+struct Word {
+    cached: u64,
+    kept: u64,
 }
 
-impl Model for PlainMemory {
-    ghost use Rattle.std.specs.Prelude.{◌≡◌, length};
-    ghost use Rattle.persist.specs.Memory.{Words, nothing};
-
-    ghost Value = { Words };
-
-    ghost view = { λ m. record {
-      cached = m.cached.items;
-      kept = m.kept.items;
-      accesses = m.accesses;
-      around = nothing;
-    } };
-
-    ghost invariant = { λ m. length m.kept.items ≡ length m.cached.items };
-}
-
-/// Counts an access. The count stays at its greatest value.
-fn count(accesses: &mut u64)
-    ensures { accesses.new ≡ min (accesses.old + 1) 18446744073709551615 }
-{
-    if *accesses < u64::MAX {
-        *accesses += 1;
-    }
-}
-
-/// Makes the kept value of a word its cached one.
-fn keep(cached: &[u64], kept: &mut [u64], word: usize) -> Option<Change>
-    requires below { word < length cached.now }
-    requires same { length kept.old ≡ length cached.now }
-    ensures kept { kept.new ≡ slice_set kept.old word (slice_index cached.now word) }
-    ensures change { result
-        ≡ change_of (record { cached = cached.now; kept = kept.old; accesses = 0; around = nothing }) word }
-{
-    let old = kept[word];
-    let new = cached[word];
-    kept[word] = new;
-    if old == new {
-        None
-    } else {
+impl Word {
+    /// Makes the kept value the cached one, and answers the change, of the word of this number.
+    fn keep(&mut self, word: usize) -> Option<Change> {
+        let old = self.kept;
+        let new = self.cached;
+        self.kept = new;
+        if old == new {
+            return None;
+        }
         Some(Change { word, old, new })
     }
 }
 
+/// Words as they are lent: so many, from one on, through a port.
+#[derive(Clone, Copy)]
+pub(crate) struct Part {
+    port: usize,
+    from: usize,
+    len: usize,
+}
+
+impl Part {
+    /// Where one of its words is in the memory.
+    fn place(self, word: usize) -> Result<usize, Refusal> {
+        if word >= self.len {
+            return Err(Refusal::NoWord);
+        }
+        Ok(self.from.saturating_add(word))
+    }
+}
+
+/// Words, how many accesses there were, and what each port asks for.
+#[derive(Drop)]
+pub(crate) struct PlainMemory {
+    words: Vec<Word>,
+    accesses: u64,
+    requests: Vec<Option<usize>>,
+}
+
 impl PlainMemory {
-    /// A memory of `n` words, all zero.
+    /// A memory of `n` words, all zero, of which nothing is asked.
     pub(crate) fn new(alloc: Global, n: usize) -> Result<Self, AllocError> {
         Ok(PlainMemory {
-            cached: vec![in alloc; 0u64; n]?,
-            kept: vec![in alloc; 0u64; n]?,
+            words: vec![in alloc; Word { cached: 0, kept: 0 }; n]?,
             accesses: 0,
+            requests: vec![in alloc; None; PORTS]?,
         })
+    }
+
+    pub(crate) fn size(&self) -> usize {
+        self.words.len()
     }
 
     /// How many accesses there were.
@@ -75,93 +70,120 @@ impl PlainMemory {
         self.accesses
     }
 
+    /// The kept value of a word, if there is such a word.
+    pub(crate) fn kept(&self, word: usize) -> Option<u64> {
+        self.words.get(word).map(|word| word.kept)
+    }
+
     /// The words whose cached value is not the kept one, by a comparison of each.
     pub(crate) fn changes(&self, alloc: Global) -> Result<Vec<(u64, u64)>, AllocError> {
         let mut changes = Vec::new(alloc);
-        for (word, (cached, kept)) in self.cached.iter().zip(self.kept.iter()).enumerate() {
-            if cached != kept {
-                changes.push((word as u64, *cached))?;
+        for (word, values) in self.words.iter().enumerate() {
+            if values.cached != values.kept {
+                changes.push((word as u64, values.cached))?;
             }
         }
         Ok(changes)
     }
 
-    /// Makes every cached value the kept one.
-    pub(crate) fn crash(&mut self)
-        ensures { self.new ≡ words_after_crash self.old }
-    {
-        self.cached.copy_from_slice(&self.kept);
-    }
-}
-
-impl WordMemory for PlainMemory {
-    ghost words = { λ m. m };
-
-    fn size(&self) -> usize {
-        let _kept = self.kept.len();
-        self.cached.len()
+    /// The whole memory, through a port.
+    pub(crate) fn port(&self, port: usize) -> Result<Part, Refusal> {
+        if port >= PORTS {
+            return Err(Refusal::NoClient);
+        }
+        Ok(Part {
+            port,
+            from: 0,
+            len: self.words.len(),
+        })
     }
 
-    fn load(&mut self, word: usize) -> Result<u64, Refusal> {
-        if word >= self.cached.len() {
+    /// So many words, from one on, through a port.
+    pub(crate) fn window(&self, from: usize, len: usize, port: usize) -> Result<Part, Refusal> {
+        if port >= PORTS {
+            return Err(Refusal::NoClient);
+        }
+        if len == 0 || from.saturating_add(len) > self.words.len() {
             return Err(Refusal::NoWord);
         }
-        count(&mut self.accesses);
-        Ok(self.cached[word])
+        Ok(Part { port, from, len })
     }
 
-    fn store(&mut self, word: usize, value: u64) -> Result<(), Refusal> {
-        if word >= self.cached.len() {
-            return Err(Refusal::NoWord);
+    /// Makes every cached value the kept one, and drops what the ports ask for.
+    pub(crate) fn crash(&mut self) {
+        for word in &mut self.words {
+            word.cached = word.kept;
         }
-        count(&mut self.accesses);
-        self.cached[word] = value;
+        for request in &mut self.requests {
+            *request = None;
+        }
+    }
+
+    /// An access to a word of a part, which is counted.
+    fn access(&mut self, part: Part, word: usize) -> Result<&mut Word, Refusal> {
+        let place = part.place(word)?;
+        self.accesses = self.accesses.saturating_add(1);
+        self.words.get_mut(place).ok_or(Refusal::NoWord)
+    }
+
+    pub(crate) fn load(&mut self, part: Part, word: usize) -> Result<u64, Refusal> {
+        Ok(self.access(part, word)?.cached)
+    }
+
+    pub(crate) fn store(&mut self, part: Part, word: usize, value: u64) -> Result<(), Refusal> {
+        self.access(part, word)?.cached = value;
         Ok(())
     }
 
-    fn cas(&mut self, word: usize, old: u64, new: u64) -> Result<Swap, Refusal> {
-        if word >= self.cached.len() {
-            return Err(Refusal::NoWord);
+    pub(crate) fn cas(
+        &mut self,
+        part: Part,
+        word: usize,
+        old: u64,
+        new: u64,
+    ) -> Result<Swap, Refusal> {
+        let word = self.access(part, word)?;
+        if word.cached != old {
+            return Ok(Swap::Found(word.cached));
         }
-        count(&mut self.accesses);
-        let found = self.cached[word];
-        if found != old {
-            return Ok(Swap::Found(found));
-        }
-        self.cached[word] = new;
+        word.cached = new;
         Ok(Swap::Done)
     }
 
-    fn flush(&mut self, word: usize) -> Result<Option<Change>, Refusal> {
-        if word >= self.cached.len() {
+    /// The port asks for the word from now on.
+    pub(crate) fn flush(&mut self, part: Part, word: usize) -> Result<(), Refusal> {
+        let place = part.place(word)?;
+        self.access(part, word)?;
+        if let Some(request) = self.requests.get_mut(part.port) {
+            *request = Some(place);
+        }
+        Ok(())
+    }
+
+    /// Keeps the word that the port asks for, and then it asks for none.
+    pub(crate) fn fence(&mut self, part: Part) -> Result<Option<Change>, Refusal> {
+        let asked = self.requests.get(part.port).copied().flatten();
+        let Some(place) = asked else {
+            self.accesses = self.accesses.saturating_add(1);
+            return Ok(None);
+        };
+        if place < part.from {
             return Err(Refusal::NoWord);
         }
-        count(&mut self.accesses);
-        Ok(keep(&self.cached, &mut self.kept, word))
-    }
-}
-
-impl KeptWords for PlainMemory {
-    ghost kept_words = { λ m. m.kept };
-
-    fn size(&self) -> usize {
-        self.kept.len()
-    }
-
-    fn kept(&self, word: usize) -> u64 {
-        self.kept[word]
-    }
-}
-
-impl EvictableWords for PlainMemory {
-    ghost use Rattle.std.specs.Prelude.{refl};
-
-    ghost kept_is = { λ m. refl };
-
-    fn evict(&mut self, word: usize) -> Result<Option<Change>, Refusal> {
-        if word >= self.cached.len() {
-            return Err(Refusal::NoWord);
+        let word = place.saturating_sub(part.from);
+        let change = self.access(part, word)?.keep(word);
+        if let Some(request) = self.requests.get_mut(part.port) {
+            *request = None;
         }
-        Ok(keep(&self.cached, &mut self.kept, word))
+        Ok(change)
+    }
+
+    /// Keeps a word, whatever the ports ask for.
+    pub(crate) fn evict(&mut self, part: Part, word: usize) -> Result<Option<Change>, Refusal> {
+        let place = part.place(word)?;
+        match self.words.get_mut(place) {
+            Some(values) => Ok(values.keep(word)),
+            None => Err(Refusal::NoWord),
+        }
     }
 }

@@ -3,7 +3,7 @@
 ghost use Rattle.std.specs.Prelude.{◌<◌, OnOk};
 
 use anyhow::Result;
-use history::{Effect, Event, History, Order, Sequence, check, order, replay};
+use history::{Effect, Event, Events, History, Order, Sequence, check, order, replay};
 use test_growths::{MOST_TRIES, made, say_again};
 use words::{Call, Client, Refusal, Reply, Told};
 
@@ -68,7 +68,7 @@ static EFFECTS: [Effect; 4] = [
 ];
 
 /// Makes room for an event more.
-fn make_room<R: Print>(rt: &R, events: &mut Sequence<Event>) -> Result<()>
+fn make_room<R: Print>(rt: &R, events: &mut Events) -> Result<()>
     ensures { OnOk result (0 < events.new.room) }
 {
     for _ in 0..MOST_TRIES {
@@ -76,14 +76,14 @@ fn make_room<R: Print>(rt: &R, events: &mut Sequence<Event>) -> Result<()>
         if events.reserve(1).is_ok() {
             return Ok(());
         }
-        say_again(rt, "Sequence::reserve", before == events.len())?;
+        say_again(rt, "Events::reserve", before == events.len())?;
     }
     Err(Refusal::NoMemory.into())
 }
 
 /// The events one after another.
-fn filled<R: Print + AllocGlobal>(rt: &R) -> Result<Sequence<Event>> {
-    let mut events = Sequence::new(rt.alloc());
+fn filled<R: Print + AllocGlobal>(rt: &R) -> Result<Events> {
+    let mut events = Events::new(rt.alloc());
     let all = EVENTS;
     for event in all {
         make_room(rt, &mut events)?;
@@ -101,7 +101,12 @@ pub(crate) fn tell<R: Print + AllocGlobal>(rt: &R) -> Result<()> {
         told: [Told::None; 16],
         events: filled(rt)?,
     };
-    println!(rt; "events: {:?}", history.events.as_slice())?;
+    print!(rt; "events: [")?;
+    for place in 0..history.events.len() {
+        let mark = if place > 0 { ", " } else { "" };
+        print!(rt; "{mark}{:?}", history.events.at(place))?;
+    }
+    println!(rt; "]")?;
     let entries = made(rt, "events::order", || order(alloc, &EFFECTS))?;
     let order = Order {
         entries: Sequence::from_vec(entries),

@@ -5,10 +5,11 @@ use persist::Memory;
 use test_growths::memories::Act;
 use test_growths::{made, play};
 
-static STORY: [(u32, Act); 9] = [
+static STORY: [(u32, Act); 10] = [
     (1, Act::Store(0, 5)),
     (1, Act::Image),
     (1, Act::Flush(0)),
+    (1, Act::Fence),
     (1, Act::Store(1, 7)),
     (1, Act::Store(2, 8)),
     (1, Act::Evict(1)),
@@ -17,10 +18,11 @@ static STORY: [(u32, Act); 9] = [
     (1, Act::Store(3, 9)),
 ];
 
-static READ_STORY: [(u32, Act); 4] = [
+static READ_STORY: [(u32, Act); 5] = [
     (1, Act::Store(2, 9)),
     (1, Act::Image),
     (1, Act::Flush(2)),
+    (1, Act::Fence),
     (1, Act::Image),
 ];
 

@@ -106,7 +106,7 @@ pub(crate) fn are_once(session: &Session, slot: SlotId) -> Result<bool, Refusal>
     let order = session.broker().order(slot)?;
     let mut highest = [0u64; MAX_CLIENTS];
     for entry in order.entries.as_slice() {
-        let Some((client, number)) = call_at(history.events.as_slice(), entry.place) else {
+        let Some((client, number)) = call_at(&history.events, entry.place) else {
             return Ok(false);
         };
         let Some(last) = highest.get_mut(client) else {

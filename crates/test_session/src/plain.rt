@@ -1,6 +1,6 @@
 //! The plainest account of what numbers do: the reply that was first given for each, and a list of values.
 
-use history::Event;
+use history::{Event, Events};
 use session::Session;
 use std::alloc::Global;
 use test_support::sessions::A;
@@ -82,7 +82,7 @@ fn list(alloc: Global, values: &[u32]) -> Result<Vec<u32>, Refusal> {
 }
 
 /// The client, the number and the call at this place of a history, if there is one.
-fn call_at(events: &[Event], place: usize) -> Option<(u8, u64, Call)> {
+fn call_at(events: &Events, place: usize) -> Option<(u8, u64, Call)> {
     match events.get(place) {
         Some(
             Event::Call {
@@ -90,7 +90,7 @@ fn call_at(events: &[Event], place: usize) -> Option<(u8, u64, Call)> {
                 number,
                 call,
             },
-        ) => Some((client.0, *number, *call)),
+        ) => Some((client.0, number, call)),
         _ => None,
     }
 }
@@ -197,7 +197,7 @@ impl Plain {
         };
         let mut right = true;
         for entry in order.entries.as_slice() {
-            right &= match call_at(history.events.as_slice(), entry.place) {
+            right &= match call_at(&history.events, entry.place) {
                 Some(called) => self.is_next(&mut done, &mut left, called, entry.reply)?,
                 None => false,
             };

@@ -19,9 +19,9 @@ use workers::{Gate, Naming, OpenGate, Opened, Seat, Shared};
 /// The queues before the session is shared.
 static QUEUES: [(u32, Act); 4] = [
     (1, Act::Create("a", Kind::Log)),
-    (8, Act::CreateStep),
+    (12, Act::CreateStep),
     (1, Act::Create("b", Kind::Durable)),
-    (8, Act::CreateStep),
+    (12, Act::CreateStep),
 ];
 
 /// A call of the log queue.
@@ -132,12 +132,12 @@ fn first_calls<J: Naming, R: Wait + Print + AllocGlobal>(
     let seat = call(rt, shared, seat, plain(Call::Enq(5)), &OpenGate)?;
     crash(rt, shared)?;
     recover(rt, shared)?;
-    let gate = Stopping { shared, steps: 15 };
+    let gate = Stopping { shared, steps: 20 };
     let seat = call(rt, shared, seat, numbered(3, Call::Deq), &gate)?;
     recover(rt, shared)?;
     let seat = call(rt, shared, seat, numbered(3, Call::Deq), &OpenGate)?;
     let seat = call(rt, shared, seat, numbered(4, Call::Enq(9)), &OpenGate)?;
-    let gate = Stopping { shared, steps: 5 };
+    let gate = Stopping { shared, steps: 7 };
     let seat = call(rt, shared, seat, plain(Call::Deq), &gate)?;
     recover(rt, shared)?;
     call(rt, shared, seat, plain(Call::Deq), &OpenGate)

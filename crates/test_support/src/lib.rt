@@ -14,9 +14,9 @@ pub mod steps;
 
 use arena::{SLOTS, SlotId};
 pub use draws::{below, index_below};
-use history::{Event, check_content};
+use history::{Event, Events, check_content};
 use named::Broker;
-use std::alloc::Global;
+use std::alloc::{AllocError, Global};
 use words::Refusal;
 
 /// Whether the order of the slot's queue explains its history, and the queue holds what its replay leaves, by the
@@ -46,12 +46,24 @@ pub fn are_explained(alloc: Global, broker: &Broker) -> Result<bool, Refusal>
     Ok(right)
 }
 
+/// A history's events, of these.
+pub fn events_of(alloc: Global, events: &[Event]) -> Result<Events, AllocError>
+    ensures { IfOk result (λ list. list.items ≡ events.now) }
+{
+    let mut list = Events::new(alloc);
+    for event in events {
+        list.reserve(1)?;
+        list.push(*event);
+    }
+    Ok(list)
+}
+
 /// The client and the number of the call at this place of a history, if there is one.
-pub fn call_at(events: &[Event], place: usize) -> Option<(usize, u64)>
-    ensures { result ≡ caller_of (slice_get events.now place) }
+pub fn call_at(events: &Events, place: usize) -> Option<(usize, u64)>
+    ensures { result ≡ caller_of (slice_get events.now.items place) }
 {
     match events.get(place) {
-        Some(Event::Call { client, number, .. }) => Some((client.0 as usize, *number)),
+        Some(Event::Call { client, number, .. }) => Some((client.0 as usize, number)),
         _ => None,
     }
 }

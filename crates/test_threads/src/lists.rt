@@ -1,7 +1,7 @@
 //! Whether seats' lists fit the histories of a session that was taken back.
 
 use arena::{SLOTS, SlotId};
-use history::Event;
+use history::{Event, Events};
 use session::Session;
 use std::alloc::{AllocError, Global};
 use words::{Client, Refusal};
@@ -55,14 +55,17 @@ fn end_last(calls: &mut Vec<Entry>, end: End) {
 /// The client's calls that a history has from this place on, as a seat remembers them.
 fn remembered(
     alloc: Global,
-    events: &[Event],
+    events: Option<&Events>,
     client: Client,
     queue: SlotId,
     since: usize,
 ) -> Result<Vec<Entry>, AllocError> {
     let mut calls = Vec::new(alloc);
-    for (place, event) in events.iter().enumerate() {
-        match *event {
+    let Some(events) = events else {
+        return Ok(calls);
+    };
+    for place in 0..events.len() {
+        match events.at(place) {
             Event::Call {
                 client: who,
                 number,
@@ -98,10 +101,10 @@ fn ran(alloc: Global, list: &[Entry], queue: SlotId) -> Result<Option<Vec<Entry>
 }
 
 /// What happened in the queue of a slot; in a closed slot, nothing.
-fn events_of(session: &Session, queue: SlotId) -> &[Event] {
+fn events_of(session: &Session, queue: SlotId) -> Option<&Events> {
     match session.broker().history(queue) {
-        Ok(history) => history.events.as_slice(),
-        Err(_) => &[],
+        Ok(history) => Some(&history.events),
+        Err(_) => None,
     }
 }
 

@@ -45,7 +45,7 @@ fn are_in_turn(session: &Session, all: &[Vec<Reply>], queue: SlotId) -> Result<b
     let order = session.broker().order(queue)?;
     let mut counts = [0usize; MAX_CLIENTS];
     for entry in order.entries.as_slice() {
-        let Some((client, number)) = call_at(history.events.as_slice(), entry.place) else {
+        let Some((client, number)) = call_at(&history.events, entry.place) else {
             return Ok(false);
         };
         let (Some(count), Some(replies)) = (counts.get_mut(client), all.get(client)) else {

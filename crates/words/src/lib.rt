@@ -9,7 +9,7 @@ mod told;
 pub use call::{Call, Client, Kind, NodeId, Reply, Token};
 pub use limits::{
     MAX_CALL_NUMBER, MAX_CLIENTS, MAX_RECORD_NUMBER, MAX_RECORDS, MAX_STEPS_ALONE, MAX_VALUE,
-    Reports,
+    QUEUE_PORTS, RECOVERY_PORT, Reports, STEPS_BESIDES, STEPS_PER_CLIENT, STEPS_PER_RECORD,
 };
 pub use refusal::{Refusal, Rule};
 pub use told::{Outcome, Row, Told, Verdict};

@@ -33,7 +33,7 @@ use Rattle.events.proofs.Interrupted.{one_reply}
 use Rattle.events.proofs.Lists.{get_last}
 use Rattle.events.proofs.Members.{in_order_from_taken}
 use Rattle.protocol.specs.Machine.{Memory, World, MayStep, after_keeping, effects_after, events_after, next_of, with_access}
-use Rattle.protocol.specs.Machine.{with_eviction, with_flush, with_step}
+use Rattle.protocol.specs.Machine.{with_eviction, with_fence, with_step}
 use Rattle.protocol.specs.declared.UnderWay.{UnderWay}
 use Rattle.protocol.specs.invariants.Ledger.{Ledger, asked_call, held_token}
 use Rattle.protocol.specs.invariants.Worlds.{Inv, IsCalling, IsReady, ledger_of, record_of_call}
@@ -75,7 +75,7 @@ module _ (w : World) (inv : Inv w) (log : w.shape.kind ≡ log_kind) where
   told_evicted p up client few =
       let v : IsReady w = is_ready w inv up in
       let after : Inv (with_eviction w p) = inv_evicted w inv p in
-      told_on w v (with_flush w.memory p) (inr (record { p = p; same = refl })) log (after_keeping w p)
+      told_on w v (with_fence w.memory p) (inr (record { p = p; same = refl })) log (after_keeping w p)
       (comes_announced w v.working log (after_keeping w p) _ (keep_noted w v.working p)) (part_evicted w inv p)
       (explained (with_eviction w p) after).1.is_order.once w.log.events client _ _
       (told_in_world w inv log client few) (told_in_world (with_eviction w p) after log client few)

@@ -23,7 +23,7 @@ use Rattle.protocol.proofs.chain.Chains.{in_chain, in_parts, linked_by, leads_fr
 use Rattle.protocol.specs.invariants.Places.{IsOfRecord, IsOfKind, SaysEmpty}
 use Rattle.protocol.specs.invariants.Base.{Blank, Absent, AllFit}
 use Rattle.protocol.specs.invariants.Ledger.Stage.{Unmoved, Took}
-use Rattle.protocol.proofs.changes.Flushes.{cell_says, status_says}
+use Rattle.protocol.proofs.changes.Fences.{cell_says, status_says}
 use Rattle.protocol.specs.invariants.Records.{IsPath, IsAnswered, AnsweredTo, IsEnqueued, CellRight, NodeRight, StatusRight, IsEntry, Records}
 use Rattle.protocol.specs.invariants.Sound.{memory_at_rest, idle_ledger, Sound}
 use Rattle.protocol.proofs.worlds.Facts.{waiting_is, zero_fits}

@@ -10,7 +10,8 @@ use Rattle.words.specs.declared.call.Kind.{Kind}
 use Rattle.words.specs.declared.call.Kind.TheVariants.{Durable, Log}
 use Rattle.words.specs.declared.call.NodeId.{NodeId}
 use Rattle.words.specs.declared.call.Token.{Token}
-use Rattle.persist.specs.Memory.{Cas, Flush}
+use Rattle.persist.specs.Memory.{Cas, Fence}
+use Rattle.words.specs.declared.limits.TheConstants.{MAX_STEPS_ALONE}
 use Rattle.arena.specs.Answers.{result_of}
 use Rattle.arena.specs.Shape.{Shape}
 use Rattle.arena.specs.Words.{links, marks}
@@ -19,6 +20,7 @@ use Rattle.arena.specs.declared.place.Place.{Place}
 use Rattle.arena.specs.declared.place.Place.TheVariants.{Head, Tail, Next, Mark}
 use Rattle.stepper.specs.Preparation.{preparation_of, preparation_from, prepared_to, prepared_with}
 use Rattle.stepper.specs.Step.{place_of}
+use Rattle.stepper.specs.Steps.{keep_steps, load_steps}
 use Rattle.stepper.specs.declared.resume.After.{After}
 use Rattle.stepper.specs.declared.resume.After.TheVariants.{More, Done}
 use Rattle.stepper.specs.declared.prepare.Begun.{Begun}
@@ -27,7 +29,8 @@ use Rattle.helping.specs.Table.{token_of, access_of, successor, first_from, prep
 use Rattle.helping.specs.declared.dequeue.Claim.{Claim}
 use Rattle.helping.specs.declared.dequeue.Claim.TheVariants.{Won, LostTo}
 use Rattle.helping.specs.declared.op.Op.{Op}
-use Rattle.helping.specs.declared.op.Op.TheVariants.{PrepareStore, PrepareFlush, EnqueueLoadTail, EnqueueLoadNext, EnqueueCheckTail, EnqueueLink, EnqueueMoveTail, EnqueueHelpTail, DequeueLoadHead, DequeueLoadTail, DequeueLoadNext, DequeueCheckHead, DequeueStoreEmpty, DequeueHelpTail, DequeueLoadValue, DequeueClaim, DequeueStoreResult, DequeueMoveHead, Flush as FlushPoint}
+use Rattle.helping.specs.declared.op.Op.TheVariants.{PrepareStore, PrepareFlush, PrepareFence, EnqueueLoadTail, EnqueueLoadNext, EnqueueCheckTail, EnqueueLink, EnqueueMoveTail, EnqueueHelpTail, DequeueLoadHead, DequeueLoadTail, DequeueLoadNext, DequeueCheckHead, DequeueStoreEmpty, DequeueHelpTail, DequeueLoadValue, DequeueClaim, DequeueStoreResult, DequeueMoveHead, Flush as FlushPoint, Fence as FencePoint}
+use Rattle.helping.specs.declared.keeping.Keeping.{Keeping}
 use Rattle.helping.specs.declared.keeping.Keeping.TheVariants.{Link as KeepLink, PassedLink as KeepPassedLink, Empty as KeepEmpty, DequeuePassedLink as KeepDequeuePassedLink, Claim as KeepClaim, Result as KeepResult}
 use Rattle.words.specs.declared.call.Reply.{Reply}
 use Rattle.protocol.specs.Machine.{Memory, World, put, with_store, with_access, with_step, next_of, MayStep}
@@ -55,73 +58,87 @@ tail_lag m = one_if (links m.cached (m.cached Tail))
 abbrev pub head_lag : Memory → ℕ
 head_lag m = if links m.cached (m.cached Head) == 0 then 0 else one_if (marks m.cached (links m.cached (m.cached Head)))
 
--- the steps of an enqueue from its first load of the tail, and of a dequeue from its first load of the head
+-- the steps of an enqueue from its first load of the tail, and of a dequeue from its first load of the head, where nothing
+-- lags
+abbrev pub enqueue_alone : ℕ
+enqueue_alone = 5 + keep_steps
+
+abbrev pub dequeue_alone : ℕ
+dequeue_alone = 7 + load_steps + 2 * keep_steps
+
+-- and where something may
 abbrev pub enqueue_left : Memory → ℕ
-enqueue_left m = 6 + 5 * tail_lag m
+enqueue_left m = enqueue_alone + (4 + keep_steps) * tail_lag m
 
 abbrev pub dequeue_left : Memory → ℕ
-dequeue_left m = 10 + 6 * tail_lag m + 10 * head_lag m
+dequeue_left m = dequeue_alone + (5 + keep_steps) * tail_lag m + dequeue_alone * head_lag m
 
 abbrev pub call_left : Memory → Call → ℕ
 call_left m (Enq v) = enqueue_left m
 call_left m Deq = dequeue_left m
 
 abbrev pub link_left : Memory → ℕ → ℕ
-link_left m last = if links m.cached last == 0 then 3 else 1 + enqueue_left m
+link_left m last = if links m.cached last == 0 then 2 + keep_steps else 1 + enqueue_left m
 
 abbrev pub help_enqueue_left : Memory → ℕ → ℕ
-help_enqueue_left m last = if m.cached Tail == last then 7 else 1 + enqueue_left m
+help_enqueue_left m last = if m.cached Tail == last then 1 + enqueue_alone else 1 + enqueue_left m
 
 abbrev pub check_tail_left : Memory → ℕ → ℕ → ℕ
 check_tail_left m last next =
-    if m.cached Tail == last then (if next == 0 then 1 + link_left m last else 2 + help_enqueue_left m last) else 1 + enqueue_left m
+    if m.cached Tail == last then (if next == 0 then 1 + link_left m last else 1 + keep_steps + help_enqueue_left m last) else 1 + enqueue_left m
 
 abbrev pub help_dequeue_left : Memory → ℕ → ℕ
-help_dequeue_left m last = if m.cached Tail == last then 11 + 10 * head_lag m else 1 + dequeue_left m
+help_dequeue_left m last = if m.cached Tail == last then 1 + dequeue_alone + dequeue_alone * head_lag m else 1 + dequeue_left m
 
 -- after a claim: the winner ends, another begins again
 abbrev pub lost_left : Memory → ℕ → ℕ
-lost_left m first = if m.cached Head == first then 11 + 6 * tail_lag m else 1 + dequeue_left m
+lost_left m first = if m.cached Head == first then 1 + dequeue_alone + (5 + keep_steps) * tail_lag m else 1 + dequeue_left m
 
 abbrev pub move_head_left : Memory → ℕ → Claim → ℕ
 move_head_left m first Won = 1
 move_head_left m first (LostTo other) = lost_left m first
 
 abbrev pub claim_left : Memory → ℕ → ℕ → ℕ
-claim_left m first next = if marks m.cached next == 0 then 5 else 4 + lost_left m first
+claim_left m first next = if marks m.cached next == 0 then 3 + 2 * keep_steps else 2 + 2 * keep_steps + lost_left m first
 
 abbrev pub check_head_left : Memory → ℕ → ℕ → ℕ → ℕ
 check_head_left m first last next =
     if m.cached Head == first
-    then (if first == last then (if next == 0 then 3 else 2 + help_dequeue_left m last) else 2 + claim_left m first next)
+    then (if first == last then (if next == 0 then 2 + keep_steps else 1 + keep_steps + help_dequeue_left m last) else 1 + load_steps + claim_left m first next)
     else 1 + dequeue_left m
+
+-- what is left once it has kept a word
+abbrev pub kept_left : Memory → Keeping → ℕ
+kept_left m (KeepLink p) = 1
+kept_left m (KeepPassedLink p) = help_enqueue_left m p.last.0
+kept_left m (KeepEmpty p) = 0
+kept_left m (KeepDequeuePassedLink p) = help_dequeue_left m p.last.0
+kept_left m (KeepClaim p) = 1 + keep_steps + move_head_left m p.claimed.first.0 p.claimed.claim
+kept_left m (KeepResult p) = move_head_left m p.claimed.first.0 p.claimed.claim
 
 -- how many steps a call that runs alone has left at most
 abbrev pub left : Shape → Memory → Op → ℕ
-left s m (PrepareStore p) = 2 * (length (preparation_of s.kind p.begun) - p.index) + call_left m p.begun.call
-left s m (PrepareFlush p) = 2 * (length (preparation_of s.kind p.begun) - p.index) - 1 + call_left m p.begun.call
+left s m (PrepareStore p) = (1 + keep_steps) * (length (preparation_of s.kind p.begun) - p.index) + call_left m p.begun.call
+left s m (PrepareFlush p) = (1 + keep_steps) * (length (preparation_of s.kind p.begun) - p.index) - 1 + call_left m p.begun.call
+left s m (PrepareFence p) = (1 + keep_steps) * (length (preparation_of s.kind p.begun) - p.index) - 2 + call_left m p.begun.call
 left s m (EnqueueLoadTail p) = enqueue_left m
 left s m (EnqueueLoadNext p) = 1 + check_tail_left m p.last.0 (links m.cached p.last.0)
 left s m (EnqueueCheckTail p) = check_tail_left m p.last.0 p.next.0
 left s m (EnqueueLink p) = link_left m p.last.0
-left s m (FlushPoint (KeepLink p)) = 2
 left s m (EnqueueMoveTail p) = 1
-left s m (FlushPoint (KeepPassedLink p)) = 1 + help_enqueue_left m p.last.0
 left s m (EnqueueHelpTail p) = help_enqueue_left m p.last.0
 left s m (DequeueLoadHead p) = dequeue_left m
 left s m (DequeueLoadTail p) = 2 + check_head_left m p.first.0 (m.cached Tail) (links m.cached p.first.0)
 left s m (DequeueLoadNext p) = 1 + check_head_left m p.first.0 p.last.0 (links m.cached p.first.0)
 left s m (DequeueCheckHead p) = check_head_left m p.first.0 p.last.0 p.next.0
-left s m (DequeueStoreEmpty p) = 2
-left s m (FlushPoint (KeepEmpty p)) = 1
-left s m (FlushPoint (KeepDequeuePassedLink p)) = 1 + help_dequeue_left m p.last.0
+left s m (DequeueStoreEmpty p) = 1 + keep_steps
 left s m (DequeueHelpTail p) = help_dequeue_left m p.last.0
-left s m (DequeueLoadValue p) = 1 + claim_left m p.first.0 p.next.0
+left s m (DequeueLoadValue p) = load_steps + claim_left m p.first.0 p.next.0
 left s m (DequeueClaim p) = claim_left m p.first.0 p.next.0
-left s m (FlushPoint (KeepClaim p)) = 3 + move_head_left m p.claimed.first.0 p.claimed.claim
-left s m (DequeueStoreResult p) = 2 + move_head_left m p.claimed.first.0 p.claimed.claim
-left s m (FlushPoint (KeepResult p)) = 1 + move_head_left m p.claimed.first.0 p.claimed.claim
+left s m (DequeueStoreResult p) = 1 + keep_steps + move_head_left m p.claimed.first.0 p.claimed.claim
 left s m (DequeueMoveHead p) = move_head_left m p.claimed.first.0 p.claimed.claim
+left s m (FlushPoint k) = kept_left m k + keep_steps
+left s m (FencePoint k) = kept_left m k + keep_steps - 1
 
 -- fewer steps are left than these
 abbrev pub Falls : Shape → Memory → After Op Reply → ℕ → Type 0
@@ -153,22 +170,22 @@ tail_fresh : (m : Memory) → 2 + check_tail_left m (m.cached Tail) (links m.cac
 tail_fresh m = go (m.cached Tail == m.cached Tail) (eq-eqb (m.cached Tail) (m.cached Tail) refl) (links m.cached (m.cached Tail) == 0)
   where
     go : (t : Bool) → t ≡ true → (z : Bool)
-        → 2 + (if t then (if z then 1 + (if z then 3 else 1 + (6 + 5 * (if z then 0 else 1))) else 2 + (if t then 7 else 1 + (6 + 5 * (if z then 0 else 1)))) else 1 + (6 + 5 * (if z then 0 else 1)))
-        ≡ 6 + 5 * (if z then 0 else 1)
+        → 2 + (if t then (if z then 1 + (if z then 2 + keep_steps else 1 + (enqueue_alone + (4 + keep_steps) * (if z then 0 else 1))) else 1 + keep_steps + (if t then 1 + enqueue_alone else 1 + (enqueue_alone + (4 + keep_steps) * (if z then 0 else 1)))) else 1 + (enqueue_alone + (4 + keep_steps) * (if z then 0 else 1)))
+        ≡ enqueue_alone + (4 + keep_steps) * (if z then 0 else 1)
     go true e true = refl
     go true e false = refl
     go false e z = absurd (cc)
 
 -- the next write, or the first step after the last
-falls_flush : (s : Shape) (m : Memory) (bg : Begun) (index : ℕ) → index < length (preparation_of s.kind bg)
-    → left s m (prepared_op (prepared_to s.kind bg (index + 1))) < 2 * (length (preparation_of s.kind bg) - index) - 1 + call_left m bg.call
-falls_flush s m bg index inside = go (slice_get (preparation_of s.kind bg) (index + 1)) refl
+falls_fence : (s : Shape) (m : Memory) (bg : Begun) (index : ℕ) → index < length (preparation_of s.kind bg)
+    → left s m (prepared_op (prepared_to s.kind bg (index + 1))) < (1 + keep_steps) * (length (preparation_of s.kind bg) - index) - 2 + call_left m bg.call
+falls_fence s m bg index inside = go (slice_get (preparation_of s.kind bg) (index + 1)) refl
   where
     first : (call : Call) → left s m (first_from call bg) ≡ call_left m call
     first (Enq v) = refl
     first Deq = refl
 
-    go : (o : Option Write) → slice_get (preparation_of s.kind bg) (index + 1) ≡ o → left s m (prepared_op (prepared_with bg (index + 1) o)) < 2 * (length (preparation_of s.kind bg) - index) - 1 + call_left m bg.call
+    go : (o : Option Write) → slice_get (preparation_of s.kind bg) (index + 1) ≡ o → left s m (prepared_op (prepared_with bg (index + 1) o)) < (1 + keep_steps) * (length (preparation_of s.kind bg) - index) - 2 + call_left m bg.call
     go (Some w) e = omega (arith, inside)
     go None e = omega (arith, inside, first bg.call)
 
@@ -188,19 +205,19 @@ module _ (s : Shape) (m : Memory) (l : Ledger) (claimed waiting : List ℕ) (b :
       )
 
   own_call_left : (p : Place) (v : ℕ) (call : Call) → IsOwnWord p → call_left (with_store m p v) call ≡ call_left m call
-  own_call_left p v (Enq x) own = ap (λ t. 6 + 5 * t) (own_lags p v own).0
-  own_call_left p v Deq own = ap (λ t. 10 + 6 * t + 10 * head_lag (with_store m p v)) (own_lags p v own).0 ∙ ap (λ t. 10 + 6 * tail_lag m + 10 * t) (own_lags p v own).1
+  own_call_left p v (Enq x) own = ap (λ t. enqueue_alone + (4 + keep_steps) * t) (own_lags p v own).0
+  own_call_left p v Deq own = ap (λ t. dequeue_alone + (5 + keep_steps) * t + dequeue_alone * head_lag (with_store m p v)) (own_lags p v own).0 ∙ ap (λ t. dequeue_alone + (5 + keep_steps) * tail_lag m + dequeue_alone * t) (own_lags p v own).1
 
   own_move_head_left : (p : Place) (v : ℕ) (first : ℕ) (claim : Claim) → IsOwnWord p → move_head_left (with_store m p v) first claim ≡ move_head_left m first claim
   own_move_head_left p v first Won own = refl
   own_move_head_left p v first (LostTo other) own =
       let o : (tail_lag (with_store m p v) ≡ tail_lag m) × (head_lag (with_store m p v) ≡ head_lag m) × (put m.cached p v Head ≡ m.cached Head) = own_lags p v own in
-      ap (λ h. if h == first then 11 + 6 * tail_lag (with_store m p v) else 1 + (10 + 6 * tail_lag (with_store m p v) + 10 * head_lag (with_store m p v))) o.2
-      ∙ ap (λ t. if m.cached Head == first then 11 + 6 * t else 1 + (10 + 6 * t + 10 * head_lag (with_store m p v))) o.0
-      ∙ ap (λ t. if m.cached Head == first then 11 + 6 * tail_lag m else 1 + (10 + 6 * tail_lag m + 10 * t)) o.1
+      ap (λ h. if h == first then 1 + dequeue_alone + (5 + keep_steps) * tail_lag (with_store m p v) else 1 + (dequeue_alone + (5 + keep_steps) * tail_lag (with_store m p v) + dequeue_alone * head_lag (with_store m p v))) o.2
+      ∙ ap (λ t. if m.cached Head == first then 1 + dequeue_alone + (5 + keep_steps) * t else 1 + (dequeue_alone + (5 + keep_steps) * t + dequeue_alone * head_lag (with_store m p v))) o.0
+      ∙ ap (λ t. if m.cached Head == first then 1 + dequeue_alone + (5 + keep_steps) * tail_lag m else 1 + (dequeue_alone + (5 + keep_steps) * tail_lag m + dequeue_alone * t)) o.1
 
   falls_store : (bg : Begun) (index : ℕ) (w : Write) → Preparing s m l i bg index w
-      → 2 * (length (preparation_of s.kind bg) - index) - 1 + call_left (with_store m w.place w.value) bg.call < 2 * (length (preparation_of s.kind bg) - index) + call_left m bg.call
+      → (1 + keep_steps) * (length (preparation_of s.kind bg) - index) - 1 + call_left (with_store m w.place w.value) bg.call < (1 + keep_steps) * (length (preparation_of s.kind bg) - index) + call_left m bg.call
   falls_store bg index w h =
       let o : IsOwnWrite s bg w = own_write s bg index w (h.before.mine.own ∙ sym h.own) h.in_hand in
       let inside : index < length (preparation_of s.kind bg) = slice_get_within (preparation_of s.kind bg) index w h.in_hand in
@@ -214,7 +231,7 @@ module _ (s : Shape) (m : Memory) (l : Ledger) (claimed waiting : List ℕ) (b :
           then More (EnqueueLink (record { node = node; last = last }))
           else More (FlushPoint (KeepPassedLink (record { node = node; last = last; next = next }))))
           else More (EnqueueLoadTail (record { node = node })))
-          (if t then (if z then 1 + link_left m last.0 else 2 + help_enqueue_left m last.0) else 1 + enqueue_left m)
+          (if t then (if z then 1 + link_left m last.0 else 1 + keep_steps + help_enqueue_left m last.0) else 1 + enqueue_left m)
       go true true = omega arith
       go true false = omega arith
       go false z = omega arith
@@ -223,7 +240,7 @@ module _ (s : Shape) (m : Memory) (l : Ledger) (claimed waiting : List ℕ) (b :
   falls_link node last = go (links m.cached last.0 == 0)
     where
       go : (t : Bool) → Falls s (if t then with_store m (Next last) node.0 else m) (if t then More (FlushPoint (KeepLink (record { node = node; last = last }))) else More (EnqueueLoadTail (record { node = node })))
-          (if t then 3 else 1 + enqueue_left m)
+          (if t then 2 + keep_steps else 1 + enqueue_left m)
       go true = omega arith
       go false = omega arith
 
@@ -236,14 +253,14 @@ module _ (s : Shape) (m : Memory) (l : Ledger) (claimed waiting : List ℕ) (b :
   falls_help_enqueue : (last next : ℕ) → links m.kept last ≡ next → next ≢ 0 → enqueue_left (with_access m (Cas Tail last next)) < help_enqueue_left m last
   falls_help_enqueue last next link some = go (m.cached Tail == last) refl
     where
-      go : (t : Bool) → (m.cached Tail == last) ≡ t → enqueue_left (if t then with_store m Tail next else m) < (if t then 7 else 1 + enqueue_left m)
+      go : (t : Bool) → (m.cached Tail == last) ≡ t → enqueue_left (if t then with_store m Tail next else m) < (if t then 1 + enqueue_alone else 1 + enqueue_left m)
       go true e = let none : one_if (links m.cached next) ≡ 0 = one_if_none (links m.cached next) (no_lag last next (eqb-true (m.cached Tail) last e) link some) in omega (arith, none)
       go false e = omega arith
 
   falls_help_dequeue : (last next : ℕ) → links m.kept last ≡ next → next ≢ 0 → dequeue_left (with_access m (Cas Tail last next)) < help_dequeue_left m last
   falls_help_dequeue last next link some = go (m.cached Tail == last) refl
     where
-      go : (t : Bool) → (m.cached Tail == last) ≡ t → dequeue_left (if t then with_store m Tail next else m) < (if t then 11 + 10 * head_lag m else 1 + dequeue_left m)
+      go : (t : Bool) → (m.cached Tail == last) ≡ t → dequeue_left (if t then with_store m Tail next else m) < (if t then 1 + dequeue_alone + dequeue_alone * head_lag m else 1 + dequeue_left m)
       go true e = let none : one_if (links m.cached next) ≡ 0 = one_if_none (links m.cached next) (no_lag last next (eqb-true (m.cached Tail) last e) link some) in omega (arith, none)
       go false e = omega arith
 
@@ -256,13 +273,13 @@ module _ (s : Shape) (m : Memory) (l : Ledger) (claimed waiting : List ℕ) (b :
       again false e x y = absurd (cc)
 
       go : (t : Bool) → t ≡ true → (e : Bool) → (m.cached Head == m.cached Tail) ≡ e → (z : Bool) → (links m.cached (m.cached Head) == 0) ≡ z → (y : Bool) → (marks m.cached (links m.cached (m.cached Head)) == 0) ≡ y
-          → 2 + (if t then (if e then (if z then 3 else 2 + help_dequeue_left m (m.cached Tail)) else 2 + (if y then 5 else 4 + (if t then 11 + 6 * tail_lag m else 1 + dequeue_left m))) else 1 + dequeue_left m)
-          < 10 + 6 * tail_lag m + 10 * (if z then 0 else (if y then 0 else 1))
+          → 2 + (if t then (if e then (if z then 2 + keep_steps else 1 + keep_steps + help_dequeue_left m (m.cached Tail)) else 1 + load_steps + (if y then 3 + 2 * keep_steps else 2 + 2 * keep_steps + (if t then 1 + dequeue_alone + (5 + keep_steps) * tail_lag m else 1 + dequeue_left m))) else 1 + dequeue_left m)
+          < dequeue_alone + (5 + keep_steps) * tail_lag m + dequeue_alone * (if z then 0 else (if y then 0 else 1))
       go false a e f z g y h = absurd (cc)
       go true a true f true g y h = omega arith
       go true a true f false g y h =
           let lags : tail_lag m ≡ 1 = one_if_some (links m.cached (m.cached Tail)) (λ q. eqb-false (links m.cached (m.cached Head)) 0 g (ap (links m.cached) (eqb-true (m.cached Head) (m.cached Tail) f) ∙ q)) in
-          let fresh : help_dequeue_left m (m.cached Tail) ≡ 11 + 10 * head_lag m = again (m.cached Tail == m.cached Tail) (eq-eqb (m.cached Tail) (m.cached Tail) refl) (11 + 10 * head_lag m) (1 + dequeue_left m) in
+          let fresh : help_dequeue_left m (m.cached Tail) ≡ 1 + dequeue_alone + dequeue_alone * head_lag m = again (m.cached Tail == m.cached Tail) (eq-eqb (m.cached Tail) (m.cached Tail) refl) (1 + dequeue_alone + dequeue_alone * head_lag m) (1 + dequeue_left m) in
           let same : head_lag m ≡ (if y then 0 else 1) = rw (g, h) refl in
           omega (arith, lags, fresh, same)
       go true a false f true g y h =
@@ -282,7 +299,7 @@ module _ (s : Shape) (m : Memory) (l : Ledger) (claimed waiting : List ℕ) (b :
           else More (FlushPoint (KeepDequeuePassedLink (record { token = token; last = last; next = next }))))
           else More (DequeueLoadValue (record { token = token; first = first; next = next })))
           else More (DequeueLoadHead (record { token = token })))
-          (if t then (if e then (if z then 3 else 2 + help_dequeue_left m last.0) else 2 + claim_left m first.0 next.0) else 1 + dequeue_left m)
+          (if t then (if e then (if z then 2 + keep_steps else 1 + keep_steps + help_dequeue_left m last.0) else 1 + load_steps + claim_left m first.0 next.0) else 1 + dequeue_left m)
       go true true true = omega arith
       go true true false = omega arith
       go true false z = omega arith
@@ -294,7 +311,7 @@ module _ (s : Shape) (m : Memory) (l : Ledger) (claimed waiting : List ℕ) (b :
     where
       go : (t : Bool) → Falls s (if t then with_store m (Mark next) token.0 else m)
           (More (FlushPoint (KeepClaim (record { claimed = record { token = token; first = first; next = next; value = v; claim = if t then Won else LostTo (token_of (marks m.cached next.0)) } }))))
-          (if t then 5 else 4 + lost_left m first.0)
+          (if t then 3 + 2 * keep_steps else 2 + 2 * keep_steps + lost_left m first.0)
       go true = omega arith
       go false = omega arith
 
@@ -312,7 +329,7 @@ module _ (s : Shape) (m : Memory) (l : Ledger) (claimed waiting : List ℕ) (b :
           let linked : links m.cached (m.cached Head) ≡ next.0 = ap (links m.cached) at ∙ b.chained.kept first.0 (λ z. h.1.claims.some (sym h.1.claims.link ∙ z)) ∙ h.1.claims.link in
           one_if_none (marks m.cached (links m.cached next.0)) (behind_head s m l claimed waiting b i next.0 linked h.1.claims.some marked (eqb-false (links m.cached next.0) 0 e))
 
-      go : (t : Bool) → (m.cached Head == first.0) ≡ t → dequeue_left (if t then with_store m Head next.0 else m) < (if t then 11 + 6 * tail_lag m else 1 + dequeue_left m)
+      go : (t : Bool) → (m.cached Head == first.0) ≡ t → dequeue_left (if t then with_store m Head next.0 else m) < (if t then 1 + dequeue_alone + (5 + keep_steps) * tail_lag m else 1 + dequeue_left m)
       go true e =
           let gone : head_lag (with_store m Head next.0) ≡ 0 = none (eqb-true (m.cached Head) first.0 e) (links m.cached next.0 == 0) refl in
           omega (arith, gone)
@@ -332,34 +349,38 @@ module _ (s : Shape) (m : Memory) (l : Ledger) (claimed waiting : List ℕ) (b :
   falls (PrepareStore p) h = falls_store p.begun p.index p.write h
   falls (PrepareFlush p) h =
       let inside : p.index < length (preparation_of s.kind p.begun) = slice_get_within (preparation_of s.kind p.begun) p.index p.write h.0.in_hand in
-      subst (λ x. left s (with_access m (Flush p.write.place)) (prepared_op (prepared_to s.kind p.begun (p.index + 1))) < 2 * (length (preparation_of s.kind p.begun) - p.index) - 1 + x)
-      (same_call (with_access m (Flush p.write.place)) p.begun.call refl) (falls_flush s (with_access m (Flush p.write.place)) p.begun p.index inside)
+      omega (arith, inside)
+  falls (PrepareFence p) h =
+      let inside : p.index < length (preparation_of s.kind p.begun) = slice_get_within (preparation_of s.kind p.begun) p.index p.write h.0.in_hand in
+      subst (λ x. left s (with_access m (Fence p.write.place)) (prepared_op (prepared_to s.kind p.begun (p.index + 1))) < (1 + keep_steps) * (length (preparation_of s.kind p.begun) - p.index) - 2 + x)
+      (same_call (with_access m (Fence p.write.place)) p.begun.call refl) (falls_fence s (with_access m (Fence p.write.place)) p.begun p.index inside)
   falls (EnqueueLoadTail p) h = omega (arith, tail_fresh m)
   falls (EnqueueLoadNext p) h = omega arith
   falls (EnqueueCheckTail p) h = falls_check_tail p.node p.last p.next
   falls (EnqueueLink p) h = falls_link p.node p.last
-  falls (FlushPoint (KeepLink p)) h = omega arith
+  falls (FlushPoint k) h = omega arith
+  falls (FencePoint (KeepLink p)) h = omega arith
   falls (EnqueueMoveTail p) h = omega arith
-  falls (FlushPoint (KeepPassedLink p)) h = omega arith
+  falls (FencePoint (KeepPassedLink p)) h = omega arith
   falls (EnqueueHelpTail p) h = falls_help_enqueue p.last.0 p.next.0 h.2 h.1
   falls (DequeueLoadHead p) h = head_fresh
   falls (DequeueLoadTail p) h = omega arith
   falls (DequeueLoadNext p) h = omega arith
   falls (DequeueCheckHead p) h = falls_check_head p.token p.first p.last p.next
   falls (DequeueStoreEmpty p) h = omega arith
-  falls (FlushPoint (KeepEmpty p)) h = omega arith
-  falls (FlushPoint (KeepDequeuePassedLink p)) h = omega arith
+  falls (FencePoint (KeepEmpty p)) h = omega arith
+  falls (FencePoint (KeepDequeuePassedLink p)) h = omega arith
   falls (DequeueHelpTail p) h = falls_help_dequeue p.last.0 p.next.0 h.2 h.1
   falls (DequeueLoadValue p) h = omega arith
   falls (DequeueClaim p) h = falls_claim p.token p.first p.next p.value
-  falls (FlushPoint (KeepClaim p)) h = omega (arith, same_move (with_access m (Flush (Mark p.claimed.next))) p.claimed.first.0 p.claimed.claim refl)
+  falls (FencePoint (KeepClaim p)) h = omega (arith, same_move (with_access m (Fence (Mark p.claimed.next))) p.claimed.first.0 p.claimed.claim refl)
   falls (DequeueStoreResult p) h =
       omega (
         arith,
         own_move_head_left (result_of s.kind (winner p.claimed.claim p.claimed.token) p.claimed.next p.claimed.value).place (result_of s.kind (winner p.claimed.claim p.claimed.token) p.claimed.next p.claimed.value).value p.claimed.first.0 p.claimed.claim
             (result_own s.kind (winner p.claimed.claim p.claimed.token) p.claimed.next p.claimed.value),
       )
-  falls (FlushPoint (KeepResult p)) h = omega (arith, same_move (with_access m (Flush (result_of s.kind (winner p.claimed.claim p.claimed.token) p.claimed.next p.claimed.value).place)) p.claimed.first.0 p.claimed.claim refl)
+  falls (FencePoint (KeepResult p)) h = omega (arith, same_move (with_access m (Fence (result_of s.kind (winner p.claimed.claim p.claimed.token) p.claimed.next p.claimed.value).place)) p.claimed.first.0 p.claimed.claim refl)
   falls (DequeueMoveHead p) h = falls_move_head p.claimed.token p.claimed.first p.claimed.next p.claimed.value p.claimed.claim h
 
 either : (t : Bool) (x y k : ℕ) → x ≤ k → y ≤ k → (if t then x else y) ≤ k
@@ -373,74 +394,79 @@ preparation_most Log (Enq v) b = omega arith
 preparation_most Log Deq b = omega arith
 
 module _ (s : Shape) (m : Memory) where
-  enqueue_most : enqueue_left m ≤ 11
+  enqueue_most : enqueue_left m ≤ 13
   enqueue_most = omega (arith, one_if_most (links m.cached (m.cached Tail)))
 
-  dequeue_most : dequeue_left m ≤ 26
+  dequeue_most : dequeue_left m ≤ 31
   dequeue_most = omega (arith, one_if_most (links m.cached (m.cached Tail)), head_lag_most m)
 
-  call_most : (call : Call) → call_left m call ≤ 26
+  call_most : (call : Call) → call_left m call ≤ 31
   call_most (Enq v) = omega (arith, enqueue_most)
   call_most Deq = dequeue_most
 
-  link_most : (last : ℕ) → link_left m last ≤ 12
-  link_most last = either (links m.cached last == 0) 3 (1 + enqueue_left m) 12 (omega arith) (omega (arith, enqueue_most))
+  link_most : (last : ℕ) → link_left m last ≤ 14
+  link_most last = either (links m.cached last == 0) (2 + keep_steps) (1 + enqueue_left m) 14 (omega arith) (omega (arith, enqueue_most))
 
-  help_enqueue_most : (last : ℕ) → help_enqueue_left m last ≤ 12
-  help_enqueue_most last = either (m.cached Tail == last) 7 (1 + enqueue_left m) 12 (omega arith) (omega (arith, enqueue_most))
+  help_enqueue_most : (last : ℕ) → help_enqueue_left m last ≤ 14
+  help_enqueue_most last = either (m.cached Tail == last) (1 + enqueue_alone) (1 + enqueue_left m) 14 (omega arith) (omega (arith, enqueue_most))
 
-  check_tail_most : (last next : ℕ) → check_tail_left m last next ≤ 14
+  check_tail_most : (last next : ℕ) → check_tail_left m last next ≤ 17
   check_tail_most last next =
-      either (m.cached Tail == last) (if next == 0 then 1 + link_left m last else 2 + help_enqueue_left m last) (1 + enqueue_left m) 14
-      (either (next == 0) (1 + link_left m last) (2 + help_enqueue_left m last) 14 (omega (arith, link_most last)) (omega (arith, help_enqueue_most last))) (omega (arith, enqueue_most))
+      either (m.cached Tail == last) (if next == 0 then 1 + link_left m last else 1 + keep_steps + help_enqueue_left m last) (1 + enqueue_left m) 17
+      (either (next == 0) (1 + link_left m last) (1 + keep_steps + help_enqueue_left m last) 17 (omega (arith, link_most last)) (omega (arith, help_enqueue_most last))) (omega (arith, enqueue_most))
 
-  help_dequeue_most : (last : ℕ) → help_dequeue_left m last ≤ 27
-  help_dequeue_most last = either (m.cached Tail == last) (11 + 10 * head_lag m) (1 + dequeue_left m) 27 (omega (arith, head_lag_most m)) (omega (arith, dequeue_most))
+  help_dequeue_most : (last : ℕ) → help_dequeue_left m last ≤ 32
+  help_dequeue_most last = either (m.cached Tail == last) (1 + dequeue_alone + dequeue_alone * head_lag m) (1 + dequeue_left m) 32 (omega (arith, head_lag_most m)) (omega (arith, dequeue_most))
 
-  lost_most : (first : ℕ) → lost_left m first ≤ 27
+  lost_most : (first : ℕ) → lost_left m first ≤ 32
   lost_most first =
-      either (m.cached Head == first) (11 + 6 * tail_lag m) (1 + dequeue_left m) 27 (omega (arith, one_if_most (links m.cached (m.cached Tail)))) (omega (arith, dequeue_most))
+      either (m.cached Head == first) (1 + dequeue_alone + (5 + keep_steps) * tail_lag m) (1 + dequeue_left m) 32 (omega (arith, one_if_most (links m.cached (m.cached Tail)))) (omega (arith, dequeue_most))
 
-  move_head_most : (first : ℕ) (claim : Claim) → move_head_left m first claim ≤ 27
+  move_head_most : (first : ℕ) (claim : Claim) → move_head_left m first claim ≤ 32
   move_head_most first Won = omega arith
   move_head_most first (LostTo other) = lost_most first
 
-  claim_most : (first next : ℕ) → claim_left m first next ≤ 31
-  claim_most first next = either (marks m.cached next == 0) 5 (4 + lost_left m first) 31 (omega arith) (omega (arith, lost_most first))
+  claim_most : (first next : ℕ) → claim_left m first next ≤ 38
+  claim_most first next = either (marks m.cached next == 0) (3 + 2 * keep_steps) (2 + 2 * keep_steps + lost_left m first) 38 (omega arith) (omega (arith, lost_most first))
 
-  check_head_most : (first last next : ℕ) → check_head_left m first last next ≤ 33
+  check_head_most : (first last next : ℕ) → check_head_left m first last next ≤ 40
   check_head_most first last next =
-      either (m.cached Head == first) (if first == last then (if next == 0 then 3 else 2 + help_dequeue_left m last) else 2 + claim_left m first next) (1 + dequeue_left m) 33
-      (either (first == last) (if next == 0 then 3 else 2 + help_dequeue_left m last) (2 + claim_left m first next) 33
-      (either (next == 0) 3 (2 + help_dequeue_left m last) 33 (omega arith) (omega (arith, help_dequeue_most last))) (omega (arith, claim_most first next)))
+      either (m.cached Head == first) (if first == last then (if next == 0 then 2 + keep_steps else 1 + keep_steps + help_dequeue_left m last) else 1 + load_steps + claim_left m first next) (1 + dequeue_left m) 40
+      (either (first == last) (if next == 0 then 2 + keep_steps else 1 + keep_steps + help_dequeue_left m last) (1 + load_steps + claim_left m first next) 40
+      (either (next == 0) (2 + keep_steps) (1 + keep_steps + help_dequeue_left m last) 40 (omega arith) (omega (arith, help_dequeue_most last))) (omega (arith, claim_most first next)))
       (omega (arith, dequeue_most))
 
-  -- and never more than 64
-  pub left_most : (op : Op) → left s m op ≤ 64
+  kept_most : (k : Keeping) → kept_left m k ≤ 40
+  kept_most (KeepLink p) = omega arith
+  kept_most (KeepPassedLink p) = omega (arith, help_enqueue_most p.last.0)
+  kept_most (KeepEmpty p) = omega arith
+  kept_most (KeepDequeuePassedLink p) = omega (arith, help_dequeue_most p.last.0)
+  kept_most (KeepClaim p) = omega (arith, move_head_most p.claimed.first.0 p.claimed.claim)
+  kept_most (KeepResult p) = omega (arith, move_head_most p.claimed.first.0 p.claimed.claim)
+
+  -- and never more than these
+  pub left_most : (op : Op) → left s m op ≤ MAX_STEPS_ALONE
   left_most (PrepareStore p) = omega (arith, preparation_most s.kind p.begun.call p.begun, call_most p.begun.call)
+  left_most (PrepareFence p) = omega (arith, preparation_most s.kind p.begun.call p.begun, call_most p.begun.call)
   left_most (PrepareFlush p) = omega (arith, preparation_most s.kind p.begun.call p.begun, call_most p.begun.call)
   left_most (EnqueueLoadTail p) = omega (arith, enqueue_most)
   left_most (EnqueueLoadNext p) = omega (arith, check_tail_most p.last.0 (links m.cached p.last.0))
   left_most (EnqueueCheckTail p) = omega (arith, check_tail_most p.last.0 p.next.0)
   left_most (EnqueueLink p) = omega (arith, link_most p.last.0)
-  left_most (FlushPoint (KeepLink p)) = omega arith
   left_most (EnqueueMoveTail p) = omega arith
-  left_most (FlushPoint (KeepPassedLink p)) = omega (arith, help_enqueue_most p.last.0)
   left_most (EnqueueHelpTail p) = omega (arith, help_enqueue_most p.last.0)
   left_most (DequeueLoadHead p) = omega (arith, dequeue_most)
   left_most (DequeueLoadTail p) = omega (arith, check_head_most p.first.0 (m.cached Tail) (links m.cached p.first.0))
   left_most (DequeueLoadNext p) = omega (arith, check_head_most p.first.0 p.last.0 (links m.cached p.first.0))
   left_most (DequeueCheckHead p) = omega (arith, check_head_most p.first.0 p.last.0 p.next.0)
   left_most (DequeueStoreEmpty p) = omega arith
-  left_most (FlushPoint (KeepEmpty p)) = omega arith
-  left_most (FlushPoint (KeepDequeuePassedLink p)) = omega (arith, help_dequeue_most p.last.0)
   left_most (DequeueHelpTail p) = omega (arith, help_dequeue_most p.last.0)
   left_most (DequeueLoadValue p) = omega (arith, claim_most p.first.0 p.next.0)
   left_most (DequeueClaim p) = omega (arith, claim_most p.first.0 p.next.0)
-  left_most (FlushPoint (KeepClaim p)) = omega (arith, move_head_most p.claimed.first.0 p.claimed.claim)
   left_most (DequeueStoreResult p) = omega (arith, move_head_most p.claimed.first.0 p.claimed.claim)
-  left_most (FlushPoint (KeepResult p)) = omega (arith, move_head_most p.claimed.first.0 p.claimed.claim)
   left_most (DequeueMoveHead p) = omega (arith, move_head_most p.claimed.first.0 p.claimed.claim)
+  left_most (FlushPoint k) = omega (arith, kept_most k)
+  left_most (FencePoint k) = omega (arith, kept_most k)
 
 -- a lone step of a call under way leaves it fewer steps, or answers it
 pub step_falls : (w : World) (v : Working w) (client : Client) (u : UnderWay) (may : MayStep w client u) → Falls w.shape (with_step w client u).memory (next_of w u) (left w.shape w.memory u.op)

@@ -29,9 +29,9 @@ use Rattle.helping.specs.Table.{node_of, token_of, access_of, successor, first_f
 use Rattle.helping.specs.declared.dequeue.Claim.{Claim}
 use Rattle.helping.specs.declared.dequeue.Claim.TheVariants.{Won, LostTo}
 use Rattle.helping.specs.declared.op.Op.{Op}
-use Rattle.helping.specs.declared.op.Op.TheVariants.{PrepareStore, PrepareFlush, EnqueueLoadTail, EnqueueLoadNext, EnqueueCheckTail, EnqueueLink, EnqueueMoveTail, EnqueueHelpTail, DequeueLoadHead, DequeueLoadTail, DequeueLoadNext, DequeueCheckHead, DequeueStoreEmpty, DequeueHelpTail, DequeueLoadValue, DequeueClaim, DequeueStoreResult, DequeueMoveHead, Flush as FlushPoint}
+use Rattle.helping.specs.declared.op.Op.TheVariants.{PrepareStore, PrepareFlush, PrepareFence, EnqueueLoadTail, EnqueueLoadNext, EnqueueCheckTail, EnqueueLink, EnqueueMoveTail, EnqueueHelpTail, DequeueLoadHead, DequeueLoadTail, DequeueLoadNext, DequeueCheckHead, DequeueStoreEmpty, DequeueHelpTail, DequeueLoadValue, DequeueClaim, DequeueStoreResult, DequeueMoveHead, Flush as FlushPoint, Fence as FencePoint}
 use Rattle.helping.specs.declared.keeping.Keeping.TheVariants.{Link as KeepLink, PassedLink as KeepPassedLink, Empty as KeepEmpty, DequeuePassedLink as KeepDequeuePassedLink, Claim as KeepClaim, Result as KeepResult}
-use Rattle.protocol.specs.Machine.{Memory, put, with_store, with_flush, with_access}
+use Rattle.protocol.specs.Machine.{Memory, put, with_store, with_fence, with_access}
 use Rattle.recover.specs.Sound.{IsIssued, IsOwn}
 use Rattle.arena.proofs.Chains.{leads_at, leads_trans, leads_one, in_left}
 use Rattle.protocol.proofs.chain.Chains.{upd, upd_same, upd_other, leads_from, leads_in, leads_next, in_chain}
@@ -44,7 +44,7 @@ use Rattle.protocol.specs.invariants.Ledger.Stage.{Unmoved, Seen, Took}
 use Rattle.protocol.proofs.changes.Puts.{IsEmptyWord, empty_word, put_cases, put_same, put_other, put_empties}
 use Rattle.protocol.proofs.calls.Stable.{empty_own, IsOwnWrite, own_write, stable}
 use Rattle.protocol.proofs.changes.Keeps.{restaged, kept_ledger, Kept}
-use Rattle.protocol.proofs.changes.Flushes.{chain_value, keep_any}
+use Rattle.protocol.proofs.changes.Fences.{chain_value, keep_any}
 use Rattle.protocol.proofs.calls.Preparations.{IsLastWrite, IsPlanned, planned, planned_write, one_plan, prepared_issued, written_issued, all_written, prepared_value}
 use Rattle.protocol.proofs.changes.Stores.{none_grows, same_links, same_marks, own_store_grows, no_result, MayStore, own_base, head_base, tail_base, link_base, claim_base, empty_base, result_base, head_grows, tail_grows, link_grows, claim_grows, empty_grows, result_grows}
 
@@ -57,14 +57,14 @@ KnowsNext s m l i (Done reply) = record { took : l.stage i ≡ Took reply; at : 
 abbrev pub looked_stage : ℕ → Stage
 looked_stage found = if found == 0 then Seen else Unmoved
 
-abbrev pub flush_ledger : Shape → Memory → Ledger → Option Place → Ledger
-flush_ledger s m l (Some p) = kept_ledger s m l p
-flush_ledger s m l None = l
+abbrev pub fence_ledger : Shape → Memory → Ledger → Option Place → Ledger
+fence_ledger s m l (Some p) = kept_ledger s m l p
+fence_ledger s m l None = l
 
 -- the ledger after client i's step
 abbrev pub ledger_after : Shape → Memory → Ledger → ℕ → Op → Ledger
 ledger_after s m l i (DequeueLoadNext p) = restaged l i (looked_stage (links m.cached p.first.0)) l.queue
-ledger_after s m l i op = flush_ledger s m l (kept_by (access_of s.kind op))
+ledger_after s m l i op = fence_ledger s m l (kept_by (access_of s.kind op))
 
 -- client i's step from one state to another
 pub record Row (s : Shape) (m : Memory) (l : Ledger) (n : Memory) (k : Ledger) (i : ℕ) (next : After Op Reply) : Type 0 where
@@ -126,10 +126,10 @@ module _ (s : Shape) (m : Memory) (l : Ledger) (claimed waiting : List ℕ) (b :
   }
 
   -- a kept word
-  flushes : (old : Op) (next : After Op Reply) (p : Place) → Knows s m l i old
-      → (Kept s m l (with_flush m p) (kept_ledger s m l p) → Knows s (with_flush m p) (kept_ledger s m l p) i old → KnowsNext s (with_flush m p) (kept_ledger s m l p) i next)
-      → Row s m l (with_flush m p) (kept_ledger s m l p) i next
-  flushes old next p h f = anyone old next (with_flush m p) (kept_ledger s m l p) (keep_any s m l claimed waiting b p) h f
+  fences : (old : Op) (next : After Op Reply) (p : Place) → Knows s m l i old
+      → (Kept s m l (with_fence m p) (kept_ledger s m l p) → Knows s (with_fence m p) (kept_ledger s m l p) i old → KnowsNext s (with_fence m p) (kept_ledger s m l p) i next)
+      → Row s m l (with_fence m p) (kept_ledger s m l p) i next
+  fences old next p h f = anyone old next (with_fence m p) (kept_ledger s m l p) (keep_any s m l claimed waiting b p) h f
 
   same : Kept s m l m l
   same = record { claimed = claimed; waiting = waiting; base = b; grows = λ a. none_grows a s m l }
@@ -253,11 +253,11 @@ module _ (s : Shape) (m : Memory) (l : Ledger) (claimed waiting : List ℕ) (b :
         );
       }
 
-  row_PrepareFlush : (bg : Begun) (index : ℕ) (w : Write) → Preparing s m l i bg index w × IsWritten m.cached w
-      → Row s m l (with_flush m w.place) (kept_ledger s m l w.place) i (More (prepared_op (prepared_to s.kind bg (index + 1))))
-  row_PrepareFlush bg index w h = flushes (PrepareFlush (record { begun = bg; index = index; write = w })) (More (prepared_op (prepared_to s.kind bg (index + 1)))) w.place h
+  row_PrepareFence : (bg : Begun) (index : ℕ) (w : Write) → Preparing s m l i bg index w × IsWritten m.cached w
+      → Row s m l (with_fence m w.place) (kept_ledger s m l w.place) i (More (prepared_op (prepared_to s.kind bg (index + 1))))
+  row_PrepareFence bg index w h = fences (PrepareFence (record { begun = bg; index = index; write = w })) (More (prepared_op (prepared_to s.kind bg (index + 1)))) w.place h
       (λ c g.
-      arrives s (with_flush m w.place) (kept_ledger s m l w.place) i bg (index + 1) g.0.before g.0.unmoved g.0.begun g.0.own
+      arrives s (with_fence m w.place) (kept_ledger s m l w.place) i bg (index + 1) g.0.before g.0.unmoved g.0.begun g.0.own
       (record {
         begun = g.0.so_far.begun;
         numbered = g.0.so_far.numbered;
@@ -484,9 +484,9 @@ module _ (s : Shape) (m : Memory) (l : Ledger) (claimed waiting : List ℕ) (b :
         );
       }
 
-  row_KeepEmpty : (token : Token) → Knows s m l i (FlushPoint (KeepEmpty (record { token = token })))
-      → Row s m l (with_flush m (empty_answer_of s.kind token).place) (kept_ledger s m l (empty_answer_of s.kind token).place) i (Done Empty)
-  row_KeepEmpty token h = flushes (FlushPoint (KeepEmpty (record { token = token }))) (Done Empty) (empty_answer_of s.kind token).place h
+  row_KeepEmpty : (token : Token) → Knows s m l i (FencePoint (KeepEmpty (record { token = token })))
+      → Row s m l (with_fence m (empty_answer_of s.kind token).place) (kept_ledger s m l (empty_answer_of s.kind token).place) i (Done Empty)
+  row_KeepEmpty token h = fences (FencePoint (KeepEmpty (record { token = token }))) (Done Empty) (empty_answer_of s.kind token).place h
       (λ c g.
       let k : Ledger = kept_ledger s m l (empty_answer_of s.kind token).place in
       let own : owner s token.0 ≡ i = g.0.mine.own in
@@ -532,10 +532,10 @@ module _ (s : Shape) (m : Memory) (l : Ledger) (claimed waiting : List ℕ) (b :
           quiet (More (FlushPoint (KeepClaim (record { claimed = record { token = token; first = first; next = next; value = v; claim = LostTo (token_of (marks m.cached next.0)) } }))))
           ((h.0, h.1, eqb-false (marks m.cached next.0) 0 e), h.2, h.3, refl, eqb-false (marks m.cached next.0) 0 e)
 
-  row_KeepClaim : (token : Token) (first next : NodeId) (v : ℕ) (claim : Claim) → Knows s m l i (FlushPoint (KeepClaim (record { claimed = record { token = token; first = first; next = next; value = v; claim = claim } })))
-      → Row s m l (with_flush m (Mark next)) (kept_ledger s m l (Mark next)) i (More (DequeueStoreResult (record { claimed = record { token = token; first = first; next = next; value = v; claim = claim } })))
+  row_KeepClaim : (token : Token) (first next : NodeId) (v : ℕ) (claim : Claim) → Knows s m l i (FencePoint (KeepClaim (record { claimed = record { token = token; first = first; next = next; value = v; claim = claim } })))
+      → Row s m l (with_fence m (Mark next)) (kept_ledger s m l (Mark next)) i (More (DequeueStoreResult (record { claimed = record { token = token; first = first; next = next; value = v; claim = claim } })))
   row_KeepClaim token first next v claim h =
-      flushes (FlushPoint (KeepClaim (record { claimed = record { token = token; first = first; next = next; value = v; claim = claim } })))
+      fences (FencePoint (KeepClaim (record { claimed = record { token = token; first = first; next = next; value = v; claim = claim } })))
       (More (DequeueStoreResult (record { claimed = record { token = token; first = first; next = next; value = v; claim = claim } }))) (Mark next) h
       (λ c g. (
         g.0,
@@ -561,11 +561,11 @@ module _ (s : Shape) (m : Memory) (l : Ledger) (claimed waiting : List ℕ) (b :
       }) h
       (λ c g. (g.0, g.1, put_same m.cached (result_of s.kind (winner claim token) next v).place (result_of s.kind (winner claim token) next v).value))
 
-  row_KeepResult : (token : Token) (first next : NodeId) (v : ℕ) (claim : Claim) → Knows s m l i (FlushPoint (KeepResult (record { claimed = record { token = token; first = first; next = next; value = v; claim = claim } })))
-      → Row s m l (with_flush m (result_of s.kind (winner claim token) next v).place) (kept_ledger s m l (result_of s.kind (winner claim token) next v).place) i
+  row_KeepResult : (token : Token) (first next : NodeId) (v : ℕ) (claim : Claim) → Knows s m l i (FencePoint (KeepResult (record { claimed = record { token = token; first = first; next = next; value = v; claim = claim } })))
+      → Row s m l (with_fence m (result_of s.kind (winner claim token) next v).place) (kept_ledger s m l (result_of s.kind (winner claim token) next v).place) i
       (More (DequeueMoveHead (record { claimed = record { token = token; first = first; next = next; value = v; claim = claim } })))
   row_KeepResult token first next v claim h =
-      flushes (FlushPoint (KeepResult (record { claimed = record { token = token; first = first; next = next; value = v; claim = claim } })))
+      fences (FencePoint (KeepResult (record { claimed = record { token = token; first = first; next = next; value = v; claim = claim } })))
       (More (DequeueMoveHead (record { claimed = record { token = token; first = first; next = next; value = v; claim = claim } }))) (result_of s.kind (winner claim token) next v).place h
       (λ c g. (
         g.0,
@@ -594,15 +594,17 @@ module _ (s : Shape) (m : Memory) (l : Ledger) (claimed waiting : List ℕ) (b :
   -- each waiting point
   pub row : (op : Op) → Knows s m l i op → Row s m l (with_access m (access_of s.kind op)) (ledger_after s m l i op) i (successor s.kind op (m.cached (place_of (access_of s.kind op))))
   row (PrepareStore p) h = row_PrepareStore p.begun p.index p.write h
-  row (PrepareFlush p) h = row_PrepareFlush p.begun p.index p.write h
+  row (PrepareFlush p) h = quiet (More (PrepareFence (record { begun = p.begun; index = p.index; write = p.write }))) h
+  row (PrepareFence p) h = row_PrepareFence p.begun p.index p.write h
   row (EnqueueLoadTail p) h = quiet (More (EnqueueLoadNext (record { node = p.node; last = node_of (m.cached Tail) }))) (h, record { chain = tail_on_chain; tail = there })
   row (EnqueueLoadNext p) h = quiet (More (EnqueueCheckTail (record { node = p.node; last = p.last; next = node_of (m.cached (Next p.last)) }))) (h.0, h.1, λ z. refl)
   row (EnqueueCheckTail p) h = row_EnqueueCheckTail p.node p.last p.next h
   row (EnqueueLink p) h = row_EnqueueLink p.node p.last h
-  row (FlushPoint (KeepLink p)) h = flushes (FlushPoint (KeepLink p)) (More (EnqueueMoveTail (record { node = p.node; last = p.last }))) (Next p.last) h
+  row (FlushPoint k) h = quiet (More (FencePoint k)) h
+  row (FencePoint (KeepLink p)) h = fences (FencePoint (KeepLink p)) (More (EnqueueMoveTail (record { node = p.node; last = p.last }))) (Next p.last) h
       (λ c g. (g.0, upd_same (links m.kept) p.last.0 (links m.cached p.last.0) ∙ g.1))
   row (EnqueueMoveTail p) h = row_EnqueueMoveTail p.node p.last h
-  row (FlushPoint (KeepPassedLink p)) h = flushes (FlushPoint (KeepPassedLink p)) (More (EnqueueHelpTail (record { node = p.node; last = p.last; next = p.next }))) (Next p.last) h
+  row (FencePoint (KeepPassedLink p)) h = fences (FencePoint (KeepPassedLink p)) (More (EnqueueHelpTail (record { node = p.node; last = p.last; next = p.next }))) (Next p.last) h
       (λ c g. (g.0, g.1, upd_same (links m.kept) p.last.0 (links m.cached p.last.0) ∙ g.2))
   row (EnqueueHelpTail p) h = anyone (EnqueueHelpTail p) (More (EnqueueLoadTail (record { node = p.node }))) (with_access m (Cas Tail p.last.0 p.next.0)) l (tail_moves p.last.0 p.next.0 h.2 h.1) h (λ c g. g.0)
   row (DequeueLoadHead p) h = quiet (More (DequeueLoadTail (record { token = p.token; first = node_of (m.cached Head) }))) (h, head_passed, b.head_to_tail)
@@ -610,13 +612,13 @@ module _ (s : Shape) (m : Memory) (l : Ledger) (claimed waiting : List ℕ) (b :
   row (DequeueLoadNext p) h = row_DequeueLoadNext p.token p.first p.last h
   row (DequeueCheckHead p) h = row_DequeueCheckHead p.token p.first p.last p.next h
   row (DequeueStoreEmpty p) h = row_DequeueStoreEmpty p.token h
-  row (FlushPoint (KeepEmpty p)) h = row_KeepEmpty p.token h
-  row (FlushPoint (KeepDequeuePassedLink p)) h = flushes (FlushPoint (KeepDequeuePassedLink p)) (More (DequeueHelpTail (record { token = p.token; last = p.last; next = p.next }))) (Next p.last) h
+  row (FencePoint (KeepEmpty p)) h = row_KeepEmpty p.token h
+  row (FencePoint (KeepDequeuePassedLink p)) h = fences (FencePoint (KeepDequeuePassedLink p)) (More (DequeueHelpTail (record { token = p.token; last = p.last; next = p.next }))) (Next p.last) h
       (λ c g. (g.0, g.1, upd_same (links m.kept) p.last.0 (links m.cached p.last.0) ∙ g.2))
   row (DequeueHelpTail p) h = anyone (DequeueHelpTail p) (More (DequeueLoadHead (record { token = p.token }))) (with_access m (Cas Tail p.last.0 p.next.0)) l (tail_moves p.last.0 p.next.0 h.2 h.1) h (λ c g. g.0)
   row (DequeueLoadValue p) h = quiet (More (DequeueClaim (record { token = p.token; first = p.first; next = p.next; value = m.cached (Value p.next) }))) (h.0, h.1, h.2, claims_value p.first.0 p.next.0 h.2)
   row (DequeueClaim p) h = row_DequeueClaim p.token p.first p.next p.value h
-  row (FlushPoint (KeepClaim p)) h = row_KeepClaim p.claimed.token p.claimed.first p.claimed.next p.claimed.value p.claimed.claim h
+  row (FencePoint (KeepClaim p)) h = row_KeepClaim p.claimed.token p.claimed.first p.claimed.next p.claimed.value p.claimed.claim h
   row (DequeueStoreResult p) h = row_DequeueStoreResult p.claimed.token p.claimed.first p.claimed.next p.claimed.value p.claimed.claim h
-  row (FlushPoint (KeepResult p)) h = row_KeepResult p.claimed.token p.claimed.first p.claimed.next p.claimed.value p.claimed.claim h
+  row (FencePoint (KeepResult p)) h = row_KeepResult p.claimed.token p.claimed.first p.claimed.next p.claimed.value p.claimed.claim h
   row (DequeueMoveHead p) h = row_DequeueMoveHead p.claimed.token p.claimed.first p.claimed.next p.claimed.value p.claimed.claim h

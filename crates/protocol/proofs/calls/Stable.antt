@@ -22,14 +22,15 @@ use Rattle.helping.specs.Table.{token_of, node_of}
 use Rattle.helping.specs.declared.dequeue.Claim.{Claim}
 use Rattle.helping.specs.declared.dequeue.Claim.TheVariants.{Won, LostTo}
 use Rattle.helping.specs.declared.op.Op.{Op}
-use Rattle.helping.specs.declared.op.Op.TheVariants.{PrepareStore, PrepareFlush, EnqueueLoadTail, EnqueueLoadNext, EnqueueCheckTail, EnqueueLink, EnqueueMoveTail, EnqueueHelpTail, DequeueLoadHead, DequeueLoadTail, DequeueLoadNext, DequeueCheckHead, DequeueStoreEmpty, DequeueHelpTail, DequeueLoadValue, DequeueClaim, DequeueStoreResult, DequeueMoveHead, Flush as FlushPoint}
+use Rattle.helping.specs.declared.op.Op.TheVariants.{PrepareStore, PrepareFlush, PrepareFence, EnqueueLoadTail, EnqueueLoadNext, EnqueueCheckTail, EnqueueLink, EnqueueMoveTail, EnqueueHelpTail, DequeueLoadHead, DequeueLoadTail, DequeueLoadNext, DequeueCheckHead, DequeueStoreEmpty, DequeueHelpTail, DequeueLoadValue, DequeueClaim, DequeueStoreResult, DequeueMoveHead, Flush as FlushPoint, Fence as FencePoint}
+use Rattle.helping.specs.declared.keeping.Keeping.{Keeping}
 use Rattle.helping.specs.declared.keeping.Keeping.TheVariants.{Link as KeepLink, PassedLink as KeepPassedLink, Empty as KeepEmpty, DequeuePassedLink as KeepDequeuePassedLink, Claim as KeepClaim, Result as KeepResult}
 use Rattle.protocol.specs.Machine.{Memory}
 use Rattle.arena.proofs.Chains.{leads_trans}
 use Rattle.protocol.proofs.chain.Chains.{leads_grows}
 use Rattle.protocol.specs.invariants.Places.{IsOfRecord, IsOwnWord, IsAnswer, home, SaysEmpty}
 use Rattle.protocol.specs.invariants.Ledger.{Ledger, asked_call}
-use Rattle.protocol.specs.invariants.Knows.{Mine, Loose, Before, Preparing, Prepared, Acting, Enqueuing, Linked, Dequeuing, IsPassed, WasTail, Claims, Claimer, Claimed, Knows}
+use Rattle.protocol.specs.invariants.Knows.{Mine, Loose, Before, Preparing, Prepared, Acting, Enqueuing, Linked, Dequeuing, IsPassed, WasTail, Claims, Claimer, Claimed, Knows, KnowsKeeping}
 use Rattle.protocol.specs.invariants.Grows.{Grows}
 
 -- where an empty answer is written
@@ -259,16 +260,38 @@ module _ (a i : ℕ) (s : Shape) (m : Memory) (l : Ledger) (n : Memory) (k : Led
       subst (λ t. IsWritten m.cached (result_of s.kind (token_of t) (node_of y) v) → IsWritten n.cached (result_of s.kind (token_of t) (node_of y) v)) h.marked
       (g.at_result y v (λ z. h.some (sym h.marked ∙ z)) h.value)
 
+  keeping_stable : (q : Keeping) → KnowsKeeping s m l i q → KnowsKeeping s n k i q
+  keeping_stable (KeepLink p) h = (linked_stable p.node.0 h.0, link_stable p.last.0 p.node.0 h.0.acting.mine.some h.1)
+  keeping_stable (KeepPassedLink p) h = (enqueuing_stable p.node.0 h.0, h.1, link_stable p.last.0 p.next.0 h.1 h.2)
+  keeping_stable (KeepEmpty p) h = (
+    acting_stable p.token.0 (inl h.1) h.0,
+    asks_stable Deq h.1,
+    loose_stable p.token.0 h.0.mine.own h.2,
+    same_empty p.token.0 h.0.mine.own h.2.mark ∙ h.3,
+  )
+  keeping_stable (KeepDequeuePassedLink p) h = (dequeuing_stable p.token.0 h.0, h.1, link_stable p.last.0 p.next.0 h.1 h.2)
+  keeping_stable (KeepClaim p) h = (
+    claimer_stable p.claimed.token p.claimed.claim h.0,
+    claims_stable p.claimed.first.0 p.claimed.next.0 h.1,
+    value_stable p.claimed.first.0 p.claimed.next.0 p.claimed.value h.1 h.2,
+    g.at_mark p.claimed.next.0 (λ z. h.4 (sym h.3 ∙ z)) ∙ h.3,
+    h.4,
+  )
+  keeping_stable (KeepResult p) h = (
+    claimer_stable p.claimed.token p.claimed.claim h.0,
+    claimed_stable p.claimed.first.0 p.claimed.next.0 p.claimed.value (winner p.claimed.claim p.claimed.token).0 h.1,
+    result_stable p.claimed.first.0 p.claimed.next.0 p.claimed.value (winner p.claimed.claim p.claimed.token) h.1 h.2,
+  )
+
   pub stable : (op : Op) → Knows s m l i op → Knows s n k i op
   stable (PrepareStore p) h = preparing_stable p.begun p.index p.write h
+  stable (PrepareFence p) h = (preparing_stable p.begun p.index p.write h.0, in_hand_stable p.begun p.index p.write h.0 h.1)
   stable (PrepareFlush p) h = (preparing_stable p.begun p.index p.write h.0, in_hand_stable p.begun p.index p.write h.0 h.1)
   stable (EnqueueLoadTail p) h = enqueuing_stable p.node.0 h
   stable (EnqueueLoadNext p) h = (enqueuing_stable p.node.0 h.0, was_tail_stable p.last.0 h.1)
   stable (EnqueueCheckTail p) h = (enqueuing_stable p.node.0 h.0, was_tail_stable p.last.0 h.1, λ z. link_stable p.last.0 p.next.0 z (h.2 z))
   stable (EnqueueLink p) h = (enqueuing_stable p.node.0 h.0, was_tail_stable p.last.0 h.1)
-  stable (FlushPoint (KeepLink p)) h = (linked_stable p.node.0 h.0, link_stable p.last.0 p.node.0 h.0.acting.mine.some h.1)
   stable (EnqueueMoveTail p) h = (linked_stable p.node.0 h.0, kept_link_stable p.last.0 p.node.0 h.0.acting.mine.some h.1)
-  stable (FlushPoint (KeepPassedLink p)) h = (enqueuing_stable p.node.0 h.0, h.1, link_stable p.last.0 p.next.0 h.1 h.2)
   stable (EnqueueHelpTail p) h = (enqueuing_stable p.node.0 h.0, h.1, kept_link_stable p.last.0 p.next.0 h.1 h.2)
   stable (DequeueLoadHead p) h = dequeuing_stable p.token.0 h
   stable (DequeueLoadTail p) h = (dequeuing_stable p.token.0 h.0, passed_stable p.first.0 h.1, tail_stable p.first.0 h.2)
@@ -283,13 +306,6 @@ module _ (a i : ℕ) (s : Shape) (m : Memory) (l : Ledger) (n : Memory) (k : Led
     h.6,
   )
   stable (DequeueStoreEmpty p) h = (dequeuing_stable p.token.0 h.0, stage_stable p.token.0 h.0.before ∙ h.1)
-  stable (FlushPoint (KeepEmpty p)) h = (
-    acting_stable p.token.0 (inl h.1) h.0,
-    asks_stable Deq h.1,
-    loose_stable p.token.0 h.0.mine.own h.2,
-    same_empty p.token.0 h.0.mine.own h.2.mark ∙ h.3,
-  )
-  stable (FlushPoint (KeepDequeuePassedLink p)) h = (dequeuing_stable p.token.0 h.0, h.1, link_stable p.last.0 p.next.0 h.1 h.2)
   stable (DequeueHelpTail p) h = (dequeuing_stable p.token.0 h.0, h.1, kept_link_stable p.last.0 p.next.0 h.1 h.2)
   stable (DequeueLoadValue p) h = (dequeuing_stable p.token.0 h.0, stage_stable p.token.0 h.0.before ∙ h.1, claims_stable p.first.0 p.next.0 h.2)
   stable (DequeueClaim p) h = (
@@ -298,19 +314,7 @@ module _ (a i : ℕ) (s : Shape) (m : Memory) (l : Ledger) (n : Memory) (k : Led
     claims_stable p.first.0 p.next.0 h.2,
     value_stable p.first.0 p.next.0 p.value h.2 h.3,
   )
-  stable (FlushPoint (KeepClaim p)) h = (
-    claimer_stable p.claimed.token p.claimed.claim h.0,
-    claims_stable p.claimed.first.0 p.claimed.next.0 h.1,
-    value_stable p.claimed.first.0 p.claimed.next.0 p.claimed.value h.1 h.2,
-    g.at_mark p.claimed.next.0 (λ z. h.4 (sym h.3 ∙ z)) ∙ h.3,
-    h.4,
-  )
   stable (DequeueStoreResult p) h = (claimer_stable p.claimed.token p.claimed.claim h.0, claimed_stable p.claimed.first.0 p.claimed.next.0 p.claimed.value (winner p.claimed.claim p.claimed.token).0 h.1)
-  stable (FlushPoint (KeepResult p)) h = (
-    claimer_stable p.claimed.token p.claimed.claim h.0,
-    claimed_stable p.claimed.first.0 p.claimed.next.0 p.claimed.value (winner p.claimed.claim p.claimed.token).0 h.1,
-    result_stable p.claimed.first.0 p.claimed.next.0 p.claimed.value (winner p.claimed.claim p.claimed.token) h.1 h.2,
-  )
   stable (DequeueMoveHead p) h =
       let now : IsWritten n.cached (result_of s.kind (winner p.claimed.claim p.claimed.token) p.claimed.next p.claimed.value) = result_stable p.claimed.first.0 p.claimed.next.0 p.claimed.value (winner p.claimed.claim p.claimed.token) h.1 h.2 in (
         claimer_stable p.claimed.token p.claimed.claim h.0,
@@ -318,3 +322,5 @@ module _ (a i : ℕ) (s : Shape) (m : Memory) (l : Ledger) (n : Memory) (k : Led
         now,
         elim (g.at_kept_own (result_of s.kind (winner p.claimed.claim p.claimed.token) p.claimed.next p.claimed.value).place (result_own s.kind (winner p.claimed.claim p.claimed.token) p.claimed.next p.claimed.value)) [ inl t ↦ t ∙ h.3 | inr t ↦ t ∙ h.2 ],
       )
+  stable (FlushPoint q) h = keeping_stable q h
+  stable (FencePoint q) h = keeping_stable q h

@@ -1,4 +1,4 @@
--- A word becomes kept, by a call's flush or by the environment.
+-- A word becomes kept, by a call's fence or by the environment.
 use Rattle.std.proofs.Common.{◌≡◌, ◌≢◌, ℕ, inl, inr, List, [], ◌∷◌, ◌++◌, map, drop, if◌then◌else◌, ◌==◌, refl, sym, ◌∙◌, ap, subst, append_assoc}
 use Rattle.std.proofs.lemmas.List.{map-append}
 use Rattle.words.specs.declared.call.Call.TheVariants.{Enq, Deq}
@@ -9,7 +9,7 @@ use Rattle.arena.specs.Shape.{Shape, owner}
 use Rattle.arena.specs.Words.{links, marks, values}
 use Rattle.arena.specs.declared.place.Place.{Place}
 use Rattle.arena.specs.declared.place.Place.TheVariants.{Head, Tail, Value, Next, Mark, Cell, Status}
-use Rattle.protocol.specs.Machine.{Memory, with_flush}
+use Rattle.protocol.specs.Machine.{Memory, with_fence}
 use Rattle.arena.proofs.Chains.{in_left}
 use Rattle.protocol.proofs.chain.Chains.{upd, upd_at, upd_other, upd_cases, leads_grows}
 use Rattle.protocol.proofs.chain.Links.{kept_apart, keep_new_link, no_link_ahead, keep_new_mark, more_waiting, claimed_split}
@@ -20,7 +20,7 @@ use Rattle.protocol.specs.invariants.Base.{IsLinking, IsClaiming, IsAnswering, E
 use Rattle.protocol.specs.invariants.Knows.{Loose}
 use Rattle.protocol.specs.invariants.Grows.{Grows}
 use Rattle.protocol.specs.invariants.Ledger.Stage.{Unmoved, Seen, Took}
-use Rattle.protocol.proofs.changes.Puts.{put_cases, put_absent, put_fits, put_empties, Issues, issues_flushed}
+use Rattle.protocol.proofs.changes.Puts.{put_cases, put_absent, put_fits, put_empties, Issues, issues_fenced}
 
 -- client i's call is at another stage, and the queue is this one
 abbrev pub restaged : Ledger → ℕ → Stage → List ℕ → Ledger
@@ -59,7 +59,7 @@ enq_or_deq v e = cc
 
 -- one word that is kept leaves what every client relies on
 pub keep_grows : (s : Shape) (m : Memory) (l : Ledger) (claimed waiting : List ℕ) (p : Place) (k : Ledger) → Base s m l claimed waiting → ((i : ℕ) → k.begun i ≡ l.begun i)
-    → ((i : ℕ) → Loose m (held_token l i) → (SaysEmpty s m.cached (held_token l i) → ⊥) → k.stage i ≡ l.stage i) → (a : ℕ) → Grows a s m l (with_flush m p) k
+    → ((i : ℕ) → Loose m (held_token l i) → (SaysEmpty s m.cached (held_token l i) → ⊥) → k.stage i ≡ l.stage i) → (a : ℕ) → Grows a s m l (with_fence m p) k
 keep_grows s m l claimed waiting p k b begun stage a = record {
   at_link = λ x h. refl;
   at_kept_link = λ x h. elim (put_cases m.kept p (m.cached p) (Next (record { 0 = x }))) [
@@ -115,11 +115,11 @@ module _ (s : Shape) (m : Memory) (l : Ledger) (claimed waiting : List ℕ) (b :
   old_link : (j : ℕ) → links m.kept j ≢ 0 → upd (links m.kept) n (links m.cached n) j ≡ links m.kept j
   old_link j h = upd_other (links m.kept) n (links m.cached n) j (λ e. h (ap (links m.kept) e ∙ no_link))
 
-  link_base : Base s (with_flush m (Next (record { 0 = n }))) (restaged l (owner s (links m.cached n)) (Took Done) (l.queue ++ values m.kept (links m.cached n) ∷ [])) claimed (waiting ++ links m.cached n ∷ [])
+  link_base : Base s (with_fence m (Next (record { 0 = n }))) (restaged l (owner s (links m.cached n)) (Took Done) (l.queue ++ values m.kept (links m.cached n) ∷ [])) claimed (waiting ++ links m.cached n ∷ [])
   link_base =
       let v : ℕ = m.cached (Next (record { 0 = n })) in
       let p : Place = Next (record { 0 = n }) in
-      let x : Issues s m (with_flush m (Next (record { 0 = n }))).kept = issues_flushed s m l claimed waiting b (Next (record { 0 = n })) in
+      let x : Issues s m (with_fence m (Next (record { 0 = n }))).kept = issues_fenced s m l claimed waiting b (Next (record { 0 = n })) in
       let longer : (claimed ++ waiting) ++ links m.cached n ∷ [] ≡ claimed ++ (waiting ++ links m.cached n ∷ []) = append_assoc claimed waiting (links m.cached n ∷ []) in
       record {
         chained = subst (Links (links m.cached) (upd (links m.kept) n (links m.cached n))) longer (keep_new_link (links m.cached) (links m.kept) (claimed ++ waiting) n apart b.chained);
@@ -166,7 +166,7 @@ module _ (s : Shape) (m : Memory) (l : Ledger) (claimed waiting : List ℕ) (b :
         fits_kept = put_fits s m.kept p v (b.fits p) b.fits_kept;
       }
 
-  pub link_kept : Kept s m l (with_flush m (Next (record { 0 = n }))) (restaged l (owner s (links m.cached n)) (Took Done) (l.queue ++ values m.kept (links m.cached n) ∷ []))
+  pub link_kept : Kept s m l (with_fence m (Next (record { 0 = n }))) (restaged l (owner s (links m.cached n)) (Took Done) (l.queue ++ values m.kept (links m.cached n) ∷ []))
   link_kept = record {
     claimed = claimed;
     waiting = waiting ++ links m.cached n ∷ [];
@@ -193,11 +193,11 @@ module _ (s : Shape) (m : Memory) (l : Ledger) (claimed waiting : List ℕ) (b :
   marked_now : Marks (marks m.cached) (upd (marks m.kept) n (marks m.cached n)) (claimed ++ n ∷ []) (drop 1 waiting) × IsFirst n waiting × ((j : ℕ) → marks m.cached j ≢ 0 → upd (marks m.kept) n (marks m.cached n) j ≡ 0 → ⊥)
   marked_now = keep_new_mark (marks m.cached) (marks m.kept) claimed waiting n apart b.marked
 
-  mark_base : Base s (with_flush m (Mark (record { 0 = n }))) (restaged l (owner s (marks m.cached n)) (Took (Got (values m.kept n))) (drop 1 l.queue)) (claimed ++ n ∷ []) (drop 1 waiting)
+  mark_base : Base s (with_fence m (Mark (record { 0 = n }))) (restaged l (owner s (marks m.cached n)) (Took (Got (values m.kept n))) (drop 1 l.queue)) (claimed ++ n ∷ []) (drop 1 waiting)
   mark_base =
       let v : ℕ = m.cached (Mark (record { 0 = n })) in
       let p : Place = Mark (record { 0 = n }) in
-      let x : Issues s m (with_flush m (Mark (record { 0 = n }))).kept = issues_flushed s m l claimed waiting b (Mark (record { 0 = n })) in
+      let x : Issues s m (with_fence m (Mark (record { 0 = n }))).kept = issues_fenced s m l claimed waiting b (Mark (record { 0 = n })) in
       let st : Stage = Took (Got (values m.kept n)) in
       record {
         chained = subst (Links (links m.cached) (links m.kept)) (sym (claimed_split n claimed waiting marked_now.1)) b.chained;
@@ -245,7 +245,7 @@ module _ (s : Shape) (m : Memory) (l : Ledger) (claimed waiting : List ℕ) (b :
         fits_kept = put_fits s m.kept p v (b.fits p) b.fits_kept;
       }
 
-  pub mark_kept : Kept s m l (with_flush m (Mark (record { 0 = n }))) (restaged l (owner s (marks m.cached n)) (Took (Got (values m.kept n))) (drop 1 l.queue))
+  pub mark_kept : Kept s m l (with_fence m (Mark (record { 0 = n }))) (restaged l (owner s (marks m.cached n)) (Took (Got (values m.kept n))) (drop 1 l.queue))
   mark_kept = record {
     claimed = claimed ++ n ∷ [];
     waiting = drop 1 waiting;

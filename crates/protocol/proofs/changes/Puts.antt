@@ -13,7 +13,7 @@ use Rattle.arena.specs.Words.{links, marks, bumps, announcements}
 use Rattle.arena.specs.declared.place.Place.{Place}
 use Rattle.arena.specs.declared.place.Place.TheVariants.{Announcement, Bump, Cell, Status}
 use Rattle.helping.specs.Table.{token_of}
-use Rattle.protocol.specs.Machine.{Memory, put, with_flush}
+use Rattle.protocol.specs.Machine.{Memory, put, with_fence}
 use Rattle.recover.specs.Sound.{IsIssued, IsOwn}
 use Rattle.protocol.specs.invariants.Ledger.{Ledger}
 use Rattle.protocol.specs.invariants.Places.{IsOfRecord, IsOfKind, empties}
@@ -95,24 +95,24 @@ pub record Issues (s : Shape) (m : Memory) (n : Place → ℕ) : Type 0 where
   pub blank_kept : Blank s n n
 
 -- it says so still when a word is kept
-pub issues_flushed : (s : Shape) (m : Memory) (l : Ledger) (claimed waiting : List ℕ) → Base s m l claimed waiting → (p : Place) → Issues s m (with_flush m p).kept
-issues_flushed s m l claimed waiting b p = record {
-  issued_link = λ j some. issued_more s m.kept (with_flush m p).kept more (links m.cached j) (b.issued_link j some);
-  issued_mark = λ j some. issued_more s m.kept (with_flush m p).kept more (marks m.cached j) (b.issued_mark j some);
-  announced = λ t some. own_more s m.kept (with_flush m p).kept more t (announcements m.cached t) (b.announced t some);
+pub issues_fenced : (s : Shape) (m : Memory) (l : Ledger) (claimed waiting : List ℕ) → Base s m l claimed waiting → (p : Place) → Issues s m (with_fence m p).kept
+issues_fenced s m l claimed waiting b p = record {
+  issued_link = λ j some. issued_more s m.kept (with_fence m p).kept more (links m.cached j) (b.issued_link j some);
+  issued_mark = λ j some. issued_more s m.kept (with_fence m p).kept more (marks m.cached j) (b.issued_mark j some);
+  announced = λ t some. own_more s m.kept (with_fence m p).kept more t (announcements m.cached t) (b.announced t some);
   announced_kept = λ t. elim (put_cases m.kept p (m.cached p) (Announcement (record { 0 = t }))) [
-    | inl q ↦ subst (λ e. e ≢ 0 → IsOwn s (with_flush m p).kept t e) (sym (q.1 ∙ ap m.cached (sym q.0)))
-        (λ some. own_more s m.kept (with_flush m p).kept more t (announcements m.cached t) (b.announced t some))
-    | inr q ↦ subst (λ e. e ≢ 0 → IsOwn s (with_flush m p).kept t e) (sym q.1)
-        (λ some. own_more s m.kept (with_flush m p).kept more t (announcements m.kept t) (b.announced_kept t some))
+    | inl q ↦ subst (λ e. e ≢ 0 → IsOwn s (with_fence m p).kept t e) (sym (q.1 ∙ ap m.cached (sym q.0)))
+        (λ some. own_more s m.kept (with_fence m p).kept more t (announcements m.cached t) (b.announced t some))
+    | inr q ↦ subst (λ e. e ≢ 0 → IsOwn s (with_fence m p).kept t e) (sym q.1)
+        (λ some. own_more s m.kept (with_fence m p).kept more t (announcements m.kept t) (b.announced_kept t some))
   ];
-  blank = more_blank s m.kept (with_flush m p).kept m.cached (issued_more s m.kept (with_flush m p).kept more) b.blank;
-  blank_kept = put_blank s (with_flush m p).kept m.kept p (m.cached p)
-      (λ of some none. b.blank p of some (λ i. none (issued_more s m.kept (with_flush m p).kept more (number_of p) i)))
-      (more_blank s m.kept (with_flush m p).kept m.kept (issued_more s m.kept (with_flush m p).kept more) b.blank_kept);
+  blank = more_blank s m.kept (with_fence m p).kept m.cached (issued_more s m.kept (with_fence m p).kept more) b.blank;
+  blank_kept = put_blank s (with_fence m p).kept m.kept p (m.cached p)
+      (λ of some none. b.blank p of some (λ i. none (issued_more s m.kept (with_fence m p).kept more (number_of p) i)))
+      (more_blank s m.kept (with_fence m p).kept m.kept (issued_more s m.kept (with_fence m p).kept more) b.blank_kept);
 }
   where
-    more : (t : ℕ) → bumps m.kept t ≤ bumps (with_flush m p).kept t
+    more : (t : ℕ) → bumps m.kept t ≤ bumps (with_fence m p).kept t
     more t = elim (put_cases m.kept p (m.cached p) (Bump (record { 0 = t }))) [
       | inl q ↦ subst (λ x. bumps m.kept t ≤ x) (sym (q.1 ∙ ap m.cached (sym q.0))) (b.kept_bump t)
       | inr q ↦ subst (λ x. bumps m.kept t ≤ x) (sym q.1) (omega arith)

@@ -32,7 +32,7 @@ use Rattle.protocol.specs.invariants.Grows.{Grows}
 use Rattle.protocol.specs.invariants.Ledger.Stage.{Unmoved, Seen, Took}
 use Rattle.protocol.proofs.changes.Puts.{IsEmptyWord, put_cases, put_other, put_blank, put_absent, put_fits, put_empties}
 use Rattle.protocol.proofs.calls.Stable.{empty_own, empty_home, empty_number, result_own}
-use Rattle.protocol.proofs.changes.Flushes.{cell_empties, status_empties}
+use Rattle.protocol.proofs.changes.Fences.{cell_empties, status_empties}
 
 -- nothing changes
 pub none_grows : (a : ℕ) (s : Shape) (m : Memory) (l : Ledger) → Grows a s m l m l

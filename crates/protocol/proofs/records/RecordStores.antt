@@ -24,7 +24,8 @@ use Rattle.helping.specs.Table.{token_of, node_of, access_of, kept_place}
 use Rattle.helping.specs.declared.dequeue.Claim.{Claim}
 use Rattle.helping.specs.declared.dequeue.Claim.TheVariants.{Won, LostTo}
 use Rattle.helping.specs.declared.op.Op.{Op}
-use Rattle.helping.specs.declared.op.Op.TheVariants.{PrepareStore, PrepareFlush, EnqueueLoadTail, EnqueueLoadNext, EnqueueCheckTail, EnqueueLink, EnqueueMoveTail, EnqueueHelpTail, DequeueLoadHead, DequeueLoadTail, DequeueLoadNext, DequeueCheckHead, DequeueStoreEmpty, DequeueHelpTail, DequeueLoadValue, DequeueClaim, DequeueStoreResult, DequeueMoveHead, Flush as FlushPoint}
+use Rattle.helping.specs.declared.op.Op.TheVariants.{PrepareStore, PrepareFlush, PrepareFence, EnqueueLoadTail, EnqueueLoadNext, EnqueueCheckTail, EnqueueLink, EnqueueMoveTail, EnqueueHelpTail, DequeueLoadHead, DequeueLoadTail, DequeueLoadNext, DequeueCheckHead, DequeueStoreEmpty, DequeueHelpTail, DequeueLoadValue, DequeueClaim, DequeueStoreResult, DequeueMoveHead, Flush as FlushPoint, Fence as FencePoint}
+use Rattle.helping.specs.declared.keeping.Keeping.{Keeping}
 use Rattle.helping.specs.declared.keeping.Keeping.TheVariants.{Link as KeepLink, PassedLink as KeepPassedLink, Empty as KeepEmpty, DequeuePassedLink as KeepDequeuePassedLink, Claim as KeepClaim, Result as KeepResult}
 use Rattle.events.specs.Telling.{IsToldOf}
 use Rattle.protocol.specs.Machine.{Memory, put, with_store, with_access}
@@ -32,12 +33,12 @@ use Rattle.protocol.proofs.chain.Chains.{upd, upd_other, upd_cases}
 use Rattle.protocol.specs.invariants.Ledger.{Ledger, held_token, asked_call}
 use Rattle.protocol.specs.invariants.Places.{IsOfRecord, IsOwnWord, IsAnswer, IsOfKind, SaysEmpty}
 use Rattle.protocol.specs.invariants.Base.{Base}
-use Rattle.protocol.specs.invariants.Knows.{Unwritten, Preparing, Prepared, Acting, Enqueuing, Dequeuing, Claimer, Claimed, Loose, Knows}
+use Rattle.protocol.specs.invariants.Knows.{Unwritten, Preparing, Prepared, Acting, Enqueuing, Dequeuing, Claimer, Claimed, Loose, Knows, KnowsKeeping}
 use Rattle.protocol.specs.invariants.Ledger.Stage.{Unmoved, Seen, Took}
 use Rattle.protocol.proofs.changes.Puts.{IsEmptyWord, empty_word, put_cases, put_other}
 use Rattle.protocol.proofs.calls.Stable.{empty_own, empty_number, result_own, IsOwnWrite, own_write}
 use Rattle.protocol.proofs.changes.Keeps.{restaged}
-use Rattle.protocol.proofs.changes.Flushes.{status_says}
+use Rattle.protocol.proofs.changes.Fences.{status_says}
 use Rattle.protocol.proofs.calls.Preparations.{IsLastWrite, IsPlanned, planned_write, one_plan, is_dequeue}
 use Rattle.protocol.proofs.changes.Stores.{same_links, same_marks, result_answer, result_number}
 use Rattle.protocol.proofs.calls.Rows.{looked_stage, ledger_after}
@@ -494,12 +495,14 @@ module _ (s : Shape) (m : Memory) (l : Ledger) (claimed waiting : List ℕ) (b :
         subst (λ x. IsToldOf s.kind x.call) (sym (ap l.begun who ∙ h.begun)) (announces_told s.kind p.begun.call p.begun p.index p.write t h.in_hand (sym e)),
         λ z. h.before.mine.some (sym last.token ∙ z),
       ))
-  row_records (PrepareFlush p) h = keep_records s m l claimed waiting b r p.write.place
+  row_records (PrepareFlush p) h = r
+  row_records (PrepareFence p) h = keep_records s m l claimed waiting b r p.write.place
   row_records (EnqueueLoadTail p) h = r
   row_records (EnqueueLoadNext p) h = r
   row_records (EnqueueCheckTail p) h = r
   row_records (EnqueueLink p) h = link_records p.node p.last h.0
-  row_records (FlushPoint k) h = keep_records s m l claimed waiting b r (kept_place s.kind k)
+  row_records (FlushPoint k) h = r
+  row_records (FencePoint k) h = keep_records s m l claimed waiting b r (kept_place s.kind k)
   row_records (EnqueueMoveTail p) h = tail_records p.last.0 p.node.0
   row_records (EnqueueHelpTail p) h = tail_records p.last.0 p.next.0
   row_records (DequeueLoadHead p) h = r
@@ -566,31 +569,36 @@ acting_or s m l i op h = go op h
     claimer t Won a = hold t.0 a.0
     claimer t (LostTo other) a = hold t.0 a.0.acting
 
+    keeper : (k : Keeping) → KnowsKeeping s m l i k → Acting s m l i (held_token l i)
+    keeper (KeepLink p) k = hold p.node.0 k.0.acting
+    keeper (KeepPassedLink p) k = hold p.node.0 k.0.acting
+    keeper (KeepEmpty p) k = hold p.token.0 k.0
+    keeper (KeepDequeuePassedLink p) k = hold p.token.0 k.0.acting
+    keeper (KeepClaim p) k = claimer p.claimed.token p.claimed.claim k.0
+    keeper (KeepResult p) k = claimer p.claimed.token p.claimed.claim k.0
+
     go : (op : Op) → Knows s m l i op → Acting s m l i (held_token l i) ⊎ record { b : Begun; index : ℕ; w : Write; preparing : Preparing s m l i b index w }
     go (PrepareStore p) k = inr (record { b = p.begun; index = p.index; w = p.write; preparing = k })
+    go (PrepareFence p) k = inr (record { b = p.begun; index = p.index; w = p.write; preparing = k.0 })
     go (PrepareFlush p) k = inr (record { b = p.begun; index = p.index; w = p.write; preparing = k.0 })
     go (EnqueueLoadTail p) k = inl (hold p.node.0 k.acting)
     go (EnqueueLoadNext p) k = inl (hold p.node.0 k.0.acting)
     go (EnqueueCheckTail p) k = inl (hold p.node.0 k.0.acting)
     go (EnqueueLink p) k = inl (hold p.node.0 k.0.acting)
-    go (FlushPoint (KeepLink p)) k = inl (hold p.node.0 k.0.acting)
     go (EnqueueMoveTail p) k = inl (hold p.node.0 k.0.acting)
-    go (FlushPoint (KeepPassedLink p)) k = inl (hold p.node.0 k.0.acting)
     go (EnqueueHelpTail p) k = inl (hold p.node.0 k.0.acting)
     go (DequeueLoadHead p) k = inl (hold p.token.0 k.acting)
     go (DequeueLoadTail p) k = inl (hold p.token.0 k.0.acting)
     go (DequeueLoadNext p) k = inl (hold p.token.0 k.0.acting)
     go (DequeueCheckHead p) k = inl (hold p.token.0 k.0.acting)
     go (DequeueStoreEmpty p) k = inl (hold p.token.0 k.0.acting)
-    go (FlushPoint (KeepEmpty p)) k = inl (hold p.token.0 k.0)
-    go (FlushPoint (KeepDequeuePassedLink p)) k = inl (hold p.token.0 k.0.acting)
     go (DequeueHelpTail p) k = inl (hold p.token.0 k.0.acting)
     go (DequeueLoadValue p) k = inl (hold p.token.0 k.0.acting)
     go (DequeueClaim p) k = inl (hold p.token.0 k.0.acting)
-    go (FlushPoint (KeepClaim p)) k = inl (claimer p.claimed.token p.claimed.claim k.0)
     go (DequeueStoreResult p) k = inl (claimer p.claimed.token p.claimed.claim k.0)
-    go (FlushPoint (KeepResult p)) k = inl (claimer p.claimed.token p.claimed.claim k.0)
     go (DequeueMoveHead p) k = inl (claimer p.claimed.token p.claimed.claim k.0)
+    go (FlushPoint q) k = inl (keeper q k)
+    go (FencePoint q) k = inl (keeper q k)
 
 -- a call whose link, claim or empty answer stands has prepared its record
 pub acting_of : (s : Shape) (m : Memory) (l : Ledger) (i : ℕ) (op : Op) → Knows s m l i op → (Loose m (held_token l i) → (SaysEmpty s m.cached (held_token l i) → ⊥) → ⊥) → Acting s m l i (held_token l i)

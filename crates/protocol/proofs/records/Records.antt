@@ -15,7 +15,7 @@ use Rattle.arena.specs.declared.place.Place.TheVariants.{Head, Tail, Announcemen
 use Rattle.stepper.specs.declared.prepare.Begun.{Begun}
 use Rattle.helping.specs.Table.{token_of, node_of}
 use Rattle.events.specs.Telling.{IsToldOf}
-use Rattle.protocol.specs.Machine.{Memory, put, with_store, with_flush}
+use Rattle.protocol.specs.Machine.{Memory, put, with_store, with_fence}
 use Rattle.protocol.specs.Recovered.{end_of}
 use Rattle.arena.proofs.Chains.{in_left, in_end_cases}
 use Rattle.protocol.proofs.chain.Chains.{upd_same, upd_cases, linked_by}
@@ -27,7 +27,7 @@ use Rattle.protocol.specs.invariants.Grows.{Grows}
 use Rattle.protocol.specs.invariants.Ledger.Stage.{Unmoved, Seen, Took}
 use Rattle.protocol.proofs.changes.Puts.{put_cases, put_same}
 use Rattle.protocol.proofs.changes.Keeps.{restaged, counted, noticed_ledger, kept_ledger}
-use Rattle.protocol.proofs.changes.Flushes.{cell_says, status_says, keep_any}
+use Rattle.protocol.proofs.changes.Fences.{cell_says, status_says, keep_any}
 use Rattle.protocol.specs.invariants.Records.{Both, IsPath, answer, IsAnswered, AnsweredTo, IsEnqueued, CellRight, NodeRight, StatusRight, IsEntry, TookBy, IsAnnouncing, Records}
 
 pub path_longer : (k : ℕ → ℕ) (from : ℕ) (ns : List ℕ) (x : ℕ) → IsPath k from ns → k (end_of from ns) ≡ x → x ≢ 0 → IsPath k from (ns ++ x ∷ [])
@@ -49,8 +49,8 @@ path_linked k from (x ∷ xs) p n (inl e) = (from, p.0 ∙ sym e, λ z. p.1 (sym
 path_linked k from (x ∷ xs) p n (inr h) = path_linked k x xs p.2 n h
 
 -- what is kept as it is cached
-pub both_flushed : (m : Memory) (p q : Place) (v : ℕ) → Both m q v → Both (with_flush m p) q v
-both_flushed m p q v h = (h.0, elim (put_cases m.kept p (m.cached p) q) [ inl t ↦ t.1 ∙ ap m.cached (sym t.0) ∙ h.0 | inr t ↦ t.1 ∙ h.1 ])
+pub both_fenced : (m : Memory) (p q : Place) (v : ℕ) → Both m q v → Both (with_fence m p) q v
+both_fenced m p q v h = (h.0, elim (put_cases m.kept p (m.cached p) q) [ inl t ↦ t.1 ∙ ap m.cached (sym t.0) ∙ h.0 | inr t ↦ t.1 ∙ h.1 ])
 
 pub both_stored : (m : Memory) (p : Place) (x : ℕ) (q : Place) (v : ℕ) → (q ≡ p → v ≡ x) → Both m q v → Both (with_store m p x) q v
 both_stored m p x q v same h = (elim (put_cases m.cached p x q) [ inl t ↦ t.1 ∙ sym (same t.0) | inr t ↦ t.1 ∙ h.0 ], h.1)
@@ -81,40 +81,40 @@ answered_next s m first next r link some marked answered = record {
   answered = λ n h. elim (in_end_cases n next r.passed h) [ inl i ↦ r.answered n i | inr e ↦ subst (IsAnswered s m) (sym e) answered ];
 }
 
-pub entry_flushed : (m : Memory) (p : Place) (e : ℕ) → IsEntry m e → IsEntry (with_flush m p) e
-entry_flushed m p e h = record {
+pub entry_fenced : (m : Memory) (p : Place) (e : ℕ) → IsEntry m e → IsEntry (with_fence m p) e
+entry_fenced m p e h = record {
   number = h.number;
   some = h.some;
   in_range = h.in_range;
-  numbered = both_flushed m p (Number (token_of e)) h.number h.numbered;
+  numbered = both_fenced m p (Number (token_of e)) h.number h.numbered;
   kind = elim h.kind [
-    | inl q ↦ inl (both_flushed m p (EntryKind (token_of e)) 1 q.0, both_flushed m p (EntryNode (token_of e)) e q.1)
-    | inr q ↦ inr (both_flushed m p (EntryKind (token_of e)) 2 q)
+    | inl q ↦ inl (both_fenced m p (EntryKind (token_of e)) 1 q.0, both_fenced m p (EntryNode (token_of e)) e q.1)
+    | inr q ↦ inr (both_fenced m p (EntryKind (token_of e)) 2 q)
   ];
 }
 
--- a flush makes no announcement differ
-pub announced_apart : (m : Memory) (p : Place) (i : ℕ) → announcements m.cached i ≢ announcements (with_flush m p).kept i → announcements m.cached i ≢ announcements m.kept i
+-- a fence makes no announcement differ
+pub announced_apart : (m : Memory) (p : Place) (i : ℕ) → announcements m.cached i ≢ announcements (with_fence m p).kept i → announcements m.cached i ≢ announcements m.kept i
 announced_apart m p i h e = h (elim (put_cases m.kept p (m.cached p) (Announcement (record { 0 = i }))) [ inl t ↦ ap m.cached t.0 ∙ sym t.1 | inr t ↦ e ∙ sym t.1 ])
 
 module _ (s : Shape) (m : Memory) (l : Ledger) (claimed waiting : List ℕ) (b : Base s m l claimed waiting) (r : Records s m l) (p : Place) where
-  g : Grows 0 s m l (with_flush m p) (kept_ledger s m l p)
+  g : Grows 0 s m l (with_fence m p) (kept_ledger s m l p)
   g = (keep_any s m l claimed waiting b p).grows 0
 
   -- the value of a claimed node stays
-  pub claimed_value : (x : ℕ) → marks m.kept x ≢ 0 → values (with_flush m p).kept x ≡ values m.kept x
+  pub claimed_value : (x : ℕ) → marks m.kept x ≢ 0 → values (with_fence m p).kept x ≡ values m.kept x
   claimed_value x h =
       let q : (q : ℕ) × (links m.kept q ≡ x) × (x ≢ 0) = linked_by (links m.kept) 0 (claimed ++ waiting) b.chained.chain x (in_left x claimed waiting (b.marked.back x h)) in
-      subst (λ y. values (with_flush m p).kept y ≡ values m.kept y) q.1 (g.at_linked q.0 (λ z. q.2 (sym q.1 ∙ z)))
+      subst (λ y. values (with_fence m p).kept y ≡ values m.kept y) q.1 (g.at_linked q.0 (λ z. q.2 (sym q.1 ∙ z)))
 
-  flushed_cell : (c v : ℕ) → CellRight m c v → CellRight (with_flush m p) c v
-  flushed_cell c v h some other =
+  fenced_cell : (c v : ℕ) → CellRight m c v → CellRight (with_fence m p) c v
+  fenced_cell c v h some other =
       let q : record { at : ℕ; named : marks m.kept at ≡ c; some : c ≢ 0; value : v ≡ values m.kept at + 2 } = h some other in
       let marked : marks m.kept q.at ≢ 0 = λ z. q.some (sym q.named ∙ z) in
       record { at = q.at; named = g.at_kept_mark q.at marked ∙ q.named; some = q.some; value = q.value ∙ ap (λ x. x + 2) (sym (claimed_value q.at marked)) }
 
-  flushed_node : (c v : ℕ) → NodeRight m c v → NodeRight (with_flush m p) c v
-  flushed_node c v h kind some =
+  fenced_node : (c v : ℕ) → NodeRight m c v → NodeRight (with_fence m p) c v
+  fenced_node c v h kind some =
       let before : (entry_kinds m.cached c ≡ 2) ⊎ (entry_kinds m.kept c ≡ 2) = elim kind [
         | inl e ↦ inl e
         | inr e ↦ elim (put_cases m.kept p (m.cached p) (EntryKind (token_of c))) [ inl t ↦ inl (ap m.cached t.0 ∙ sym t.1 ∙ e) | inr t ↦ inr (sym t.1 ∙ e) ]
@@ -122,15 +122,15 @@ module _ (s : Shape) (m : Memory) (l : Ledger) (claimed waiting : List ℕ) (b :
       let q : (marks m.kept v ≡ c) × (c ≢ 0) = h before some in
       (g.at_kept_mark v (λ z. q.1 (sym q.0 ∙ z)) ∙ q.0, q.1)
 
-  flushed_status : (c v : ℕ) → StatusRight m c v → StatusRight (with_flush m p) c v
-  flushed_status c v h = record {
+  fenced_status : (c v : ℕ) → StatusRight m c v → StatusRight (with_fence m p) c v
+  fenced_status c v h = record {
     taken = λ e.
         let q : record { at : ℕ; linked : links m.kept at ≡ c; some : c ≢ 0 } = h.taken e in
         record { at = q.at; linked = g.at_kept_link q.at (λ z. q.some (sym q.linked ∙ z)) ∙ q.linked; some = q.some };
-    empty = λ e. both_flushed m p (EntryKind (token_of c)) 2 (h.empty e);
+    empty = λ e. both_fenced m p (EntryKind (token_of c)) 2 (h.empty e);
   }
 
-  took_old : (c : Begun) (reply : Reply) → TookBy s m.kept c reply → TookBy s (with_flush m p).kept c reply
+  took_old : (c : Begun) (reply : Reply) → TookBy s m.kept c reply → TookBy s (with_fence m p).kept c reply
   took_old c Done h = record { at = h.at; linked = g.at_kept_link h.at (λ z. h.some (sym h.linked ∙ z)) ∙ h.linked; some = h.some; asks = h.asks }
   took_old c (Got v) h =
       let marked : marks m.kept h.at ≢ 0 = λ z. h.some (sym h.marked ∙ z) in
@@ -141,14 +141,14 @@ module _ (s : Shape) (m : Memory) (l : Ledger) (claimed waiting : List ℕ) (b :
   ]
 
   -- a call that takes effect does so by the word that is kept
-  took_new : (o c : ℕ) (st : Stage) (queue : List ℕ) → o ≡ owner s c → held_token l o ≡ c → ((reply : Reply) → st ≡ Took reply → TookBy s (with_flush m p).kept (l.begun o) reply)
-      → (i : ℕ) (reply : Reply) → (restaged l o st queue).stage i ≡ Took reply → TookBy s (with_flush m p).kept (l.begun i) reply
+  took_new : (o c : ℕ) (st : Stage) (queue : List ℕ) → o ≡ owner s c → held_token l o ≡ c → ((reply : Reply) → st ≡ Took reply → TookBy s (with_fence m p).kept (l.begun o) reply)
+      → (i : ℕ) (reply : Reply) → (restaged l o st queue).stage i ≡ Took reply → TookBy s (with_fence m p).kept (l.begun i) reply
   took_new o c st queue own holds now i reply h = elim (upd_cases l.stage o st i) [
-    | inl t ↦ subst (λ x. TookBy s (with_flush m p).kept x reply) (sym (ap l.begun t.0)) (now reply (sym t.1 ∙ h))
+    | inl t ↦ subst (λ x. TookBy s (with_fence m p).kept x reply) (sym (ap l.begun t.0)) (now reply (sym t.1 ∙ h))
     | inr t ↦ took_old (l.begun i) reply (r.took i reply (sym t.1 ∙ h))
   ]
 
-  took_same : (i : ℕ) (reply : Reply) → l.stage i ≡ Took reply → TookBy s (with_flush m p).kept (l.begun i) reply
+  took_same : (i : ℕ) (reply : Reply) → l.stage i ≡ Took reply → TookBy s (with_fence m p).kept (l.begun i) reply
   took_same i reply h = took_old (l.begun i) reply (r.took i reply h)
 
 enq_deq : {v : ℕ} → Deq ≡ Enq v → ⊥
@@ -161,14 +161,14 @@ seen_empty (Took x) reply e h = absurd (cc)
 
 module _ (s : Shape) (m : Memory) (l : Ledger) (claimed waiting : List ℕ) (b : Base s m l claimed waiting) (r : Records s m l) where
   took_says : (c : ℕ) (p : Place) → p ≡ (empty_answer_of s.kind (token_of c)).place → SaysEmpty s m.cached c → (SaysEmpty s m.kept c → ⊥)
-      → (i : ℕ) (reply : Reply) → (restaged l (owner s c) (counted (l.stage (owner s c))) l.queue).stage i ≡ Took reply → TookBy s (with_flush m p).kept (l.begun i) reply
+      → (i : ℕ) (reply : Reply) → (restaged l (owner s c) (counted (l.stage (owner s c))) l.queue).stage i ≡ Took reply → TookBy s (with_fence m p).kept (l.begun i) reply
   took_says c p at says fresh =
       let f : IsAnswering s l (marks m.cached) c = b.empty.flying c says fresh in
       took_new s m l claimed waiting b r p (owner s c) c (counted (l.stage (owner s c))) l.queue refl f.holds
-      (λ reply e. subst (λ x. TookBy s (with_flush m p).kept (l.begun (owner s c)) x) (sym (seen_empty (l.stage (owner s c)) reply f.seen e))
-      (subst (SaysEmpty s (with_flush m p).kept) (sym f.holds) (ap (put m.kept p (m.cached p)) (sym at) ∙ put_same m.kept p (m.cached p) ∙ ap m.cached at ∙ says)))
+      (λ reply e. subst (λ x. TookBy s (with_fence m p).kept (l.begun (owner s c)) x) (sym (seen_empty (l.stage (owner s c)) reply f.seen e))
+      (subst (SaysEmpty s (with_fence m p).kept) (sym f.holds) (ap (put m.kept p (m.cached p)) (sym at) ∙ put_same m.kept p (m.cached p) ∙ ap m.cached at ∙ says)))
 
-  took_noticed : (p : Place) → m.kept p ≢ m.cached p → (i : ℕ) (reply : Reply) → (noticed_ledger s m l p (m.cached p)).stage i ≡ Took reply → TookBy s (with_flush m p).kept ((noticed_ledger s m l p (m.cached p)).begun i) reply
+  took_noticed : (p : Place) → m.kept p ≢ m.cached p → (i : ℕ) (reply : Reply) → (noticed_ledger s m l p (m.cached p)).stage i ≡ Took reply → TookBy s (with_fence m p).kept ((noticed_ledger s m l p (m.cached p)).begun i) reply
   took_noticed Head apart = took_same s m l claimed waiting b r Head
   took_noticed Tail apart = took_same s m l claimed waiting b r Tail
   took_noticed (Announcement t) apart = took_same s m l claimed waiting b r (Announcement t)
@@ -180,7 +180,7 @@ module _ (s : Shape) (m : Memory) (l : Ledger) (claimed waiting : List ℕ) (b :
       let f : IsLinking s l (values m.cached) (links m.cached n.0) = b.flying_link n.0 some none in
       took_new s m l claimed waiting b r (Next n) (owner s (links m.cached n.0)) (links m.cached n.0) (Took Done) (l.queue ++ values m.kept (links m.cached n.0) ∷ []) refl f.holds
       (λ reply e. let same : reply ≡ Done = cc in
-      subst (λ x. TookBy s (with_flush m (Next n)).kept (l.begun (owner s (links m.cached n.0))) x) (sym same)
+      subst (λ x. TookBy s (with_fence m (Next n)).kept (l.begun (owner s (links m.cached n.0))) x) (sym same)
       (record { at = n.0; linked = upd_same (links m.kept) n.0 (links m.cached n.0) ∙ sym f.holds; some = λ z. some (sym f.holds ∙ z); asks = λ q. enq_deq (sym q ∙ f.asks) }))
   took_noticed (Mark n) apart =
       let none : marks m.kept n.0 ≡ 0 = kept_apart (marks m.cached) (marks m.kept) n.0 (b.marked.kept n.0) apart in
@@ -188,7 +188,7 @@ module _ (s : Shape) (m : Memory) (l : Ledger) (claimed waiting : List ℕ) (b :
       let f : IsClaiming s l (marks m.cached n.0) = b.flying_mark n.0 some none in
       took_new s m l claimed waiting b r (Mark n) (owner s (marks m.cached n.0)) (marks m.cached n.0) (Took (Got (values m.kept n.0))) (drop 1 l.queue) refl f.holds
       (λ reply e. let same : reply ≡ Got (values m.kept n.0) = cc in
-      subst (λ x. TookBy s (with_flush m (Mark n)).kept (l.begun (owner s (marks m.cached n.0))) x) (sym same)
+      subst (λ x. TookBy s (with_fence m (Mark n)).kept (l.begun (owner s (marks m.cached n.0))) x) (sym same)
       (record { at = n.0; marked = upd_same (marks m.kept) n.0 (marks m.cached n.0) ∙ sym f.holds; some = λ z. some (sym f.holds ∙ z); value = refl }))
   took_noticed (Insert n) apart = took_same s m l claimed waiting b r (Insert n)
   took_noticed (Number e) apart = took_same s m l claimed waiting b r (Number e)
@@ -197,7 +197,7 @@ module _ (s : Shape) (m : Memory) (l : Ledger) (claimed waiting : List ℕ) (b :
   took_noticed (Cell c) apart = go s.kind refl (m.cached (Cell c) == 1) refl
     where
       go : (kind : Kind) → s.kind ≡ kind → (t : Bool) → (m.cached (Cell c) == 1) ≡ t → (i : ℕ) (reply : Reply) → (if t then restaged l (owner s c.0) (counted (l.stage (owner s c.0))) l.queue else l).stage i ≡ Took reply
-          → TookBy s (with_flush m (Cell c)).kept ((if t then restaged l (owner s c.0) (counted (l.stage (owner s c.0))) l.queue else l).begun i) reply
+          → TookBy s (with_fence m (Cell c)).kept ((if t then restaged l (owner s c.0) (counted (l.stage (owner s c.0))) l.queue else l).begun i) reply
       go Durable e true t =
           let says : m.cached (Cell c) ≡ 1 = eqb-true (m.cached (Cell c)) 1 t in
           took_says c.0 (Cell c) (ap (λ k. (empty_answer_of k (token_of c.0)).place) (sym e)) ((cell_says s m.cached c e).1 says) (λ h. apart ((cell_says s m.kept c e).0 h ∙ sym says))
@@ -208,7 +208,7 @@ module _ (s : Shape) (m : Memory) (l : Ledger) (claimed waiting : List ℕ) (b :
   took_noticed (Status c) apart = go s.kind refl (m.cached (Status c) == 2) refl
     where
       go : (kind : Kind) → s.kind ≡ kind → (t : Bool) → (m.cached (Status c) == 2) ≡ t → (i : ℕ) (reply : Reply) → (if t then restaged l (owner s c.0) (counted (l.stage (owner s c.0))) l.queue else l).stage i ≡ Took reply
-          → TookBy s (with_flush m (Status c)).kept ((if t then restaged l (owner s c.0) (counted (l.stage (owner s c.0))) l.queue else l).begun i) reply
+          → TookBy s (with_fence m (Status c)).kept ((if t then restaged l (owner s c.0) (counted (l.stage (owner s c.0))) l.queue else l).begun i) reply
       go Log e true t =
           let says : m.cached (Status c) ≡ 2 = eqb-true (m.cached (Status c)) 2 t in
           took_says c.0 (Status c) (ap (λ k. (empty_answer_of k (token_of c.0)).place) (sym e)) ((status_says s m.cached c e).1 says) (λ h. apart ((status_says s m.kept c e).0 h ∙ sym says))
@@ -217,59 +217,59 @@ module _ (s : Shape) (m : Memory) (l : Ledger) (claimed waiting : List ℕ) (b :
           let wrong : s.kind ≡ Log → ⊥ = λ x. cc in
           absurd (apart (b.absent_kept (Status c) (λ h. wrong h.0) ∙ sym (b.absent (Status c) (λ h. wrong h.0))))
 
-  took_kept : (p : Place) → (i : ℕ) (reply : Reply) → (kept_ledger s m l p).stage i ≡ Took reply → TookBy s (with_flush m p).kept ((kept_ledger s m l p).begun i) reply
+  took_kept : (p : Place) → (i : ℕ) (reply : Reply) → (kept_ledger s m l p).stage i ≡ Took reply → TookBy s (with_fence m p).kept ((kept_ledger s m l p).begun i) reply
   took_kept p = go (m.kept p == m.cached p) refl
     where
       go : (t : Bool) → (m.kept p == m.cached p) ≡ t → (i : ℕ) (reply : Reply) → (if t then l else noticed_ledger s m l p (m.cached p)).stage i ≡ Took reply
-          → TookBy s (with_flush m p).kept ((if t then l else noticed_ledger s m l p (m.cached p)).begun i) reply
+          → TookBy s (with_fence m p).kept ((if t then l else noticed_ledger s m l p (m.cached p)).begun i) reply
       go true e = took_same s m l claimed waiting b r p
       go false e = took_noticed p (eqb-false (m.kept p) (m.cached p) e)
 
-  announcing_kept : (p : Place) (i : ℕ) → IsAnnouncing s m l i → IsAnnouncing s (with_flush m p) (kept_ledger s m l p) i
+  announcing_kept : (p : Place) (i : ℕ) → IsAnnouncing s m l i → IsAnnouncing s (with_fence m p) (kept_ledger s m l p) i
   announcing_kept p i q =
-      let same : (kept_ledger s m l p).begun i ≡ l.begun i = let g : Grows (suc i) s m l (with_flush m p) (kept_ledger s m l p) = (keep_any s m l claimed waiting b p).grows (suc i) in g.begun i (λ e. absurd (omega (arith, e))) in
+      let same : (kept_ledger s m l p).begun i ≡ l.begun i = let g : Grows (suc i) s m l (with_fence m p) (kept_ledger s m l p) = (keep_any s m l claimed waiting b p).grows (suc i) in g.begun i (λ e. absurd (omega (arith, e))) in
       record { holds = q.holds ∙ ap (λ x. x.token.0) (sym same); some = q.some; told_of = subst (λ x. IsToldOf s.kind x.call) (sym same) q.told_of }
 
   -- a word is kept
-  pub keep_records : (p : Place) → Records s (with_flush m p) (kept_ledger s m l p)
+  pub keep_records : (p : Place) → Records s (with_fence m p) (kept_ledger s m l p)
   keep_records p =
-      let g : Grows 0 s m l (with_flush m p) (kept_ledger s m l p) = (keep_any s m l claimed waiting b p).grows 0 in
-      let head : AnsweredTo s (with_flush m p) (m.cached Head) =
-      answered_grows 0 s m l (with_flush m p) (kept_ledger s m l p) (m.cached Head) g (λ x h q. both_flushed m p (answer s m x).place (answer s m x).value q) r.to_head in
-      let kept_head : AnsweredTo s (with_flush m p) (m.kept Head) =
-      answered_grows 0 s m l (with_flush m p) (kept_ledger s m l p) (m.kept Head) g (λ x h q. both_flushed m p (answer s m x).place (answer s m x).value q) r.to_kept_head in
+      let g : Grows 0 s m l (with_fence m p) (kept_ledger s m l p) = (keep_any s m l claimed waiting b p).grows 0 in
+      let head : AnsweredTo s (with_fence m p) (m.cached Head) =
+      answered_grows 0 s m l (with_fence m p) (kept_ledger s m l p) (m.cached Head) g (λ x h q. both_fenced m p (answer s m x).place (answer s m x).value q) r.to_head in
+      let kept_head : AnsweredTo s (with_fence m p) (m.kept Head) =
+      answered_grows 0 s m l (with_fence m p) (kept_ledger s m l p) (m.kept Head) g (λ x h q. both_fenced m p (answer s m x).place (answer s m x).value q) r.to_kept_head in
       record {
         to_head = head;
         to_kept_head = elim (put_cases m.kept p (m.cached p) Head) [
-          | inl t ↦ subst (AnsweredTo s (with_flush m p)) (sym (t.1 ∙ ap m.cached (sym t.0))) head
-          | inr t ↦ subst (AnsweredTo s (with_flush m p)) (sym t.1) kept_head
+          | inl t ↦ subst (AnsweredTo s (with_fence m p)) (sym (t.1 ∙ ap m.cached (sym t.0))) head
+          | inr t ↦ subst (AnsweredTo s (with_fence m p)) (sym t.1) kept_head
         ];
-        cell = λ c. flushed_cell s m l claimed waiting b r p c (cells m.cached c) (r.cell c);
+        cell = λ c. fenced_cell s m l claimed waiting b r p c (cells m.cached c) (r.cell c);
         cell_kept = λ c. elim (put_cases m.kept p (m.cached p) (Cell (token_of c))) [
-          | inl t ↦ subst (CellRight (with_flush m p) c) (sym (t.1 ∙ ap m.cached (sym t.0))) (flushed_cell s m l claimed waiting b r p c (cells m.cached c) (r.cell c))
-          | inr t ↦ subst (CellRight (with_flush m p) c) (sym t.1) (flushed_cell s m l claimed waiting b r p c (cells m.kept c) (r.cell_kept c))
+          | inl t ↦ subst (CellRight (with_fence m p) c) (sym (t.1 ∙ ap m.cached (sym t.0))) (fenced_cell s m l claimed waiting b r p c (cells m.cached c) (r.cell c))
+          | inr t ↦ subst (CellRight (with_fence m p) c) (sym t.1) (fenced_cell s m l claimed waiting b r p c (cells m.kept c) (r.cell_kept c))
         ];
-        node = λ c. flushed_node s m l claimed waiting b r p c (entry_nodes m.cached c) (r.node c);
+        node = λ c. fenced_node s m l claimed waiting b r p c (entry_nodes m.cached c) (r.node c);
         node_kept = λ c. elim (put_cases m.kept p (m.cached p) (EntryNode (token_of c))) [
-          | inl t ↦ subst (NodeRight (with_flush m p) c) (sym (t.1 ∙ ap m.cached (sym t.0))) (flushed_node s m l claimed waiting b r p c (entry_nodes m.cached c) (r.node c))
-          | inr t ↦ subst (NodeRight (with_flush m p) c) (sym t.1) (flushed_node s m l claimed waiting b r p c (entry_nodes m.kept c) (r.node_kept c))
+          | inl t ↦ subst (NodeRight (with_fence m p) c) (sym (t.1 ∙ ap m.cached (sym t.0))) (fenced_node s m l claimed waiting b r p c (entry_nodes m.cached c) (r.node c))
+          | inr t ↦ subst (NodeRight (with_fence m p) c) (sym t.1) (fenced_node s m l claimed waiting b r p c (entry_nodes m.kept c) (r.node_kept c))
         ];
         enqueued = λ k x h.
             let q : IsEnqueued m (links m.cached x) = r.enqueued k x h in
             record {
-              insert = both_flushed m p (Insert (node_of (links m.cached x))) (links m.cached x) q.insert;
-              kind = both_flushed m p (EntryKind (token_of (links m.cached x))) 1 q.kind;
+              insert = both_fenced m p (Insert (node_of (links m.cached x))) (links m.cached x) q.insert;
+              kind = both_fenced m p (EntryKind (token_of (links m.cached x))) 1 q.kind;
             };
-        dequeued = λ k x h. both_flushed m p (EntryKind (token_of (marks m.cached x))) 2 (r.dequeued k x h);
-        status = λ c. flushed_status s m l claimed waiting b r p c (statuses m.cached c) (r.status c);
+        dequeued = λ k x h. both_fenced m p (EntryKind (token_of (marks m.cached x))) 2 (r.dequeued k x h);
+        status = λ c. fenced_status s m l claimed waiting b r p c (statuses m.cached c) (r.status c);
         status_kept = λ c. elim (put_cases m.kept p (m.cached p) (Status (token_of c))) [
-          | inl t ↦ subst (StatusRight (with_flush m p) c) (sym (t.1 ∙ ap m.cached (sym t.0))) (flushed_status s m l claimed waiting b r p c (statuses m.cached c) (r.status c))
-          | inr t ↦ subst (StatusRight (with_flush m p) c) (sym t.1) (flushed_status s m l claimed waiting b r p c (statuses m.kept c) (r.status_kept c))
+          | inl t ↦ subst (StatusRight (with_fence m p) c) (sym (t.1 ∙ ap m.cached (sym t.0))) (fenced_status s m l claimed waiting b r p c (statuses m.cached c) (r.status c))
+          | inr t ↦ subst (StatusRight (with_fence m p) c) (sym t.1) (fenced_status s m l claimed waiting b r p c (statuses m.kept c) (r.status_kept c))
         ];
-        entry = λ k t some. entry_flushed m p (announcements m.cached t) (r.entry k t some);
+        entry = λ k t some. entry_fenced m p (announcements m.cached t) (r.entry k t some);
         entry_kept = λ k t. elim (put_cases m.kept p (m.cached p) (Announcement (record { 0 = t }))) [
-          | inl q ↦ subst (λ e. e ≢ 0 → IsEntry (with_flush m p) e) (sym (q.1 ∙ ap m.cached (sym q.0))) (λ some. entry_flushed m p (announcements m.cached t) (r.entry k t some))
-          | inr q ↦ subst (λ e. e ≢ 0 → IsEntry (with_flush m p) e) (sym q.1) (λ some. entry_flushed m p (announcements m.kept t) (r.entry_kept k t some))
+          | inl q ↦ subst (λ e. e ≢ 0 → IsEntry (with_fence m p) e) (sym (q.1 ∙ ap m.cached (sym q.0))) (λ some. entry_fenced m p (announcements m.cached t) (r.entry k t some))
+          | inr q ↦ subst (λ e. e ≢ 0 → IsEntry (with_fence m p) e) (sym q.1) (λ some. entry_fenced m p (announcements m.kept t) (r.entry_kept k t some))
         ];
         took = took_kept p;
         announcing = λ i h.

@@ -26,7 +26,7 @@ use Rattle.protocol.specs.Recovered.{end_of}
 use Rattle.protocol.proofs.chain.Chains.{chain_like, leads_grows, map_agree, linked_by}
 use Rattle.protocol.specs.invariants.Places.{IsAnswer, IsOfRecord, IsOfKind, SaysEmpty}
 use Rattle.protocol.specs.invariants.Ledger.Stage.{Unmoved, Took}
-use Rattle.protocol.proofs.changes.Flushes.{cell_says, status_says}
+use Rattle.protocol.proofs.changes.Fences.{cell_says, status_says}
 use Rattle.protocol.proofs.changes.Stores.{result_answer}
 use Rattle.protocol.proofs.changes.Puts.{IsEmptyWord, empty_word, put_cases, put_other, put_blank, put_absent, put_fits, issued_more}
 use Rattle.protocol.specs.invariants.Records.{Both, IsPath, answer, AnsweredTo, IsEnqueued, CellRight, NodeRight, StatusRight, IsEntry, Records}

@@ -22,15 +22,18 @@ use Rattle.stepper.specs.declared.resume.After.TheVariants.{More, Done as Ready}
 use Rattle.recover.specs.declared.recovery.Recovery.{Recovery}
 use Rattle.recover.specs.declared.point.RecoveryPoint.{RecoveryPoint}
 use Rattle.recover.specs.declared.point.Report.{Report}
-use Rattle.recover.specs.declared.point.RecoveryPoint.TheVariants.{RecoveryLoadHead, RecoveryLoadNext, RecoveryLoadInsert, RecoveryStoreStatus, RecoveryLoadMark, RecoveryLoadValue, RecoveryStoreResult, RecoveryStoreHead, RecoveryStoreTail, RecoveryLoadAnnouncement, RecoveryLoadCell, RecoveryLoadNumber, RecoveryLoadKind, RecoveryLoadStatus, RecoveryLoadRemove, RecoveryLoadEntryNode, RecoveryLoadRemovedValue, Flush as FlushPoint}
+use Rattle.recover.specs.declared.point.RecoveryPoint.TheVariants.{RecoveryLoadHead, RecoveryLoadNext, RecoveryLoadInsert, RecoveryStoreStatus, RecoveryLoadMark, RecoveryLoadValue, RecoveryStoreResult, RecoveryStoreHead, RecoveryStoreTail, RecoveryLoadAnnouncement, RecoveryLoadCell, RecoveryLoadNumber, RecoveryLoadKind, RecoveryLoadStatus, RecoveryLoadRemove, RecoveryLoadEntryNode, RecoveryLoadRemovedValue, Flush as FlushPoint, Fence as FencePoint}
+use Rattle.words.specs.declared.limits.TheConstants.{STEPS_PER_RECORD}
+use Rattle.stepper.specs.Steps.{keep_steps}
+use Rattle.recover.specs.declared.keeping.RecoveryKeeping.{RecoveryKeeping}
 use Rattle.recover.specs.declared.keeping.RecoveryKeeping.TheVariants.{Status as KeepStatus, Result as KeepResult, Head as KeepHead, Tail as KeepTail}
 use Rattle.stepper.specs.declared.resume.After.{After}
 use Rattle.protocol.specs.Machine.{Memory, with_access}
-use Rattle.protocol.specs.Measure.{rest, steps_beyond, steps_on_arrival, steps_onward, steps_to_tell, weight}
+use Rattle.protocol.specs.Measure.{most_steps, rest, steps_beyond, steps_on_arrival, steps_onward, steps_to_tell, steps_to_tell_all, weight}
 use Rattle.arena.proofs.Chains.{rest_of, distinct}
 use Rattle.protocol.proofs.chain.Chains.{chain_like, few, linked_by, walked}
 use Rattle.protocol.specs.invariants.Sound.{Sound}
-use Rattle.protocol.specs.invariants.Recovery.{Same, SameBut, Ahead, At, AtPoint}
+use Rattle.protocol.specs.invariants.Recovery.{Same, SameBut, Ahead, At, AtKeeping, AtPoint}
 
 -- recovery has ended, or the number is less
 abbrev pub IsLess : Shape → (Place → ℕ) → After Recovery (List Told) → ℕ → Type 0
@@ -96,39 +99,39 @@ module _ (s : Shape) (m : Memory) (claimed waiting queue : List ℕ) (b : Sound 
       go false = tt
 
   -- the table's steps
-  next_less : Same m → (told : List Told) (cur : NodeId) (moved : Bool) → IsLessOn s m.cached told (successor s (RecoveryLoadNext (record { cur = cur; moved = moved })) (m.cached (Next cur))) (8 * rest s (links m.cached) cur.0 + steps_beyond moved + 8 * s.clients)
+  next_less : Same m → (told : List Told) (cur : NodeId) (moved : Bool) → IsLessOn s m.cached told (successor s (RecoveryLoadNext (record { cur = cur; moved = moved })) (m.cached (Next cur))) (weight s m.cached (RecoveryLoadNext (record { cur = cur; moved = moved })))
   next_less same told cur moved = go (m.cached (Next cur) == 0) refl
     where
-      ended : (moved : Bool) → weight s m.cached (point_at_the_end cur moved) < 8 * rest s (links m.cached) cur.0 + steps_beyond moved + 8 * s.clients
+      ended : (moved : Bool) → weight s m.cached (point_at_the_end cur moved) < weight s m.cached (RecoveryLoadNext (record { cur = cur; moved = moved }))
       ended true = omega arith
       ended false = omega arith
 
-      on : (n : NodeId) → rest s (links m.cached) cur.0 ≡ suc (rest s (links m.cached) n.0) → (kind : Kind) (moved : Bool) → weight s m.cached (to_node kind cur n moved) < 8 * rest s (links m.cached) cur.0 + steps_beyond moved + 8 * s.clients
+      on : (n : NodeId) → rest s (links m.cached) cur.0 ≡ suc (rest s (links m.cached) n.0) → (kind : Kind) (moved : Bool) → weight s m.cached (to_node kind cur n moved) < weight s m.cached (RecoveryLoadNext (record { cur = cur; moved = moved }))
       on n e Durable true = omega (arith, e)
       on n e Durable false = omega (arith, e)
       on n e Log true = omega (arith, e)
       on n e Log false = omega (arith, e)
 
-      go : (c : Bool) → (m.cached (Next cur) == 0) ≡ c → weight s m.cached (if c then point_at_the_end cur moved else to_node s.kind cur (node_at (m.cached (Next cur))) moved) < 8 * rest s (links m.cached) cur.0 + steps_beyond moved + 8 * s.clients
+      go : (c : Bool) → (m.cached (Next cur) == 0) ≡ c → weight s m.cached (if c then point_at_the_end cur moved else to_node s.kind cur (node_at (m.cached (Next cur))) moved) < weight s m.cached (RecoveryLoadNext (record { cur = cur; moved = moved }))
       go true e = ended moved
       go false e = on (node_at (m.cached (Next cur))) (rest_next (λ x. same (Next (node_of x))) cur.0 (eqb-false (m.cached (Next cur)) 0 e)) s.kind moved
 
-  past_less : (cur node : NodeId) (moved : Bool) → weight s m.cached (point_past_status cur node moved) < 8 * rest s (links m.cached) node.0 + steps_on_arrival moved + 1 + 8 * s.clients
+  past_less : (cur node : NodeId) (moved : Bool) → weight s m.cached (point_past_status cur node moved) < STEPS_PER_RECORD * rest s (links m.cached) node.0 + steps_on_arrival moved + 1 + steps_to_tell_all s
   past_less cur node true = omega arith
   past_less cur node false = omega arith
 
-  mark_less : (told : List Told) (cur node : NodeId) (found : ℕ) → IsLessOn s m.cached told (successor s (RecoveryLoadMark (record { cur = cur; node = node })) found) (8 * rest s (links m.cached) node.0 + 9 + 8 * s.clients)
+  mark_less : (told : List Told) (cur node : NodeId) (found : ℕ) → IsLessOn s m.cached told (successor s (RecoveryLoadMark (record { cur = cur; node = node })) found) (weight s m.cached (RecoveryLoadMark (record { cur = cur; node = node })))
   mark_less told cur node found = go (found == 0)
     where
-      to : (kind : Kind) → weight s m.cached (to_mark kind node (token_at found)) < 8 * rest s (links m.cached) node.0 + 9 + 8 * s.clients
+      to : (kind : Kind) → weight s m.cached (to_mark kind node (token_at found)) < weight s m.cached (RecoveryLoadMark (record { cur = cur; node = node }))
       to Durable = omega arith
       to Log = omega arith
 
-      go : (c : Bool) → weight s m.cached (if c then RecoveryStoreHead (record { cur = cur; unclaimed = Some node }) else to_mark s.kind node (token_at found)) < 8 * rest s (links m.cached) node.0 + 9 + 8 * s.clients
+      go : (c : Bool) → weight s m.cached (if c then RecoveryStoreHead (record { cur = cur; unclaimed = Some node }) else to_mark s.kind node (token_at found)) < weight s m.cached (RecoveryLoadMark (record { cur = cur; node = node }))
       go true = omega arith
       go false = to s.kind
 
-  head_less : (cur : NodeId) (unclaimed : Option NodeId) → weight s m.cached (past_head cur unclaimed) < steps_onward s (links m.cached) unclaimed + 3 + 8 * s.clients
+  head_less : (cur : NodeId) (unclaimed : Option NodeId) → weight s m.cached (past_head cur unclaimed) < steps_onward s (links m.cached) unclaimed + 2 + keep_steps + steps_to_tell_all s
   head_less cur None = omega arith
   head_less cur (Some n) = omega arith
 
@@ -167,7 +170,7 @@ module _ (s : Shape) (m : Memory) (claimed waiting queue : List ℕ) (b : Sound 
       go false = omega (arith, lt)
 
   store_less : (node : NodeId) (mark : Token) (value : ℕ) (kind : Kind) → s.kind ≡ kind
-      → weight s (with_access m (access_of kind (RecoveryStoreResult (record { node = node; mark = mark; value = value })))).cached (FlushPoint (KeepResult (record { node = node; mark = mark; value = value }))) < 8 * rest s (links m.cached) node.0 + 7 + 8 * s.clients
+      → weight s (with_access m (access_of kind (RecoveryStoreResult (record { node = node; mark = mark; value = value })))).cached (FlushPoint (KeepResult (record { node = node; mark = mark; value = value }))) < weight s m.cached (RecoveryStoreResult (record { node = node; mark = mark; value = value }))
   store_less node mark value Durable e = omega arith
   store_less node mark value Log e = omega arith
 
@@ -178,15 +181,16 @@ module _ (s : Shape) (m : Memory) (claimed waiting queue : List ℕ) (b : Sound 
   falls_at told (RecoveryLoadNext p) at = next_less at.0 told p.cur p.moved
   falls_at told (RecoveryLoadInsert p) at = omega arith
   falls_at told (RecoveryStoreStatus p) at = omega arith
-  falls_at told (FlushPoint (KeepStatus p)) at = past_less p.cur p.node p.moved
+  falls_at told (FlushPoint k) at = omega arith
+  falls_at told (FencePoint (KeepStatus p)) at = omega (arith, past_less p.cur p.node p.moved)
   falls_at told (RecoveryLoadMark p) at = mark_less told p.cur p.node (m.cached (Mark p.node))
   falls_at told (RecoveryLoadValue p) at = omega arith
   falls_at told (RecoveryStoreResult p) at = store_less p.node p.mark p.value s.kind refl
-  falls_at told (FlushPoint (KeepResult p)) at = omega arith
+  falls_at told (FencePoint (KeepResult p)) at = omega arith
   falls_at told (RecoveryStoreHead p) at = omega arith
-  falls_at told (FlushPoint (KeepHead p)) at = head_less p.cur p.unclaimed
+  falls_at told (FencePoint (KeepHead p)) at = omega (arith, head_less p.cur p.unclaimed)
   falls_at told (RecoveryStoreTail p) at = omega arith
-  falls_at told (FlushPoint (KeepTail p)) at = omega arith
+  falls_at told (FencePoint (KeepTail p)) at = omega arith
   falls_at told (RecoveryLoadAnnouncement p) at = announcement_less p.client told (m.cached (Announcement p.client)) at.1.below
   falls_at told (RecoveryLoadCell p) at = told_less p.client told (told_row (row_of (m.cached (Cell p.token)))) (steps_to_tell s p.client.0 - 1) at.1.below (omega (arith, at.1.below))
   falls_at told (RecoveryLoadNumber p) at = let lt : p.client.0 < s.clients = at.1.below in omega (arith, lt)
@@ -215,20 +219,28 @@ module _ (s : Shape) (m : Memory) (claimed waiting queue : List ℕ) (b : Sound 
   but_links : (t : Token) → SameBut m (Status t) → (x : ℕ) → links m.cached x ≡ links m.kept x
   but_links t same x = same (Next (node_of x)) (λ e. cc)
 
-  arriving_most : (moved : Bool) → steps_on_arrival moved ≤ 9
+  arriving_most : (moved : Bool) → steps_on_arrival moved ≤ steps_on_arrival false
   arriving_most true = omega arith
   arriving_most false = omega arith
 
-  beyond_most : (moved : Bool) → steps_beyond moved ≤ 5
+  beyond_most : (moved : Bool) → steps_beyond moved ≤ steps_beyond false
   beyond_most true = omega arith
   beyond_most false = omega arith
 
-  onward_most : (n : Option NodeId) → steps_onward s (links m.cached) n ≤ 8 * greatest s + 1
+  onward_most : (n : Option NodeId) → steps_onward s (links m.cached) n ≤ STEPS_PER_RECORD * greatest s + 1
   onward_most None = omega arith
   onward_most (Some n) = omega (arith, walk_most (greatest s) (links m.cached) n.0)
 
+  few_in_hand : (k : RecoveryKeeping) → AtKeeping s m claimed k → weight s m.cached (FlushPoint k) + 1 ≤ most_steps s
+  few_in_hand (KeepStatus p) a =
+      let less : suc (rest s (links m.cached) p.node.0) ≤ greatest s = ahead_less (but_links p.entry a.0) p.moved p.cur.0 p.node.0 a.2 in
+      omega (arith, less, arriving_most p.moved)
+  few_in_hand (KeepResult p) a = omega (arith, walk_most (greatest s) (links m.cached) p.node.0)
+  few_in_hand (KeepHead p) a = omega (arith, onward_most p.unclaimed)
+  few_in_hand (KeepTail p) a = omega arith
+
   -- wherever recovery is, it has no more steps left than at its beginning
-  few_at_point : (told : List Told) (at : RecoveryPoint) → AtPoint s m claimed waiting told at → weight s m.cached at + 1 ≤ 8 * greatest s + 8 * s.clients + 8
+  few_at_point : (told : List Told) (at : RecoveryPoint) → AtPoint s m claimed waiting told at → weight s m.cached at + 1 ≤ most_steps s
   few_at_point told (RecoveryLoadHead p) a = omega (arith, walk_most (greatest s) (links m.cached) (m.cached Head))
   few_at_point told (RecoveryLoadNext p) a = omega (arith, walk_most (greatest s) (links m.cached) p.cur.0, beyond_most p.moved)
   few_at_point told (RecoveryLoadInsert p) a =
@@ -237,21 +249,19 @@ module _ (s : Shape) (m : Memory) (claimed waiting queue : List ℕ) (b : Sound 
   few_at_point told (RecoveryStoreStatus p) a =
       let less : suc (rest s (links m.cached) p.node.0) ≤ greatest s = ahead_less (λ x. a.0 (Next (node_of x))) p.moved p.cur.0 p.node.0 a.1 in
       omega (arith, less, arriving_most p.moved)
-  few_at_point told (FlushPoint (KeepStatus p)) a =
-      let less : suc (rest s (links m.cached) p.node.0) ≤ greatest s = ahead_less (but_links p.entry a.0) p.moved p.cur.0 p.node.0 a.2 in
-      omega (arith, less, arriving_most p.moved)
   few_at_point told (RecoveryLoadMark p) a =
       let less : suc (rest s (links m.cached) p.node.0) ≤ greatest s = ahead_less (λ x. a.0 (Next (node_of x))) false p.cur.0 p.node.0 a.1 in
       omega (arith, less)
   few_at_point told (RecoveryLoadValue p) a =
       let less : suc (rest s (links m.cached) p.node.0) ≤ greatest s = ahead_less (λ x. a.0 (Next (node_of x))) false a.1.cur p.node.0 a.1.ahead in
       omega (arith, less)
-  few_at_point told (RecoveryStoreResult p) a = omega (arith, walk_most (greatest s) (links m.cached) p.node.0)
-  few_at_point told (FlushPoint (KeepResult p)) a = omega (arith, walk_most (greatest s) (links m.cached) p.node.0)
+  few_at_point told (RecoveryStoreResult p) a =
+      let less : suc (rest s (links m.cached) p.node.0) ≤ greatest s = ahead_less (λ x. a.0 (Next (node_of x))) false a.1.cur p.node.0 a.1.ahead in
+      omega (arith, less)
   few_at_point told (RecoveryStoreHead p) a = omega (arith, onward_most p.unclaimed)
-  few_at_point told (FlushPoint (KeepHead p)) a = omega (arith, onward_most p.unclaimed)
   few_at_point told (RecoveryStoreTail p) a = omega arith
-  few_at_point told (FlushPoint (KeepTail p)) a = omega arith
+  few_at_point told (FlushPoint k) a = few_in_hand k a
+  few_at_point told (FencePoint k) a = omega (arith, few_in_hand k a)
   few_at_point told (RecoveryLoadAnnouncement p) a = omega arith
   few_at_point told (RecoveryLoadCell p) a = omega arith
   few_at_point told (RecoveryLoadNumber p) a = omega arith
@@ -261,9 +271,9 @@ module _ (s : Shape) (m : Memory) (claimed waiting queue : List ℕ) (b : Sound 
   few_at_point told (RecoveryLoadEntryNode p) a = omega arith
   few_at_point told (RecoveryLoadRemovedValue p) a = omega arith
 
-  pub few_at : (r : Recovery) → At s m claimed waiting r → weight s m.cached r.at + 1 ≤ 8 * greatest s + 8 * s.clients + 8
+  pub few_at : (r : Recovery) → At s m claimed waiting r → weight s m.cached r.at + 1 ≤ most_steps s
   few_at r a = few_at_point r.told r.at a.point
 
 -- recovery takes so many steps from its beginning
-pub weight_most : (s : Shape) (c : Place → ℕ) → weight s c boot_recovery.at + 2 ≤ 8 * greatest s + 8 * s.clients + 8
+pub weight_most : (s : Shape) (c : Place → ℕ) → weight s c boot_recovery.at + 2 ≤ most_steps s
 weight_most s c = omega (arith, walk_most (greatest s) (links c) (c Head))

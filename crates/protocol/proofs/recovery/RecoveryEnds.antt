@@ -23,10 +23,11 @@ use Rattle.stepper.specs.declared.resume.After.TheVariants.{More, Done as Ready}
 use Rattle.recover.specs.declared.recovery.Recovery.{Recovery}
 use Rattle.recover.specs.declared.point.RecoveryPoint.{RecoveryPoint}
 use Rattle.recover.specs.declared.point.Report.{Report}
-use Rattle.recover.specs.declared.point.RecoveryPoint.TheVariants.{RecoveryLoadHead, RecoveryLoadNext, RecoveryLoadInsert, RecoveryStoreStatus, RecoveryLoadMark, RecoveryLoadValue, RecoveryStoreResult, RecoveryStoreHead, RecoveryStoreTail, RecoveryLoadAnnouncement, RecoveryLoadCell, RecoveryLoadNumber, RecoveryLoadKind, RecoveryLoadStatus, RecoveryLoadRemove, RecoveryLoadEntryNode, RecoveryLoadRemovedValue, Flush as FlushPoint}
+use Rattle.recover.specs.declared.point.RecoveryPoint.TheVariants.{RecoveryLoadHead, RecoveryLoadNext, RecoveryLoadInsert, RecoveryStoreStatus, RecoveryLoadMark, RecoveryLoadValue, RecoveryStoreResult, RecoveryStoreHead, RecoveryStoreTail, RecoveryLoadAnnouncement, RecoveryLoadCell, RecoveryLoadNumber, RecoveryLoadKind, RecoveryLoadStatus, RecoveryLoadRemove, RecoveryLoadEntryNode, RecoveryLoadRemovedValue, Flush as FlushPoint, Fence as FencePoint}
+use Rattle.recover.specs.declared.keeping.RecoveryKeeping.{RecoveryKeeping}
 use Rattle.recover.specs.declared.keeping.RecoveryKeeping.TheVariants.{Status as KeepStatus, Result as KeepResult, Head as KeepHead, Tail as KeepTail}
 use Rattle.stepper.specs.declared.resume.After.{After}
-use Rattle.protocol.specs.Machine.{Memory, put, with_store, with_flush}
+use Rattle.protocol.specs.Machine.{Memory, put, with_store, with_fence}
 use Rattle.recover.specs.Sound.{IsIssued}
 use Rattle.protocol.specs.Kept.{TellsOf}
 use Rattle.protocol.specs.Recovered.{end_of}
@@ -34,7 +35,7 @@ use Rattle.arena.proofs.Chains.{in_left, same_chain, in_end_cases}
 use Rattle.protocol.proofs.chain.Chains.{in_end_of, linked_by, leads_from}
 use Rattle.protocol.specs.invariants.Places.{IsOwnWord, IsAnswer, IsOfKind, SaysEmpty}
 use Rattle.protocol.proofs.changes.Puts.{put_cases, put_same, put_other, put_id}
-use Rattle.protocol.proofs.changes.Flushes.{cell_says, status_says}
+use Rattle.protocol.proofs.changes.Fences.{cell_says, status_says}
 use Rattle.protocol.proofs.calls.Stable.{result_own, empty_number}
 use Rattle.protocol.proofs.changes.Stores.{result_answer, result_number}
 use Rattle.protocol.specs.invariants.Records.{Both, IsPath, IsAnswered, AnsweredTo, CellRight}
@@ -42,7 +43,7 @@ use Rattle.protocol.proofs.records.Records.{path_longer, end_longer, answered_ne
 use Rattle.protocol.proofs.records.RecordStores.{entry_stored, one_two, result_node}
 use Rattle.protocol.specs.invariants.Sound.{memory_at_rest, Sound}
 use Rattle.protocol.proofs.recovery.Recovering.{put_tells, MayKeep, put_sound, put_ahead, put_claim, put_last, put_last_node, status_may, head_may, tail_may, node_fits}
-use Rattle.protocol.specs.invariants.Recovery.{Same, SameBut, TakenTo, Position, Ahead, Claim, LastClaimed, LastNode, At, AtPoint, nothing_told}
+use Rattle.protocol.specs.invariants.Recovery.{Same, SameBut, TakenTo, Position, Ahead, Claim, LastClaimed, LastNode, At, AtKeeping, AtPoint, nothing_told}
 
 -- where a result belongs does not depend on the value, and what it is does in a durable queue alone
 result_place : (kind : Kind) (t : Token) (n : NodeId) (v x : ℕ) → (result_of kind t n v).place ≡ (result_of kind t n x).place
@@ -229,7 +230,7 @@ RecoversOn s m claimed waiting queue told (More at) = RecoversAt s m claimed wai
 RecoversOn s m claimed waiting queue told (Ready report) = RecoversNext s m claimed waiting queue (after_report s told report)
 
 -- the word in hand is kept
-same_after : (m : Memory) (p : Place) → SameBut m p → Same (with_flush m p)
+same_after : (m : Memory) (p : Place) → SameBut m p → Same (with_fence m p)
 same_after m p h q = elim (put_cases m.kept p (m.cached p) q) [ inl t ↦ ap m.cached t.0 ∙ sym t.1 | inr t ↦ h q t.0 ∙ sym t.1 ]
 
 -- a word is stored where every word is kept
@@ -239,24 +240,24 @@ but_stored m p v h q ne = put_other m.cached p v q ne ∙ h q
 module _ (s : Shape) (m : Memory) (claimed waiting queue : List ℕ) (b : Sound s m.kept claimed waiting queue) where
   -- what one kept word in hand leaves
   module _ (p : Place) (v : ℕ) (now : m.cached p ≡ v) (may : MayKeep s m.kept p v) where
-    is_put : put m.kept p v ≡ (with_flush m p).kept
+    is_put : put m.kept p v ≡ (with_fence m p).kept
     is_put = ap (put m.kept p) (sym now)
 
-    hand_sound : Sound s (with_flush m p).kept claimed waiting queue
+    hand_sound : Sound s (with_fence m p).kept claimed waiting queue
     hand_sound = subst (λ k. Sound s k claimed waiting queue) is_put (put_sound s m.kept p v may claimed waiting queue b)
 
   kept_status : (cur node entry : ℕ) (moved : Bool) → SameBut m (Status (token_of entry)) → m.cached (Status (token_of entry)) ≡ 1 → Ahead s m.kept claimed moved cur node → s.kind ≡ Log → entry ≡ node
-      → Sound s (with_flush m (Status (token_of entry))).kept claimed waiting queue × Ahead s (with_flush m (Status (token_of entry))).kept claimed moved cur node × (statuses (with_flush m (Status (token_of entry))).kept node ≡ 1)
+      → Sound s (with_fence m (Status (token_of entry))).kept claimed waiting queue × Ahead s (with_fence m (Status (token_of entry))).kept claimed moved cur node × (statuses (with_fence m (Status (token_of entry))).kept node ≡ 1)
   kept_status cur node entry moved but now a log same =
       let may : MayKeep s m.kept (Status (token_of entry)) 1 = subst (λ x. MayKeep s m.kept (Status (token_of x)) 1) (sym same) (status_may s m.kept claimed waiting queue b cur node a.link a.some log) in (
         hand_sound (Status (token_of entry)) 1 now may,
         subst (λ k. Ahead s k claimed moved cur node) (is_put (Status (token_of entry)) 1 now may) (put_ahead s m.kept (Status (token_of entry)) 1 may claimed moved cur node refl a),
-        ap (statuses (with_flush m (Status (token_of entry))).kept) (sym same) ∙ put_same m.kept (Status (token_of entry)) (m.cached (Status (token_of entry))) ∙ now,
+        ap (statuses (with_fence m (Status (token_of entry))).kept) (sym same) ∙ put_same m.kept (Status (token_of entry)) (m.cached (Status (token_of entry))) ∙ now,
       )
 
   kept_result : (node : NodeId) (mark : Token) (v : ℕ) → m.cached (result_of s.kind mark node v).place ≡ (result_of s.kind mark node v).value → Claim s m.kept claimed node.0 mark.0 → (s.kind ≡ Durable → v ≡ values m.kept node.0)
-      → Sound s (with_flush m (result_of s.kind mark node v).place).kept claimed waiting queue × Claim s (with_flush m (result_of s.kind mark node v).place).kept claimed node.0 mark.0
-      × (s.kind ≡ Durable → v ≡ values (with_flush m (result_of s.kind mark node v).place).kept node.0)
+      → Sound s (with_fence m (result_of s.kind mark node v).place).kept claimed waiting queue × Claim s (with_fence m (result_of s.kind mark node v).place).kept claimed node.0 mark.0
+      × (s.kind ≡ Durable → v ≡ values (with_fence m (result_of s.kind mark node v).place).kept node.0)
   kept_result node mark v now c value =
       let may : MayKeep s m.kept (result_of s.kind mark node v).place (result_of s.kind mark node v).value = result_may s m.kept claimed waiting queue b node mark v c value in
       let head : put m.kept (result_of s.kind mark node v).place (result_of s.kind mark node v).value Head ≡ m.kept Head =
@@ -267,13 +268,13 @@ module _ (s : Shape) (m : Memory) (claimed waiting queue : List ℕ) (b : Sound 
         λ d. value d ∙ sym (put_other m.kept (result_of s.kind mark node v).place (m.cached (result_of s.kind mark node v).place) (Value node) (λ e. subst IsAnswer (sym e) (result_answer s.kind mark node v))),
       )
 
-  kept_head : (cur : ℕ) (n : Option NodeId) → m.cached Head ≡ cur → LastClaimed s m.kept claimed cur n → Sound s (with_flush m Head).kept claimed waiting queue × LastClaimed s (with_flush m Head).kept claimed cur n
+  kept_head : (cur : ℕ) (n : Option NodeId) → m.cached Head ≡ cur → LastClaimed s m.kept claimed cur n → Sound s (with_fence m Head).kept claimed waiting queue × LastClaimed s (with_fence m Head).kept claimed cur n
   kept_head cur n now l =
       let fit : cur ≤ greatest s = node_fits s m.kept claimed waiting queue b cur (in_left cur (0 ∷ claimed) waiting (answered_among s m.kept claimed waiting queue b cur l.answered)) in
       let may : MayKeep s m.kept Head cur = head_may s m.kept claimed waiting queue b cur l.answered fit in
       (hand_sound Head cur now may, subst (λ k. LastClaimed s k claimed cur n) (is_put Head cur now may) (put_last s m.kept Head cur may claimed cur n l))
 
-  kept_tail : (cur : ℕ) → m.cached Tail ≡ cur → LastNode s m.kept claimed cur → Sound s (with_flush m Tail).kept claimed waiting queue × LastNode s (with_flush m Tail).kept claimed cur
+  kept_tail : (cur : ℕ) → m.cached Tail ≡ cur → LastNode s m.kept claimed cur → Sound s (with_fence m Tail).kept claimed waiting queue × LastNode s (with_fence m Tail).kept claimed cur
   kept_tail cur now l =
       let last : record { passed : (s.kind ≡ Log → (n : ℕ) → IsAmong n waiting → statuses m.kept n ≡ 1); at : cur ≡ end_of 0 (claimed ++ waiting) } = last_all s m.kept claimed waiting queue b cur l in
       let among : IsAmong cur (0 ∷ claimed ++ waiting) = subst (λ x. IsAmong x (0 ∷ claimed ++ waiting)) (sym last.at) (in_end_of 0 (claimed ++ waiting)) in
@@ -281,52 +282,61 @@ module _ (s : Shape) (m : Memory) (claimed waiting queue : List ℕ) (b : Sound 
       let may : MayKeep s m.kept Tail cur = tail_may s m.kept claimed waiting queue b cur (leads_from (links m.kept) 0 (claimed ++ waiting) cur b.chain among) fit in
       (hand_sound Tail cur now may, subst (λ k. LastNode s k claimed cur) (is_put Tail cur now may) (put_last_node s m.kept Tail cur may claimed cur refl l))
 
-  but_flushed : (p : Place) → SameBut m p → SameBut (with_flush m p) p
-  but_flushed p h q ne = same_after m p h q
+  but_fenced : (p : Place) → SameBut m p → SameBut (with_fence m p) p
+  but_fenced p h q ne = same_after m p h q
 
   module _ (told : List Told) where
+    -- what holds where it is about to keep a word
+    record KeptInHand (n : Memory) (k : RecoveryKeeping) : Type 0 where
+      sound : Sound s n.kept claimed waiting queue
+      at : AtKeeping s n claimed k
+
     -- the word in hand is kept by the environment
-    keep_new : (p : Place) → m.kept p ≢ m.cached p → (at : RecoveryPoint) → AtPoint s m claimed waiting told at → RecoversAt s (with_flush m p) claimed waiting queue told at
+    keep_in_hand : (p : Place) → m.kept p ≢ m.cached p → (k : RecoveryKeeping) → AtKeeping s m claimed k → KeptInHand (with_fence m p) k
+    keep_in_hand p ne (KeepStatus q) a = elim (put_cases m.kept (Status q.entry) 0 p) [
+      | inl t ↦
+          let r : Sound s (with_fence m (Status q.entry)).kept claimed waiting queue × Ahead s (with_fence m (Status q.entry)).kept claimed q.moved q.cur.0 q.node.0 × (statuses (with_fence m (Status q.entry)).kept q.node.0 ≡ 1) =
+          kept_status q.cur.0 q.node.0 q.entry.0 q.moved a.0 a.1 a.2 a.3 a.4 in
+          let now : KeptInHand (with_fence m (Status q.entry)) (KeepStatus q) = record { sound = r.0; at = (but_fenced (Status q.entry) a.0, a.1, r.1, a.3, a.4) } in
+          subst (λ x. KeptInHand (with_fence m x) (KeepStatus q)) (sym t.0) now
+      | inr t ↦ absurd (ne (sym (a.0 p t.0)))
+    ]
+    keep_in_hand p ne (KeepResult q) a = elim (put_cases m.kept (result_of s.kind q.mark q.node q.value).place 0 p) [
+      | inl t ↦
+          let r : Sound s (with_fence m (result_of s.kind q.mark q.node q.value).place).kept claimed waiting queue × Claim s (with_fence m (result_of s.kind q.mark q.node q.value).place).kept claimed q.node.0 q.mark.0
+          × (s.kind ≡ Durable → q.value ≡ values (with_fence m (result_of s.kind q.mark q.node q.value).place).kept q.node.0) = kept_result q.node q.mark q.value a.1 a.2 a.3 in
+          let now : KeptInHand (with_fence m (result_of s.kind q.mark q.node q.value).place) (KeepResult q) =
+          record { sound = r.0; at = (but_fenced (result_of s.kind q.mark q.node q.value).place a.0, a.1, r.1, r.2, a.4) } in
+          subst (λ x. KeptInHand (with_fence m x) (KeepResult q)) (sym t.0) now
+      | inr t ↦ absurd (ne (sym (a.0 p t.0)))
+    ]
+    keep_in_hand p ne (KeepHead q) a = elim (put_cases m.kept Head 0 p) [
+      | inl t ↦
+          let r : Sound s (with_fence m Head).kept claimed waiting queue × LastClaimed s (with_fence m Head).kept claimed q.cur.0 q.unclaimed = kept_head q.cur.0 q.unclaimed a.1 a.2 in
+          let now : KeptInHand (with_fence m Head) (KeepHead q) = record { sound = r.0; at = (but_fenced Head a.0, a.1, r.1) } in
+          subst (λ x. KeptInHand (with_fence m x) (KeepHead q)) (sym t.0) now
+      | inr t ↦ absurd (ne (sym (a.0 p t.0)))
+    ]
+    keep_in_hand p ne (KeepTail q) a = elim (put_cases m.kept Tail 0 p) [
+      | inl t ↦
+          let r : Sound s (with_fence m Tail).kept claimed waiting queue × LastNode s (with_fence m Tail).kept claimed a.1.cur = kept_tail a.1.cur a.1.cached a.1.last in
+          let now : KeptInHand (with_fence m Tail) (KeepTail q) = record { sound = r.0; at = (but_fenced Tail a.0, record { cur = a.1.cur; last = r.1; cached = a.1.cached }) } in
+          subst (λ x. KeptInHand (with_fence m x) (KeepTail q)) (sym t.0) now
+      | inr t ↦ absurd (ne (sym (a.0 p t.0)))
+    ]
+
+    keep_new : (p : Place) → m.kept p ≢ m.cached p → (at : RecoveryPoint) → AtPoint s m claimed waiting told at → RecoversAt s (with_fence m p) claimed waiting queue told at
     keep_new p ne (RecoveryLoadHead q) a = absurd (ne (sym (a p)))
     keep_new p ne (RecoveryLoadNext q) a = absurd (ne (sym (a.0 p)))
     keep_new p ne (RecoveryLoadInsert q) a = absurd (ne (sym (a.0 p)))
     keep_new p ne (RecoveryStoreStatus q) a = absurd (ne (sym (a.0 p)))
-    keep_new p ne (FlushPoint (KeepStatus q)) a = elim (put_cases m.kept (Status q.entry) 0 p) [
-      | inl t ↦
-          let r : Sound s (with_flush m (Status q.entry)).kept claimed waiting queue × Ahead s (with_flush m (Status q.entry)).kept claimed q.moved q.cur.0 q.node.0 × (statuses (with_flush m (Status q.entry)).kept q.node.0 ≡ 1) =
-          kept_status q.cur.0 q.node.0 q.entry.0 q.moved a.0 a.1 a.2 a.3 a.4 in
-          let now : RecoversAt s (with_flush m (Status q.entry)) claimed waiting queue told (FlushPoint (KeepStatus q)) = record { sound = r.0; at = (but_flushed (Status q.entry) a.0, a.1, r.1, a.3, a.4) } in
-          subst (λ x. RecoversAt s (with_flush m x) claimed waiting queue told (FlushPoint (KeepStatus q))) (sym t.0) now
-      | inr t ↦ absurd (ne (sym (a.0 p t.0)))
-    ]
     keep_new p ne (RecoveryLoadMark q) a = absurd (ne (sym (a.0 p)))
     keep_new p ne (RecoveryLoadValue q) a = absurd (ne (sym (a.0 p)))
     keep_new p ne (RecoveryStoreResult q) a = absurd (ne (sym (a.0 p)))
-    keep_new p ne (FlushPoint (KeepResult q)) a = elim (put_cases m.kept (result_of s.kind q.mark q.node q.value).place 0 p) [
-      | inl t ↦
-          let r : Sound s (with_flush m (result_of s.kind q.mark q.node q.value).place).kept claimed waiting queue × Claim s (with_flush m (result_of s.kind q.mark q.node q.value).place).kept claimed q.node.0 q.mark.0
-          × (s.kind ≡ Durable → q.value ≡ values (with_flush m (result_of s.kind q.mark q.node q.value).place).kept q.node.0) = kept_result q.node q.mark q.value a.1 a.2 a.3 in
-          let now : RecoversAt s (with_flush m (result_of s.kind q.mark q.node q.value).place) claimed waiting queue told (FlushPoint (KeepResult q)) =
-          record { sound = r.0; at = (but_flushed (result_of s.kind q.mark q.node q.value).place a.0, a.1, r.1, r.2, a.4) } in
-          subst (λ x. RecoversAt s (with_flush m x) claimed waiting queue told (FlushPoint (KeepResult q))) (sym t.0) now
-      | inr t ↦ absurd (ne (sym (a.0 p t.0)))
-    ]
     keep_new p ne (RecoveryStoreHead q) a = absurd (ne (sym (a.0 p)))
-    keep_new p ne (FlushPoint (KeepHead q)) a = elim (put_cases m.kept Head 0 p) [
-      | inl t ↦
-          let r : Sound s (with_flush m Head).kept claimed waiting queue × LastClaimed s (with_flush m Head).kept claimed q.cur.0 q.unclaimed = kept_head q.cur.0 q.unclaimed a.1 a.2 in
-          let now : RecoversAt s (with_flush m Head) claimed waiting queue told (FlushPoint (KeepHead q)) = record { sound = r.0; at = (but_flushed Head a.0, a.1, r.1) } in
-          subst (λ x. RecoversAt s (with_flush m x) claimed waiting queue told (FlushPoint (KeepHead q))) (sym t.0) now
-      | inr t ↦ absurd (ne (sym (a.0 p t.0)))
-    ]
     keep_new p ne (RecoveryStoreTail q) a = absurd (ne (sym (a.0 p)))
-    keep_new p ne (FlushPoint (KeepTail q)) a = elim (put_cases m.kept Tail 0 p) [
-      | inl t ↦
-          let r : Sound s (with_flush m Tail).kept claimed waiting queue × LastNode s (with_flush m Tail).kept claimed a.1.cur = kept_tail a.1.cur a.1.cached a.1.last in
-          let now : RecoversAt s (with_flush m Tail) claimed waiting queue told (FlushPoint (KeepTail q)) = record { sound = r.0; at = (but_flushed Tail a.0, record { cur = a.1.cur; last = r.1; cached = a.1.cached }) } in
-          subst (λ x. RecoversAt s (with_flush m x) claimed waiting queue told (FlushPoint (KeepTail q))) (sym t.0) now
-      | inr t ↦ absurd (ne (sym (a.0 p t.0)))
-    ]
+    keep_new p ne (FlushPoint k) a = let r = keep_in_hand p ne k a in record { sound = r.sound; at = r.at }
+    keep_new p ne (FencePoint k) a = let r = keep_in_hand p ne k a in record { sound = r.sound; at = r.at }
     keep_new p ne (RecoveryLoadAnnouncement q) a = absurd (ne (sym (a.0 p)))
     keep_new p ne (RecoveryLoadCell q) a = absurd (ne (sym (a.0 p)))
     keep_new p ne (RecoveryLoadNumber q) a = absurd (ne (sym (a.0 p)))
@@ -337,34 +347,25 @@ module _ (s : Shape) (m : Memory) (claimed waiting queue : List ℕ) (b : Sound 
     keep_new p ne (RecoveryLoadRemovedValue q) a = absurd (ne (sym (a.0 p)))
 
     -- the word in hand may be kept
-    hand_may_at : (p : Place) → m.kept p ≢ m.cached p → (at : RecoveryPoint) → AtPoint s m claimed waiting told at → MayKeep s m.kept p (m.cached p)
-    hand_may_at p ne (RecoveryLoadHead q) a = absurd (ne (sym (a p)))
-    hand_may_at p ne (RecoveryLoadNext q) a = absurd (ne (sym (a.0 p)))
-    hand_may_at p ne (RecoveryLoadInsert q) a = absurd (ne (sym (a.0 p)))
-    hand_may_at p ne (RecoveryStoreStatus q) a = absurd (ne (sym (a.0 p)))
-    hand_may_at p ne (FlushPoint (KeepStatus q)) a = elim (put_cases m.kept (Status q.entry) 0 p) [
+    hand_may_in : (p : Place) → m.kept p ≢ m.cached p → (k : RecoveryKeeping) → AtKeeping s m claimed k → MayKeep s m.kept p (m.cached p)
+    hand_may_in p ne (KeepStatus q) a = elim (put_cases m.kept (Status q.entry) 0 p) [
       | inl t ↦
           let may : MayKeep s m.kept (Status (token_of q.entry.0)) 1 = subst (λ x. MayKeep s m.kept (Status (token_of x)) 1) (sym a.4) (status_may s m.kept claimed waiting queue b q.cur.0 q.node.0 a.2.link a.2.some a.3) in
           subst (λ x. MayKeep s m.kept x (m.cached x)) (sym t.0) (subst (MayKeep s m.kept (Status q.entry)) (sym a.1) may)
       | inr t ↦ absurd (ne (sym (a.0 p t.0)))
     ]
-    hand_may_at p ne (RecoveryLoadMark q) a = absurd (ne (sym (a.0 p)))
-    hand_may_at p ne (RecoveryLoadValue q) a = absurd (ne (sym (a.0 p)))
-    hand_may_at p ne (RecoveryStoreResult q) a = absurd (ne (sym (a.0 p)))
-    hand_may_at p ne (FlushPoint (KeepResult q)) a = elim (put_cases m.kept (result_of s.kind q.mark q.node q.value).place 0 p) [
+    hand_may_in p ne (KeepResult q) a = elim (put_cases m.kept (result_of s.kind q.mark q.node q.value).place 0 p) [
       | inl t ↦ subst (λ x. MayKeep s m.kept x (m.cached x)) (sym t.0)
           (subst (MayKeep s m.kept (result_of s.kind q.mark q.node q.value).place) (sym a.1) (result_may s m.kept claimed waiting queue b q.node q.mark q.value a.2 a.3))
       | inr t ↦ absurd (ne (sym (a.0 p t.0)))
     ]
-    hand_may_at p ne (RecoveryStoreHead q) a = absurd (ne (sym (a.0 p)))
-    hand_may_at p ne (FlushPoint (KeepHead q)) a = elim (put_cases m.kept Head 0 p) [
+    hand_may_in p ne (KeepHead q) a = elim (put_cases m.kept Head 0 p) [
       | inl t ↦
           let fit : q.cur.0 ≤ greatest s = node_fits s m.kept claimed waiting queue b q.cur.0 (in_left q.cur.0 (0 ∷ claimed) waiting (answered_among s m.kept claimed waiting queue b q.cur.0 a.2.answered)) in
           subst (λ x. MayKeep s m.kept x (m.cached x)) (sym t.0) (subst (MayKeep s m.kept Head) (sym a.1) (head_may s m.kept claimed waiting queue b q.cur.0 a.2.answered fit))
       | inr t ↦ absurd (ne (sym (a.0 p t.0)))
     ]
-    hand_may_at p ne (RecoveryStoreTail q) a = absurd (ne (sym (a.0 p)))
-    hand_may_at p ne (FlushPoint (KeepTail q)) a = elim (put_cases m.kept Tail 0 p) [
+    hand_may_in p ne (KeepTail q) a = elim (put_cases m.kept Tail 0 p) [
       | inl t ↦
           let last : record { passed : (s.kind ≡ Log → (n : ℕ) → IsAmong n waiting → statuses m.kept n ≡ 1); at : a.1.cur ≡ end_of 0 (claimed ++ waiting) } = last_all s m.kept claimed waiting queue b a.1.cur a.1.last in
           let among : IsAmong a.1.cur (0 ∷ claimed ++ waiting) = subst (λ x. IsAmong x (0 ∷ claimed ++ waiting)) (sym last.at) (in_end_of 0 (claimed ++ waiting)) in
@@ -373,6 +374,19 @@ module _ (s : Shape) (m : Memory) (claimed waiting queue : List ℕ) (b : Sound 
           (subst (MayKeep s m.kept Tail) (sym a.1.cached) (tail_may s m.kept claimed waiting queue b a.1.cur (leads_from (links m.kept) 0 (claimed ++ waiting) a.1.cur b.chain among) fit))
       | inr t ↦ absurd (ne (sym (a.0 p t.0)))
     ]
+
+    hand_may_at : (p : Place) → m.kept p ≢ m.cached p → (at : RecoveryPoint) → AtPoint s m claimed waiting told at → MayKeep s m.kept p (m.cached p)
+    hand_may_at p ne (RecoveryLoadHead q) a = absurd (ne (sym (a p)))
+    hand_may_at p ne (RecoveryLoadNext q) a = absurd (ne (sym (a.0 p)))
+    hand_may_at p ne (RecoveryLoadInsert q) a = absurd (ne (sym (a.0 p)))
+    hand_may_at p ne (RecoveryStoreStatus q) a = absurd (ne (sym (a.0 p)))
+    hand_may_at p ne (RecoveryLoadMark q) a = absurd (ne (sym (a.0 p)))
+    hand_may_at p ne (RecoveryLoadValue q) a = absurd (ne (sym (a.0 p)))
+    hand_may_at p ne (RecoveryStoreResult q) a = absurd (ne (sym (a.0 p)))
+    hand_may_at p ne (RecoveryStoreHead q) a = absurd (ne (sym (a.0 p)))
+    hand_may_at p ne (RecoveryStoreTail q) a = absurd (ne (sym (a.0 p)))
+    hand_may_at p ne (FlushPoint k) a = hand_may_in p ne k a
+    hand_may_at p ne (FencePoint k) a = hand_may_in p ne k a
     hand_may_at p ne (RecoveryLoadAnnouncement q) a = absurd (ne (sym (a.0 p)))
     hand_may_at p ne (RecoveryLoadCell q) a = absurd (ne (sym (a.0 p)))
     hand_may_at p ne (RecoveryLoadNumber q) a = absurd (ne (sym (a.0 p)))
@@ -394,10 +408,10 @@ module _ (s : Shape) (m : Memory) (claimed waiting queue : List ℕ) (b : Sound 
   ]
 
   -- any word is kept by the environment
-  pub keep_at : (p : Place) (r : Recovery) → At s m claimed waiting r → Recovers s (with_flush m p) claimed waiting queue r
+  pub keep_at : (p : Place) (r : Recovery) → At s m claimed waiting r → Recovers s (with_fence m p) claimed waiting queue r
   keep_at p r a = elim (cases_eq (m.kept p) (m.cached p)) [
     | inl e ↦
-        let same : m ≡ with_flush m p = ap (λ (f : Place → ℕ). let n : Memory = record { cached = m.cached; kept = f } in n) (sym (put_id m.kept p (m.cached p) (sym e))) in
+        let same : m ≡ with_fence m p = ap (λ (f : Place → ℕ). let n : Memory = record { cached = m.cached; kept = f } in n) (sym (put_id m.kept p (m.cached p) (sym e))) in
         subst (λ n. Recovers s n claimed waiting queue r) same (record { sound = b; at = a })
     | inr ne ↦ let new = keep_new r.told p ne r.at a.point in record { sound = new.sound; at = record { untold = a.untold; point = new.at } }
   ]
@@ -449,75 +463,75 @@ module _ (s : Shape) (m : Memory) (claimed waiting queue : List ℕ) (b : Sound 
         )
         go false e = onward (token_at (m.cached (Mark node))) mark (eqb-false (m.cached (Mark node)) 0 e) s.kind refl
 
-    pub row_KeepStatus : (cur node : NodeId) (entry : Token) (moved : Bool) → AtPoint s m claimed waiting told (FlushPoint (KeepStatus (record { cur = cur; node = node; entry = entry; moved = moved })))
-        → RecoversAt s (with_flush m (Status entry)) claimed waiting queue told (point_past_status cur node moved)
+    pub row_KeepStatus : (cur node : NodeId) (entry : Token) (moved : Bool) → AtPoint s m claimed waiting told (FencePoint (KeepStatus (record { cur = cur; node = node; entry = entry; moved = moved })))
+        → RecoversAt s (with_fence m (Status entry)) claimed waiting queue told (point_past_status cur node moved)
     row_KeepStatus cur node entry moved a =
-        let r : Sound s (with_flush m (Status entry)).kept claimed waiting queue × Ahead s (with_flush m (Status entry)).kept claimed moved cur.0 node.0 × (statuses (with_flush m (Status entry)).kept node.0 ≡ 1) =
+        let r : Sound s (with_fence m (Status entry)).kept claimed waiting queue × Ahead s (with_fence m (Status entry)).kept claimed moved cur.0 node.0 × (statuses (with_fence m (Status entry)).kept node.0 ≡ 1) =
         kept_status cur.0 node.0 entry.0 moved a.0 a.1 a.2 a.3 a.4 in
         go moved r.1
       where
-        now : Sound s (with_flush m (Status entry)).kept claimed waiting queue × (statuses (with_flush m (Status entry)).kept node.0 ≡ 1)
-        now = let r : Sound s (with_flush m (Status entry)).kept claimed waiting queue × Ahead s (with_flush m (Status entry)).kept claimed moved cur.0 node.0 × (statuses (with_flush m (Status entry)).kept node.0 ≡ 1) =
+        now : Sound s (with_fence m (Status entry)).kept claimed waiting queue × (statuses (with_fence m (Status entry)).kept node.0 ≡ 1)
+        now = let r : Sound s (with_fence m (Status entry)).kept claimed waiting queue × Ahead s (with_fence m (Status entry)).kept claimed moved cur.0 node.0 × (statuses (with_fence m (Status entry)).kept node.0 ≡ 1) =
             kept_status cur.0 node.0 entry.0 moved a.0 a.1 a.2 a.3 a.4 in (r.0, r.2)
 
-        go : (moved : Bool) → Ahead s (with_flush m (Status entry)).kept claimed moved cur.0 node.0 → RecoversAt s (with_flush m (Status entry)) claimed waiting queue told (point_past_status cur node moved)
-        go true h = record { sound = now.0; at = (same_after m (Status entry) a.0, taken_next s (with_flush m (Status entry)).kept claimed waiting queue now.0 cur.0 node.0 h.position h.link h.some (λ l. now.1)) }
+        go : (moved : Bool) → Ahead s (with_fence m (Status entry)).kept claimed moved cur.0 node.0 → RecoversAt s (with_fence m (Status entry)) claimed waiting queue told (point_past_status cur node moved)
+        go true h = record { sound = now.0; at = (same_after m (Status entry) a.0, taken_next s (with_fence m (Status entry)).kept claimed waiting queue now.0 cur.0 node.0 h.position h.link h.some (λ l. now.1)) }
         go false h = record { sound = now.0; at = (same_after m (Status entry) a.0, h, λ l. now.1) }
 
-    pub row_KeepResult : (node : NodeId) (mark : Token) (v : ℕ) → AtPoint s m claimed waiting told (FlushPoint (KeepResult (record { node = node; mark = mark; value = v })))
-        → RecoversAt s (with_flush m (result_of s.kind mark node v).place) claimed waiting queue told (RecoveryLoadNext (record { cur = node; moved = false }))
+    pub row_KeepResult : (node : NodeId) (mark : Token) (v : ℕ) → AtPoint s m claimed waiting told (FencePoint (KeepResult (record { node = node; mark = mark; value = v })))
+        → RecoversAt s (with_fence m (result_of s.kind mark node v).place) claimed waiting queue told (RecoveryLoadNext (record { cur = node; moved = false }))
     row_KeepResult node mark v a =
         let p : Place = (result_of s.kind mark node v).place in
-        let r : Sound s (with_flush m (result_of s.kind mark node v).place).kept claimed waiting queue × Claim s (with_flush m (result_of s.kind mark node v).place).kept claimed node.0 mark.0
-        × (s.kind ≡ Durable → v ≡ values (with_flush m (result_of s.kind mark node v).place).kept node.0) = kept_result node mark v a.1 a.2 a.3 in
-        let k : Place → ℕ = (with_flush m (result_of s.kind mark node v).place).kept in
-        let x : ℕ = values (with_flush m (result_of s.kind mark node v).place).kept node.0 in
-        let at : (with_flush m (result_of s.kind mark node v).place).kept (result_of s.kind mark node v).place ≡ (result_of s.kind mark node v).value =
+        let r : Sound s (with_fence m (result_of s.kind mark node v).place).kept claimed waiting queue × Claim s (with_fence m (result_of s.kind mark node v).place).kept claimed node.0 mark.0
+        × (s.kind ≡ Durable → v ≡ values (with_fence m (result_of s.kind mark node v).place).kept node.0) = kept_result node mark v a.1 a.2 a.3 in
+        let k : Place → ℕ = (with_fence m (result_of s.kind mark node v).place).kept in
+        let x : ℕ = values (with_fence m (result_of s.kind mark node v).place).kept node.0 in
+        let at : (with_fence m (result_of s.kind mark node v).place).kept (result_of s.kind mark node v).place ≡ (result_of s.kind mark node v).value =
         put_same m.kept (result_of s.kind mark node v).place (m.cached (result_of s.kind mark node v).place) ∙ a.1 in
-        let right : (with_flush m (result_of s.kind mark node v).place).kept (result_of s.kind mark node (values (with_flush m (result_of s.kind mark node v).place).kept node.0)).place
-        ≡ (result_of s.kind mark node (values (with_flush m (result_of s.kind mark node v).place).kept node.0)).value =
-        ap (with_flush m (result_of s.kind mark node v).place).kept (result_place s.kind mark node (values (with_flush m (result_of s.kind mark node v).place).kept node.0) v) ∙ at
-        ∙ result_value s.kind mark node v (values (with_flush m (result_of s.kind mark node v).place).kept node.0) r.2 in
-        let answered : IsAnswered s (memory_at_rest (with_flush m (result_of s.kind mark node v).place).kept) node.0 =
-        subst (λ t. Both (memory_at_rest (with_flush m (result_of s.kind mark node v).place).kept) (result_of s.kind (token_of t) node (values (with_flush m (result_of s.kind mark node v).place).kept node.0)).place
-        (result_of s.kind (token_of t) node (values (with_flush m (result_of s.kind mark node v).place).kept node.0)).value) (sym r.1.marked) (right, right) in
+        let right : (with_fence m (result_of s.kind mark node v).place).kept (result_of s.kind mark node (values (with_fence m (result_of s.kind mark node v).place).kept node.0)).place
+        ≡ (result_of s.kind mark node (values (with_fence m (result_of s.kind mark node v).place).kept node.0)).value =
+        ap (with_fence m (result_of s.kind mark node v).place).kept (result_place s.kind mark node (values (with_fence m (result_of s.kind mark node v).place).kept node.0) v) ∙ at
+        ∙ result_value s.kind mark node v (values (with_fence m (result_of s.kind mark node v).place).kept node.0) r.2 in
+        let answered : IsAnswered s (memory_at_rest (with_fence m (result_of s.kind mark node v).place).kept) node.0 =
+        subst (λ t. Both (memory_at_rest (with_fence m (result_of s.kind mark node v).place).kept) (result_of s.kind (token_of t) node (values (with_fence m (result_of s.kind mark node v).place).kept node.0)).place
+        (result_of s.kind (token_of t) node (values (with_fence m (result_of s.kind mark node v).place).kept node.0)).value) (sym r.1.marked) (right, right) in
         record {
           sound = r.0;
           at = (
             same_after m (result_of s.kind mark node v).place a.0,
-            answered_next s (memory_at_rest (with_flush m (result_of s.kind mark node v).place).kept) r.1.cur node.0 r.1.ahead.position r.1.ahead.link r.1.ahead.some (λ z. r.1.some (sym r.1.marked ∙ z)) answered,
+            answered_next s (memory_at_rest (with_fence m (result_of s.kind mark node v).place).kept) r.1.cur node.0 r.1.ahead.position r.1.ahead.link r.1.ahead.some (λ z. r.1.some (sym r.1.marked ∙ z)) answered,
           );
         }
 
-    pub row_KeepHead : (cur : NodeId) (n : Option NodeId) → AtPoint s m claimed waiting told (FlushPoint (KeepHead (record { cur = cur; unclaimed = n }))) → RecoversAt s (with_flush m Head) claimed waiting queue told (past_head cur n)
+    pub row_KeepHead : (cur : NodeId) (n : Option NodeId) → AtPoint s m claimed waiting told (FencePoint (KeepHead (record { cur = cur; unclaimed = n }))) → RecoversAt s (with_fence m Head) claimed waiting queue told (past_head cur n)
     row_KeepHead cur n a = go n (kept_head cur.0 n a.1 a.2)
       where
-        same : Same (with_flush m Head)
+        same : Same (with_fence m Head)
         same = same_after m Head a.0
 
-        head : (with_flush m Head).kept Head ≡ cur.0
+        head : (with_fence m Head).kept Head ≡ cur.0
         head = a.1
 
-        taken : (n : Option NodeId) → LastClaimed s (with_flush m Head).kept claimed cur.0 n → TakenTo s (with_flush m Head).kept claimed cur.0
+        taken : (n : Option NodeId) → LastClaimed s (with_fence m Head).kept claimed cur.0 n → TakenTo s (with_fence m Head).kept claimed cur.0
         taken n l = record {
           head = head ∙ l.at;
-          all = subst (AnsweredTo s (memory_at_rest (with_flush m Head).kept)) l.at l.answered;
+          all = subst (AnsweredTo s (memory_at_rest (with_fence m Head).kept)) l.at l.answered;
           passed = [];
           path = tt;
           at = l.at;
           taken = λ log n i. absurd i;
         }
 
-        go : (n : Option NodeId) → Sound s (with_flush m Head).kept claimed waiting queue × LastClaimed s (with_flush m Head).kept claimed cur.0 n → RecoversAt s (with_flush m Head) claimed waiting queue told (past_head cur n)
+        go : (n : Option NodeId) → Sound s (with_fence m Head).kept claimed waiting queue × LastClaimed s (with_fence m Head).kept claimed cur.0 n → RecoversAt s (with_fence m Head) claimed waiting queue told (past_head cur n)
         go None r = record { sound = r.0; at = (same, record { taken = taken None r.1; none = r.1.next }) }
-        go (Some x) r = record { sound = r.0; at = (same, taken_next s (with_flush m Head).kept claimed waiting queue r.0 cur.0 x.0 (taken (Some x) r.1) r.1.next.0 r.1.next.1 r.1.next.2) }
+        go (Some x) r = record { sound = r.0; at = (same, taken_next s (with_fence m Head).kept claimed waiting queue r.0 cur.0 x.0 (taken (Some x) r.1) r.1.next.0 r.1.next.1 r.1.next.2) }
 
-    pub row_KeepTail : 0 < s.clients → told ≡ nothing_told → AtPoint s m claimed waiting told (FlushPoint (KeepTail (record {})))
-        → RecoversAt s (with_flush m Tail) claimed waiting queue told (RecoveryLoadAnnouncement (record { client = record { 0 = 0 } }))
+    pub row_KeepTail : 0 < s.clients → told ≡ nothing_told → AtPoint s m claimed waiting told (FencePoint (KeepTail (record {})))
+        → RecoversAt s (with_fence m Tail) claimed waiting queue told (RecoveryLoadAnnouncement (record { client = record { 0 = 0 } }))
     row_KeepTail some untold a =
-        let r : Sound s (with_flush m Tail).kept claimed waiting queue × LastNode s (with_flush m Tail).kept claimed a.1.cur = kept_tail a.1.cur a.1.cached a.1.last in
-        let last : record { passed : (s.kind ≡ Log → (n : ℕ) → IsAmong n waiting → statuses (with_flush m Tail).kept n ≡ 1); at : a.1.cur ≡ end_of 0 (claimed ++ waiting) } =
-        last_all s (with_flush m Tail).kept claimed waiting queue r.0 a.1.cur r.1 in
+        let r : Sound s (with_fence m Tail).kept claimed waiting queue × LastNode s (with_fence m Tail).kept claimed a.1.cur = kept_tail a.1.cur a.1.cached a.1.last in
+        let last : record { passed : (s.kind ≡ Log → (n : ℕ) → IsAmong n waiting → statuses (with_fence m Tail).kept n ≡ 1); at : a.1.cur ≡ end_of 0 (claimed ++ waiting) } =
+        last_all s (with_fence m Tail).kept claimed waiting queue r.0 a.1.cur r.1 in
         record {
           sound = r.0;
           at = (

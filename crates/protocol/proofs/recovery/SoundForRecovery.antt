@@ -18,7 +18,7 @@ use Rattle.protocol.specs.Recovered.{end_of}
 use Rattle.arena.proofs.Chains.{in_left, not_again, parts_apart, distinct}
 use Rattle.protocol.proofs.chain.Chains.{in_parts, in_chain, linked_by, leads_in}
 use Rattle.protocol.specs.invariants.Places.{IsOfRecord}
-use Rattle.protocol.proofs.changes.Flushes.{cell_says, status_says}
+use Rattle.protocol.proofs.changes.Fences.{cell_says, status_says}
 use Rattle.protocol.specs.invariants.Records.{IsPath, AnsweredTo, IsEnqueued, IsEntry, Records}
 use Rattle.protocol.specs.invariants.Sound.{memory_at_rest, idle_ledger, Sound}
 use Rattle.protocol.proofs.recovery.RecoveryEnds.{answered_among, part_chain}

@@ -11,6 +11,7 @@ use Rattle.stepper.specs.declared.resume.After.{After}
 use Rattle.stepper.specs.declared.resume.After.TheVariants.{More, Done}
 use Rattle.recover.specs.declared.recovery.Recovery.{Recovery}
 use Rattle.words.specs.declared.call.Reply.{Reply}
+use Rattle.words.specs.declared.limits.TheConstants.{MAX_STEPS_ALONE}
 use Rattle.protocol.specs.Acts.{with_act, step_attempt, run, IsNew}
 use Rattle.protocol.specs.declared.acts.Act.{Act}
 use Rattle.protocol.specs.declared.acts.Act.TheVariants.{Step}
@@ -70,12 +71,12 @@ alone_ends (suc n) w v e client le =
     let one : IsOneLess w (with_act w (Step client)) client = step_less w v e client w.recovery (w.calls client.0) refl refl in
     alone_ends n (with_act w (Step client)) (act_kept w v (Step client)).inv one.ready client (omega (arith, one.less, le))
 
-most_left : (s : Shape) (m : Memory) (u : Option UnderWay) → call_left s m u ≤ 64
+most_left : (s : Shape) (m : Memory) (u : Option UnderWay) → call_left s m u ≤ MAX_STEPS_ALONE
 most_left s m None = omega arith
 most_left s m (Some u) = left_most s m u.op
 
 pub calls_end : (s : Shape) (told : List Told) (acts : List (Act Place)) (client : Client) → IsNew s told → (run (new_world s told) acts).recovery ≡ None
-    → (run (run (new_world s told) acts) (replicate 64 (Step client))).calls client.0 ≡ None
+    → (run (run (new_world s told) acts) (replicate MAX_STEPS_ALONE (Step client))).calls client.0 ≡ None
 calls_end s told acts client new e =
     let w : World = run (new_world s told) acts in
-    alone_ends 64 w (run_kept acts (new_world s told) (new_kept s told new)).inv e client (most_left w.shape w.memory (w.calls client.0))
+    alone_ends MAX_STEPS_ALONE w (run_kept acts (new_world s told) (new_kept s told new)).inv e client (most_left w.shape w.memory (w.calls client.0))

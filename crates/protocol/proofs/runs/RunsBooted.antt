@@ -1,6 +1,6 @@
 -- What holds after any acts of a queue that begins on sound words.
 use Rattle.std.proofs.Common.{◌≡◌, ℕ, ◌+◌, ◌*◌, ◌≤◌, List, None, arith}
-use Rattle.arena.specs.Shape.{Shape, greatest}
+use Rattle.arena.specs.Shape.{Shape}
 use Rattle.arena.specs.declared.place.Place.{Place}
 use Rattle.recover.specs.Told.{tells_by}
 use Rattle.recover.specs.Table.{boot_recovery}
@@ -8,7 +8,7 @@ use Rattle.protocol.specs.Acts.{run, recoveries, HasNoCrash, IsExplained}
 use Rattle.protocol.specs.declared.acts.Act.{Act}
 use Rattle.protocol.specs.Booted.{world_at_boot, MayBoot}
 use Rattle.protocol.proofs.boot.Booted.{boots}
-use Rattle.protocol.specs.Measure.{weight}
+use Rattle.protocol.specs.Measure.{most_steps, weight}
 use Rattle.protocol.proofs.recovery.RecoveryBound.{weight_most}
 use Rattle.protocol.proofs.runs.Runs.{run_kept, is_explained}
 use Rattle.protocol.proofs.runs.RunsEnd.{all_left}
@@ -16,8 +16,8 @@ use Rattle.protocol.proofs.runs.RunsEnd.{all_left}
 pub booted_explained : (s : Shape) (k : Place → ℕ) (acts : List (Act Place)) → MayBoot s k → IsExplained (run (world_at_boot s k (tells_by s k)) acts)
 booted_explained s k acts may = is_explained (run (world_at_boot s k (tells_by s k)) acts) (run_kept acts (world_at_boot s k (tells_by s k)) (boots s k may)).inv
 
-pub booted_ends : (s : Shape) (k : Place → ℕ) (acts : List (Act Place)) → MayBoot s k → HasNoCrash acts → 8 * greatest s + 8 * s.clients + 8 ≤ recoveries acts
+pub booted_ends : (s : Shape) (k : Place → ℕ) (acts : List (Act Place)) → MayBoot s k → HasNoCrash acts → most_steps s ≤ recoveries acts
     → (run (world_at_boot s k (tells_by s k)) acts).recovery ≡ None
 booted_ends s k acts may none le =
-    let most : weight s k boot_recovery.at + 2 ≤ 8 * greatest s + 8 * s.clients + 8 = weight_most s k in
+    let most : weight s k boot_recovery.at + 2 ≤ most_steps s = weight_most s k in
     all_left acts (world_at_boot s k (tells_by s k)) (boots s k may) none (omega (arith, most, le))

@@ -3,7 +3,7 @@ use Rattle.std.proofs.Common.{if◌then◌else◌, Option, Bool, true, false, �
 use Rattle.words.specs.declared.call.Call.{Call}
 use Rattle.words.specs.declared.call.Client.{Client}
 use Rattle.words.specs.declared.told.Told.{Told}
-use Rattle.arena.specs.Shape.{Shape, greatest}
+use Rattle.arena.specs.Shape.{Shape}
 use Rattle.arena.specs.declared.place.Place.{Place}
 use Rattle.recover.specs.Table.{boot_recovery}
 use Rattle.recover.specs.declared.recovery.Recovery.{Recovery}
@@ -14,7 +14,7 @@ use Rattle.protocol.specs.Machine.{World, with_start, with_step, with_crash, new
 use Rattle.protocol.specs.declared.UnderWay.{UnderWay}
 use Rattle.protocol.specs.invariants.Worlds.{Inv}
 use Rattle.protocol.proofs.worlds.Facts.{inv_crashed, left_falls}
-use Rattle.protocol.specs.Measure.{weight, steps_left_at, steps_left}
+use Rattle.protocol.specs.Measure.{most_steps, weight, steps_left_at, steps_left}
 use Rattle.protocol.proofs.recovery.RecoveryBound.{weight_most}
 use Rattle.protocol.proofs.runs.Runs.{act_kept, run_kept, new_kept}
 
@@ -88,12 +88,12 @@ run_shape (Evict p ∷ acts) w = run_shape acts (with_act w (Evict p))
 run_shape (Crash ∷ acts) w = run_shape acts (with_act w Crash)
 run_shape (Recover ∷ acts) w = run_shape acts (with_act w Recover) ∙ recover_shape w w.recovery
 
-pub ends : (s : Shape) (told : List Told) (acts later : List (Act Place)) → IsNew s told → HasNoCrash later → 8 * greatest s + 8 * s.clients + 8 ≤ recoveries later
+pub ends : (s : Shape) (told : List Told) (acts later : List (Act Place)) → IsNew s told → HasNoCrash later → most_steps s ≤ recoveries later
     → (run (with_crash (run (new_world s told) acts)) later).recovery ≡ None
 ends s told acts later new none le =
     let w : World = run (new_world s told) acts in
     let v : Inv w = (run_kept acts (new_world s told) (new_kept s told new)).inv in
     let same : w.shape ≡ s = run_shape acts (new_world s told) in
-    let most : weight w.shape w.memory.kept boot_recovery.at + 2 ≤ 8 * greatest w.shape + 8 * w.shape.clients + 8 = weight_most w.shape w.memory.kept in
+    let most : weight w.shape w.memory.kept boot_recovery.at + 2 ≤ most_steps w.shape = weight_most w.shape w.memory.kept in
     all_left later (with_crash w) (inv_crashed w v) none
-    (omega (arith, most, subst (λ x. 8 * greatest x + 8 * x.clients + 8 ≤ recoveries later) (sym same) le))
+    (omega (arith, most, subst (λ x. most_steps x ≤ recoveries later) (sym same) le))

@@ -24,7 +24,7 @@ use Rattle.events.specs.Effects.{order_of}
 use Rattle.events.specs.Telling.{IsToldOf}
 use Rattle.events.specs.declared.event.Effect.{Effect}
 use Rattle.events.specs.declared.event.Event.TheVariants.{Call as call_event}
-use Rattle.protocol.specs.Machine.{Memory, World, put, with_flush}
+use Rattle.protocol.specs.Machine.{Memory, World, put, with_fence}
 use Rattle.protocol.specs.declared.UnderWay.{UnderWay}
 use Rattle.protocol.specs.Announced.{IsCallOf}
 use Rattle.protocol.specs.Kept.{OutcomeBy, RowBy, TellsBy, TellsOf}
@@ -35,9 +35,9 @@ use Rattle.protocol.specs.invariants.Grows.{Grows}
 use Rattle.protocol.specs.invariants.Knows.{Knows}
 use Rattle.protocol.proofs.changes.Puts.{put_cases}
 use Rattle.protocol.proofs.changes.Keeps.{kept_ledger}
-use Rattle.protocol.proofs.changes.Flushes.{cell_says, status_says, keep_any}
+use Rattle.protocol.proofs.changes.Fences.{cell_says, status_says, keep_any}
 use Rattle.protocol.specs.invariants.Records.{Both, IsEntry, IsAnnouncing, Records}
-use Rattle.protocol.proofs.records.Records.{both_flushed, claimed_value}
+use Rattle.protocol.proofs.records.Records.{both_fenced, claimed_value}
 use Rattle.protocol.proofs.records.RecordStores.{acting_or, announced_number}
 use Rattle.stepper.specs.Preparation.{IsBegun}
 use Rattle.helping.specs.declared.op.Op.{Op}
@@ -65,7 +65,7 @@ module _ (s : Shape) (m : Memory) (l : Ledger) (claimed waiting : List ℕ) (b :
   asked_by : (x : ℕ) (c : Call) → x ≡ announcements m.kept j → asked_call l (owner s x) ≡ c → asked_call l j ≡ c
   asked_by x c at h = ap (asked_call l) (sym own ∙ ap (owner s) (sym at)) ∙ h
 
-  link_back : s.kind ≡ Log → (at : ℕ) → links (with_flush m p).kept at ≡ announcements m.kept j → links m.kept at ≡ announcements m.kept j
+  link_back : s.kind ≡ Log → (at : ℕ) → links (with_fence m p).kept at ≡ announcements m.kept j → links m.kept at ≡ announcements m.kept j
   link_back k at h = elim (put_cases m.kept p (m.cached p) (Next (node_of at))) [
     | inl t ↦
         let now : links m.cached at ≡ announcements m.kept j = ap m.cached t.0 ∙ sym t.1 ∙ h in
@@ -78,7 +78,7 @@ module _ (s : Shape) (m : Memory) (l : Ledger) (claimed waiting : List ℕ) (b :
     | inr t ↦ sym t.1 ∙ h
   ]
 
-  mark_back : (at : ℕ) → marks (with_flush m p).kept at ≡ announcements m.kept j → marks m.kept at ≡ announcements m.kept j
+  mark_back : (at : ℕ) → marks (with_fence m p).kept at ≡ announcements m.kept j → marks m.kept at ≡ announcements m.kept j
   mark_back at h = elim (put_cases m.kept p (m.cached p) (Mark (node_of at))) [
     | inl t ↦
         let now : marks m.cached at ≡ announcements m.kept j = ap m.cached t.0 ∙ sym t.1 ∙ h in
@@ -91,7 +91,7 @@ module _ (s : Shape) (m : Memory) (l : Ledger) (claimed waiting : List ℕ) (b :
     | inr t ↦ sym t.1 ∙ h
   ]
 
-  says_back : SaysEmpty s (with_flush m p).kept (announcements m.kept j) → SaysEmpty s m.kept (announcements m.kept j)
+  says_back : SaysEmpty s (with_fence m p).kept (announcements m.kept j) → SaysEmpty s m.kept (announcements m.kept j)
   says_back h = elim (put_cases m.kept p (m.cached p) (empty_answer_of s.kind (token_of (announcements m.kept j))).place) [
     | inl t ↦
         let now : SaysEmpty s m.cached (announcements m.kept j) = ap m.cached t.0 ∙ sym t.1 ∙ h in
@@ -104,39 +104,39 @@ module _ (s : Shape) (m : Memory) (l : Ledger) (claimed waiting : List ℕ) (b :
     | inr t ↦ sym t.1 ∙ h
   ]
 
-  grows : Grows 0 s m l (with_flush m p) (kept_ledger s m l p)
+  grows : Grows 0 s m l (with_fence m p) (kept_ledger s m l p)
   grows = (keep_any s m l claimed waiting b p).grows 0
 
-  link_forth : (at : ℕ) → links m.kept at ≡ announcements m.kept j → links (with_flush m p).kept at ≡ announcements m.kept j
+  link_forth : (at : ℕ) → links m.kept at ≡ announcements m.kept j → links (with_fence m p).kept at ≡ announcements m.kept j
   link_forth at h = grows.at_kept_link at (λ z. some (sym h ∙ z)) ∙ h
 
-  mark_forth : (at : ℕ) → marks m.kept at ≡ announcements m.kept j → marks (with_flush m p).kept at ≡ announcements m.kept j
+  mark_forth : (at : ℕ) → marks m.kept at ≡ announcements m.kept j → marks (with_fence m p).kept at ≡ announcements m.kept j
   mark_forth at h = grows.at_kept_mark at (λ z. some (sym h ∙ z)) ∙ h
 
-  says_forth : SaysEmpty s m.kept (announcements m.kept j) → SaysEmpty s (with_flush m p).kept (announcements m.kept j)
+  says_forth : SaysEmpty s m.kept (announcements m.kept j) → SaysEmpty s (with_fence m p).kept (announcements m.kept j)
   says_forth h = elim (put_cases m.kept p (m.cached p) (empty_answer_of s.kind (token_of (announcements m.kept j))).place) [
     | inl t ↦ t.1 ∙ ap m.cached (sym t.0) ∙ b.empty.said (announcements m.kept j) h
     | inr t ↦ t.1 ∙ h
   ]
 
-  same_kind : s.kind ≡ Log → entry_kinds (with_flush m p).kept (announcements m.kept j) ≡ entry_kinds m.kept (announcements m.kept j)
+  same_kind : s.kind ≡ Log → entry_kinds (with_fence m p).kept (announcements m.kept j) ≡ entry_kinds m.kept (announcements m.kept j)
   same_kind k = elim (r.entry_kept k j some).kind [
-    | inl q ↦ (both_flushed m p (EntryKind (token_of (announcements m.kept j))) 1 q.0).1 ∙ sym q.0.1
-    | inr q ↦ (both_flushed m p (EntryKind (token_of (announcements m.kept j))) 2 q).1 ∙ sym q.1
+    | inl q ↦ (both_fenced m p (EntryKind (token_of (announcements m.kept j))) 1 q.0).1 ∙ sym q.0.1
+    | inr q ↦ (both_fenced m p (EntryKind (token_of (announcements m.kept j))) 2 q).1 ∙ sym q.1
   ]
 
-  same_number : s.kind ≡ Log → numbers (with_flush m p).kept (announcements m.kept j) ≡ numbers m.kept (announcements m.kept j)
+  same_number : s.kind ≡ Log → numbers (with_fence m p).kept (announcements m.kept j) ≡ numbers m.kept (announcements m.kept j)
   same_number k =
       let q : IsEntry m (announcements m.kept j) = r.entry_kept k j some in
-      (both_flushed m p (Number (token_of (announcements m.kept j))) q.number q.numbered).1 ∙ sym q.numbered.1
+      (both_fenced m p (Number (token_of (announcements m.kept j))) q.number q.numbered).1 ∙ sym q.numbered.1
 
-  status_two : s.kind ≡ Log → statuses (with_flush m p).kept (announcements m.kept j) ≡ 2 → statuses m.kept (announcements m.kept j) ≡ 2
-  status_two k h = (status_says s m.kept (token_of (announcements m.kept j)) k).0 (says_back ((status_says s (with_flush m p).kept (token_of (announcements m.kept j)) k).1 h))
+  status_two : s.kind ≡ Log → statuses (with_fence m p).kept (announcements m.kept j) ≡ 2 → statuses m.kept (announcements m.kept j) ≡ 2
+  status_two k h = (status_says s m.kept (token_of (announcements m.kept j)) k).0 (says_back ((status_says s (with_fence m p).kept (token_of (announcements m.kept j)) k).1 h))
 
-  status_too : s.kind ≡ Log → statuses m.kept (announcements m.kept j) ≡ 2 → statuses (with_flush m p).kept (announcements m.kept j) ≡ 2
-  status_too k h = (status_says s (with_flush m p).kept (token_of (announcements m.kept j)) k).0 (says_forth ((status_says s m.kept (token_of (announcements m.kept j)) k).1 h))
+  status_too : s.kind ≡ Log → statuses m.kept (announcements m.kept j) ≡ 2 → statuses (with_fence m p).kept (announcements m.kept j) ≡ 2
+  status_too k h = (status_says s (with_fence m p).kept (token_of (announcements m.kept j)) k).0 (says_forth ((status_says s m.kept (token_of (announcements m.kept j)) k).1 h))
 
-  outcome_back : s.kind ≡ Log → (o : Outcome) → OutcomeBy (with_flush m p).kept (announcements m.kept j) o → OutcomeBy m.kept (announcements m.kept j) o
+  outcome_back : s.kind ≡ Log → (o : Outcome) → OutcomeBy (with_fence m p).kept (announcements m.kept j) o → OutcomeBy m.kept (announcements m.kept j) o
   outcome_back k (Taken Done) h = (sym (same_kind k) ∙ h.0, record { at = h.1.at; linked = link_back k h.1.at h.1.linked })
   outcome_back k (Taken Empty) h = (λ q. h.0 (same_kind k ∙ q), status_two k h.1)
   outcome_back k (Taken (Got v)) h =
@@ -147,37 +147,37 @@ module _ (s : Shape) (m : Memory) (l : Ledger) (claimed waiting : List ℕ) (b :
   outcome_back k NotTaken h = (
     λ one at q. h.0 (same_kind k ∙ one) at (link_forth at q),
     λ ne.
-        let q : (statuses (with_flush m p).kept (announcements m.kept j) ≢ 2) × ((at : ℕ) → marks (with_flush m p).kept at ≢ announcements m.kept j) = h.1 (λ z. ne (sym (same_kind k) ∙ z)) in
+        let q : (statuses (with_fence m p).kept (announcements m.kept j) ≢ 2) × ((at : ℕ) → marks (with_fence m p).kept at ≢ announcements m.kept j) = h.1 (λ z. ne (sym (same_kind k) ∙ z)) in
         (λ two. q.0 (status_too k two), λ at x. q.1 at (mark_forth at x)),
   )
 
-  row_back : s.kind ≡ Durable → (o : Row) → RowBy (with_flush m p).kept (announcements m.kept j) o → RowBy m.kept (announcements m.kept j) o
+  row_back : s.kind ≡ Durable → (o : Row) → RowBy (with_fence m p).kept (announcements m.kept j) o → RowBy m.kept (announcements m.kept j) o
   row_back k (row_got v) h =
       let marked : marks m.kept h.at ≡ announcements m.kept j = mark_back h.at h.marked in
       record { at = h.at; marked = marked; value = sym (claimed_value s m l claimed waiting b r p h.at (λ z. some (sym marked ∙ z))) ∙ h.value }
-  row_back k row_empty h = (cell_says s m.kept (token_of (announcements m.kept j)) k).0 (says_back ((cell_says s (with_flush m p).kept (token_of (announcements m.kept j)) k).1 h))
+  row_back k row_empty h = (cell_says s m.kept (token_of (announcements m.kept j)) k).0 (says_back ((cell_says s (with_fence m p).kept (token_of (announcements m.kept j)) k).1 h))
   row_back k Open h = (
-    λ one. h.0 ((cell_says s (with_flush m p).kept (token_of (announcements m.kept j)) k).0 (says_forth ((cell_says s m.kept (token_of (announcements m.kept j)) k).1 one))),
+    λ one. h.0 ((cell_says s (with_fence m p).kept (token_of (announcements m.kept j)) k).0 (says_forth ((cell_says s m.kept (token_of (announcements m.kept j)) k).1 one))),
     λ at x. h.1 at (mark_forth at x),
   )
   row_back k NoCall h = h
 
 -- what is told of a client whose announcement stays
 module _ (s : Shape) (m : Memory) (l : Ledger) (claimed waiting : List ℕ) (b : Base s m l claimed waiting) (r : Records s m l) (p : Place) (j : ℕ)
-    (same : announcements (with_flush m p).kept j ≡ announcements m.kept j) (free : announcements m.kept j ≢ 0 → held_token l j ≡ announcements m.kept j → IsToldOf s.kind (asked_call l j) → ⊥) where
-  row_before : s.kind ≡ Durable → (row : Row) → TellsBy Durable (with_flush m p).kept j (told_row row) → TellsBy Durable m.kept j (told_row row)
+    (same : announcements (with_fence m p).kept j ≡ announcements m.kept j) (free : announcements m.kept j ≢ 0 → held_token l j ≡ announcements m.kept j → IsToldOf s.kind (asked_call l j) → ⊥) where
+  row_before : s.kind ≡ Durable → (row : Row) → TellsBy Durable (with_fence m p).kept j (told_row row) → TellsBy Durable m.kept j (told_row row)
   row_before k NoCall h = sym same ∙ h
-  row_before k Open h = let ne : announcements m.kept j ≢ 0 = λ z. h.0 (same ∙ z) in (ne, row_back s m l claimed waiting b r p j ne (free ne) k Open (subst (λ e. RowBy (with_flush m p).kept e Open) same h.1))
-  row_before k row_empty h = let ne : announcements m.kept j ≢ 0 = λ z. h.0 (same ∙ z) in (ne, row_back s m l claimed waiting b r p j ne (free ne) k row_empty (subst (λ e. RowBy (with_flush m p).kept e row_empty) same h.1))
-  row_before k (row_got v) h = let ne : announcements m.kept j ≢ 0 = λ z. h.0 (same ∙ z) in (ne, row_back s m l claimed waiting b r p j ne (free ne) k (row_got v) (subst (λ e. RowBy (with_flush m p).kept e (row_got v)) same h.1))
+  row_before k Open h = let ne : announcements m.kept j ≢ 0 = λ z. h.0 (same ∙ z) in (ne, row_back s m l claimed waiting b r p j ne (free ne) k Open (subst (λ e. RowBy (with_fence m p).kept e Open) same h.1))
+  row_before k row_empty h = let ne : announcements m.kept j ≢ 0 = λ z. h.0 (same ∙ z) in (ne, row_back s m l claimed waiting b r p j ne (free ne) k row_empty (subst (λ e. RowBy (with_fence m p).kept e row_empty) same h.1))
+  row_before k (row_got v) h = let ne : announcements m.kept j ≢ 0 = λ z. h.0 (same ∙ z) in (ne, row_back s m l claimed waiting b r p j ne (free ne) k (row_got v) (subst (λ e. RowBy (with_fence m p).kept e (row_got v)) same h.1))
 
-  tells_before : (kind : Kind) → s.kind ≡ kind → (t : Told) → TellsBy kind (with_flush m p).kept j t → TellsBy kind m.kept j t
+  tells_before : (kind : Kind) → s.kind ≡ kind → (t : Told) → TellsBy kind (with_fence m p).kept j t → TellsBy kind m.kept j t
   tells_before Log k told_none h = sym same ∙ h
   tells_before Log k (told_verdict v) h =
       let ne : announcements m.kept j ≢ 0 = λ z. h.0 (same ∙ z) in (
         ne,
-        h.1 ∙ ap (numbers (with_flush m p).kept) same ∙ same_number s m l claimed waiting b r p j ne (free ne) k,
-        outcome_back s m l claimed waiting b r p j ne (free ne) k v.outcome (subst (λ e. OutcomeBy (with_flush m p).kept e v.outcome) same h.2),
+        h.1 ∙ ap (numbers (with_fence m p).kept) same ∙ same_number s m l claimed waiting b r p j ne (free ne) k,
+        outcome_back s m l claimed waiting b r p j ne (free ne) k v.outcome (subst (λ e. OutcomeBy (with_fence m p).kept e v.outcome) same h.2),
       )
   tells_before Log k (told_row row) h = h
   tells_before Durable k (told_row row) h = row_before k row h
@@ -190,7 +190,7 @@ KeptBy m n = (n.kept ≡ m.kept) ⊎ record { p : Place; same : n.kept ≡ put m
 
 both_kept : (m n : Memory) (q : Place) (x : ℕ) → KeptBy m n → Both m q x → n.kept q ≡ x
 both_kept m n q x (inl e) h = ap (λ (f : Place → ℕ). f q) e ∙ h.1
-both_kept m n q x (inr k) h = ap (λ (f : Place → ℕ). f q) k.same ∙ (both_flushed m k.p q x h).1
+both_kept m n q x (inr k) h = ap (λ (f : Place → ℕ). f q) k.same ∙ (both_fenced m k.p q x h).1
 
 -- the record of a call under way
 pub call_begun_fits : (s : Shape) (m : Memory) (l : Ledger) (i : ℕ) (op : Op) → Knows s m l i op → IsBegun s (l.begun i)
@@ -233,7 +233,7 @@ module _ (w : World) (v : Working w) (tells : RightlyTold w) (issued : AreIssued
       go (inl e) t = subst (λ (f : Place → ℕ). TellsBy w.shape.kind f j told) e t
       go (inr q) t = tells_before w.shape w.memory (ledger_of w) v.claimed v.waiting v.base v.records q.p j same unheld w.shape.kind refl told (subst (λ (f : Place → ℕ). TellsBy w.shape.kind f j told) q.same t)
         where
-          same : announcements (with_flush w.memory q.p).kept j ≡ announcements w.memory.kept j
+          same : announcements (with_fence w.memory q.p).kept j ≡ announcements w.memory.kept j
           same = ap (λ (f : Place → ℕ). announcements f j) (sym q.same) ∙ announced_stays j free
 
           unheld : announcements w.memory.kept j ≢ 0 → held_token (ledger_of w) j ≡ announcements w.memory.kept j → IsToldOf w.shape.kind (asked_call (ledger_of w) j) → ⊥

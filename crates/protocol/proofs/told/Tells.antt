@@ -40,7 +40,7 @@ use Rattle.protocol.specs.invariants.Ledger.{Ledger, held_token, stage_at}
 use Rattle.protocol.specs.invariants.Places.{SaysEmpty}
 use Rattle.protocol.specs.invariants.Base.{Base}
 use Rattle.protocol.specs.invariants.Ledger.Stage.{Took}
-use Rattle.protocol.proofs.changes.Flushes.{cell_says, status_says}
+use Rattle.protocol.proofs.changes.Fences.{cell_says, status_says}
 use Rattle.protocol.specs.invariants.Records.{TookBy, Records}
 use Rattle.protocol.proofs.worlds.Stages.{taken_as_took, stage_in_order, in_order_stage}
 use Rattle.protocol.specs.invariants.Worlds.{IsCalling}

@@ -27,7 +27,7 @@ use Rattle.protocol.specs.Kept.{OutcomeBy, RowBy, TellsBy, TellsOf}
 use Rattle.arena.proofs.Chains.{in_left}
 use Rattle.protocol.proofs.chain.Chains.{in_chain, linked_by}
 use Rattle.protocol.specs.invariants.Places.{SaysEmpty}
-use Rattle.protocol.proofs.changes.Flushes.{cell_says, status_says}
+use Rattle.protocol.proofs.changes.Fences.{cell_says, status_says}
 use Rattle.protocol.specs.invariants.Sound.{Sound}
 use Rattle.protocol.proofs.recovery.Recovering.{MayKeep}
 

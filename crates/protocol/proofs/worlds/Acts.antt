@@ -22,7 +22,7 @@ use Rattle.stepper.specs.declared.resume.After.TheVariants.{More, Done}
 use Rattle.stepper.specs.declared.prepare.Begun.{Begun}
 use Rattle.helping.specs.Table.{access_of, begun_at}
 use Rattle.helping.specs.declared.op.Op.{Op}
-use Rattle.helping.specs.declared.op.Op.TheVariants.{PrepareFlush, DequeueLoadNext, Flush as FlushPoint}
+use Rattle.helping.specs.declared.op.Op.TheVariants.{PrepareFence, DequeueLoadNext, Fence as FencePoint}
 use Rattle.events.specs.Effects.{order_of}
 use Rattle.events.specs.History.{BeginsAt, EndsAt, IsOpenFrom, IsUnderWay, IsDown}
 use Rattle.events.specs.Trace.{IsEffect, IsNumberOf, queue_of}
@@ -36,7 +36,7 @@ use Rattle.events.proofs.TraceGrows.{called, answered}
 use Rattle.events.proofs.TraceQueue.{queue_with_events}
 use Rattle.events.proofs.Members.{part_same}
 use Rattle.events.proofs.Openings.{EndsBy, open_push}
-use Rattle.protocol.specs.Machine.{Memory, World, with_access, with_flush, after_keeping, effects_after, events_after, with_call, with_next, next_of, with_step, begun_of, call_begun, with_start, with_eviction, FitsKind, FitsCall, MayStart, MayStep}
+use Rattle.protocol.specs.Machine.{Memory, World, with_access, with_fence, after_keeping, effects_after, events_after, with_call, with_next, next_of, with_step, begun_of, call_begun, with_start, with_eviction, FitsKind, FitsCall, MayStart, MayStep}
 use Rattle.protocol.specs.declared.UnderWay.{UnderWay}
 use Rattle.recover.specs.Sound.{IsIssued}
 use Rattle.protocol.proofs.chain.Chains.{upd, upd_same, upd_at, upd_other}
@@ -47,7 +47,7 @@ use Rattle.protocol.specs.invariants.Grows.{Grows}
 use Rattle.protocol.specs.invariants.Ledger.Stage.{Unmoved, Took}
 use Rattle.protocol.proofs.calls.Stable.{stable}
 use Rattle.protocol.proofs.changes.Keeps.{kept_ledger, Kept}
-use Rattle.protocol.proofs.changes.Flushes.{keep_any}
+use Rattle.protocol.proofs.changes.Fences.{keep_any}
 use Rattle.protocol.proofs.calls.Rows.{KnowsNext, ledger_after, Row, row, arrives}
 use Rattle.protocol.specs.invariants.Records.{Both, IsAnnouncing, Records}
 use Rattle.protocol.proofs.records.Records.{keep_records}
@@ -62,17 +62,17 @@ others_know : (w : World) → Working w → (i : ℕ) (n : Memory) (k : Ledger) 
 others_know w v i n k g j ne x e = stable i j w.shape w.memory (ledger_of w) n k ne g x.op (calling w v j x e).0
 
 module _ (w : World) (v : Working w) (p : Place) where
-  pub kept : Kept w.shape w.memory (ledger_of w) (with_flush w.memory p) (kept_ledger w.shape w.memory (ledger_of w) p)
+  pub kept : Kept w.shape w.memory (ledger_of w) (with_fence w.memory p) (kept_ledger w.shape w.memory (ledger_of w) p)
   kept = keep_any w.shape w.memory (ledger_of w) v.claimed v.waiting v.base p
 
   pub noted : Noted w (after_keeping w p) (kept_ledger w.shape w.memory (ledger_of w) p)
   noted = keep_noted w v p
 
-  kept_calls : (i : ℕ) (x : Option UnderWay) → KnowsCall w.shape w.memory (ledger_of w) w.log.events i x → KnowsCall w.shape (with_flush w.memory p) (ledger_of (with_eviction w p)) w.log.events i x
+  kept_calls : (i : ℕ) (x : Option UnderWay) → KnowsCall w.shape w.memory (ledger_of w) w.log.events i x → KnowsCall w.shape (with_fence w.memory p) (ledger_of (with_eviction w p)) w.log.events i x
   kept_calls i None h = tt
   kept_calls i (Some u) h = (
-    subst (λ k. Knows w.shape (with_flush w.memory p) k i u.op) (sym noted.same)
-        (stable (suc i) i w.shape w.memory (ledger_of w) (with_flush w.memory p) (kept_ledger w.shape w.memory (ledger_of w) p) (λ e. absurd (omega (arith, e))) (kept.grows (suc i)) u.op h.0),
+    subst (λ k. Knows w.shape (with_fence w.memory p) k i u.op) (sym noted.same)
+        (stable (suc i) i w.shape w.memory (ledger_of w) (with_fence w.memory p) (kept_ledger w.shape w.memory (ledger_of w) p) (λ e. absurd (omega (arith, e))) (kept.grows (suc i)) u.op h.0),
     h.1,
   )
 
@@ -84,8 +84,8 @@ module _ (w : World) (v : Working w) (p : Place) where
     clients = v.clients;
     claimed = kept.claimed;
     waiting = kept.waiting;
-    base = subst (λ k. Base w.shape (with_flush w.memory p) k kept.claimed kept.waiting) (sym noted.same) kept.base;
-    records = subst (λ k. Records w.shape (with_flush w.memory p) k) (sym noted.same) (keep_records w.shape w.memory (ledger_of w) v.claimed v.waiting v.base v.records p);
+    base = subst (λ k. Base w.shape (with_fence w.memory p) k kept.claimed kept.waiting) (sym noted.same) kept.base;
+    records = subst (λ k. Records w.shape (with_fence w.memory p) k) (sym noted.same) (keep_records w.shape w.memory (ledger_of w) v.claimed v.waiting v.base v.records p);
     calls = λ i. kept_calls i (w.calls i) (v.calls i);
     idle = v.idle;
     up = v.up;
@@ -97,8 +97,8 @@ module _ (w : World) (v : Working w) (p : Place) where
 
 -- the effects after a step
 pub step_noted : (w : World) (v : Working w) (i : ℕ) (u : UnderWay) → w.calls i ≡ Some u → (op : Op) → Knows w.shape w.memory (ledger_of w) i op → Noted w (effects_after w u op) (ledger_after w.shape w.memory (ledger_of w) i op)
-step_noted w v i u at (PrepareFlush p) h = keep_noted w v p.write.place
-step_noted w v i u at (FlushPoint k) h = keep_noted w v _
+step_noted w v i u at (PrepareFence p) h = keep_noted w v p.write.place
+step_noted w v i u at (FencePoint k) h = keep_noted w v _
 step_noted w v i u at (DequeueLoadNext p) h =
     looked_noted w v i u p.first.0 p.token.0 at (sym (ap (λ x. (record_of_call x).call) at) ∙ h.0.asks) h.0.before h.0.acting h.1
 step_noted w v i u at _ h = nothing_noted w v

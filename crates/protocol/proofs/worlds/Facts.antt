@@ -40,7 +40,7 @@ use Rattle.protocol.specs.declared.UnderWay.{UnderWay}
 use Rattle.protocol.specs.Announced.{IsToldOfAnnounced}
 use Rattle.protocol.proofs.told.Issuing.{told_of_announced}
 use Rattle.protocol.specs.Kept.{TellsOf}
-use Rattle.protocol.specs.Measure.{weight, steps_left_at, steps_left}
+use Rattle.protocol.specs.Measure.{most_steps, weight, steps_left_at, steps_left}
 use Rattle.protocol.specs.Recovered.{end_of, IsRecovered}
 use Rattle.protocol.proofs.recovery.RecoveryBound.{IsLess, falls, few_at}
 use Rattle.arena.proofs.Chains.{distinct, parts_apart}
@@ -55,7 +55,7 @@ use Rattle.protocol.proofs.worlds.Acts.{evicted_part, stepped_part, step_noted}
 use Rattle.protocol.proofs.worlds.ReadyWorlds.{evicted_ready, stepped_ready, started_ready, fresh_told}
 use Rattle.protocol.proofs.recovery.RecoveryEnds.{Woken}
 use Rattle.protocol.proofs.recovery.RecoveryTelling.{all_answered}
-use Rattle.protocol.proofs.worlds.RecoveringWorlds.{RecoveredTo, evicted_recovering, evicted_recovering_part, ready_crashed, recovering_crashed, crashed_part, recovered_works, recovered_part, nobody_kept, nobody_flushed, point_fits, reads_fit, woken, told_woken}
+use Rattle.protocol.proofs.worlds.RecoveringWorlds.{RecoveredTo, evicted_recovering, evicted_recovering_part, ready_crashed, recovering_crashed, crashed_part, recovered_works, recovered_part, nobody_kept, nobody_fenced, point_fits, reads_fit, woken, told_woken}
 use Rattle.stepper.specs.Step.{place_of, kept_by}
 use Rattle.recover.specs.Table.{access_of, IsPoint}
 use Rattle.recover.specs.Told.{tells_by}
@@ -329,7 +329,7 @@ pub no_calls : (w : World) → Inv w → (r : Recovery) → w.recovery ≡ Some 
 no_calls w v r e j = (is_recovering w v r e).none j
 
 pub recovery_silent : (w : World) → Inv w → (r : Recovery) → w.recovery ≡ Some r → (with_recovery_step w r).log.effects ≡ w.log.effects
-recovery_silent w v r e = nobody_flushed w (is_recovering w v r e).none (kept_by (access_of w.shape.kind r.at))
+recovery_silent w v r e = nobody_fenced w (is_recovering w v r e).none (kept_by (access_of w.shape.kind r.at))
 
 -- sixteen clients are told, by the kept words
 pub told_is : (w : World) → Inv w → (r : Recovery) → w.recovery ≡ Some r → (told : List Told) → next_recovery w r ≡ Ready told
@@ -420,10 +420,10 @@ recovery_reads w v r e =
     reads_fit w.shape w.memory x.claimed x.waiting (queue_of w.log.events w.base w.log.effects) x.sound r x.at
 
 -- recovery never has more steps left than these, each of its steps takes one at least, and evictions take none
-pub few_left : (w : World) → Inv w → steps_left w ≤ 8 * greatest w.shape + 8 * w.shape.clients + 8
+pub few_left : (w : World) → Inv w → steps_left w ≤ most_steps w.shape
 few_left w v = go w.recovery v
   where
-    go : (r : Option Recovery) → InvAt w r → steps_left_at w.shape w.memory.cached r ≤ 8 * greatest w.shape + 8 * w.shape.clients + 8
+    go : (r : Option Recovery) → InvAt w r → steps_left_at w.shape w.memory.cached r ≤ most_steps w.shape
     go None h = omega arith
     go (Some r) h = few_at w.shape w.memory h.claimed h.waiting (queue_of w.log.events w.base w.log.effects) h.sound r h.at
 

@@ -36,7 +36,7 @@ use Rattle.protocol.specs.invariants.Base.{IsLinking, IsClaiming, IsAnswering, B
 use Rattle.protocol.specs.invariants.Knows.{IsPassed, Loose, Before, Acting, Knows}
 use Rattle.protocol.specs.invariants.Ledger.Stage.{Unmoved, Seen, Took}
 use Rattle.protocol.proofs.changes.Keeps.{restaged, counted, noticed_ledger, kept_ledger}
-use Rattle.protocol.proofs.changes.Flushes.{cell_says, status_says}
+use Rattle.protocol.proofs.changes.Fences.{cell_says, status_says}
 use Rattle.protocol.proofs.calls.Rows.{looked_stage}
 use Rattle.protocol.specs.invariants.Records.{Both}
 use Rattle.protocol.proofs.records.RecordStores.{acting_announced, acting_of}

@@ -12,7 +12,7 @@ use Rattle.words.specs.declared.told.Row.{Row}
 use Rattle.words.specs.declared.told.Row.TheVariants.{NoCall, Open, Empty as row_empty, Got as row_got}
 use Rattle.words.specs.declared.told.Told.{Told}
 use Rattle.words.specs.declared.told.Told.TheVariants.{None as told_none, Verdict as told_verdict, Row as told_row}
-use Rattle.persist.specs.Memory.{Access, Load, Store, Cas, Flush}
+use Rattle.persist.specs.Memory.{Access, Load, Store, Cas, Flush, Fence}
 use Rattle.arena.specs.Shape.{Shape}
 use Rattle.arena.specs.declared.place.Place.{Place}
 use Rattle.stepper.specs.declared.resume.After.{After}
@@ -26,7 +26,7 @@ use Rattle.events.specs.Orders.{InOrder}
 use Rattle.events.specs.declared.event.Effect.{Effect}
 use Rattle.events.specs.declared.event.Event.{Event}
 use Rattle.events.specs.declared.event.Event.TheVariants.{Call as call_event, Return as return_event}
-use Rattle.protocol.specs.Machine.{with_call, with_next, begun_of, call_begun, Memory, World, with_store, with_flush, with_access, after_keeping, effects_after, events_after, next_of, with_step, with_start, with_eviction, MayStart, MayStep}
+use Rattle.protocol.specs.Machine.{with_call, with_next, begun_of, call_begun, Memory, World, with_store, with_fence, with_access, after_keeping, effects_after, events_after, next_of, with_step, with_start, with_eviction, MayStart, MayStep}
 use Rattle.protocol.specs.declared.UnderWay.{UnderWay}
 use Rattle.recover.specs.Sound.{IsIssued, IsOwn}
 use Rattle.protocol.specs.Kept.{TellsBy, TellsOf}
@@ -61,7 +61,8 @@ access_kept m (Cas p old new) = go (m.cached p == old)
     go : (t : Bool) → KeptBy m (if t then with_store m p new else m)
     go true = inl refl
     go false = inl refl
-access_kept m (Flush p) = inr (record { p = p; same = refl })
+access_kept m (Flush p) = inl refl
+access_kept m (Fence p) = inr (record { p = p; same = refl })
 
 -- no call stands where the history ends
 pub none_at_end : (kind : Kind) (base : List ℕ) (told : List Told) (events : List Event) (effects : List Effect) → IsTrace kind base told events effects → InOrder (order_of effects) (length events) → ⊥
@@ -77,7 +78,7 @@ pub evicted_ready : (w : World) → IsReady w → (p : Place) → IsReady (with_
 evicted_ready w v p = record {
   working = evicted_works w v.working p;
   tells = λ client told few h.
-      kept_told w v.working v.tells v.issued (with_flush w.memory p) (after_keeping w p) (kept_ledger w.shape w.memory (ledger_of w) p) (kept w v.working p).claimed (kept w v.working p).waiting (kept w v.working p).base
+      kept_told w v.working v.tells v.issued (with_fence w.memory p) (after_keeping w p) (kept_ledger w.shape w.memory (ledger_of w) p) (kept w v.working p).claimed (kept w v.working p).waiting (kept w v.working p).base
       (keep_records w.shape w.memory (ledger_of w) v.working.claimed v.working.waiting v.working.base v.working.records p) (noted w v.working p) (inr (record { p = p; same = refl })) client told few h;
   issued = v.issued;
 }

@@ -24,14 +24,15 @@ use Rattle.words.specs.declared.call.Kind.{Kind}
 use Rattle.words.specs.declared.call.Kind.TheVariants.{Durable, Log}
 use Rattle.words.specs.declared.call.Token.{Token}
 use Rattle.arena.specs.declared.codes.TheConstants.{EMPTY_STATUS, TAKEN_STATUS}
-use Rattle.recover.specs.Table.{access_of, successor, boot_recovery, taken_as, not_taken_as, no_call, report_of, recovery_at, recovery_after, point_at_the_end, point_past_status, to_node, to_mark, to_answer, to_outcome, past_head, node_at, token_at, IsPoint}
+use Rattle.recover.specs.Table.{access_of, successor, boot_recovery, taken_as, not_taken_as, no_call, report_of, recovery_at, recovery_after, point_at_the_end, point_past_status, to_node, to_mark, to_answer, to_outcome, past_head, node_at, token_at, IsPoint, kept_place, IsKeeping}
 use Rattle.words.specs.declared.call.Reply.TheVariants.{Done, Got, Empty}
 use Rattle.words.specs.declared.told.Outcome.TheVariants.{Taken}
 use Rattle.stepper.specs.declared.resume.After.TheVariants.{More, Done as Ready}
 use Rattle.recover.specs.declared.recovery.Recovery.{Recovery}
 use Rattle.recover.specs.declared.point.RecoveryPoint.{RecoveryPoint}
 use Rattle.recover.specs.declared.point.Report.{Report}
-use Rattle.recover.specs.declared.point.RecoveryPoint.TheVariants.{RecoveryLoadHead, RecoveryLoadNext, RecoveryLoadInsert, RecoveryStoreStatus, RecoveryLoadMark, RecoveryLoadValue, RecoveryStoreResult, RecoveryStoreHead, RecoveryStoreTail, RecoveryLoadAnnouncement, RecoveryLoadCell, RecoveryLoadNumber, RecoveryLoadKind, RecoveryLoadStatus, RecoveryLoadRemove, RecoveryLoadEntryNode, RecoveryLoadRemovedValue, Flush as FlushPoint}
+use Rattle.recover.specs.declared.point.RecoveryPoint.TheVariants.{RecoveryLoadHead, RecoveryLoadNext, RecoveryLoadInsert, RecoveryStoreStatus, RecoveryLoadMark, RecoveryLoadValue, RecoveryStoreResult, RecoveryStoreHead, RecoveryStoreTail, RecoveryLoadAnnouncement, RecoveryLoadCell, RecoveryLoadNumber, RecoveryLoadKind, RecoveryLoadStatus, RecoveryLoadRemove, RecoveryLoadEntryNode, RecoveryLoadRemovedValue, Flush as FlushPoint, Fence as FencePoint}
+use Rattle.recover.specs.declared.keeping.RecoveryKeeping.{RecoveryKeeping}
 use Rattle.recover.specs.declared.keeping.RecoveryKeeping.TheVariants.{Status as KeepStatus, Result as KeepResult, Head as KeepHead, Tail as KeepTail}
 use Rattle.events.specs.Effects.{order_of, settled_effects}
 use Rattle.events.specs.History.{BeginsAt, IsOpenFrom, IsDown}
@@ -47,7 +48,7 @@ use Rattle.events.proofs.TraceGrows.{crashed as log_crashed, ready as log_ready}
 use Rattle.events.proofs.TraceQueue.{queue_with_events, queue_settled_effects, part_settled_effects, all_settled}
 use Rattle.events.proofs.Members.{part_same}
 use Rattle.stepper.specs.declared.resume.After.{After}
-use Rattle.protocol.specs.Machine.{Memory, World, with_flush, with_access, effects_on_take, effects_on_count, effects_on_keep, after_keeping, after_flush, with_eviction, with_crash, with_recovery_step, next_recovery, recovery_left, recovery_events}
+use Rattle.protocol.specs.Machine.{Memory, World, with_fence, with_access, effects_on_take, effects_on_count, effects_on_keep, after_keeping, after_fence, with_eviction, with_crash, with_recovery_step, next_recovery, recovery_left, recovery_events}
 use Rattle.protocol.specs.Kept.{TellsOf}
 use Rattle.protocol.specs.Recovered.{end_of}
 use Rattle.arena.proofs.Chains.{in_left}
@@ -66,7 +67,7 @@ use Rattle.protocol.proofs.told.Rightly.{KeptBy}
 use Rattle.protocol.proofs.worlds.ReadyWorlds.{access_kept, none_at_end}
 use Rattle.protocol.specs.invariants.Sound.{memory_at_rest, idle_ledger, Sound}
 use Rattle.protocol.proofs.recovery.Sound.{crash_sound, wake_base}
-use Rattle.protocol.specs.invariants.Recovery.{Same, SameBut, TakenTo, Position, Claim, Unclaimed, Announced, At, AtPoint, IsUntold, nothing_told}
+use Rattle.protocol.specs.invariants.Recovery.{Same, SameBut, TakenTo, Position, Claim, Unclaimed, Announced, At, AtKeeping, AtPoint, IsUntold, nothing_told}
 use Rattle.protocol.proofs.recovery.Recovering.{node_fits}
 use Rattle.protocol.proofs.recovery.RecoveryEnds.{answered_among, result_fits, Recovers, RecoversAt, RecoversOn, Woken, RecoversNext, but_stored, keep_at, hand_may, tells_kept, row_LoadNext, row_LoadMark, row_KeepStatus, row_KeepResult, row_KeepHead, row_KeepTail}
 use Rattle.protocol.proofs.recovery.RecoveryTelling.{tell, verdict_right, dequeue_entry, row_LoadAnnouncement, row_LoadCell, row_LoadStatus, row_LoadRemove, row_LoadEntryNode}
@@ -84,7 +85,8 @@ point_row s m claimed waiting queue b some told (RecoveryLoadInsert p) u a =
     record { sound = b; at = (a.0, a.1, a.2, a.0 (Insert p.node) ∙ insert) }
 point_row s m claimed waiting queue b some told (RecoveryStoreStatus p) u a =
     record { sound = b; at = (but_stored m (Status p.entry) 1 a.0, put_same m.cached (Status p.entry) 1, a.1, a.2, a.3) }
-point_row s m claimed waiting queue b some told (FlushPoint (KeepStatus p)) u a = row_KeepStatus s m claimed waiting queue b told p.cur p.node p.entry p.moved a
+point_row s m claimed waiting queue b some told (FlushPoint k) u a = record { sound = b; at = a }
+point_row s m claimed waiting queue b some told (FencePoint (KeepStatus p)) u a = row_KeepStatus s m claimed waiting queue b told p.cur p.node p.entry p.moved a
 point_row s m claimed waiting queue b some told (RecoveryLoadMark p) u a = row_LoadMark s m claimed waiting queue b told p.cur p.node a.0 a.1 a.2
 point_row s m claimed waiting queue b some told (RecoveryLoadValue p) u a = record { sound = b; at = (a.0, a.1, λ d. a.0 (Value p.node), subst (λ x. x ≤ 4294967295) (sym (a.0 (Value p.node))) (b.fits (Value p.node) tt)) }
 point_row s m claimed waiting queue b some told (RecoveryStoreResult p) u a =
@@ -99,12 +101,12 @@ point_row s m claimed waiting queue b some told (RecoveryStoreResult p) u a =
         a.3,
       );
     }
-point_row s m claimed waiting queue b some told (FlushPoint (KeepResult p)) u a = row_KeepResult s m claimed waiting queue b told p.node p.mark p.value a
+point_row s m claimed waiting queue b some told (FencePoint (KeepResult p)) u a = row_KeepResult s m claimed waiting queue b told p.node p.mark p.value a
 point_row s m claimed waiting queue b some told (RecoveryStoreHead p) u a = record { sound = b; at = (but_stored m Head p.cur.0 a.0, refl, a.1) }
-point_row s m claimed waiting queue b some told (FlushPoint (KeepHead p)) u a = row_KeepHead s m claimed waiting queue b told p.cur p.unclaimed a
+point_row s m claimed waiting queue b some told (FencePoint (KeepHead p)) u a = row_KeepHead s m claimed waiting queue b told p.cur p.unclaimed a
 point_row s m claimed waiting queue b some told (RecoveryStoreTail p) u a =
     record { sound = b; at = (but_stored m Tail p.cur.0 a.0, record { cur = p.cur.0; last = a.1; cached = refl }) }
-point_row s m claimed waiting queue b some told (FlushPoint (KeepTail p)) u a = row_KeepTail s m claimed waiting queue b told some u a
+point_row s m claimed waiting queue b some told (FencePoint (KeepTail p)) u a = row_KeepTail s m claimed waiting queue b told some u a
 point_row s m claimed waiting queue b some told (RecoveryLoadAnnouncement p) u a = row_LoadAnnouncement s m claimed waiting queue b p.client told a.0 a.1
 point_row s m claimed waiting queue b some told (RecoveryLoadCell p) u a = row_LoadCell s m claimed waiting queue b p.client p.token told a.0 a.1 a.2 a.3
 point_row s m claimed waiting queue b some told (RecoveryLoadNumber p) u a = record { sound = b; at = (a.0, a.1, a.2, a.3, a.0 (Number p.token)) }
@@ -159,7 +161,8 @@ untold_next s told (RecoveryLoadNext p) found u = go (found == 0)
     go false = untold_to_node told u s.kind p.cur (node_at found) p.moved
 untold_next s told (RecoveryLoadInsert p) found u = u
 untold_next s told (RecoveryStoreStatus p) found u = u
-untold_next s told (FlushPoint (KeepStatus p)) found u = untold_past_status told u p.cur p.node p.moved
+untold_next s told (FlushPoint k) found u = u
+untold_next s told (FencePoint (KeepStatus p)) found u = untold_past_status told u p.cur p.node p.moved
 untold_next s told (RecoveryLoadMark p) found u = go (found == 0)
   where
     go : (c : Bool) → IsUntold told (if c then RecoveryStoreHead (record { cur = p.cur; unclaimed = Some p.node }) else to_mark s.kind p.node (token_at found))
@@ -167,11 +170,11 @@ untold_next s told (RecoveryLoadMark p) found u = go (found == 0)
     go false = untold_to_mark told u s.kind p.node (token_at found)
 untold_next s told (RecoveryLoadValue p) found u = u
 untold_next s told (RecoveryStoreResult p) found u = u
-untold_next s told (FlushPoint (KeepResult p)) found u = u
+untold_next s told (FencePoint (KeepResult p)) found u = u
 untold_next s told (RecoveryStoreHead p) found u = u
-untold_next s told (FlushPoint (KeepHead p)) found u = untold_past_head told u p.cur p.unclaimed
+untold_next s told (FencePoint (KeepHead p)) found u = untold_past_head told u p.cur p.unclaimed
 untold_next s told (RecoveryStoreTail p) found u = u
-untold_next s told (FlushPoint (KeepTail p)) found u = tt
+untold_next s told (FencePoint (KeepTail p)) found u = tt
 untold_next s told (RecoveryLoadAnnouncement p) found u = go (found == 0)
   where
     go : (c : Bool) → IsUntoldOn told (if c then report_of p.client (no_call s.kind) else More (to_answer s.kind p.client (token_at found)))
@@ -239,12 +242,12 @@ nobody_kept w none p = go (w.memory.kept p == w.memory.cached p)
     go true = refl
     go false = nobody_took w none p (w.memory.cached p)
 
-pub nobody_flushed : (w : World) → ((i : ℕ) → w.calls i ≡ None) → (o : Option Place) → after_flush w o ≡ w.log.effects
-nobody_flushed w none (Some p) = nobody_kept w none p
-nobody_flushed w none None = refl
+pub nobody_fenced : (w : World) → ((i : ℕ) → w.calls i ≡ None) → (o : Option Place) → after_fence w o ≡ w.log.effects
+nobody_fenced w none (Some p) = nobody_kept w none p
+nobody_fenced w none None = refl
 
 -- recovery changes no announcement
-announcement_stays : (w : World) (r : Recovery) → Recovering w r → (p : Place) (t : ℕ) → announcements (with_flush w.memory p).kept t ≡ announcements w.memory.kept t
+announcement_stays : (w : World) (r : Recovery) → Recovering w r → (p : Place) (t : ℕ) → announcements (with_fence w.memory p).kept t ≡ announcements w.memory.kept t
 announcement_stays w r v p t = elim (cases_eq (w.memory.kept p) (w.memory.cached p)) [
   | inl e ↦ elim (put_cases w.memory.kept p (w.memory.cached p) (Announcement (record { 0 = t }))) [
     | inl q ↦ q.1 ∙ sym e ∙ ap w.memory.kept (sym q.0)
@@ -257,19 +260,19 @@ announcement_stays w r v p t = elim (cases_eq (w.memory.kept p) (w.memory.cached
 pub evicted_recovering : (w : World) (r : Recovery) → Recovering w r → (p : Place) → Recovering (with_eviction w p) r
 evicted_recovering w r v p =
     let same : w.log.effects ≡ after_keeping w p = sym (nobody_kept w v.none p) in
-    let kept : Recovers w.shape (with_flush w.memory p) v.claimed v.waiting (queue_of w.log.events w.base w.log.effects) r = keep_at w.shape w.memory v.claimed v.waiting (queue_of w.log.events w.base w.log.effects) v.sound p r v.at in
+    let kept : Recovers w.shape (with_fence w.memory p) v.claimed v.waiting (queue_of w.log.events w.base w.log.effects) r = keep_at w.shape w.memory v.claimed v.waiting (queue_of w.log.events w.base w.log.effects) v.sound p r v.at in
     record {
       recovers = v.recovers;
       sixteen = v.sixteen;
       clients = v.clients;
       claimed = v.claimed;
       waiting = v.waiting;
-      sound = subst (λ e. Sound w.shape (with_flush w.memory p).kept v.claimed v.waiting (queue_of w.log.events w.base e)) same kept.sound;
+      sound = subst (λ e. Sound w.shape (with_fence w.memory p).kept v.claimed v.waiting (queue_of w.log.events w.base e)) same kept.sound;
       at = kept.at;
       none = v.none;
       idle = v.idle;
       log = subst (λ e. IsTrace w.shape.kind w.base w.told w.log.events e) same v.log;
-      tells = λ client told few h. subst (λ e. IsTold w.shape.kind w.told w.log.issued (announcements (with_flush w.memory p).kept client.0) w.log.events (order_of e) client told) same
+      tells = λ client told few h. subst (λ e. IsTold w.shape.kind w.told w.log.issued (announcements (with_fence w.memory p).kept client.0) w.log.events (order_of e) client told) same
           (subst (λ a. IsTold w.shape.kind w.told w.log.issued a w.log.events (order_of w.log.effects) client told) (sym (announcement_stays w r v p client.0))
           (v.tells client told few (tells_kept w.shape w.memory v.claimed v.waiting (queue_of w.log.events w.base w.log.effects) v.sound p r v.at client.0 told h)));
     }
@@ -348,15 +351,15 @@ abbrev pub recovered_to : World → Recovery → After Recovery (List Told) → 
 recovered_to w r next = record w {
   memory = with_access w.memory (access_of w.shape.kind r.at);
   recovery = recovery_left next;
-  log = record { events = recovery_events w.log.events next; issued = w.log.issued; effects = after_flush w (kept_by (access_of w.shape.kind r.at)) };
+  log = record { events = recovery_events w.log.events next; issued = w.log.issued; effects = after_fence w (kept_by (access_of w.shape.kind r.at)) };
 }
 
 module _ (w : World) (r : Recovery) (v : Recovering w r) where
   queue : List ℕ
   queue = queue_of w.log.events w.base w.log.effects
 
-  same_effects : w.log.effects ≡ after_flush w (kept_by (access_of w.shape.kind r.at))
-  same_effects = sym (nobody_flushed w v.none (kept_by (access_of w.shape.kind r.at)))
+  same_effects : w.log.effects ≡ after_fence w (kept_by (access_of w.shape.kind r.at))
+  same_effects = sym (nobody_fenced w v.none (kept_by (access_of w.shape.kind r.at)))
 
   after_tells : (client : Client) (told : Told) → client.0 < 16 → TellsOf w.shape (with_access w.memory (access_of w.shape.kind r.at)).kept client.0 told
       → IsTold w.shape.kind w.told w.log.issued (announcements (with_access w.memory (access_of w.shape.kind r.at)).kept client.0) w.log.events (order_of w.log.effects) client told
@@ -385,17 +388,17 @@ module _ (w : World) (r : Recovery) (v : Recovering w r) where
       let n : Memory = with_access w.memory (access_of w.shape.kind r.at) in
       let is_still : memory_at_rest (with_access w.memory (access_of w.shape.kind r.at)).kept ≡ with_access w.memory (access_of w.shape.kind r.at) =
       ap (λ (f : Place → ℕ). let k : Memory = record { cached = f; kept = (with_access w.memory (access_of w.shape.kind r.at)).kept } in k) (sym (fun_ext h.same)) in
-      let log_before : IsTrace w.shape.kind w.base w.told w.log.events (after_flush w (kept_by (access_of w.shape.kind r.at))) = subst (λ e. IsTrace w.shape.kind w.base w.told w.log.events e) same_effects v.log in
+      let log_before : IsTrace w.shape.kind w.base w.told w.log.events (after_fence w (kept_by (access_of w.shape.kind r.at))) = subst (λ e. IsTrace w.shape.kind w.base w.told w.log.events e) same_effects v.log in
       let rightly : (client : Client) (x : Told) → slice_get told client.0 ≡ Some x
-      → IsToldSome w.shape.kind w.log.events (order_of (after_flush w (kept_by (access_of w.shape.kind r.at)))) client (length w.log.events) x ⊎ IsToldBase w.shape.kind w.told w.log.events (order_of (after_flush w (kept_by (access_of w.shape.kind r.at)))) client (length w.log.events) x = λ client x e.
-      told_rightly w.shape.kind w.told w.log.issued (announcements n.kept client.0) w.log.events (order_of (after_flush w (kept_by (access_of w.shape.kind r.at)))) client x
+      → IsToldSome w.shape.kind w.log.events (order_of (after_fence w (kept_by (access_of w.shape.kind r.at)))) client (length w.log.events) x ⊎ IsToldBase w.shape.kind w.told w.log.events (order_of (after_fence w (kept_by (access_of w.shape.kind r.at)))) client (length w.log.events) x = λ client x e.
+      told_rightly w.shape.kind w.told w.log.issued (announcements n.kept client.0) w.log.events (order_of (after_fence w (kept_by (access_of w.shape.kind r.at)))) client x
       (subst (λ es. IsTold w.shape.kind w.told w.log.issued (announcements n.kept client.0) w.log.events (order_of es) client x) same_effects
       (after_tells client x (subst (λ q. client.0 < q) h.sixteen (slice_get_within told client.0 x e)) (h.tells client.0 x e))) in
-      let log_now : IsTrace w.shape.kind w.base w.told (w.log.events ++ ready_event told ∷ []) (after_flush w (kept_by (access_of w.shape.kind r.at))) =
-      log_ready w.shape.kind w.base w.told w.log.events (after_flush w (kept_by (access_of w.shape.kind r.at))) told log_before
+      let log_now : IsTrace w.shape.kind w.base w.told (w.log.events ++ ready_event told ∷ []) (after_fence w (kept_by (access_of w.shape.kind r.at))) =
+      log_ready w.shape.kind w.base w.told w.log.events (after_fence w (kept_by (access_of w.shape.kind r.at))) told log_before
       (record { sixteen = h.sixteen; rightly = record { each = rightly }; idle = v.idle }) in
-      let same_queue : queue_of (w.log.events ++ ready_event told ∷ []) w.base (after_flush w (kept_by (access_of w.shape.kind r.at))) ≡ queue_of w.log.events w.base w.log.effects =
-      queue_with_events w.shape.kind w.base w.told w.log.events (after_flush w (kept_by (access_of w.shape.kind r.at))) (ready_event told ∷ []) log_before
+      let same_queue : queue_of (w.log.events ++ ready_event told ∷ []) w.base (after_fence w (kept_by (access_of w.shape.kind r.at))) ≡ queue_of w.log.events w.base w.log.effects =
+      queue_with_events w.shape.kind w.base w.told w.log.events (after_fence w (kept_by (access_of w.shape.kind r.at))) (ready_event told ∷ []) log_before
       ∙ ap (queue_of w.log.events w.base) (sym same_effects) in
       let ledger_is : idle_ledger (queue_of w.log.events w.base w.log.effects) ≡ ledger_of (recovered_to w r (Ready told)) = sym (idle_is same_queue) in
       let base : Base w.shape (with_access w.memory (access_of w.shape.kind r.at)) (ledger_of (recovered_to w r (Ready told))) v.claimed v.waiting =
@@ -420,8 +423,8 @@ module _ (w : World) (r : Recovery) (v : Recovering w r) where
           log = log_now;
         };
         tells = λ client x few q.
-            IsTold-push w.shape.kind w.told w.log.issued (announcements n.kept client.0) w.log.events (ready_event told) (order_of (after_flush w (kept_by (access_of w.shape.kind r.at)))) client x
-            (none_at_end w.shape.kind w.base w.told w.log.events (after_flush w (kept_by (access_of w.shape.kind r.at))) log_before)
+            IsTold-push w.shape.kind w.told w.log.issued (announcements n.kept client.0) w.log.events (ready_event told) (order_of (after_fence w (kept_by (access_of w.shape.kind r.at)))) client x
+            (none_at_end w.shape.kind w.base w.told w.log.events (after_fence w (kept_by (access_of w.shape.kind r.at))) log_before)
             (subst (λ es. IsTold w.shape.kind w.told w.log.issued (announcements n.kept client.0) w.log.events (order_of es) client x) same_effects (after_tells client x few q));
         issued = λ j x at. let wrong : None ≡ Some x = sym (v.none j) ∙ at in absurd (cc);
       }
@@ -437,21 +440,21 @@ module _ (w : World) (r : Recovery) (v : Recovering w r) where
       nobody_is : (i : ℕ) → record_of_call (w.calls i) ≡ nobody
       nobody_is i = ap record_of_call (v.none i)
 
-      unmoved_is : (i : ℕ) → stage_of (w.calls i) (after_flush w (kept_by (access_of w.shape.kind r.at))) ≡ Unmoved
-      unmoved_is i = ap (λ c. stage_of c (after_flush w (kept_by (access_of w.shape.kind r.at)))) (v.none i)
+      unmoved_is : (i : ℕ) → stage_of (w.calls i) (after_fence w (kept_by (access_of w.shape.kind r.at))) ≡ Unmoved
+      unmoved_is i = ap (λ c. stage_of c (after_fence w (kept_by (access_of w.shape.kind r.at)))) (v.none i)
 
-      idle_is : queue_of (w.log.events ++ ready_event told ∷ []) w.base (after_flush w (kept_by (access_of w.shape.kind r.at))) ≡ queue_of w.log.events w.base w.log.effects
+      idle_is : queue_of (w.log.events ++ ready_event told ∷ []) w.base (after_fence w (kept_by (access_of w.shape.kind r.at))) ≡ queue_of w.log.events w.base w.log.effects
           → ledger_of (recovered_to w r (Ready told)) ≡ idle_ledger (queue_of w.log.events w.base w.log.effects)
       idle_is e =
           ap (λ (f : ℕ → Begun). let k : Ledger = record {
             begun = f;
-            stage = λ i. stage_of (w.calls i) (after_flush w (kept_by (access_of w.shape.kind r.at)));
-            queue = queue_of (w.log.events ++ ready_event told ∷ []) w.base (after_flush w (kept_by (access_of w.shape.kind r.at)));
+            stage = λ i. stage_of (w.calls i) (after_fence w (kept_by (access_of w.shape.kind r.at)));
+            queue = queue_of (w.log.events ++ ready_event told ∷ []) w.base (after_fence w (kept_by (access_of w.shape.kind r.at)));
           } in k) (fun_ext nobody_is)
           ∙ ap (λ (f : ℕ → Stage). let k : Ledger = record {
             begun = λ i. nobody;
             stage = f;
-            queue = queue_of (w.log.events ++ ready_event told ∷ []) w.base (after_flush w (kept_by (access_of w.shape.kind r.at)));
+            queue = queue_of (w.log.events ++ ready_event told ∷ []) w.base (after_fence w (kept_by (access_of w.shape.kind r.at)));
           } in k) (fun_ext unmoved_is)
           ∙ ap (λ (q : List ℕ). let k : Ledger = record { begun = λ i. nobody; stage = λ i. Unmoved; queue = q } in k) e
 
@@ -502,22 +505,26 @@ module _ (s : Shape) (m : Memory) (claimed waiting queue : List ℕ) (b : Sound 
   unclaimed_fits cur None u = tt
   unclaimed_fits cur (Some n) u = link_fits cur n.0 u.0
 
+  keeping_fits : (k : RecoveryKeeping) → AtKeeping s m claimed k → IsKeeping s k
+  keeping_fits (KeepStatus p) a =
+      (a.3, position_fits p.moved p.cur.0 a.2.position, link_fits p.cur.0 p.node.0 a.2.link, subst (IsRecord s) (sym a.4) (omega (arith, a.2.some), link_fits p.cur.0 p.node.0 a.2.link))
+  keeping_fits (KeepResult p) a = (link_fits a.2.cur p.node.0 a.2.ahead.link, mark_fits p.node.0 p.mark.0 a.2, a.4)
+  keeping_fits (KeepHead p) a = (answered_fits p.cur.0 a.2.answered, unclaimed_fits p.cur.0 p.unclaimed a.2.next)
+  keeping_fits (KeepTail p) a = tt
+
   point_fits_at : (told : List Told) (at : RecoveryPoint) → AtPoint s m claimed waiting told at → IsPoint s at
   point_fits_at told (RecoveryLoadHead p) a = tt
   point_fits_at told (RecoveryLoadNext p) a = position_fits p.moved p.cur.0 a.1
   point_fits_at told (RecoveryLoadInsert p) a = (a.2, position_fits p.moved p.cur.0 a.1.position, link_fits p.cur.0 p.node.0 a.1.link)
   point_fits_at told (RecoveryStoreStatus p) a =
       (a.2, position_fits p.moved p.cur.0 a.1.position, link_fits p.cur.0 p.node.0 a.1.link, subst (IsRecord s) (sym a.3) (omega (arith, a.1.some), link_fits p.cur.0 p.node.0 a.1.link))
-  point_fits_at told (FlushPoint (KeepStatus p)) a =
-      (a.3, position_fits p.moved p.cur.0 a.2.position, link_fits p.cur.0 p.node.0 a.2.link, subst (IsRecord s) (sym a.4) (omega (arith, a.2.some), link_fits p.cur.0 p.node.0 a.2.link))
   point_fits_at told (RecoveryLoadMark p) a = (answered_fits p.cur.0 a.1.position, link_fits p.cur.0 p.node.0 a.1.link)
   point_fits_at told (RecoveryLoadValue p) a = (link_fits a.1.cur p.node.0 a.1.ahead.link, mark_fits p.node.0 p.mark.0 a.1)
   point_fits_at told (RecoveryStoreResult p) a = (link_fits a.1.cur p.node.0 a.1.ahead.link, mark_fits p.node.0 p.mark.0 a.1, a.3)
-  point_fits_at told (FlushPoint (KeepResult p)) a = (link_fits a.2.cur p.node.0 a.2.ahead.link, mark_fits p.node.0 p.mark.0 a.2, a.4)
   point_fits_at told (RecoveryStoreHead p) a = (answered_fits p.cur.0 a.1.answered, unclaimed_fits p.cur.0 p.unclaimed a.1.next)
-  point_fits_at told (FlushPoint (KeepHead p)) a = (answered_fits p.cur.0 a.2.answered, unclaimed_fits p.cur.0 p.unclaimed a.2.next)
   point_fits_at told (RecoveryStoreTail p) a = taken_fits p.cur.0 a.1.taken
-  point_fits_at told (FlushPoint (KeepTail p)) a = tt
+  point_fits_at told (FlushPoint k) a = keeping_fits k a
+  point_fits_at told (FencePoint k) a = keeping_fits k a
   point_fits_at told (RecoveryLoadAnnouncement p) a = a.1.below
   point_fits_at told (RecoveryLoadCell p) a = (a.3, a.1.below, token_fits p.client p.token.0 a.2)
   point_fits_at told (RecoveryLoadNumber p) a = (a.3, a.1.below, token_fits p.client p.token.0 a.2)
@@ -555,6 +562,13 @@ module _ (s : Shape) (m : Memory) (claimed waiting queue : List ℕ) (b : Sound 
   same_fits same p read = subst (Fits s p) (sym (same p)) (b.fits p read)
 
   -- each word that recovery reads is in range
+  kept_fits : (k : RecoveryKeeping) → AtKeeping s m claimed k → Fits s (kept_place s.kind k) (m.cached (kept_place s.kind k))
+  kept_fits (KeepStatus p) a = subst (λ x. x ≤ 2) (sym a.1) (omega arith)
+  kept_fits (KeepResult p) a =
+      subst (Fits s (result_of s.kind p.mark p.node p.value).place) (sym a.1) (result_fits s s.kind p.mark p.node p.value (λ d. a.4) (link_fits a.2.cur p.node.0 a.2.ahead.link))
+  kept_fits (KeepHead p) a = subst (λ x. x ≤ greatest s) (sym a.1) (answered_fits p.cur.0 a.2.answered)
+  kept_fits (KeepTail p) a = subst (λ x. x ≤ greatest s) (sym a.1.cached) (taken_fits a.1.cur a.1.last.taken)
+
   reads_fit_at : (told : List Told) (at : RecoveryPoint) → AtPoint s m claimed waiting told at → Fits s (place_of (access_of s.kind at)) (m.cached (place_of (access_of s.kind at)))
   reads_fit_at told (RecoveryLoadHead p) a = same_fits a Head tt
   reads_fit_at told (RecoveryLoadNext p) a = same_fits a.0 (Next p.cur) tt
@@ -563,17 +577,14 @@ module _ (s : Shape) (m : Memory) (claimed waiting queue : List ℕ) (b : Sound 
       let insert : inserts m.kept p.node.0 ≡ p.node.0 = subst (λ x. inserts m.kept x ≡ x) a.1.link ((b.records queue).enqueued a.2 p.cur.0 linked).insert.0 in
       subst (λ x. x ≤ greatest s) (sym (a.0 (Insert p.node) ∙ insert)) (link_fits p.cur.0 p.node.0 a.1.link)
   reads_fit_at told (RecoveryStoreStatus p) a = same_fits a.0 (Status p.entry) tt
-  reads_fit_at told (FlushPoint (KeepStatus p)) a = subst (λ x. x ≤ 2) (sym a.1) (omega arith)
   reads_fit_at told (RecoveryLoadMark p) a = same_fits a.0 (Mark p.node) tt
   reads_fit_at told (RecoveryLoadValue p) a = same_fits a.0 (Value p.node) tt
   reads_fit_at told (RecoveryStoreResult p) a =
       subst (Fits s (result_of s.kind p.mark p.node p.value).place) (sym (a.0 (result_of s.kind p.mark p.node p.value).place)) (result_word_fits p.node p.mark p.value a.1 s.kind refl)
-  reads_fit_at told (FlushPoint (KeepResult p)) a =
-      subst (Fits s (result_of s.kind p.mark p.node p.value).place) (sym a.1) (result_fits s s.kind p.mark p.node p.value (λ d. a.4) (link_fits a.2.cur p.node.0 a.2.ahead.link))
   reads_fit_at told (RecoveryStoreHead p) a = same_fits a.0 Head tt
-  reads_fit_at told (FlushPoint (KeepHead p)) a = subst (λ x. x ≤ greatest s) (sym a.1) (answered_fits p.cur.0 a.2.answered)
   reads_fit_at told (RecoveryStoreTail p) a = same_fits a.0 Tail tt
-  reads_fit_at told (FlushPoint (KeepTail p)) a = subst (λ x. x ≤ greatest s) (sym a.1.cached) (taken_fits a.1.cur a.1.last.taken)
+  reads_fit_at told (FlushPoint k) a = kept_fits k a
+  reads_fit_at told (FencePoint k) a = kept_fits k a
   reads_fit_at told (RecoveryLoadAnnouncement p) a = same_fits a.0 (Announcement p.client) tt
   reads_fit_at told (RecoveryLoadCell p) a = same_fits a.0 (Cell p.token) tt
   reads_fit_at told (RecoveryLoadNumber p) a = number_fits a.3 p.client.0 p.token.0 (m.cached (Number p.token)) a.2 (a.0 (Number p.token))
@@ -595,20 +606,24 @@ module _ (s : Shape) (m : Memory) (claimed waiting queue : List ℕ) (b : Sound 
   ]
 
   -- each word that calls will read is in range
+  all_fit_but : (k : RecoveryKeeping) → AtKeeping s m claimed k → AllFit s m.cached
+  all_fit_but (KeepStatus p) a = but_fits (Status p.entry) a.0 (kept_fits (KeepStatus p) a)
+  all_fit_but (KeepResult p) a = but_fits (result_of s.kind p.mark p.node p.value).place a.0 (kept_fits (KeepResult p) a)
+  all_fit_but (KeepHead p) a = but_fits Head a.0 (kept_fits (KeepHead p) a)
+  all_fit_but (KeepTail p) a = but_fits Tail a.0 (kept_fits (KeepTail p) a)
+
   all_fit_at : (told : List Told) (at : RecoveryPoint) → AtPoint s m claimed waiting told at → AllFit s m.cached
   all_fit_at told (RecoveryLoadHead p) a = same_fits a
   all_fit_at told (RecoveryLoadNext p) a = same_fits a.0
   all_fit_at told (RecoveryLoadInsert p) a = same_fits a.0
   all_fit_at told (RecoveryStoreStatus p) a = same_fits a.0
-  all_fit_at told (FlushPoint (KeepStatus p)) a = but_fits (Status p.entry) a.0 (reads_fit_at told (FlushPoint (KeepStatus p)) a)
   all_fit_at told (RecoveryLoadMark p) a = same_fits a.0
   all_fit_at told (RecoveryLoadValue p) a = same_fits a.0
   all_fit_at told (RecoveryStoreResult p) a = same_fits a.0
-  all_fit_at told (FlushPoint (KeepResult p)) a = but_fits (result_of s.kind p.mark p.node p.value).place a.0 (reads_fit_at told (FlushPoint (KeepResult p)) a)
   all_fit_at told (RecoveryStoreHead p) a = same_fits a.0
-  all_fit_at told (FlushPoint (KeepHead p)) a = but_fits Head a.0 (reads_fit_at told (FlushPoint (KeepHead p)) a)
   all_fit_at told (RecoveryStoreTail p) a = same_fits a.0
-  all_fit_at told (FlushPoint (KeepTail p)) a = but_fits Tail a.0 (reads_fit_at told (FlushPoint (KeepTail p)) a)
+  all_fit_at told (FlushPoint k) a = all_fit_but k a
+  all_fit_at told (FencePoint k) a = all_fit_but k a
   all_fit_at told (RecoveryLoadAnnouncement p) a = same_fits a.0
   all_fit_at told (RecoveryLoadCell p) a = same_fits a.0
   all_fit_at told (RecoveryLoadNumber p) a = same_fits a.0

@@ -18,7 +18,7 @@ use Rattle.helping.specs.Claims.{winner}
 use Rattle.helping.specs.declared.dequeue.Claim.{Claim}
 use Rattle.helping.specs.declared.dequeue.Claim.TheVariants.{LostTo, Won}
 use Rattle.helping.specs.declared.op.Op.{Op}
-use Rattle.helping.specs.declared.op.Op.TheVariants.{DequeueCheckHead, DequeueClaim, DequeueHelpTail, DequeueLoadHead, DequeueLoadNext, DequeueLoadTail, DequeueLoadValue, DequeueMoveHead, DequeueStoreEmpty, DequeueStoreResult, EnqueueCheckTail, EnqueueHelpTail, EnqueueLink, EnqueueLoadNext, EnqueueLoadTail, EnqueueMoveTail, PrepareFlush, PrepareStore, Flush as FlushPoint}
+use Rattle.helping.specs.declared.op.Op.TheVariants.{DequeueCheckHead, DequeueClaim, DequeueHelpTail, DequeueLoadHead, DequeueLoadNext, DequeueLoadTail, DequeueLoadValue, DequeueMoveHead, DequeueStoreEmpty, DequeueStoreResult, EnqueueCheckTail, EnqueueHelpTail, EnqueueLink, EnqueueLoadNext, EnqueueLoadTail, EnqueueMoveTail, PrepareFlush, PrepareFence, PrepareStore, Flush as FlushPoint, Fence as FencePoint}
 use Rattle.helping.specs.declared.keeping.Keeping.{Keeping}
 use Rattle.helping.specs.declared.keeping.Keeping.TheVariants.{Claim as KeepClaim, Empty as KeepEmpty, DequeuePassedLink as KeepDequeuePassedLink, Result as KeepResult, Link as KeepLink, PassedLink as KeepPassedLink}
 use Rattle.protocol.specs.Machine.{Memory}
@@ -154,6 +154,7 @@ KnowsKeeping s m l i (KeepResult p) =
 abbrev pub Knows : Shape → Memory → Ledger → ℕ → Op → Type 0
 Knows s m l i (PrepareStore p) = Preparing s m l i p.begun p.index p.write
 Knows s m l i (PrepareFlush p) = Preparing s m l i p.begun p.index p.write × IsWritten m.cached p.write
+Knows s m l i (PrepareFence p) = Preparing s m l i p.begun p.index p.write × IsWritten m.cached p.write
 Knows s m l i (EnqueueLoadTail p) = Enqueuing s m l i p.node.0
 Knows s m l i (EnqueueLoadNext p) = Enqueuing s m l i p.node.0 × WasTail m p.last.0
 Knows s m l i (EnqueueCheckTail p) =
@@ -187,3 +188,4 @@ Knows s m l i (DequeueMoveHead p) =
     × IsWritten m.cached (result_of s.kind (winner p.claimed.claim p.claimed.token) p.claimed.next p.claimed.value)
     × IsWritten m.kept (result_of s.kind (winner p.claimed.claim p.claimed.token) p.claimed.next p.claimed.value)
 Knows s m l i (FlushPoint k) = KnowsKeeping s m l i k
+Knows s m l i (FencePoint k) = KnowsKeeping s m l i k

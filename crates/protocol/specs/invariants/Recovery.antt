@@ -13,7 +13,7 @@ use Rattle.arena.specs.declared.place.Place.{Place}
 use Rattle.arena.specs.declared.place.Place.TheVariants.{Head, Status, Tail}
 use Rattle.recover.specs.declared.recovery.Recovery.{Recovery}
 use Rattle.recover.specs.declared.point.RecoveryPoint.{RecoveryPoint}
-use Rattle.recover.specs.declared.point.RecoveryPoint.TheVariants.{RecoveryLoadAnnouncement, RecoveryLoadCell, RecoveryLoadEntryNode, RecoveryLoadHead, RecoveryLoadInsert, RecoveryLoadKind, RecoveryLoadMark, RecoveryLoadNext, RecoveryLoadNumber, RecoveryLoadRemove, RecoveryLoadRemovedValue, RecoveryLoadStatus, RecoveryLoadValue, RecoveryStoreHead, RecoveryStoreResult, RecoveryStoreStatus, RecoveryStoreTail, Flush as FlushPoint}
+use Rattle.recover.specs.declared.point.RecoveryPoint.TheVariants.{RecoveryLoadAnnouncement, RecoveryLoadCell, RecoveryLoadEntryNode, RecoveryLoadHead, RecoveryLoadInsert, RecoveryLoadKind, RecoveryLoadMark, RecoveryLoadNext, RecoveryLoadNumber, RecoveryLoadRemove, RecoveryLoadRemovedValue, RecoveryLoadStatus, RecoveryLoadValue, RecoveryStoreHead, RecoveryStoreResult, RecoveryStoreStatus, RecoveryStoreTail, Flush as FlushPoint, Fence as FencePoint}
 use Rattle.recover.specs.declared.keeping.RecoveryKeeping.{RecoveryKeeping}
 use Rattle.recover.specs.declared.keeping.RecoveryKeeping.TheVariants.{Head as KeepHead, Result as KeepResult, Status as KeepStatus, Tail as KeepTail}
 use Rattle.protocol.specs.Kept.{TellsOf}
@@ -111,6 +111,7 @@ IsUntold told (RecoveryLoadRemove p) = Unit {0}
 IsUntold told (RecoveryLoadEntryNode p) = Unit {0}
 IsUntold told (RecoveryLoadRemovedValue p) = Unit {0}
 IsUntold told (FlushPoint k) = told ≡ nothing_told
+IsUntold told (FencePoint k) = told ≡ nothing_told
 
 -- what recovery knows where it is about to keep a word: that word alone may differ
 abbrev pub AtKeeping : Shape → Memory → List ℕ → RecoveryKeeping → Type 0
@@ -176,6 +177,7 @@ AtPoint s m claimed waiting told (RecoveryLoadRemovedValue p) =
       marked : marks m.kept p.node.0 ≡ token;
     }
 AtPoint s m claimed waiting told (FlushPoint k) = AtKeeping s m claimed k
+AtPoint s m claimed waiting told (FencePoint k) = AtKeeping s m claimed k
 
 -- what recovery knows where it waits
 pub record At (s : Shape) (m : Memory) (claimed waiting : List ℕ) (r : Recovery) : Type 0 where

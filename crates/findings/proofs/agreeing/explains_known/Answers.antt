@@ -10,7 +10,8 @@ returns-clause-explained c = λ yes.
     record {
       is_order = explained.explains.is_order;
       answers = explained.explains.answers;
-      replays = subst (λ (base : List ℕ). Replays c.args.history.now.events.items base c.args.order.now.entries.items) none
+      replays = subst (λ (base : List ℕ). Replays c.args.history.now.events.items base
+          c.args.order.now.entries.items) none
           explained.explains.replays;
       precedence = explained.explains.precedence;
       agrees = search rules;

@@ -3,11 +3,11 @@ use Rattle.history.proofs.answering.after_event.Goals as goal
 
 pub returns-then-begins_at-clause-some : goal.returns-then-begins_at-clause-some
 returns-then-begins_at-clause-some c = pass_call _ _ _ _ _ _ c.requires.so_far
-    (c.begins_at.ensures.0 c.if-begins_at.true)
+    (c.begins_at.ensures.begins.0 c.if-begins_at.true)
 
 pub returns-in_default-clause-some : goal.returns-in_default-clause-some
 returns-in_default-clause-some c = pass_other _ _ _ _ _ _ c.requires.so_far
-    (λ begins. cc (c.begins_at.ensures.1 begins, c.if-begins_at.false)) c.in_default.ensures.none
+    (λ begins. cc (c.begins_at.ensures.begins.1 begins, c.if-begins_at.false)) c.in_default.ensures.none
 
 pub returns-in_default-place_after_entry-clause-none : goal.returns-in_default-place_after_entry-clause-none
 returns-in_default-place_after_entry-clause-none c =

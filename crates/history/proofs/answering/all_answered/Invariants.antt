@@ -3,4 +3,4 @@ use Rattle.history.specs.Sweeps.{IsAnsweredOf}
 use Rattle.history.proofs.answering.all_answered.Given as goal
 
 abbrev pub invariant-loop-t : goal.invariant-loop-t
-invariant-loop-t l = (k : ℕ) → k < l.t → IsAnsweredOf l.events l.entries (record { 0 = k })
+invariant-loop-t l = (k : ℕ) → k < l.t → IsAnsweredOf l.events.items l.entries (record { 0 = k })

@@ -6,6 +6,7 @@ use Rattle.history.proofs.arising.is_in_turn.Given as goal
 
 abbrev pub invariant-loop-p : goal.invariant-loop-p
 invariant-loop-p l = record {
-  open_now : IsTrue l.busy ↔ IsUnderWay l.events l.client l.p;
-  each : (k : ℕ) (event : Event) → k < l.p → slice_get l.events k ≡ Some event → StandsInTurn l.events l.client k event;
+  open_now : IsTrue l.busy ↔ IsUnderWay l.events.items l.client l.p;
+  each : (k : ℕ) (event : Event) → k < l.p → slice_get l.events.items k ≡ Some event
+      → StandsInTurn l.events.items l.client k event;
 }

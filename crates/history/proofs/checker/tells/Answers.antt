@@ -7,7 +7,7 @@ use Rattle.history.proofs.checker.tells.Goals as goal
 
 pub returns-then-is_durable : goal.returns-then-is_durable
 returns-then-is_durable c =
-    let durable : IsDurable c.args.events.now = c.is_durable.ensures.0 c.if-is_durable.true in (
+    let durable : IsDurable c.args.events.now.items = c.is_durable.ensures.0 c.if-is_durable.true in (
       λ told. record {
         verdicts = λ log. absurd (log durable);
         interrupted = λ log. absurd (log durable);
@@ -18,11 +18,11 @@ returns-then-is_durable c =
 
 pub returns : goal.returns
 returns c =
-    let log : ¬ (IsDurable c.args.events.now) =
+    let log : ¬ (IsDurable c.args.events.now.items) =
     λ durable. cc (c.is_durable.ensures.1 durable, c.if-is_durable.false) in (
       λ told.
           let verdicts = c.all_told-2.ensures.told.0 told in
-          let sixteen : (q : ℕ) (tells : List Told) → ReadyAt c.args.events.now q tells
+          let sixteen : (q : ℕ) (tells : List Told) → ReadyAt c.args.events.now.items q tells
           → length tells ≡ 16 = λ q tells at.
           (c.all_told-2.ensures.sixteen told q (slice_get_within _ _ _ at)).sixteen tells at in
           record {

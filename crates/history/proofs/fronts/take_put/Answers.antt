@@ -11,10 +11,10 @@ returns-in-Some-Enq-clause-front c = sym c.loop-k.invariant
 pub returns-clause-front : goal.returns-clause-front
 returns-clause-front c =
     let end : c.loop-k.k ≡ c.args.to = omega (arith, c.loop-k-test.false, c.loop-k.auto.k-end c.requires.below) in
-    sym c.loop-k.invariant ∙ ap (λ (k : ℕ). values_between c.args.events.now c.args.entries.now k c.args.to) end
+    sym c.loop-k.invariant ∙ ap (λ (k : ℕ). values_between c.args.events.now.items c.args.entries.now k c.args.to) end
 
 pub returns-clause-none : goal.returns-clause-none
 returns-clause-none c =
     let end : c.loop-k.k ≡ c.args.to = omega (arith, c.loop-k-test.false, c.loop-k.auto.k-end c.requires.below) in
-    sym c.loop-k.invariant ∙ ap (λ (k : ℕ). values_between c.args.events.now c.args.entries.now k c.args.to) end
-    ∙ values_none c.args.events.now c.args.entries.now c.args.to
+    sym c.loop-k.invariant ∙ ap (λ (k : ℕ). values_between c.args.events.now.items c.args.entries.now k c.args.to) end
+    ∙ values_none c.args.events.now.items c.args.entries.now c.args.to

@@ -4,4 +4,5 @@ use Rattle.history.proofs.fronts.take_put.Given as goal
 
 -- the entries before it put nothing
 abbrev pub invariant-loop-k : goal.invariant-loop-k
-invariant-loop-k l = values_between l.events l.entries l.k l.to ≡ values_between l.events l.entries l.from l.to
+invariant-loop-k l =
+    values_between l.events.items l.entries l.k l.to ≡ values_between l.events.items l.entries l.from l.to

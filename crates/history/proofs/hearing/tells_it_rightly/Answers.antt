@@ -13,12 +13,12 @@ returns-then-says_of_later c = (
 
 pub returns-in-None : goal.returns-in-None
 returns-in-None c =
-    let none : IsToldSome c.args.who.now.kind c.args.who.now.events.now c.args.who.now.entries.now
+    let none : IsToldSome c.args.who.now.kind c.args.who.now.events.now.items c.args.who.now.entries.now
     c.args.who.now.client c.args.q c.args.told
     → ⊥ = not_some _ _ _ _ _ _ _ _ _ c.requires.once c.requires.progress c.requires.later
     (λ last. cc (c.says_of_last.ensures.1 last, c.if-says_of_last.false))
     (λ later. cc (c.says_of_later.ensures.1 later, c.if-says_of_later.false)) in
-    let progress = subst (λ (last : Option ℕ). IsProgress c.args.who.now.kind c.args.who.now.events.now
+    let progress = subst (λ (last : Option ℕ). IsProgress c.args.who.now.kind c.args.who.now.events.now.items
     c.args.who.now.entries.now c.args.who.now.client c.args.q c.args.progress.from last) c.in-None.is
     c.requires.progress in (
       λ same. inr (record { none = base_from_none _ _ _ _ _ _ progress; same = c.is_told.ensures.0 same }),
@@ -27,12 +27,12 @@ returns-in-None c =
 
 pub returns-in-Some : goal.returns-in-Some
 returns-in-Some c =
-    let none : IsToldSome c.args.who.now.kind c.args.who.now.events.now c.args.who.now.entries.now
+    let none : IsToldSome c.args.who.now.kind c.args.who.now.events.now.items c.args.who.now.entries.now
     c.args.who.now.client c.args.q c.args.told
     → ⊥ = not_some _ _ _ _ _ _ _ _ _ c.requires.once c.requires.progress c.requires.later
     (λ last. cc (c.says_of_last.ensures.1 last, c.if-says_of_last.false))
     (λ later. cc (c.says_of_later.ensures.1 later, c.if-says_of_later.false)) in
-    let progress = subst (λ (last : Option ℕ). IsProgress c.args.who.now.kind c.args.who.now.events.now
+    let progress = subst (λ (last : Option ℕ). IsProgress c.args.who.now.kind c.args.who.now.events.now.items
     c.args.who.now.entries.now c.args.who.now.client c.args.q c.args.progress.from last) c.in-Some.is
     c.requires.progress in (
       search rules,

@@ -4,4 +4,5 @@ use Rattle.events.specs.History.{MayStand}
 use Rattle.history.proofs.places.may_all_stand.Given as goal
 
 abbrev pub invariant-loop-p : goal.invariant-loop-p
-invariant-loop-p l = (k : ℕ) (event : Event) → k < l.p → slice_get l.events k ≡ Some event → MayStand l.events k event
+invariant-loop-p l =
+    (k : ℕ) (event : Event) → k < l.p → slice_get l.events.items k ≡ Some event → MayStand l.events.items k event

@@ -4,7 +4,7 @@ use Rattle.history.proofs.plain.explains.Goals as goal
 
 pub returns-then-is_durable : goal.returns-then-is_durable
 returns-then-is_durable c =
-    let durable : IsDurable c.args.events.now = c.is_durable.ensures.0 c.if-is_durable.true in (
+    let durable : IsDurable c.args.events.now.items = c.is_durable.ensures.0 c.if-is_durable.true in (
       λ told. record {
         is_order = c.is_order.ensures.0 c.if-not-is_order.false;
         answers = c.has_answers.ensures.0 c.if-not-has_answers.false;
@@ -21,14 +21,14 @@ pub returns-then-not-tells_at_each_ready : goal.returns-then-not-tells_at_each_r
 returns-then-not-tells_at_each_ready c = (
   search rules,
   λ explains.
-      let log : ¬ (IsDurable c.args.events.now) =
+      let log : ¬ (IsDurable c.args.events.now.items) =
       λ durable. cc (c.is_durable.ensures.1 durable, c.if-is_durable.false) in
       cc (c.tells_at_each_ready-2.ensures.1 (explains.verdicts log), c.if-not-tells_at_each_ready.true),
 )
 
 pub returns : goal.returns
 returns c =
-    let log : ¬ (IsDurable c.args.events.now) =
+    let log : ¬ (IsDurable c.args.events.now.items) =
     λ durable. cc (c.is_durable.ensures.1 durable, c.if-is_durable.false) in (
       λ told. record {
         is_order = c.is_order.ensures.0 c.if-not-is_order.false;

@@ -4,6 +4,6 @@ use Rattle.history.proofs.replaying.replay_from.Given as goal
 
 abbrev pub invariant-loop-i : goal.invariant-loop-i
 invariant-loop-i l = record {
-  queue : l.queue.items ≡ queue_after l.events l.base (take l.i l.entries);
-  right : (k : ℕ) → k < l.i → IsRightAt l.events l.base l.entries k;
+  queue : l.queue.items ≡ queue_after l.events.items l.base (take l.i l.entries);
+  right : (k : ℕ) → k < l.i → IsRightAt l.events.items l.base l.entries k;
 }

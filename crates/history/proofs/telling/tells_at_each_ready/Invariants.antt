@@ -3,4 +3,4 @@ use Rattle.events.specs.Telling.{TellsAt}
 use Rattle.history.proofs.telling.tells_at_each_ready.Given as goal
 
 abbrev pub invariant-loop-q : goal.invariant-loop-q
-invariant-loop-q l = (k : ℕ) → k < l.q → TellsAt l.kind l.base l.events l.entries k
+invariant-loop-q l = (k : ℕ) → k < l.q → TellsAt l.kind l.base l.events.items l.entries k

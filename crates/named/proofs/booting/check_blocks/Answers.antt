@@ -14,7 +14,7 @@ use Rattle.named.proofs.booting.check_blocks.Goals.{in-Some+in_ok-check_block, i
 
 pub loop-slot-preserved : goal.loop-slot-preserved
 loop-slot-preserved c = λ slot queue below has.
-    let ws : List ℕ = c.args.memory.now.kept in
+    let ws : List ℕ = c.args.memory.now.words.kept in
     let places : Directory = c.queues-places.result.now in
     let at : ℕ = c.loop-slot.slot in
     let listed : places ≡ directory_of ws = c.queues-places.ensures.places ∙ c.requires.directory_is in
@@ -40,6 +40,6 @@ pub returns-clause-sound : goal.returns-clause-sound
 returns-clause-sound c = record {
   broker = c.requires.broker;
   blocks = λ slot queue has.
-      let below : slot < length (directory_of c.args.memory.now.kept) = slice_get_within (directory_of c.args.memory.now.kept) slot (Some queue) has in
+      let below : slot < length (directory_of c.args.memory.now.words.kept) = slice_get_within (directory_of c.args.memory.now.words.kept) slot (Some queue) has in
       c.loop-slot.invariant slot queue (omega (arith, below, c.requires.broker.directory.names.count, c.loop-slot-test.false)) has;
 }

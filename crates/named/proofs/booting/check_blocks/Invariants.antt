@@ -7,4 +7,4 @@ use Rattle.named.proofs.booting.check_blocks.Given as goal
 
 abbrev pub invariant-loop-slot : goal.invariant-loop-slot
 invariant-loop-slot l =
-    (slot : ℕ) (queue : Queue) → slot < l.slot → HasQueue (directory_of l.memory.kept) slot queue → IsBlockSound l.memory.kept slot queue
+    (slot : ℕ) (queue : Queue) → slot < l.slot → HasQueue (directory_of l.memory.words.kept) slot queue → IsBlockSound l.memory.words.kept slot queue

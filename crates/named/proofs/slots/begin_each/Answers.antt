@@ -22,8 +22,8 @@ the_next c =
     let many : c.len.result ≡ length c.pop.new.self.items = search rules in
     let bases : List (List ℕ) = map of_each c.args.bases.items in
     let left : List (List ℕ) = map of_each c.pop.new.self.items in
-    next_slot c.args.memory.now c.args.slots.now bases c.loop-base.slots left c.in-Some.base.items c.len.result c.index-slots-len.result
-    (subst (AreBegunFrom c.args.memory.now c.args.slots.now bases c.loop-base.slots)
+    next_slot c.args.memory.now.words c.args.slots.now bases c.loop-base.slots left c.in-Some.base.items c.len.result c.index-slots-len.result
+    (subst (AreBegunFrom c.args.memory.now.words c.args.slots.now bases c.loop-base.slots)
     (shown c.loop-base.bases.items c.pop.new.self.items c.in-Some.base c.pop.result c.pop.ensures.items c.in-Some.is) c.loop-base.invariant)
     (many ∙ sym (length-map c.pop.new.self.items of_each))
 
@@ -44,17 +44,17 @@ loop-base-preserved c =
     let bases : List (List ℕ) = map of_each c.args.bases.items in
     let left : List (List ℕ) = map of_each c.pop.new.self.items in
     let was : Slot = slice_index_or c.loop-base.slots c.len.result c.index-slots-len.result in
-    let h : AreBegunFrom c.args.memory.now c.args.slots.now bases c.loop-base.slots (left ++ c.in-Some.base.items ∷ []) =
-    subst (AreBegunFrom c.args.memory.now c.args.slots.now bases c.loop-base.slots)
+    let h : AreBegunFrom c.args.memory.now.words c.args.slots.now bases c.loop-base.slots (left ++ c.in-Some.base.items ∷ []) =
+    subst (AreBegunFrom c.args.memory.now.words c.args.slots.now bases c.loop-base.slots)
     (shown c.loop-base.bases.items c.pop.new.self.items c.in-Some.base c.pop.result c.pop.ensures.items c.in-Some.is) c.loop-base.invariant in
     let last : c.len.result ≡ length left = many ∙ sym (length-map c.pop.new.self.items of_each) in
-    let next = next_slot c.args.memory.now c.args.slots.now bases c.loop-base.slots left c.in-Some.base.items c.len.result c.index-slots-len.result h last in
-    subst (λ (n : ℕ). AreBegunFrom c.args.memory.now c.args.slots.now bases (slice_set c.loop-base.slots n c.begin_anew.new.self) left) (sym last)
-    (begun_more c.args.memory.now c.args.slots.now bases c.loop-base.slots left c.in-Some.base.items was c.begin_anew.new.self h
+    let next = next_slot c.args.memory.now.words c.args.slots.now bases c.loop-base.slots left c.in-Some.base.items c.len.result c.index-slots-len.result h last in
+    subst (λ (n : ℕ). AreBegunFrom c.args.memory.now.words c.args.slots.now bases (slice_set c.loop-base.slots n c.begin_anew.new.self) left) (sym last)
+    (begun_more c.args.memory.now.words c.args.slots.now bases c.loop-base.slots left c.in-Some.base.items was c.begin_anew.new.self h
     (ap (slice_get c.loop-base.slots) (sym last) ∙ next.now) c.begin_anew.ensures)
 
 pub returns : goal.returns
 returns c =
     let none : length c.loop-base.bases.items ≡ 0 = search rules in
-    begun_all c.args.memory.now c.args.slots.now (map of_each c.args.bases.items) c.loop-base.slots (map of_each c.loop-base.bases.items) c.loop-base.invariant
+    begun_all c.args.memory.now.words c.args.slots.now (map of_each c.args.bases.items) c.loop-base.slots (map of_each c.loop-base.bases.items) c.loop-base.invariant
     (length-map c.loop-base.bases.items of_each ∙ none)

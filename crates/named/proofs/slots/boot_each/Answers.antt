@@ -11,7 +11,7 @@ pub loop-slot-preserved : goal.loop-slot-preserved
 loop-slot-preserved c =
     let slots : List Slot = c.loop-slot.slots.items in
     let holds : ℕ → Slot → Type 0 =
-    λ at slot. (place : Option Queue) → slice_get c.args.kept.now.directory at ≡ Some place → IsSlotBooted c.args.kept.now.layout c.args.memory.now at place slot in
+    λ at slot. (place : Option Queue) → slice_get c.args.kept.now.directory at ≡ Some place → IsSlotBooted c.args.kept.now.layout c.args.memory.now.words at place slot in
     record {
       count = length-set slots c.loop-slot.slot c.in_ok-slots-2.field-0 ∙ c.loop-slot.invariant.count;
       each = λ at slot place below here listed.

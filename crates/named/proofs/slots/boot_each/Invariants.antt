@@ -8,5 +8,5 @@ abbrev pub invariant-loop-slot : goal.invariant-loop-slot
 invariant-loop-slot l = record {
   count : length l.slots.items ≡ 8;
   each : (at : ℕ) (slot : Slot) (place : Option Queue) → at < l.slot → slice_get l.slots.items at ≡ Some slot
-      → slice_get l.kept.directory at ≡ Some place → IsSlotBooted l.kept.layout l.memory at place slot;
+      → slice_get l.kept.directory at ≡ Some place → IsSlotBooted l.kept.layout l.memory.words at place slot;
 }

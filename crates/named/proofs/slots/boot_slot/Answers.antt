@@ -10,7 +10,7 @@ use Rattle.named.proofs.slots.boot_slot.Goals as goal
 
 pub returns-in-Some-clause-errors : goal.returns-in-Some-clause-errors
 returns-in-Some-clause-errors c =
-    let ws : List ℕ = c.args.memory.now.kept in
+    let ws : List ℕ = c.args.memory.now.words.kept in
     let queue = c.in-Some.queue in
     let places : Directory = c.queues.result.now in
     let listed : places ≡ directory_of ws = c.queues.ensures.places ∙ c.requires.read.directory_is in

@@ -33,7 +33,7 @@ loop-slot-preserved c =
     let count : length held ≡ c.loop-slot.slot-index = length-map before of_each ∙ c.loop-slot.invariant.count in
     record {
       count = ap length items ∙ length_push before base ∙ ap (λ (n : ℕ). n + 1) c.loop-slot.invariant.count;
-      each = subst (λ (l : List (List ℕ)). (at : ℕ) (s : Slot) (b : List ℕ) → slice_get slots at ≡ Some s → slice_get l at ≡ Some b → IsBaseIn c.args.memory.now s b) (sym shown)
-          (bases_more c.args.memory.now slots held c.slot-item.result base.items c.loop-slot.invariant.each
+      each = subst (λ (l : List (List ℕ)). (at : ℕ) (s : Slot) (b : List ℕ) → slice_get slots at ≡ Some s → slice_get l at ≡ Some b → IsBaseIn c.args.memory.now.words s b) (sym shown)
+          (bases_more c.args.memory.now.words slots held c.slot-item.result base.items c.loop-slot.invariant.each
           (ap (slice_get slots) count ∙ there) c.in_ok-base.ensures.base);
     }

@@ -8,5 +8,5 @@ abbrev pub invariant-loop-slot : goal.invariant-loop-slot
 invariant-loop-slot l = record {
   count : length l.bases.items ≡ l.slot-index;
   each : (at : ℕ) (slot : Slot) (base : List ℕ) → slice_get l.slots.items at ≡ Some slot
-      → slice_get (map (λ base. base.items) l.bases.items) at ≡ Some base → IsBaseIn l.memory slot base;
+      → slice_get (map (λ base. base.items) l.bases.items) at ≡ Some base → IsBaseIn l.memory.words slot base;
 }

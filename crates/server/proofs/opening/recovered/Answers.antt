@@ -9,7 +9,7 @@ use Rattle.server.proofs.opening.recovered.Goals as goal
 pub loop-broker-init : goal.loop-broker-init
 loop-broker-init c = record {
   so_far =
-      recovering_begins c.args.memory c.in_ok-broker.broker c.in_ok-broker.ensures.promises
+      recovering_begins c.args.memory.words c.in_ok-broker.broker c.in_ok-broker.ensures.promises
       c.in_ok-broker.ensures.booted;
   down = ap (λ (r : Option BrokerRecovery). is_some r) c.in_ok-broker.ensures.booted.recovery;
 }
@@ -20,8 +20,8 @@ returns-in_err-recover_step-clause-errors c =
     refused_for_memory c.loop-broker.broker c.recover_step.new.self c.in_err-recover_step.field-0.0
     c.loop-broker.invariant.so_far.promises.well c.loop-broker.invariant.down c.in_err-recover_step.ensures.step in
     let answer : c.from_residual-in_err-recover_step.result ≡ Err c.in_err-recover_step.field-0.0 = search rules in
-    subst (λ r. IfErr r (MayRefuse c.args.memory.kept)) (sym answer)
-    (subst (MayRefuse c.args.memory.kept) (sym refused) c.in_ok-broker.ensures.sound)
+    subst (λ r. IfErr r (MayRefuse c.args.memory.words.kept)) (sym answer)
+    (subst (MayRefuse c.args.memory.words.kept) (sym refused) c.in_ok-broker.ensures.sound)
 
 pub loop-broker-preserved : goal.loop-broker-preserved
 loop-broker-preserved c =
@@ -43,7 +43,7 @@ returns-clause-opened c =
     let so_far : IsRecovering c.in_ok-broker.broker c.recover_step.new.self =
     recovering_goes_on c.in_ok-broker.broker c.loop-broker.broker c.recover_step.new.self now.field-0
     c.loop-broker.invariant.so_far now.ensures.step now.ensures.told now.ensures.promises in
-    opened_by c.args.memory c.in_ok-broker.broker c.recover_step.new.self c.in_ok-broker.ensures.sound
+    opened_by c.args.memory.words c.in_ok-broker.broker c.recover_step.new.self c.in_ok-broker.ensures.sound
     c.in_ok-broker.ensures.promises c.in_ok-broker.ensures.booted so_far
     (none_left c.recover_step.new.self.recovery
     (answers_ready c.loop-broker.broker c.recover_step.new.self now.field-0 now.ensures.step ∙ over))

@@ -8,4 +8,4 @@ abbrev pub invariant-loop-entry : goal.invariant-loop-entry
 invariant-loop-entry g l =
     l.lines.items
     ≡ l.fn.lines.items
-    ++ Order (length l.entry-items) ∷ flat_map (entry_lines l.events) (take l.entry-index l.entry-items)
+    ++ Order (length l.entry-items) ∷ flat_map (entry_lines l.events.items) (take l.entry-index l.entry-items)

@@ -1,7 +1,7 @@
 use Rattle.std.proofs.Common.{◌≡◌, ℕ, refl, List, [], Option, None, Some, replicate, sym, subst, ap, ◌∙◌}
 use Rattle.words.specs.declared.call.Kind.{Kind}
 use Rattle.words.specs.declared.told.Told.{Told}
-use Rattle.persist.specs.Memory.{Words, nothing, words_after_crash}
+use Rattle.persist.specs.Memory.{Words, words_after_crash}
 use Rattle.arena.specs.Content.{kept_content}
 use Rattle.arena.specs.Shape.{Shape}
 use Rattle.recover.specs.Sound.{AreSoundWords}
@@ -24,7 +24,7 @@ pub content-requires : goal.content-requires
 content-requires g c =
     let s : Shape = g.L.Layout.shape c.args.layout in
     let kept : List ℕ = g.K.KeptWords.kept_words c.args.kept.now in
-    let ws : Words = record { cached = kept; kept = kept; accesses = 0; around = nothing } in
+    let ws : Words = record { cached = kept; kept = kept; accesses = 0 } in
     let counts = c.clients-clients.ensures.counts in
     let fit : WordsFit s ws = booted_fit s ws counts.some_client counts.few_clients (c.in_ok-sound.ensures.ok.0 refl) in
     record { room = fit.room; fits = fit.kept }

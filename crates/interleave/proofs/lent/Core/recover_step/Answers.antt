@@ -1,10 +1,10 @@
 use Rattle.std.proofs.Common.{◌≡◌, refl, false, Bool, List, Option, Some, Result, Ok, subst, sym, ap, ◌∙◌}
 use Rattle.std.specs.Prelude.{IfSome}
 use Rattle.words.specs.declared.refusal.Refusal.{Refusal}
-use Rattle.persist.specs.Memory.{Words}
+use Rattle.persist.specs.Memory.{Lent, Words}
 use Rattle.arena.specs.Shape.{Shape}
 use Rattle.protocol.specs.declared.UnderWay.{UnderWay}
-use Rattle.stepper.specs.Step.{after_one, value_found}
+use Rattle.stepper.specs.Step.{after_one, lent_after_one, value_found}
 use Rattle.recover.specs.Table.{access_of as recovery_access, recovery_after}
 use Rattle.recover.specs.declared.recovery.Recovery.{Recovery}
 use Rattle.protocol.specs.Machine.{next_recovery, recovery_left, recovery_events}
@@ -35,13 +35,14 @@ recover_once-requires-clause-may g c =
     (of_some w.recovery (λ r. MayRecover w.shape w.words r) may)
 
 -- what recovery's step says of a core that was given room, said of the core before
-abbrev IsRecoveredFrom : CoreState → Words → CoreState → Words → Bool → Type 0
-IsRecoveredFrom k ws new left ready = (r : Recovery) → k.trace.recovery ≡ Some r →
+abbrev IsRecoveredFrom : CoreState → Words → CoreState → Words → Bool → Lent → Lent → Type 0
+IsRecoveredFrom k ws new left ready lent lent_new = (r : Recovery) → k.trace.recovery ≡ Some r →
     let access = recovery_access k.shape.kind r.at in
     let next = recovery_after k.shape r (value_found k.shape access ws) in
     (left ≡ after_one k.shape access ws) × (new.trace.recovery ≡ recovery_left next)
     × (new.trace.log.events ≡ recovery_events k.trace.log.events next)
     × (new.queue ≡ queue_at_ready k.queue next) × (ready ≡ is_ready next)
+    × (lent_new ≡ lent_after_one k.shape access lent)
 
 pub returns-clause-world : goal.returns-clause-world
 returns-clause-world g c =
@@ -54,7 +55,7 @@ returns-clause-world g c =
     let some = recovery_some w.recovery (sym c.is_down.ensures ∙ c.if-not-is_down.false) in
     let r : Recovery = some.0 in
     let e : w.recovery ≡ Some r = some.1 in
-    let steps : IsRecoveredFrom old ws new left c.recover_once.result = subst (λ (k : CoreState). IsRecoveredFrom k ws new left c.recover_once.result) same c.recover_once.ensures.step in
+    let steps : IsRecoveredFrom old ws new left c.recover_once.result (g.M.WordMemory.lent c.args.memory.now) (g.M.WordMemory.lent c.recover_once.new.memory) = subst (λ (k : CoreState). IsRecoveredFrom k ws new left c.recover_once.result (g.M.WordMemory.lent c.args.memory.now) (g.M.WordMemory.lent c.recover_once.new.memory)) same c.recover_once.ensures.step in
     let step = steps r e in
     let is = recovery_next w r c.requires.holds e in
     let ms : Words = after_one w.shape (recovery_access w.shape.kind r.at) ws in
@@ -80,7 +81,7 @@ returns-clause-result g c =
     let some = recovery_some w.recovery (sym c.is_down.ensures ∙ c.if-not-is_down.false) in
     let r : Recovery = some.0 in
     let e : w.recovery ≡ Some r = some.1 in
-    let steps : IsRecoveredFrom old ws new left c.recover_once.result = subst (λ (k : CoreState). IsRecoveredFrom k ws new left c.recover_once.result) same c.recover_once.ensures.step in
+    let steps : IsRecoveredFrom old ws new left c.recover_once.result (g.M.WordMemory.lent c.args.memory.now) (g.M.WordMemory.lent c.recover_once.new.memory) = subst (λ (k : CoreState). IsRecoveredFrom k ws new left c.recover_once.result (g.M.WordMemory.lent c.args.memory.now) (g.M.WordMemory.lent c.recover_once.new.memory)) same c.recover_once.ensures.step in
     let step = steps r e in
     let is = recovery_next w r c.requires.holds e in
     ap (λ (b : Bool). let x : Result Bool Refusal = Ok b in x) (step.4 ∙ ap is_ready is) ∙ ap (recover_result_with false w) (sym e)

@@ -1,11 +1,13 @@
-use Rattle.std.proofs.Common.{◌≡◌, ℕ, suc, ◌+◌, ◌≤◌, ◌<◌, Bool, true, false, Some, None, Ok, slice_get, refl, sym, ap, ◌∙◌, subst, arith, rules}
-use Rattle.persist.specs.Memory.{Words}
+use Rattle.std.proofs.Common.{◌≡◌, ℕ, suc, ◌+◌, ◌≤◌, ◌<◌, Bool, true, false, Some, None, Ok, slice_get, slice_index_or, refl, sym, ap, ◌∙◌, subst, arith, rules}
+use Rattle.persist.specs.Memory.{Lent, Words}
 use Rattle.protocol.specs.Machine.{next_of}
 use Rattle.protocol.specs.declared.UnderWay.{UnderWay}
+use Rattle.interleave.specs.Asked.{IfCallAsked, lent_after_alone, lent_after_step}
 use Rattle.interleave.specs.Calls.{answer_of, is_no_memory}
 use Rattle.interleave.specs.Core.{CoreState, state_of}
 use Rattle.interleave.specs.Holds.{Holds}
 use Rattle.interleave.specs.State.{State, machine, after_one_access, after_step, after_alone, IsAnsweredAlone, step_result}
+use Rattle.interleave.proofs.AskedKept.{own_stepped}
 use Rattle.interleave.proofs.AloneLaws.{left_in, left_few, step_is, answer_is, goes_on}
 use Rattle.interleave.proofs.HoldsKept.{waiting_is}
 use Rattle.interleave.proofs.MachineFacts.{room_held}
@@ -26,6 +28,8 @@ loop-answer-init g c =
       world = same;
       client = refl;
       holds = subst Holds (sym same) c.requires.holds;
+      asked = subst (λ (k : CoreState). IfCallAsked k.shape (slice_index_or k.calls c.args.client.0 None) (g.M.WordMemory.lent c.args.memory.now).request) (sym c.reserve.ensures.same) c.requires.asked;
+      lent = refl;
       waits = record { call = u; is = subst (λ (w : State). slice_get w.calls c.args.client.0 ≡ Some (Some u)) (sym same) here };
       left = omega (arith, left_few (state_of c.reserve.new.self ws) c.args.client);
       room = search rules;
@@ -33,7 +37,7 @@ loop-answer-init g c =
     }
 
 pub step-requires : goal.step-requires
-step-requires g c = record { holds = c.loop-answer.invariant.holds }
+step-requires g c = record { holds = c.loop-answer.invariant.holds; asked = c.loop-answer.invariant.asked }
 
 not_true : (b : Bool) → (b ≡ true → ⊥) → b ≡ false
 not_true true h = absurd (h refl)
@@ -50,6 +54,14 @@ returns-in_err-answer-clause-errors g c =
 
 pub returns-in_err-answer-clause-same : goal.returns-in_err-answer-clause-same
 returns-in_err-answer-clause-same g c =
+    let w : State = state_of c.loop-answer.self (g.M.WordMemory.words c.loop-answer.memory) in
+    let u : UnderWay = c.loop-answer.invariant.waits.call in
+    let paid : is_no_memory c.step.result ≡ false = not_true (is_no_memory c.step.result) (λ e. omega (arith, c.step.ensures.full e, c.loop-answer.invariant.room)) in
+    let answered : c.step.result ≡ Ok (answer_of (next_of (machine w) u)) = c.step.ensures.result ∙ ap (λ (b : Bool). step_result b w c.args.client) paid ∙ answer_is w c.args.client u c.loop-answer.invariant.waits.is c.loop-answer.invariant.holds in
+    absurd (cc (answered, c.in_err-answer.was))
+
+pub returns-in_err-answer-clause-left : goal.returns-in_err-answer-clause-left
+returns-in_err-answer-clause-left g c =
     let w : State = state_of c.loop-answer.self (g.M.WordMemory.words c.loop-answer.memory) in
     let u : UnderWay = c.loop-answer.invariant.waits.call in
     let paid : is_no_memory c.step.result ≡ false = not_true (is_no_memory c.step.result) (λ e. omega (arith, c.step.ensures.full e, c.loop-answer.invariant.room)) in
@@ -91,6 +103,19 @@ loop-answer-preserved g c =
           ∙ ap (λ (n : ℕ). after_alone n old c.args.client) more;
       client = refl;
       holds = c.step.ensures.holds;
+      asked =
+          let now = own_stepped w c.args.client (g.M.WordMemory.lent c.loop-answer.memory) c.loop-answer.invariant.holds c.loop-answer.invariant.asked in
+          let left : g.M.WordMemory.lent c.step.new.memory ≡ lent_after_step false w c.args.client (g.M.WordMemory.lent c.loop-answer.memory) =
+          c.step.ensures.lent ∙ ap (λ (b : Bool). lent_after_step b w c.args.client (g.M.WordMemory.lent c.loop-answer.memory)) paid in
+          let v_is : v ≡ after_step false w c.args.client = c.step.ensures.world ∙ ap (λ (b : Bool). after_step b w c.args.client) paid in
+          subst (λ (x : State). IfCallAsked x.shape (slice_index_or x.calls c.args.client.0 None) (g.M.WordMemory.lent c.step.new.memory).request) (sym v_is)
+          (subst (λ (l : Lent). IfCallAsked (after_step false w c.args.client).shape (slice_index_or (after_step false w c.args.client).calls c.args.client.0 None) l.request) (sym left) now);
+      lent =
+          let more : suc c.loop-answer.steps ≡ c.loop-answer.steps + 1 = omega arith in
+          c.step.ensures.lent ∙ ap (λ (b : Bool). lent_after_step b w c.args.client (g.M.WordMemory.lent c.loop-answer.memory)) paid
+          ∙ ap (λ (x : State). lent_after_step false x c.args.client (g.M.WordMemory.lent c.loop-answer.memory)) c.loop-answer.invariant.world
+          ∙ ap (lent_after_step false (after_alone c.loop-answer.steps old c.args.client) c.args.client) c.loop-answer.invariant.lent
+          ∙ ap (λ (n : ℕ). lent_after_alone n old c.args.client (g.M.WordMemory.lent c.args.memory.now)) more;
       waits = record { call = on.call; is = subst (λ (x : State). slice_get x.calls c.args.client.0 ≡ Some (Some on.call)) (sym stepped) on.is };
       left = omega (arith, fewer, c.loop-answer.invariant.left);
       room = omega (arith, stays, c.loop-answer.invariant.room);

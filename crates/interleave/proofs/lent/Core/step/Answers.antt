@@ -1,5 +1,7 @@
 use Rattle.std.proofs.Common.{false, length, ◌≤◌, subst, ◌≡◌, Some, slice_get, sym, ◌∙◌, arith, rules}
 use Rattle.persist.specs.Memory.{Words}
+use Rattle.stepper.specs.Step.{IsAskedFor}
+use Rattle.helping.specs.Table.{access_of}
 use Rattle.protocol.specs.Machine.{effects_after}
 use Rattle.protocol.specs.declared.UnderWay.{UnderWay}
 use Rattle.protocol.proofs.worlds.Facts.{step_room}
@@ -7,6 +9,7 @@ use Rattle.interleave.specs.Core.{CoreState, machine_over, state_of}
 use Rattle.interleave.specs.Effects.{AreInSequence}
 use Rattle.interleave.specs.Holds.{Holds, from_invariant}
 use Rattle.interleave.specs.State.{State, after_step, machine}
+use Rattle.interleave.proofs.AskedKept.{own_asked}
 use Rattle.interleave.proofs.HoldsKept.{holds_after_step, may_step, waiting_is}
 use Rattle.interleave.proofs.MachineFacts.{room_held, sequence_held}
 use Rattle.interleave.proofs.Safety.{call_fits}
@@ -14,6 +17,15 @@ use Rattle.interleave.proofs.lent.Core.step.Goals as goal
 
 pub reserve-requires : goal.reserve-requires
 reserve-requires g c = room_held c.requires.holds
+
+pub advance-answer-requires-clause-asked : goal.advance-answer-requires-clause-asked
+advance-answer-requires-clause-asked g c =
+    let old : CoreState = c.args.self.now in
+    let u : UnderWay = c.in_ok-under_way.under_way in
+    let waits : slice_get old.calls c.args.client.0 ≡ Some (Some u) =
+    waiting_is _ (slice_get old.calls c.args.client.0) u (sym c.waiting.ensures ∙ c.in_ok-under_way.was) in
+    subst (λ (k : CoreState). IsAskedFor k.shape (access_of k.shape.kind u.op) (g.M.WordMemory.lent c.args.memory.now).request) (sym c.reserve.ensures.same)
+    (own_asked old.shape old.calls c.args.client.0 u _ waits c.requires.asked)
 
 pub advance-answer-requires-clause-sequence : goal.advance-answer-requires-clause-sequence
 advance-answer-requires-clause-sequence g c =

@@ -41,7 +41,7 @@ returns-in-Recover-clause-attempt g c =
 
 pub returns-in-Start-clause-holds : goal.returns-in-Start-clause-holds
 returns-in-Start-clause-holds g c =
-    let holds : Holds c.args.self.now.now = subst Holds (ap (λ (r : Roomy). r.now) c.self.view_is) c.self.invariant in
+    let holds : Holds c.args.self.now.now = subst Holds (ap (λ (r : Roomy). r.now) c.self.view_is) c.self.invariant.world in
     let value : (v : ℕ) → c.in-Start.call ≡ Enq v → v ≤ 4294967295 = search rules in
     let fits : FitsCall c.in-Start.call = call_fits c.in-Start.call value in
     subst Holds (sym c.start.ensures.world)
@@ -49,20 +49,20 @@ returns-in-Start-clause-holds g c =
 
 pub returns-in-Step-clause-holds : goal.returns-in-Step-clause-holds
 returns-in-Step-clause-holds g c =
-    let holds : Holds c.args.self.now.now = subst Holds (ap (λ (r : Roomy). r.now) c.self.view_is) c.self.invariant in
+    let holds : Holds c.args.self.now.now = subst Holds (ap (λ (r : Roomy). r.now) c.self.view_is) c.self.invariant.world in
     subst Holds (sym c.step.ensures.world) (holds_after_step (is_no_memory c.step.result) c.args.self.now.now c.in-Step.client holds)
 
 pub returns-in-Evict-clause-holds : goal.returns-in-Evict-clause-holds
 returns-in-Evict-clause-holds g c =
-    let holds : Holds c.args.self.now.now = subst Holds (ap (λ (r : Roomy). r.now) c.self.view_is) c.self.invariant in
+    let holds : Holds c.args.self.now.now = subst Holds (ap (λ (r : Roomy). r.now) c.self.view_is) c.self.invariant.world in
     subst Holds (sym c.evict.ensures.world) (holds_after_evict c.args.self.now.now c.in-Evict.at holds)
 
 pub returns-in-Crash-clause-holds : goal.returns-in-Crash-clause-holds
 returns-in-Crash-clause-holds g c =
-    let holds : Holds c.args.self.now.now = subst Holds (ap (λ (r : Roomy). r.now) c.self.view_is) c.self.invariant in
+    let holds : Holds c.args.self.now.now = subst Holds (ap (λ (r : Roomy). r.now) c.self.view_is) c.self.invariant.world in
     subst Holds (sym c.crash.ensures.world) (holds_after_crash (is_no_memory c.crash.result) c.args.self.now.now holds)
 
 pub returns-in-Recover-clause-holds : goal.returns-in-Recover-clause-holds
 returns-in-Recover-clause-holds g c =
-    let holds : Holds c.args.self.now.now = subst Holds (ap (λ (r : Roomy). r.now) c.self.view_is) c.self.invariant in
+    let holds : Holds c.args.self.now.now = subst Holds (ap (λ (r : Roomy). r.now) c.self.view_is) c.self.invariant.world in
     subst Holds (sym c.recover_step.ensures.world) (holds_after_recover (is_no_memory c.recover_step.result) c.args.self.now.now holds)

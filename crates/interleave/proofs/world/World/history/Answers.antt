@@ -8,9 +8,9 @@ use Rattle.interleave.proofs.world.World.history.Goals as goal
 
 pub returns-clause-explained : goal.returns-clause-explained
 returns-clause-explained g c =
-    let old : State = state_of c.self.inside.core c.self.inside.memory in
-    subst IsExplained (ap (λ (r : Roomy). r.now) c.self.view_is) (explained_world old c.self.invariant)
+    let old : State = state_of c.self.inside.core c.self.inside.memory.words in
+    subst IsExplained (ap (λ (r : Roomy). r.now) c.self.view_is) (explained_world old c.self.invariant.world)
 
 pub returns-clause-holds : goal.returns-clause-holds
 returns-clause-holds g c =
-    subst Holds (ap (λ (r : Roomy). r.now) c.self.view_is) c.self.invariant
+    subst Holds (ap (λ (r : Roomy). r.now) c.self.view_is) c.self.invariant.world

@@ -10,11 +10,11 @@ use Rattle.interleave.proofs.world.World.make.Goals as goal
 pub over-requires : goal.over-requires
 over-requires g c =
     let s : Shape = g.L.Layout.shape c.args.layout in
-    let memory : c.in_ok-memory.memory ≡ zero_words (size_of s) = search rules in
+    let memory : c.in_ok-memory.memory.words ≡ zero_words (size_of s) = search rules in
     subst (AreUnused s) (sym memory) (zero_words_are_unused s)
 
 pub returns-clause-made : goal.returns-clause-made
 returns-clause-made g c =
     let s : Shape = g.L.Layout.shape c.args.layout in
-    let memory : c.in_ok-memory.memory ≡ zero_words (size_of s) = search rules in
+    let memory : c.in_ok-memory.memory.words ≡ zero_words (size_of s) = search rules in
     c.over.ensures ∙ ap (world_over s) memory

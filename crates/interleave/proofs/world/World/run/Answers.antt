@@ -27,7 +27,7 @@ loop-act-init g c =
       so_far = none_so_far c.args.self.now.room c.args.self.now.now;
       room = omega arith;
       all = refl;
-      holds = subst Holds (ap (λ (r : Roomy). r.now) c.self.view_is) c.self.invariant;
+      holds = subst Holds (ap (λ (r : Roomy). r.now) c.self.view_is) c.self.invariant.world;
     }
 
 pub loop-act-preserved : goal.loop-act-preserved
@@ -65,7 +65,7 @@ returns-clause-run g c =
     let xs : List (Act ℕ) = c.args.acts.now in
     let whole : take c.loop-act.act-index xs ≡ xs = take_all c.loop-act.act-index xs (omega (arith, c.loop-act-test.false)) in
     let run = subst (λ (ys : List (Act ℕ)). SoFar c.args.self.now.room c.args.self.now.now ys c.loop-act.ran.taken c.loop-act.self.now) whole c.loop-act.invariant.so_far in
-    let holds : Holds c.args.self.now.now = subst Holds (ap (λ (r : Roomy). r.now) c.self.view_is) c.self.invariant in
+    let holds : Holds c.args.self.now.now = subst Holds (ap (λ (r : Roomy). r.now) c.self.view_is) c.self.invariant.world in
     record {
       went = run.went;
       room = c.loop-act.invariant.room;

@@ -13,31 +13,31 @@ use Rattle.interleave.proofs.KeptTells.{kept_sound}
 use Rattle.interleave.proofs.world.World.run_alone.Goals as goal
 
 pub returns-clause-explained : goal.returns-clause-explained
-returns-clause-explained g c = explained_world _ c.run_alone.ensures.holds
+returns-clause-explained g c = explained_world _ c.run_alone_in.ensures.holds.world
 
 pub returns-clause-sound : goal.returns-clause-sound
-returns-clause-sound g c = kept_sound _ c.run_alone.ensures.holds
+returns-clause-sound g c = kept_sound _ c.run_alone_in.ensures.holds.world
 
 pub returns-clause-order : goal.returns-clause-order
 returns-clause-order g c =
-    let old : State = state_of c.self.inside.core c.self.inside.memory in
-    let new : State = state_of c.run_alone.new.self c.run_alone.new.memory in
+    let old : State = state_of c.self.inside.core c.self.inside.memory.words in
+    let new : State = state_of c.run_alone_in.new.self c.run_alone_in.new.memory.words in
     let was : old ≡ c.args.self.now.now = ap (λ (r : Roomy). r.now) c.self.view_is in
-    let on = goes_on_after_alone old c.args.client c.self.invariant new c.run_alone.result c.run_alone.ensures.same c.run_alone.ensures.answer c.run_alone.ensures.world in
+    let on = goes_on_after_alone old c.args.client c.self.invariant.world new c.run_alone_in.result c.run_alone_in.ensures.same c.run_alone_in.ensures.answer c.run_alone_in.ensures.world in
     subst (λ (w : State). IsPartOf (order_in w) (order_in new)) was on.part
 
 pub returns-clause-ended : goal.returns-clause-ended
 returns-clause-ended g c =
-    let old : State = state_of c.self.inside.core c.self.inside.memory in
-    let new : State = state_of c.run_alone.new.self c.run_alone.new.memory in
+    let old : State = state_of c.self.inside.core c.self.inside.memory.words in
+    let new : State = state_of c.run_alone_in.new.self c.run_alone_in.new.memory.words in
     let was : old ≡ c.args.self.now.now = ap (λ (r : Roomy). r.now) c.self.view_is in
-    let on = goes_on_after_alone old c.args.client c.self.invariant new c.run_alone.result c.run_alone.ensures.same c.run_alone.ensures.answer c.run_alone.ensures.world in
+    let on = goes_on_after_alone old c.args.client c.self.invariant.world new c.run_alone_in.result c.run_alone_in.ensures.same c.run_alone_in.ensures.answer c.run_alone_in.ensures.world in
     subst (λ (w : State). EndedCallsStay w new) was on.ended
 
 pub returns-clause-turn : goal.returns-clause-turn
 returns-clause-turn g c =
-    let old : State = state_of c.self.inside.core c.self.inside.memory in
-    let new : State = state_of c.run_alone.new.self c.run_alone.new.memory in
+    let old : State = state_of c.self.inside.core c.self.inside.memory.words in
+    let new : State = state_of c.run_alone_in.new.self c.run_alone_in.new.memory.words in
     let was : old ≡ c.args.self.now.now = ap (λ (r : Roomy). r.now) c.self.view_is in
-    subst (λ (w : State). IfOk c.run_alone.result (λ answer. (call : Call) → IsInTurn w c.args.client call → IsServedAlone w call answer.0 new)) was
-    (served_after_alone old c.args.client c.self.invariant new c.run_alone.result c.run_alone.ensures.answer c.run_alone.ensures.world)
+    subst (λ (w : State). IfOk c.run_alone_in.result (λ answer. (call : Call) → IsInTurn w c.args.client call → IsServedAlone w call answer.0 new)) was
+    (served_after_alone old c.args.client c.self.invariant.world new c.run_alone_in.result c.run_alone_in.ensures.answer c.run_alone_in.ensures.world)

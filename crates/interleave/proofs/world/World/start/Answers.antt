@@ -15,33 +15,33 @@ use Rattle.interleave.proofs.world.World.start.Goals as goal
 
 pub returns-clause-explained : goal.returns-clause-explained
 returns-clause-explained g c =
-    explained_world _ c.start.ensures.holds
+    explained_world _ c.start_in.ensures.holds.world
 
 pub returns-clause-sound : goal.returns-clause-sound
 returns-clause-sound g c =
-    kept_sound _ c.start.ensures.holds
+    kept_sound _ c.start_in.ensures.holds.world
 
 pub returns-clause-order : goal.returns-clause-order
 returns-clause-order g c =
-    let old : State = state_of c.self.inside.core c.self.inside.memory in
+    let old : State = state_of c.self.inside.core c.self.inside.memory.words in
     let was : old ≡ c.args.self.now.now = ap (λ (r : Roomy). r.now) c.self.view_is in
-    ap order_in c.start.ensures.world ∙ part_after_start (is_no_memory c.start.result) old c.args.client c.args.number c.args.call ∙ ap order_in was
+    ap order_in c.start_in.ensures.world ∙ part_after_start (is_no_memory c.start_in.result) old c.args.client c.args.number c.args.call ∙ ap order_in was
 
 pub returns-clause-reused : goal.returns-clause-reused
 returns-clause-reused g c = λ accepted.
-    let old : State = state_of c.self.inside.core c.self.inside.memory in
+    let old : State = state_of c.self.inside.core c.self.inside.memory.words in
     let was : old ≡ c.args.self.now.now = ap (λ (r : Roomy). r.now) c.self.view_is in
     let value : (v : ℕ) → c.args.call ≡ Enq v → v ≤ 4294967295 = search rules in
     let fits : FitsCall c.args.call = call_fits c.args.call value in
     subst (λ (w : State). EarlierLeftNothing w c.args.client) was
-    (reused_left_nothing (is_no_memory c.start.result) old c.args.client c.args.number c.args.call
-    c.self.invariant fits (sym c.start.ensures.result ∙ accepted))
+    (reused_left_nothing (is_no_memory c.start_in.result) old c.args.client c.args.number c.args.call
+    c.self.invariant.world fits (sym c.start_in.ensures.result ∙ accepted))
 
 pub returns-clause-turn : goal.returns-clause-turn
 returns-clause-turn g c = λ accepted nobody.
-    let old : State = state_of c.self.inside.core c.self.inside.memory in
+    let old : State = state_of c.self.inside.core c.self.inside.memory.words in
     let was : old ≡ c.args.self.now.now = ap (λ (r : Roomy). r.now) c.self.view_is in
-    subst (λ (w : State). IsInTurn w c.args.client c.args.call) (sym c.start.ensures.world)
-    (started_in_turn (is_no_memory c.start.result) old c.args.client c.args.number c.args.call
-    (explained_world old c.self.invariant) (sym c.start.ensures.result ∙ accepted)
+    subst (λ (w : State). IsInTurn w c.args.client c.args.call) (sym c.start_in.ensures.world)
+    (started_in_turn (is_no_memory c.start_in.result) old c.args.client c.args.number c.args.call
+    (explained_world old c.self.invariant.world) (sym c.start_in.ensures.result ∙ accepted)
     (subst (λ (w : State). NobodyCalls w) (sym was) nobody))

@@ -10,29 +10,30 @@ use Rattle.named.proofs.block.Block.begin_anew.Goals as goal
 
 pub begin_anew-requires-clause-sound : goal.begin_anew-requires-clause-sound
 begin_anew-requires-clause-sound g c =
-    let was : BlockState = record { core = c.self.inside.core; from = c.self.inside.from; len = c.self.inside.len } in
-    let well : IsWellIn c.args.memory.now was = subst (IsWellIn c.args.memory.now) (sym c.self.view_is) c.requires.well in
-    subst (AreSoundWords was.core.shape) (sym c.in-Ok.ensures.words) (kept_sound (state_in c.args.memory.now was) well.holds)
+    let was : BlockState = record { core = c.self.inside.core; from = c.self.inside.from; len = c.self.inside.len; port = c.self.inside.port } in
+    let well : IsWellIn c.args.memory.now.words was = subst (IsWellIn c.args.memory.now.words) (sym c.self.view_is) c.requires.well in
+    subst (AreSoundWords was.core.shape) (sym c.in-Ok.ensures.words) (kept_sound (state_in c.args.memory.now.words was) well.holds)
 
 -- what it asks of the words of a block, it asks of any
 pub begin_anew-requires-clause-quiet : goal.begin_anew-requires-clause-quiet
 begin_anew-requires-clause-quiet g c = λ ws.
-    let was : BlockState = record { core = c.self.inside.core; from = c.self.inside.from; len = c.self.inside.len } in
+    let was : BlockState = record { core = c.self.inside.core; from = c.self.inside.from; len = c.self.inside.len; port = c.self.inside.port } in
     subst (λ (b : BlockState). rotate_result false (state_of b.core ws) ≡ Ok tt) (sym c.self.view_is) (c.requires.quiet ws)
 
 pub returns-clause-state : goal.returns-clause-state
 returns-clause-state g c =
-    c.begin_anew.ensures.world (words_in c.self.inside.from c.self.inside.len c.args.memory.now) (sym c.in-Ok.ensures.words)
-    ∙ ap (λ (b : BlockState). after_rotation (state_in c.args.memory.now b)) c.self.view_is
+    c.begin_anew.ensures.world (words_in c.self.inside.from c.self.inside.len c.args.memory.now.words) (sym c.in-Ok.ensures.words)
+    ∙ ap (λ (b : BlockState). after_rotation (state_in c.args.memory.now.words b)) c.self.view_is
 
 pub returns-clause-well : goal.returns-clause-well
 returns-clause-well g c =
-    let was : BlockState = record { core = c.self.inside.core; from = c.self.inside.from; len = c.self.inside.len } in
-    let well : IsWellIn c.args.memory.now was = subst (IsWellIn c.args.memory.now) (sym c.self.view_is) c.requires.well in
+    let was : BlockState = record { core = c.self.inside.core; from = c.self.inside.from; len = c.self.inside.len; port = c.self.inside.port } in
+    let well : IsWellIn c.args.memory.now.words was = subst (IsWellIn c.args.memory.now.words) (sym c.self.view_is) c.requires.well in
     record {
       some = well.some;
       inside = well.inside;
-      holds = c.begin_anew.ensures.holds (words_in was.from was.len c.args.memory.now) (sym c.in-Ok.ensures.words) well.holds;
+      ports = well.ports;
+      holds = c.begin_anew.ensures.holds (words_in was.from was.len c.args.memory.now.words) (sym c.in-Ok.ensures.words) well.holds;
     }
 
 pub returns-clause-recovery : goal.returns-clause-recovery
@@ -42,5 +43,6 @@ pub returns-clause-place : goal.returns-clause-place
 returns-clause-place g c = (
   ap (λ (b : BlockState). b.from) c.self.view_is,
   ap (λ (b : BlockState). b.len) c.self.view_is,
+  ap (λ (b : BlockState). b.port) c.self.view_is,
   ap (λ (w : State). w.shape) (returns-clause-state g c),
 )

@@ -4,11 +4,12 @@ use Rattle.named.proofs.block.Block.boot.Goals as goal
 
 pub returns-clause-booted : goal.returns-clause-booted
 returns-clause-booted g c =
-    c.in_ok-core.ensures.booted (words_in c.args.from c.args.len c.args.memory.now) (sym c.in_ok-view.ensures.words)
+    c.in_ok-core.ensures.booted (words_in c.args.from c.args.len c.args.memory.now.words) (sym c.in_ok-view.ensures.words)
 
 pub returns-clause-well : goal.returns-clause-well
 returns-clause-well g c = record {
   some = c.requires.some;
   inside = omega (arith, c.requires.kept);
-  holds = c.in_ok-core.ensures.holds (words_in c.args.from c.args.len c.args.memory.now) (sym c.in_ok-view.ensures.words);
+  ports = c.requires.ports;
+  holds = c.in_ok-core.ensures.holds (words_in c.args.from c.args.len c.args.memory.now.words) (sym c.in_ok-view.ensures.words);
 }

@@ -5,5 +5,5 @@ pub returns-clause-state : goal.returns-clause-state
 returns-clause-state g c = λ ws. c.new.ensures.world (words_in c.args.from c.args.len ws)
 
 pub returns-clause-well : goal.returns-clause-well
-returns-clause-well g c = λ ws some inside unused.
-    record { some = some; inside = inside; holds = c.new.ensures.holds (words_in c.args.from c.args.len ws) unused }
+returns-clause-well g c = λ ws some inside ports unused.
+    record { some = some; inside = inside; ports = ports; holds = c.new.ensures.holds (words_in c.args.from c.args.len ws) unused }

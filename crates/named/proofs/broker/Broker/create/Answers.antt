@@ -6,27 +6,32 @@ use Rattle.named.specs.Brokers.{Brokered, IsWell}
 use Rattle.named.proofs.Begun.{begun_well}
 use Rattle.named.proofs.GoingOn.{begun_goes_on}
 use Rattle.named.proofs.Kept.{ready_there}
+use Rattle.named.proofs.Askings.{begun_asked}
 use Rattle.named.proofs.Promises.{promises_well}
 use Rattle.named.proofs.broker.Broker.create.Goals as goal
 
 pub invariant_of-self : goal.invariant_of-self
 invariant_of-self c =
-    let b : Brokered = record { counts = c.self.inside.layout; words = c.self.inside.memory; slots = c.self.inside.slots.items; directory = c.self.inside.directory; creation = c.self.inside.creation; recovery = c.self.inside.recovery } in
+    let b : Brokered = record { counts = c.self.inside.layout; words = c.self.inside.memory.words; slots = c.self.inside.slots.items; directory = c.self.inside.directory; creation = c.self.inside.creation; recovery = c.self.inside.recovery } in
     let ready : c.self.inside.recovery ≡ None = ap (λ (x : Brokered). x.recovery) c.self.view_is ∙ ready_there c.args.self.now.recovery c.check_ready.result c.check_ready.ensures c.in_ok-check_ready.was in
     let idle : c.self.inside.creation ≡ None = search rules in
     let is_new : HasName c.self.inside.directory c.in_ok-name.name → ⊥ = search rules in
     let queue : Queue = record { name = c.in_ok-name.name; kind = c.args.kind } in
-    subst (λ (o : Creation). let x : Brokered = record b { creation = Some o } in IsWell x) (sym c.begin.ensures.made)
-    (begun_well b c.in-Some.slot queue c.self.invariant ready idle c.in-Some.ensures.found.free c.begin.ensures.named is_new)
+    record {
+      well = subst (λ (o : Creation). let x : Brokered = record b { creation = Some o } in IsWell x) (sym c.begin.ensures.made)
+          (begun_well b c.in-Some.slot queue c.self.invariant.well ready idle c.in-Some.ensures.found.free c.begin.ensures.named is_new);
+      slots = c.self.invariant.slots;
+      creation = begun_asked b.counts b.recovery c.in-Some.slot queue c.begin.result _ c.begin.ensures.made;
+    }
 
 pub returns-clause-promises : goal.returns-clause-promises
-returns-clause-promises c = promises_well _ (invariant_of-self c)
+returns-clause-promises c = promises_well _ (invariant_of-self c).well
 
 pub returns-clause-goes_on : goal.returns-clause-goes_on
 returns-clause-goes_on c =
     let new : Brokered = record {
       counts = c.self.inside.layout;
-      words = c.self.inside.memory;
+      words = c.self.inside.memory.words;
       slots = c.self.inside.slots.items;
       directory = c.self.inside.directory;
       creation = Some c.begin.result;

@@ -1,10 +1,10 @@
-use Rattle.std.proofs.Common.{◌≡◌, ◌∙◌, ◌+◌, ◌≤◌, arith, ℕ, List, Option, Some, Ok, Result, Bool, slice_get, sym, ap, subst}
+use Rattle.std.proofs.Common.{◌≡◌, ◌∙◌, ◌+◌, ◌≤◌, arith, ℕ, List, Option, Some, Ok, Result, Bool, slice_get, refl, sym, ap, subst}
 use Rattle.std.specs.Prelude.{IfSome}
 use Rattle.persist.specs.Memory.{Words}
 use Rattle.directory.specs.Queue.{IsOpenSlot, slot_in}
 use Rattle.directory.specs.declared.recovery.Recovered.{Recovered}
 use Rattle.words.specs.declared.refusal.Refusal.{Refusal}
-use Rattle.named.specs.Brokers.{Brokered, IsWell, is_ready_at, room_of}
+use Rattle.named.specs.Brokers.{Brokered, IsWell, is_ready_at, quiet, room_of, world_at, world_of}
 use Rattle.named.specs.Stopping.{IsDirectoryRead, IsFound, IsReadOn, MayReadOn, found_by, words_read}
 use Rattle.named.specs.declared.recovery.BrokerRecovery.{BrokerRecovery}
 use Rattle.named.specs.declared.recovery.BrokerRecovery.TheVariants.{ReadDirectory}
@@ -13,47 +13,55 @@ use Rattle.directory.specs.Recovering.{most_left}
 use Rattle.directory.specs.Recovery.{access_of}
 use Rattle.directory.specs.Step.{value_found}
 use Rattle.named.specs.Lasting.{left_after_read, left_at, most_kept, steps_left}
+use Rattle.persist.proofs.Requests.{lent_alike}
+use Rattle.named.proofs.Askings.{all_quiet_asked, recovery_asked}
 use Rattle.named.proofs.Lastings.{read_falls}
 use Rattle.named.proofs.Readings.{found_opens, found_over, may_read_on, read_over, well_loaded, worlds_loaded}
 use Rattle.named.proofs.broker.Broker.read_directory.Goals as goal
 
 pub invariant_of-self : goal.invariant_of-self
 invariant_of-self c =
-    let b : Brokered = record { counts = c.self.inside.layout; words = c.self.inside.memory; slots = c.self.inside.slots.items; directory = c.self.inside.directory; creation = c.self.inside.creation; recovery = c.self.inside.recovery } in
+    let b : Brokered = record { counts = c.self.inside.layout; words = c.self.inside.memory.words; slots = c.self.inside.slots.items; directory = c.self.inside.directory; creation = c.self.inside.creation; recovery = c.self.inside.recovery } in
     let is : b.recovery ≡ Some (ReadDirectory c.args.at) = ap (λ (x : Brokered). x.recovery) c.self.view_is ∙ c.requires in
-    subst (λ (ws : Words). let x : Brokered = record b { words = ws } in IsWell x) (sym c.step-recovered.ensures.one_access) (well_loaded b c.self.invariant c.args.at is)
+    record {
+      well = subst (λ (ws : Words). let x : Brokered = record b { words = ws } in IsWell x) (sym c.step-recovered.ensures.one_access) (well_loaded b c.self.invariant.well c.args.at is);
+      slots = all_quiet_asked b (record b { words = c.step-recovered.new.memory.words }) c.self.inside.memory c.step-recovered.new.memory c.self.invariant refl
+          (lent_alike 0 0 c.self.inside.memory c.step-recovered.new.memory c.step-recovered.ensures.lent)
+          (λ slot. subst (λ (ws : Words). quiet (world_of ws (slice_get b.slots slot)) ≡ quiet (world_at b slot)) (sym c.step-recovered.ensures.one_access) (worlds_loaded b c.self.invariant.well c.args.at is slot));
+      creation = recovery_asked b.counts b.recovery (ReadDirectory c.args.at) b.creation _ is;
+    }
 
 pub open_found-requires-clause-well : goal.open_found-requires-clause-well
 open_found-requires-clause-well c =
-    let b : Brokered = record { counts = c.self.inside.layout; words = c.self.inside.memory; slots = c.self.inside.slots.items; directory = c.self.inside.directory; creation = c.self.inside.creation; recovery = c.self.inside.recovery } in
+    let b : Brokered = record { counts = c.self.inside.layout; words = c.self.inside.memory.words; slots = c.self.inside.slots.items; directory = c.self.inside.directory; creation = c.self.inside.creation; recovery = c.self.inside.recovery } in
     let is : b.recovery ≡ Some (ReadDirectory c.args.at) = ap (λ (x : Brokered). x.recovery) c.self.view_is ∙ c.requires in
-    subst (λ (ws : Words). let x : Brokered = record b { words = ws } in IsWell x) (sym c.step-recovered.ensures.one_access) (well_loaded b c.self.invariant c.args.at is)
+    subst (λ (ws : Words). let x : Brokered = record b { words = ws } in IsWell x) (sym c.step-recovered.ensures.one_access) (well_loaded b c.self.invariant.well c.args.at is)
 
 pub open_found-requires-clause-open : goal.open_found-requires-clause-open
 open_found-requires-clause-open c =
-    let b : Brokered = record { counts = c.self.inside.layout; words = c.self.inside.memory; slots = c.self.inside.slots.items; directory = c.self.inside.directory; creation = c.self.inside.creation; recovery = c.self.inside.recovery } in
+    let b : Brokered = record { counts = c.self.inside.layout; words = c.self.inside.memory.words; slots = c.self.inside.slots.items; directory = c.self.inside.directory; creation = c.self.inside.creation; recovery = c.self.inside.recovery } in
     let is : b.recovery ≡ Some (ReadDirectory c.args.at) = ap (λ (x : Brokered). x.recovery) c.self.view_is ∙ c.requires in
-    let opens = found_opens b c.self.invariant c.args.at is in
+    let opens = found_opens b c.self.invariant.well c.args.at is in
     subst (λ (ws : Words). IfSome c.step-recovered.result.opened (λ slot. IsOpenSlot ws.kept slot.0)) (sym c.step-recovered.ensures.one_access)
     (subst (λ (r : Recovered). IfSome r.opened (λ slot. IsOpenSlot b.words.kept slot.0)) (sym c.step-recovered.ensures.next) opens)
 
 pub read_on-requires-clause-may : goal.read_on-requires-clause-may
 read_on-requires-clause-may c =
-    let b : Brokered = record { counts = c.self.inside.layout; words = c.self.inside.memory; slots = c.self.inside.slots.items; directory = c.self.inside.directory; creation = c.self.inside.creation; recovery = c.self.inside.recovery } in
+    let b : Brokered = record { counts = c.self.inside.layout; words = c.self.inside.memory.words; slots = c.self.inside.slots.items; directory = c.self.inside.directory; creation = c.self.inside.creation; recovery = c.self.inside.recovery } in
     let is : b.recovery ≡ Some (ReadDirectory c.args.at) = ap (λ (x : Brokered). x.recovery) c.self.view_is ∙ c.requires in
     let now : Brokered = c.open_found.new.self in
     let words : now.words ≡ words_read b c.args.at = ap (λ (x : Brokered). x.words) c.open_found.ensures.same ∙ c.step-recovered.ensures.one_access in
     let it : c.step-recovered.result ≡ found_by b c.args.at = c.step-recovered.ensures.next in
     let is2 : now.recovery ≡ Some (ReadDirectory c.args.at) = ap (λ (x : Brokered). x.recovery) c.open_found.ensures.same ∙ is in
-    let kept : c.step-recovered.new.memory ≡ now.words = sym (ap (λ (x : Brokered). x.words) c.open_found.ensures.same) in
+    let kept : c.step-recovered.new.memory.words ≡ now.words = sym (ap (λ (x : Brokered). x.words) c.open_found.ensures.same) in
     let known : IfSome (found_by b c.args.at).opened (λ slot. slice_get now.directory slot.0 ≡ Some (slot_in now.words.kept slot.0)) =
     subst (λ (ws : Words). IfSome (found_by b c.args.at).opened (λ slot. slice_get now.directory slot.0 ≡ Some (slot_in ws.kept slot.0))) kept
-    (subst (λ (r : Recovered). IfSome r.opened (λ slot. slice_get now.directory slot.0 ≡ Some (slot_in c.step-recovered.new.memory.kept slot.0))) it c.open_found.ensures.known) in
+    (subst (λ (r : Recovered). IfSome r.opened (λ slot. slice_get now.directory slot.0 ≡ Some (slot_in c.step-recovered.new.memory.words.kept slot.0))) it c.open_found.ensures.known) in
     subst (λ (r : Recovered). MayReadOn now r.after) (sym it) (may_read_on b.counts b.words c.args.at now c.open_found.ensures.well is2 words known)
 
 pub returns-clause-read : goal.returns-clause-read
 returns-clause-read c =
-    let b : Brokered = record { counts = c.self.inside.layout; words = c.self.inside.memory; slots = c.self.inside.slots.items; directory = c.self.inside.directory; creation = c.self.inside.creation; recovery = c.self.inside.recovery } in
+    let b : Brokered = record { counts = c.self.inside.layout; words = c.self.inside.memory.words; slots = c.self.inside.slots.items; directory = c.self.inside.directory; creation = c.self.inside.creation; recovery = c.self.inside.recovery } in
     let is : b.recovery ≡ Some (ReadDirectory c.args.at) = ap (λ (x : Brokered). x.recovery) c.self.view_is ∙ c.requires in
     let now : Brokered = c.open_found.new.self in
     let words : now.words ≡ words_read b c.args.at = ap (λ (x : Brokered). x.words) c.open_found.ensures.same ∙ c.step-recovered.ensures.one_access in
@@ -65,9 +73,9 @@ returns-clause-read c =
     let directory : new.directory ≡ now.directory = ap (λ (x : Brokered). x.directory) c.read_on.ensures.same in
     let found1 : IsFound (record b { words = words_read b c.args.at }) now (found_by b c.args.at).opened =
     subst (λ (ws : Words). let x : Brokered = record b { words = ws } in IsFound x now (found_by b c.args.at).opened) c.step-recovered.ensures.one_access
-    (subst (λ (r : Recovered). let x : Brokered = record b { words = c.step-recovered.new.memory } in IsFound x now r.opened) it c.open_found.ensures.found) in
+    (subst (λ (r : Recovered). let x : Brokered = record b { words = c.step-recovered.new.memory.words } in IsFound x now r.opened) it c.open_found.ensures.found) in
     let found : IsFound b new (found_by b c.args.at).opened =
-    found_over b now new (words_read b c.args.at) (worlds_loaded b c.self.invariant c.args.at is) counts same_words slots directory (found_by b c.args.at).opened found1 in
+    found_over b now new (words_read b c.args.at) (worlds_loaded b c.self.invariant.well c.args.at is) counts same_words slots directory (found_by b c.args.at).opened found1 in
     let on : IsReadOn now new (found_by b c.args.at).after = subst (λ (r : Recovered). IsReadOn now new r.after) it c.read_on.ensures.next in
     let result : Result Bool Refusal = Ok c.read_on.result in
     let read : IsDirectoryRead b new c.args.at result = record {
@@ -82,14 +90,14 @@ returns-clause-read c =
 
 pub returns-clause-told : goal.returns-clause-told
 returns-clause-told c = λ at before now.
-    let b : Brokered = record { counts = c.self.inside.layout; words = c.self.inside.memory; slots = c.self.inside.slots.items; directory = c.self.inside.directory; creation = c.self.inside.creation; recovery = c.self.inside.recovery } in
+    let b : Brokered = record { counts = c.self.inside.layout; words = c.self.inside.memory.words; slots = c.self.inside.slots.items; directory = c.self.inside.directory; creation = c.self.inside.creation; recovery = c.self.inside.recovery } in
     let is : b.recovery ≡ Some (ReadDirectory c.args.at) = ap (λ (x : Brokered). x.recovery) c.self.view_is ∙ c.requires in
     let same : c.open_found.new.self.recovery ≡ c.args.self.now.recovery = ap (λ (x : Brokered). x.recovery) c.open_found.ensures.same ∙ ap (λ (x : Brokered). x.recovery) c.self.view_is in
     c.read_on.ensures.told at (ap (λ (r : Option BrokerRecovery). is_ready_at r at) same ∙ before) now
 
 pub returns-clause-falls : goal.returns-clause-falls
 returns-clause-falls c =
-    let b : Brokered = record { counts = c.self.inside.layout; words = c.self.inside.memory; slots = c.self.inside.slots.items; directory = c.self.inside.directory; creation = c.self.inside.creation; recovery = c.self.inside.recovery } in
+    let b : Brokered = record { counts = c.self.inside.layout; words = c.self.inside.memory.words; slots = c.self.inside.slots.items; directory = c.self.inside.directory; creation = c.self.inside.creation; recovery = c.self.inside.recovery } in
     let is : b.recovery ≡ Some (ReadDirectory c.args.at) = ap (λ (x : Brokered). x.recovery) c.self.view_is ∙ c.requires in
     let now : Brokered = c.open_found.new.self in
     let words : now.words ≡ words_read b c.args.at = ap (λ (x : Brokered). x.words) c.open_found.ensures.same ∙ c.step-recovered.ensures.one_access in

@@ -12,89 +12,120 @@ use Rattle.named.specs.Lasting.{left_at, steps_left}
 use Rattle.interleave.specs.Calls.{is_no_memory}
 use Rattle.named.specs.Slots.{room_in}
 use Rattle.named.proofs.Eaches.{rooms_after, rooms_kept}
-use Rattle.named.proofs.Kept.{slot_is_well}
+use Rattle.named.proofs.Kept.{others_stay, slot_is_well, slot_now}
 use Rattle.named.proofs.Queues.{HasSpent, falls_ready, falls_yet, full_here, its_slot, ready_by, recovered, recovering, tells_ready, well_ready, well_recovering}
+use Rattle.named.proofs.Askings.{acted_asked, creation_waits, left_asked, slot_asked_here}
 use Rattle.named.proofs.Promises.{promises_well}
 use Rattle.named.proofs.broker.Broker.recover_queue.Goals as goal
 
 pub recover_step-requires : goal.recover_step-requires
 recover_step-requires c =
-    let b : Brokered = record { counts = c.self.inside.layout; words = c.self.inside.memory; slots = c.self.inside.slots.items; directory = c.self.inside.directory; creation = c.self.inside.creation; recovery = c.self.inside.recovery } in
+    let b : Brokered = record { counts = c.self.inside.layout; words = c.self.inside.memory.words; slots = c.self.inside.slots.items; directory = c.self.inside.directory; creation = c.self.inside.creation; recovery = c.self.inside.recovery } in
     let turn : b.recovery ≡ Some (RecoverQueue c.args.slot) = ap (λ (x : Brokered). x.recovery) c.self.view_is ∙ c.requires in
     let was : Slot = c.index_mut.result.now in
-    let here : slice_get b.slots c.args.slot.0 ≡ Some was = slice_get_read b.slots 8 c.args.slot.0 was (sym c.self.invariant.count) (its_slot b c.self.invariant c.args.slot turn) c.index_mut.ensures.value in
-    slot_is_well b.counts b.words c.args.slot.0 was (c.self.invariant.slots c.args.slot.0 was here)
+    let here : slice_get b.slots c.args.slot.0 ≡ Some was = slice_get_read b.slots 8 c.args.slot.0 was (sym c.self.invariant.well.count) (its_slot b c.self.invariant.well c.args.slot turn) c.index_mut.ensures.value in
+    record {
+      well = slot_is_well b.counts b.words c.args.slot.0 was (c.self.invariant.well.slots c.args.slot.0 was here);
+      asked = slot_asked_here b c.self.inside.memory c.args.slot.0 was c.self.invariant here;
+    }
 
 pub invariant_of-self : goal.invariant_of-self
 invariant_of-self c =
-    let b : Brokered = record { counts = c.self.inside.layout; words = c.self.inside.memory; slots = c.self.inside.slots.items; directory = c.self.inside.directory; creation = c.self.inside.creation; recovery = c.self.inside.recovery } in
+    let b : Brokered = record { counts = c.self.inside.layout; words = c.self.inside.memory.words; slots = c.self.inside.slots.items; directory = c.self.inside.directory; creation = c.self.inside.creation; recovery = c.self.inside.recovery } in
     let turn : b.recovery ≡ Some (RecoverQueue c.args.slot) = ap (λ (x : Brokered). x.recovery) c.self.view_is ∙ c.requires in
     let was : Slot = c.index_mut.result.now in
-    let here : slice_get b.slots c.args.slot.0 ≡ Some was = slice_get_read b.slots 8 c.args.slot.0 was (sym c.self.invariant.count) (its_slot b c.self.invariant c.args.slot turn) c.index_mut.ensures.value in
+    let here : slice_get b.slots c.args.slot.0 ≡ Some was = slice_get_read b.slots 8 c.args.slot.0 was (sym c.self.invariant.well.count) (its_slot b c.self.invariant.well c.args.slot turn) c.index_mut.ensures.value in
     let yet : ready_by c.recover_step.result ≡ false = ap ready_by c.in_err-ready.was in
-    well_recovering b c.args.slot was c.recover_step.new.self c.recover_step.new.memory c.self.invariant here c.recover_step.ensures.well c.recover_step.ensures.outside c.recover_step.ensures.same turn c.recover_step.result c.recover_step.ensures.world c.recover_step.ensures.result yet
+    let e = c.recover_step.ensures in
+    let new = c.recover_step.new.memory in
+    let below = its_slot b c.self.invariant.well c.args.slot turn in
+    record {
+      well = well_recovering b c.args.slot was c.recover_step.new.self c.recover_step.new.memory.words c.self.invariant.well here c.recover_step.ensures.well c.recover_step.ensures.outside c.recover_step.ensures.same turn c.recover_step.result c.recover_step.ensures.world c.recover_step.ensures.result yet;
+      slots = acted_asked b c.self.inside.memory new c.args.slot.0 was c.recover_step.new.self c.self.invariant here below e.beside new.words
+          (slot_now b.counts b.words new.words c.args.slot.0 was c.recover_step.new.self (c.self.invariant.well.slots c.args.slot.0 was here) e.well e.same e.outside)
+          e.asked (λ k ne. others_stay b c.args.slot.0 was c.recover_step.new.self new.words c.self.invariant.well here e.well e.outside e.same k ne);
+      creation = creation_waits b c.self.inside.memory new c.args.slot.0 was c.recover_step.new.self c.self.invariant here below e.beside;
+    }
 
 pub returns-in_err-ready-clause-recovered : goal.returns-in_err-ready-clause-recovered
 returns-in_err-ready-clause-recovered c =
-    let b : Brokered = record { counts = c.self.inside.layout; words = c.self.inside.memory; slots = c.self.inside.slots.items; directory = c.self.inside.directory; creation = c.self.inside.creation; recovery = c.self.inside.recovery } in
+    let b : Brokered = record { counts = c.self.inside.layout; words = c.self.inside.memory.words; slots = c.self.inside.slots.items; directory = c.self.inside.directory; creation = c.self.inside.creation; recovery = c.self.inside.recovery } in
     let turn : b.recovery ≡ Some (RecoverQueue c.args.slot) = ap (λ (x : Brokered). x.recovery) c.self.view_is ∙ c.requires in
     let was : Slot = c.index_mut.result.now in
-    let here : slice_get b.slots c.args.slot.0 ≡ Some was = slice_get_read b.slots 8 c.args.slot.0 was (sym c.self.invariant.count) (its_slot b c.self.invariant c.args.slot turn) c.index_mut.ensures.value in
+    let here : slice_get b.slots c.args.slot.0 ≡ Some was = slice_get_read b.slots 8 c.args.slot.0 was (sym c.self.invariant.well.count) (its_slot b c.self.invariant.well c.args.slot turn) c.index_mut.ensures.value in
     let yet : ready_by c.recover_step.result ≡ false = ap ready_by c.in_err-ready.was in
-    let now : Brokered = with_slot b c.args.slot.0 c.recover_step.new.self c.recover_step.new.memory in
+    let now : Brokered = with_slot b c.args.slot.0 c.recover_step.new.self c.recover_step.new.memory.words in
     let answer : c.recover_step.result ≡ c.from_residual.result = search rules in
     let spent : HasSpent was c.recover_step.new.self c.recover_step.result = record { full = c.recover_step.ensures.full; room = c.recover_step.ensures.room; spare = c.recover_step.ensures.spare; stays = c.recover_step.ensures.stays } in
-    let done : IsQueueRecovered b now c.args.slot.0 c.recover_step.result = recovering b c.args.slot was c.recover_step.new.self c.recover_step.new.memory c.self.invariant here c.recover_step.ensures.well c.recover_step.ensures.outside c.recover_step.ensures.same turn c.recover_step.result c.recover_step.ensures.world c.recover_step.ensures.result yet spent in
+    let done : IsQueueRecovered b now c.args.slot.0 c.recover_step.result = recovering b c.args.slot was c.recover_step.new.self c.recover_step.new.memory.words c.self.invariant.well here c.recover_step.ensures.well c.recover_step.ensures.outside c.recover_step.ensures.same turn c.recover_step.result c.recover_step.ensures.world c.recover_step.ensures.result yet spent in
     subst (λ (x : Brokered). IsQueueRecovered x now c.args.slot.0 c.from_residual.result) c.self.view_is (subst (IsQueueRecovered b now c.args.slot.0) answer done)
 
 pub invariant_of-self-then-not-ready : goal.invariant_of-self-then-not-ready
 invariant_of-self-then-not-ready c =
-    let b : Brokered = record { counts = c.self.inside.layout; words = c.self.inside.memory; slots = c.self.inside.slots.items; directory = c.self.inside.directory; creation = c.self.inside.creation; recovery = c.self.inside.recovery } in
+    let b : Brokered = record { counts = c.self.inside.layout; words = c.self.inside.memory.words; slots = c.self.inside.slots.items; directory = c.self.inside.directory; creation = c.self.inside.creation; recovery = c.self.inside.recovery } in
     let turn : b.recovery ≡ Some (RecoverQueue c.args.slot) = ap (λ (x : Brokered). x.recovery) c.self.view_is ∙ c.requires in
     let was : Slot = c.index_mut.result.now in
-    let here : slice_get b.slots c.args.slot.0 ≡ Some was = slice_get_read b.slots 8 c.args.slot.0 was (sym c.self.invariant.count) (its_slot b c.self.invariant c.args.slot turn) c.index_mut.ensures.value in
+    let here : slice_get b.slots c.args.slot.0 ≡ Some was = slice_get_read b.slots 8 c.args.slot.0 was (sym c.self.invariant.well.count) (its_slot b c.self.invariant.well c.args.slot turn) c.index_mut.ensures.value in
     let yet : ready_by c.recover_step.result ≡ false = ap ready_by c.in_ok-ready.was ∙ c.if-not-ready.true in
-    well_recovering b c.args.slot was c.recover_step.new.self c.recover_step.new.memory c.self.invariant here c.recover_step.ensures.well c.recover_step.ensures.outside c.recover_step.ensures.same turn c.recover_step.result c.recover_step.ensures.world c.recover_step.ensures.result yet
+    let e = c.recover_step.ensures in
+    let new = c.recover_step.new.memory in
+    let below = its_slot b c.self.invariant.well c.args.slot turn in
+    record {
+      well = well_recovering b c.args.slot was c.recover_step.new.self c.recover_step.new.memory.words c.self.invariant.well here c.recover_step.ensures.well c.recover_step.ensures.outside c.recover_step.ensures.same turn c.recover_step.result c.recover_step.ensures.world c.recover_step.ensures.result yet;
+      slots = acted_asked b c.self.inside.memory new c.args.slot.0 was c.recover_step.new.self c.self.invariant here below e.beside new.words
+          (slot_now b.counts b.words new.words c.args.slot.0 was c.recover_step.new.self (c.self.invariant.well.slots c.args.slot.0 was here) e.well e.same e.outside)
+          e.asked (λ k ne. others_stay b c.args.slot.0 was c.recover_step.new.self new.words c.self.invariant.well here e.well e.outside e.same k ne);
+      creation = creation_waits b c.self.inside.memory new c.args.slot.0 was c.recover_step.new.self c.self.invariant here below e.beside;
+    }
 
 pub returns-then-not-ready-clause-recovered : goal.returns-then-not-ready-clause-recovered
 returns-then-not-ready-clause-recovered c =
-    let b : Brokered = record { counts = c.self.inside.layout; words = c.self.inside.memory; slots = c.self.inside.slots.items; directory = c.self.inside.directory; creation = c.self.inside.creation; recovery = c.self.inside.recovery } in
+    let b : Brokered = record { counts = c.self.inside.layout; words = c.self.inside.memory.words; slots = c.self.inside.slots.items; directory = c.self.inside.directory; creation = c.self.inside.creation; recovery = c.self.inside.recovery } in
     let turn : b.recovery ≡ Some (RecoverQueue c.args.slot) = ap (λ (x : Brokered). x.recovery) c.self.view_is ∙ c.requires in
     let was : Slot = c.index_mut.result.now in
-    let here : slice_get b.slots c.args.slot.0 ≡ Some was = slice_get_read b.slots 8 c.args.slot.0 was (sym c.self.invariant.count) (its_slot b c.self.invariant c.args.slot turn) c.index_mut.ensures.value in
+    let here : slice_get b.slots c.args.slot.0 ≡ Some was = slice_get_read b.slots 8 c.args.slot.0 was (sym c.self.invariant.well.count) (its_slot b c.self.invariant.well c.args.slot turn) c.index_mut.ensures.value in
     let yet : ready_by c.recover_step.result ≡ false = ap ready_by c.in_ok-ready.was ∙ c.if-not-ready.true in
-    let now : Brokered = with_slot b c.args.slot.0 c.recover_step.new.self c.recover_step.new.memory in
+    let now : Brokered = with_slot b c.args.slot.0 c.recover_step.new.self c.recover_step.new.memory.words in
     let answer : c.recover_step.result ≡ Ok false = c.in_ok-ready.was ∙ ap (λ (x : Bool). let r : Result Bool Refusal = Ok x in r) c.if-not-ready.true in
     let spent : HasSpent was c.recover_step.new.self c.recover_step.result = record { full = c.recover_step.ensures.full; room = c.recover_step.ensures.room; spare = c.recover_step.ensures.spare; stays = c.recover_step.ensures.stays } in
-    let done : IsQueueRecovered b now c.args.slot.0 c.recover_step.result = recovering b c.args.slot was c.recover_step.new.self c.recover_step.new.memory c.self.invariant here c.recover_step.ensures.well c.recover_step.ensures.outside c.recover_step.ensures.same turn c.recover_step.result c.recover_step.ensures.world c.recover_step.ensures.result yet spent in
+    let done : IsQueueRecovered b now c.args.slot.0 c.recover_step.result = recovering b c.args.slot was c.recover_step.new.self c.recover_step.new.memory.words c.self.invariant.well here c.recover_step.ensures.well c.recover_step.ensures.outside c.recover_step.ensures.same turn c.recover_step.result c.recover_step.ensures.world c.recover_step.ensures.result yet spent in
     subst (λ (x : Brokered). IsQueueRecovered x now c.args.slot.0 (Ok false)) c.self.view_is (subst (IsQueueRecovered b now c.args.slot.0) answer done)
 
 pub invariant_of-self-2 : goal.invariant_of-self-2
 invariant_of-self-2 c =
-    let b : Brokered = record { counts = c.self.inside.layout; words = c.self.inside.memory; slots = c.self.inside.slots.items; directory = c.self.inside.directory; creation = c.self.inside.creation; recovery = c.self.inside.recovery } in
+    let b : Brokered = record { counts = c.self.inside.layout; words = c.self.inside.memory.words; slots = c.self.inside.slots.items; directory = c.self.inside.directory; creation = c.self.inside.creation; recovery = c.self.inside.recovery } in
     let turn : b.recovery ≡ Some (RecoverQueue c.args.slot) = ap (λ (x : Brokered). x.recovery) c.self.view_is ∙ c.requires in
     let was : Slot = c.index_mut.result.now in
-    let here : slice_get b.slots c.args.slot.0 ≡ Some was = slice_get_read b.slots 8 c.args.slot.0 was (sym c.self.invariant.count) (its_slot b c.self.invariant c.args.slot turn) c.index_mut.ensures.value in
+    let here : slice_get b.slots c.args.slot.0 ≡ Some was = slice_get_read b.slots 8 c.args.slot.0 was (sym c.self.invariant.well.count) (its_slot b c.self.invariant.well c.args.slot turn) c.index_mut.ensures.value in
     let ready : c.recover_step.result ≡ Ok true = c.in_ok-ready.was ∙ ap (λ (x : Bool). let r : Result Bool Refusal = Ok x in r) c.if-not-ready.false in
     let recovery : Option BrokerRecovery = c.recovery_from-self-inside.result in
     let next : IsNext b.directory (c.args.slot.0 + 1) recovery = c.recovery_from-self-inside.ensures in
-    let now : Brokered = with_slot b c.args.slot.0 c.recover_step.new.self c.recover_step.new.memory in
-    subst (λ (k : Option Creation). let x : Brokered = record now { recovery = recovery; creation = k } in IsWell x) (sym c.creation_left-self-inside.ensures)
-    (well_ready b c.args.slot was c.recover_step.new.self c.recover_step.new.memory c.self.invariant here c.recover_step.ensures.well c.recover_step.ensures.outside c.recover_step.ensures.same turn c.recover_step.result c.recover_step.ensures.world c.recover_step.ensures.result ready recovery next)
+    let now : Brokered = with_slot b c.args.slot.0 c.recover_step.new.self c.recover_step.new.memory.words in
+    let e = c.recover_step.ensures in
+    let new = c.recover_step.new.memory in
+    let below = its_slot b c.self.invariant.well c.args.slot turn in
+    record {
+      well = subst (λ (k : Option Creation). let x : Brokered = record now { recovery = recovery; creation = k } in IsWell x) (sym c.creation_left-self-inside.ensures)
+          (well_ready b c.args.slot was c.recover_step.new.self c.recover_step.new.memory.words c.self.invariant.well here c.recover_step.ensures.well c.recover_step.ensures.outside c.recover_step.ensures.same turn c.recover_step.result c.recover_step.ensures.world c.recover_step.ensures.result ready recovery next);
+      slots = acted_asked b c.self.inside.memory new c.args.slot.0 was c.recover_step.new.self c.self.invariant here below e.beside new.words
+          (slot_now b.counts b.words new.words c.args.slot.0 was c.recover_step.new.self (c.self.invariant.well.slots c.args.slot.0 was here) e.well e.same e.outside)
+          e.asked (λ k ne. others_stay b c.args.slot.0 was c.recover_step.new.self new.words c.self.invariant.well here e.well e.outside e.same k ne);
+      creation = left_asked b.counts recovery b.creation c.creation_left-self-inside.result _ c.creation_left-self-inside.ensures;
+    }
 
 pub returns-clause-recovered : goal.returns-clause-recovered
 returns-clause-recovered c =
-    let b : Brokered = record { counts = c.self.inside.layout; words = c.self.inside.memory; slots = c.self.inside.slots.items; directory = c.self.inside.directory; creation = c.self.inside.creation; recovery = c.self.inside.recovery } in
+    let b : Brokered = record { counts = c.self.inside.layout; words = c.self.inside.memory.words; slots = c.self.inside.slots.items; directory = c.self.inside.directory; creation = c.self.inside.creation; recovery = c.self.inside.recovery } in
     let turn : b.recovery ≡ Some (RecoverQueue c.args.slot) = ap (λ (x : Brokered). x.recovery) c.self.view_is ∙ c.requires in
     let was : Slot = c.index_mut.result.now in
-    let here : slice_get b.slots c.args.slot.0 ≡ Some was = slice_get_read b.slots 8 c.args.slot.0 was (sym c.self.invariant.count) (its_slot b c.self.invariant c.args.slot turn) c.index_mut.ensures.value in
+    let here : slice_get b.slots c.args.slot.0 ≡ Some was = slice_get_read b.slots 8 c.args.slot.0 was (sym c.self.invariant.well.count) (its_slot b c.self.invariant.well c.args.slot turn) c.index_mut.ensures.value in
     let ready : c.recover_step.result ≡ Ok true = c.in_ok-ready.was ∙ ap (λ (x : Bool). let r : Result Bool Refusal = Ok x in r) c.if-not-ready.false in
     let recovery : Option BrokerRecovery = c.recovery_from-self-inside.result in
     let next : IsNext b.directory (c.args.slot.0 + 1) recovery = c.recovery_from-self-inside.ensures in
-    let now : Brokered = with_slot b c.args.slot.0 c.recover_step.new.self c.recover_step.new.memory in
+    let now : Brokered = with_slot b c.args.slot.0 c.recover_step.new.self c.recover_step.new.memory.words in
     let answer : Result Bool Refusal = Ok (is_none recovery) in
     let spent : HasSpent was c.recover_step.new.self c.recover_step.result = record { full = c.recover_step.ensures.full; room = c.recover_step.ensures.room; spare = c.recover_step.ensures.spare; stays = c.recover_step.ensures.stays } in
-    let done : IsQueueRecovered b (record now { recovery = recovery; creation = creation_after b.creation recovery }) c.args.slot.0 answer = recovered b c.args.slot was c.recover_step.new.self c.recover_step.new.memory c.self.invariant here c.recover_step.ensures.well c.recover_step.ensures.outside c.recover_step.ensures.same turn c.recover_step.result c.recover_step.ensures.world c.recover_step.ensures.result ready recovery next spent in
+    let done : IsQueueRecovered b (record now { recovery = recovery; creation = creation_after b.creation recovery }) c.args.slot.0 answer = recovered b c.args.slot was c.recover_step.new.self c.recover_step.new.memory.words c.self.invariant.well here c.recover_step.ensures.well c.recover_step.ensures.outside c.recover_step.ensures.same turn c.recover_step.result c.recover_step.ensures.world c.recover_step.ensures.result ready recovery next spent in
     let answered : is_none recovery ≡ c.is_none.result = search rules in
     let new : Brokered = record now { recovery = recovery; creation = c.creation_left-self-inside.result } in
     let left : IsQueueRecovered b new c.args.slot.0 answer =
@@ -103,64 +134,64 @@ returns-clause-recovered c =
 
 pub returns-clause-told : goal.returns-clause-told
 returns-clause-told c = λ at before now.
-    let b : Brokered = record { counts = c.self.inside.layout; words = c.self.inside.memory; slots = c.self.inside.slots.items; directory = c.self.inside.directory; creation = c.self.inside.creation; recovery = c.self.inside.recovery } in
+    let b : Brokered = record { counts = c.self.inside.layout; words = c.self.inside.memory.words; slots = c.self.inside.slots.items; directory = c.self.inside.directory; creation = c.self.inside.creation; recovery = c.self.inside.recovery } in
     let turn : b.recovery ≡ Some (RecoverQueue c.args.slot) = ap (λ (x : Brokered). x.recovery) c.self.view_is ∙ c.requires in
     let was : Slot = c.index_mut.result.now in
-    let here : slice_get b.slots c.args.slot.0 ≡ Some was = slice_get_read b.slots 8 c.args.slot.0 was (sym c.self.invariant.count) (its_slot b c.self.invariant c.args.slot turn) c.index_mut.ensures.value in
+    let here : slice_get b.slots c.args.slot.0 ≡ Some was = slice_get_read b.slots 8 c.args.slot.0 was (sym c.self.invariant.well.count) (its_slot b c.self.invariant.well c.args.slot turn) c.index_mut.ensures.value in
     let ready : c.recover_step.result ≡ Ok true = c.in_ok-ready.was ∙ ap (λ (x : Bool). let r : Result Bool Refusal = Ok x in r) c.if-not-ready.false in
     let recovery : Option BrokerRecovery = c.recovery_from-self-inside.result in
     let next : IsNext b.directory (c.args.slot.0 + 1) recovery = c.recovery_from-self-inside.ensures in
     let was_not : is_ready_at b.recovery at ≡ false = subst (λ (x : Brokered). is_ready_at x.recovery at ≡ false) (sym c.self.view_is) before in
-    tells_ready b c.args.slot was c.recover_step.new.self c.recover_step.new.memory c.self.invariant here c.recover_step.ensures.well c.recover_step.ensures.outside c.recover_step.ensures.same turn c.recover_step.result c.recover_step.ensures.world c.recover_step.ensures.result ready recovery next at was_not now
+    tells_ready b c.args.slot was c.recover_step.new.self c.recover_step.new.memory.words c.self.invariant.well here c.recover_step.ensures.well c.recover_step.ensures.outside c.recover_step.ensures.same turn c.recover_step.result c.recover_step.ensures.world c.recover_step.ensures.result ready recovery next at was_not now
 
 pub returns-then-not-ready-clause-falls : goal.returns-then-not-ready-clause-falls
 returns-then-not-ready-clause-falls c =
-    let b : Brokered = record { counts = c.self.inside.layout; words = c.self.inside.memory; slots = c.self.inside.slots.items; directory = c.self.inside.directory; creation = c.self.inside.creation; recovery = c.self.inside.recovery } in
+    let b : Brokered = record { counts = c.self.inside.layout; words = c.self.inside.memory.words; slots = c.self.inside.slots.items; directory = c.self.inside.directory; creation = c.self.inside.creation; recovery = c.self.inside.recovery } in
     let turn : b.recovery ≡ Some (RecoverQueue c.args.slot) = ap (λ (x : Brokered). x.recovery) c.self.view_is ∙ c.requires in
     let was : Slot = c.index_mut.result.now in
-    let here : slice_get b.slots c.args.slot.0 ≡ Some was = slice_get_read b.slots 8 c.args.slot.0 was (sym c.self.invariant.count) (its_slot b c.self.invariant c.args.slot turn) c.index_mut.ensures.value in
-    let now : Brokered = with_slot b c.args.slot.0 c.recover_step.new.self c.recover_step.new.memory in
-    let less : steps_left now < steps_left b = falls_yet b c.args.slot was c.recover_step.new.self c.recover_step.new.memory c.self.invariant here c.recover_step.ensures.well c.recover_step.ensures.outside c.recover_step.ensures.same turn c.recover_step.result c.recover_step.ensures.world c.recover_step.ensures.result c.in_ok-ready.ready c.in_ok-ready.was in
+    let here : slice_get b.slots c.args.slot.0 ≡ Some was = slice_get_read b.slots 8 c.args.slot.0 was (sym c.self.invariant.well.count) (its_slot b c.self.invariant.well c.args.slot turn) c.index_mut.ensures.value in
+    let now : Brokered = with_slot b c.args.slot.0 c.recover_step.new.self c.recover_step.new.memory.words in
+    let less : steps_left now < steps_left b = falls_yet b c.args.slot was c.recover_step.new.self c.recover_step.new.memory.words c.self.invariant.well here c.recover_step.ensures.well c.recover_step.ensures.outside c.recover_step.ensures.same turn c.recover_step.result c.recover_step.ensures.world c.recover_step.ensures.result c.in_ok-ready.ready c.in_ok-ready.was in
     subst (λ (x : Brokered). steps_left now < steps_left x) c.self.view_is less
 
 pub returns-clause-falls : goal.returns-clause-falls
 returns-clause-falls c =
-    let b : Brokered = record { counts = c.self.inside.layout; words = c.self.inside.memory; slots = c.self.inside.slots.items; directory = c.self.inside.directory; creation = c.self.inside.creation; recovery = c.self.inside.recovery } in
+    let b : Brokered = record { counts = c.self.inside.layout; words = c.self.inside.memory.words; slots = c.self.inside.slots.items; directory = c.self.inside.directory; creation = c.self.inside.creation; recovery = c.self.inside.recovery } in
     let turn : b.recovery ≡ Some (RecoverQueue c.args.slot) = ap (λ (x : Brokered). x.recovery) c.self.view_is ∙ c.requires in
     let was : Slot = c.index_mut.result.now in
-    let here : slice_get b.slots c.args.slot.0 ≡ Some was = slice_get_read b.slots 8 c.args.slot.0 was (sym c.self.invariant.count) (its_slot b c.self.invariant c.args.slot turn) c.index_mut.ensures.value in
+    let here : slice_get b.slots c.args.slot.0 ≡ Some was = slice_get_read b.slots 8 c.args.slot.0 was (sym c.self.invariant.well.count) (its_slot b c.self.invariant.well c.args.slot turn) c.index_mut.ensures.value in
     let ready : c.recover_step.result ≡ Ok true = c.in_ok-ready.was ∙ ap (λ (x : Bool). let r : Result Bool Refusal = Ok x in r) c.if-not-ready.false in
     let recovery : Option BrokerRecovery = c.recovery_from-self-inside.result in
     let next : IsNext b.directory (c.args.slot.0 + 1) recovery = c.recovery_from-self-inside.ensures in
-    let now : Brokered = with_slot b c.args.slot.0 c.recover_step.new.self c.recover_step.new.memory in
-    let less : steps_left (record now { recovery = recovery; creation = creation_after b.creation recovery }) < steps_left b = falls_ready b c.args.slot was c.recover_step.new.self c.recover_step.new.memory c.self.invariant here c.recover_step.ensures.well c.recover_step.ensures.outside c.recover_step.ensures.same turn c.recover_step.result c.recover_step.ensures.world c.recover_step.ensures.result ready recovery next in
+    let now : Brokered = with_slot b c.args.slot.0 c.recover_step.new.self c.recover_step.new.memory.words in
+    let less : steps_left (record now { recovery = recovery; creation = creation_after b.creation recovery }) < steps_left b = falls_ready b c.args.slot was c.recover_step.new.self c.recover_step.new.memory.words c.self.invariant.well here c.recover_step.ensures.well c.recover_step.ensures.outside c.recover_step.ensures.same turn c.recover_step.result c.recover_step.ensures.world c.recover_step.ensures.result ready recovery next in
     subst (λ (x : Brokered). left_at now recovery < steps_left x) c.self.view_is less
 
 pub returns-in_err-ready-clause-full : goal.returns-in_err-ready-clause-full
 returns-in_err-ready-clause-full c = λ no_memory.
-    let b : Brokered = record { counts = c.self.inside.layout; words = c.self.inside.memory; slots = c.self.inside.slots.items; directory = c.self.inside.directory; creation = c.self.inside.creation; recovery = c.self.inside.recovery } in
+    let b : Brokered = record { counts = c.self.inside.layout; words = c.self.inside.memory.words; slots = c.self.inside.slots.items; directory = c.self.inside.directory; creation = c.self.inside.creation; recovery = c.self.inside.recovery } in
     let turn : b.recovery ≡ Some (RecoverQueue c.args.slot) = ap (λ (x : Brokered). x.recovery) c.self.view_is ∙ c.requires in
     let was : Slot = c.index_mut.result.now in
-    let here : slice_get b.slots c.args.slot.0 ≡ Some was = slice_get_read b.slots 8 c.args.slot.0 was (sym c.self.invariant.count) (its_slot b c.self.invariant c.args.slot turn) c.index_mut.ensures.value in
+    let here : slice_get b.slots c.args.slot.0 ≡ Some was = slice_get_read b.slots 8 c.args.slot.0 was (sym c.self.invariant.well.count) (its_slot b c.self.invariant.well c.args.slot turn) c.index_mut.ensures.value in
     let answer : c.recover_step.result ≡ c.from_residual.result = search rules in
     let full : room_in was ≡ 0 = c.recover_step.ensures.full (ap is_no_memory answer ∙ no_memory) in
-    subst HasFullQueue c.self.view_is (full_here b c.self.invariant c.args.slot turn was here full)
+    subst HasFullQueue c.self.view_is (full_here b c.self.invariant.well c.args.slot turn was here full)
 
 pub returns-in_err-ready-clause-room : goal.returns-in_err-ready-clause-room
 returns-in_err-ready-clause-room c = λ other.
-    let b : Brokered = record { counts = c.self.inside.layout; words = c.self.inside.memory; slots = c.self.inside.slots.items; directory = c.self.inside.directory; creation = c.self.inside.creation; recovery = c.self.inside.recovery } in
+    let b : Brokered = record { counts = c.self.inside.layout; words = c.self.inside.memory.words; slots = c.self.inside.slots.items; directory = c.self.inside.directory; creation = c.self.inside.creation; recovery = c.self.inside.recovery } in
     let turn : b.recovery ≡ Some (RecoverQueue c.args.slot) = ap (λ (x : Brokered). x.recovery) c.self.view_is ∙ c.requires in
     let was : Slot = c.index_mut.result.now in
-    let here : slice_get b.slots c.args.slot.0 ≡ Some was = slice_get_read b.slots 8 c.args.slot.0 was (sym c.self.invariant.count) (its_slot b c.self.invariant c.args.slot turn) c.index_mut.ensures.value in
+    let here : slice_get b.slots c.args.slot.0 ≡ Some was = slice_get_read b.slots 8 c.args.slot.0 was (sym c.self.invariant.well.count) (its_slot b c.self.invariant.well c.args.slot turn) c.index_mut.ensures.value in
     subst (λ (x : Brokered). room_at x other ≤ room_of (slice_get (slice_set b.slots c.args.slot.0 c.recover_step.new.self) other) + 1) c.self.view_is
     (rooms_after b.slots c.args.slot.0 was c.recover_step.new.self here c.recover_step.ensures.room other)
 
 pub returns-in_err-ready-clause-spare : goal.returns-in_err-ready-clause-spare
 returns-in_err-ready-clause-spare c =
-    let b : Brokered = record { counts = c.self.inside.layout; words = c.self.inside.memory; slots = c.self.inside.slots.items; directory = c.self.inside.directory; creation = c.self.inside.creation; recovery = c.self.inside.recovery } in
+    let b : Brokered = record { counts = c.self.inside.layout; words = c.self.inside.memory.words; slots = c.self.inside.slots.items; directory = c.self.inside.directory; creation = c.self.inside.creation; recovery = c.self.inside.recovery } in
     let turn : b.recovery ≡ Some (RecoverQueue c.args.slot) = ap (λ (x : Brokered). x.recovery) c.self.view_is ∙ c.requires in
     let was : Slot = c.index_mut.result.now in
-    let here : slice_get b.slots c.args.slot.0 ≡ Some was = slice_get_read b.slots 8 c.args.slot.0 was (sym c.self.invariant.count) (its_slot b c.self.invariant c.args.slot turn) c.index_mut.ensures.value in
+    let here : slice_get b.slots c.args.slot.0 ≡ Some was = slice_get_read b.slots 8 c.args.slot.0 was (sym c.self.invariant.well.count) (its_slot b c.self.invariant.well c.args.slot turn) c.index_mut.ensures.value in
     let refused : room_in was ≤ room_in c.recover_step.new.self = subst (λ (r : Result Bool Refusal). IfErr r (λ e. room_in was ≤ room_in c.recover_step.new.self)) c.in_err-ready.was c.recover_step.ensures.spare in
     let all : (other : ℕ) → room_at c.args.self.now other ≤ room_of (slice_get (slice_set b.slots c.args.slot.0 c.recover_step.new.self) other) = λ other.
     subst (λ (x : Brokered). room_at x other ≤ room_of (slice_get (slice_set b.slots c.args.slot.0 c.recover_step.new.self) other)) c.self.view_is
@@ -169,27 +200,27 @@ returns-in_err-ready-clause-spare c =
 
 pub returns-then-not-ready-clause-room : goal.returns-then-not-ready-clause-room
 returns-then-not-ready-clause-room c = λ other.
-    let b : Brokered = record { counts = c.self.inside.layout; words = c.self.inside.memory; slots = c.self.inside.slots.items; directory = c.self.inside.directory; creation = c.self.inside.creation; recovery = c.self.inside.recovery } in
+    let b : Brokered = record { counts = c.self.inside.layout; words = c.self.inside.memory.words; slots = c.self.inside.slots.items; directory = c.self.inside.directory; creation = c.self.inside.creation; recovery = c.self.inside.recovery } in
     let turn : b.recovery ≡ Some (RecoverQueue c.args.slot) = ap (λ (x : Brokered). x.recovery) c.self.view_is ∙ c.requires in
     let was : Slot = c.index_mut.result.now in
-    let here : slice_get b.slots c.args.slot.0 ≡ Some was = slice_get_read b.slots 8 c.args.slot.0 was (sym c.self.invariant.count) (its_slot b c.self.invariant c.args.slot turn) c.index_mut.ensures.value in
+    let here : slice_get b.slots c.args.slot.0 ≡ Some was = slice_get_read b.slots 8 c.args.slot.0 was (sym c.self.invariant.well.count) (its_slot b c.self.invariant.well c.args.slot turn) c.index_mut.ensures.value in
     subst (λ (x : Brokered). room_at x other ≤ room_of (slice_get (slice_set b.slots c.args.slot.0 c.recover_step.new.self) other) + 1) c.self.view_is
     (rooms_after b.slots c.args.slot.0 was c.recover_step.new.self here c.recover_step.ensures.room other)
 
 pub returns-clause-room : goal.returns-clause-room
 returns-clause-room c = λ other.
-    let b : Brokered = record { counts = c.self.inside.layout; words = c.self.inside.memory; slots = c.self.inside.slots.items; directory = c.self.inside.directory; creation = c.self.inside.creation; recovery = c.self.inside.recovery } in
+    let b : Brokered = record { counts = c.self.inside.layout; words = c.self.inside.memory.words; slots = c.self.inside.slots.items; directory = c.self.inside.directory; creation = c.self.inside.creation; recovery = c.self.inside.recovery } in
     let turn : b.recovery ≡ Some (RecoverQueue c.args.slot) = ap (λ (x : Brokered). x.recovery) c.self.view_is ∙ c.requires in
     let was : Slot = c.index_mut.result.now in
-    let here : slice_get b.slots c.args.slot.0 ≡ Some was = slice_get_read b.slots 8 c.args.slot.0 was (sym c.self.invariant.count) (its_slot b c.self.invariant c.args.slot turn) c.index_mut.ensures.value in
+    let here : slice_get b.slots c.args.slot.0 ≡ Some was = slice_get_read b.slots 8 c.args.slot.0 was (sym c.self.invariant.well.count) (its_slot b c.self.invariant.well c.args.slot turn) c.index_mut.ensures.value in
     subst (λ (x : Brokered). room_at x other ≤ room_of (slice_get (slice_set b.slots c.args.slot.0 c.recover_step.new.self) other) + 1) c.self.view_is
     (rooms_after b.slots c.args.slot.0 was c.recover_step.new.self here c.recover_step.ensures.room other)
 
 pub returns-in_err-ready-clause-promises : goal.returns-in_err-ready-clause-promises
-returns-in_err-ready-clause-promises c = promises_well _ (invariant_of-self c)
+returns-in_err-ready-clause-promises c = promises_well _ (invariant_of-self c).well
 
 pub returns-then-not-ready-clause-promises : goal.returns-then-not-ready-clause-promises
-returns-then-not-ready-clause-promises c = promises_well _ (invariant_of-self-then-not-ready c)
+returns-then-not-ready-clause-promises c = promises_well _ (invariant_of-self-then-not-ready c).well
 
 pub returns-clause-promises : goal.returns-clause-promises
-returns-clause-promises c = promises_well _ (invariant_of-self-2 c)
+returns-clause-promises c = promises_well _ (invariant_of-self-2 c).well

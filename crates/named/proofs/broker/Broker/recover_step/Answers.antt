@@ -12,11 +12,11 @@ use Rattle.named.proofs.broker.Broker.recover_step.Goals as goal
 
 pub returns-in-Some-RecoverQueue-clause-few : goal.returns-in-Some-RecoverQueue-clause-few
 returns-in-Some-RecoverQueue-clause-few c =
-    let b : Brokered = record { counts = c.self.inside.layout; words = c.self.inside.memory; slots = c.self.inside.slots.items; directory = c.self.inside.directory; creation = c.self.inside.creation; recovery = c.self.inside.recovery } in
-    subst (λ (x : Brokered). steps_left x ≤ 32 + most_kept x) c.self.view_is (few_left b c.self.invariant)
+    let b : Brokered = record { counts = c.self.inside.layout; words = c.self.inside.memory.words; slots = c.self.inside.slots.items; directory = c.self.inside.directory; creation = c.self.inside.creation; recovery = c.self.inside.recovery } in
+    subst (λ (x : Brokered). steps_left x ≤ 32 + most_kept x) c.self.view_is (few_left b c.self.invariant.well)
 
 pub returns-in-None-clause-promises : goal.returns-in-None-clause-promises
-returns-in-None-clause-promises c = promises_kept _ _ c.self.invariant c.self.view_is
+returns-in-None-clause-promises c = promises_kept _ _ c.self.invariant.well c.self.view_is
 
 pub returns-in-None-clause-downtime : goal.returns-in-None-clause-downtime
 returns-in-None-clause-downtime c = nothing_downtime _
@@ -25,10 +25,10 @@ pub returns-in-Some-ReadDirectory-clause-downtime : goal.returns-in-Some-ReadDir
 returns-in-Some-ReadDirectory-clause-downtime c =
     let at : DirectoryRecovery = c.in-Some-ReadDirectory.at in
     let is : c.args.self.now.recovery ≡ Some (ReadDirectory at) = search rules in
-    directory_downtime c.args.self.now c.read_directory.new.self at (Ok c.read_directory.result) (subst IsWell c.self.view_is c.self.invariant) is c.read_directory.ensures.read
+    directory_downtime c.args.self.now c.read_directory.new.self at (Ok c.read_directory.result) (subst IsWell c.self.view_is c.self.invariant.well) is c.read_directory.ensures.read
 
 pub returns-in-Some-RecoverQueue-clause-downtime : goal.returns-in-Some-RecoverQueue-clause-downtime
 returns-in-Some-RecoverQueue-clause-downtime c =
     let slot : SlotId = c.in-Some-RecoverQueue.slot in
     let is : c.args.self.now.recovery ≡ Some (RecoverQueue slot) = search rules in
-    queue_downtime c.args.self.now c.recover_queue.new.self slot.0 c.recover_queue.result (subst IsWell c.self.view_is c.self.invariant) c.recover_queue.ensures.recovered
+    queue_downtime c.args.self.now c.recover_queue.new.self slot.0 c.recover_queue.result (subst IsWell c.self.view_is c.self.invariant.well) c.recover_queue.ensures.recovered

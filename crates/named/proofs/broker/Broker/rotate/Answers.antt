@@ -4,69 +4,74 @@ use Rattle.std.specs.Prelude.{is_some}
 use Rattle.std.specs.Vec.{with_items}
 use Rattle.std.proofs.lemmas.List.{with_items_is}
 use Rattle.words.specs.declared.refusal.Refusal.TheVariants.{NotReady}
-use Rattle.named.specs.Brokers.{Brokered, IsWell, room_at, room_of, world_of}
+use Rattle.named.specs.Brokers.{Brokered, IsWell, room_at, room_of, world_at, world_of}
 use Rattle.named.specs.Rotating.{AreBegunAnew, AreQuiet, IsRotated, has_calls_in}
 use Rattle.named.specs.declared.slot.Slot.{Slot}
 use Rattle.named.proofs.Kept.{ready_there}
+use Rattle.named.proofs.Askings.{rotated_asked}
 use Rattle.named.proofs.Promises.{promises_kept, promises_well}
 use Rattle.named.proofs.Rotated.{all_quiet, rotated_rooms, rotated_well, rotated_worlds}
 use Rattle.named.proofs.broker.Broker.rotate.Goals as goal
 
 pub prepare_each-requires : goal.prepare_each-requires
 prepare_each-requires c =
-    let b : Brokered = record { counts = c.self.inside.layout; words = c.self.inside.memory; slots = c.self.inside.slots.items; directory = c.self.inside.directory; creation = c.self.inside.creation; recovery = c.self.inside.recovery } in
+    let b : Brokered = record { counts = c.self.inside.layout; words = c.self.inside.memory.words; slots = c.self.inside.slots.items; directory = c.self.inside.directory; creation = c.self.inside.creation; recovery = c.self.inside.recovery } in
     let ready : b.recovery ≡ None =
     ready_there b.recovery c.check_ready.result (c.check_ready.ensures ∙ ap (λ (x : Brokered). if is_some x.recovery then Err NotReady else Ok tt) (sym c.self.view_is)) c.in_ok-check_ready.was in
     let nobody : list_any has_calls_in b.slots ≡ false =
     ap (list_any has_calls_in) (sym c.deref.ensures.value) ∙ sym c.have_calls.ensures ∙ c.if-have_calls.false in
-    all_quiet b c.self.invariant ready nobody
+    all_quiet b c.self.invariant.well ready nobody
 
 pub begin_each-requires-clause-quiet : goal.begin_each-requires-clause-quiet
 begin_each-requires-clause-quiet c =
-    let b : Brokered = record { counts = c.self.inside.layout; words = c.self.inside.memory; slots = c.self.inside.slots.items; directory = c.self.inside.directory; creation = c.self.inside.creation; recovery = c.self.inside.recovery } in
+    let b : Brokered = record { counts = c.self.inside.layout; words = c.self.inside.memory.words; slots = c.self.inside.slots.items; directory = c.self.inside.directory; creation = c.self.inside.creation; recovery = c.self.inside.recovery } in
     let ready : b.recovery ≡ None =
     ready_there b.recovery c.check_ready.result (c.check_ready.ensures ∙ ap (λ (x : Brokered). if is_some x.recovery then Err NotReady else Ok tt) (sym c.self.view_is)) c.in_ok-check_ready.was in
     let nobody : list_any has_calls_in b.slots ≡ false =
     ap (list_any has_calls_in) (sym c.deref.ensures.value) ∙ sym c.have_calls.ensures ∙ c.if-have_calls.false in
-    subst (AreQuiet b.words) (sym c.deref_mut.ensures.value) (all_quiet b c.self.invariant ready nobody)
+    subst (AreQuiet b.words) (sym c.deref_mut.ensures.value) (all_quiet b c.self.invariant.well ready nobody)
 
 pub invariant_of-self : goal.invariant_of-self
 invariant_of-self c =
-    let b : Brokered = record { counts = c.self.inside.layout; words = c.self.inside.memory; slots = c.self.inside.slots.items; directory = c.self.inside.directory; creation = c.self.inside.creation; recovery = c.self.inside.recovery } in
+    let b : Brokered = record { counts = c.self.inside.layout; words = c.self.inside.memory.words; slots = c.self.inside.slots.items; directory = c.self.inside.directory; creation = c.self.inside.creation; recovery = c.self.inside.recovery } in
     let anew : List Slot = c.begin_each.new.slots in
     let begun : AreBegunAnew b.words b.slots anew = subst (λ (l : List Slot). AreBegunAnew b.words l anew) c.deref_mut.ensures.value c.begin_each.ensures in
     let written : (with_items c.self.inside.slots anew).items ≡ anew = with_items_is c.self.inside.slots anew (begun.count ∙ sym c.self.inside.slots.ok.0) in
-    subst (λ (l : List Slot). let y : Brokered = record b { slots = l } in IsWell y) (sym written) (rotated_well b anew c.self.invariant begun)
+    record {
+      well = subst (λ (l : List Slot). let y : Brokered = record b { slots = l } in IsWell y) (sym written) (rotated_well b anew c.self.invariant.well begun);
+      slots = λ at. rotated_asked b.counts c.self.inside.memory at (world_at b at) _ (ap (λ (l : List Slot). world_of b.words (slice_get l at)) written ∙ rotated_worlds b anew c.self.invariant.well begun at) (c.self.invariant.slots at);
+      creation = c.self.invariant.creation;
+    }
 
 pub returns-clause-rotated : goal.returns-clause-rotated
 returns-clause-rotated c = λ ok.
-    let b : Brokered = record { counts = c.self.inside.layout; words = c.self.inside.memory; slots = c.self.inside.slots.items; directory = c.self.inside.directory; creation = c.self.inside.creation; recovery = c.self.inside.recovery } in
+    let b : Brokered = record { counts = c.self.inside.layout; words = c.self.inside.memory.words; slots = c.self.inside.slots.items; directory = c.self.inside.directory; creation = c.self.inside.creation; recovery = c.self.inside.recovery } in
     let anew : List Slot = c.begin_each.new.slots in
     let begun : AreBegunAnew b.words b.slots anew = subst (λ (l : List Slot). AreBegunAnew b.words l anew) c.deref_mut.ensures.value c.begin_each.ensures in
     let written : (with_items c.self.inside.slots anew).items ≡ anew = with_items_is c.self.inside.slots anew (begun.count ∙ sym c.self.inside.slots.ok.0) in
     let new : Brokered = record b { slots = (with_items c.self.inside.slots anew).items } in
     let done : IsRotated b new = record {
       same = refl;
-      worlds = λ at. ap (λ (l : List Slot). world_of b.words (slice_get l at)) written ∙ rotated_worlds b anew c.self.invariant begun at;
+      worlds = λ at. ap (λ (l : List Slot). world_of b.words (slice_get l at)) written ∙ rotated_worlds b anew c.self.invariant.well begun at;
     } in
     subst (λ (y : Brokered). IsRotated y new) c.self.view_is done
 
 pub returns-clause-room : goal.returns-clause-room
 returns-clause-room c = λ at.
-    let b : Brokered = record { counts = c.self.inside.layout; words = c.self.inside.memory; slots = c.self.inside.slots.items; directory = c.self.inside.directory; creation = c.self.inside.creation; recovery = c.self.inside.recovery } in
+    let b : Brokered = record { counts = c.self.inside.layout; words = c.self.inside.memory.words; slots = c.self.inside.slots.items; directory = c.self.inside.directory; creation = c.self.inside.creation; recovery = c.self.inside.recovery } in
     let anew : List Slot = c.begin_each.new.slots in
     let begun : AreBegunAnew b.words b.slots anew = subst (λ (l : List Slot). AreBegunAnew b.words l anew) c.deref_mut.ensures.value c.begin_each.ensures in
     let written : (with_items c.self.inside.slots anew).items ≡ anew = with_items_is c.self.inside.slots anew (begun.count ∙ sym c.self.inside.slots.ok.0) in
-    omega (arith, rotated_rooms b anew c.self.invariant begun at, ap (λ (l : List Slot). room_of (slice_get l at)) written, ap (λ (y : Brokered). room_at y at) c.self.view_is)
+    omega (arith, rotated_rooms b anew c.self.invariant.well begun at, ap (λ (l : List Slot). room_of (slice_get l at)) written, ap (λ (y : Brokered). room_at y at) c.self.view_is)
 
 pub returns-clause-promises : goal.returns-clause-promises
-returns-clause-promises c = promises_well _ (invariant_of-self c)
+returns-clause-promises c = promises_well _ (invariant_of-self c).well
 
 pub returns-in_err-check_ready-clause-promises : goal.returns-in_err-check_ready-clause-promises
-returns-in_err-check_ready-clause-promises c = promises_kept _ _ c.self.invariant c.self.view_is
+returns-in_err-check_ready-clause-promises c = promises_kept _ _ c.self.invariant.well c.self.view_is
 
 pub returns-then-is_some-clause-promises : goal.returns-then-is_some-clause-promises
-returns-then-is_some-clause-promises c = promises_kept _ _ c.self.invariant c.self.view_is
+returns-then-is_some-clause-promises c = promises_kept _ _ c.self.invariant.well c.self.view_is
 
 pub returns-in_err-bases-clause-promises : goal.returns-in_err-bases-clause-promises
-returns-in_err-bases-clause-promises c = promises_kept _ _ c.self.invariant c.self.view_is
+returns-in_err-bases-clause-promises c = promises_kept _ _ c.self.invariant.well c.self.view_is

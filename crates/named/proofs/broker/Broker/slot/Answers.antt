@@ -11,10 +11,10 @@ returns-in-Some-clause-well c =
     let value : c.in-Some.slot.now ≡ get_or c.self.inside.slots.items c.args.slot.0 c.in-Some.slot.now = search rules in
     let here : slice_get c.self.inside.slots.items c.args.slot.0 ≡ Some c.in-Some.slot.now = slice_get_read c.self.inside.slots.items (length c.self.inside.slots.items) c.args.slot.0 c.in-Some.slot.now refl below value in
     subst (λ (x : Brokered). IsSlotWell x.words c.in-Some.slot.now) c.self.view_is
-    (slot_is_well c.self.inside.layout c.self.inside.memory c.args.slot.0 c.in-Some.slot.now (c.self.invariant.slots c.args.slot.0 c.in-Some.slot.now here))
+    (slot_is_well c.self.inside.layout c.self.inside.memory.words c.args.slot.0 c.in-Some.slot.now (c.self.invariant.well.slots c.args.slot.0 c.in-Some.slot.now here))
 
 pub returns-in-None-clause-errors : goal.returns-in-None-clause-errors
 returns-in-None-clause-errors c =
     let past : length c.self.inside.slots.items ≤ c.args.slot.0 = search rules in
     let none : slice_get c.self.inside.slots.items c.args.slot.0 ≡ None = slice_get_past c.self.inside.slots.items c.args.slot.0 past in
-    (refl, sym (ap (λ (x : Brokered). world_at x c.args.slot.0) c.self.view_is) ∙ ap (world_of c.self.inside.memory) none)
+    (refl, sym (ap (λ (x : Brokered). world_at x c.args.slot.0) c.self.view_is) ∙ ap (world_of c.self.inside.memory.words) none)

@@ -9,52 +9,65 @@ use Rattle.interleave.proofs.AloneLaws.{get_set}
 use Rattle.named.specs.Slots.{room_in}
 use Rattle.named.specs.Brokers.{Brokered, IsWell, admission, room_at, room_of, world_at, quiet, world_after, answer_at}
 use Rattle.named.proofs.GoingOn.{client_goes_on, broker_stays}
-use Rattle.named.proofs.Kept.{directory_as_it_was, get_set_other, same_directory, slot_is_well, still_well, others_stay, world_done, answer_done}
+use Rattle.named.proofs.Askings.{acted_asked, admitted_client, creation_waits, slot_asked_here}
+use Rattle.named.proofs.Kept.{slot_now, directory_as_it_was, get_set_other, same_directory, slot_is_well, still_well, others_stay, world_done, answer_done}
 use Rattle.named.proofs.Promises.{promises_kept, promises_well}
 use Rattle.named.proofs.broker.Broker.start.Goals as goal
 
 pub start-requires : goal.start-requires
 start-requires c =
-    let here = slice_get_read c.self.inside.slots.items 8 c.args.slot.0 c.index_mut.result.now (sym c.self.invariant.count) c.if-slot-ge-SLOTS.false c.index_mut.ensures.value in
-    let b : Brokered = record { counts = c.self.inside.layout; words = c.self.inside.memory; slots = c.self.inside.slots.items; directory = c.self.inside.directory; creation = c.self.inside.creation; recovery = c.self.inside.recovery } in
-    slot_is_well c.self.inside.layout c.self.inside.memory c.args.slot.0 c.index_mut.result.now (c.self.invariant.slots c.args.slot.0 c.index_mut.result.now here)
+    let here = slice_get_read c.self.inside.slots.items 8 c.args.slot.0 c.index_mut.result.now (sym c.self.invariant.well.count) c.if-slot-ge-SLOTS.false c.index_mut.ensures.value in
+    let b : Brokered = record { counts = c.self.inside.layout; words = c.self.inside.memory.words; slots = c.self.inside.slots.items; directory = c.self.inside.directory; creation = c.self.inside.creation; recovery = c.self.inside.recovery } in
+    let at = c.self.invariant.well.slots c.args.slot.0 c.index_mut.result.now here in
+    record {
+      well = slot_is_well b.counts b.words c.args.slot.0 c.index_mut.result.now at;
+      asked = slot_asked_here b c.self.inside.memory c.args.slot.0 c.index_mut.result.now c.self.invariant here;
+    }
 
 pub invariant_of-self : goal.invariant_of-self
 invariant_of-self c =
-    let here = slice_get_read c.self.inside.slots.items 8 c.args.slot.0 c.index_mut.result.now (sym c.self.invariant.count) c.if-slot-ge-SLOTS.false c.index_mut.ensures.value in
-    let b : Brokered = record { counts = c.self.inside.layout; words = c.self.inside.memory; slots = c.self.inside.slots.items; directory = c.self.inside.directory; creation = c.self.inside.creation; recovery = c.self.inside.recovery } in
-    still_well b c.args.slot.0 c.index_mut.result.now c.start.new.self c.start.new.memory c.self.invariant here c.start.ensures.well c.start.ensures.outside c.start.ensures.same c.start.ensures.as_ready
+    let here = slice_get_read c.self.inside.slots.items 8 c.args.slot.0 c.index_mut.result.now (sym c.self.invariant.well.count) c.if-slot-ge-SLOTS.false c.index_mut.ensures.value in
+    let b : Brokered = record { counts = c.self.inside.layout; words = c.self.inside.memory.words; slots = c.self.inside.slots.items; directory = c.self.inside.directory; creation = c.self.inside.creation; recovery = c.self.inside.recovery } in
+    let new = c.start.new.memory in
+    let e = c.start.ensures in
+    record {
+      well = still_well b c.args.slot.0 c.index_mut.result.now c.start.new.self new.words c.self.invariant.well here e.well e.outside e.same e.as_ready;
+      slots = acted_asked b c.self.inside.memory new c.args.slot.0 c.index_mut.result.now c.start.new.self c.self.invariant here c.if-slot-ge-SLOTS.false e.beside new.words
+          (slot_now b.counts b.words new.words c.args.slot.0 c.index_mut.result.now c.start.new.self (c.self.invariant.well.slots c.args.slot.0 c.index_mut.result.now here) e.well e.same e.outside)
+          e.asked (λ j ne. others_stay b c.args.slot.0 c.index_mut.result.now c.start.new.self new.words c.self.invariant.well here e.well e.outside e.same j ne);
+      creation = creation_waits b c.self.inside.memory new c.args.slot.0 c.index_mut.result.now c.start.new.self c.self.invariant here c.if-slot-ge-SLOTS.false e.beside;
+    }
 
 pub returns-clause-others : goal.returns-clause-others
 returns-clause-others c = λ i ne.
-    let here = slice_get_read c.self.inside.slots.items 8 c.args.slot.0 c.index_mut.result.now (sym c.self.invariant.count) c.if-slot-ge-SLOTS.false c.index_mut.ensures.value in
-    let b : Brokered = record { counts = c.self.inside.layout; words = c.self.inside.memory; slots = c.self.inside.slots.items; directory = c.self.inside.directory; creation = c.self.inside.creation; recovery = c.self.inside.recovery } in
-    others_stay b c.args.slot.0 c.index_mut.result.now c.start.new.self c.start.new.memory c.self.invariant here c.start.ensures.well c.start.ensures.outside c.start.ensures.same i ne ∙ ap (λ (x : Brokered). quiet (world_at x i)) c.self.view_is
+    let here = slice_get_read c.self.inside.slots.items 8 c.args.slot.0 c.index_mut.result.now (sym c.self.invariant.well.count) c.if-slot-ge-SLOTS.false c.index_mut.ensures.value in
+    let b : Brokered = record { counts = c.self.inside.layout; words = c.self.inside.memory.words; slots = c.self.inside.slots.items; directory = c.self.inside.directory; creation = c.self.inside.creation; recovery = c.self.inside.recovery } in
+    others_stay b c.args.slot.0 c.index_mut.result.now c.start.new.self c.start.new.memory.words c.self.invariant.well here c.start.ensures.well c.start.ensures.outside c.start.ensures.same i ne ∙ ap (λ (x : Brokered). quiet (world_at x i)) c.self.view_is
 
 pub returns-clause-world : goal.returns-clause-world
 returns-clause-world c =
-    let here = slice_get_read c.self.inside.slots.items 8 c.args.slot.0 c.index_mut.result.now (sym c.self.invariant.count) c.if-slot-ge-SLOTS.false c.index_mut.ensures.value in
-    let b : Brokered = record { counts = c.self.inside.layout; words = c.self.inside.memory; slots = c.self.inside.slots.items; directory = c.self.inside.directory; creation = c.self.inside.creation; recovery = c.self.inside.recovery } in
+    let here = slice_get_read c.self.inside.slots.items 8 c.args.slot.0 c.index_mut.result.now (sym c.self.invariant.well.count) c.if-slot-ge-SLOTS.false c.index_mut.ensures.value in
+    let b : Brokered = record { counts = c.self.inside.layout; words = c.self.inside.memory.words; slots = c.self.inside.slots.items; directory = c.self.inside.directory; creation = c.self.inside.creation; recovery = c.self.inside.recovery } in
     let there : admission b c.args.client ≡ Ok tt = ap (λ (x : Brokered). admission x c.args.client) c.self.view_is ∙ sym c.admit.ensures ∙ c.in_ok-admit.was in
     let f : State → State = λ w. after_start (is_no_memory c.start.result) w c.args.client c.args.number c.args.call in
-    world_done b c.args.slot.0 c.index_mut.result.now c.start.new.self c.start.new.memory c.self.invariant here c.start.ensures.well c.start.ensures.outside c.start.ensures.same f c.args.client there c.start.ensures.world ∙ ap (λ (x : Brokered). world_after f x c.args.slot.0 c.args.client) c.self.view_is
+    world_done b c.args.slot.0 c.index_mut.result.now c.start.new.self c.start.new.memory.words c.self.invariant.well here c.start.ensures.well c.start.ensures.outside c.start.ensures.same f c.args.client there c.start.ensures.world ∙ ap (λ (x : Brokered). world_after f x c.args.slot.0 c.args.client) c.self.view_is
 
 pub returns-clause-result : goal.returns-clause-result
 returns-clause-result c =
-    let here = slice_get_read c.self.inside.slots.items 8 c.args.slot.0 c.index_mut.result.now (sym c.self.invariant.count) c.if-slot-ge-SLOTS.false c.index_mut.ensures.value in
-    let b : Brokered = record { counts = c.self.inside.layout; words = c.self.inside.memory; slots = c.self.inside.slots.items; directory = c.self.inside.directory; creation = c.self.inside.creation; recovery = c.self.inside.recovery } in
+    let here = slice_get_read c.self.inside.slots.items 8 c.args.slot.0 c.index_mut.result.now (sym c.self.invariant.well.count) c.if-slot-ge-SLOTS.false c.index_mut.ensures.value in
+    let b : Brokered = record { counts = c.self.inside.layout; words = c.self.inside.memory.words; slots = c.self.inside.slots.items; directory = c.self.inside.directory; creation = c.self.inside.creation; recovery = c.self.inside.recovery } in
     let there : admission b c.args.client ≡ Ok tt = ap (λ (x : Brokered). admission x c.args.client) c.self.view_is ∙ sym c.admit.ensures ∙ c.in_ok-admit.was in
     let g = λ (w : State). start_result (is_no_memory c.start.result) w c.args.client c.args.number in
-    answer_done b c.args.slot.0 c.index_mut.result.now c.start.new.self c.start.new.memory c.self.invariant here c.start.ensures.well c.start.ensures.outside c.start.ensures.same g c.args.client c.start.result there c.start.ensures.result ∙ ap (λ (x : Brokered). answer_at g x c.args.slot.0 c.args.client) c.self.view_is
+    answer_done b c.args.slot.0 c.index_mut.result.now c.start.new.self c.start.new.memory.words c.self.invariant.well here c.start.ensures.well c.start.ensures.outside c.start.ensures.same g c.args.client c.start.result there c.start.ensures.result ∙ ap (λ (x : Brokered). answer_at g x c.args.slot.0 c.args.client) c.self.view_is
 
 pub returns-clause-full : goal.returns-clause-full
 returns-clause-full c = λ e.
-    let here = slice_get_read c.self.inside.slots.items 8 c.args.slot.0 c.index_mut.result.now (sym c.self.invariant.count) c.if-slot-ge-SLOTS.false c.index_mut.ensures.value in
+    let here = slice_get_read c.self.inside.slots.items 8 c.args.slot.0 c.index_mut.result.now (sym c.self.invariant.well.count) c.if-slot-ge-SLOTS.false c.index_mut.ensures.value in
     sym (ap (λ (x : Brokered). room_at x c.args.slot.0) c.self.view_is) ∙ ap room_of here ∙ c.start.ensures.full e
 
 pub returns-clause-room : goal.returns-clause-room
 returns-clause-room c =
-    let here = slice_get_read c.self.inside.slots.items 8 c.args.slot.0 c.index_mut.result.now (sym c.self.invariant.count) c.if-slot-ge-SLOTS.false c.index_mut.ensures.value in
+    let here = slice_get_read c.self.inside.slots.items 8 c.args.slot.0 c.index_mut.result.now (sym c.self.invariant.well.count) c.if-slot-ge-SLOTS.false c.index_mut.ensures.value in
     let was : room_at c.args.self.now c.args.slot.0 ≡ room_in c.index_mut.result.now = sym (ap (λ (x : Brokered). room_at x c.args.slot.0) c.self.view_is) ∙ ap room_of here in
     let now : room_of (slice_get (slice_set c.self.inside.slots.items c.args.slot.0 c.start.new.self) c.args.slot.0) ≡ room_in c.start.new.self =
     ap room_of (get_set c.self.inside.slots.items c.args.slot.0 c.start.new.self (slice_get_within c.self.inside.slots.items c.args.slot.0 c.index_mut.result.now here)) in
@@ -62,7 +75,7 @@ returns-clause-room c =
 
 pub returns-clause-spare : goal.returns-clause-spare
 returns-clause-spare c =
-    let here = slice_get_read c.self.inside.slots.items 8 c.args.slot.0 c.index_mut.result.now (sym c.self.invariant.count) c.if-slot-ge-SLOTS.false c.index_mut.ensures.value in
+    let here = slice_get_read c.self.inside.slots.items 8 c.args.slot.0 c.index_mut.result.now (sym c.self.invariant.well.count) c.if-slot-ge-SLOTS.false c.index_mut.ensures.value in
     let was : room_at c.args.self.now c.args.slot.0 ≡ room_in c.index_mut.result.now = sym (ap (λ (x : Brokered). room_at x c.args.slot.0) c.self.view_is) ∙ ap room_of here in
     let now : room_of (slice_get (slice_set c.self.inside.slots.items c.args.slot.0 c.start.new.self) c.args.slot.0) ≡ room_in c.start.new.self =
     ap room_of (get_set c.self.inside.slots.items c.args.slot.0 c.start.new.self (slice_get_within c.self.inside.slots.items c.args.slot.0 c.index_mut.result.now here)) in
@@ -74,26 +87,26 @@ returns-clause-other_rooms c = λ other ne.
     ap room_of (get_set_other c.self.inside.slots.items c.args.slot.0 c.start.new.self other ne) ∙ ap (λ (x : Brokered). room_at x other) c.self.view_is
 
 pub returns-in_err-admit-clause-promises : goal.returns-in_err-admit-clause-promises
-returns-in_err-admit-clause-promises c = promises_kept _ _ c.self.invariant c.self.view_is
+returns-in_err-admit-clause-promises c = promises_kept _ _ c.self.invariant.well c.self.view_is
 
 pub returns-then-slot-ge-SLOTS-clause-promises : goal.returns-then-slot-ge-SLOTS-clause-promises
-returns-then-slot-ge-SLOTS-clause-promises c = promises_kept _ _ c.self.invariant c.self.view_is
+returns-then-slot-ge-SLOTS-clause-promises c = promises_kept _ _ c.self.invariant.well c.self.view_is
 
 pub returns-clause-promises : goal.returns-clause-promises
-returns-clause-promises c = promises_well _ (invariant_of-self c)
+returns-clause-promises c = promises_well _ (invariant_of-self c).well
 
 pub returns-in_err-admit-clause-directory_words : goal.returns-in_err-admit-clause-directory_words
-returns-in_err-admit-clause-directory_words c = directory_as_it_was _ _ c.self.invariant c.self.view_is
+returns-in_err-admit-clause-directory_words c = directory_as_it_was _ _ c.self.invariant.well c.self.view_is
 
 pub returns-then-slot-ge-SLOTS-clause-directory_words : goal.returns-then-slot-ge-SLOTS-clause-directory_words
-returns-then-slot-ge-SLOTS-clause-directory_words c = directory_as_it_was _ _ c.self.invariant c.self.view_is
+returns-then-slot-ge-SLOTS-clause-directory_words c = directory_as_it_was _ _ c.self.invariant.well c.self.view_is
 
 pub returns-clause-directory_words : goal.returns-clause-directory_words
 returns-clause-directory_words c =
-    let here = slice_get_read c.self.inside.slots.items 8 c.args.slot.0 c.index_mut.result.now (sym c.self.invariant.count) c.if-slot-ge-SLOTS.false c.index_mut.ensures.value in
-    let b : Brokered = record { counts = c.self.inside.layout; words = c.self.inside.memory; slots = c.self.inside.slots.items; directory = c.self.inside.directory; creation = c.self.inside.creation; recovery = c.self.inside.recovery } in
-    subst (λ (x : Brokered). HaveSameDirectory x.words c.start.new.memory) c.self.view_is
-    (same_directory b c.args.slot.0 c.index_mut.result.now c.start.new.self c.start.new.memory c.self.invariant here c.start.ensures.well c.start.ensures.outside c.start.ensures.same)
+    let here = slice_get_read c.self.inside.slots.items 8 c.args.slot.0 c.index_mut.result.now (sym c.self.invariant.well.count) c.if-slot-ge-SLOTS.false c.index_mut.ensures.value in
+    let b : Brokered = record { counts = c.self.inside.layout; words = c.self.inside.memory.words; slots = c.self.inside.slots.items; directory = c.self.inside.directory; creation = c.self.inside.creation; recovery = c.self.inside.recovery } in
+    subst (λ (x : Brokered). HaveSameDirectory x.words c.start.new.memory.words) c.self.view_is
+    (same_directory b c.args.slot.0 c.index_mut.result.now c.start.new.self c.start.new.memory.words c.self.invariant.well here c.start.ensures.well c.start.ensures.outside c.start.ensures.same)
 
 pub returns-in_err-admit-clause-goes_on : goal.returns-in_err-admit-clause-goes_on
 returns-in_err-admit-clause-goes_on c = broker_stays _
@@ -105,11 +118,11 @@ pub returns-clause-goes_on : goal.returns-clause-goes_on
 returns-clause-goes_on c =
     let new : Brokered = record {
       counts = c.self.inside.layout;
-      words = c.start.new.memory;
+      words = c.start.new.memory.words;
       slots = slice_set c.self.inside.slots.items c.args.slot.0 c.start.new.self;
       directory = c.self.inside.directory;
       creation = c.self.inside.creation;
       recovery = c.self.inside.recovery;
     } in
-    client_goes_on (is_no_memory c.start.result) (Start c.args.client c.args.number c.args.call) c.args.self.now new c.args.slot.0 c.args.client (subst IsWell c.self.view_is c.self.invariant)
+    client_goes_on (is_no_memory c.start.result) (Start c.args.client c.args.number c.args.call) c.args.self.now new c.args.slot.0 c.args.client (subst IsWell c.self.view_is c.self.invariant.well)
     (ap (λ (x : Brokered). x.directory) c.self.view_is) (returns-clause-world c) (returns-clause-others c)

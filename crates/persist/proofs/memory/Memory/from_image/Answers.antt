@@ -8,5 +8,5 @@ use Rattle.persist.proofs.memory.Memory.from_image.Goals as goal
 pub returns-in-Ok-keeping-clause-image : goal.returns-in-Ok-keeping-clause-image
 returns-in-Ok-keeping-clause-image c =
     let bytes : AreBytes c.args.bytes.now = All-from_get_or (λ byte. byte < 256) c.args.bytes.now 0 (λ i inside. omega (arith, c.type_inv.bytes i)) in
-    let kept = ap (λ (memory : Words). memory.kept) c.in-Ok-keeping.ensures in
+    let kept = ap (λ (ws : Words). ws.kept) c.in-Ok-keeping.ensures.made in
     read_is_image c.args.bytes.now _ bytes (c.in_ok-words.ensures.ok ∙ ap Ok (sym c.in-Ok.ensures ∙ sym kept))

@@ -1,0 +1,8 @@
+use Rattle.std.proofs.Common.{◌<◌, ◌≡◌, ℕ, slice_get, Some}
+use Rattle.events.specs.declared.event.Event.{Event}
+use Rattle.events.specs.History.{IsUnnumbered}
+use Rattle.history.proofs.places.is_durable.Given as goal
+
+abbrev pub invariant-loop-p : goal.invariant-loop-p
+invariant-loop-p l =
+    (k : ℕ) (event : Event) → k < l.p → slice_get l.events.items k ≡ Some event → IsUnnumbered event → ⊥

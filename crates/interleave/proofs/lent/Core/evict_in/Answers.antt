@@ -1,0 +1,21 @@
+use Rattle.std.proofs.Common.{◌≡◌, ℕ, rules, refl, sym, ap, subst, ◌∙◌}
+use Rattle.persist.specs.Memory.{Around, Lent, MemoryState, Words, lent_whole}
+use Rattle.persist.specs.Lent.{port_lent, port_words}
+use Rattle.interleave.specs.Asked.{AreAsked, HoldsOver, requests_of}
+use Rattle.interleave.specs.Calls.{is_no_memory}
+use Rattle.interleave.specs.Core.{CoreState, state_of}
+use Rattle.interleave.specs.Holds.{Holds}
+use Rattle.interleave.specs.State.{State, after_evict}
+use Rattle.interleave.proofs.AskedKept.{asked_evicted, unasked_for}
+use Rattle.interleave.proofs.lent.Core.evict_in.Goals as goal
+
+pub returns-clause-holds : goal.returns-clause-holds
+returns-clause-holds g c =
+    let old : MemoryState = c.args.memory.now in
+    let new : MemoryState = c.evict.new.memory in
+    let was : State = state_of c.args.self.now old.words in
+    let asked = asked_evicted was c.args.word (requests_of old) (requests_of new) (unasked_for 0 0 old new c.evict.ensures.lent) c.requires.asked in
+    record {
+      world = c.evict.ensures.holds;
+      asked = subst (λ (w : State). AreAsked w.shape w.calls w.recovery (requests_of new)) (sym c.evict.ensures.world) asked;
+    }
