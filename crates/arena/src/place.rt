@@ -2,6 +2,15 @@
 
 use words::{Client, NodeId, Token};
 
+/// A part of an item: its length, or one of the three words of its bytes.
+#[derive(Clone, Copy, Debug, PartialEq, Eq, Hash)]
+pub enum Part {
+    Length,
+    First,
+    Second,
+    Third,
+}
+
 /// A place of a layout: one word, by what it is for. Some are those of one kind of queue alone.
 #[derive(Clone, Copy, Debug, PartialEq, Eq, Hash)]
 pub enum Place {
@@ -13,7 +22,8 @@ pub enum Place {
     Announcement(Client),
     /// How many records the client has used.
     Bump(Client),
-    Value(NodeId),
+    /// A part of the node's message. A message that is a value has its first word alone.
+    Item(NodeId, Part),
     /// The node's successor, or 0.
     Next(NodeId),
     /// The token that claims the node, or 0. In a log queue this is the remove word.
