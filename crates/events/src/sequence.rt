@@ -1,8 +1,8 @@
 //! Lists that histories and orders are made of.
 
-ghost use Rattle.std.specs.Prelude.{◌≡◌, ◌+◌, ◌<◌, ◌≤◌, ◌++◌, [], ◌∷◌, length, OnOk, OnErr};
+ghost use Rattle.std.specs.Prelude.{◌≡◌, []};
 
-use std::alloc::{AllocError, Global};
+use std::alloc::Global;
 use std::marker::Model;
 
 /// Items in a row, with room for some more.
@@ -49,41 +49,5 @@ impl<T> Sequence<T> {
         ensures { result.now ≡ self.now.items }
     {
         self.items.as_slice()
-    }
-
-    /// How many items there are.
-    pub fn len(&self) -> usize
-        ensures { result ≡ length self.now.items }
-    {
-        self.items.len()
-    }
-
-    /// Adds an item at the end, where there is room for it.
-    pub fn push(&mut self, item: T)
-        requires { 0 < self.old.room }
-        ensures items { self.new.items ≡ self.old.items ++ item ∷ [] }
-        ensures room { self.old.room ≡ self.new.room + 1 }
-    {
-        self.items.push_reserved(item);
-    }
-
-    /// Makes room for so many more items.
-    pub fn reserve(&mut self, more: usize) -> Result<(), AllocError>
-        ensures items { self.new.items ≡ self.old.items }
-        ensures room { OnOk result (more ≤ self.new.room) }
-        ensures kept { self.old.room ≤ self.new.room }
-        ensures full { OnErr result (self.old.room < more) }
-    {
-        self.items.reserve(more)
-    }
-}
-
-impl<T: Drop> Sequence<T> {
-    /// Drops the items, and keeps their room.
-    pub fn clear(&mut self)
-        ensures items { self.new.items ≡ [] }
-        ensures room { self.old.room ≤ self.new.room }
-    {
-        self.items.clear();
     }
 }
