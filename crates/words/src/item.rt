@@ -1,4 +1,4 @@
-//! Items: what a message is to be.
+//! Items: what a message is.
 
 ghost use Rattle.std.specs.Prelude.{◌≡◌, ◌↔◌, ◌≤◌, ◌<◌, ◌*◌, ℕ, List, length, take, IsOk, IfOk, IfErr, Some};
 ghost use Rattle.std.specs.List.{list_all};
