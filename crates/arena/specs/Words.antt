@@ -1,9 +1,13 @@
 -- The words of a queue, where each place has a value.
-use Rattle.std.specs.Prelude.{◌≡◌, ℕ, ◌≤◌, refl}
-use Rattle.words.specs.PlainQueue.{Value, FitsValue}
-use Rattle.words.specs.declared.limits.TheConstants.{MAX_VALUE}
+use Rattle.std.specs.Prelude.{◌≡◌, ℕ, refl}
+use Rattle.std.specs.Int.{w32, to_le_bytes}
+use Rattle.words.specs.Item.{item_of}
+use Rattle.words.specs.PlainQueue.{Value}
+use Rattle.arena.specs.Form.{Form, running}
+use Rattle.arena.specs.Form.Form.{OfValues, OfItems}
 use Rattle.arena.specs.declared.place.Write.{Write}
-use Rattle.arena.specs.declared.place.Part.TheVariants.{First}
+use Rattle.arena.specs.declared.place.Part.{Part}
+use Rattle.arena.specs.declared.place.Part.TheVariants.{Length, First, Second, Third}
 use Rattle.arena.specs.declared.place.Place.{Place}
 use Rattle.arena.specs.declared.place.Place.TheVariants.{Announcement, Bump, Item, Next, Mark, Cell, Insert, Number, EntryKind, Status, EntryNode}
 
@@ -14,20 +18,25 @@ links f n = f (Next (record { 0 = n }))
 abbrev pub marks : (Place → ℕ) → ℕ → ℕ
 marks f n = f (Mark (record { 0 = n }))
 
--- the value that a node's word is
-unfoldable pub value_of : ℕ → Value
-value_of word = word
+-- a part of a node's item
+abbrev pub part_of : (Place → ℕ) → ℕ → Part → ℕ
+part_of f n part = f (Item (record { 0 = n }) part)
 
-pub value_of_word : (word : ℕ) → value_of word ≡ word
-unfolding value_of
-value_of_word word = refl
+-- the item of a length and three words
+unfoldable pub value_of : ℕ → ℕ → ℕ → ℕ → Value
+value_of len first second third = item_of len first second third
 
-pub value_of_fits : (word : ℕ) → word ≤ MAX_VALUE → FitsValue (value_of word)
+pub value_of_parts : (len first second third : ℕ) → value_of len first second third ≡ item_of len first second third
 unfolding value_of
-value_of_fits word fits = fits
+value_of_parts len first second third = refl
+
+-- the message of a node: the item of its parts, and in the form of values the four bytes of its one word
+abbrev pub values_in : Form → (Place → ℕ) → ℕ → Value
+values_in OfItems f n = value_of (part_of f n Length) (part_of f n First) (part_of f n Second) (part_of f n Third)
+values_in OfValues f n = to_le_bytes w32 (part_of f n First)
 
 abbrev pub values : (Place → ℕ) → ℕ → Value
-values f n = value_of (f (Item (record { 0 = n }) First))
+values = values_in running
 
 abbrev pub inserts : (Place → ℕ) → ℕ → ℕ
 inserts f n = f (Insert (record { 0 = n }))

@@ -22,13 +22,13 @@ pub enum Place {
     Announcement(Client),
     /// How many records the client has used.
     Bump(Client),
-    /// A part of the node's message. A message that is a value has its first word alone.
+    /// A part of the node's message. In an image of the old form it has its first word alone.
     Item(NodeId, Part),
     /// The node's successor, or 0.
     Next(NodeId),
     /// The token that claims the node, or 0. In a log queue this is the remove word.
     Mark(NodeId),
-    /// Durable: the answer of a dequeue: 0 none yet, 1 empty, `v + 2` got `v`.
+    /// Durable: the answer of a dequeue: 0 none yet, 1 empty, `n + 2` claimed node `n`.
     Cell(Token),
     /// Log: the entry that inserts the node.
     Insert(NodeId),
