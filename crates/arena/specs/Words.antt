@@ -38,6 +38,13 @@ values_in OfValues f n = to_le_bytes w32 (part_of f n First)
 abbrev pub values : (Place → ℕ) → ℕ → Value
 values = values_in running
 
+-- the node's word is that of a value that fits
+abbrev pub HoldsValue : (Place → ℕ) → ℕ → Type 0
+HoldsValue f n = f (Item (record { 0 = n }) First) ≤ MAX_VALUE
+
+pub values_fit : (f : Place → ℕ) (n : ℕ) → HoldsValue f n → FitsValue (values f n)
+values_fit f n h = value_of_fits (f (Item (record { 0 = n }) First)) h
+
 abbrev pub inserts : (Place → ℕ) → ℕ → ℕ
 inserts f n = f (Insert (record { 0 = n }))
 

@@ -1,6 +1,9 @@
 //! The words of a queue, by what they are for.
 
-use words::{Client, NodeId, Token};
+ghost use Rattle.std.specs.Prelude.{◌≡◌, ◌≤◌};
+ghost use Rattle.arena.specs.Words.{value_of};
+
+use words::{Client, MAX_VALUE, NodeId, Token, Value};
 
 /// A part of an item: its length, or one of the three words of its bytes.
 #[derive(Clone, Copy, Debug, PartialEq, Eq, Hash)]
@@ -47,4 +50,14 @@ pub enum Place {
 pub struct Write {
     pub place: Place,
     pub value: u64,
+}
+
+/// The value that a node's word is.
+#[inline(always)]
+#[tactic(auto, unfolding(crate::specs::Words::value_of))]
+pub fn value_of(word: u64) -> Value
+    requires { word ≤ MAX_VALUE }
+    ensures { result ≡ value_of word }
+{
+    word as Value
 }
