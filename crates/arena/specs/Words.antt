@@ -1,8 +1,9 @@
 -- The words of a queue, where each place has a value.
-use Rattle.std.specs.Prelude.{◌≡◌, ℕ, refl}
+use Rattle.std.specs.Prelude.{◌≡◌, ℕ, length, refl}
 use Rattle.std.specs.Int.{w32, to_le_bytes}
-use Rattle.words.specs.Item.{item_of}
-use Rattle.words.specs.PlainQueue.{Value}
+use Rattle.words.specs.Item.{item_of, first_word, second_word, third_word}
+use Rattle.words.specs.PlainQueue.{Value, FitsValue}
+use Rattle.words.proofs.Items.{parts_again}
 use Rattle.arena.specs.Form.{Form, running}
 use Rattle.arena.specs.Form.Form.{OfValues, OfItems}
 use Rattle.arena.specs.declared.place.Write.{Write}
@@ -22,13 +23,22 @@ marks f n = f (Mark (record { 0 = n }))
 abbrev pub part_of : (Place → ℕ) → ℕ → Part → ℕ
 part_of f n part = f (Item (record { 0 = n }) part)
 
+-- the number that is written for a part of an item
+unfoldable pub item_part : Value → Part → ℕ
+item_part item Length = length item
+item_part item First = first_word item
+item_part item Second = second_word item
+item_part item Third = third_word item
+
 -- the item of a length and three words
 unfoldable pub value_of : ℕ → ℕ → ℕ → ℕ → Value
 value_of len first second third = item_of len first second third
 
-pub value_of_parts : (len first second third : ℕ) → value_of len first second third ≡ item_of len first second third
-unfolding value_of
-value_of_parts len first second third = refl
+-- an item is found again from its parts
+pub item_again : (item : Value) → FitsValue item
+    → value_of (item_part item Length) (item_part item First) (item_part item Second) (item_part item Third) ≡ item
+unfolding value_of item_part
+item_again item fits = parts_again item fits
 
 -- the message of a node: the item of its parts, and in the form of values the four bytes of its one word
 abbrev pub values_in : Form → (Place → ℕ) → ℕ → Value
@@ -38,12 +48,12 @@ values_in OfValues f n = to_le_bytes w32 (part_of f n First)
 abbrev pub values : (Place → ℕ) → ℕ → Value
 values = values_in running
 
--- the node's word is that of a value that fits
-abbrev pub HoldsValue : (Place → ℕ) → ℕ → Type 0
-HoldsValue f n = f (Item (record { 0 = n }) First) ≤ MAX_VALUE
-
-pub values_fit : (f : Place → ℕ) (n : ℕ) → HoldsValue f n → FitsValue (values f n)
-values_fit f n h = value_of_fits (f (Item (record { 0 = n }) First)) h
+-- the node's words are an item's: a length of at most 24, and no byte past it
+abbrev pub HoldsItem : (Place → ℕ) → ℕ → Type 0
+HoldsItem f n = record {
+  short : part_of f n Length ≤ ITEM_BYTES;
+  padded : (part : Part) → part_of f n part ≡ item_part (values f n) part;
+}
 
 abbrev pub inserts : (Place → ℕ) → ℕ → ℕ
 inserts f n = f (Insert (record { 0 = n }))
