@@ -1,9 +1,10 @@
 -- The words of a queue, where each place has a value.
-use Rattle.std.specs.Prelude.{◌≡◌, ℕ, length, refl}
+use Rattle.std.specs.Prelude.{◌≡◌, ◌<◌, ◌^◌, ℕ, length, refl}
 use Rattle.std.specs.Int.{w32, to_le_bytes}
-use Rattle.words.specs.Item.{item_of, first_word, second_word, third_word}
+use Rattle.words.specs.Item.{AreParts, item_of, first_word, second_word, third_word}
 use Rattle.words.specs.PlainQueue.{Value, FitsValue}
 use Rattle.words.proofs.Items.{parts_again}
+use Rattle.words.proofs.Parts.{item_fits}
 use Rattle.arena.specs.Form.{Form, running}
 use Rattle.arena.specs.Form.Form.{OfValues, OfItems}
 use Rattle.arena.specs.declared.place.Write.{Write}
@@ -48,12 +49,18 @@ values_in OfValues f n = to_le_bytes w32 (part_of f n First)
 abbrev pub values : (Place → ℕ) → ℕ → Value
 values = values_in running
 
--- the node's words are an item's: a length of at most 24, and no byte past it
+-- the node's words are an item's: in the form of values any word of 32 bits is one
+abbrev pub HoldsIn : Form → (Place → ℕ) → ℕ → Type 0
+HoldsIn OfItems f n = AreParts (part_of f n Length) (part_of f n First) (part_of f n Second) (part_of f n Third)
+HoldsIn OfValues f n = part_of f n First < 2 ^ 32
+
 abbrev pub HoldsItem : (Place → ℕ) → ℕ → Type 0
-HoldsItem f n = record {
-  short : part_of f n Length ≤ ITEM_BYTES;
-  padded : (part : Part) → part_of f n part ≡ item_part (values f n) part;
-}
+HoldsItem = HoldsIn running
+
+-- a node's message is an item, whatever its words are
+pub values_fit : (f : Place → ℕ) (n : ℕ) → FitsValue (values f n)
+unfolding value_of
+values_fit f n = item_fits (part_of f n Length) (part_of f n First) (part_of f n Second) (part_of f n Third)
 
 abbrev pub inserts : (Place → ℕ) → ℕ → ℕ
 inserts f n = f (Insert (record { 0 = n }))
