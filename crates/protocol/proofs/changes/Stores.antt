@@ -505,7 +505,7 @@ module _ (s : Shape) (m : Memory) (l : Ledger) (claimed waiting : List ℕ) (b :
       go Log e = subst (λ k. Base s (with_store m (result_of k c n v).place (result_of k c n v).value) l claimed waiting) (sym e)
           (own_base s m l claimed waiting b (EntryNode c) n.0
           (record { issued = λ r q. subst (IsIssued s m.kept) named (b.issued_mark n.0 some); of_kind = (e, λ z. some (named ∙ z)); fits = node })
-          tt (λ q. q) (λ x q. absurd (cc)) (λ t q. absurd (cc)) (λ t q. absurd (cc)))
+          tt (λ q. q) (λ x part q. absurd (cc)) (λ t q. absurd (cc)) (λ t q. absurd (cc)))
 
 module _ (s : Shape) (m : Memory) (l : Ledger) (claimed waiting : List ℕ) (b : Base s m l claimed waiting) (a : ℕ) where
   -- a store to no word of anybody's own, that names no node and claims none
