@@ -17,10 +17,7 @@ kind_of Head = 0
 kind_of Tail = 1
 kind_of (Announcement x) = 2
 kind_of (Bump x) = 3
-kind_of (Item x Length) = 4
-kind_of (Item x First) = 13
-kind_of (Item x Second) = 14
-kind_of (Item x Third) = 15
+kind_of (Item x part) = 4
 kind_of (Next x) = 5
 kind_of (Mark x) = 6
 kind_of (Cell x) = 7
@@ -45,9 +42,19 @@ number_of (EntryKind x) = x.0
 number_of (Status x) = x.0
 number_of (EntryNode x) = x.0
 
+abbrev pub part_number : Part → ℕ
+part_number Length = 0
+part_number First = 1
+part_number Second = 2
+part_number Third = 3
+
+abbrev pub part_of : Place → ℕ
+part_of (Item x part) = part_number part
+part_of _ = 0
+
 -- whether two places are one
 abbrev pub is_same : Place → Place → Bool
-is_same p q = (kind_of p == kind_of q) && (number_of p == number_of q)
+is_same p q = (kind_of p == kind_of q) && ((part_of p == part_of q) && (number_of p == number_of q))
 
 -- a client of the layout, a node, and a record of a call
 abbrev pub IsClient : Shape → ℕ → Type 0
@@ -85,26 +92,29 @@ IsPlaceIn form s (EntryNode e) = (s.kind ≡ Log) × IsRecord s e.0
 abbrev pub IsPlace : Shape → Place → Type 0
 IsPlace = IsPlaceIn running
 
-place_from : ℕ → ℕ → Place
-place_from zero x = Head
-place_from (suc zero) x = Tail
-place_from (suc (suc zero)) x = Announcement (record { 0 = x })
-place_from (suc (suc (suc zero))) x = Bump (record { 0 = x })
-place_from (suc (suc (suc (suc zero)))) x = Item (record { 0 = x }) Length
-place_from (suc (suc (suc (suc (suc zero))))) x = Next (record { 0 = x })
-place_from (suc (suc (suc (suc (suc (suc zero)))))) x = Mark (record { 0 = x })
-place_from (suc (suc (suc (suc (suc (suc (suc zero))))))) x = Cell (record { 0 = x })
-place_from (suc (suc (suc (suc (suc (suc (suc (suc zero)))))))) x = Insert (record { 0 = x })
-place_from (suc (suc (suc (suc (suc (suc (suc (suc (suc zero))))))))) x = Number (record { 0 = x })
-place_from (suc (suc (suc (suc (suc (suc (suc (suc (suc (suc zero)))))))))) x = EntryKind (record { 0 = x })
-place_from (suc (suc (suc (suc (suc (suc (suc (suc (suc (suc (suc zero))))))))))) x = Status (record { 0 = x })
-place_from (suc (suc (suc (suc (suc (suc (suc (suc (suc (suc (suc (suc zero)))))))))))) x = EntryNode (record { 0 = x })
-place_from (suc (suc (suc (suc (suc (suc (suc (suc (suc (suc (suc (suc (suc zero))))))))))))) x = Item (record { 0 = x }) First
-place_from (suc (suc (suc (suc (suc (suc (suc (suc (suc (suc (suc (suc (suc (suc zero)))))))))))))) x = Item (record { 0 = x }) Second
-place_from (suc (suc (suc (suc (suc (suc (suc (suc (suc (suc (suc (suc (suc (suc (suc k))))))))))))))) x = Item (record { 0 = x }) Third
+part_from : ℕ → Part
+part_from zero = Length
+part_from (suc zero) = First
+part_from (suc (suc zero)) = Second
+part_from (suc (suc (suc k))) = Third
 
-place_from-of : (p : Place) → place_from (kind_of p) (number_of p) ≡ p
-unfolding place_from
+place_from : ℕ → ℕ → ℕ → Place
+place_from zero part x = Head
+place_from (suc zero) part x = Tail
+place_from (suc (suc zero)) part x = Announcement (record { 0 = x })
+place_from (suc (suc (suc zero))) part x = Bump (record { 0 = x })
+place_from (suc (suc (suc (suc zero)))) part x = Item (record { 0 = x }) (part_from part)
+place_from (suc (suc (suc (suc (suc zero))))) part x = Next (record { 0 = x })
+place_from (suc (suc (suc (suc (suc (suc zero)))))) part x = Mark (record { 0 = x })
+place_from (suc (suc (suc (suc (suc (suc (suc zero))))))) part x = Cell (record { 0 = x })
+place_from (suc (suc (suc (suc (suc (suc (suc (suc zero)))))))) part x = Insert (record { 0 = x })
+place_from (suc (suc (suc (suc (suc (suc (suc (suc (suc zero))))))))) part x = Number (record { 0 = x })
+place_from (suc (suc (suc (suc (suc (suc (suc (suc (suc (suc zero)))))))))) part x = EntryKind (record { 0 = x })
+place_from (suc (suc (suc (suc (suc (suc (suc (suc (suc (suc (suc zero))))))))))) part x = Status (record { 0 = x })
+place_from (suc (suc (suc (suc (suc (suc (suc (suc (suc (suc (suc (suc k)))))))))))) part x = EntryNode (record { 0 = x })
+
+place_from-of : (p : Place) → place_from (kind_of p) (part_of p) (number_of p) ≡ p
+unfolding place_from part_from
 place_from-of Head = refl
 place_from-of Tail = refl
 place_from-of (Announcement x) = refl
@@ -125,6 +135,7 @@ place_from-of (EntryNode x) = refl
 pub is_same-true : (p q : Place) → is_same p q ≡ true → p ≡ q
 is_same-true p q h =
     let kinds : kind_of p ≡ kind_of q = grind (arith, nat_tests) in
+    let parts : part_of p ≡ part_of q = grind (arith, nat_tests) in
     let numbers : number_of p ≡ number_of q = grind (arith, nat_tests) in
     cc (place_from-of p, place_from-of q)
 
