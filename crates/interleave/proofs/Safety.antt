@@ -1,5 +1,5 @@
 -- Each act keeps the ranges.
-use Rattle.words.specs.PlainQueue.{Value}
+use Rattle.words.specs.PlainQueue.{Value, FitsValue}
 use Rattle.words.specs.declared.call.Reply.{Reply}
 use Rattle.std.proofs.Common.{◌≡◌, ap, sym, ◌∙◌, ℕ, zero, suc, ◌<◌, ◌≤◌, ◌⊎◌, inl, inr, List, [], ◌∷◌, length, Option, Some, None, Bool, true, false, slice_index, slice_set, slice_get, ◌==◌, arith, refl, subst, get_or-set_other}
 use Rattle.std.proofs.lemmas.Bool.Decides.{eqb_tells}
@@ -174,7 +174,7 @@ begun_call s used client number call = record {
 
 -- a client without a call begins one, with a record that is left
 pub IsSafe-begun : (s : Shape) (ws : Words) (calls : List (Option UnderWay)) (client : Client) (used number place : ℕ) (call : Call)
-    → IsSafe s ws calls → client.0 < length calls → used < s.records → number ≤ 1099511627776 → ((v : ℕ) → call ≡ Enq v → v ≤ 4294967295)
+    → IsSafe s ws calls → client.0 < length calls → used < s.records → number ≤ 1099511627776 → ((v : Value) → call ≡ Enq v → FitsValue v)
     → IsSafe s (after_one s (Load (Bump client)) ws) (slice_set calls client.0 (Some (record { place = place; begun = begun_call s used client number call; op = begun_at s.kind (begun_call s used client number call) })))
 IsSafe-begun s ws calls client used number place call safe within room few fits =
     let client_in : client.0 < s.clients = omega (arith, safe.clients) in
