@@ -57,6 +57,13 @@ HoldsIn OfValues f n = part_of f n First < 2 ^ 32
 abbrev pub HoldsItem : (Place → ℕ) → ℕ → Type 0
 HoldsItem = HoldsIn running
 
+-- all of them are 0
+pub record IsBlankItem (f : Place → ℕ) (n : ℕ) : Type 0 where
+  pub len : part_of f n Length ≡ 0
+  pub first : part_of f n First ≡ 0
+  pub second : part_of f n Second ≡ 0
+  pub third : part_of f n Third ≡ 0
+
 -- a node's message is an item, whatever its words are
 pub values_fit : (f : Place → ℕ) (n : ℕ) → FitsValue (values f n)
 unfolding value_of
