@@ -9,6 +9,7 @@ use crate::pieces::{put, put_around, put_number};
 use arrayvec::ArrayVec;
 use words::{Outcome, Reply, Row, Told, Value};
 
+/// Puts a message.
 fn put_value<const N: usize>(out: &mut ArrayVec<u8, N>, value: Value)
     requires { array_vec_len out.old + MAX_VALUE_BYTES ≤ N }
     ensures text { out.new.items ≡ out.old.items ++ value_text value }
@@ -17,7 +18,7 @@ fn put_value<const N: usize>(out: &mut ArrayVec<u8, N>, value: Value)
     put_number(out, u64::from(value));
 }
 
-/// Puts a message that a call got, and what stands behind it.
+/// Puts a message that a call got behind the 7 bytes of its key, and what stands behind it.
 fn put_got<const N: usize>(out: &mut ArrayVec<u8, N>, value: Value, back: &[u8])
     requires { array_vec_len out.old + 7 + MAX_VALUE_BYTES + length back.now ≤ N }
     ensures text { out.new.items ≡ out.old.items ++ (codes "{\"got\":" ++ value_text value ++ back.now) }
