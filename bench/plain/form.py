@@ -1,0 +1,96 @@
+"""What a message is: how it stands in words, in scripts and in requests. There are two forms, a number of 32 bits and
+an item of 0 to 24 bytes, and FORM is the one that the programs have. Here a message is what a request has in JSON, so
+an item is its hexadecimal digits."""
+
+import re
+import struct
+
+NUMBER = re.compile(rb"0|[1-9][0-9]*")
+GREATEST_VALUE = 2**32 - 1
+ITEM_BYTES = 24
+DIGITS = re.compile(r"(?:[0-9a-f]{2})*")
+
+
+class Values:
+    """A message is a number, which a cell has too, with 2 added."""
+
+    magic = b"PQW1"
+    # The words of a message in its node.
+    parts = ("value",)
+    # So many steps a call takes at most that goes on alone.
+    most_steps_alone = 96
+    cells_name_nodes = False
+
+    @staticmethod
+    def words_of(value):
+        return [value]
+
+    @staticmethod
+    def message_of(words):
+        return words[0]
+
+    @staticmethod
+    def is_sound(words):
+        """Whether words are those of a message."""
+        return words[0] <= GREATEST_VALUE
+
+    @staticmethod
+    def is_message(value):
+        """Whether a value of JSON is a message."""
+        return type(value) is int and 0 <= value <= GREATEST_VALUE
+
+    @staticmethod
+    def read(word):
+        """The message that a word of a script says, or None."""
+        return int(word) if NUMBER.fullmatch(word) and int(word) <= GREATEST_VALUE else None
+
+    @staticmethod
+    def text(value):
+        """A message in scripts and transcripts."""
+        return str(value)
+
+
+class Items:
+    """A message has a length and three words, bytes little-endian and zeros behind them; a cell has its node, with 2
+    added. In scripts the empty one is a dot."""
+
+    magic = b"PQW2"
+    parts = ("length", "first", "second", "third")
+    most_steps_alone = 128
+    cells_name_nodes = True
+
+    @staticmethod
+    def words_of(item):
+        data = bytes.fromhex(item)
+        return [len(data), *struct.unpack("<3Q", data.ljust(ITEM_BYTES, b"\0"))]
+
+    @staticmethod
+    def message_of(words):
+        return struct.pack("<3Q", *words[1:])[:words[0]].hex()
+
+    @staticmethod
+    def is_sound(words):
+        return words[0] <= ITEM_BYTES and not any(struct.pack("<3Q", *words[1:])[words[0]:])
+
+    @staticmethod
+    def is_message(value):
+        return isinstance(value, str) and len(value) <= 2 * ITEM_BYTES and bool(DIGITS.fullmatch(value))
+
+    @staticmethod
+    def read(word):
+        text = word.decode("latin-1")
+        if text == ".":
+            return ""
+        return text if text and Items.is_message(text) else None
+
+    @staticmethod
+    def text(item):
+        return item or "."
+
+
+FORM = Values
+
+
+def item_of(value):
+    """The item that stands for a number: its four bytes, the low one first."""
+    return struct.pack("<I", value).hex()
