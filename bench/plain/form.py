@@ -20,6 +20,8 @@ class Values:
     # So many steps a call takes at most that goes on alone.
     most_steps_alone = 96
     cells_name_nodes = False
+    # Texts near those of messages in JSON.
+    odd = ()
 
     @staticmethod
     def words_of(value):
@@ -49,6 +51,21 @@ class Values:
         """A message in scripts and transcripts."""
         return str(value)
 
+    @staticmethod
+    def cell_of(node, value):
+        """The cell that a claim of a node answers."""
+        return value + 2
+
+    @staticmethod
+    def of_number(number):
+        """The message that stands for a number of 32 bits."""
+        return number
+
+    @staticmethod
+    def drawn(number):
+        """A message for a drawn number, and for one of more than 32 bits what is none."""
+        return number
+
 
 class Items:
     """A message has a length and three words, bytes little-endian and zeros behind them; a cell has its node, with 2
@@ -58,6 +75,10 @@ class Items:
     parts = ("length", "first", "second", "third")
     most_steps_alone = 128
     cells_name_nodes = True
+    odd = (
+        '"00"', '"0"', '"000"', '"0a"', '"0A"', '"."', '" 00"', '"0x00"', '"\\u0030a"', '"0\\u0041"', '"0g"',
+        f'"{"5a" * ITEM_BYTES}"', f'"{"5a" * ITEM_BYTES}5"', f'"{"5a" * ITEM_BYTES}5a"', '"\u0660\u0660"',
+    )
 
     @staticmethod
     def words_of(item):
@@ -87,10 +108,20 @@ class Items:
     def text(item):
         return item or "."
 
+    @staticmethod
+    def cell_of(node, _):
+        return node + 2
+
+    @staticmethod
+    def of_number(number):
+        """Its four bytes, the low one first."""
+        return struct.pack("<I", number).hex()
+
+    @staticmethod
+    def drawn(number):
+        """Of any length."""
+        length = number % (ITEM_BYTES + 1) if number <= GREATEST_VALUE else ITEM_BYTES + 1
+        return (number.to_bytes(5, "little")[:4] * 7)[:length].hex()
+
 
 FORM = Values
-
-
-def item_of(value):
-    """The item that stands for a number: its four bytes, the low one first."""
-    return struct.pack("<I", value).hex()

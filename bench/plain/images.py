@@ -3,7 +3,9 @@
 import struct
 
 from broker import SLOTS
+from form import FORM
 from image import Block, image_of
+from layout import HEAD, TAIL, block_size
 from machine import Machine
 
 NAMES = ["a", "b", "sixteen-letters-", "x_1", "z", "0", "-", "q"]
@@ -20,35 +22,35 @@ def put_chain(draw, block, issued):
     claimed = chain[:draw.randrange(min(len(chain), len(others)) + 1)]
     marks = draw.sample(others, len(claimed))
     head = draw.randrange(len(claimed) + 1)
-    block.words[0] = claimed[head - 1] if head else 0
-    block.words[1] = draw.choice([0, *chain])
+    block.words[HEAD] = claimed[head - 1] if head else 0
+    block.words[TAIL] = draw.choice([0, *chain])
     at = 0
     for number in chain:
-        block.words[block.begin + block.width * at + 1] = number
+        block.words[block.node(at, "next")] = number
         at = number
     for place, (number, mark) in enumerate(zip(claimed, marks)):
-        block.words[block.begin + block.width * (number + 1) - 1] = mark
+        block.words[block.node(number, "mark")] = mark
         put_answer(block, mark, number, place < head or draw.random() < 0.5)
     return chain, dict(zip(marks, claimed))
 
 
 def put_answer(block, mark, number, is_answered):
     if block.kind == "log":
-        block.words[block.answers + 4 * (mark - 1) + 1] = 2
+        block.words[block.entry(mark, "kind")] = 2
     if is_answered and block.kind == "durable":
-        block.words[block.answers + mark - 1] = block.words[block.begin + 3 * number] + 2
+        block.words[block.entry(mark)] = block.form.cell_of(number, block.message_at(number))
     elif is_answered:
-        block.words[block.answers + 4 * (mark - 1) + 3] = number
+        block.words[block.entry(mark, "node")] = number
 
 
 def put_entries(draw, block, issued, chain, marks):
     """The rest of the entries of a log queue, and which of them are announced."""
     for number in issued:
-        at = block.answers + 4 * (number - 1)
+        at = block.entry(number, "number")
         block.words[at] = draw.choice([0, 1, 2, 3, draw.randrange(1, 2**40)])
         if number in chain:
             block.words[at + 1:at + 4] = [1, draw.choice([0, 1]), number]
-            block.words[block.begin + 4 * number + 2] = number
+            block.words[block.node(number, "insert")] = number
         elif number not in marks:
             kind = draw.choice([0, 1, 2])
             block.words[at + 1] = kind
@@ -58,21 +60,23 @@ def put_entries(draw, block, issued, chain, marks):
 
 def drawn_block(draw, kind, clients, records):
     """The words of a queue's block, which are sound in most cases."""
-    block = Block(kind, clients, records, [0] * (6 + 2 * clients + 8 * clients * records))
+    block = Block(kind, clients, records, [0] * block_size(clients, records))
     issued = []
     for client in range(clients):
         bump = draw.randrange(records + 1)
-        block.words[2 + clients + client] = bump
+        block.words[block.bump(client)] = bump
         issued.extend(1 + client * records + record for record in range(bump))
     for number in issued:
-        block.words[block.begin + block.width * number] = draw.choice([0, 5, 2**32 - 1, draw.randrange(2**32)])
+        message = FORM.drawn(draw.choice([0, 5, 2**32 - 1, draw.randrange(2**32)]))
+        for word, value in zip(block.message(number), FORM.words_of(message)):
+            block.words[word] = value
     chain, marks = put_chain(draw, block, issued)
     if kind == "log":
         put_entries(draw, block, issued, chain, marks)
     else:
         for number in issued:
             if number not in marks and draw.random() < 0.3:
-                block.words[block.answers + number - 1] = 1
+                block.words[block.entry(number)] = 1
     announce(draw, block, issued)
     return block.words
 
@@ -82,11 +86,11 @@ def announce(draw, block, issued):
         own = [number for number in issued if (number - 1) // block.records == client]
         number = draw.choice([0, *own])
         if number and block.kind == "log":
-            at = block.answers + 4 * (number - 1)
+            at = block.entry(number, "number")
             block.words[at] = max(1, block.words[at])
             if block.words[at + 1] == 0:
                 number = 0
-        block.words[2 + client] = number
+        block.words[block.announcement(client)] = number
 
 
 def played_block(draw, kind, clients, records):
@@ -104,8 +108,9 @@ def played_block(draw, kind, clients, records):
             machine.step(client)
         else:
             numbers[client] += 1
-            machine.start(client, numbers[client], draw.choice([None, draw.randrange(100)]))
-    return machine.kept + [0] * (6 + 2 * clients + 8 * clients * records - len(machine.kept))
+            number = draw.choice([None, draw.randrange(100)])
+            machine.start(client, numbers[client], None if number is None else FORM.drawn(number))
+    return machine.kept + [0] * (block_size(clients, records) - len(machine.kept))
 
 
 def drawn_words(draw):
@@ -119,7 +124,7 @@ def drawn_words(draw):
             blocks += draw.choice([drawn_block, played_block])(draw, kind, clients, records)
         else:
             head += draw.choice([[0, 0, 0, 0], [*name_words(names[slot]), 1, 0], [97, 0, 0, 0]])
-            blocks += [0] * (6 + 2 * clients + 8 * clients * records)
+            blocks += [0] * block_size(clients, records)
     return head + blocks
 
 

@@ -154,7 +154,7 @@ class Machine(Layout):
         """The word that answers a claim, and what stands there then."""
         if self.kind == "log":
             return self.entry(winner, "node"), node
-        return self.entry(winner), (node if self.form.cells_name_nodes else value) + 2
+        return self.entry(winner), self.form.cell_of(node, value)
 
     def start(self, client, number, value):
         """Begins a call; or the refusal."""
