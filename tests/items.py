@@ -1,13 +1,14 @@
 """items.py PLAIN WHAT..: the plain programs of the folder PLAIN, whose messages are items, for tests/items.sh.
 
-run                 what `pqx run` prints of the script on standard input
-points|alone ..     what that command prints of it
-judge SCRIPT..      a crash at each point of each script, with no word kept just before it, with every one and with drawn
-                    ones: kept words are sound, and the order explains what happened, what is told and the content
-counts              steps of calls on a new queue, of recovery, and of calls that go on alone, beside their bounds
-pipe T K            what `pqd pipe` of a new broker replies to standard input
+rows FOLDER      each NAME.script with what it prints (NAME.out), and with its reports (NAME.points, NAME.points-all,
+                 NAME.alone), where they are there; each NAME.in with what a broker replies (NAME.out)
+sound            words that break a rule alone, and that rule
+judge SCRIPT..   a crash at each point of each script, with no word kept just before it, with every one and with drawn
+                 ones: kept words are sound, and the order explains what happened, what is told and the content
+counts           steps of calls on a new queue, of recovery, and of calls that go on alone, beside their bounds
 """
 
+import pathlib
 import random
 import sys
 
@@ -32,11 +33,70 @@ def require(holds, *what):
         raise Wrong(" ".join(map(str, what)))
 
 
-def check_words(machine):
-    """The rules of sound words, of kept words."""
-    block = image.Block(machine.kind, machine.clients, machine.records, list(machine.kept), machine.form)
+def block_of(machine):
+    """The kept words, which keep to all rules."""
+    block = image.Block(machine.kind, machine.clients, machine.records, machine.kept, machine.form)
     block.check()
     return block
+
+
+# Rows that are stored.
+
+# The clients and records of the brokers whose inputs are stored.
+SIZES = {"items": (1, 64), "story": (2, 2)}
+REPORTS = {"points": ["points"], "points-all": ["points", "--evict", "all"], "alone": ["alone"]}
+
+
+def said_of(path):
+    """What is printed of a script, or of an input; a bad line is told without the program's name."""
+    if path.suffix == ".in":
+        return replies(Broker(*SIZES[path.stem]), path.read_bytes())
+    (printed, fault, _), _ = script.transcript(path.read_bytes())
+    return printed + fault.removeprefix(b"pqx: ")
+
+
+def rows(folder):
+    paths = sorted(pathlib.Path(folder).glob("*.script")) + sorted(pathlib.Path(folder).glob("*.in"))
+    for path in paths:
+        found = {path.with_suffix(".out"): said_of(path)}
+        for suffix, command in REPORTS.items():
+            beside = path.with_suffix(f".{suffix}")
+            if beside.exists():
+                found[beside] = points.report(path.read_bytes(), command)[0]
+        for beside, said in found.items():
+            require(beside.read_bytes() == said, f"{beside}:", said.decode())
+    require(paths, "no rows")
+
+
+# Of one client with two records: word, value, and so on, all others being 0; and the rule.
+BROKEN = {
+    "durable": [
+        ("3 3", "Records"), ("10 1", "Records"), ("13 1", "Records"), ("22 1", "Records"), ("8 1", "Chain"),
+        ("3 1 8 1 14 1", "Chain"), ("4 1", "Chain"), ("5 1", "Chain"), ("7 1", "Chain"), ("9 1", "Chain"),
+        ("3 1 8 1 10 25", "Claims"), ("3 1 10 25", "Claims"), ("3 1 8 1 10 1 11 256", "Claims"),
+        ("3 1 8 1 10 8 12 1", "Claims"), ("3 1 13 1", "Claims"), ("3 1 10 23 13 72057594037927936", "Claims"),
+        ("3 1 10 24 13 72057594037927936", None), ("3 1 8 1 10 1 11 255", None), ("3 1 8 1 0 1", "Ends"),
+        ("2 1", "Rows"), ("3 1 22 2", "Rows"), ("3 1 22 3", "Rows"), ("3 2 8 1 15 2 23 3", None),
+        ("3 2 8 1 15 2 23 4", "Rows"), ("3 2 8 1 15 2 23 2", "Rows"), ("3 2 8 1 15 2 22 3", "Rows"),
+        ("3 2 8 1 15 2 23 1", "Rows"), ("3 2 8 1 15 2 0 1", "Rows"), ("3 2 8 1 15 2 0 1 23 3", None),
+    ],
+    "log": [("3 3", "Records"), ("4 1", "Chain"), ("9 1", "Chain"), ("3 1 11 25", "Claims"), ("3 1 2 1", "Entries")],
+}
+
+
+def sound():
+    for kind, broken in BROKEN.items():
+        for text, rule in broken:
+            block, words = image.Block(kind, 1, 2, []), [*map(int, text.split())]
+            block.words = [0] * block.size
+            for word, value in zip(words[::2], words[1::2]):
+                block.words[word] = value
+            try:
+                block.check()
+                found = None
+            except image.Broken as wrong:
+                found = str(wrong)
+            require(found == rule, kind, text, found, "and not", rule)
 
 
 # A crash at each point.
@@ -88,10 +148,10 @@ def judge_point(queue, acts):
     for line in found[at - queue[1]:at]:
         check_told(order, *line.split(" ", 2)[1:])
     require(found[-1] == "content " + (" ".join(replayed(order)) or "-"), "another content", printed)
-    check_words(machine)
+    block_of(machine)
 
 
-def judge(paths):
+def judge(*paths):
     count = 0
     for path in paths:
         with open(path, "rb") as file:
@@ -99,7 +159,7 @@ def judge(paths):
         made = points.accepted(queue, acts)
         for at in range(len(made) + 1):
             machine = points.after(queue, made[:at])
-            check_words(machine)
+            block_of(machine)
             for command in (["none"], ["all"], ["drawn", "1"]):
                 words = points.evicted(len(machine.kept), at, command)
                 judge_point(queue, made[:at] + [("evict", word) for word in words])
@@ -177,17 +237,12 @@ def counts():
 
 
 def main(what, *words):
-    if what == "run":
-        printed, fault, status = script.transcript(sys.stdin.buffer.read())[0]
-    elif what in ("points", "alone"):
-        printed, fault, status = points.report(sys.stdin.buffer.read(), [what, *words])
-    elif what == "pipe":
-        printed, fault, status = replies(Broker(*map(int, words)), sys.stdin.buffer.read()), b"", 0
-    else:
-        return judge(words) if what == "judge" else counts()
-    sys.stdout.buffer.write(printed)
-    sys.stderr.buffer.write(fault)
-    return status
+    try:
+        {"rows": rows, "sound": sound, "judge": judge, "counts": counts}[what](*words)
+    except (Wrong, image.Broken) as wrong:
+        print(f"{what}: {wrong}")
+        return 1
+    return 0
 
 
 if __name__ == "__main__":

@@ -8,7 +8,7 @@ import random
 import re
 import sys
 
-from items import SHAPES, Wrong, drawn_run, ended, recovered, require
+from items import SHAPES, Wrong, block_of, drawn_run, ended, recovered, require
 
 import image
 import images
@@ -57,12 +57,14 @@ def on(old, words, form):
     return machine
 
 
-def check_places(old, new):
-    """All that is no message and no cell stays."""
+def check_places(chain, old, new):
+    """All that is no message and no cell stays, and a node off the chain has no message."""
     before = {old.place(word): value for word, value in enumerate(old.kept)}
     for word, value in enumerate(new.kept):
         place = new.place(word)
-        if place[0] not in (*Items.parts, "cell"):
+        if place[0] in Items.parts:
+            require(value == 0 or place[1] in chain, place, value)
+        elif place[0] != "cell":
             require(value == before[place], place, value, before[place])
 
 
@@ -107,7 +109,7 @@ def check_image(draw, machine, is_thorough):
     layout = Layout(machine.kind, machine.clients, machine.records, Items)
     block = new[34 + slot * size:34 + slot * size + layout.size]
     old_one, new_one = on(machine, machine.kept, Values), on(machine, block, Items)
-    check_places(old_one, new_one)
+    check_places(block_of(machine).chain, old_one, new_one)
     told, (steps, new_told) = recovered(old_one)[1], recovered(new_one)
     require([*map(text_as_items, told)] == new_told, told, new_told)
     if is_thorough:
