@@ -72,7 +72,8 @@ wrong recovery.py 'loaded(machine, cell - 2)' 'loaded(machine, record)' rows
 wrong form.py ' and not any(struct.pack("<3Q", *words[1:])[words[0]:])' '' sound
 wrong form.py 'words[0] <= ITEM_BYTES and ' '' sound
 wrong image.py 'not any(self.message_words(0)) and ' '' sound
-wrong image.py 'require(node is not None and cell == self.form.cell_of(node, self.message_at(node)), "Rows")' 'pass' sound
+wrong image.py 'require(node is not None and cell == self.form.cell_of(node, self.message_at(node)), "Rows")' 'pass' \
+    sound
 # Texts.
 wrong form.py '(?:[0-9a-f]{2})*' '(?:[0-9a-fA-F]{2})*' rows
 wrong form.py 'len(value) <= 2 * ITEM_BYTES and ' '' rows

@@ -1,7 +1,7 @@
-"""migrating.py PLAIN: images of numbers as images of items, by the plain programs of the folder PLAIN. Drawn runs of both
-kinds of queue leave an image after each act. As one of items it is sound; its queues hold and tell the same, with each
-number as its item; machines on both are told the same, also after a crash within recovery, and answer the same calls.
-What is cut off, or breaks a rule, is refused by the old reading."""
+"""migrating.py PLAIN: images of numbers as images of items, by the plain programs of the folder PLAIN. Drawn runs of
+both kinds of queue leave an image after each act. As one of items it is sound, and its queues hold and tell the same,
+with each number as its item. Machines on both are told the same, also after a crash within recovery, and answer the
+same calls. What is cut off, or breaks a rule, is refused by the old reading."""
 
 import json
 import random
@@ -105,7 +105,8 @@ def check_image(draw, machine, is_thorough):
     size = block_size(machine.clients, machine.records, Items)
     require(new[:34] == words[:34] and len(new) == 34 + SLOTS * size, "the directory, or the size")
     before, after = image.broker_of_words(words, Values), image.broker_of_words(new, Items)
-    require(content_as_items(image.content(before)) == image.content(after), image.content(before), image.content(after))
+    wanted, found = content_as_items(image.content(before)), image.content(after)
+    require(wanted == found, wanted, found)
     layout = Layout(machine.kind, machine.clients, machine.records, Items)
     block = new[34 + slot * size:34 + slot * size + layout.size]
     old_one, new_one = on(machine, machine.kept, Values), on(machine, block, Items)
@@ -165,7 +166,8 @@ def check_refusals():
             found = rule_of(image.image_of(words, Values))
             require(found == wanted, found, wanted, words)
             count[wanted] = count.get(wanted, 0) + 1
-    print("changed words: " + ", ".join(f"{rule or 'sound'} {number}" for rule, number in sorted(count.items(), key=str)))
+    rules = sorted(count.items(), key=str)
+    print("changed words: " + ", ".join(f"{rule or 'sound'} {number}" for rule, number in rules))
 
 
 def check_rows():

@@ -14,6 +14,8 @@ DIGITS = re.compile(r"(?:[0-9a-f]{2})*")
 class Values:
     """A message is a number, which a cell has too, with 2 added."""
 
+    # The form whose images are read too, and become images of this one.
+    before = None
     magic = b"PQW1"
     # The words of a message in its node.
     parts = ("value",)
@@ -71,6 +73,7 @@ class Items:
     """A message has a length and three words, bytes little-endian and zeros behind them; a cell has its node, with 2
     added. In scripts the empty one is a dot."""
 
+    before = Values
     magic = b"PQW2"
     parts = ("length", "first", "second", "third")
     most_steps_alone = 128

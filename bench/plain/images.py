@@ -58,17 +58,17 @@ def put_entries(draw, block, issued, chain, marks):
             block.words[at + 3] = number if kind == 1 else 0
 
 
-def drawn_block(draw, kind, clients, records):
+def drawn_block(draw, kind, clients, records, form):
     """The words of a queue's block, which are sound in most cases."""
-    block = Block(kind, clients, records, [0] * block_size(clients, records))
+    block = Block(kind, clients, records, [0] * block_size(clients, records, form), form)
     issued = []
     for client in range(clients):
         bump = draw.randrange(records + 1)
         block.words[block.bump(client)] = bump
         issued.extend(1 + client * records + record for record in range(bump))
     for number in issued:
-        message = FORM.drawn(draw.choice([0, 5, 2**32 - 1, draw.randrange(2**32)]))
-        for word, value in zip(block.message(number), FORM.words_of(message)):
+        message = form.drawn(draw.choice([0, 5, 2**32 - 1, draw.randrange(2**32)]))
+        for word, value in zip(block.message(number), form.words_of(message)):
             block.words[word] = value
     chain, marks = put_chain(draw, block, issued)
     if kind == "log":
@@ -93,9 +93,9 @@ def announce(draw, block, issued):
         block.words[block.announcement(client)] = number
 
 
-def played_block(draw, kind, clients, records):
+def played_block(draw, kind, clients, records, form):
     """The words that a queue's calls left when everything stopped."""
-    machine, numbers = Machine(kind, clients, records), [0] * clients
+    machine, numbers = Machine(kind, clients, records, form), [0] * clients
     for _ in range(draw.randrange(120)):
         client, act = draw.randrange(clients), draw.random()
         if machine.recovery:
@@ -109,11 +109,11 @@ def played_block(draw, kind, clients, records):
         else:
             numbers[client] += 1
             number = draw.choice([None, draw.randrange(100)])
-            machine.start(client, numbers[client], None if number is None else FORM.drawn(number))
-    return machine.kept + [0] * (block_size(clients, records) - len(machine.kept))
+            machine.start(client, numbers[client], None if number is None else form.drawn(number))
+    return machine.kept + [0] * (block_size(clients, records, form) - len(machine.kept))
 
 
-def drawn_words(draw):
+def drawn_words(draw, form):
     clients, records = draw.choice([(1, 1), (1, 2), (2, 1), (2, 2), (2, 3), (3, 2), (1, 5)])
     names = draw.sample(NAMES, SLOTS)
     head, blocks = [clients, records], []
@@ -121,10 +121,10 @@ def drawn_words(draw):
         if draw.random() < 0.4:
             kind = draw.choice(["durable", "log"])
             head += [*name_words(names[slot]), 1 if kind == "durable" else 2, 1]
-            blocks += draw.choice([drawn_block, played_block])(draw, kind, clients, records)
+            blocks += draw.choice([drawn_block, played_block])(draw, kind, clients, records, form)
         else:
             head += draw.choice([[0, 0, 0, 0], [*name_words(names[slot]), 1, 0], [97, 0, 0, 0]])
-            blocks += [0] * block_size(clients, records)
+            blocks += [0] * block_size(clients, records, form)
     return head + blocks
 
 
@@ -164,11 +164,13 @@ def change_bytes(draw, data):
 
 
 def drawn_image(draw, left):
-    """An image, drawn or one that was left by a broker, and perhaps changed."""
-    words = drawn_words(draw)
+    """An image, drawn or one that was left by a broker, and perhaps changed; some are of the form before."""
+    form = FORM.before if FORM.before and draw.random() < 0.3 else FORM
+    words = drawn_words(draw, form)
     if left is not None and draw.random() < 0.4:
+        form = FORM
         words = list(struct.unpack_from(f"<{(len(left) - 12) // 8}Q", left, 12))
     if draw.random() < 0.4:
         change_words(draw, words)
-    data = image_of(words)
+    data = image_of(words, form)
     return change_bytes(draw, data) if draw.random() < 0.15 else data

@@ -37,8 +37,8 @@ def migrated(words):
 
 def booted(data):
     """The broker that begins on an image, also on one that was written before messages were items."""
-    if FORM is Items and data[:4] == Values.magic:
-        broker = image.broker_of_words(migrated(image.words_of(data, Values)))
+    if FORM.before and data[:4] == FORM.before.magic:
+        broker = image.broker_of_words(migrated(image.words_of(data, FORM.before)))
     else:
         broker = image.broker_of(data)
     broker.restart()

@@ -1,4 +1,5 @@
-"""Recovery, by docs/TABLES.md: steps over a machine's words, at whose end each client is told what became of its call."""
+"""Recovery, by docs/TABLES.md: steps over a machine's words, at whose end clients are told what became of their
+calls."""
 
 from layout import HEAD, TAIL
 from steps import loading, storing

@@ -1,5 +1,5 @@
-"""What becomes of messages, of their words, and of what is printed, where programs get messages of another form: numbers
-become items."""
+"""What becomes of messages, of their words, and of what is printed, where programs get messages of another form:
+numbers become items."""
 
 import re
 
@@ -29,8 +29,8 @@ class Reform:
         return self.now.parts[0 if what in ("load", "store") else 1], *place[1:]
 
     def point(self, machine, what, place):
-        """The access to a place, at which something waits. Recovery of a durable queue loads a number for the cell where
-        the node's mark points; no item has to be loaded before that cell is stored."""
+        """The access to a place, at which something waits. Recovery of a durable queue loads a number, and then stores
+        it in a cell, whose number is the node's mark; an item is not loaded there."""
         is_for_cell = machine.recovery and machine.kind == "durable" and what == "load" and place[0] == "value"
         if is_for_cell and not self.is_same:
             return "store", ("cell", machine.cached[machine.node(place[1], "mark")])
