@@ -44,9 +44,9 @@ class Reform:
         return IN_JSON.sub(anew, text)
 
     def in_line(self, line):
-        """A line of a script, with its message anew."""
+        """A line of a script, with its message anew; also of a bad one, if it has as many words."""
         front, space, last = line.rpartition(" ")
-        return front + space + self.text(last) if line.startswith("enq ") else line
+        return front + space + self.text(last) if front.startswith("enq ") else line
 
 
 def outcome(printed, text):
