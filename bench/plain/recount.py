@@ -10,13 +10,15 @@ so is what stands beside it of what the script prints (NAME.out, NAME.points, ..
 as they are. A line that has no such count is told, and stays. So is a bad line that is none now, and a script that
 prints something else now, apart from counts, words and messages.
 
-In a FILE that is no script, messages of requests and replies in JSON are written anew, and nothing else.
+In a FILE that is no script, messages of requests and replies in JSON are written anew, and nothing else. So are those
+of a document (NAME.md), and its scripts that stand beside what they print.
 """
 
 import importlib
 import pathlib
 import sys
 
+from blocks import document_anew
 from machine import RECOVERY_PORT
 from reform import Reform, outcome
 
@@ -199,7 +201,13 @@ def write_script(path, scripts, points, reform):
         beside = path.with_suffix(f".{suffix}")
         if beside.exists():
             write(beside, points.report(text, command)[0])
-    return [f"{path}:{each}" for each in lost]
+    return lost
+
+
+def write_document(path, scripts, reform):
+    text, lost = document_anew(path.read_text(), scripts, reform, recounted)
+    write(path, text.encode())
+    return lost
 
 
 def main(old, *paths):
@@ -207,10 +215,14 @@ def main(old, *paths):
     now, points, new_form = load(HERE, "script", "points", "form")
     reform, lost = Reform(old_form.FORM, new_form.FORM), []
     for path in map(pathlib.Path, paths):
+        left = []
         if path.suffix == ".script":
-            lost += write_script(path, (before, now), points, reform)
+            left = write_script(path, (before, now), points, reform)
+        elif path.suffix == ".md":
+            left = write_document(path, (before, now), reform)
         else:
-            write(path, reform.in_json(path.read_text()).encode())
+            write(path, reform.in_json(path.read_bytes().decode("latin-1")).encode("latin-1"))
+        lost += [f"{path}:{each}" for each in left]
     print("\n".join(lost + [f"{len(paths)} files, {len(lost)} lines to be written by hand"]))
     return 1 if lost else 0
 
