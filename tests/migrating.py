@@ -128,7 +128,7 @@ def begun(words, form):
 
 def check_runs():
     draw, seen = random.Random(1), 0
-    for turn in range(240):
+    for turn in range(150):
         last = None
         for machine in drawn_run(draw, *SHAPES[turn % len(SHAPES)], Values, 120):
             if machine.kept != last:
