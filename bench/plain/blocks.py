@@ -17,7 +17,7 @@ def laid_out(rows, column):
 
 
 def printed_rows(script, lines):
-    """Each line of a script with what it prints, of which more than one line have nothing beside them."""
+    """Each line of a script beside the first line that it prints; further ones stand below, alone."""
     queue, acts = script.parsed("\n".join(lines).encode())
     machine = script.Machine(*queue)
     rows = [(lines[0], f"size {len(machine.kept)}")]
