@@ -14,7 +14,8 @@ judge 'with the tables as they are' "$said"
 
 # As OLD a machine on which a flush keeps at once, and no fence comes.
 cp -r bench/plain "$work/plain"
-sed -i -E '/^ *yield \("fence",\)$/d; s/self\.requests\[port\] = word/self.keep(word)/' "$work/plain/machine.py"
+sed -i '/^ *yield ("fence",)$/d' "$work/plain/steps.py"
+sed -i 's/self\.requests\[port\] = word/self.keep(word)/' "$work/plain/machine.py"
 printf 'queue log 1 2\nenq 0 1 9\nstep 0 18\ncrash\nrecover 4\nrecover\ncontent\n' > "$work/cut.script"
 printf 'queue log 1 2\nenq 0 1 9\nstep 0 25\ncrash\nrecover 5\nrecover\ncontent\n' > "$work/wanted"
 : > "$work/cut.out"

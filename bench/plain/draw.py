@@ -2,6 +2,8 @@
 
 import json
 
+from form import FORM
+
 NAMES = ["a", "b", "q0", "queue-with-16-by", "_", "c", "d", "e", "f", "g"]
 ODD_NAMES = ["", "A", "a b", "seventeen-letters", "é", "\u0000", "\U0001f600", "a\n", "\\", '"']
 ODD_VALUES = [
@@ -9,7 +11,7 @@ ODD_VALUES = [
     "Infinity",
     "18446744073709551615", "18446744073709551616", "4294967295", "4294967296", "1099511627776", "1099511627777",
     "9" * 60, "9" * 400, "1" + "0" * 320, "null", "true", "[]", "{}", '"1"', '""', "[[]]", "1e99999999999999999999",
-    "0e999",
+    "0e999", *FORM.odd,
 ]
 ODD_STRINGS = [
     '"\\ud800"', '"\\udc00"', '"\\ud83d\\ude00"', '"\\ud800\\u0041"', '"\\u0061"', '"\\x"', '"\\u12"', '"\t"', '"a',
@@ -20,8 +22,8 @@ PIECES = [
     b"{", b"}", b"[", b"]", b":", b",", b'"', b"\\", b"\\u", b"\\ud800", b" ", b"\t", b"\r", b"\0", b"\xff", b"\xc3",
     b"\xe2\x82\xac", b"\xef\xbb\xbf", b"0", b"-1", b"1.5", b"1e999", b"18446744073709551616", b"null", b"true",
     b'{"op":"list"}', b'{"op":"crash"}', b'{"op":"recover"}', b'{"op":"', b'"op":"list"', b'"op":"put"', b'"op":"take"',
-    b'"op":"create"', b'"op":"told"', b'"client":0', b'"queue":"a"', b'"kind":"log"', b'"value":7', b'"number":1',
-    b"[" * 32,
+    b'"op":"create"', b'"op":"told"', b'"client":0', b'"queue":"a"', b'"kind":"log"',
+    b'"value":%b' % json.dumps(FORM.of_number(7)).encode(), b'"number":1', b"[" * 32,
 ]
 BYTES = b'{}[]:,"\\ \t\r\n0123456789-+.eEaulztrfn/\x00\x1f\x7f\x80\xbf\xc0\xc3\xa9\xe2\xed\xa0\xf0\xff'
 
@@ -57,7 +59,7 @@ class Player:
             known = list(self.kinds) or NAMES
             request["queue"] = draw.choice(known if op != "create" and draw.random() < 0.97 else NAMES + ODD_NAMES)
         if op == "put":
-            request["value"] = draw.choice([0, 1, 2**32 - 1, draw.randrange(2**32)])
+            request["value"] = FORM.drawn(draw.choice([0, 1, 2**32 - 1, draw.randrange(2**32)]))
         if op == "create":
             request["kind"] = draw.choice(["durable", "log"])
             self.kinds.setdefault(request["queue"], request["kind"])

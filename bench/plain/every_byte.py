@@ -3,6 +3,7 @@ pieces; or of two scripts that have every line. What pqd and pqx say is what the
 tried, or the first difference, with status 1. Not all of the scripts are tried, since each takes a process of its
 own."""
 
+import json
 import os
 import random
 import sys
@@ -12,6 +13,7 @@ import image
 import script
 from broker import ERRORS, Broker, text_of
 from draw import pieces
+from form import FORM
 from fuzz import Different, compare, ran
 from lines import lines_of, meaning
 
@@ -20,15 +22,18 @@ RECORDS = 32
 CREATE = b'{"op":"create","queue":"a","kind":"log"}'
 CREATE_DURABLE = b'{"op":"create","queue":"a","kind":"durable"}'
 CRASH, RECOVER = b'{"op":"crash"}', b'{"op":"recover"}'
+# Messages as they stand in requests and in scripts.
+FIVE, GREATEST = (json.dumps(FORM.of_number(number)).encode() for number in (5, 2**32 - 1))
+FIVE_TEXT, GREATEST_TEXT = (FORM.text(FORM.of_number(number)).encode() for number in (5, 2**32 - 1))
 
 # Requests, of each kind one at least, and what is asked before them, so that they are served as they stand.
 GOOD = [
     (b'{"op":"create","queue":"a","kind":"log"}', []),
     (b'{"kind":"durable","queue":"_-z09","op":"create"}', []),
     (b'{"op":"list"}', [CREATE]),
-    (b'{"op":"put","client":0,"queue":"a","value":4294967295}', [CREATE_DURABLE]),
-    (b'{"op":"put","client":15,"queue":"a","number":1099511627776,"value":5}', [CREATE]),
-    (b'{"op":"put","client":15,"queue":"a","number":1,"value":5}', [CREATE]),
+    (b'{"op":"put","client":0,"queue":"a","value":%b}' % GREATEST, [CREATE_DURABLE]),
+    (b'{"op":"put","client":15,"queue":"a","number":1099511627776,"value":%b}' % FIVE, [CREATE]),
+    (b'{"op":"put","client":15,"queue":"a","number":1,"value":%b}' % FIVE, [CREATE]),
     (b'{"op":"take","client":18446744073709551615,"queue":"a","number":1}', [CREATE]),
     (b'{ "op" : "take", "queue" : "abcdefghijklmnop", "client" : 10 }',
      [b'{"op":"create","queue":"abcdefghijklmnop","kind":"durable"}']),
@@ -40,10 +45,10 @@ GOOD = [
 ]
 
 SCRIPTS = [
-    b"# a\n\nqueue durable 1 4096\nenq 0 4294967295\nstep 255 1000\nend 0\ndeq 10\nevict 18446744073709551615\ncrash\n"
-    b"recover 1\nrecover\ncontent\norder\n",
-    b"queue log 16 1\nenq 0 0 5\nstep 0 1\ndeq 1 18446744073709551615\n#\nend 1\nevict 0\ncrash\nrecover 20\nrecover\n"
-    b"content\norder",
+    b"# a\n\nqueue durable 1 4096\nenq 0 %b\nstep 255 1000\nend 0\ndeq 10\nevict 18446744073709551615\ncrash\n"
+    b"recover 1\nrecover\ncontent\norder\n" % GREATEST_TEXT,
+    b"queue log 16 1\nenq 0 0 %b\nstep 0 1\ndeq 1 18446744073709551615\n#\nend 1\nevict 0\ncrash\nrecover 20\nrecover\n"
+    b"content\norder" % FIVE_TEXT,
 ]
 # Of the scripts those are tried whose change puts one of these bytes, or none, and of the others one of so many.
 NEAR = b"\n 0#9"

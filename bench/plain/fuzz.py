@@ -10,6 +10,7 @@ from collections import Counter
 import draw as lines
 import image
 import images
+import migration
 import points
 import script
 import scripts
@@ -104,13 +105,13 @@ class Fuzz:
             file.write(data)
         self.tried["images"] += 1
         try:
-            broker = image.booted(data)
+            broker = migration.booted(data)
         except image.Broken as broken:
             self.refuse(data, str(broken))
             return
         self.tried["images served"] += 1
         questions = questions_of(broker) + lines.input_of(draw, broker.clients, draw.randrange(40))
-        wanted = replies(image.booted(data), questions)
+        wanted = replies(migration.booted(data), questions)
         found = ran([self.pqd, "pipe", "--image", self.path], questions)
         compare("image", data, (wanted, b"", 0), found)
         os.remove(self.path)

@@ -3,7 +3,9 @@
 import struct
 
 from broker import SLOTS
+from form import FORM
 from image import Block, image_of
+from layout import HEAD, TAIL, block_size
 from machine import Machine
 
 NAMES = ["a", "b", "sixteen-letters-", "x_1", "z", "0", "-", "q"]
@@ -20,35 +22,35 @@ def put_chain(draw, block, issued):
     claimed = chain[:draw.randrange(min(len(chain), len(others)) + 1)]
     marks = draw.sample(others, len(claimed))
     head = draw.randrange(len(claimed) + 1)
-    block.words[0] = claimed[head - 1] if head else 0
-    block.words[1] = draw.choice([0, *chain])
+    block.words[HEAD] = claimed[head - 1] if head else 0
+    block.words[TAIL] = draw.choice([0, *chain])
     at = 0
     for number in chain:
-        block.words[block.begin + block.width * at + 1] = number
+        block.words[block.node(at, "next")] = number
         at = number
     for place, (number, mark) in enumerate(zip(claimed, marks)):
-        block.words[block.begin + block.width * (number + 1) - 1] = mark
+        block.words[block.node(number, "mark")] = mark
         put_answer(block, mark, number, place < head or draw.random() < 0.5)
     return chain, dict(zip(marks, claimed))
 
 
 def put_answer(block, mark, number, is_answered):
     if block.kind == "log":
-        block.words[block.answers + 4 * (mark - 1) + 1] = 2
+        block.words[block.entry(mark, "kind")] = 2
     if is_answered and block.kind == "durable":
-        block.words[block.answers + mark - 1] = block.words[block.begin + 3 * number] + 2
+        block.words[block.entry(mark)] = block.form.cell_of(number, block.message_at(number))
     elif is_answered:
-        block.words[block.answers + 4 * (mark - 1) + 3] = number
+        block.words[block.entry(mark, "node")] = number
 
 
 def put_entries(draw, block, issued, chain, marks):
     """The rest of the entries of a log queue, and which of them are announced."""
     for number in issued:
-        at = block.answers + 4 * (number - 1)
+        at = block.entry(number, "number")
         block.words[at] = draw.choice([0, 1, 2, 3, draw.randrange(1, 2**40)])
         if number in chain:
             block.words[at + 1:at + 4] = [1, draw.choice([0, 1]), number]
-            block.words[block.begin + 4 * number + 2] = number
+            block.words[block.node(number, "insert")] = number
         elif number not in marks:
             kind = draw.choice([0, 1, 2])
             block.words[at + 1] = kind
@@ -56,23 +58,25 @@ def put_entries(draw, block, issued, chain, marks):
             block.words[at + 3] = number if kind == 1 else 0
 
 
-def drawn_block(draw, kind, clients, records):
+def drawn_block(draw, kind, clients, records, form):
     """The words of a queue's block, which are sound in most cases."""
-    block = Block(kind, clients, records, [0] * (6 + 2 * clients + 8 * clients * records))
+    block = Block(kind, clients, records, [0] * block_size(clients, records, form), form)
     issued = []
     for client in range(clients):
         bump = draw.randrange(records + 1)
-        block.words[2 + clients + client] = bump
+        block.words[block.bump(client)] = bump
         issued.extend(1 + client * records + record for record in range(bump))
     for number in issued:
-        block.words[block.begin + block.width * number] = draw.choice([0, 5, 2**32 - 1, draw.randrange(2**32)])
+        message = form.drawn(draw.choice([0, 5, 2**32 - 1, draw.randrange(2**32)]))
+        for word, value in zip(block.message(number), form.words_of(message)):
+            block.words[word] = value
     chain, marks = put_chain(draw, block, issued)
     if kind == "log":
         put_entries(draw, block, issued, chain, marks)
     else:
         for number in issued:
             if number not in marks and draw.random() < 0.3:
-                block.words[block.answers + number - 1] = 1
+                block.words[block.entry(number)] = 1
     announce(draw, block, issued)
     return block.words
 
@@ -82,16 +86,16 @@ def announce(draw, block, issued):
         own = [number for number in issued if (number - 1) // block.records == client]
         number = draw.choice([0, *own])
         if number and block.kind == "log":
-            at = block.answers + 4 * (number - 1)
+            at = block.entry(number, "number")
             block.words[at] = max(1, block.words[at])
             if block.words[at + 1] == 0:
                 number = 0
-        block.words[2 + client] = number
+        block.words[block.announcement(client)] = number
 
 
-def played_block(draw, kind, clients, records):
+def played_block(draw, kind, clients, records, form):
     """The words that a queue's calls left when everything stopped."""
-    machine, numbers = Machine(kind, clients, records), [0] * clients
+    machine, numbers = Machine(kind, clients, records, form), [0] * clients
     for _ in range(draw.randrange(120)):
         client, act = draw.randrange(clients), draw.random()
         if machine.recovery:
@@ -104,11 +108,12 @@ def played_block(draw, kind, clients, records):
             machine.step(client)
         else:
             numbers[client] += 1
-            machine.start(client, numbers[client], draw.choice([None, draw.randrange(100)]))
-    return machine.kept + [0] * (6 + 2 * clients + 8 * clients * records - len(machine.kept))
+            number = draw.choice([None, draw.randrange(100)])
+            machine.start(client, numbers[client], None if number is None else form.drawn(number))
+    return machine.kept + [0] * (block_size(clients, records, form) - len(machine.kept))
 
 
-def drawn_words(draw):
+def drawn_words(draw, form):
     clients, records = draw.choice([(1, 1), (1, 2), (2, 1), (2, 2), (2, 3), (3, 2), (1, 5)])
     names = draw.sample(NAMES, SLOTS)
     head, blocks = [clients, records], []
@@ -116,10 +121,10 @@ def drawn_words(draw):
         if draw.random() < 0.4:
             kind = draw.choice(["durable", "log"])
             head += [*name_words(names[slot]), 1 if kind == "durable" else 2, 1]
-            blocks += draw.choice([drawn_block, played_block])(draw, kind, clients, records)
+            blocks += draw.choice([drawn_block, played_block])(draw, kind, clients, records, form)
         else:
             head += draw.choice([[0, 0, 0, 0], [*name_words(names[slot]), 1, 0], [97, 0, 0, 0]])
-            blocks += [0] * (6 + 2 * clients + 8 * clients * records)
+            blocks += [0] * block_size(clients, records, form)
     return head + blocks
 
 
@@ -159,11 +164,13 @@ def change_bytes(draw, data):
 
 
 def drawn_image(draw, left):
-    """An image, drawn or one that was left by a broker, and perhaps changed."""
-    words = drawn_words(draw)
+    """An image, drawn or one that was left by a broker, and perhaps changed; some are of the form before."""
+    form = FORM.before if FORM.before and draw.random() < 0.3 else FORM
+    words = drawn_words(draw, form)
     if left is not None and draw.random() < 0.4:
+        form = FORM
         words = list(struct.unpack_from(f"<{(len(left) - 12) // 8}Q", left, 12))
     if draw.random() < 0.4:
         change_words(draw, words)
-    data = image_of(words)
+    data = image_of(words, form)
     return change_bytes(draw, data) if draw.random() < 0.15 else data

@@ -2,11 +2,12 @@
 
 import json
 
+from form import FORM
+
 LONGEST = 512
 # serde_json reads arrays and objects in one another up to this depth.
 DEEPEST = 127
 GREATEST_CLIENT = 2**64 - 1
-GREATEST_VALUE = 2**32 - 1
 GREATEST_NUMBER = 2**40
 
 # Of each operation: the keys that it has, and those that it may have.
@@ -99,7 +100,7 @@ def is_within(value, least, greatest):
 FITS = {
     "op": lambda value: True,
     "client": lambda value: is_within(value, 0, GREATEST_CLIENT),
-    "value": lambda value: is_within(value, 0, GREATEST_VALUE),
+    "value": FORM.is_message,
     "number": lambda value: is_within(value, 1, GREATEST_NUMBER),
     "queue": lambda value: isinstance(value, str),
     "kind": lambda value: value in ("durable", "log"),

@@ -2,21 +2,13 @@
 generators: each `yield` is one access to the memory, and what comes back is what the access found. A client makes them
 through the port of its number, and recovery through one of its own."""
 
-from image import Block
+from form import FORM
+from layout import HEAD, TAIL, Layout
+from recovery import recovery
+from steps import keeping, loading, storing
 
-HEAD, TAIL = 0, 1
 RECOVERY_PORT = 16
-# So many steps a call takes at most that goes on alone.
-MAX_STEPS_ALONE = 96
 EMPTY = {"durable": 1, "log": 2}
-NODE_PARTS = ("value", "next", "insert", "mark")
-ANSWER_PARTS = {"durable": ("cell",), "log": ("number", "kind", "status", "node")}
-
-
-def keeping(word):
-    """A flush asks that a word be kept, and a fence completes that."""
-    yield "flush", word
-    yield ("fence",)
 
 
 class Call:
@@ -30,14 +22,11 @@ class Call:
         self.reply = None
 
 
-class Machine:
-    def __init__(self, kind, clients, records):
-        self.kind = kind
-        self.clients = clients
-        self.records = records
-        self.places = Block(kind, clients, records, [])
-        self.cached = [0] * self.places.size
-        self.kept = [0] * self.places.size
+class Machine(Layout):
+    def __init__(self, kind, clients, records, form=FORM):
+        super().__init__(kind, clients, records, form)
+        self.cached = [0] * self.size
+        self.kept = [0] * self.size
         # Of each port that has a request: the word.
         self.requests = {}
         # Of each client: its call under way with the access that comes next, and the last number that it may not use.
@@ -48,33 +37,6 @@ class Machine:
         # Effects, as they came: [call, reply, whether it counts].
         self.effects = []
         self.recovery = None
-
-    # Where words stand.
-
-    def node(self, number, part):
-        at = self.places.width - 1 if part == "mark" else NODE_PARTS.index(part)
-        return self.places.begin + self.places.width * number + at
-
-    def entry(self, number, part="cell"):
-        return self.places.answers + self.places.answer_width * (number - 1) + ANSWER_PARTS[self.kind].index(part)
-
-    def announcement(self, client):
-        return 2 + client
-
-    def bump(self, client):
-        return 2 + self.clients + client
-
-    def place(self, word):
-        """The name of the place whose word this is: the same in a layout with other words."""
-        if word < self.places.begin:
-            names = [("head",), ("tail",)]
-            names += [(name, client) for name in ("announcement", "bump") for client in range(self.clients)]
-            return names[word]
-        if word < self.places.answers:
-            number, at = divmod(word - self.places.begin, self.places.width)
-            return "mark" if at == self.places.width - 1 else NODE_PARTS[at], number
-        number, at = divmod(word - self.places.answers, self.places.answer_width)
-        return ANSWER_PARTS[self.kind][at], number + 1
 
     # The memory.
 
@@ -98,15 +60,19 @@ class Machine:
         if self.kept[word] == value:
             return False
         self.kept[word] = value
-        if word >= self.places.answers:
+        if word >= self.answers:
             self.settle(word, value)
-        elif word >= self.places.begin and value:
-            number, part = divmod(word - self.places.begin, self.places.width)
-            if part == 1:
+        elif word >= self.begin and value:
+            part, number = self.place(word)
+            if part == "next":
                 self.effects.append([self.takers[value], "done", True])
-            elif part == self.places.width - 1:
-                self.effects.append([self.takers[value], f"got {self.cached[self.node(number, 'value')]}", True])
+            elif part == "mark":
+                self.effects.append([self.takers[value], f"got {self.text_at(self.cached, number)}", True])
         return True
+
+    def text_at(self, words, number):
+        """The message of a node, as a transcript has it."""
+        return self.form.text(self.form.message_of([words[word] for word in self.message(number)]))
 
     def settle(self, word, value):
         """An empty answer that is kept: what the call found counts, where it stands."""
@@ -134,14 +100,13 @@ class Machine:
         if call.value is not None:
             if self.kind == "log":
                 words += [(self.entry(record, "node"), record)]
-            words += [(self.node(record, "value"), call.value)]
+            words += zip(self.message(record), self.form.words_of(call.value))
             if self.kind == "log":
                 words += [(self.node(record, "insert"), record)]
         if self.kind == "log" or call.value is None:
             words += [(self.announcement(client), record)]
         for word, value in words:
-            yield "store", word, value
-            yield from keeping(word)
+            yield from storing(word, value)
 
     def enqueue(self, call):
         yield from self.prepare(call)
@@ -169,27 +134,27 @@ class Machine:
             if (yield "load", HEAD) != first:
                 continue
             if first == last and following == 0:
-                yield "store", self.empty_word(call.record), EMPTY[self.kind]
-                yield from keeping(self.empty_word(call.record))
+                yield from storing(self.empty_word(call.record), EMPTY[self.kind])
                 return "empty"
             if first == last:
                 yield from keeping(self.node(last, "next"))
                 yield "swap", TAIL, last, following
                 continue
-            value = yield "load", self.node(following, "value")
+            value = self.form.message_of((yield from loading(self.message(following))))
             mark = self.node(following, "mark")
             found = yield "swap", mark, 0, call.record
             winner = found or call.record
             yield from keeping(mark)
-            result = self.result(winner, following, value)
-            yield "store", *result
-            yield from keeping(result[0])
+            yield from storing(*self.result(winner, following, value))
             yield "swap", HEAD, first, following
             if found == 0:
-                return f"got {value}"
+                return f"got {self.form.text(value)}"
 
     def result(self, winner, node, value):
-        return (self.entry(winner), value + 2) if self.kind == "durable" else (self.entry(winner, "node"), node)
+        """The word that answers a claim, and what stands there then."""
+        if self.kind == "log":
+            return self.entry(winner, "node"), node
+        return self.entry(winner), self.form.cell_of(node, value)
 
     def start(self, client, number, value):
         """Begins a call; or the refusal."""
@@ -236,7 +201,7 @@ class Machine:
         self.requests = {}
         self.calls = [None] * self.clients
         self.effects = [effect for effect in self.effects if effect[2]]
-        steps = self.recover()
+        steps = recovery(self)
         self.recovery = [steps, next(steps), 0]
 
     # Recovery.
@@ -258,76 +223,16 @@ class Machine:
                 number = 0 if said == "none" else int(said.split()[0])
                 self.floors[client] = number - said.endswith("nottaken")
 
-    def recover(self):
-        at = yield "load", HEAD
-        has_moved = False
-        while True:
-            node = yield "load", self.node(at, "next")
-            if node and self.kind == "log":
-                entry = yield "load", self.node(node, "insert")
-                yield "store", self.entry(entry, "status"), 1
-                yield from keeping(self.entry(entry, "status"))
-            mark = 0
-            if node and not has_moved:
-                mark = yield "load", self.node(node, "mark")
-            if mark:
-                value = 0
-                if self.kind == "durable":
-                    value = yield "load", self.node(node, "value")
-                result = self.result(mark, node, value)
-                yield "store", *result
-                yield from keeping(result[0])
-                at = node
-                continue
-            if not has_moved:
-                yield "store", HEAD, at
-                yield from keeping(HEAD)
-                has_moved = True
-            if not node:
-                break
-            at = node
-        yield "store", TAIL, at
-        yield from keeping(TAIL)
-        told = []
-        for client in range(self.clients):
-            told.append((yield from self.tell(client)))
-        return told
-
-    def tell(self, client):
-        record = yield "load", self.announcement(client)
-        if self.kind == "durable":
-            if record == 0:
-                return "nocall"
-            cell = yield "load", self.entry(record)
-            return {0: "open", 1: "empty"}.get(cell) or f"got {cell - 2}"
-        if record == 0:
-            return "none"
-        number = yield "load", self.entry(record, "number")
-        kind = yield "load", self.entry(record, "kind")
-        status = yield "load", self.entry(record, "status")
-        if kind == 1:
-            if status == 1:
-                return f"{number} done"
-            mark = yield "load", self.node(record, "mark")
-            return f"{number} done" if mark else f"{number} nottaken"
-        if status == 2:
-            return f"{number} empty"
-        node = yield "load", self.entry(record, "node")
-        if node == 0:
-            return f"{number} nottaken"
-        value = yield "load", self.node(node, "value")
-        return f"{number} got {value}"
-
     # What it holds.
 
     def content(self):
-        """The values by the kept words."""
-        values, at = [], self.kept[self.node(0, "next")]
+        """The messages by the kept words, as a transcript has them."""
+        texts, at = [], self.kept[self.node(0, "next")]
         while at:
             if not self.kept[self.node(at, "mark")]:
-                values.append(self.kept[self.node(at, "value")])
+                texts.append(self.text_at(self.kept, at))
             at = self.kept[self.node(at, "next")]
-        return values
+        return texts
 
     def order(self):
         return [(call, reply) for call, reply, counts in self.effects if counts]

@@ -1,6 +1,7 @@
 """What `pqx points` and `pqx alone` print of a script, by docs/SCRIPT.md, on the plain machine."""
 
-from machine import MAX_STEPS_ALONE, Machine
+from form import FORM
+from machine import Machine
 from script import parsed
 
 
@@ -49,7 +50,7 @@ def attempts_of(kind, word, numbers):
     if word in ("enq", "deq"):
         return [("start", numbers[0], numbers[1] if kind == "log" else None, numbers[-1] if word == "enq" else None)]
     if word in ("step", "end"):
-        return [("step", numbers[0])] * (numbers[1] if word == "step" else MAX_STEPS_ALONE)
+        return [("step", numbers[0])] * (numbers[1] if word == "step" else FORM.most_steps_alone)
     if word == "recover":
         return [("recover",)] * (numbers[0] if numbers else 100000)
     return [(word, *numbers)] if word in ("evict", "crash") else []
@@ -89,7 +90,7 @@ def point(machine, at, command):
     done = None
     while done is None:
         done = machine.recover_step()
-    content = " ".join(map(str, machine.content())) or "-"
+    content = " ".join(machine.content()) or "-"
     return f"point {at}: recovery {done[0]}; told {', '.join(done[1])}; content {content}; ok"
 
 

@@ -1,20 +1,26 @@
-"""Writes the numbers of scripts anew for other tables of steps or other layouts.
+"""Writes the numbers of scripts anew for other tables of steps, other layouts, or messages of another form.
 
-    recount.py OLD SCRIPT..
+    recount.py OLD FILE..
 
 plays each script on the plain machine of the folder OLD, which is bench/plain as it was, and side by side on this one.
 A `step C M` or `recover M` gets the count after which this machine waits where the old one waits: at the same kind of
 access to the same place, for as many a time. (A fence is of the place that its flush asked for.) An `evict W` gets the
-word that the place of W has now. The script's file is written anew where a line changed, and so is what stands beside
-it of what the script prints (NAME.out, NAME.points, ..), by the plain machine. Comments stay as they are. A line that
-has no such count is told, and stays.
+word that the place of W has now, and an `enq` its message. The script's file is written anew where a line changed, and
+so is what stands beside it of what the script prints (NAME.out, NAME.points, ..), by the plain machine. Comments stay
+as they are. A line that has no such count is told, and stays. So is a bad line that is none now, and a script that
+prints something else now, apart from counts, words and messages.
+
+In a FILE that is no script, messages of requests and replies in JSON are written anew, and nothing else. So are those
+of a document (NAME.md), and its scripts that stand beside what they print.
 """
 
 import importlib
 import pathlib
 import sys
 
+from blocks import document_anew
 from machine import RECOVERY_PORT
+from reform import Reform, outcome
 
 HERE = pathlib.Path(__file__).resolve().parent
 COMMANDS = {
@@ -39,9 +45,11 @@ def load(folder, *names):
 class Side:
     """One of the two machines, and where each call and the recovery under way have waited on their way."""
 
-    def __init__(self, script, queue):
+    def __init__(self, script, queue, point):
         self.script = script
         self.machine = script.Machine(*queue)
+        # What a point is called, which both machines have.
+        self.point = point
         self.waited = {}
 
     def waiting(self, who):
@@ -55,10 +63,12 @@ class Side:
         return access[1] if len(access) > 1 else self.machine.requests[port]
 
     def note(self, who):
-        access = self.waiting(who)
+        access, points = self.waiting(who), self.waited.setdefault(who, [])
         if access:
-            point = access[0], self.machine.place(self.word(who, access))
-            self.waited.setdefault(who, []).append(point)
+            point = self.point(self.machine, access[0], self.machine.place(self.word(who, access)))
+            # (recovery comes to no point twice in a row, but that two of the old one's may have one name)
+            if who is not None or points[-1:] != [point]:
+                points.append(point)
 
     def play(self, line, word, numbers):
         """An act that has no count of its own."""
@@ -113,47 +123,60 @@ def follow(old, new, who, most):
     return max(steps, most) if made < most else steps, came and steps > 0
 
 
-def word_now(old, new, word):
+def word_now(old, new, reform, word):
     if word >= len(old.machine.kept):
-        return word + len(new.machine.kept) - len(old.machine.kept)
-    place = old.machine.place(word)
+        return min(word + len(new.machine.kept) - len(old.machine.kept), 2**64 - 1)
+    place = reform.place(old.machine.place(word))
     return next(at for at in range(len(new.machine.kept)) if new.machine.place(at) == place)
 
 
-def anew(old, new, line, word, numbers):
+def anew(old, new, reform, line, word, numbers):
     """The line as it is to stand, once both machines have followed it; and whether it could be found."""
     if word == "step" or word == "recover" and numbers:
         steps, came = follow(old, new, numbers[0] if word == "step" else None, numbers[-1])
         return " ".join([word, *map(str, numbers[:-1]), str(steps)]) if came else line, came
-    if word == "evict":
-        now = word_now(old, new, numbers[0])
-        old.play(line, word, numbers)
-        new.play(line, word, [now])
-        return f"evict {now}", True
     if word == "end" or word == "recover":
         who = numbers[0] if word == "end" else None
         return line, follow(old, new, who, 10**6)[1]
+    now, text = list(numbers), line
+    if word == "evict":
+        now = [word_now(old, new, reform, numbers[0])]
+        text = f"evict {now[0]}"
+    elif word == "enq":
+        now[-1], text = reform.message(numbers[-1]), reform.in_line(line)
     old.play(line, word, numbers)
-    new.play(line, word, numbers)
-    return line, True
+    new.play(text, word, now)
+    return text, True
 
 
-def recounted(path, scripts):
-    """The script anew, and the lines that could not be."""
-    text = path.read_bytes()
-    script = scripts[0].parsed(text)
-    if isinstance(script, int) or script[0] is None:
-        return text, []
-    queue, acts = script
-    old, new = (Side(each, queue) for each in scripts)
-    lines, lost, acts = text.decode().split("\n"), [], iter(acts)
+def good_lines(lines, scripts, reform):
+    """Writes lines anew that are a script; those that could not be."""
+    queue, acts = scripts[0].parsed("\n".join(lines).encode("latin-1"))
+    if queue is None:
+        return []
+    old, new = Side(scripts[0], queue, reform.point), Side(scripts[1], queue, lambda _, *point: point)
+    lost, acts = [], iter(acts)
     for at, line in enumerate(lines):
         if not line or line.startswith("#") or line.startswith("queue"):
             continue
-        lines[at], came = anew(old, new, *next(acts))
+        lines[at], came = anew(old, new, reform, *next(acts))
         if not came:
-            lost.append(f"{path}:{at + 1}: {line}")
-    return "\n".join(lines).encode(), lost
+            lost.append(f"{at + 1}: {line}")
+    return lost
+
+
+def recounted(text, scripts, reform):
+    """The script anew, and what could not be."""
+    lines, bad = text.decode("latin-1").split("\n"), scripts[0].parsed(text)
+    if not isinstance(bad, int):
+        lost = good_lines(lines, scripts, reform)
+        return "\n".join(lines).encode("latin-1"), lost
+    good = lines[:bad - 1]
+    lost = good_lines(good, scripts, reform)
+    text = "\n".join(good + [reform.in_line(line) for line in lines[bad - 1:]]).encode("latin-1")
+    if scripts[1].parsed(text) != bad:
+        lost.append(f"{bad}: {lines[bad - 1]} is no bad line now")
+    return text, lost
 
 
 def write(path, text):
@@ -162,23 +185,45 @@ def write(path, text):
         print(path)
 
 
+def write_script(path, scripts, points, reform):
+    """What could not be written."""
+    text = path.read_bytes()
+    before = scripts[0].transcript(text)[0][0]
+    text, lost = recounted(text, scripts, reform)
+    write(path, text)
+    printed, said, _ = scripts[1].transcript(text)[0]
+    if not lost and outcome(before, reform.text) != outcome(printed, str):
+        lost.append("1: it prints something else now")
+    # (a bad line is told as it was, whatever the tables say)
+    if not said:
+        write(path.with_suffix(".out"), printed)
+    for suffix, command in COMMANDS.items():
+        beside = path.with_suffix(f".{suffix}")
+        if beside.exists():
+            write(beside, points.report(text, command)[0])
+    return lost
+
+
+def write_document(path, scripts, reform):
+    text, lost = document_anew(path.read_text(), scripts, reform, recounted)
+    write(path, text.encode())
+    return lost
+
+
 def main(old, *paths):
-    [before] = load(old, "script")
-    now, points = load(HERE, "script", "points")
-    lost = []
+    before, old_form = load(old, "script", "form")
+    now, points, new_form = load(HERE, "script", "points", "form")
+    reform, lost = Reform(old_form.FORM, new_form.FORM), []
     for path in map(pathlib.Path, paths):
-        text, missed = recounted(path, (before, now))
-        lost += missed
-        write(path, text)
-        printed, said, _ = now.transcript(text)[0]
-        # (a bad line is told as it was, whatever the tables say)
-        if not said:
-            write(path.with_suffix(".out"), printed)
-        for suffix, command in COMMANDS.items():
-            beside = path.with_suffix(f".{suffix}")
-            if beside.exists():
-                write(beside, points.report(text, command)[0])
-    print("\n".join(lost + [f"{len(paths)} scripts, {len(lost)} lines without a count"]))
+        left = []
+        if path.suffix == ".script":
+            left = write_script(path, (before, now), points, reform)
+        elif path.suffix == ".md":
+            left = write_document(path, (before, now), reform)
+        else:
+            write(path, reform.in_json(path.read_bytes().decode("latin-1")).encode("latin-1"))
+        lost += [f"{path}:{each}" for each in left]
+    print("\n".join(lost + [f"{len(paths)} files, {len(lost)} lines to be written by hand"]))
     return 1 if lost else 0
 
 

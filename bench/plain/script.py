@@ -3,12 +3,11 @@ transcript."""
 
 import re
 
-from machine import MAX_STEPS_ALONE, Machine
+from form import FORM, NUMBER
+from machine import Machine
 
-NUMBER = re.compile(rb"0|[1-9][0-9]*")
 LIMITS = {
-    "T": (1, 16), "K": (1, 4096), "C": (0, 255), "V": (0, 2**32 - 1), "N": (0, 2**64 - 1), "W": (0, 2**64 - 1),
-    "M": (1, 1000),
+    "T": (1, 16), "K": (1, 4096), "C": (0, 255), "N": (0, 2**64 - 1), "W": (0, 2**64 - 1), "M": (1, 1000),
 }
 # Of each word that begins a line: the arguments on a durable and on a log queue.
 SHAPES = {
@@ -17,13 +16,18 @@ SHAPES = {
 }
 
 
+def number_of(word, least, greatest):
+    return int(word) if NUMBER.fullmatch(word) and least <= int(word) <= greatest else None
+
+
 def numbers_of(words, shape):
-    """The numbers that the words are, or None where they are none of this shape."""
-    if len(words) != len(shape) or not all(NUMBER.fullmatch(word) for word in words):
+    """The numbers, and the message, that the words are, or None where they are none of this shape."""
+    if len(words) != len(shape):
         return None
-    numbers = [int(word) for word in words]
-    within = all(LIMITS[kind][0] <= number <= LIMITS[kind][1] for kind, number in zip(shape, numbers))
-    return numbers if within else None
+    found = [
+        FORM.read(word) if kind == "V" else number_of(word, *LIMITS[kind]) for word, kind in zip(words, shape)
+    ]
+    return None if None in found else found
 
 
 def queue_of(words):
@@ -70,7 +74,7 @@ def parsed(text):
 
 def call_line(call, reply):
     number = f" #{call.number}" if call.number is not None else ""
-    return f"{call.client}{number} " + ("deq" if call.value is None else f"enq {call.value}") + f" {reply}"
+    return f"{call.client}{number} " + ("deq" if call.value is None else f"enq {FORM.text(call.value)}") + f" {reply}"
 
 
 def returned(call):
@@ -118,7 +122,7 @@ def play(machine, line, word, numbers):
     if word in ("enq", "deq"):
         return begin(machine, line, numbers)
     if word in ("step", "end"):
-        return step(machine, numbers[0], numbers[1] if word == "step" else MAX_STEPS_ALONE)
+        return step(machine, numbers[0], numbers[1] if word == "step" else FORM.most_steps_alone)
     if word == "recover":
         return recover(machine, numbers[0] if numbers else -1)
     if word == "evict":
@@ -127,7 +131,7 @@ def play(machine, line, word, numbers):
         machine.crash()
         return ["crash"]
     if word == "content":
-        return ["content " + (" ".join(map(str, machine.content())) or "-")]
+        return ["content " + (" ".join(machine.content()) or "-")]
     order = machine.order()
     return [f"order {len(order)}"] + [call_line(call, reply) for call, reply in order]
 
@@ -180,7 +184,7 @@ def unexplained(lines, order, is_log):
     queue, places, free = [], [], history_of(lines, is_log)
     for entry in order:
         client, rest = entry.split(" ", 1)
-        said, reply = re.fullmatch(r"((?:#\d+ )?(?:enq \d+|deq)) (.*)", rest).groups()
+        said, reply = re.fullmatch(r"((?:#\d+ )?(?:enq \S+|deq)) (.*)", rest).groups()
         if said.endswith("deq"):
             wanted = f"got {queue.pop(0)}" if queue else "empty"
         else:
@@ -204,7 +208,7 @@ def check_orders(text):
     """The first order of a transcript that does not explain what came before it, or None."""
     lines = text.decode().splitlines()
     is_log = any(re.match(r"\d+ #", line) or re.match(r"call deq \d+ \d", line) for line in lines)
-    is_log = is_log or any(re.match(r"call enq \d+ \d+ \d", line) for line in lines)
+    is_log = is_log or any(re.match(r"call enq \d+ \S+ \S", line) for line in lines)
     for at, line in enumerate(lines):
         if line.startswith("order "):
             count = int(line.split()[1])

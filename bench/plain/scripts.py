@@ -1,5 +1,8 @@
 """Draws scripts of acts, most of which are accepted, and some that are near scripts."""
 
+from form import FORM
+from layout import Layout
+
 
 class Writer:
     """Writes a script, and knows about what stands in it."""
@@ -8,9 +11,7 @@ class Writer:
         self.draw = draw
         self.is_log = draw.random() < 0.5
         self.clients, self.records = draw.choice([(1, 1), (1, 3), (2, 1), (2, 2), (2, 4), (3, 3), (4, 5), (16, 1)])
-        self.size = 5 + 2 * self.clients + 4 * self.clients * self.records
-        if self.is_log:
-            self.size = 6 + 2 * self.clients + 8 * self.clients * self.records
+        self.size = Layout("log" if self.is_log else "durable", self.clients, self.records).size
         self.numbers = [0] * self.clients
         self.values = 0
 
@@ -27,7 +28,8 @@ class Writer:
             words.append(1)
         if words[0] == "enq":
             self.values += 1
-            words.append(self.values if draw.random() < 0.98 else draw.choice([0, 2**32 - 1, 2**32]))
+            number = self.values if draw.random() < 0.98 else draw.choice([0, 2**32 - 1, 2**32])
+            words.append(FORM.text(FORM.drawn(number)))
         return words
 
     def act(self):
