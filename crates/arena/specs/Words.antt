@@ -21,8 +21,8 @@ abbrev pub marks : (Place → ℕ) → ℕ → ℕ
 marks f n = f (Mark (record { 0 = n }))
 
 -- a part of a node's item
-abbrev pub part_of : (Place → ℕ) → ℕ → Part → ℕ
-part_of f n part = f (Item (record { 0 = n }) part)
+abbrev pub part_at : (Place → ℕ) → ℕ → Part → ℕ
+part_at f n part = f (Item (record { 0 = n }) part)
 
 -- the number that is written for a part of an item
 unfoldable pub item_part : Value → Part → ℕ
@@ -43,31 +43,31 @@ item_again item fits = parts_again item fits
 
 -- the message of a node: the item of its parts, and in the form of values the four bytes of its one word
 abbrev pub values_in : Form → (Place → ℕ) → ℕ → Value
-values_in OfItems f n = value_of (part_of f n Length) (part_of f n First) (part_of f n Second) (part_of f n Third)
-values_in OfValues f n = to_le_bytes w32 (part_of f n First)
+values_in OfItems f n = value_of (part_at f n Length) (part_at f n First) (part_at f n Second) (part_at f n Third)
+values_in OfValues f n = to_le_bytes w32 (part_at f n First)
 
 abbrev pub values : (Place → ℕ) → ℕ → Value
 values = values_in running
 
 -- the node's words are an item's: in the form of values any word of 32 bits is one
 abbrev pub HoldsIn : Form → (Place → ℕ) → ℕ → Type 0
-HoldsIn OfItems f n = AreParts (part_of f n Length) (part_of f n First) (part_of f n Second) (part_of f n Third)
-HoldsIn OfValues f n = part_of f n First < 2 ^ 32
+HoldsIn OfItems f n = AreParts (part_at f n Length) (part_at f n First) (part_at f n Second) (part_at f n Third)
+HoldsIn OfValues f n = part_at f n First < 2 ^ 32
 
 abbrev pub HoldsItem : (Place → ℕ) → ℕ → Type 0
 HoldsItem = HoldsIn running
 
 -- all of them are 0
 pub record IsBlankItem (f : Place → ℕ) (n : ℕ) : Type 0 where
-  pub len : part_of f n Length ≡ 0
-  pub first : part_of f n First ≡ 0
-  pub second : part_of f n Second ≡ 0
-  pub third : part_of f n Third ≡ 0
+  pub len : part_at f n Length ≡ 0
+  pub first : part_at f n First ≡ 0
+  pub second : part_at f n Second ≡ 0
+  pub third : part_at f n Third ≡ 0
 
 -- a node's message is an item, whatever its words are
 pub values_fit : (f : Place → ℕ) (n : ℕ) → FitsValue (values f n)
 unfolding value_of
-values_fit f n = item_fits (part_of f n Length) (part_of f n First) (part_of f n Second) (part_of f n Third)
+values_fit f n = item_fits (part_at f n Length) (part_at f n First) (part_at f n Second) (part_at f n Third)
 
 abbrev pub inserts : (Place → ℕ) → ℕ → ℕ
 inserts f n = f (Insert (record { 0 = n }))

@@ -6,7 +6,7 @@ use Rattle.words.specs.declared.call.Kind.{Kind}
 use Rattle.words.specs.declared.call.Kind.TheVariants.{Durable, Log}
 use Rattle.arena.specs.Shape.{Shape, greatest, owner, record_of}
 use Rattle.arena.specs.Place.{IsPlace, IsNode, IsRecord}
-use Rattle.arena.specs.Words.{links, part_of, IsBlankItem, marks, cells, numbers, entry_kinds, statuses, entry_nodes, announcements, bumps}
+use Rattle.arena.specs.Words.{links, part_at, IsBlankItem, marks, cells, numbers, entry_kinds, statuses, entry_nodes, announcements, bumps}
 use Rattle.arena.specs.Chain.{IsChain, IsAmong, LeadsTo, walk}
 use Rattle.arena.specs.Chain.LeadsTo.{there, on}
 use Rattle.arena.specs.Content.{chain_of}
@@ -39,7 +39,7 @@ module _ (s : Shape) (k l : Place → ℕ) (same : (p : Place) → IsPlace s p �
   mark : (n : ℕ) → IsNode s n → marks l n ≡ marks k n
   mark n i = same (Mark (record { 0 = n })) i
 
-  part : (n : ℕ) (p : Part) → IsNode s n → part_of l n p ≡ part_of k n p
+  part : (n : ℕ) (p : Part) → IsNode s n → part_at l n p ≡ part_at k n p
   part n p i = same (Item (record { 0 = n }) p) i
 
   blank_item : (n : ℕ) → IsNode s n → IsBlankItem k n → IsBlankItem l n

@@ -15,7 +15,7 @@ use Rattle.words.specs.declared.told.Told.TheVariants.{Verdict as told_verdict, 
 use Rattle.words.specs.declared.told.Verdict.{Verdict}
 use Rattle.arena.specs.Shape.{Shape}
 use Rattle.arena.specs.Place.{IsPlace, IsNode, IsRecord}
-use Rattle.arena.specs.Words.{marks, part_of, values, numbers, entry_kinds, statuses, announcements}
+use Rattle.arena.specs.Words.{marks, part_at, values, numbers, entry_kinds, statuses, announcements}
 use Rattle.arena.specs.Chain.{IsAmong}
 use Rattle.arena.specs.Content.{chain_of, kept_content}
 use Rattle.arena.specs.declared.place.Part.{Part}
@@ -45,7 +45,7 @@ module _ (s : Shape) (k l : Place → ℕ) (same : (p : Place) → IsPlace s p �
   mark : (n : ℕ) → IsNode s n → marks l n ≡ marks k n
   mark n i = same (Mark (record { 0 = n })) i
 
-  part : (n : ℕ) (p : Part) → IsNode s n → part_of l n p ≡ part_of k n p
+  part : (n : ℕ) (p : Part) → IsNode s n → part_at l n p ≡ part_at k n p
   part n p i = same (Item (record { 0 = n }) p) i
 
   value : (n : ℕ) → IsNode s n → values l n ≡ values k n

@@ -4,7 +4,7 @@ ghost use Rattle.std.specs.Prelude.{◌≡◌, ◌≤◌, ◌↔◌, length, sli
 ghost use Rattle.arena.specs.Layout.{size_of};
 ghost use Rattle.arena.specs.Limits.{AreCounts};
 ghost use Rattle.arena.specs.Place.{IsNode, IsPlace};
-ghost use Rattle.arena.specs.Words.{part_of, HoldsItem, IsBlankItem};
+ghost use Rattle.arena.specs.Words.{part_at, HoldsItem, IsBlankItem};
 ghost use Rattle.arena.specs.declared.place.Part.TheVariants.{Length, First, Second, Third};
 ghost use Rattle.arena.specs.Shape.{greatest};
 ghost use Rattle.recover.specs.Kept.{kept_of};
@@ -76,10 +76,10 @@ impl<'a, L: Layout, W: KeptWords> KeptQueue<'a, L, W> {
     /// The kept words of a node's message: its length and three words.
     pub fn kept_parts(&self, node: NodeId) -> [u64; 4]
         requires { IsNode self.now.shape node.0 }
-        ensures len { slice_index result 0 ≡ part_of (kept_of self.now) node.0 Length }
-        ensures first { slice_index result 1 ≡ part_of (kept_of self.now) node.0 First }
-        ensures second { slice_index result 2 ≡ part_of (kept_of self.now) node.0 Second }
-        ensures third { slice_index result 3 ≡ part_of (kept_of self.now) node.0 Third }
+        ensures len { slice_index result 0 ≡ part_at (kept_of self.now) node.0 Length }
+        ensures first { slice_index result 1 ≡ part_at (kept_of self.now) node.0 First }
+        ensures second { slice_index result 2 ≡ part_at (kept_of self.now) node.0 Second }
+        ensures third { slice_index result 3 ≡ part_at (kept_of self.now) node.0 Third }
     {
         [
             self.kept_at(Place::Item(node, Part::Length)),

@@ -1,7 +1,7 @@
 -- A message that is loaded part by part: its length, and then its three words.
 use Rattle.std.specs.Prelude.{◌≡◌, ℕ}
 use Rattle.words.specs.PlainQueue.{Value}
-use Rattle.arena.specs.Words.{part_of, value_of}
+use Rattle.arena.specs.Words.{part_at, value_of}
 use Rattle.arena.specs.declared.place.Part.{Part}
 use Rattle.arena.specs.declared.place.Part.TheVariants.{Length, First, Second, Third}
 use Rattle.arena.specs.declared.place.Place.{Place}
@@ -27,10 +27,10 @@ loaded_with (at_third len first second) word = Done (value_of len first second w
 -- what is loaded is what the node's words are
 abbrev pub IsLoaded : (Place → ℕ) → ℕ → Loading → Type 0
 IsLoaded f n at_length = Unit {0}
-IsLoaded f n (at_first len) = part_of f n Length ≡ len
-IsLoaded f n (at_second len first) = (part_of f n Length ≡ len) × (part_of f n First ≡ first)
+IsLoaded f n (at_first len) = part_at f n Length ≡ len
+IsLoaded f n (at_second len first) = (part_at f n Length ≡ len) × (part_at f n First ≡ first)
 IsLoaded f n (at_third len first second) =
-    (part_of f n Length ≡ len) × (part_of f n First ≡ first) × (part_of f n Second ≡ second)
+    (part_at f n Length ≡ len) × (part_at f n First ≡ first) × (part_at f n Second ≡ second)
 
 -- how many parts are left
 abbrev pub parts_left : Loading → ℕ

@@ -6,7 +6,7 @@ use Rattle.arena.specs.Chain.{IsAmong, LeadsTo}
 use Rattle.arena.specs.Place.{number_of}
 use Rattle.arena.specs.Ranges.{Fits, IsReadByCalls}
 use Rattle.arena.specs.Shape.{Shape, owner}
-use Rattle.arena.specs.Words.{announcements, bumps, links, marks, part_of, values, HoldsItem}
+use Rattle.arena.specs.Words.{announcements, bumps, links, marks, part_at, values, HoldsItem}
 use Rattle.arena.specs.declared.place.Part.{Part}
 use Rattle.arena.specs.declared.place.Part.TheVariants.{Length}
 use Rattle.arena.specs.declared.place.Place.{Place}
@@ -34,9 +34,9 @@ AllFit s f = (p : Place) → IsReadByCalls p → Fits s p (f p)
 -- and where one of the three words after the length is cached, the length is kept
 pub record IsMessage (m : Memory) (n : ℕ) : Type 0 where
   pub item : HoldsItem m.cached n
-  pub stays : (part : Part) → (part_of m.kept n part ≡ part_of m.cached n part) ⊎ (part_of m.kept n part ≡ 0)
-  pub sized : (part : Part) → part ≢ Length → part_of m.cached n part ≢ 0
-      → part_of m.kept n Length ≡ part_of m.cached n Length
+  pub stays : (part : Part) → (part_at m.kept n part ≡ part_at m.cached n part) ⊎ (part_at m.kept n part ≡ 0)
+  pub sized : (part : Part) → part ≢ Length → part_at m.cached n part ≢ 0
+      → part_at m.kept n Length ≡ part_at m.cached n Length
 
 -- an enqueue that linked its node c, which is not kept
 pub record IsLinking (s : Shape) (l : Ledger) (value : ℕ → ℕ) (c : ℕ) : Type 0 where
@@ -75,7 +75,7 @@ pub record Base (s : Shape) (m : Memory) (l : Ledger) (claimed waiting : List �
   pub kept_head_to_head : LeadsTo (links m.kept) (m.cached Head) (m.kept Head)
   pub kept_tail : LeadsTo (links m.kept) (m.kept Tail) 0
   pub linked_part : (n : ℕ) (part : Part) → links m.cached n ≢ 0
-      → part_of m.cached (links m.cached n) part ≡ part_of m.kept (links m.cached n) part
+      → part_at m.cached (links m.cached n) part ≡ part_at m.kept (links m.cached n) part
   pub message : (n : ℕ) → IsMessage m n
   pub issued_link : (n : ℕ) → links m.cached n ≢ 0 → IsIssued s m.kept (links m.cached n)
   pub issued_mark : (n : ℕ) → marks m.cached n ≢ 0 → IsIssued s m.kept (marks m.cached n)

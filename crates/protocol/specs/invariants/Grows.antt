@@ -4,7 +4,7 @@ use Rattle.arena.specs.Answers.{result_of}
 use Rattle.arena.specs.Chain.{LeadsTo}
 use Rattle.arena.specs.Place.{number_of}
 use Rattle.arena.specs.Shape.{Shape, owner}
-use Rattle.arena.specs.Words.{IsWritten, links, marks, part_of}
+use Rattle.arena.specs.Words.{IsWritten, links, marks, part_at}
 use Rattle.arena.specs.declared.place.Part.{Part}
 use Rattle.arena.specs.declared.place.Place.{Place}
 use Rattle.arena.specs.declared.place.Place.TheVariants.{Head, Tail}
@@ -26,7 +26,7 @@ pub record Grows (a : ℕ) (s : Shape) (m : Memory) (l : Ledger) (n : Memory) (k
       → n.cached p ≡ m.cached p
   pub at_kept_own : (p : Place) → IsOwnWord p → (n.kept p ≡ m.kept p) ⊎ (n.kept p ≡ m.cached p)
   pub at_linked : (x : ℕ) (part : Part) → links m.kept x ≢ 0
-      → part_of n.kept (links m.kept x) part ≡ part_of m.kept (links m.kept x) part
+      → part_at n.kept (links m.kept x) part ≡ part_at m.kept (links m.kept x) part
   pub at_result : (x : ℕ) → marks m.kept x ≢ 0
       → IsWritten m.cached (result_of s.kind (token_of (marks m.kept x)) (node_of x))
       → IsWritten n.cached (result_of s.kind (token_of (marks m.kept x)) (node_of x))

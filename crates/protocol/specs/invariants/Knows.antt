@@ -9,7 +9,7 @@ use Rattle.arena.specs.Answers.{result_of}
 use Rattle.arena.specs.Chain.{LeadsTo}
 use Rattle.arena.specs.Place.{number_of}
 use Rattle.arena.specs.Shape.{Shape, owner}
-use Rattle.arena.specs.Words.{IsWritten, announcements, bumps, links, marks, part_of, values}
+use Rattle.arena.specs.Words.{IsWritten, announcements, bumps, links, marks, part_at, values}
 use Rattle.arena.specs.declared.place.Part.{Part}
 use Rattle.arena.specs.declared.place.Place.{Place}
 use Rattle.arena.specs.declared.place.Place.TheVariants.{Announcement, Head, Tail}
@@ -91,7 +91,7 @@ pub record Enqueuing (s : Shape) (m : Memory) (l : Ledger) (i c : ℕ) : Type 0 
   pub acting : Acting s m l i c
   pub unmoved : l.stage i ≡ Unmoved
   pub asks : asked_call l i ≡ Enq (values m.cached c)
-  pub kept : (part : Part) → part_of m.kept c part ≡ part_of m.cached c part
+  pub kept : (part : Part) → part_at m.kept c part ≡ part_at m.cached c part
 
 -- an enqueue whose node is linked
 pub record Linked (s : Shape) (m : Memory) (l : Ledger) (i c : ℕ) : Type 0 where
