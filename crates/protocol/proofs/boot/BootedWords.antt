@@ -334,7 +334,7 @@ module _ (s : Shape) (k : Place → ℕ) (h : IsSound s k) (nowhere : (p : Place
   passed_answered : (n : ℕ) → has_passed s k n → IsAnswered s (memory_at_rest k) n
   passed_answered n passed = (go s.kind refl, go s.kind refl)
     where
-      go : (kind : Kind) → s.kind ≡ kind → IsWritten k (result_of kind (token_of (marks k n)) (node_of n) (values k n))
+      go : (kind : Kind) → s.kind ≡ kind → IsWritten k (result_of kind (token_of (marks k n)) (node_of n))
       go Durable e = passed_cell e n passed
       go Log e = passed_entry e n passed
 

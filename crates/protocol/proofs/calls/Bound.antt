@@ -378,10 +378,10 @@ module _ (s : Shape) (m : Memory) (l : Ledger) (claimed waiting : List ℕ) (b :
   falls (DequeueStoreResult p) h =
       omega (
         arith,
-        own_move_head_left (result_of s.kind (winner p.claimed.claim p.claimed.token) p.claimed.next p.claimed.value).place (result_of s.kind (winner p.claimed.claim p.claimed.token) p.claimed.next p.claimed.value).value p.claimed.first.0 p.claimed.claim
-            (result_own s.kind (winner p.claimed.claim p.claimed.token) p.claimed.next p.claimed.value),
+        own_move_head_left (result_of s.kind (winner p.claimed.claim p.claimed.token) p.claimed.next).place (result_of s.kind (winner p.claimed.claim p.claimed.token) p.claimed.next).value p.claimed.first.0 p.claimed.claim
+            (result_own s.kind (winner p.claimed.claim p.claimed.token) p.claimed.next),
       )
-  falls (FencePoint (KeepResult p)) h = omega (arith, same_move (with_access m (Fence (result_of s.kind (winner p.claimed.claim p.claimed.token) p.claimed.next p.claimed.value).place)) p.claimed.first.0 p.claimed.claim refl)
+  falls (FencePoint (KeepResult p)) h = omega (arith, same_move (with_access m (Fence (result_of s.kind (winner p.claimed.claim p.claimed.token) p.claimed.next).place)) p.claimed.first.0 p.claimed.claim refl)
   falls (DequeueMoveHead p) h = falls_move_head p.claimed.token p.claimed.first p.claimed.next p.claimed.value p.claimed.claim h
 
 either : (t : Bool) (x y k : ℕ) → x ≤ k → y ≤ k → (if t then x else y) ≤ k

@@ -546,7 +546,7 @@ module _ (s : Shape) (m : Memory) (l : Ledger) (claimed waiting : List ℕ) (b :
       ))
 
   row_DequeueStoreResult : (token : Token) (first next : NodeId) (v : Value) (claim : Claim) → Knows s m l i (DequeueStoreResult (record { claimed = record { token = token; first = first; next = next; value = v; claim = claim } }))
-      → Row s m l (with_store m (result_of s.kind (winner claim token) next v).place (result_of s.kind (winner claim token) next v).value) l i
+      → Row s m l (with_store m (result_of s.kind (winner claim token) next).place (result_of s.kind (winner claim token) next).value) l i
       (More (FlushPoint (KeepResult (record { claimed = record { token = token; first = first; next = next; value = v; claim = claim } }))))
   row_DequeueStoreResult token first next v claim h =
       let w : Token = winner claim token in
@@ -555,26 +555,26 @@ module _ (s : Shape) (m : Memory) (l : Ledger) (claimed waiting : List ℕ) (b :
       let small : FitsValue v = subst FitsValue h.1.value (values_fit m.kept next.0 (b.fits_kept (Item next First) tt)) in
       anyone (DequeueStoreResult (record { claimed = record { token = token; first = first; next = next; value = v; claim = claim } }))
       (More (FlushPoint (KeepResult (record { claimed = record { token = token; first = first; next = next; value = v; claim = claim } }))))
-      (with_store m (result_of s.kind (winner claim token) next v).place (result_of s.kind (winner claim token) next v).value) l
+      (with_store m (result_of s.kind (winner claim token) next).place (result_of s.kind (winner claim token) next).value) l
       (record {
         claimed = claimed;
         waiting = waiting;
         base = result_base s m l claimed waiting b (winner claim token) next v (λ z. h.1.some (sym cached ∙ z)) cached node small;
         grows = λ a. result_grows s m l claimed waiting b a (winner claim token) next v h.1.marked h.1.some h.1.value;
       }) h
-      (λ c g. (g.0, g.1, put_same m.cached (result_of s.kind (winner claim token) next v).place (result_of s.kind (winner claim token) next v).value))
+      (λ c g. (g.0, g.1, put_same m.cached (result_of s.kind (winner claim token) next).place (result_of s.kind (winner claim token) next).value))
 
   row_KeepResult : (token : Token) (first next : NodeId) (v : Value) (claim : Claim) → Knows s m l i (FencePoint (KeepResult (record { claimed = record { token = token; first = first; next = next; value = v; claim = claim } })))
-      → Row s m l (with_fence m (result_of s.kind (winner claim token) next v).place) (kept_ledger s m l (result_of s.kind (winner claim token) next v).place) i
+      → Row s m l (with_fence m (result_of s.kind (winner claim token) next).place) (kept_ledger s m l (result_of s.kind (winner claim token) next).place) i
       (More (DequeueMoveHead (record { claimed = record { token = token; first = first; next = next; value = v; claim = claim } })))
   row_KeepResult token first next v claim h =
       fences (FencePoint (KeepResult (record { claimed = record { token = token; first = first; next = next; value = v; claim = claim } })))
-      (More (DequeueMoveHead (record { claimed = record { token = token; first = first; next = next; value = v; claim = claim } }))) (result_of s.kind (winner claim token) next v).place h
+      (More (DequeueMoveHead (record { claimed = record { token = token; first = first; next = next; value = v; claim = claim } }))) (result_of s.kind (winner claim token) next).place h
       (λ c g. (
         g.0,
         g.1,
         g.2,
-        put_same m.kept (result_of s.kind (winner claim token) next v).place (m.cached (result_of s.kind (winner claim token) next v).place) ∙ g.2,
+        put_same m.kept (result_of s.kind (winner claim token) next).place (m.cached (result_of s.kind (winner claim token) next).place) ∙ g.2,
       ))
 
   row_DequeueMoveHead : (token : Token) (first next : NodeId) (v : Value) (claim : Claim) → Knows s m l i (DequeueMoveHead (record { claimed = record { token = token; first = first; next = next; value = v; claim = claim } }))

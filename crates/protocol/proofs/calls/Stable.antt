@@ -48,9 +48,9 @@ pub empty_number : (kind : Kind) (t : Token) → number_of (empty_answer_of kind
 empty_number Durable t = refl
 empty_number Log t = refl
 
-pub result_own : (kind : Kind) (t : Token) (n : NodeId) (v : Value) → IsOwnWord (result_of kind t n v).place
-result_own Durable t n v = tt
-result_own Log t n v = tt
+pub result_own : (kind : Kind) (t : Token) (n : NodeId) (v : Value) → IsOwnWord (result_of kind t n).place
+result_own Durable t n = tt
+result_own Log t n = tt
 
 -- a word of a record belongs to the record's client
 home_of_record : (s : Shape) (p : Place) → IsOfRecord p → home s p ≡ owner s (number_of p)
@@ -257,9 +257,9 @@ module _ (a i : ℕ) (s : Shape) (m : Memory) (l : Ledger) (n : Memory) (k : Led
     some = h.some;
   }
 
-  result_stable : (x y v : ℕ) (token : Token) → Claimed m x y v token.0 → IsWritten m.cached (result_of s.kind token (node_of y) v) → IsWritten n.cached (result_of s.kind token (node_of y) v)
+  result_stable : (x y v : ℕ) (token : Token) → Claimed m x y v token.0 → IsWritten m.cached (result_of s.kind token (node_of y)) → IsWritten n.cached (result_of s.kind token (node_of y))
   result_stable x y v token h =
-      subst (λ t. IsWritten m.cached (result_of s.kind (token_of t) (node_of y) v) → IsWritten n.cached (result_of s.kind (token_of t) (node_of y) v)) h.marked
+      subst (λ t. IsWritten m.cached (result_of s.kind (token_of t) (node_of y)) → IsWritten n.cached (result_of s.kind (token_of t) (node_of y))) h.marked
       (g.at_result y v (λ z. h.some (sym h.marked ∙ z)) h.value)
 
   keeping_stable : (q : Keeping) → KnowsKeeping s m l i q → KnowsKeeping s n k i q
@@ -318,11 +318,11 @@ module _ (a i : ℕ) (s : Shape) (m : Memory) (l : Ledger) (n : Memory) (k : Led
   )
   stable (DequeueStoreResult p) h = (claimer_stable p.claimed.token p.claimed.claim h.0, claimed_stable p.claimed.first.0 p.claimed.next.0 p.claimed.value (winner p.claimed.claim p.claimed.token).0 h.1)
   stable (DequeueMoveHead p) h =
-      let now : IsWritten n.cached (result_of s.kind (winner p.claimed.claim p.claimed.token) p.claimed.next p.claimed.value) = result_stable p.claimed.first.0 p.claimed.next.0 p.claimed.value (winner p.claimed.claim p.claimed.token) h.1 h.2 in (
+      let now : IsWritten n.cached (result_of s.kind (winner p.claimed.claim p.claimed.token) p.claimed.next) = result_stable p.claimed.first.0 p.claimed.next.0 p.claimed.value (winner p.claimed.claim p.claimed.token) h.1 h.2 in (
         claimer_stable p.claimed.token p.claimed.claim h.0,
         claimed_stable p.claimed.first.0 p.claimed.next.0 p.claimed.value (winner p.claimed.claim p.claimed.token).0 h.1,
         now,
-        elim (g.at_kept_own (result_of s.kind (winner p.claimed.claim p.claimed.token) p.claimed.next p.claimed.value).place (result_own s.kind (winner p.claimed.claim p.claimed.token) p.claimed.next p.claimed.value)) [ inl t ↦ t ∙ h.3 | inr t ↦ t ∙ h.2 ],
+        elim (g.at_kept_own (result_of s.kind (winner p.claimed.claim p.claimed.token) p.claimed.next).place (result_own s.kind (winner p.claimed.claim p.claimed.token) p.claimed.next)) [ inl t ↦ t ∙ h.3 | inr t ↦ t ∙ h.2 ],
       )
   stable (FlushPoint q) h = keeping_stable q h
   stable (FencePoint q) h = keeping_stable q h

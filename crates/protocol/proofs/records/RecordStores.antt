@@ -168,7 +168,7 @@ one_two n e f = absurd (omega (arith, e, f))
 -- a store to no word of a record
 pub harmless_shared : (s : Shape) (m : Memory) (p : Place) (v : ℕ) → (IsOwnWord p → ⊥) → Harmless s m p v
 harmless_shared s m p v shared = record {
-  answers = λ x h e. absurd (shared (subst IsOwnWord e (result_own s.kind (token_of (marks m.kept x)) (node_of x) (values m.kept x))));
+  answers = λ x h e. absurd (shared (subst IsOwnWord e (result_own s.kind (token_of (marks m.kept x)) (node_of x))));
   inserts = λ k x h e. absurd (shared (subst IsOwnWord e tt));
   enqueues = λ k x h e. absurd (shared (subst IsOwnWord e tt));
   dequeues = λ k x h e. absurd (shared (subst IsOwnWord e tt));
@@ -263,7 +263,7 @@ module _ (s : Shape) (m : Memory) (l : Ledger) (claimed waiting : List ℕ) (b :
     harmless_preparation = record {
       answers = λ x marked e.
           let q : marks m.kept x ≡ bg.token.0 =
-          sym (result_number s.kind (token_of (marks m.kept x)) (node_of x) (values m.kept x)) ∙ ap number_of e ∙ (own.answer (subst IsAnswer e (result_answer s.kind (token_of (marks m.kept x)) (node_of x) (values m.kept x)))).1 in
+          sym (result_number s.kind (token_of (marks m.kept x)) (node_of x)) ∙ ap number_of e ∙ (own.answer (subst IsAnswer e (result_answer s.kind (token_of (marks m.kept x)) (node_of x)))).1 in
           absurd (h.before.loose.mark x (b.marked.kept x marked ∙ q));
       inserts = λ k x some e. absurd (h.before.loose.link x (named (Insert (node_of (links m.cached x))) e tt));
       enqueues = λ k x some e. absurd (h.before.loose.link x (named (EntryKind (token_of (links m.cached x))) e tt));
@@ -340,13 +340,13 @@ empty_status m Log t c h e =
     let is : t ≡ token_of c = cc in
     record { taken = λ q. absurd (one_two 2 q refl); empty = λ q. subst (λ x. Both m (EntryKind x) 2) is (h refl) }
 
-result_cell : (m : Memory) (kind : Kind) (t : Token) (n : NodeId) (v : Value) (c : ℕ) → marks m.kept n.0 ≡ t.0 → t.0 ≢ 0 → values m.kept n.0 ≡ v → Cell (token_of c) ≡ (result_of kind t n v).place → CellRight m c (result_of kind t n v).value
+result_cell : (m : Memory) (kind : Kind) (t : Token) (n : NodeId) (v : Value) (c : ℕ) → marks m.kept n.0 ≡ t.0 → t.0 ≢ 0 → values m.kept n.0 ≡ v → Cell (token_of c) ≡ (result_of kind t n).place → CellRight m c (result_of kind t n).value
 result_cell m Durable t n v c named some value e =
     let is : t ≡ token_of c = cc in
     λ x y. record { at = n.0; named = named ∙ ap (λ z. z.0) is; some = λ z. some (ap (λ q. q.0) is ∙ z); value = ap (λ q. q + 2) (sym value) }
 result_cell m Log t n v c named some value e = absurd (cc)
 
-pub result_node : (m : Memory) (kind : Kind) (t : Token) (n : NodeId) (v : Value) (c : ℕ) → marks m.kept n.0 ≡ t.0 → t.0 ≢ 0 → EntryNode (token_of c) ≡ (result_of kind t n v).place → NodeRight m c (result_of kind t n v).value
+pub result_node : (m : Memory) (kind : Kind) (t : Token) (n : NodeId) (v : Value) (c : ℕ) → marks m.kept n.0 ≡ t.0 → t.0 ≢ 0 → EntryNode (token_of c) ≡ (result_of kind t n).place → NodeRight m c (result_of kind t n).value
 result_node m Durable t n v c named some e = absurd (cc)
 result_node m Log t n v c named some e =
     let is : t ≡ token_of c = cc in
@@ -360,7 +360,7 @@ module _ (s : Shape) (m : Memory) (l : Ledger) (claimed waiting : List ℕ) (b :
       let kind : s.kind ≡ Log → Both m (EntryKind t) 2 = λ k.
       subst (λ x. Both m (EntryKind (token_of x)) 2) h.acting.mine.holds (dequeue_kind s m (l.begun i) h.acting.prepared h.asks k) in
       record {
-        answers = λ x marked e. absurd (h.before.loose.mark x (b.marked.kept x marked ∙ sym (result_number s.kind (token_of (marks m.kept x)) (node_of x) (values m.kept x)) ∙ ap number_of e ∙ empty_number s.kind t));
+        answers = λ x marked e. absurd (h.before.loose.mark x (b.marked.kept x marked ∙ sym (result_number s.kind (token_of (marks m.kept x)) (node_of x)) ∙ ap number_of e ∙ empty_number s.kind t));
         inserts = λ k x some e. absurd (subst IsEmptyWord (sym e) word);
         enqueues = λ k x some e. absurd (subst IsEmptyWord (sym e) word);
         dequeues = λ k x some e. absurd (subst IsEmptyWord (sym e) word);
@@ -375,26 +375,26 @@ module _ (s : Shape) (m : Memory) (l : Ledger) (claimed waiting : List ℕ) (b :
       }
 
   -- the result of a claimed node is stored
-  harmless_result : (t : Token) (n : NodeId) (v : Value) → marks m.kept n.0 ≡ t.0 → t.0 ≢ 0 → values m.kept n.0 ≡ v → Harmless s m (result_of s.kind t n v).place (result_of s.kind t n v).value
+  harmless_result : (t : Token) (n : NodeId) (v : Value) → marks m.kept n.0 ≡ t.0 → t.0 ≢ 0 → values m.kept n.0 ≡ v → Harmless s m (result_of s.kind t n).place (result_of s.kind t n).value
   harmless_result t n v named some value =
-      let word : IsAnswer (result_of s.kind t n v).place = result_answer s.kind t n v in
+      let word : IsAnswer (result_of s.kind t n).place = result_answer s.kind t n in
       let cached : marks m.cached n.0 ≡ t.0 = b.marked.kept n.0 (λ z. some (sym named ∙ z)) ∙ named in
       record {
         answers = λ x h at.
-            let same : marks m.kept x ≡ t.0 = sym (result_number s.kind (token_of (marks m.kept x)) (node_of x) (values m.kept x)) ∙ ap number_of at ∙ result_number s.kind t n v in
+            let same : marks m.kept x ≡ t.0 = sym (result_number s.kind (token_of (marks m.kept x)) (node_of x)) ∙ ap number_of at ∙ result_number s.kind t n in
             let is_n : x ≡ n.0 = b.one_mark x n.0 (λ z. h (sym (b.marked.kept x h) ∙ z)) (b.marked.kept x h ∙ same ∙ sym cached) in
             let is_v : values m.kept x ≡ v = ap (values m.kept) is_n ∙ value in
-            ap (λ q. (result_of s.kind (token_of q) (node_of x) (values m.kept x)).value) same
-            ∙ ap (λ q. (result_of s.kind t (node_of q) (values m.kept x)).value) is_n
-            ∙ ap (λ q. (result_of s.kind t n q).value) is_v;
+            ap (λ q. (result_of s.kind (token_of q) (node_of x)).value) same
+            ∙ ap (λ q. (result_of s.kind t (node_of q)).value) is_n
+            ∙ ap (λ q. (result_of s.kind t n).value) is_v;
         inserts = λ k x h e. absurd (subst IsAnswer (sym e) word);
         enqueues = λ k x h e. absurd (subst IsAnswer (sym e) word);
         dequeues = λ k x h e. absurd (subst IsAnswer (sym e) word);
         empties = λ c two e. absurd (subst IsAnswer (sym e) word);
         entries = λ k x e other at entry.
-            entry_stored m (result_of s.kind t n v).place (result_of s.kind t n v).value e (λ q. subst IsAnswer (sym q) word) (λ q. subst IsAnswer (sym q) word)
+            entry_stored m (result_of s.kind t n).place (result_of s.kind t n).value e (λ q. subst IsAnswer (sym q) word) (λ q. subst IsAnswer (sym q) word)
             (λ q one.
-            let is : e ≡ t.0 = ap number_of q ∙ result_number s.kind t n v in
+            let is : e ≡ t.0 = ap number_of q ∙ result_number s.kind t n in
             let two : Both m (EntryKind (token_of (marks m.cached n.0))) 2 = r.dequeued k n.0 (λ z. some (sym cached ∙ z)) in
             absurd (one_two (entry_kinds m.cached e) one.0 (ap (entry_kinds m.cached) (is ∙ sym cached) ∙ two.0))) entry;
         cell = λ c e. result_cell m s.kind t n v c named some value e;
@@ -420,14 +420,14 @@ module _ (s : Shape) (m : Memory) (l : Ledger) (claimed waiting : List ℕ) (b :
           (λ t e. absurd (cc))
       go false = r
 
-  head_records : (first next v : ℕ) (t : Token) → Claimed m first next v t.0 → IsWritten m.cached (result_of s.kind t (node_of next) v) → IsWritten m.kept (result_of s.kind t (node_of next) v)
+  head_records : (first next v : ℕ) (t : Token) → Claimed m first next v t.0 → IsWritten m.cached (result_of s.kind t (node_of next)) → IsWritten m.kept (result_of s.kind t (node_of next))
       → Records s (with_access m (Cas Head first next)) l
   head_records first next v t c cached kept = go (m.cached Head == first) refl
     where
       answered : IsAnswered s m next
       answered =
-          subst (λ x. Both m (result_of s.kind (token_of (marks m.kept next)) (node_of next) x).place (result_of s.kind (token_of (marks m.kept next)) (node_of next) x).value) (sym c.value)
-          (subst (λ x. Both m (result_of s.kind (token_of x) (node_of next) v).place (result_of s.kind (token_of x) (node_of next) v).value) (sym c.marked) (cached, kept))
+          subst (λ x. Both m (result_of s.kind (token_of (marks m.kept next)) (node_of next)).place (result_of s.kind (token_of (marks m.kept next)) (node_of next)).value) (sym c.value)
+          (subst (λ x. Both m (result_of s.kind (token_of x) (node_of next)).place (result_of s.kind (token_of x) (node_of next)).value) (sym c.marked) (cached, kept))
 
       go : (x : Bool) → (m.cached Head == first) ≡ x → Records s (if x then with_store m Head next else m) l
       go true e =
@@ -516,9 +516,9 @@ module _ (s : Shape) (m : Memory) (l : Ledger) (claimed waiting : List ℕ) (b :
   row_records (DequeueLoadValue p) h = r
   row_records (DequeueClaim p) h = claim_records p.token p.next h.0
   row_records (DequeueStoreResult p) h =
-      own_records (result_of s.kind (winner p.claimed.claim p.claimed.token) p.claimed.next p.claimed.value).place (result_of s.kind (winner p.claimed.claim p.claimed.token) p.claimed.next p.claimed.value).value (result_own s.kind (winner p.claimed.claim p.claimed.token) p.claimed.next p.claimed.value)
+      own_records (result_of s.kind (winner p.claimed.claim p.claimed.token) p.claimed.next).place (result_of s.kind (winner p.claimed.claim p.claimed.token) p.claimed.next).value (result_own s.kind (winner p.claimed.claim p.claimed.token) p.claimed.next)
       (harmless_result (winner p.claimed.claim p.claimed.token) p.claimed.next p.claimed.value h.1.marked h.1.some h.1.value)
-      (λ t e. absurd (subst IsAnswer (sym e) (result_answer s.kind (winner p.claimed.claim p.claimed.token) p.claimed.next p.claimed.value)))
+      (λ t e. absurd (subst IsAnswer (sym e) (result_answer s.kind (winner p.claimed.claim p.claimed.token) p.claimed.next)))
   row_records (DequeueMoveHead p) h = head_records p.claimed.first.0 p.claimed.next.0 p.claimed.value (winner p.claimed.claim p.claimed.token) h.1 h.2 h.3
 
 -- a client's call begins or ends

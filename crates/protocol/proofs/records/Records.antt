@@ -67,8 +67,8 @@ answered_grows a s m l n k h g stays r = record {
       let q : (p : ℕ) × (links m.kept p ≡ x) × (x ≢ 0) = path_linked (links m.kept) 0 r.passed r.path x i in
       let mark : marks n.kept x ≡ marks m.kept x = g.at_kept_mark x (r.claimed x i) in
       let value : values n.kept x ≡ values m.kept x = subst (λ y. values n.kept y ≡ values m.kept y) q.1 (g.at_linked q.0 (λ z. q.2 (sym q.1 ∙ z))) in
-      subst (λ v. Both n (result_of s.kind (token_of (marks n.kept x)) (node_of x) v).place (result_of s.kind (token_of (marks n.kept x)) (node_of x) v).value) (sym value)
-      (subst (λ t. Both n (result_of s.kind (token_of t) (node_of x) (values m.kept x)).place (result_of s.kind (token_of t) (node_of x) (values m.kept x)).value) (sym mark)
+      subst (λ v. Both n (result_of s.kind (token_of (marks n.kept x)) (node_of x)).place (result_of s.kind (token_of (marks n.kept x)) (node_of x)).value) (sym value)
+      (subst (λ t. Both n (result_of s.kind (token_of t) (node_of x)).place (result_of s.kind (token_of t) (node_of x)).value) (sym mark)
       (stays x (r.claimed x i) (r.answered x i)));
 }
 

@@ -71,8 +71,8 @@ module _ (s : Shape) (k : Place → ℕ) (p : Place) (v : ℕ) (h : MayKeep s k 
     answered = λ n i.
         let old : Both (memory_at_rest (put k p v)) (answer s (memory_at_rest k) n).place (answer s (memory_at_rest k) n).value =
         both_put (answer s (memory_at_rest k) n).place (answer s (memory_at_rest k) n).value (λ e. h.harmless.answers n (a.claimed n i) e) (a.answered n i) in
-        subst (λ y. Both (memory_at_rest (put k p v)) (result_of s.kind (token_of (marks (put k p v) n)) (node_of n) y).place (result_of s.kind (token_of (marks (put k p v) n)) (node_of n) y).value) (sym (h.value n))
-        (subst (λ t. Both (memory_at_rest (put k p v)) (result_of s.kind (token_of t) (node_of n) (values k n)).place (result_of s.kind (token_of t) (node_of n) (values k n)).value) (sym (h.mark n)) old);
+        subst (λ y. Both (memory_at_rest (put k p v)) (result_of s.kind (token_of (marks (put k p v) n)) (node_of n)).place (result_of s.kind (token_of (marks (put k p v) n)) (node_of n)).value) (sym (h.value n))
+        (subst (λ t. Both (memory_at_rest (put k p v)) (result_of s.kind (token_of t) (node_of n)).place (result_of s.kind (token_of t) (node_of n)).value) (sym (h.mark n)) old);
   }
 
   put_entry : (e : ℕ) → IsEntry (with_store (memory_at_rest k) p v) e → IsEntry (memory_at_rest k) e → IsEntry (memory_at_rest (put k p v)) e
@@ -282,7 +282,7 @@ module _ (s : Shape) (k : Place → ℕ) (claimed waiting : List ℕ) (queue : L
     of_kind = (log, some);
     fits = omega arith;
     harmless = record {
-      answers = λ x m e. absurd (subst IsAnswer e (result_answer s.kind (token_of (marks k x)) (node_of x) (values k x)));
+      answers = λ x m e. absurd (subst IsAnswer e (result_answer s.kind (token_of (marks k x)) (node_of x)));
       inserts = λ l x n e. absurd (cc);
       enqueues = λ l x n e. absurd (cc);
       dequeues = λ l x n e. absurd (cc);

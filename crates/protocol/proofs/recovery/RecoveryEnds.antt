@@ -48,23 +48,23 @@ use Rattle.protocol.proofs.recovery.Recovering.{put_tells, MayKeep, put_sound, p
 use Rattle.protocol.specs.invariants.Recovery.{Same, SameBut, TakenTo, Position, Ahead, Claim, LastClaimed, LastNode, At, AtKeeping, AtPoint, nothing_told}
 
 -- where a result belongs does not depend on the value, and what it is does in a durable queue alone
-result_place : (kind : Kind) (t : Token) (n : NodeId) (v x : ℕ) → (result_of kind t n v).place ≡ (result_of kind t n x).place
+result_place : (kind : Kind) (t : Token) (n : NodeId) (v x : ℕ) → (result_of kind t n).place ≡ (result_of kind t n).place
 result_place Durable t n v x = refl
 result_place Log t n v x = refl
 
-result_value : (kind : Kind) (t : Token) (n : NodeId) (v x : ℕ) → (kind ≡ Durable → v ≡ x) → (result_of kind t n v).value ≡ (result_of kind t n x).value
+result_value : (kind : Kind) (t : Token) (n : NodeId) (v x : ℕ) → (kind ≡ Durable → v ≡ x) → (result_of kind t n).value ≡ (result_of kind t n).value
 result_value Durable t n v x h = ap (λ y. y + 2) (h refl)
 result_value Log t n v x h = refl
 
-result_kind : (kind : Kind) (t : Token) (n : NodeId) (v : Value) → t.0 ≢ 0 → IsOfKind kind (result_of kind t n v).place
+result_kind : (kind : Kind) (t : Token) (n : NodeId) (v : Value) → t.0 ≢ 0 → IsOfKind kind (result_of kind t n).place
 result_kind Durable t n v some = (refl, some)
 result_kind Log t n v some = (refl, some)
 
-pub result_fits : (s : Shape) (kind : Kind) (t : Token) (n : NodeId) (v : Value) → (kind ≡ Durable → FitsValue v) → n.0 ≤ greatest s → Fits s (result_of kind t n v).place (result_of kind t n v).value
+pub result_fits : (s : Shape) (kind : Kind) (t : Token) (n : NodeId) (v : Value) → (kind ≡ Durable → FitsValue v) → n.0 ≤ greatest s → Fits s (result_of kind t n).place (result_of kind t n).value
 result_fits s Durable t n v h node = let small : FitsValue v = h refl in omega (arith, small)
 result_fits s Log t n v h node = node
 
-result_cell_right : (m : Memory) (kind : Kind) (t : Token) (n : NodeId) (v : Value) (c : ℕ) → marks m.kept n.0 ≡ t.0 → t.0 ≢ 0 → (kind ≡ Durable → v ≡ values m.kept n.0) → Cell (token_of c) ≡ (result_of kind t n v).place → CellRight m c (result_of kind t n v).value
+result_cell_right : (m : Memory) (kind : Kind) (t : Token) (n : NodeId) (v : Value) (c : ℕ) → marks m.kept n.0 ≡ t.0 → t.0 ≢ 0 → (kind ≡ Durable → v ≡ values m.kept n.0) → Cell (token_of c) ≡ (result_of kind t n).place → CellRight m c (result_of kind t n).value
 result_cell_right m Durable t n v c named some value e =
     let is : t ≡ token_of c = cc in
     λ x y. record { at = n.0; named = named ∙ ap (λ z. z.0) is; some = λ z. some (ap (λ q. q.0) is ∙ z); value = ap (λ q. q + 2) (value refl) }
@@ -93,13 +93,13 @@ path_chain k from (n ∷ ns) p z = (p.0, p.1, path_chain k n ns p.2 z)
 
 module _ (s : Shape) (k : Place → ℕ) (claimed waiting : List ℕ) (queue : List Value) (b : Sound s k claimed waiting queue) where
   -- a result of a claimed node
-  result_may : (node : NodeId) (mark : Token) (v : ℕ) → Claim s k claimed node.0 mark.0 → (s.kind ≡ Durable → v ≡ values k node.0) → MayKeep s k (result_of s.kind mark node v).place (result_of s.kind mark node v).value
+  result_may : (node : NodeId) (mark : Token) (v : ℕ) → Claim s k claimed node.0 mark.0 → (s.kind ≡ Durable → v ≡ values k node.0) → MayKeep s k (result_of s.kind mark node).place (result_of s.kind mark node).value
   result_may node mark v c value =
-      let p : Place = (result_of s.kind mark node v).place in
-      let word : IsAnswer (result_of s.kind mark node v).place = result_answer s.kind mark node v in
-      let own : IsOwnWord (result_of s.kind mark node v).place = result_own s.kind mark node v in
-      let other : (q : Place) → (IsAnswer q → ⊥) → put k (result_of s.kind mark node v).place (result_of s.kind mark node v).value q ≡ k q = λ q none.
-      put_other k (result_of s.kind mark node v).place (result_of s.kind mark node v).value q (λ e. none (subst IsAnswer (sym e) word)) in
+      let p : Place = (result_of s.kind mark node).place in
+      let word : IsAnswer (result_of s.kind mark node).place = result_answer s.kind mark node in
+      let own : IsOwnWord (result_of s.kind mark node).place = result_own s.kind mark node in
+      let other : (q : Place) → (IsAnswer q → ⊥) → put k (result_of s.kind mark node).place (result_of s.kind mark node).value q ≡ k q = λ q none.
+      put_other k (result_of s.kind mark node).place (result_of s.kind mark node).value q (λ e. none (subst IsAnswer (sym e) word)) in
       let linked : links k c.cur ≢ 0 = λ z. c.ahead.some (sym c.ahead.link ∙ z) in
       let fit : node.0 ≤ greatest s = subst (λ x. x ≤ greatest s) c.ahead.link (b.fits (Next (node_of c.cur)) tt) in
       let small : s.kind ≡ Durable → FitsValue v = λ d. subst FitsValue (sym (value d)) (values_fit k node.0 (b.fits (Item node First) tt)) in
@@ -113,32 +113,32 @@ module _ (s : Shape) (k : Place → ℕ) (claimed waiting : List ℕ) (queue : L
         head = subst (AnsweredTo s (memory_at_rest k)) (sym (other Head (λ q. q))) (b.records queue).to_head;
         tail = subst (λ x. LeadsTo (links k) x 0) (sym (other Tail (λ q. q))) b.tail;
         silent = λ x says. silent x s.kind refl says;
-        says = λ x says. elim (put_cases k (result_of s.kind mark node v).place (result_of s.kind mark node v).value (empty_answer_of s.kind (token_of x)).place) [
+        says = λ x says. elim (put_cases k (result_of s.kind mark node).place (result_of s.kind mark node).value (empty_answer_of s.kind (token_of x)).place) [
           | inl t ↦
-              let is : x ≡ mark.0 = sym (empty_number s.kind (token_of x)) ∙ ap number_of t.0 ∙ result_number s.kind mark node v in
+              let is : x ≡ mark.0 = sym (empty_number s.kind (token_of x)) ∙ ap number_of t.0 ∙ result_number s.kind mark node in
               absurd (b.silent node.0 claimed_mark (subst (SaysEmpty s k) (is ∙ sym c.marked) says))
           | inr t ↦ t.1 ∙ says
         ];
         kind = λ x. other (EntryKind (token_of x)) (λ q. q);
         number = λ x. other (Number (token_of x)) (λ q. q);
-        issued = λ of ne. subst (IsIssued s k) (c.marked ∙ sym (result_number s.kind mark node v)) (b.issued_mark node.0 claimed_mark);
+        issued = λ of ne. subst (IsIssued s k) (c.marked ∙ sym (result_number s.kind mark node)) (b.issued_mark node.0 claimed_mark);
         of_kind = result_kind s.kind mark node v c.some;
         fits = result_fits s s.kind mark node v small fit;
         harmless = record {
           answers = λ x h at.
-              let same : marks k x ≡ mark.0 = sym (result_number s.kind (token_of (marks k x)) (node_of x) (values k x)) ∙ ap number_of at ∙ result_number s.kind mark node v in
+              let same : marks k x ≡ mark.0 = sym (result_number s.kind (token_of (marks k x)) (node_of x)) ∙ ap number_of at ∙ result_number s.kind mark node in
               let is : x ≡ node.0 = b.one_mark x node.0 h (same ∙ sym c.marked) in
-              ap (λ q. (result_of s.kind (token_of q) (node_of x) (values k x)).value) same
-              ∙ ap (λ q. (result_of s.kind mark (node_of q) (values k q)).value) is
+              ap (λ q. (result_of s.kind (token_of q) (node_of x)).value) same
+              ∙ ap (λ q. (result_of s.kind mark (node_of q)).value) is
               ∙ sym (result_value s.kind mark node v (values k node.0) value);
           inserts = λ l x n e. absurd (subst IsAnswer (sym e) word);
           enqueues = λ l x n e. absurd (subst IsAnswer (sym e) word);
           dequeues = λ l x n e. absurd (subst IsAnswer (sym e) word);
           empties = λ x t e. absurd (subst IsAnswer (sym e) word);
           entries = λ l t e n at entry.
-              entry_stored (memory_at_rest k) (result_of s.kind mark node v).place (result_of s.kind mark node v).value e (λ q. subst IsAnswer (sym q) word) (λ q. subst IsAnswer (sym q) word)
+              entry_stored (memory_at_rest k) (result_of s.kind mark node).place (result_of s.kind mark node).value e (λ q. subst IsAnswer (sym q) word) (λ q. subst IsAnswer (sym q) word)
               (λ q one.
-              let is : e ≡ mark.0 = ap number_of q ∙ result_number s.kind mark node v in
+              let is : e ≡ mark.0 = ap number_of q ∙ result_number s.kind mark node in
               let two : Both (memory_at_rest k) (EntryKind (token_of (marks k node.0))) 2 = (b.records queue).dequeued l node.0 claimed_mark in
               absurd (one_two (k (EntryKind (token_of e))) one.0 (ap (λ x. k (EntryKind (token_of x))) (is ∙ sym c.marked) ∙ two.0))) entry;
           cell = λ x e. result_cell_right (memory_at_rest k) s.kind mark node v x c.marked c.some value e;
@@ -150,19 +150,19 @@ module _ (s : Shape) (k : Place → ℕ) (claimed waiting : List ℕ) (queue : L
         status = λ l x one. other (Status (token_of x)) (λ q. q) ∙ one;
       }
     where
-      silent : (x : ℕ) (kind : Kind) → s.kind ≡ kind → SaysEmpty s (put k (result_of s.kind mark node v).place (result_of s.kind mark node v).value) x → SaysEmpty s k x
+      silent : (x : ℕ) (kind : Kind) → s.kind ≡ kind → SaysEmpty s (put k (result_of s.kind mark node).place (result_of s.kind mark node).value) x → SaysEmpty s k x
       silent x Durable e says =
-          let one : cells (put k (result_of s.kind mark node v).place (result_of s.kind mark node v).value) x ≡ 1 = (cell_says s (put k (result_of s.kind mark node v).place (result_of s.kind mark node v).value) (token_of x) e).0 says in
-          elim (put_cases k (result_of s.kind mark node v).place (result_of s.kind mark node v).value (Cell (token_of x))) [
+          let one : cells (put k (result_of s.kind mark node).place (result_of s.kind mark node).value) x ≡ 1 = (cell_says s (put k (result_of s.kind mark node).place (result_of s.kind mark node).value) (token_of x) e).0 says in
+          elim (put_cases k (result_of s.kind mark node).place (result_of s.kind mark node).value (Cell (token_of x))) [
             | inl t ↦
-                let two : (result_of s.kind mark node v).value ≡ v + 2 = ap (λ q. (result_of q mark node v).value) e in
+                let two : (result_of s.kind mark node).value ≡ v + 2 = ap (λ q. (result_of q mark node).value) e in
                 absurd (omega (arith, sym one ∙ t.1, two))
             | inr t ↦ (cell_says s k (token_of x) e).1 (sym t.1 ∙ one)
           ]
       silent x Log e says =
-          let two : statuses (put k (result_of s.kind mark node v).place (result_of s.kind mark node v).value) x ≡ 2 = (status_says s (put k (result_of s.kind mark node v).place (result_of s.kind mark node v).value) (token_of x) e).0 says in
-          let other : statuses (put k (result_of s.kind mark node v).place (result_of s.kind mark node v).value) x ≡ statuses k x =
-          put_other k (result_of s.kind mark node v).place (result_of s.kind mark node v).value (Status (token_of x)) (λ q. subst IsAnswer (sym q) (result_answer s.kind mark node v)) in
+          let two : statuses (put k (result_of s.kind mark node).place (result_of s.kind mark node).value) x ≡ 2 = (status_says s (put k (result_of s.kind mark node).place (result_of s.kind mark node).value) (token_of x) e).0 says in
+          let other : statuses (put k (result_of s.kind mark node).place (result_of s.kind mark node).value) x ≡ statuses k x =
+          put_other k (result_of s.kind mark node).place (result_of s.kind mark node).value (Status (token_of x)) (λ q. subst IsAnswer (sym q) (result_answer s.kind mark node)) in
           (status_says s k (token_of x) e).1 (sym other ∙ two)
 
   -- an answered node is 0 or claimed
@@ -257,17 +257,17 @@ module _ (s : Shape) (m : Memory) (claimed waiting : List ℕ) (queue : List Val
         ap (statuses (with_fence m (Status (token_of entry))).kept) (sym same) ∙ put_same m.kept (Status (token_of entry)) (m.cached (Status (token_of entry))) ∙ now,
       )
 
-  kept_result : (node : NodeId) (mark : Token) (v : ℕ) → m.cached (result_of s.kind mark node v).place ≡ (result_of s.kind mark node v).value → Claim s m.kept claimed node.0 mark.0 → (s.kind ≡ Durable → v ≡ values m.kept node.0)
-      → Sound s (with_fence m (result_of s.kind mark node v).place).kept claimed waiting queue × Claim s (with_fence m (result_of s.kind mark node v).place).kept claimed node.0 mark.0
-      × (s.kind ≡ Durable → v ≡ values (with_fence m (result_of s.kind mark node v).place).kept node.0)
+  kept_result : (node : NodeId) (mark : Token) (v : ℕ) → m.cached (result_of s.kind mark node).place ≡ (result_of s.kind mark node).value → Claim s m.kept claimed node.0 mark.0 → (s.kind ≡ Durable → v ≡ values m.kept node.0)
+      → Sound s (with_fence m (result_of s.kind mark node).place).kept claimed waiting queue × Claim s (with_fence m (result_of s.kind mark node).place).kept claimed node.0 mark.0
+      × (s.kind ≡ Durable → v ≡ values (with_fence m (result_of s.kind mark node).place).kept node.0)
   kept_result node mark v now c value =
-      let may : MayKeep s m.kept (result_of s.kind mark node v).place (result_of s.kind mark node v).value = result_may s m.kept claimed waiting queue b node mark v c value in
-      let head : put m.kept (result_of s.kind mark node v).place (result_of s.kind mark node v).value Head ≡ m.kept Head =
-      put_other m.kept (result_of s.kind mark node v).place (result_of s.kind mark node v).value Head (λ e. subst IsAnswer (sym e) (result_answer s.kind mark node v)) in (
-        hand_sound (result_of s.kind mark node v).place (result_of s.kind mark node v).value now may,
-        subst (λ k. Claim s k claimed node.0 mark.0) (is_put (result_of s.kind mark node v).place (result_of s.kind mark node v).value now may)
-            (put_claim s m.kept (result_of s.kind mark node v).place (result_of s.kind mark node v).value may claimed node.0 mark.0 head c),
-        λ d. value d ∙ sym (ap value_of (put_other m.kept (result_of s.kind mark node v).place (m.cached (result_of s.kind mark node v).place) (Item node First) (λ e. subst IsAnswer (sym e) (result_answer s.kind mark node v)))),
+      let may : MayKeep s m.kept (result_of s.kind mark node).place (result_of s.kind mark node).value = result_may s m.kept claimed waiting queue b node mark v c value in
+      let head : put m.kept (result_of s.kind mark node).place (result_of s.kind mark node).value Head ≡ m.kept Head =
+      put_other m.kept (result_of s.kind mark node).place (result_of s.kind mark node).value Head (λ e. subst IsAnswer (sym e) (result_answer s.kind mark node)) in (
+        hand_sound (result_of s.kind mark node).place (result_of s.kind mark node).value now may,
+        subst (λ k. Claim s k claimed node.0 mark.0) (is_put (result_of s.kind mark node).place (result_of s.kind mark node).value now may)
+            (put_claim s m.kept (result_of s.kind mark node).place (result_of s.kind mark node).value may claimed node.0 mark.0 head c),
+        λ d. value d ∙ sym (ap value_of (put_other m.kept (result_of s.kind mark node).place (m.cached (result_of s.kind mark node).place) (Item node First) (λ e. subst IsAnswer (sym e) (result_answer s.kind mark node)))),
       )
 
   kept_head : (cur : ℕ) (n : Option NodeId) → m.cached Head ≡ cur → LastClaimed s m.kept claimed cur n → Sound s (with_fence m Head).kept claimed waiting queue × LastClaimed s (with_fence m Head).kept claimed cur n
@@ -303,12 +303,12 @@ module _ (s : Shape) (m : Memory) (claimed waiting : List ℕ) (queue : List Val
           subst (λ x. KeptInHand (with_fence m x) (KeepStatus q)) (sym t.0) now
       | inr t ↦ absurd (ne (sym (a.0 p t.0)))
     ]
-    keep_in_hand p ne (KeepResult q) a = elim (put_cases m.kept (result_of s.kind q.mark q.node q.value).place 0 p) [
+    keep_in_hand p ne (KeepResult q) a = elim (put_cases m.kept (result_of s.kind q.mark q.node).place 0 p) [
       | inl t ↦
-          let r : Sound s (with_fence m (result_of s.kind q.mark q.node q.value).place).kept claimed waiting queue × Claim s (with_fence m (result_of s.kind q.mark q.node q.value).place).kept claimed q.node.0 q.mark.0
-          × (s.kind ≡ Durable → q.value ≡ values (with_fence m (result_of s.kind q.mark q.node q.value).place).kept q.node.0) = kept_result q.node q.mark q.value a.1 a.2 a.3 in
-          let now : KeptInHand (with_fence m (result_of s.kind q.mark q.node q.value).place) (KeepResult q) =
-          record { sound = r.0; at = (but_fenced (result_of s.kind q.mark q.node q.value).place a.0, a.1, r.1, r.2, a.4) } in
+          let r : Sound s (with_fence m (result_of s.kind q.mark q.node).place).kept claimed waiting queue × Claim s (with_fence m (result_of s.kind q.mark q.node).place).kept claimed q.node.0 q.mark.0
+          × (s.kind ≡ Durable → q.value ≡ values (with_fence m (result_of s.kind q.mark q.node).place).kept q.node.0) = kept_result q.node q.mark q.value a.1 a.2 a.3 in
+          let now : KeptInHand (with_fence m (result_of s.kind q.mark q.node).place) (KeepResult q) =
+          record { sound = r.0; at = (but_fenced (result_of s.kind q.mark q.node).place a.0, a.1, r.1, r.2, a.4) } in
           subst (λ x. KeptInHand (with_fence m x) (KeepResult q)) (sym t.0) now
       | inr t ↦ absurd (ne (sym (a.0 p t.0)))
     ]
@@ -356,9 +356,9 @@ module _ (s : Shape) (m : Memory) (claimed waiting : List ℕ) (queue : List Val
           subst (λ x. MayKeep s m.kept x (m.cached x)) (sym t.0) (subst (MayKeep s m.kept (Status q.entry)) (sym a.1) may)
       | inr t ↦ absurd (ne (sym (a.0 p t.0)))
     ]
-    hand_may_in p ne (KeepResult q) a = elim (put_cases m.kept (result_of s.kind q.mark q.node q.value).place 0 p) [
+    hand_may_in p ne (KeepResult q) a = elim (put_cases m.kept (result_of s.kind q.mark q.node).place 0 p) [
       | inl t ↦ subst (λ x. MayKeep s m.kept x (m.cached x)) (sym t.0)
-          (subst (MayKeep s m.kept (result_of s.kind q.mark q.node q.value).place) (sym a.1) (result_may s m.kept claimed waiting queue b q.node q.mark q.value a.2 a.3))
+          (subst (MayKeep s m.kept (result_of s.kind q.mark q.node).place) (sym a.1) (result_may s m.kept claimed waiting queue b q.node q.mark q.value a.2 a.3))
       | inr t ↦ absurd (ne (sym (a.0 p t.0)))
     ]
     hand_may_in p ne (KeepHead q) a = elim (put_cases m.kept Head 0 p) [
@@ -481,27 +481,27 @@ module _ (s : Shape) (m : Memory) (claimed waiting : List ℕ) (queue : List Val
         go false h = record { sound = now.0; at = (same_after m (Status entry) a.0, h, λ l. now.1) }
 
     pub row_KeepResult : (node : NodeId) (mark : Token) (v : ℕ) → AtPoint s m claimed waiting told (FencePoint (KeepResult (record { node = node; mark = mark; value = v })))
-        → RecoversAt s (with_fence m (result_of s.kind mark node v).place) claimed waiting queue told (RecoveryLoadNext (record { cur = node; moved = false }))
+        → RecoversAt s (with_fence m (result_of s.kind mark node).place) claimed waiting queue told (RecoveryLoadNext (record { cur = node; moved = false }))
     row_KeepResult node mark v a =
-        let p : Place = (result_of s.kind mark node v).place in
-        let r : Sound s (with_fence m (result_of s.kind mark node v).place).kept claimed waiting queue × Claim s (with_fence m (result_of s.kind mark node v).place).kept claimed node.0 mark.0
-        × (s.kind ≡ Durable → v ≡ values (with_fence m (result_of s.kind mark node v).place).kept node.0) = kept_result node mark v a.1 a.2 a.3 in
-        let k : Place → ℕ = (with_fence m (result_of s.kind mark node v).place).kept in
-        let x : ℕ = values (with_fence m (result_of s.kind mark node v).place).kept node.0 in
-        let at : (with_fence m (result_of s.kind mark node v).place).kept (result_of s.kind mark node v).place ≡ (result_of s.kind mark node v).value =
-        put_same m.kept (result_of s.kind mark node v).place (m.cached (result_of s.kind mark node v).place) ∙ a.1 in
-        let right : (with_fence m (result_of s.kind mark node v).place).kept (result_of s.kind mark node (values (with_fence m (result_of s.kind mark node v).place).kept node.0)).place
-        ≡ (result_of s.kind mark node (values (with_fence m (result_of s.kind mark node v).place).kept node.0)).value =
-        ap (with_fence m (result_of s.kind mark node v).place).kept (result_place s.kind mark node (values (with_fence m (result_of s.kind mark node v).place).kept node.0) v) ∙ at
-        ∙ result_value s.kind mark node v (values (with_fence m (result_of s.kind mark node v).place).kept node.0) r.2 in
-        let answered : IsAnswered s (memory_at_rest (with_fence m (result_of s.kind mark node v).place).kept) node.0 =
-        subst (λ t. Both (memory_at_rest (with_fence m (result_of s.kind mark node v).place).kept) (result_of s.kind (token_of t) node (values (with_fence m (result_of s.kind mark node v).place).kept node.0)).place
-        (result_of s.kind (token_of t) node (values (with_fence m (result_of s.kind mark node v).place).kept node.0)).value) (sym r.1.marked) (right, right) in
+        let p : Place = (result_of s.kind mark node).place in
+        let r : Sound s (with_fence m (result_of s.kind mark node).place).kept claimed waiting queue × Claim s (with_fence m (result_of s.kind mark node).place).kept claimed node.0 mark.0
+        × (s.kind ≡ Durable → v ≡ values (with_fence m (result_of s.kind mark node).place).kept node.0) = kept_result node mark v a.1 a.2 a.3 in
+        let k : Place → ℕ = (with_fence m (result_of s.kind mark node).place).kept in
+        let x : ℕ = values (with_fence m (result_of s.kind mark node).place).kept node.0 in
+        let at : (with_fence m (result_of s.kind mark node).place).kept (result_of s.kind mark node).place ≡ (result_of s.kind mark node).value =
+        put_same m.kept (result_of s.kind mark node).place (m.cached (result_of s.kind mark node).place) ∙ a.1 in
+        let right : (with_fence m (result_of s.kind mark node).place).kept (result_of s.kind mark node).place
+        ≡ (result_of s.kind mark node).value =
+        ap (with_fence m (result_of s.kind mark node).place).kept (result_place s.kind mark node (values (with_fence m (result_of s.kind mark node).place).kept node.0) v) ∙ at
+        ∙ result_value s.kind mark node v (values (with_fence m (result_of s.kind mark node).place).kept node.0) r.2 in
+        let answered : IsAnswered s (memory_at_rest (with_fence m (result_of s.kind mark node).place).kept) node.0 =
+        subst (λ t. Both (memory_at_rest (with_fence m (result_of s.kind mark node).place).kept) (result_of s.kind (token_of t) node).place
+        (result_of s.kind (token_of t) node).value) (sym r.1.marked) (right, right) in
         record {
           sound = r.0;
           at = (
-            same_after m (result_of s.kind mark node v).place a.0,
-            answered_next s (memory_at_rest (with_fence m (result_of s.kind mark node v).place).kept) r.1.cur node.0 r.1.ahead.position r.1.ahead.link r.1.ahead.some (λ z. r.1.some (sym r.1.marked ∙ z)) answered,
+            same_after m (result_of s.kind mark node).place a.0,
+            answered_next s (memory_at_rest (with_fence m (result_of s.kind mark node).place).kept) r.1.cur node.0 r.1.ahead.position r.1.ahead.link r.1.ahead.some (λ z. r.1.some (sym r.1.marked ∙ z)) answered,
           );
         }
 

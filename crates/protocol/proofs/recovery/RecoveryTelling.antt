@@ -167,7 +167,7 @@ module _ (s : Shape) (m : Memory) (claimed waiting : List ℕ) (queue : List Val
       result at q =
           let claimed_now : IsAmong at claimed = b.back at (λ z. a.some (sym q ∙ z)) in
           let ans : IsAnswered s (memory_at_rest m.kept) at = all_answered t.all at claimed_now in
-          subst (λ x. m.kept (Cell (token_of x)) ≡ values m.kept at + 2) q (subst (λ x. m.kept (result_of x (token_of (marks m.kept at)) (node_of at) (values m.kept at)).place ≡ (result_of x (token_of (marks m.kept at)) (node_of at) (values m.kept at)).value) k ans.0)
+          subst (λ x. m.kept (Cell (token_of x)) ≡ values m.kept at + 2) q (subst (λ x. m.kept (result_of x (token_of (marks m.kept at)) (node_of at)).place ≡ (result_of x (token_of (marks m.kept at)) (node_of at)).value) k ans.0)
 
       by : (row : Row) → RowBy m.kept token.0 row → RowBy m.kept (announcements m.kept client.0) row
       by row h = subst (λ e. RowBy m.kept e row) (sym a.names) h
@@ -262,7 +262,7 @@ module _ (s : Shape) (m : Memory) (claimed waiting : List ℕ) (queue : List Val
       result at q =
           let claimed_now : IsAmong at claimed = b.back at (λ z. h.2.some (sym q ∙ z)) in
           let ans : IsAnswered s (memory_at_rest m.kept) at = all_answered h.1.all at claimed_now in
-          subst (λ x. m.kept (EntryNode (token_of x)) ≡ at) q (subst (λ x. m.kept (result_of x (token_of (marks m.kept at)) (node_of at) (values m.kept at)).place ≡ (result_of x (token_of (marks m.kept at)) (node_of at) (values m.kept at)).value) h.3 ans.0)
+          subst (λ x. m.kept (EntryNode (token_of x)) ≡ at) q (subst (λ x. m.kept (result_of x (token_of (marks m.kept at)) (node_of at)).place ≡ (result_of x (token_of (marks m.kept at)) (node_of at)).value) h.3 ans.0)
 
       go : (c : Bool) → (m.cached (EntryNode token) == 0) ≡ c → RecoversOn s m claimed waiting queue told (if c then report_of client (not_taken_as number)
           else More (RecoveryLoadRemovedValue (record { client = client; number = number; node = node_at (m.cached (EntryNode token)) })))

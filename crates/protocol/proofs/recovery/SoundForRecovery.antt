@@ -156,12 +156,12 @@ module _ (s : Shape) (k : Place → ℕ) (claimed waiting : List ℕ) (queue : L
 
   -- once the head has passed a node its answer is kept
   answered : (kind : Kind) → s.kind ≡ kind → (n : ℕ) → IsPassed s k n
-      → k (result_of kind (token_of (marks k n)) (node_of n) (values k n)).place ≡ (result_of kind (token_of (marks k n)) (node_of n) (values k n)).value
+      → k (result_of kind (token_of (marks k n)) (node_of n)).place ≡ (result_of kind (token_of (marks k n)) (node_of n)).value
   answered kind e n p =
       let a : AnsweredTo s (memory_at_rest k) (k Head) = r.to_head in
       let i : IsAmong n a.passed =
       passed_before (links k) 0 a.passed (claimed ++ waiting) n a.path b.chain (among n p.claimed.on_chain) (subst (λ x. LeadsTo (links k) x n) a.at p.leads) in
-      subst (λ x. k (result_of x (token_of (marks k n)) (node_of n) (values k n)).place ≡ (result_of x (token_of (marks k n)) (node_of n) (values k n)).value) e (a.answered n i).0
+      subst (λ x. k (result_of x (token_of (marks k n)) (node_of n)).place ≡ (result_of x (token_of (marks k n)) (node_of n)).value) e (a.answered n i).0
 
   rows_sound : s.kind ≡ Durable → RowsAreSound s k
   rows_sound d = record {

@@ -92,12 +92,12 @@ point_row s m claimed waiting queue b some told (FencePoint (KeepStatus p)) u a 
 point_row s m claimed waiting queue b some told (RecoveryLoadMark p) u a = row_LoadMark s m claimed waiting queue b told p.cur p.node a.0 a.1 a.2
 point_row s m claimed waiting queue b some told (RecoveryLoadValue p) u a = record { sound = b; at = (a.0, a.1, λ d. ap value_of (a.0 (Item p.node First)), subst FitsValue (sym (ap value_of (a.0 (Item p.node First)))) (values_fit m.kept p.node.0 (b.fits (Item p.node First) tt))) }
 point_row s m claimed waiting queue b some told (RecoveryStoreResult p) u a =
-    let place : Place = (result_of s.kind p.mark p.node p.value).place in
+    let place : Place = (result_of s.kind p.mark p.node).place in
     record {
       sound = b;
       at = (
-        but_stored m (result_of s.kind p.mark p.node p.value).place (result_of s.kind p.mark p.node p.value).value a.0,
-        put_same m.cached (result_of s.kind p.mark p.node p.value).place (result_of s.kind p.mark p.node p.value).value,
+        but_stored m (result_of s.kind p.mark p.node).place (result_of s.kind p.mark p.node).value a.0,
+        put_same m.cached (result_of s.kind p.mark p.node).place (result_of s.kind p.mark p.node).value,
         a.1,
         a.2,
         a.3,
@@ -553,7 +553,7 @@ module _ (s : Shape) (m : Memory) (claimed waiting : List ℕ) (queue : List Val
 
   -- where the result of a claimed node belongs
   result_word_fits : (node : NodeId) (mark : Token) (v : ℕ) → Claim s m.kept claimed node.0 mark.0 → (kind : Kind) → s.kind ≡ kind
-      → Fits s (result_of kind mark node v).place (m.kept (result_of kind mark node v).place)
+      → Fits s (result_of kind mark node).place (m.kept (result_of kind mark node).place)
   result_word_fits node mark v c Durable e = b.fits (Cell mark) tt
   result_word_fits node mark v c Log e =
       let two : entry_kinds m.kept mark.0 ≡ 2 = subst (λ x. entry_kinds m.kept x ≡ 2) c.marked ((b.records queue).dequeued e node.0 (λ z. c.some (sym c.marked ∙ z))).0 in
@@ -567,7 +567,7 @@ module _ (s : Shape) (m : Memory) (claimed waiting : List ℕ) (queue : List Val
   kept_fits : (k : RecoveryKeeping) → AtKeeping s m claimed k → Fits s (kept_place s.kind k) (m.cached (kept_place s.kind k))
   kept_fits (KeepStatus p) a = subst (λ x. x ≤ 2) (sym a.1) (omega arith)
   kept_fits (KeepResult p) a =
-      subst (Fits s (result_of s.kind p.mark p.node p.value).place) (sym a.1) (result_fits s s.kind p.mark p.node p.value (λ d. a.4) (link_fits a.2.cur p.node.0 a.2.ahead.link))
+      subst (Fits s (result_of s.kind p.mark p.node).place) (sym a.1) (result_fits s s.kind p.mark p.node p.value (λ d. a.4) (link_fits a.2.cur p.node.0 a.2.ahead.link))
   kept_fits (KeepHead p) a = subst (λ x. x ≤ greatest s) (sym a.1) (answered_fits p.cur.0 a.2.answered)
   kept_fits (KeepTail p) a = subst (λ x. x ≤ greatest s) (sym a.1.cached) (taken_fits a.1.cur a.1.last.taken)
 
@@ -582,7 +582,7 @@ module _ (s : Shape) (m : Memory) (claimed waiting : List ℕ) (queue : List Val
   reads_fit_at told (RecoveryLoadMark p) a = same_fits a.0 (Mark p.node) tt
   reads_fit_at told (RecoveryLoadValue p) a = same_fits a.0 (Item p.node First) tt
   reads_fit_at told (RecoveryStoreResult p) a =
-      subst (Fits s (result_of s.kind p.mark p.node p.value).place) (sym (a.0 (result_of s.kind p.mark p.node p.value).place)) (result_word_fits p.node p.mark p.value a.1 s.kind refl)
+      subst (Fits s (result_of s.kind p.mark p.node).place) (sym (a.0 (result_of s.kind p.mark p.node).place)) (result_word_fits p.node p.mark p.value a.1 s.kind refl)
   reads_fit_at told (RecoveryStoreHead p) a = same_fits a.0 Head tt
   reads_fit_at told (RecoveryStoreTail p) a = same_fits a.0 Tail tt
   reads_fit_at told (FlushPoint k) a = kept_fits k a
@@ -610,7 +610,7 @@ module _ (s : Shape) (m : Memory) (claimed waiting : List ℕ) (queue : List Val
   -- each word that calls will read is in range
   all_fit_but : (k : RecoveryKeeping) → AtKeeping s m claimed k → AllFit s m.cached
   all_fit_but (KeepStatus p) a = but_fits (Status p.entry) a.0 (kept_fits (KeepStatus p) a)
-  all_fit_but (KeepResult p) a = but_fits (result_of s.kind p.mark p.node p.value).place a.0 (kept_fits (KeepResult p) a)
+  all_fit_but (KeepResult p) a = but_fits (result_of s.kind p.mark p.node).place a.0 (kept_fits (KeepResult p) a)
   all_fit_but (KeepHead p) a = but_fits Head a.0 (kept_fits (KeepHead p) a)
   all_fit_but (KeepTail p) a = but_fits Tail a.0 (kept_fits (KeepTail p) a)
 
