@@ -9,5 +9,6 @@ mod sequence;
 
 pub use event::{Effect, Entry, Event, History, Order};
 pub use keeping::{keep_settled, order};
+pub use kept::copied;
 pub use list::Events;
 pub use sequence::Sequence;
