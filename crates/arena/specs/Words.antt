@@ -4,7 +4,7 @@ use Rattle.std.specs.Int.{w32, to_le_bytes}
 use Rattle.words.specs.Item.{AreParts, item_of, first_word, second_word, third_word}
 use Rattle.words.specs.PlainQueue.{Value, FitsValue}
 use Rattle.words.proofs.Items.{parts_again}
-use Rattle.words.proofs.Parts.{item_fits}
+use Rattle.words.proofs.Parts.{item_fits, parts_are}
 use Rattle.arena.specs.Form.{Form, running}
 use Rattle.arena.specs.Form.Form.{OfValues, OfItems}
 use Rattle.arena.specs.declared.place.Write.{Write}
@@ -40,6 +40,12 @@ pub item_again : (item : Value) → FitsValue item
     → value_of (item_part item Length) (item_part item First) (item_part item Second) (item_part item Third) ≡ item
 unfolding value_of item_part
 item_again item fits = parts_again item fits
+
+-- they are an item's
+pub item_parts : (item : Value) → FitsValue item
+    → AreParts (item_part item Length) (item_part item First) (item_part item Second) (item_part item Third)
+unfolding item_part
+item_parts item fits = parts_are item fits
 
 -- the message of a node: the item of its parts, and in the form of values the four bytes of its one word
 abbrev pub values_in : Form → (Place → ℕ) → ℕ → Value

@@ -1,12 +1,13 @@
 -- Which lengths and words are those of an item.
 use Rattle.std.proofs.Common.{◌≡◌, ℕ, zero, suc, ◌+◌, ◌-◌, ◌<◌, ◌≤◌, ◌⊎◌, inl, inr, List, [], ◌∷◌, ◌++◌, length, true, take, drop, get_or, refl, sym, ap, ◌∙◌, subst, arith}
-use Rattle.std.specs.Prelude.{replicate, min, IsTrue, ◌↔◌}
+use Rattle.std.specs.Prelude.{replicate, min, IsTrue, ◌↔◌, Bool, ◌&&◌, true, false, nat_le, nat_lt}
 use Rattle.std.specs.List.{list_all}
 use Rattle.std.specs.Int.{w64, to_le_bytes}
-use Rattle.std.proofs.lemmas.Bool.{cases_lt, eqb-true}
+use Rattle.std.proofs.lemmas.Bool.{cases_lt, eqb-true, ltb-true, lt-ltb, leb-true, le-leb}
 use Rattle.std.proofs.lemmas.List.Sums.{AllPass-from_list_all}
 use Rattle.std.proofs.lemmas.List.{get_or-append_right, get_or-drop, get_or_past, length-take}
 use Rattle.words.specs.Item.{AreParts, IsItem, item_of, item_row, row_of, first_word, second_word, third_word, is_zero}
+use Rattle.words.specs.PlainQueue.{Value, FitsValue, fits_value}
 use Rattle.words.proofs.Items.{zeros, row_again, bytes_taken}
 
 -- a list is the other one but that some of its numbers are 0
@@ -122,3 +123,31 @@ parts_told len a b c short =
       },
       λ are. zeros_all (drop len row) (λ k. get_or-drop len row k 0 ∙ are.padded (len + k) (omega arith)),
     )
+
+-- ---- which bytes are an item's
+
+both_true : (a b : Bool) → (a && b) ≡ true → (a ≡ true) × (b ≡ true)
+both_true true b is = (refl, is)
+both_true false b is = absurd (cc)
+
+byte_at : (xs : List ℕ) → list_all (λ byte. nat_lt byte 256) xs ≡ true → (k : ℕ) → get_or xs k 0 < 256
+byte_at xs all k = go (cases_lt k (length xs))
+  where
+    go : (k < length xs) ⊎ (length xs ≤ k) → get_or xs k 0 < 256
+    go (inl below) = ltb-true _ _ (AllPass-from_list_all (λ byte. nat_lt byte 256) xs all k 0 below)
+    go (inr past) = rw (get_or_past xs k 0 past) (omega arith)
+
+bytes_all : (xs : List ℕ) → ((k : ℕ) → get_or xs k 0 < 256) → list_all (λ byte. nat_lt byte 256) xs ≡ true
+bytes_all [] bytes = refl
+bytes_all (x ∷ xs) bytes =
+    let first : nat_lt x 256 ≡ true = lt-ltb x 256 (bytes 0) in
+    let rest = bytes_all xs (λ k. bytes (suc k)) in
+    rw (first, rest) refl
+
+pub fits_told : (value : Value) → fits_value value ≡ true → FitsValue value
+fits_told value told =
+    let parts = both_true (nat_le (length value) 24) (list_all (λ byte. nat_lt byte 256) value) told in
+    record { short = leb-true (length value) 24 parts.0; bytes = byte_at value parts.1 }
+
+pub fits_tells : (value : Value) → FitsValue value → fits_value value ≡ true
+fits_tells value fits = rw (le-leb (length value) 24 fits.short, bytes_all value fits.bytes) refl

@@ -1,5 +1,6 @@
 -- What holds of the words and the log at every moment of a ready queue.
 use Rattle.std.specs.Prelude.{◌≡◌, ◌≢◌, ◌≤◌, ◌⊎◌, ◌∷◌, ◌++◌, List, map, ℕ}
+use Rattle.words.specs.PlainQueue.{Value}
 use Rattle.words.specs.declared.call.Call.TheVariants.{Deq, Enq}
 use Rattle.words.specs.declared.call.Reply.TheVariants.{Done, Empty, Got}
 use Rattle.arena.specs.Chain.{IsAmong, LeadsTo}
@@ -39,7 +40,7 @@ pub record IsMessage (m : Memory) (n : ℕ) : Type 0 where
       → part_at m.kept n Length ≡ part_at m.cached n Length
 
 -- an enqueue that linked its node c, which is not kept
-pub record IsLinking (s : Shape) (l : Ledger) (value : ℕ → ℕ) (c : ℕ) : Type 0 where
+pub record IsLinking (s : Shape) (l : Ledger) (value : ℕ → Value) (c : ℕ) : Type 0 where
   pub holds : held_token l (owner s c) ≡ c
   pub asks : asked_call l (owner s c) ≡ Enq (value c)
   pub unmoved : l.stage (owner s c) ≡ Unmoved

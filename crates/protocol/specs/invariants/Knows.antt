@@ -4,6 +4,7 @@ use Rattle.words.specs.PlainQueue.{Value}
 use Rattle.words.specs.declared.call.Call.TheVariants.{Deq, Enq}
 use Rattle.words.specs.declared.call.Kind.TheVariants.{Log}
 use Rattle.words.specs.declared.call.Reply.{Reply}
+use Rattle.words.specs.declared.call.NodeId.{NodeId}
 use Rattle.words.specs.declared.call.Token.{Token}
 use Rattle.arena.specs.Answers.{result_of}
 use Rattle.arena.specs.Chain.{LeadsTo}
@@ -12,7 +13,7 @@ use Rattle.arena.specs.Shape.{Shape, owner}
 use Rattle.arena.specs.Words.{IsWritten, announcements, bumps, links, marks, part_at, values}
 use Rattle.arena.specs.declared.place.Part.{Part}
 use Rattle.arena.specs.declared.place.Place.{Place}
-use Rattle.arena.specs.declared.place.Place.TheVariants.{Announcement, Head, Tail}
+use Rattle.arena.specs.declared.place.Place.TheVariants.{Announcement, Head, Tail, Item}
 use Rattle.arena.specs.declared.place.Write.{Write}
 use Rattle.stepper.specs.Loading.{IsLoaded}
 use Rattle.stepper.specs.Preparation.{IsBegun, preparation_of}
@@ -58,6 +59,9 @@ pub record Written (s : Shape) (m : Memory) (b : Begun) (index : ℕ) : Type 0 w
 abbrev pub Unwritten : Shape → Begun → ℕ → Place → Type 0
 Unwritten s b index p = (j : ℕ) (w : Write) → j ≤ index → slice_get (preparation_of s.kind b) j ≡ Some w → w.place ≢ p
 
+abbrev pub UnwrittenBelow : Shape → Begun → ℕ → Place → Type 0
+UnwrittenBelow s b index p = (j : ℕ) (w : Write) → j < index → slice_get (preparation_of s.kind b) j ≡ Some w → w.place ≢ p
+
 -- while it prepares its record
 pub record Preparing (s : Shape) (m : Memory) (l : Ledger) (i : ℕ) (b : Begun) (index : ℕ) (w : Write) : Type 0 where
   pub before : Before s m l i b.token.0
@@ -72,6 +76,10 @@ pub record Preparing (s : Shape) (m : Memory) (l : Ledger) (i : ℕ) (b : Begun)
       → (m.cached p ≡ 0) × (m.kept p ≡ 0)
   pub unannounced : Unwritten s b index (Announcement (record { 0 = i }))
       → (announcements m.cached i ≢ b.token.0) × (announcements m.kept i ≢ b.token.0)
+
+-- a word of its message that it is about to store is 0
+abbrev pub Unstored : Memory → Write → Type 0
+Unstored m w = (n : NodeId) (part : Part) → w.place ≡ Item n part → (m.cached w.place ≡ 0) × (m.kept w.place ≡ 0)
 
 -- its record is prepared: each word of it is kept
 pub record Prepared (s : Shape) (m : Memory) (b : Begun) : Type 0 where
@@ -155,7 +163,7 @@ KnowsKeeping s m l i (KeepResult p) =
 
 -- what client i's call knows where it waits
 abbrev pub Knows : Shape → Memory → Ledger → ℕ → Op → Type 0
-Knows s m l i (PrepareStore p) = Preparing s m l i p.begun p.index p.write
+Knows s m l i (PrepareStore p) = Preparing s m l i p.begun p.index p.write × Unstored m p.write
 Knows s m l i (PrepareFlush p) = Preparing s m l i p.begun p.index p.write × IsWritten m.cached p.write
 Knows s m l i (PrepareFence p) = Preparing s m l i p.begun p.index p.write × IsWritten m.cached p.write
 Knows s m l i (EnqueueLoadTail p) = Enqueuing s m l i p.node.0
