@@ -364,7 +364,7 @@ module _ (s : Shape) (k : Place → ℕ) (h : IsSound s k) (nowhere : (p : Place
   cell_right c some other =
       let place : (s.kind ≡ Durable) × IsRecord s c = is_place (Cell (token_of c)) some in
       let result : IsResult s k c = (rows place.0).results c place.1 (omega (arith, some, other)) in
-      record { at = result.node; named = result.claim.mark; some = λ z. absurd (omega (arith, place.1.0, z)); value = sym result.value }
+      record { at = result.node; named = result.claim.mark; some = λ z. absurd (omega (arith, place.1.0, z)); value = sym result.named }
 
   node_right : (c : ℕ) → NodeRight (memory_at_rest k) c (entry_nodes k c)
   node_right c kind some =

@@ -174,7 +174,7 @@ module _ (s : Shape) (m : Memory) (l : Ledger) (claimed waiting : List ℕ) (b :
         (λ i loose silent. upd_other l.stage (owner s (links m.cached n)) (Took Done) i (λ e. loose.link n (sym linking.holds ∙ ap (held_token l) (sym e))));
   }
 
-drop_map : (f : ℕ → ℕ) (xs : List ℕ) → map f (drop 1 xs) ≡ drop 1 (map f xs)
+drop_map : {X : Type 0} (f : ℕ → X) (xs : List ℕ) → map f (drop 1 xs) ≡ drop 1 (map f xs)
 drop_map f [] = refl
 drop_map f (x ∷ xs) = refl
 

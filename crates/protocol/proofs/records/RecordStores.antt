@@ -316,8 +316,8 @@ module _ (s : Shape) (m : Memory) (l : Ledger) (claimed waiting : List ℕ) (b :
           where
             go : (call : Call) → bg.call ≡ call → j < index
             go (Enq v) c =
-                let six : slice_get (preparation_of s.kind bg) 6 ≡ Some (announcement bg) = ap (λ y. slice_get (preparation_from y bg.call bg) 6) k ∙ ap (λ y. slice_get (preparation_from Log y bg) 6) c in
-                omega (arith, lt, last.last 6 (announcement bg) six)
+                let nine : slice_get (preparation_of s.kind bg) 9 ≡ Some (announcement bg) = ap (λ y. slice_get (preparation_from y bg.call bg) 9) k ∙ ap (λ y. slice_get (preparation_from Log y bg) 9) c in
+                omega (arith, lt, last.last 9 (announcement bg) nine)
             go Deq c =
                 let three : slice_get (preparation_of s.kind bg) 3 ≡ Some (announcement bg) = ap (λ y. slice_get (preparation_from y bg.call bg) 3) k ∙ ap (λ y. slice_get (preparation_from Log y bg) 3) c in
                 omega (arith, deq c, last.last 3 (announcement bg) three)

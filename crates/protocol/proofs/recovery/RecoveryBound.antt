@@ -10,6 +10,7 @@ use Rattle.words.specs.declared.call.NodeId.{NodeId}
 use Rattle.words.specs.declared.call.Token.{Token}
 use Rattle.words.specs.declared.call.Reply.TheVariants.{Done, Got, Empty}
 use Rattle.words.specs.declared.told.Told.{Told}
+use Rattle.words.specs.declared.told.Row.TheVariants.{Open, Empty as row_empty, Got as row_got}
 use Rattle.words.specs.declared.told.Told.TheVariants.{Row as told_row}
 use Rattle.arena.specs.Chain.{IsChain, IsAmong, walk}
 use Rattle.arena.specs.Shape.{Shape, greatest}
@@ -29,7 +30,7 @@ use Rattle.recover.specs.declared.point.RecoveryPoint.{RecoveryPoint}
 use Rattle.recover.specs.declared.point.Report.{Report}
 use Rattle.recover.specs.declared.point.RecoveryPoint.TheVariants.{RecoveryLoadHead, RecoveryLoadNext, RecoveryLoadInsert, RecoveryStoreStatus, RecoveryLoadMark, RecoveryStoreResult, RecoveryStoreHead, RecoveryStoreTail, RecoveryLoadAnnouncement, RecoveryLoadCell, RecoveryLoadGot, RecoveryLoadNumber, RecoveryLoadKind, RecoveryLoadStatus, RecoveryLoadRemove, RecoveryLoadEntryNode, RecoveryLoadRemovedItem, Flush as FlushPoint, Fence as FencePoint}
 use Rattle.words.specs.declared.limits.TheConstants.{STEPS_PER_RECORD}
-use Rattle.stepper.specs.Steps.{keep_steps}
+use Rattle.stepper.specs.Steps.{keep_steps, load_steps}
 use Rattle.recover.specs.declared.keeping.RecoveryKeeping.{RecoveryKeeping}
 use Rattle.recover.specs.declared.keeping.RecoveryKeeping.TheVariants.{Status as KeepStatus, Result as KeepResult, Head as KeepHead, Tail as KeepTail}
 use Rattle.stepper.specs.declared.resume.After.{After}
@@ -94,7 +95,7 @@ module _ (s : Shape) (m : Memory) (claimed waiting : List ℕ) (queue : List Val
           ap length all ∙ ap suc (ap length (sym later) ∙ ap (rest s (links m.cached)) (sym d.0))
 
   -- the next client is told
-  told_less : (client : Client) (told : List Told) (x : Told) (n : ℕ) → client.0 < s.clients → steps_to_tell s client.0 ≤ n + 5 → IsLessOn s m.cached told (report_of client x) n
+  told_less : (client : Client) (told : List Told) (x : Told) (n : ℕ) → client.0 < s.clients → steps_to_tell s client.0 ≤ n + 8 → IsLessOn s m.cached told (report_of client x) n
   told_less client told x n lt le = go (nat_lt (client.0 + 1) s.clients)
     where
       go : (c : Bool) → IsLess s m.cached
@@ -180,18 +181,18 @@ module _ (s : Shape) (m : Memory) (claimed waiting : List ℕ) (queue : List Val
       go false false = omega (arith, lt)
 
   got_less : (client : Client) (node : NodeId) (loading : Loading) (told : List Told) (found : ℕ) → client.0 < s.clients
-      → IsLessOn s m.cached told (got_with (record { client = client; node = node; loading = loading }) (loaded_with loading found)) (steps_to_tell s client.0 - 6 + parts_left loading)
+      → IsLessOn s m.cached told (got_with (record { client = client; node = node; loading = loading }) (loaded_with loading found)) (steps_to_tell s client.0 - 2 - load_steps + parts_left loading)
   got_less client node at_length told found lt = omega (arith, lt)
   got_less client node (at_first len) told found lt = omega (arith, lt)
   got_less client node (at_second len one) told found lt = omega (arith, lt)
-  got_less client node (at_third len one two) told found lt = told_less client told (told_row (row_got (value_of len one two found))) (steps_to_tell s client.0 - 6 + 1) lt (omega (arith, lt))
+  got_less client node (at_third len one two) told found lt = told_less client told (told_row (row_got (value_of len one two found))) (steps_to_tell s client.0 - 2 - load_steps + 1) lt (omega (arith, lt))
 
   removed_less : (client : Client) (number : ℕ) (node : NodeId) (loading : Loading) (told : List Told) (found : ℕ) → client.0 < s.clients
-      → IsLessOn s m.cached told (removed_with (record { client = client; number = number; node = node; loading = loading }) (loaded_with loading found)) (steps_to_tell s client.0 - 9 + parts_left loading)
+      → IsLessOn s m.cached told (removed_with (record { client = client; number = number; node = node; loading = loading }) (loaded_with loading found)) (steps_to_tell s client.0 - 5 - load_steps + parts_left loading)
   removed_less client number node at_length told found lt = omega (arith, lt)
   removed_less client number node (at_first len) told found lt = omega (arith, lt)
   removed_less client number node (at_second len one) told found lt = omega (arith, lt)
-  removed_less client number node (at_third len one two) told found lt = told_less client told (taken_as number (Got (value_of len one two found))) (steps_to_tell s client.0 - 9 + 1) lt (omega (arith, lt))
+  removed_less client number node (at_third len one two) told found lt = told_less client told (taken_as number (Got (value_of len one two found))) (steps_to_tell s client.0 - 5 - load_steps + 1) lt (omega (arith, lt))
 
   store_less : (node : NodeId) (mark : Token) (kind : Kind) → s.kind ≡ kind
       → weight s (with_access m (access_of kind (RecoveryStoreResult (record { node = node; mark = mark })))).cached (FlushPoint (KeepResult (record { node = node; mark = mark }))) < weight s m.cached (RecoveryStoreResult (record { node = node; mark = mark }))

@@ -98,7 +98,7 @@ module _ (w : World) (v : Working w) where
         | inr ne ↦ go j ne (w.calls j) refl ∙ sym (upd_other (λ i. stage_of (w.calls i) w.log.effects) o st j ne)
       ]) in
       ap (λ (f : ℕ → Stage). let k : Ledger = record { begun = λ i. record_of_call (w.calls i); stage = f; queue = queue_of w.log.events w.base effects } in k) stages
-      ∙ ap (λ (q : List ℕ). let k : Ledger = record { begun = λ i. record_of_call (w.calls i); stage = upd (λ j. stage_of (w.calls j) w.log.effects) o st; queue = q } in k) same
+      ∙ ap (λ (q : List Value). let k : Ledger = record { begun = λ i. record_of_call (w.calls i); stage = upd (λ j. stage_of (w.calls j) w.log.effects) o st; queue = q } in k) same
     where
       go : (j : ℕ) → j ≢ o → (c : Option UnderWay) → w.calls j ≡ c → stage_of c effects ≡ stage_of c w.log.effects
       go j ne None e = refl

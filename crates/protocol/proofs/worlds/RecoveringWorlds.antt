@@ -1,5 +1,5 @@
 -- A world that recovers: crashes, evictions and recovery's steps.
-use Rattle.std.proofs.Common.{◌≡◌, ◌≢◌, ℕ, ◌+◌, ◌≤◌, ◌<◌, ◌⊎◌, inl, inr, List, [], ◌∷◌, ◌++◌, length, Bool, true, false, if◌then◌else◌, ◌==◌, ◌&&◌, not, Option, Some, None, refl, sym, ◌∙◌, ap, subst, arith}
+use Rattle.std.proofs.Common.{◌≡◌, ◌≢◌, ℕ, ◌+◌, ◌-◌, ◌≤◌, ◌<◌, ◌⊎◌, inl, inr, List, [], ◌∷◌, ◌++◌, length, Bool, true, false, if◌then◌else◌, ◌==◌, ◌&&◌, not, Option, Some, None, refl, sym, ◌∙◌, ap, subst, arith}
 use Rattle.std.specs.Prelude.{slice_get, IfSome}
 use Rattle.std.proofs.lemmas.Bool.{cases_eq}
 use Rattle.std.proofs.lemmas.List.{length_push}
@@ -474,7 +474,7 @@ module _ (w : World) (r : Recovery) (v : Recovering w r) where
             stage = f;
             queue = queue_of (w.log.events ++ ready_event told ∷ []) w.base (after_fence w (kept_by (access_of w.shape.kind r.at)));
           } in k) (fun_ext unmoved_is)
-          ∙ ap (λ (q : List ℕ). let k : Ledger = record { begun = λ i. nobody; stage = λ i. Unmoved; queue = q } in k) e
+          ∙ ap (λ (q : List Value). let k : Ledger = record { begun = λ i. nobody; stage = λ i. Unmoved; queue = q } in k) e
 
   -- a step of recovery
   pub recovered_works : RecoveredTo (with_recovery_step w r) (next_recovery w r)

@@ -7,9 +7,10 @@ use Rattle.arena.specs.Chain.{IsAmong, LeadsTo}
 use Rattle.arena.specs.Place.{number_of}
 use Rattle.arena.specs.Ranges.{Fits, IsReadByCalls}
 use Rattle.arena.specs.Shape.{Shape, owner}
-use Rattle.arena.specs.Words.{announcements, bumps, links, marks, part_at, values, HoldsItem}
+use Rattle.arena.specs.Words.{announcements, bumps, links, marks, part_at, values}
 use Rattle.arena.specs.declared.place.Part.{Part}
-use Rattle.arena.specs.declared.place.Part.TheVariants.{Length}
+use Rattle.arena.specs.declared.place.Part.TheVariants.{Length, First, Second, Third}
+use Rattle.words.specs.Item.{AreParts}
 use Rattle.arena.specs.declared.place.Place.{Place}
 use Rattle.arena.specs.declared.place.Place.TheVariants.{Head, Tail}
 use Rattle.recover.specs.Sound.{IsIssued, IsOwn}
@@ -33,11 +34,13 @@ AllFit s f = (p : Place) → IsReadByCalls p → Fits s p (f p)
 
 -- the words of a node's message, whether it is linked or not: they are an item's; a kept one is as it is cached, or 0;
 -- and where one of the three words after the length is cached, the length is kept
-pub record IsMessage (m : Memory) (n : ℕ) : Type 0 where
-  pub item : HoldsItem m.cached n
-  pub stays : (part : Part) → (part_at m.kept n part ≡ part_at m.cached n part) ⊎ (part_at m.kept n part ≡ 0)
-  pub sized : (part : Part) → part ≢ Length → part_at m.cached n part ≢ 0
-      → part_at m.kept n Length ≡ part_at m.cached n Length
+pub record AreMessage (cached kept : Part → ℕ) : Type 0 where
+  pub item : AreParts (cached Length) (cached First) (cached Second) (cached Third)
+  pub stays : (part : Part) → (kept part ≡ cached part) ⊎ (kept part ≡ 0)
+  pub sized : (part : Part) → part ≢ Length → cached part ≢ 0 → kept Length ≡ cached Length
+
+abbrev pub IsMessage : Memory → ℕ → Type 0
+IsMessage m n = AreMessage (part_at m.cached n) (part_at m.kept n)
 
 -- an enqueue that linked its node c, which is not kept
 pub record IsLinking (s : Shape) (l : Ledger) (value : ℕ → Value) (c : ℕ) : Type 0 where
