@@ -16,6 +16,14 @@ pub fn item(number: u32) -> Item
     item
 }
 
+/// The number that a message stands for, and 0 of a shorter message.
+pub fn number_of(item: &Item) -> u32 {
+    match item.bytes().first_chunk::<4>() {
+        Some(bytes) => u32::from_le_bytes(*bytes),
+        None => 0,
+    }
+}
+
 /// What a client of a test asks for, as tables have it: an enqueue of the message of a number, or a dequeue.
 #[derive(Clone, Copy, Debug)]
 pub enum Wish {

@@ -16,7 +16,7 @@ pub mod steps;
 use arena::{SLOTS, SlotId};
 pub use draws::{below, index_below};
 use history::{Event, Events, check_content};
-pub use items::{Said, Wish, are_items, item};
+pub use items::{Said, Wish, are_items, item, number_of};
 use named::Broker;
 use std::alloc::{AllocError, Global};
 use words::Refusal;
