@@ -6,9 +6,9 @@ use arena::SlotId;
 use named::Broker;
 use std::alloc::Global;
 use std::test::Fail;
-use test_support::{are_explained, item};
 use test_support::brokers::{create, finish, not_taken, recover, restart, taken};
 use test_support::steps::{GATE_ASKED, LOG_CLAIM_ASKED, LOG_CLAIM_KEPT};
+use test_support::{are_explained, item};
 use words::{Call, Kind, Refusal, Reply, Row, Told, Value};
 
 /// A durable queue in slot 0 through which three values went, and a log queue in slot 1 whose dequeue stopped after so

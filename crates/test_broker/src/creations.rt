@@ -6,9 +6,9 @@ use directory::Name;
 use named::Broker;
 use std::alloc::Global;
 use std::test::Fail;
-use test_support::{are_explained, item};
 use test_support::brokers::{create, finish, restart};
 use test_support::steps::{CREATED, GATE_STORED};
+use test_support::{are_explained, item};
 use words::{Call, Kind, Refusal, Reply};
 
 /// The first word of slot 0 in the directory.

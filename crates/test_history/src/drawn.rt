@@ -44,6 +44,25 @@ impl Scene {
         }
     }
 
+    /// Adds an event.
+    fn add(&mut self, event: Event) -> Result<(), Fail> {
+        match event {
+            Event::Call {
+                client,
+                number,
+                call,
+            } => self.events.push(Event::Call {
+                client,
+                number,
+                call,
+            })?,
+            Event::Return { client, reply } => self.events.push(Event::Return { client, reply })?,
+            Event::Crash => self.events.push(Event::Crash)?,
+            Event::Ready { told } => self.events.push(Event::Ready { told })?,
+        }
+        Ok(())
+    }
+
     /// A client calls, if it has no call under way.
     fn call(&mut self, client: u8, value: u32) -> Result<(), Fail> {
         if self.down || self.under_way.iter().any(|one| one.client == client) {
@@ -59,7 +78,7 @@ impl Scene {
         } else {
             Wish::Deq
         };
-        self.events.push(Event::Call {
+        self.add(Event::Call {
             client: Client(client),
             number,
             call: wish.call(),
@@ -113,7 +132,7 @@ impl Scene {
         }
         let mut one = self.under_way.remove(index);
         if let Some(said) = one.said {
-            self.events.push(Event::Return {
+            self.add(Event::Return {
                 client: Client(one.client),
                 reply: said.reply(),
             })?;
@@ -135,11 +154,11 @@ impl Scene {
         if self.down {
             self.down = false;
             let told = copied(&self.told);
-            self.events.push(Event::Ready { told })?;
+            self.add(Event::Ready { told })?;
             return Ok(());
         }
         self.down = true;
-        self.events.push(Event::Crash)?;
+        self.add(Event::Crash)?;
         for _ in 0..self.under_way.len() {
             let Some(one) = self.under_way.pop() else {
                 break;

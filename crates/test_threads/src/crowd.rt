@@ -21,8 +21,8 @@ use std::sync::atomic::{AtomicU64, Ordering};
 use std::test::*;
 use std::thread::{Threads, join, map_vec};
 use std::time::Clock;
-use test_support::{below, item};
 use test_support::sessions::{create, new_session};
+use test_support::{below, item};
 use words::{Call, Kind, MAX_CLIENTS, Refusal};
 use workers::{Answer, End, Entry, Naming, Opened, Seat, Shared};
 

@@ -71,7 +71,14 @@ fn held<J: Naming + Send + Sync, R: Threads + Wait + Clock + Abort + Sync>(
         ask: asked_for(wish),
         steps: u64::from(story.steps),
     };
-    let ((zero, first), (one, second), in_time) = held_beside(rt, &shared, zero, hold, one, asked_for(other));
+    let ((zero, first), (one, second), in_time) = held_beside(
+        rt,
+        &shared,
+        zero,
+        hold,
+        one,
+        asked_for(other),
+    );
     assert!(rt; in_time);
     let (held, whole) = story.replies;
     assert_eq!(rt; second, Answer::Reply(whole.reply()));

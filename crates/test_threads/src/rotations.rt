@@ -47,7 +47,10 @@ fn rotated<J: Naming, R: Wait + Abort>(
     let (seats, rotated) = shared.rotate(rt, put_together(alloc, zero, one)?);
     assert_eq!(rt; rotated, Ok(()));
     assert!(rt; seats.iter().all(|seat| seat.list.is_empty()));
-    assert_eq!(rt; shared.told(rt, Client(0), A), told_of(2, Reply::Got(item(5))));
+    assert_eq!(rt;
+        shared.told(rt, Client(0), A),
+        told_of(2, Reply::Got(item(5)))
+    );
     assert_eq!(rt; shared.told(rt, Client(1), A), told_of(1, Reply::Done));
     Ok(seats)
 }
@@ -71,7 +74,10 @@ fn gone_on<J: Naming, R: Wait + Abort>(
     assert_eq!(rt; takes, Answer::Reply(Reply::Got(item(6))));
     let (zero, puts) = asked(rt, shared, zero, next());
     assert_eq!(rt; puts, DONE);
-    let of_zero = [last().repeated(Reply::Got(item(5))), next().ran(2, Reply::Done)];
+    let of_zero = [
+        last().repeated(Reply::Got(item(5))),
+        next().ran(2, Reply::Done),
+    ];
     assert!(rt; zero.list.as_slice() == of_zero.as_slice());
     assert!(rt; one.list.as_slice() == [last().ran(0, Reply::Got(item(6)))].as_slice());
     Ok(put_together(alloc, zero, one)?)
