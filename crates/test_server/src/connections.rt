@@ -74,7 +74,7 @@ fn beside_broken_ones<R: Net + Abort>(rt: &R, alloc: Global, address: SocketAddr
         }
         drop(unread);
         let put = format!(in alloc;
-            r#"{{"op":"put","client":1,"queue":"a","number":{number},"value":"0{number}"}}"#
+            r#"{{"op":"put","client":1,"queue":"a","number":{number},"value":"{number:02x}"}}"#
         ).expect(rt, "memory");
         assert!(rt; caller.is_replied(put.as_bytes(), DONE), "number {number}");
     }
