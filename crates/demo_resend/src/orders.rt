@@ -44,10 +44,14 @@ pub(crate) fn send(rt: &HostRuntime, session: &mut Session, number: u64, call: C
     let before = effects(session)?;
     let asked = asked(rt.alloc(), number, &call)?;
     match session.request(CLIENT, ORDERS, number, call) {
-        Ok(reply) if effects(session)? == before => {
-            println!(rt; "  the client sends {asked}: {reply} (the kept reply: nothing ran)")?;
+        Ok(reply) => {
+            let kept = if effects(session)? == before {
+                " (the kept reply: nothing ran)"
+            } else {
+                ""
+            };
+            println!(rt; "  the client sends {asked}: {reply}{kept}")?;
         }
-        Ok(reply) => println!(rt; "  the client sends {asked}: {reply}")?,
         Err(refusal) => println!(rt; "  the client sends {asked}: refused, {}", refusal.name())?,
     }
     Ok(())

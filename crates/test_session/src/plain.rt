@@ -175,7 +175,10 @@ impl Plain {
         };
         *last = last.saturating_add(1);
         let first = self.first(client, number);
-        let given = first.is_none() || first == Some(reply);
+        let given = match first {
+            Some(first) => first == reply,
+            None => true,
+        };
         let next = *last == number && call == call_of(client, number);
         Ok(given && next && left.serve(call)? == reply)
     }
