@@ -1,5 +1,5 @@
 -- Events as they are kept: what Readys tell stands in a list of its own.
-use Rattle.std.specs.Prelude.{ℕ, ◌<◌, ⊤, List, [], length, map, slice_index_or}
+use Rattle.std.specs.Prelude.{◌<◌, ⊤, List, [], length, map, slice_index_or}
 use Rattle.words.specs.declared.told.Told.{Told}
 use Rattle.events.specs.declared.event.Event.{Event}
 use Rattle.events.specs.declared.event.Event.TheVariants.{Call as call_event, Return as return_event}

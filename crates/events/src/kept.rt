@@ -4,7 +4,7 @@ ghost use Rattle.std.specs.Prelude.{◌≡◌, ◌<◌, ◌+◌, ◌++◌, ◌�
 ghost use Rattle.events.specs.Kept.{event_of, events_of, IsToldIn};
 
 use crate::event::Event;
-use words::{Call, Client, MAX_CLIENTS, Reply, Reports, Told};
+use words::{Call, Client, Reply, Reports};
 
 /// An event as it is kept.
 #[derive(Clone, Copy)]
@@ -62,13 +62,12 @@ pub(crate) fn event(tellings: &[Reports], kept: Kept) -> Event
     }
 }
 
-/// The same reports once more.
-pub fn copied(reports: &Reports) -> Reports
-    ensures { result ≡ reports.now }
+/// The same once more. The borrow checker sees no other way to copy an array, or a variable that is used again, where
+/// its type has a message somewhere within.
+pub fn copied<T: Copy>(value: &T) -> T
+    ensures { result ≡ value.now }
 {
-    let mut copy = [Told::None; MAX_CLIENTS];
-    copy.copy_from_slice(reports);
-    copy
+    *value
 }
 
 /// The event that is kept at a place.

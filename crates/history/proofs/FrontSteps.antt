@@ -6,7 +6,7 @@ use Rattle.std.proofs.lemmas.List.{drop_more, drop_all, get_or-take, take_more, 
 use Rattle.std.proofs.lemmas.Option.{slice_get-get_or}
 use Rattle.std.proofs.lemmas.List.Concat.{flat_map-append}
 use Rattle.words.specs.declared.call.Call.{Call}
-use Rattle.words.specs.declared.call.Call.TheVariants.{Enq, Deq}
+use Rattle.words.specs.declared.call.Call.TheVariants.{Deq}
 use Rattle.words.specs.declared.call.Reply.{Reply}
 use Rattle.words.specs.PlainQueue.{Value, reply_of}
 use Rattle.events.specs.declared.event.Event.{Event}

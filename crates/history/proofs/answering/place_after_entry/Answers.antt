@@ -1,6 +1,5 @@
-use Rattle.std.proofs.Common.{rules, arith, ◌≡◌, ◌<◌, length, get_or, IsTrue, ap, sym, ◌∙◌}
+use Rattle.std.proofs.Common.{arith, ◌<◌, length, ap, sym, ◌∙◌}
 use Rattle.std.proofs.lemmas.Option.{slice_get_within}
-use Rattle.words.specs.declared.call.Reply.TheVariants.{Done}
 use Rattle.events.specs.declared.event.Entry.{Entry}
 use Rattle.history.proofs.AnswerSteps.{not_taken_here, none_more}
 use Rattle.history.proofs.answering.place_after_entry.Goals as goal

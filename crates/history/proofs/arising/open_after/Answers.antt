@@ -1,4 +1,4 @@
-use Rattle.std.proofs.Common.{rules, arith, ◌≡◌, ◌<◌, ⊎_elim, subst}
+use Rattle.std.proofs.Common.{rules, arith, ◌≡◌, ⊎_elim, subst}
 use Rattle.std.proofs.lemmas.Bool.{cases_lt}
 use Rattle.events.specs.History.{BeginsAt}
 use Rattle.history.proofs.arising.open_after.Goals as goal

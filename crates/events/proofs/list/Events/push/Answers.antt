@@ -1,4 +1,3 @@
-use Rattle.std.proofs.Common.{rules}
 use Rattle.events.proofs.KeptEvents.{events_pushed}
 use Rattle.events.proofs.list.Events.push.Goals as goal
 
