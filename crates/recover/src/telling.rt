@@ -5,7 +5,9 @@ ghost use Rattle.std.specs.Prelude.{◌≡◌, ◌≤◌, ◌+◌};
 ghost use Rattle.recover.specs.Table.{row_of, taken_as, not_taken_as, report_of};
 
 use crate::point::{RecoveryPoint, Report};
-use arena::{EMPTY_CELL, EMPTY_STATUS, ENQUEUE_KIND, GOT_CELL, Layout, Part, Place, TAKEN_STATUS, value_of};
+use arena::{
+    EMPTY_CELL, EMPTY_STATUS, ENQUEUE_KIND, GOT_CELL, Layout, Part, Place, TAKEN_STATUS, value_of,
+};
 use persist::WordMemory;
 use stepper::{After, Resume, Stepped, load_at};
 use words::{Client, Kind, MAX_VALUE, NodeId, Outcome, Reply, Row, Token, Told, Value, Verdict};

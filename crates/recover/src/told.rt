@@ -13,7 +13,9 @@ ghost use Rattle.recover.specs.Told.{node_claimed_by, row_with, outcome_by, told
 use crate::kept::KeptQueue;
 use arena::{EMPTY_CELL, EMPTY_STATUS, ENQUEUE_KIND, Layout, Part, Place, value_of};
 use persist::KeptWords;
-use words::{Client, Kind, MAX_CLIENTS, NodeId, Outcome, Reply, Reports, Row, Token, Told, Value, Verdict};
+use words::{
+    Client, Kind, MAX_CLIENTS, NodeId, Outcome, Reply, Reports, Row, Token, Told, Value, Verdict,
+};
 
 impl<L: Layout, W: KeptWords> KeptQueue<'_, L, W> {
     /// Notes the node for the client that announced its record last, if one did.
