@@ -1,5 +1,6 @@
 -- What the kept words say that the queue holds.
 use Rattle.std.specs.Prelude.{ℕ, List, map, filter, not, ◌==◌}
+use Rattle.words.specs.PlainQueue.{Value}
 use Rattle.arena.specs.Shape.{Shape, greatest}
 use Rattle.arena.specs.declared.place.Place.{Place}
 use Rattle.arena.specs.Words.{links, marks, values}
@@ -17,5 +18,5 @@ abbrev pub waiting_of : Shape → (Place → ℕ) → List ℕ
 waiting_of s kept = filter (λ n. marks kept n == 0) (chain_of s kept)
 
 -- the values of the nodes without one
-abbrev pub kept_content : Shape → (Place → ℕ) → List ℕ
+abbrev pub kept_content : Shape → (Place → ℕ) → List Value
 kept_content s kept = map (values kept) (waiting_of s kept)

@@ -1,39 +1,47 @@
--- The words of a durable queue.
+-- The words of a durable queue in the form of items.
 use Rattle.std.specs.Prelude.{◌≡◌, ℕ, ◌+◌, ◌*◌, ◌-◌, ◌/◌, ◌%◌, ◌<◌, ◌≤◌, Option, Some, None, ◌==◌, nat_lt, if◌then◌else◌, MatchOption}
 use Rattle.std.proofs.Common.{arith}
 use Rattle.std.proofs.lemmas.Bool.Decides.{nat_tests}
 use Rattle.words.specs.declared.call.Kind.TheVariants.{Durable}
 use Rattle.arena.specs.Shape.{Shape, greatest}
-use Rattle.arena.specs.Place.{IsPlace}
+use Rattle.arena.specs.Form.{OfItems}
+use Rattle.arena.specs.Place.{IsPlaceIn}
+use Rattle.arena.specs.declared.place.Part.TheVariants.{Length, First, Second, Third}
 use Rattle.arena.specs.declared.place.Place.{Place}
-use Rattle.arena.specs.declared.place.Place.TheVariants.{Head, Tail, Announcement, Bump, Value, Next, Mark, Cell, Insert, Number, EntryKind, Status, EntryNode}
+use Rattle.arena.specs.declared.place.Place.TheVariants.{Head, Tail, Announcement, Bump, Item, Next, Mark, Cell, Insert, Number, EntryKind, Status, EntryNode}
 
--- where the nodes begin, three words each, and where the cells do
+-- where the nodes begin, six words each, and where the cells do
 abbrev pub nodes_from : Shape → ℕ
 nodes_from s = 2 + 2 * s.clients
 
 abbrev pub cells_from : Shape → ℕ
-cells_from s = 5 + 2 * s.clients + 3 * greatest s
+cells_from s = 8 + 2 * s.clients + 6 * greatest s
 
 abbrev pub durable_size : Shape → ℕ
-durable_size s = 5 + 2 * s.clients + 4 * greatest s
+durable_size s = 8 + 2 * s.clients + 7 * greatest s
 
 abbrev pub durable_word : Shape → Place → ℕ
 durable_word s Head = 0
 durable_word s Tail = 1
 durable_word s (Announcement t) = 2 + t.0
 durable_word s (Bump t) = 2 + s.clients + t.0
-durable_word s (Value n) = nodes_from s + 3 * n.0
-durable_word s (Next n) = nodes_from s + 3 * n.0 + 1
-durable_word s (Mark n) = nodes_from s + 3 * n.0 + 2
+durable_word s (Item n Length) = nodes_from s + 6 * n.0
+durable_word s (Item n First) = nodes_from s + 6 * n.0 + 1
+durable_word s (Item n Second) = nodes_from s + 6 * n.0 + 2
+durable_word s (Item n Third) = nodes_from s + 6 * n.0 + 3
+durable_word s (Next n) = nodes_from s + 6 * n.0 + 4
+durable_word s (Mark n) = nodes_from s + 6 * n.0 + 5
 durable_word s (Cell c) = cells_from s + c.0 - 1
 -- the other places are those of a log queue
 durable_word s _ = 0
 
 abbrev pub durable_node_place : ℕ → ℕ → Place
 durable_node_place n field =
-    if field == 0 then Value (record { 0 = n })
-    else (if field == 1 then Next (record { 0 = n }) else Mark (record { 0 = n }))
+    if field == 0 then Item (record { 0 = n }) Length
+    else (if field == 1 then Item (record { 0 = n }) First
+    else (if field == 2 then Item (record { 0 = n }) Second
+    else (if field == 3 then Item (record { 0 = n }) Third
+    else (if field == 4 then Next (record { 0 = n }) else Mark (record { 0 = n })))))
 
 abbrev pub durable_place : Shape → ℕ → Option Place
 durable_place s w =
@@ -41,16 +49,20 @@ durable_place s w =
     else (if w == 1 then Some Tail
     else (if nat_lt w (2 + s.clients) then Some (Announcement (record { 0 = w - 2 }))
     else (if nat_lt w (nodes_from s) then Some (Bump (record { 0 = w - 2 - s.clients }))
-    else (if nat_lt w (cells_from s) then Some (durable_node_place ((w - nodes_from s) / 3) ((w - nodes_from s) % 3))
+    else (if nat_lt w (cells_from s) then Some (durable_node_place ((w - nodes_from s) / 6) ((w - nodes_from s) % 6))
     else (if nat_lt w (durable_size s) then Some (Cell (record { 0 = w - cells_from s + 1 }))
     else None)))))
 
-pub durable_below : (s : Shape) (p : Place) → s.kind ≡ Durable → IsPlace s p → durable_word s p < durable_size s
+pub durable_below : (s : Shape) (p : Place) → s.kind ≡ Durable → IsPlaceIn OfItems s p
+    → durable_word s p < durable_size s
 durable_below s Head kind h = grind arith
 durable_below s Tail kind h = grind arith
 durable_below s (Announcement x) kind h = grind arith
 durable_below s (Bump x) kind h = grind arith
-durable_below s (Value x) kind h = grind arith
+durable_below s (Item x Length) kind h = grind arith
+durable_below s (Item x First) kind h = grind arith
+durable_below s (Item x Second) kind h = grind arith
+durable_below s (Item x Third) kind h = grind arith
 durable_below s (Next x) kind h = grind arith
 durable_below s (Mark x) kind h = grind arith
 durable_below s (Cell x) kind h = grind arith
@@ -60,12 +72,16 @@ durable_below s (EntryKind x) kind h = absurd (cc)
 durable_below s (Status x) kind h = absurd (cc)
 durable_below s (EntryNode x) kind h = absurd (cc)
 
-pub durable_own : (s : Shape) (p : Place) → s.kind ≡ Durable → IsPlace s p → durable_place s (durable_word s p) ≡ Some p
+pub durable_own : (s : Shape) (p : Place) → s.kind ≡ Durable → IsPlaceIn OfItems s p
+    → durable_place s (durable_word s p) ≡ Some p
 durable_own s Head kind h = grind (arith, nat_tests)
 durable_own s Tail kind h = grind (arith, nat_tests)
 durable_own s (Announcement x) kind h = grind (arith, nat_tests)
 durable_own s (Bump x) kind h = grind (arith, nat_tests)
-durable_own s (Value x) kind h = grind (arith, nat_tests)
+durable_own s (Item x Length) kind h = grind (arith, nat_tests)
+durable_own s (Item x First) kind h = grind (arith, nat_tests)
+durable_own s (Item x Second) kind h = grind (arith, nat_tests)
+durable_own s (Item x Third) kind h = grind (arith, nat_tests)
 durable_own s (Next x) kind h = grind (arith, nat_tests)
 durable_own s (Mark x) kind h = grind (arith, nat_tests)
 durable_own s (Cell x) kind h = grind (arith, nat_tests)
@@ -76,5 +92,5 @@ durable_own s (Status x) kind h = absurd (cc)
 durable_own s (EntryNode x) kind h = absurd (cc)
 
 pub durable_named : (s : Shape) (w : ℕ) → s.kind ≡ Durable
-    → MatchOption (durable_place s w) (durable_size s ≤ w) (λ p. IsPlace s p × (durable_word s p ≡ w))
+    → MatchOption (durable_place s w) (durable_size s ≤ w) (λ p. IsPlaceIn OfItems s p × (durable_word s p ≡ w))
 durable_named s w kind = grind (arith, nat_tests)

@@ -1,9 +1,12 @@
 pub mod Shape
 pub mod Limits
+pub mod Form
 pub mod Place
 pub mod Ranges
 pub mod Durable
+pub mod DurableValues
 pub mod Log
+pub mod LogValues
 pub mod Layout
 pub mod Laws
 pub mod Answers

@@ -4,14 +4,14 @@ use Rattle.words.specs.declared.limits.TheConstants.{MAX_CALL_NUMBER, MAX_VALUE}
 use Rattle.arena.specs.declared.codes.TheConstants.{GOT_CELL}
 use Rattle.arena.specs.Shape.{Shape, greatest}
 use Rattle.arena.specs.declared.place.Place.{Place}
-use Rattle.arena.specs.declared.place.Place.TheVariants.{Head, Tail, Announcement, Bump, Value, Next, Mark, Cell, Insert, Number, EntryKind, Status, EntryNode}
+use Rattle.arena.specs.declared.place.Place.TheVariants.{Head, Tail, Announcement, Bump, Item, Next, Mark, Cell, Insert, Number, EntryKind, Status, EntryNode}
 
 abbrev pub Fits : Shape → Place → ℕ → Type 0
 Fits s Head v = v ≤ greatest s
 Fits s Tail v = v ≤ greatest s
 Fits s (Announcement t) v = v ≤ greatest s
 Fits s (Bump t) v = v ≤ s.records
-Fits s (Value n) v = v ≤ MAX_VALUE
+Fits s (Item n part) v = v ≤ MAX_VALUE
 Fits s (Next n) v = v ≤ greatest s
 Fits s (Mark n) v = v ≤ greatest s
 Fits s (Cell c) v = v ≤ MAX_VALUE + GOT_CELL

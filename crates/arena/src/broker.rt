@@ -147,7 +147,7 @@ impl BrokerLayout {
     }
 
     /// The layout of a durable queue in a block. It has room there.
-    #[tactic(auto, unfolding(crate::specs::Layout::size_of))]
+    #[tactic(auto, unfolding(crate::specs::Layout::size_in))]
     pub fn durable(&self) -> DurableLayout
         ensures counts { result ≡ self.now }
         ensures fits { size_of (shape_of Durable self.now) ≤ block_size_of self.now.clients self.now.records }
@@ -160,7 +160,7 @@ impl BrokerLayout {
     }
 
     /// The layout of a log queue in a block. It has room there.
-    #[tactic(auto, unfolding(crate::specs::Layout::size_of))]
+    #[tactic(auto, unfolding(crate::specs::Layout::size_in))]
     pub fn log(&self) -> LogLayout
         ensures counts { result ≡ self.now }
         ensures fits { size_of (shape_of Log self.now) ≤ block_size_of self.now.clients self.now.records }

@@ -3,13 +3,15 @@
 ghost use Rattle.std.specs.Prelude.{◌≡◌, ◌↔◌, ◌⊎◌, ◌<◌, ◌≤◌, IfOk, IfErr, IsOk, Err, Ok};
 ghost use Rattle.arena.specs.Shape.{greatest, shape_of};
 ghost use Rattle.arena.specs.Limits.{AreCounts};
-ghost use Rattle.arena.specs.Durable.{durable_node_place};
+ghost use Rattle.arena.specs.DurableValues.{durable_values_node_place};
 
 use crate::codes::{EMPTY_CELL, GOT_CELL};
 use crate::layout::{Layout, check_counts};
-use crate::place::{Place, Write};
+use crate::place::{Part, Place, Write};
 use std::marker::Model;
-use words::{Client, Kind, MAX_CLIENTS, MAX_RECORD_NUMBER, MAX_RECORDS, NodeId, Refusal, Token};
+use words::{
+    Client, Kind, MAX_CLIENTS, MAX_RECORD_NUMBER, MAX_RECORDS, NodeId, Refusal, Token, Value,
+};
 
 /// The words of a durable queue.
 #[derive(Clone, Copy, Debug)]
@@ -58,16 +60,16 @@ impl DurableLayout {
 
 /// One of the three words of a node.
 fn node_place(node: NodeId, field: usize) -> Place
-    ensures { result ≡ durable_node_place node.0 field }
+    ensures { result ≡ durable_values_node_place node.0 field }
 {
     match field {
-        0 => Place::Value(node),
+        0 => Place::Item(node, Part::First),
         1 => Place::Next(node),
         _ => Place::Mark(node),
     }
 }
 
-#[tactic(auto, unfolding(crate::specs::Layout::word_at, crate::specs::Layout::place_at, crate::specs::Layout::size_of))]
+#[tactic(auto, unfolding(crate::specs::Layout::word_in, crate::specs::Layout::place_in, crate::specs::Layout::size_in))]
 impl Layout for DurableLayout {
     ghost use Rattle.words.specs.declared.call.Kind.TheVariants.{Durable};
     ghost use Rattle.arena.specs.Shape.{shape_of};
@@ -100,11 +102,11 @@ impl Layout for DurableLayout {
             Place::Tail => 1,
             Place::Announcement(client) => 2 + client.0 as usize,
             Place::Bump(client) => 2 + clients + client.0 as usize,
-            Place::Value(node) => nodes_from + 3 * node.0 as usize,
+            Place::Item(node, Part::First) => nodes_from + 3 * node.0 as usize,
             Place::Next(node) => nodes_from + 3 * node.0 as usize + 1,
             Place::Mark(node) => nodes_from + 3 * node.0 as usize + 2,
             Place::Cell(token) => 5 + 2 * clients + 3 * greatest + token.0 as usize - 1,
-            // The others are places of a log queue.
+            // The others are places of a log queue, or of the form of items.
             _ => unreachable!(),
         }
     }
@@ -139,7 +141,7 @@ impl Layout for DurableLayout {
         }
     }
 
-    fn result(&self, token: Token, node: NodeId, value: u32) -> Write {
+    fn result(&self, token: Token, node: NodeId, value: Value) -> Write {
         let _node = node;
         Write {
             place: Place::Cell(token),

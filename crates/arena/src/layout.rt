@@ -4,7 +4,7 @@ ghost use Rattle.std.specs.Prelude.{◌≡◌, ◌↔◌, ◌⊎◌, ◌<◌, �
 ghost use Rattle.arena.specs.Limits.{AreCounts};
 
 use crate::place::{Place, Write};
-use words::{Kind, MAX_CLIENTS, MAX_RECORD_NUMBER, MAX_RECORDS, NodeId, Refusal, Token};
+use words::{Kind, MAX_CLIENTS, MAX_RECORD_NUMBER, MAX_RECORDS, NodeId, Refusal, Token, Value};
 
 /// The most words of a queue's layout: those of a log queue with the most clients and the most records.
 pub const MAX_LAYOUT_WORDS: usize = 524_326;
@@ -56,7 +56,7 @@ pub trait Layout {
         ensures { result ≡ empty_answer_of (shape self.now).kind token };
 
     /// Where the result of a dequeue is written that claimed a node of this value.
-    fn result(&self, token: Token, node: NodeId, value: u32) -> Write
+    fn result(&self, token: Token, node: NodeId, value: Value) -> Write
         ensures { result ≡ result_of (shape self.now).kind token node value };
 }
 

@@ -3,13 +3,16 @@
 ghost use Rattle.std.specs.Prelude.{◌≡◌, ◌↔◌, ◌⊎◌, ◌<◌, ◌≤◌, IfOk, IfErr, IsOk, Err, Ok};
 ghost use Rattle.arena.specs.Shape.{greatest, shape_of};
 ghost use Rattle.arena.specs.Limits.{AreCounts};
-ghost use Rattle.arena.specs.Log.{log_node_place, entry_place as entry_place_at};
+ghost use Rattle.arena.specs.Log.{entry_place as entry_place_at};
+ghost use Rattle.arena.specs.LogValues.{log_values_node_place};
 
 use crate::codes::EMPTY_STATUS;
 use crate::layout::{Layout, check_counts};
-use crate::place::{Place, Write};
+use crate::place::{Part, Place, Write};
 use std::marker::Model;
-use words::{Client, Kind, MAX_CLIENTS, MAX_RECORD_NUMBER, MAX_RECORDS, NodeId, Refusal, Token};
+use words::{
+    Client, Kind, MAX_CLIENTS, MAX_RECORD_NUMBER, MAX_RECORDS, NodeId, Refusal, Token, Value,
+};
 
 /// The words of a log queue.
 #[derive(Clone, Copy, Debug)]
@@ -58,10 +61,10 @@ impl LogLayout {
 
 /// One of the four words of a node.
 fn node_place(node: NodeId, field: usize) -> Place
-    ensures { result ≡ log_node_place node.0 field }
+    ensures { result ≡ log_values_node_place node.0 field }
 {
     match field {
-        0 => Place::Value(node),
+        0 => Place::Item(node, Part::First),
         1 => Place::Next(node),
         2 => Place::Insert(node),
         _ => Place::Mark(node),
@@ -80,7 +83,7 @@ fn entry_place(entry: Token, field: usize) -> Place
     }
 }
 
-#[tactic(auto, unfolding(crate::specs::Layout::word_at, crate::specs::Layout::place_at, crate::specs::Layout::size_of))]
+#[tactic(auto, unfolding(crate::specs::Layout::word_in, crate::specs::Layout::place_in, crate::specs::Layout::size_in))]
 impl Layout for LogLayout {
     ghost use Rattle.words.specs.declared.call.Kind.TheVariants.{Log};
     ghost use Rattle.arena.specs.Shape.{shape_of};
@@ -114,7 +117,7 @@ impl Layout for LogLayout {
             Place::Tail => 1,
             Place::Announcement(client) => 2 + client.0 as usize,
             Place::Bump(client) => 2 + clients + client.0 as usize,
-            Place::Value(node) => nodes_from + 4 * node.0 as usize,
+            Place::Item(node, Part::First) => nodes_from + 4 * node.0 as usize,
             Place::Next(node) => nodes_from + 4 * node.0 as usize + 1,
             Place::Insert(node) => nodes_from + 4 * node.0 as usize + 2,
             Place::Mark(node) => nodes_from + 4 * node.0 as usize + 3,
@@ -122,8 +125,8 @@ impl Layout for LogLayout {
             Place::EntryKind(entry) => entries_from + 4 * (entry.0 as usize - 1) + 1,
             Place::Status(entry) => entries_from + 4 * (entry.0 as usize - 1) + 2,
             Place::EntryNode(entry) => entries_from + 4 * (entry.0 as usize - 1) + 3,
-            // The other is a place of a durable queue.
-            Place::Cell(_) => unreachable!(),
+            // The others are places of a durable queue, or of the form of items.
+            Place::Cell(_) | Place::Item(..) => unreachable!(),
         }
     }
 
@@ -158,7 +161,7 @@ impl Layout for LogLayout {
         }
     }
 
-    fn result(&self, token: Token, node: NodeId, value: u32) -> Write {
+    fn result(&self, token: Token, node: NodeId, value: Value) -> Write {
         let _value = value;
         Write {
             place: Place::EntryNode(token),

@@ -1,6 +1,18 @@
 //! The words of a queue, by what they are for.
 
-use words::{Client, NodeId, Token};
+ghost use Rattle.std.specs.Prelude.{◌≡◌, ◌≤◌};
+ghost use Rattle.arena.specs.Words.{value_of};
+
+use words::{Client, MAX_VALUE, NodeId, Token, Value};
+
+/// A part of an item: its length, or one of the three words of its bytes.
+#[derive(Clone, Copy, Debug, PartialEq, Eq, Hash)]
+pub enum Part {
+    Length,
+    First,
+    Second,
+    Third,
+}
 
 /// A place of a layout: one word, by what it is for. Some are those of one kind of queue alone.
 #[derive(Clone, Copy, Debug, PartialEq, Eq, Hash)]
@@ -13,7 +25,8 @@ pub enum Place {
     Announcement(Client),
     /// How many records the client has used.
     Bump(Client),
-    Value(NodeId),
+    /// A part of the node's message. A message that is a value has its first word alone.
+    Item(NodeId, Part),
     /// The node's successor, or 0.
     Next(NodeId),
     /// The token that claims the node, or 0. In a log queue this is the remove word.
@@ -37,4 +50,14 @@ pub enum Place {
 pub struct Write {
     pub place: Place,
     pub value: u64,
+}
+
+/// The value that a node's word is.
+#[inline(always)]
+#[tactic(auto, unfolding(crate::specs::Words::value_of))]
+pub fn value_of(word: u64) -> Value
+    requires { word ≤ MAX_VALUE }
+    ensures { result ≡ value_of word }
+{
+    word as Value
 }

@@ -1,20 +1,22 @@
 -- The table of the steps: the access of each waiting point, and what comes then.
-use Rattle.std.specs.Prelude.{ℕ, ◌≤◌, if◌then◌else◌, ◌==◌}
+use Rattle.std.specs.Prelude.{ℕ, if◌then◌else◌, ◌==◌}
+use Rattle.words.specs.PlainQueue.{Value, FitsValue}
 use Rattle.words.specs.declared.call.Kind.{Kind}
 use Rattle.words.specs.declared.call.NodeId.{NodeId}
 use Rattle.words.specs.declared.call.Token.{Token}
 use Rattle.words.specs.declared.call.Call.{Call}
 use Rattle.words.specs.declared.call.Call.TheVariants.{Enq, Deq}
 use Rattle.words.specs.declared.call.Reply.{Reply}
-use Rattle.words.specs.declared.limits.TheConstants.{MAX_VALUE}
 use Rattle.words.specs.declared.call.Reply.TheVariants.{Done as Answered, Got, Empty}
 use Rattle.persist.specs.Memory.{Access, Load, Store, Cas, Flush, Fence}
 use Rattle.arena.specs.Shape.{Shape}
 use Rattle.arena.specs.Place.{IsNode, IsRecord}
 use Rattle.arena.specs.Answers.{empty_answer_of, result_of}
+use Rattle.arena.specs.Words.{value_of}
+use Rattle.arena.specs.declared.place.Part.TheVariants.{First}
 use Rattle.arena.specs.declared.place.Write.{Write}
 use Rattle.arena.specs.declared.place.Place.{Place}
-use Rattle.arena.specs.declared.place.Place.TheVariants.{Head, Tail, Value, Next, Mark}
+use Rattle.arena.specs.declared.place.Place.TheVariants.{Head, Tail, Item, Next, Mark}
 use Rattle.stepper.specs.Preparation.{prepared_to, access_of as prepare_access, successor as prepare_successor, IsPoint as IsPreparePoint}
 use Rattle.stepper.specs.declared.resume.After.{After}
 use Rattle.stepper.specs.declared.resume.After.TheVariants.{More, Done}
@@ -68,7 +70,7 @@ access_of kind (DequeueLoadNext p) = Load (Next p.first)
 access_of kind (DequeueCheckHead p) = Load Head
 access_of kind (DequeueStoreEmpty p) = store (empty_answer_of kind p.token)
 access_of kind (DequeueHelpTail p) = Cas Tail p.last.0 p.next.0
-access_of kind (DequeueLoadValue p) = Load (Value p.next)
+access_of kind (DequeueLoadValue p) = Load (Item p.next First)
 access_of kind (DequeueClaim p) = Cas (Mark p.next) 0 p.token.0
 access_of kind (DequeueStoreResult p) =
     store (result_of kind (winner p.claimed.claim p.claimed.token) p.claimed.next p.claimed.value)
@@ -96,7 +98,7 @@ abbrev pub begun_at : Kind → Begun → Op
 begun_at kind b = prepared_op (prepared_to kind b 0)
 
 -- a winner is answered, a loser begins anew
-abbrev pub answer_or_again : Claim → Token → ℕ → After Op Reply
+abbrev pub answer_or_again : Claim → Token → Value → After Op Reply
 answer_or_again Won token value = Done (Got value)
 answer_or_again (LostTo other) token value = More (DequeueLoadHead (record { token = token }))
 
@@ -153,7 +155,7 @@ successor kind (DequeueCheckHead p) found =
 successor kind (DequeueStoreEmpty p) found = More (FlushPoint (KeepEmpty (record { token = p.token })))
 successor kind (DequeueHelpTail p) found = More (DequeueLoadHead (record { token = p.token }))
 successor kind (DequeueLoadValue p) found =
-    More (DequeueClaim (record { token = p.token; first = p.first; next = p.next; value = found }))
+    More (DequeueClaim (record { token = p.token; first = p.first; next = p.next; value = value_of found }))
 successor kind (DequeueClaim p) found = More (FlushPoint (KeepClaim (record { claimed = claimed_at p (claim_by found) })))
 successor kind (DequeueStoreResult p) found = More (FlushPoint (KeepResult (record { claimed = p.claimed })))
 successor kind (DequeueMoveHead p) found = answer_or_again p.claimed.claim p.claimed.token p.claimed.value
@@ -161,8 +163,8 @@ successor kind (FlushPoint k) found = More (FencePoint k)
 successor kind (FencePoint k) found = after_keeping k
 
 -- the numbers of a claim, and of what follows it
-abbrev pub IsClaiming : Shape → ℕ → ℕ → ℕ → ℕ → Type 0
-IsClaiming s token first next value = IsRecord s token × IsNode s first × IsNode s next × (value ≤ MAX_VALUE)
+abbrev pub IsClaiming : Shape → ℕ → ℕ → ℕ → Value → Type 0
+IsClaiming s token first next value = IsRecord s token × IsNode s first × IsNode s next × FitsValue value
 
 abbrev pub IsClaimedAt : Shape → Claimed → Type 0
 IsClaimedAt s c = IsClaiming s c.token.0 c.first.0 c.next.0 c.value × IsRecord s (winner c.claim c.token).0

@@ -9,10 +9,10 @@ ghost use Rattle.helping.specs.Claims.{winner};
 
 use crate::Op;
 use crate::keeping::{KeepClaim, KeepDequeuePassedLink, KeepEmpty, KeepResult, Keeping};
-use arena::{Layout, Place, Write};
+use arena::{Layout, Part, Place, Write, value_of};
 use persist::{Swap, WordMemory};
 use stepper::{After, Resume, Stepped, cas_at, load_at, store_at};
-use words::{NodeId, Reply, Token};
+use words::{NodeId, Reply, Token, Value};
 
 /// How a claim went.
 #[derive(Clone, Copy, Debug, PartialEq, Eq, Hash)]
@@ -40,7 +40,7 @@ pub struct Claimed {
     pub(crate) token: Token,
     pub(crate) first: NodeId,
     pub(crate) next: NodeId,
-    pub(crate) value: u32,
+    pub(crate) value: Value,
     pub(crate) claim: Claim,
 }
 
@@ -238,7 +238,7 @@ impl Resume for DequeueLoadValue {
 
     fn step<L: Layout, M: WordMemory>(self, layout: &L, memory: &mut M) -> Stepped<Op, Reply> {
         let DequeueLoadValue { token, first, next } = self;
-        let value = load_at(layout, memory, Place::Value(next)) as u32;
+        let value = value_of(load_at(layout, memory, Place::Item(next, Part::First)));
         Stepped::quiet(After::More(Op::DequeueClaim(DequeueClaim {
             token,
             first,
@@ -254,7 +254,7 @@ pub struct DequeueClaim {
     pub(crate) token: Token,
     pub(crate) first: NodeId,
     pub(crate) next: NodeId,
-    pub(crate) value: u32,
+    pub(crate) value: Value,
 }
 
 // A swap: by a store two dequeues would both take the node for theirs.

@@ -2,13 +2,14 @@
 use Rattle.std.proofs.Common.{◌≡◌, ◌≢◌, ℕ, zero, suc, ◌-◌, ◌+◌, ◌<◌, List, [], ◌∷◌, ◌++◌, map, Bool, true, false, ◌==◌, if◌then◌else◌, refl, arith}
 use Rattle.std.specs.List.{filter}
 use Rattle.std.proofs.lemmas.Bool.{eq-eqb, ne_eqb}
+use Rattle.words.specs.PlainQueue.{Value}
 use Rattle.arena.specs.Words.{links, marks, values}
 use Rattle.arena.specs.Chain.{walk}
 use Rattle.arena.specs.declared.place.Place.{Place}
 use Rattle.interleave.specs.Content.{unclaimed_from}
 
 -- what so many links from a node on reach
-abbrev pub content_from : (Place → ℕ) → ℕ → ℕ → List ℕ
+abbrev pub content_from : (Place → ℕ) → ℕ → ℕ → List Value
 content_from word fuel n = map (values word) (filter (λ m. marks word m == 0) (walk fuel (links word) n))
 
 -- nothing follows the last node

@@ -1,6 +1,7 @@
 -- What a step of recovery makes of a world.
 use Rattle.std.proofs.Common.{◌≡◌, ℕ, List, Option, Some, None, refl, true, ap, ◌∙◌}
 use Rattle.std.specs.Prelude.{is_some, IfSome}
+use Rattle.words.specs.PlainQueue.{Value}
 use Rattle.words.specs.declared.told.Told.{Told}
 use Rattle.persist.specs.Memory.{Words}
 use Rattle.events.specs.declared.event.Effect.{Effect}
@@ -27,7 +28,7 @@ of_some None P h = tt
 of_some (Some r) P h = h r refl
 
 -- worlds that differ in their traces alone, and those agree, are one
-pub state_same : (s : Shape) (ws : Words) (queue : Queue) (calls : List (Option UnderWay)) (a : Traced) (base : List ℕ) (told : List Told) (events : List Event) (issued : List Issued) (effects : List Effect) (recovery : Option Recovery)
+pub state_same : (s : Shape) (ws : Words) (queue : Queue) (calls : List (Option UnderWay)) (a : Traced) (base : List Value) (told : List Told) (events : List Event) (issued : List Issued) (effects : List Effect) (recovery : Option Recovery)
     → a.base ≡ base → a.told ≡ told → a.log.events ≡ events → a.log.issued ≡ issued → a.log.effects ≡ effects → a.recovery ≡ recovery
     → state_with s ws queue calls a ≡ (let w : State = record { shape = s; words = ws; queue = queue; calls = calls; base = base; told = told; log = record { events = events; issued = issued; effects = effects }; recovery = recovery } in w)
 state_same s ws queue calls a base told events issued effects recovery b t e i f r =

@@ -1,4 +1,5 @@
 -- Each act keeps what holds of a world, and is the machine's.
+use Rattle.words.specs.PlainQueue.{Value, FitsValue}
 use Rattle.words.specs.declared.call.Reply.{Reply}
 use Rattle.std.proofs.Common.{[], ◌≡◌, ◌≢◌, ◌+◌, ◌-◌, ◌++◌, nat_lt, ℕ, zero, suc, replicate, ◌<◌, ◌≤◌, inl, inr, Bool, true, false, if◌then◌else◌, ◌==◌, List, ◌∷◌, map, length, Option, Some, None, Result, Ok, Err, slice_get, slice_index, slice_index_or, slice_set, refl, sym, ap, ◌∙◌, subst, arith, get_or-set_other}
 use Rattle.std.specs.Prelude.{is_some, filter}
@@ -93,12 +94,12 @@ number_few : (kind : Kind) (number : ℕ) → FitsKind kind number → number �
 number_few durable_kind number h = omega (arith, h)
 number_few log_kind number h = h.1
 
-value_few : (call : Call) → FitsCall call → (v : ℕ) → call ≡ Enq v → v ≤ 4294967295
-value_few (Enq value) h v e = let same : value ≡ v = cc in subst (λ n. n ≤ 4294967295) same h
+value_few : (call : Call) → FitsCall call → (v : Value) → call ≡ Enq v → FitsValue v
+value_few (Enq value) h v e = let same : value ≡ v = cc in subst FitsValue same h
 value_few Deq h v e = cc
 
 -- a call as its type has it
-pub call_fits : (call : Call) → ((v : ℕ) → call ≡ Enq v → v ≤ 4294967295) → FitsCall call
+pub call_fits : (call : Call) → ((v : Value) → call ≡ Enq v → FitsValue v) → FitsCall call
 call_fits (Enq value) h = h value refl
 call_fits Deq h = tt
 

@@ -8,6 +8,7 @@ use Rattle.words.specs.declared.call.Token.{Token}
 use Rattle.words.specs.declared.call.Call.{Call}
 use Rattle.words.specs.declared.call.Call.TheVariants.{Enq, Deq}
 use Rattle.persist.specs.Memory.{Access, Load, Store, Cas, Flush, Fence}
+use Rattle.arena.specs.Words.{value_of_fits}
 use Rattle.arena.specs.Shape.{Shape}
 use Rattle.arena.specs.Place.{IsPlace}
 use Rattle.arena.specs.Ranges.{Fits, IsReadByCalls}
@@ -225,7 +226,7 @@ successor_fits s (DequeueLoadNext p) v h f = grind (arith, nat_tests)
 successor_fits s (DequeueCheckHead p) v h f = grind (arith, nat_tests)
 successor_fits s (DequeueStoreEmpty p) v h f = grind (arith, nat_tests)
 successor_fits s (DequeueHelpTail p) v h f = grind (arith, nat_tests)
-successor_fits s (DequeueLoadValue p) v h f = grind (arith, nat_tests)
+successor_fits s (DequeueLoadValue p) v h f = (h.0, h.1, h.2, value_of_fits v f)
 successor_fits s (DequeueClaim p) v h f = grind (arith, nat_tests)
 successor_fits s (DequeueStoreResult p) v h f = grind (arith, nat_tests)
 successor_fits s (DequeueMoveHead p) v h f = again_fits s p.claimed.claim p.claimed.token p.claimed.value h.0.0

@@ -2,6 +2,7 @@
 use Rattle.std.proofs.Common.{◌≡◌, ◌≢◌, inl, inr, ℕ, ◌≤◌, Bool, true, false, List, length, Option, Some, None, slice_index, refl, sym, ap, ◌∙◌, subst}
 use Rattle.std.specs.Prelude.{MatchOption}
 use Rattle.std.proofs.lemmas.Bool.{eq-eqb, ne_eqb, cases_eq}
+use Rattle.words.specs.PlainQueue.{Value}
 use Rattle.words.specs.declared.told.Told.{Told}
 use Rattle.persist.specs.Changes.{change_of}
 use Rattle.persist.specs.declared.access.Change.{Change}
@@ -45,7 +46,7 @@ noticed_same w m _ v new e = refl
 kept_evicted : (s : Shape) (ws : Words) (p : Place) → IsPlace s p → size_of s ≤ length ws.kept → value_of_place s (words_after_eviction (word_at s p) ws).kept ≡ put (value_of_place s ws.kept) p (value_of_place s ws.cached p)
 kept_evicted s ws p at long = ap (λ (m : Memory). m.kept) (shown_evicted s ws p at long)
 
-noticed_by_eviction : (s : Shape) (ws : Words) (calls : List (Option UnderWay)) (base : List ℕ) (told : List Told) (log : Trace) (p : Place) → IsPlace s p → size_of s ≤ length ws.kept
+noticed_by_eviction : (s : Shape) (ws : Words) (calls : List (Option UnderWay)) (base : List Value) (told : List Told) (log : Trace) (p : Place) → IsPlace s p → size_of s ≤ length ws.kept
     → slice_index ws.kept (word_at s p) ≢ slice_index ws.cached (word_at s p)
     → effects_on_keep (machine_of s (words_after_eviction (word_at s p) ws) calls base told log) p (slice_index ws.cached (word_at s p)) ≡ after_keeping (machine_of s ws calls base told log) p
 noticed_by_eviction s ws calls base told log p at long differ =
@@ -58,7 +59,7 @@ noticed_by_eviction s ws calls base told log p at long differ =
     let keeping : after_keeping w p ≡ effects_on_keep w p (value_of_place s ws.cached p) = rw (ne_eqb (value_of_place s ws.kept p) (value_of_place s ws.cached p) apart) refl in
     ap (λ v. effects_on_keep (machine_of s (words_after_eviction (word_at s p) ws) calls base told log) p v) (sym cached) ∙ noted ∙ sym keeping
 
-unnoticed_by_eviction : (s : Shape) (ws : Words) (calls : List (Option UnderWay)) (base : List ℕ) (told : List Told) (log : Trace) (p : Place) → IsPlace s p
+unnoticed_by_eviction : (s : Shape) (ws : Words) (calls : List (Option UnderWay)) (base : List Value) (told : List Told) (log : Trace) (p : Place) → IsPlace s p
     → slice_index ws.kept (word_at s p) ≡ slice_index ws.cached (word_at s p) → log.effects ≡ after_keeping (machine_of s ws calls base told log) p
 unnoticed_by_eviction s ws calls base told log p at same =
     let w = machine_of s ws calls base told log in
@@ -71,7 +72,7 @@ pub place_of_word : (s : Shape) (word : ℕ) (p : Place) → place_at s word ≡
 place_of_word s word p at = subst (λ o. MatchOption o (size_of s ≤ word) (λ q. IsPlace s q × (word_at s q ≡ word))) at ((laid_out s).named word)
 
 -- what a kept word changes by is what takes effect when it is kept
-pub effects_of_change : (s : Shape) (ws : Words) (calls : List (Option UnderWay)) (base : List ℕ) (told : List Told) (log : Trace) (p : Place)
+pub effects_of_change : (s : Shape) (ws : Words) (calls : List (Option UnderWay)) (base : List Value) (told : List Told) (log : Trace) (p : Place)
     → IsPlace s p → size_of s ≤ length ws.kept
     → effects_on_change (machine_of s (words_after_eviction (word_at s p) ws) calls base told log) (change_of ws (word_at s p))
     ≡ after_keeping (machine_of s ws calls base told log) p
@@ -92,7 +93,7 @@ effects_of_change s ws calls base told log p at long = elim (cases_eq (slice_ind
     change = record { word = word_at s p; old = slice_index ws.kept (word_at s p); new = slice_index ws.cached (word_at s p) }
 
 -- of an access: a fence alone makes a change
-effects_by_access : (s : Shape) (ws : Words) (calls : List (Option UnderWay)) (base : List ℕ) (told : List Told) (log : Trace) (a : Access Place)
+effects_by_access : (s : Shape) (ws : Words) (calls : List (Option UnderWay)) (base : List Value) (told : List Told) (log : Trace) (a : Access Place)
     → AccessFits s a → size_of s ≤ length ws.kept
     → effects_on_change (machine_of s (after_one s a ws) calls base told log) (change_by s a ws) ≡ after_fence (machine_of s ws calls base told log) (kept_by a)
 effects_by_access s ws calls base told log (Load p) fits long = refl
@@ -102,7 +103,7 @@ effects_by_access s ws calls base told log (Flush p) fits long = refl
 effects_by_access s ws calls base told log (Fence p) fits long = effects_of_change s ws calls base told log p fits long
 
 -- what is noted of a step are the machine's effects after it
-pub noted_is : (s : Shape) (ws : Words) (calls : List (Option UnderWay)) (base : List ℕ) (told : List Told) (log : Trace) (u : UnderWay)
+pub noted_is : (s : Shape) (ws : Words) (calls : List (Option UnderWay)) (base : List Value) (told : List Told) (log : Trace) (u : UnderWay)
     → IsPoint s u.op → size_of s ≤ length ws.kept
     → effects_on_step (machine_of s (after_one s (access_of s.kind u.op) ws) calls base told log) u (change_by s (access_of s.kind u.op) ws) (next_of (machine_of s ws calls base told log) u)
     ≡ effects_after (machine_of s ws calls base told log) u u.op

@@ -6,6 +6,7 @@ use Rattle.std.proofs.lemmas.Bool.{cases_eq, cases_lt}
 use Rattle.std.proofs.lemmas.Grind.{get_or-set_at}
 use Rattle.std.proofs.lemmas.List.{length-map, length-set, length-take, get_or-map, get_or-take, get_or-set_other}
 use Rattle.std.proofs.lemmas.Option.{slice_get_within, slice_get-get_or, get_or_from_slice_get, unwrap_or-slice_get}
+use Rattle.words.specs.PlainQueue.{Value}
 use Rattle.words.specs.declared.call.Call.{Call}
 use Rattle.words.specs.declared.call.Client.{Client}
 use Rattle.words.specs.declared.call.Kind.{Kind}
@@ -66,7 +67,7 @@ in_doubt events places client p begins no_return no_ready = record {
 }
 
 -- so is one that has no end yet
-pub open_in_doubt : (kind : Kind) (base : List ℕ) (told : List Told) (events : List Event) (effects : List Effect)
+pub open_in_doubt : (kind : Kind) (base : List Value) (told : List Told) (events : List Event) (effects : List Effect)
     → IsTrace kind base told events effects → (client : Client) (p : ℕ)
     → IsOpenFrom events client (length events) p → IsInDoubt events client p
 open_in_doubt kind base told events effects log client p open_from =
@@ -75,7 +76,7 @@ open_in_doubt kind base told events effects log client p open_from =
     (λ k tells lt at. (log.fresh k (slice_get_within events k _ at)).fresh tells client p at lt open_from)
 
 -- calls without an end come into the order
-pub rise_comes : (kind : Kind) (base : List ℕ) (told : List Told) (events : List Event) (floors : List ℕ)
+pub rise_comes : (kind : Kind) (base : List Value) (told : List Told) (events : List Event) (floors : List ℕ)
     → (old new : List Effect) → IsTrace kind base told events old → ComesInOpen events old new
     → NumbersRise told events (order_of old) floors → NumbersRise told events (order_of new) floors
 rise_comes kind base told events floors old new log comes v = record {
@@ -213,7 +214,7 @@ rise_crashed told events order floors places v =
     v.base_floors
 
 -- a call returns: its number becomes the floor of its client
-pub rise_returned : (kind : Kind) (base : List ℕ) (told : List Told) (events : List Event) (effects : List Effect)
+pub rise_returned : (kind : Kind) (base : List Value) (told : List Told) (events : List Event) (effects : List Effect)
     → (order : List Entry) (floors : List ℕ) (c : Client) (place number : ℕ) (reply : Reply)
     → IsTrace kind base told events effects → MayAllStand (events ++ return_event c reply ∷ [])
     → HasNumber events c place number → IsOpenFrom events c (length events) place
@@ -310,7 +311,7 @@ floor_if_told order p number (told_row row) says = absurd says
 floor_if_told order p number told_none says = absurd says
 
 -- recovery is done: clients have their floors by what they are told
-pub rise_ready : (base : List ℕ) (told : List Told) (events : List Event) (effects : List Effect) (floors : List ℕ)
+pub rise_ready : (base : List Value) (told : List Told) (events : List Event) (effects : List Effect) (floors : List ℕ)
     → (tells : List Told) → IsTrace log_kind base told (events ++ ready_event tells ∷ []) effects
     → NumbersRise told events (order_of effects) floors
     → NumbersRise told (events ++ ready_event tells ∷ []) (order_of effects) (map floor_of tells)

@@ -3,6 +3,7 @@ use Rattle.std.proofs.Common.{◌≡◌, ℕ, ◌<◌, Bool, true, false, if◌t
 use Rattle.std.proofs.Common.{Result, Ok, Err, replicate, slice_index, slice_set, refl, sym, ap, subst, arith}
 use Rattle.std.proofs.lemmas.Bool.Decides.{nat_tests}
 use Rattle.std.proofs.lemmas.List.{length-replicate}
+use Rattle.words.specs.PlainQueue.{Value}
 use Rattle.words.specs.declared.call.Call.{Call}
 use Rattle.words.specs.declared.call.Client.{Client}
 use Rattle.words.specs.declared.call.Kind.{Kind}
@@ -155,7 +156,7 @@ numbers_crashed w after = go w.queue
         (sym (order_settled_effects w.log.effects)) v)
 
 -- the end of recovery, where it is one
-readied : (kind : Kind) (base : List ℕ) (told : List Told) (events : List Event) (effects : List Effect)
+readied : (kind : Kind) (base : List Value) (told : List Told) (events : List Event) (effects : List Effect)
     → (next : After Recovery (List Told)) → IsTrace kind base told (recovery_events events next) effects
     → (queue : Queue) → IsOfKind kind queue → AreNumbersRisingIn queue told events (order_of effects)
     → AreNumbersRisingIn (queue_at_ready queue next) told (recovery_events events next) (order_of effects)

@@ -11,7 +11,8 @@ use Rattle.words.specs.declared.refusal.Refusal.TheVariants.{NoMemory, NoRoom}
 use Rattle.arena.specs.Shape.{Shape, owner, record_of}
 use Rattle.arena.specs.Words.{bumps}
 use Rattle.arena.specs.declared.place.Place.{Place}
-use Rattle.arena.specs.declared.place.Place.TheVariants.{Value, Next, Mark, Cell, Insert}
+use Rattle.arena.specs.declared.place.Part.TheVariants.{First}
+use Rattle.arena.specs.declared.place.Place.TheVariants.{Item, Next, Mark, Cell, Insert}
 use Rattle.arena.specs.declared.place.Place.TheVariants.{Number, EntryKind, Status, EntryNode}
 use Rattle.helping.specs.Table.{node_of, token_of}
 use Rattle.recover.specs.Sound.{IsBlank, IsBlankAnswer, IsIssued}
@@ -33,7 +34,7 @@ same_used from used next e = omega (arith, e)
 blank_record : (s : Shape) (kept f : Place → ℕ) (n : ℕ) → Blank s kept f → n ≢ 0 → (IsIssued s kept n → ⊥)
     → IsBlank s f n
 blank_record s kept f n blank some free = record {
-  value = blank (Value (node_of n)) tt some free;
+  value = blank (Item (node_of n) First) tt some free;
   link = blank (Next (node_of n)) tt some free;
   mark = blank (Mark (node_of n)) tt some free;
   answer = by_kind s.kind;

@@ -1,4 +1,5 @@
 -- Each act keeps the ranges.
+use Rattle.words.specs.PlainQueue.{Value, FitsValue}
 use Rattle.words.specs.declared.call.Reply.{Reply}
 use Rattle.std.proofs.Common.{◌≡◌, ap, sym, ◌∙◌, ℕ, zero, suc, ◌<◌, ◌≤◌, ◌⊎◌, inl, inr, List, [], ◌∷◌, length, Option, Some, None, Bool, true, false, slice_index, slice_set, slice_get, ◌==◌, arith, refl, subst, get_or-set_other}
 use Rattle.std.proofs.lemmas.Bool.Decides.{eqb_tells}
@@ -137,13 +138,13 @@ after_in_range s u (More op) fits h = record { begun = fits.begun; point = h }
 after_in_range s u (Done reply) fits h = tt
 
 -- what the machine goes on to is what the step finds
-pub next_is : (s : Shape) (ws : Words) (calls : List (Option UnderWay)) (base : List ℕ) (told : List Told) (log : Trace) (u : UnderWay) → CallFits s u → IsSafe s ws calls
+pub next_is : (s : Shape) (ws : Words) (calls : List (Option UnderWay)) (base : List Value) (told : List Told) (log : Trace) (u : UnderWay) → CallFits s u → IsSafe s ws calls
     → successor s.kind u.op (value_found s (access_of s.kind u.op) ws) ≡ next_of (machine_of s ws calls base told log) u
 next_is s ws calls base told log u fits safe =
     ap (successor s.kind u.op) (sym (shown_at s ws.cached (place_of (access_of s.kind u.op)) (at_place s (access_of s.kind u.op) (access_fits s s.kind u.op refl fits.point))))
 
 -- a client's call made its access, and went on
-pub IsSafe-gone_on : (s : Shape) (ws : Words) (calls : List (Option UnderWay)) (base : List ℕ) (told : List Told) (log : Trace) (t : ℕ) (u : UnderWay) → IsSafe s ws calls → slice_get calls t ≡ Some (Some u)
+pub IsSafe-gone_on : (s : Shape) (ws : Words) (calls : List (Option UnderWay)) (base : List Value) (told : List Told) (log : Trace) (t : ℕ) (u : UnderWay) → IsSafe s ws calls → slice_get calls t ≡ Some (Some u)
     → IsSafe s (after_one s (access_of s.kind u.op) ws) (slice_set calls t (with_next u (next_of (machine_of s ws calls base told log) u)))
 IsSafe-gone_on s ws calls base told log t u safe here =
     let fits : CallFits s u = call_fits s ws calls t u safe here in
@@ -173,7 +174,7 @@ begun_call s used client number call = record {
 
 -- a client without a call begins one, with a record that is left
 pub IsSafe-begun : (s : Shape) (ws : Words) (calls : List (Option UnderWay)) (client : Client) (used number place : ℕ) (call : Call)
-    → IsSafe s ws calls → client.0 < length calls → used < s.records → number ≤ 1099511627776 → ((v : ℕ) → call ≡ Enq v → v ≤ 4294967295)
+    → IsSafe s ws calls → client.0 < length calls → used < s.records → number ≤ 1099511627776 → ((v : Value) → call ≡ Enq v → FitsValue v)
     → IsSafe s (after_one s (Load (Bump client)) ws) (slice_set calls client.0 (Some (record { place = place; begun = begun_call s used client number call; op = begun_at s.kind (begun_call s used client number call) })))
 IsSafe-begun s ws calls client used number place call safe within room few fits =
     let client_in : client.0 < s.clients = omega (arith, safe.clients) in

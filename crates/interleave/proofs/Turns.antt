@@ -7,7 +7,7 @@ use Rattle.std.proofs.lemmas.Option.{slice_get_within, get_or_from_slice_get}
 use Rattle.words.specs.declared.call.Call.{Call}
 use Rattle.words.specs.declared.call.Client.{Client}
 use Rattle.words.specs.declared.call.Reply.{Reply}
-use Rattle.words.specs.PlainQueue.{reply_of, served}
+use Rattle.words.specs.PlainQueue.{reply_of, served, Value}
 use Rattle.words.specs.declared.told.Told.{Told}
 use Rattle.events.specs.Explains.{Explains}
 use Rattle.events.specs.History.{CallAt, ReturnAt, BeginsAt, EndsAt, IsEnd, IsOpenFrom, IsUnderWay, Precedes, IsHistory}
@@ -97,7 +97,7 @@ begins_if_call events p some = go (slice_get events p) refl some
     go (Some (ready_event told)) e some = absurd (cc)
 
 -- the last entry is served by what the others leave
-runs_last : (events : List Event) (queue : List ℕ) (order : List Entry) (entry : Entry)
+runs_last : (events : List Event) (queue : List Value) (order : List Entry) (entry : Entry)
     → Runs events queue (order ++ entry ∷ []) → IsServed events (queue_after events queue order) entry
 runs_last events queue [] entry runs = runs.0
 runs_last events queue (x ∷ order) entry runs =
@@ -105,7 +105,7 @@ runs_last events queue (x ∷ order) entry runs =
 
 -- a client's call that began last is answered, nobody else has one, and it did not stand in the order; calls that had
 -- ended come into no order
-module _ (base : List ℕ) (told : List Told) (events : List Event) (before after : List Entry) (client : Client)
+module _ (base : List Value) (told : List Told) (events : List Event) (before after : List Entry) (client : Client)
     (reply : Reply) (arises : IsHistory events) (was : Explains base told events before)
     (is : Explains base told (events ++ return_event client reply ∷ []) after) (part : IsPartOf before after)
     (stays : (p : ℕ) (r : Reply) → HasEnded events p → IsTakenAs after p r → IsTakenAs before p r)

@@ -10,8 +10,9 @@ use Rattle.arena.specs.Layout.{size_of, word_at}
 use Rattle.arena.specs.Shape.{Shape, greatest}
 use Rattle.arena.specs.Place.{IsPlace, is_same, is_same-true}
 use Rattle.arena.specs.Laws.{at-written}
+use Rattle.arena.specs.declared.place.Part.TheVariants.{Length, First, Second, Third}
 use Rattle.arena.specs.declared.place.Place.{Place}
-use Rattle.arena.specs.declared.place.Place.TheVariants.{Head, Tail, Announcement, Bump, Value, Next, Mark, Cell, Insert, Number, EntryKind, Status, EntryNode}
+use Rattle.arena.specs.declared.place.Place.TheVariants.{Head, Tail, Announcement, Bump, Item, Next, Mark, Cell, Insert, Number, EntryKind, Status, EntryNode}
 use Rattle.stepper.specs.Step.{after_one, place_of}
 use Rattle.protocol.specs.Machine.{put, with_store, with_fence, with_access}
 use Rattle.interleave.specs.Values.{is_durable, is_log, is_record, is_place, value_of_place, memory_by_place}
@@ -22,7 +23,10 @@ is_place-true s Head h = refl
 is_place-true s Tail h = refl
 is_place-true s (Announcement t) h = grind (arith, nat_tests, h)
 is_place-true s (Bump t) h = grind (arith, nat_tests, h)
-is_place-true s (Value n) h = grind (arith, nat_tests, h)
+is_place-true s (Item n Length) h = absurd h
+is_place-true s (Item n First) h = grind (arith, nat_tests, h)
+is_place-true s (Item n Second) h = absurd h
+is_place-true s (Item n Third) h = absurd h
 is_place-true s (Next n) h = grind (arith, nat_tests, h)
 is_place-true s (Mark n) h = grind (arith, nat_tests, h)
 is_place-true s (Cell c) h = rw h.0 (grind (arith, nat_tests, h.1))
@@ -46,7 +50,10 @@ is_place-from s Head h = tt
 is_place-from s Tail h = tt
 is_place-from s (Announcement t) h = grind (arith, nat_tests, h)
 is_place-from s (Bump t) h = grind (arith, nat_tests, h)
-is_place-from s (Value n) h = grind (arith, nat_tests, h)
+is_place-from s (Item n Length) h = absurd (false≢true h)
+is_place-from s (Item n First) h = grind (arith, nat_tests, h)
+is_place-from s (Item n Second) h = absurd (false≢true h)
+is_place-from s (Item n Third) h = absurd (false≢true h)
 is_place-from s (Next n) h = grind (arith, nat_tests, h)
 is_place-from s (Mark n) h = grind (arith, nat_tests, h)
 is_place-from s (Cell c) h = let t = of_durable s.kind (is_record s c.0) h in (t.0, grind (arith, nat_tests, t.1))

@@ -1,5 +1,6 @@
 -- The state of a world, and what each act makes of it.
 use Rattle.std.specs.Prelude.{◌≡◌, ℕ, zero, suc, ◌+◌, ◌*◌, Bool, false, true, is_ok, is_some, length, List, [], ◌∷◌, Option, Some, None, Result, Ok, Err, replicate, slice_get, slice_index_or, slice_set, nat_lt, if◌then◌else◌, ◌==◌}
+use Rattle.words.specs.PlainQueue.{Value}
 use Rattle.words.specs.declared.call.Call.{Call}
 use Rattle.words.specs.declared.call.Client.{Client}
 use Rattle.words.specs.declared.call.Reply.{Reply}
@@ -45,13 +46,13 @@ pub record State : Type 0 where
   pub words : Words
   pub queue : Queue
   pub calls : List (Option UnderWay)
-  pub base : List ℕ
+  pub base : List Value
   pub told : List Told
   pub log : Trace
   pub recovery : Option Recovery
 
 -- the machine that a ready world is: its words by their places
-abbrev pub machine_of : Shape → Words → List (Option UnderWay) → List ℕ → List Told → Trace → World
+abbrev pub machine_of : Shape → Words → List (Option UnderWay) → List Value → List Told → Trace → World
 machine_of s ws calls base told log = record {
   shape = s;
   memory = memory_by_place s ws;
@@ -322,5 +323,5 @@ abbrev pub most_to_ready : Shape → ℕ
 most_to_ready s = most_steps s
 
 -- what the kept words hold
-abbrev pub kept_content : State → List ℕ
+abbrev pub kept_content : State → List Value
 kept_content w = content_of w.shape (machine w).memory.kept

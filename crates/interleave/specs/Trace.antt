@@ -1,5 +1,6 @@
 -- What a world keeps of what happened, beside its memory.
 use Rattle.std.specs.Prelude.{ℕ, List, Option}
+use Rattle.words.specs.PlainQueue.{Value}
 use Rattle.words.specs.declared.told.Told.{Told}
 use Rattle.persist.specs.Memory.{Words}
 use Rattle.arena.specs.Shape.{Shape}
@@ -13,7 +14,7 @@ use Rattle.interleave.specs.declared.queue.Queue.{Queue}
 -- what the queue held and told where the history begins, what happened since, the recovery that is under way, and for
 -- how many acts more there is room
 pub record Traced : Type 0 where
-  pub base : List ℕ
+  pub base : List Value
   pub told : List Told
   pub log : Trace
   pub recovery : Option Recovery

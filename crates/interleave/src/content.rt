@@ -7,15 +7,15 @@ ghost use Rattle.interleave.specs.Content.{unclaimed_from};
 ghost use Rattle.interleave.specs.Ranges.{KeptFit};
 ghost use Rattle.interleave.specs.Values.{value_of_place};
 
-use crate::notice::kept_at;
+use crate::notice::{kept_at, kept_value};
 use arena::{Layout, Place};
 use persist::KeptWords;
 use std::alloc::Global;
-use words::{NodeId, Refusal};
+use words::{NodeId, Refusal, Value};
 
 /// Adds the value of a node, if it is not claimed.
 fn add_unclaimed<L: Layout, K: KeptWords>(
-    values: &mut Vec<u32>,
+    values: &mut Vec<Value>,
     layout: &L,
     kept: &K,
     node: NodeId,
@@ -29,7 +29,7 @@ fn add_unclaimed<L: Layout, K: KeptWords>(
     if kept_at(layout, kept, Place::Mark(node)) != 0 {
         return Ok(());
     }
-    let value = kept_at(layout, kept, Place::Value(node)) as u32;
+    let value = kept_value(layout, kept, node);
     if values.push(value).is_err() {
         return Err(Refusal::NoMemory);
     }
@@ -41,7 +41,7 @@ pub(crate) fn content<L: Layout, K: KeptWords>(
     alloc: Global,
     layout: &L,
     kept: &K,
-) -> Result<Vec<u32>, Refusal>
+) -> Result<Vec<Value>, Refusal>
     requires { KeptFit (L.shape layout.now) (K.kept_words kept.now) }
     ensures content { IfOk result (λ values. values.items
         ≡ kept_content (L.shape layout.now) (value_of_place (L.shape layout.now) (K.kept_words kept.now))) }

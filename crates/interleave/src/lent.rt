@@ -25,7 +25,7 @@ use persist::KeptWords;
 use recover::{sound, tells};
 use std::alloc::Global;
 use std::marker::Model;
-use words::{Client, Refusal, Told};
+use words::{Client, Refusal, Told, Value};
 
 /// A world without its memory: what a queue keeps for its clients, the calls that they have under way, and what
 /// happened. Each act is lent the memory, or a window on it, and is the act of a [`World`](crate::World) on those
@@ -142,7 +142,7 @@ impl<L: Layout + Drop> Core<L> {
 
     /// What the queue holds by the kept words, which are lent: the values of the nodes that kept links reach from the
     /// sentinel, the claimed ones left out.
-    pub fn content<K: KeptWords>(&self, kept: &K) -> Result<Vec<u32>, Refusal>
+    pub fn content<K: KeptWords>(&self, kept: &K) -> Result<Vec<Value>, Refusal>
         requires { KeptFit self.now.shape (K.kept_words kept.now) }
         ensures content { IfOk result (λ values. values.items
             ≡ content_of self.now.shape (value_of_place self.now.shape (K.kept_words kept.now))) }

@@ -3,7 +3,8 @@
 ghost use Rattle.std.specs.Prelude.{◌≡◌, ◌≤◌, length, slice_index_or, None};
 ghost use Rattle.arena.specs.Layout.{size_of};
 ghost use Rattle.arena.specs.Shape.{owner};
-ghost use Rattle.arena.specs.Place.{IsPlace};
+ghost use Rattle.arena.specs.Place.{IsNode, IsPlace};
+ghost use Rattle.arena.specs.Words.{HoldsValue, values};
 ghost use Rattle.protocol.specs.Machine.{effects_on_keep, effects_on_count};
 ghost use Rattle.interleave.specs.Core.{machine_over, core_with_effects};
 ghost use Rattle.interleave.specs.Effects.{AreInSequence};
@@ -12,10 +13,10 @@ ghost use Rattle.interleave.specs.Ranges.{WordsFit};
 ghost use Rattle.interleave.specs.Values.{value_of_place};
 
 use crate::lent::Core;
-use arena::{EMPTY_CELL, EMPTY_STATUS, Layout, Place};
+use arena::{EMPTY_CELL, EMPTY_STATUS, Layout, Part, Place, value_of};
 use persist::{Change, EvictableWords, KeptWords};
 use protocol::UnderWay;
-use words::Reply;
+use words::{NodeId, Reply, Value};
 
 /// The kept value of a place. Looking at it is no access.
 pub(crate) fn kept_at<L: Layout, K: KeptWords>(layout: &L, kept: &K, place: Place) -> u64
@@ -25,6 +26,16 @@ pub(crate) fn kept_at<L: Layout, K: KeptWords>(layout: &L, kept: &K, place: Plac
 {
     let word = layout.word(place);
     kept.kept(word)
+}
+
+/// The kept value of a node.
+pub(crate) fn kept_value<L: Layout, K: KeptWords>(layout: &L, kept: &K, node: NodeId) -> Value
+    requires node { IsNode (L.shape layout.now) node.0 }
+    requires room { size_of (L.shape layout.now) ≤ length (K.kept_words kept.now) }
+    requires holds { HoldsValue (value_of_place (L.shape layout.now) (K.kept_words kept.now)) node.0 }
+    ensures { result ≡ values (value_of_place (L.shape layout.now) (K.kept_words kept.now)) node.0 }
+{
+    value_of(kept_at(layout, kept, Place::Item(node, Part::First)))
 }
 
 impl<L: Layout + Drop> Core<L> {
@@ -66,7 +77,7 @@ impl<L: Layout + Drop> Core<L> {
             }
             Place::Mark(node) => {
                 if let Some(under_way) = self.call_with(new) {
-                    let value = kept_at(&self.layout, memory, Place::Value(node)) as u32;
+                    let value = kept_value(&self.layout, memory, node);
                     self.trace.take(under_way.place, Reply::Got(value));
                 }
             }

@@ -17,7 +17,7 @@ use crate::lent::Core;
 use arena::Layout;
 use persist::KeptWords;
 use recover::tells;
-use words::{Refusal, Reports};
+use words::{Refusal, Reports, Value};
 
 impl<L: Layout + Drop> Core<L> {
     /// What the kept words tell the clients.
@@ -39,7 +39,7 @@ impl<L: Layout + Drop> Core<L> {
     /// takes all the memory that a rotation takes, and changes nothing: the owner of several cores asks each of them
     /// before any of their histories ends ([`Core::begin_anew`]). It is refused, in this order, where recovery is under
     /// way (NotReady), where a call is (Busy), and for want of memory (NoMemory).
-    pub fn prepare_rotation<K: KeptWords>(&self, kept: &K) -> Result<Vec<u32>, Refusal>
+    pub fn prepare_rotation<K: KeptWords>(&self, kept: &K) -> Result<Vec<Value>, Refusal>
         requires { KeptFit self.now.shape (K.kept_words kept.now) }
         ensures base { IfOk result (λ base. base.items
             ≡ content_of self.now.shape (value_of_place self.now.shape (K.kept_words kept.now))) }
@@ -58,7 +58,7 @@ impl<L: Layout + Drop> Core<L> {
     /// The history ends, and another begins: its base is what the kept words, which are lent, hold and tell. What they
     /// hold was asked of [`Core::prepare_rotation`], and no act came between. Words and floors of numbers stay. It
     /// takes no memory, and is not refused.
-    pub fn begin_anew<K: KeptWords>(&mut self, kept: &K, base: Vec<u32>)
+    pub fn begin_anew<K: KeptWords>(&mut self, kept: &K, base: Vec<Value>)
         requires sound { AreSoundWords self.old.shape (K.kept_words kept.now) }
         requires quiet { (ws : Words) → rotate_result false (state_of self.old ws) ≡ Ok tt }
         requires base { base.items

@@ -22,7 +22,7 @@ use recover::{Recovery, boot};
 use std::alloc::{AllocError, Global};
 use std::marker::Model;
 use stepper::Begun;
-use words::{Client, MAX_CLIENTS, Reply, Reports, Told};
+use words::{Client, MAX_CLIENTS, Reply, Reports, Told, Value};
 
 /// What happened in a world. Contracts see the history's events, the records that calls took, when calls took
 /// effect, the recovery that is under way, and for how many acts more there is room.
@@ -73,7 +73,7 @@ impl Trace {
     }
 
     /// Nothing happened yet to a queue that held and told this, and recovery begins.
-    pub(crate) fn booted(alloc: Global, base: Vec<u32>, told: Reports) -> Self
+    pub(crate) fn booted(alloc: Global, base: Vec<Value>, told: Reports) -> Self
         ensures base { result.base ≡ base.items }
         ensures told { result.told ≡ told }
         ensures log { result.log ≡ record { events = []; issued = []; effects = [] } }
@@ -242,7 +242,7 @@ impl Trace {
     }
 
     /// The history ends, and another begins on this. The room that events had stays.
-    pub(crate) fn begin_anew(&mut self, base: Vec<u32>, told: Reports)
+    pub(crate) fn begin_anew(&mut self, base: Vec<Value>, told: Reports)
         ensures base { self.new.base ≡ base.items }
         ensures told { self.new.told ≡ told }
         ensures log { self.new.log ≡ empty_trace }

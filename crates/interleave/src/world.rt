@@ -26,7 +26,7 @@ use events::{History, Order};
 use persist::{Change, Memory};
 use std::alloc::Global;
 use std::marker::Model;
-use words::{Call, Client, MAX_STEPS_ALONE, Refusal, Reply, Told};
+use words::{Call, Client, MAX_STEPS_ALONE, Refusal, Reply, Told, Value};
 
 /// One queue over its memory, the calls that its clients have under way, and what happened. A call is started, and
 /// then goes on by single steps, each of them one access to the memory, in any interleaving with the others; at any
@@ -319,7 +319,7 @@ impl<L: Layout + Drop> World<L> {
 
     /// What the queue holds by its kept words: the values of the nodes that kept links reach from the sentinel,
     /// the claimed ones left out.
-    pub fn content(&self) -> Result<Vec<u32>, Refusal>
+    pub fn content(&self) -> Result<Vec<Value>, Refusal>
         ensures content { IfOk result (λ values. values.items ≡ kept_content self.now.now) }
         ensures errors { IfErr result (λ e. e ≡ Refusal.NoMemory) }
     {

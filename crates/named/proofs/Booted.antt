@@ -8,7 +8,7 @@ use Rattle.std.proofs.lemmas.Bool.{cases_eq}
 use Rattle.words.specs.declared.call.Kind.{Kind}
 use Rattle.words.specs.declared.call.Kind.TheVariants.{Durable as durable_kind, Log as log_kind}
 use Rattle.words.specs.declared.refusal.Refusal.{Refusal}
-use Rattle.words.specs.declared.refusal.Refusal.TheVariants.{NoWord, BadMagic, BadCount, Truncated, TrailingBytes, NoMemory, BadClients, BadRecords, StaleNumber, Busy, NoRoom, NotReady, NoClient, Idle, AlreadyReady, BadName, Exists, DirectoryFull, Gap, Old, NoQueue, WrongKind, TooLong, BadJson, BadRequest, ReadFailed, WriteFailed, BadLine, Damaged}
+use Rattle.words.specs.declared.refusal.Refusal.TheVariants.{NoWord, BadMagic, BadCount, Truncated, TrailingBytes, NoMemory, BadClients, BadRecords, StaleNumber, Busy, NoRoom, NotReady, NoClient, Idle, AlreadyReady, BadName, Exists, DirectoryFull, Gap, Old, NoQueue, WrongKind, TooLong, BadJson, BadRequest, ReadFailed, WriteFailed, BadLine, Damaged, BadItem}
 use Rattle.words.specs.declared.refusal.Rule.{Rule}
 use Rattle.words.specs.declared.refusal.Rule.TheVariants.{Size, Records, Chain, Claims, Ends, Rows, Entries, Image, Directory as directory_rule}
 use Rattle.persist.specs.Memory.{Words, words_after_crash}
@@ -92,6 +92,7 @@ for_memory s ws sound BadRequest h = absurd h
 for_memory s ws sound ReadFailed h = absurd h
 for_memory s ws sound WriteFailed h = absurd h
 for_memory s ws sound (BadLine line) h = absurd h
+for_memory s ws sound BadItem h = absurd h
 
 -- what holds of each slot before this one, and of what is put there, holds of each slot before the next
 pub slots_more : (holds : ℕ → Slot → Type 0) (slots : List Slot) (n : ℕ) (own : Slot) → n < length slots

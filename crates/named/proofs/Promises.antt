@@ -9,7 +9,7 @@ use Rattle.words.specs.declared.call.Kind.TheVariants.{Durable as durable_kind, 
 use Rattle.persist.specs.Memory.{Words, words_after_crash}
 use Rattle.persist.proofs.Parts.{index_within}
 use Rattle.arena.specs.Broker.{block_from, block_size_of, broker_size}
-use Rattle.arena.specs.Layout.{size_of}
+use Rattle.arena.specs.Layout.{size_in, size_of}
 use Rattle.arena.specs.Limits.{AreCounts}
 use Rattle.arena.specs.Shape.{Counts, Shape, shape_of}
 use Rattle.recover.specs.Sound.{AreSoundWords}
@@ -58,7 +58,7 @@ explained_well b holds slot w is = go (slice_get b.slots slot) refl is
 
 -- a block has room for a queue of either kind
 block_fits : (kind : Kind) (c : Counts) → size_of (shape_of kind c) ≤ block_size_of c.clients c.records
-unfolding size_of
+unfolding size_in
 block_fits durable_kind c = omega arith
 block_fits log_kind c = omega arith
 

@@ -5,6 +5,7 @@ use Rattle.std.specs.List.{list_any}
 use Rattle.std.proofs.lemmas.Bool.{cases_eq, cases_lt}
 use Rattle.std.proofs.lemmas.List.{length_push, length-set}
 use Rattle.std.proofs.lemmas.Option.{slice_get-get_or, slice_get_past, slice_get_within}
+use Rattle.words.specs.PlainQueue.{Value}
 use Rattle.words.specs.declared.refusal.Refusal.{Refusal}
 use Rattle.words.specs.declared.refusal.Refusal.TheVariants.{NotReady, Busy, NoMemory}
 use Rattle.persist.specs.Memory.{Words}
@@ -52,7 +53,7 @@ get_left (z ∷ xs) x zero y e = e
 get_left (z ∷ xs) x (suc at) y e = get_left xs x at y e
 
 -- a base more
-pub bases_more : (ws : Words) (slots : List Slot) (bases : List (List ℕ)) (slot : Slot) (base : List ℕ)
+pub bases_more : (ws : Words) (slots : List Slot) (bases : List (List ℕ)) (slot : Slot) (base : List Value)
     → ((at : ℕ) (s : Slot) (b : List ℕ) → slice_get slots at ≡ Some s → slice_get bases at ≡ Some b → IsBaseIn ws s b)
     → slice_get slots (length bases) ≡ Some slot → IsBaseIn ws slot base
     → (at : ℕ) (s : Slot) (b : List ℕ) → slice_get slots at ≡ Some s → slice_get (bases ++ base ∷ []) at ≡ Some b → IsBaseIn ws s b
@@ -67,11 +68,11 @@ bases_more ws slots bases slot base each here own at s b there more = elim (get_
 pub record AreBegunFrom (ws : Words) (old : List Slot) (bases : List (List ℕ)) (new : List Slot) (left : List (List ℕ)) : Type 0 where
   pub count : length new ≡ length old
   pub few : length left ≤ length old
-  pub bases_left : (at : ℕ) (base : List ℕ) → slice_get left at ≡ Some base → slice_get bases at ≡ Some base
+  pub bases_left : (at : ℕ) (base : List Value) → slice_get left at ≡ Some base → slice_get bases at ≡ Some base
   pub still : (at : ℕ) → at < length left → slice_get new at ≡ slice_get old at
   pub begun : (at : ℕ) (was is : Slot) → length left ≤ at → slice_get old at ≡ Some was → slice_get new at ≡ Some is → IsBegunAnew ws was is
 
-pub begun_more : (ws : Words) (old : List Slot) (bases : List (List ℕ)) (new : List Slot) (left : List (List ℕ)) (base : List ℕ) (was is : Slot)
+pub begun_more : (ws : Words) (old : List Slot) (bases : List (List ℕ)) (new : List Slot) (left : List (List ℕ)) (base : List Value) (was is : Slot)
     → AreBegunFrom ws old bases new (left ++ base ∷ []) → slice_get new (length left) ≡ Some was → IsBegunAnew ws was is
     → AreBegunFrom ws old bases (slice_set new (length left) is) left
 begun_more ws old bases new left base was is h here begun =
@@ -92,12 +93,12 @@ begun_more ws old bases new left base was is h here begun =
     }
 
 -- the slot whose history ends next is as it was, and there is its base
-pub record IsNext (old new : List Slot) (bases : List (List ℕ)) (base : List ℕ) (at : ℕ) (slot : Slot) : Type 0 where
+pub record IsNext (old new : List Slot) (bases : List (List ℕ)) (base : List Value) (at : ℕ) (slot : Slot) : Type 0 where
   pub now : slice_get new at ≡ Some slot
   pub was : slice_get old at ≡ Some slot
   pub its_base : slice_get bases at ≡ Some base
 
-pub next_slot : (ws : Words) (old : List Slot) (bases : List (List ℕ)) (new : List Slot) (left : List (List ℕ)) (base : List ℕ) (at : ℕ) (d : Slot)
+pub next_slot : (ws : Words) (old : List Slot) (bases : List (List ℕ)) (new : List Slot) (left : List (List ℕ)) (base : List Value) (at : ℕ) (d : Slot)
     → AreBegunFrom ws old bases new (left ++ base ∷ []) → at ≡ length left → IsNext old new bases base at (slice_index_or new at d)
 next_slot ws old bases new left base at d h last =
     let long : length (left ++ base ∷ []) ≡ length left + 1 = length_push left base in

@@ -1,6 +1,7 @@
 -- A rotation of a broker: the histories of all its queues end, and others begin.
 use Rattle.std.specs.Prelude.{◌≡◌, ◌≤◌, ℕ, Bool, true, false, ◌||◌, is_some, List, Some, length, slice_get, Result, Ok, Err, if◌then◌else◌}
 use Rattle.std.specs.List.{list_any}
+use Rattle.words.specs.PlainQueue.{Value}
 use Rattle.words.specs.declared.refusal.Refusal.{Refusal}
 use Rattle.words.specs.declared.refusal.Refusal.TheVariants.{NotReady, Busy, NoMemory}
 use Rattle.persist.specs.Memory.{Words}
@@ -22,7 +23,7 @@ abbrev pub IsQuietIn : Slot → Type 0
 IsQuietIn slot = IsReadyIn true slot × (has_calls_in slot ≡ false)
 
 -- what the next history of the slot's queue begins with: what its kept words hold
-abbrev pub IsBaseIn : Words → Slot → List ℕ → Type 0
+abbrev pub IsBaseIn : Words → Slot → List Value → Type 0
 IsBaseIn ws slot base = IfWorld (world_in ws slot) (λ w. base ≡ kept_content w)
 
 -- the slot's queue, if it has one, began a history on what it holds and tells
@@ -37,10 +38,10 @@ pub record IsBegunAnew (ws : Words) (old new : Slot) : Type 0 where
 abbrev pub AreQuiet : Words → List Slot → Type 0
 AreQuiet ws slots = (at : ℕ) (slot : Slot) → slice_get slots at ≡ Some slot → IsSlotWell ws slot × IsQuietIn slot
 
-pub record AreBases (ws : Words) (slots : List Slot) (bases : List (List ℕ)) : Type 0 where
+pub record AreBases (ws : Words) (slots : List Slot) (bases : List (List Value)) : Type 0 where
   pub count : length bases ≡ length slots
-  pub each : (at : ℕ) (slot : Slot) (base : List ℕ) → slice_get slots at ≡ Some slot → slice_get bases at ≡ Some base
-      → IsBaseIn ws slot base
+  pub each : (at : ℕ) (slot : Slot) (base : List Value) → slice_get slots at ≡ Some slot
+      → slice_get bases at ≡ Some base → IsBaseIn ws slot base
 
 pub record AreBegunAnew (ws : Words) (old new : List Slot) : Type 0 where
   pub count : length new ≡ length old

@@ -23,7 +23,9 @@ use interleave::Core;
 use persist::{Change, Memory};
 use std::alloc::Global;
 use std::marker::Model;
-use words::{Call, Client, MAX_STEPS_ALONE, QUEUE_PORTS, RECOVERY_PORT, Refusal, Reply, Told};
+use words::{
+    Call, Client, MAX_STEPS_ALONE, QUEUE_PORTS, RECOVERY_PORT, Refusal, Reply, Told, Value,
+};
 
 /// A queue's core, where its words lie, in the block of a slot, and the first of its ports: each client has one, and
 /// recovery the one behind them.
@@ -243,7 +245,7 @@ impl<L: Layout + Drop> Block<L> {
     }
 
     /// What the queue holds by the kept words of its block.
-    pub(crate) fn content(&self, memory: &Memory) -> Result<Vec<u32>, Refusal>
+    pub(crate) fn content(&self, memory: &Memory) -> Result<Vec<Value>, Refusal>
         requires { IsWellIn memory.now.words self.now }
         ensures content { IfOk result (λ values. values.items ≡ kept_content (state_in memory.now.words self.now)) }
         ensures errors { IfErr result (λ e. e ≡ Refusal.NoMemory) }
@@ -333,7 +335,7 @@ impl<L: Layout + Drop> Block<L> {
     }
 
     /// What another history would begin with, were this one to end now.
-    pub(crate) fn prepare_rotation(&self, memory: &Memory) -> Result<Vec<u32>, Refusal>
+    pub(crate) fn prepare_rotation(&self, memory: &Memory) -> Result<Vec<Value>, Refusal>
         requires { IsWellIn memory.now.words self.now }
         ensures base { IfOk result (λ base. base.items ≡ kept_content (state_in memory.now.words self.now)) }
         ensures quiet { (ws : Words) → OnOk result (rotate_result false (state_in ws self.now) ≡ Ok tt) }
@@ -344,7 +346,7 @@ impl<L: Layout + Drop> Block<L> {
     }
 
     /// The history ends, and another begins with this base.
-    pub(crate) fn begin_anew(&mut self, memory: &Memory, base: Vec<u32>)
+    pub(crate) fn begin_anew(&mut self, memory: &Memory, base: Vec<Value>)
         requires well { IsWellIn memory.now.words self.old }
         requires quiet { (ws : Words) → rotate_result false (state_in ws self.old) ≡ Ok tt }
         requires base { base.items ≡ kept_content (state_in memory.now.words self.old) }

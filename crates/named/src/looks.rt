@@ -15,7 +15,7 @@ use crate::broker::Broker;
 use crate::slot::Slot;
 use arena::{Layout, SlotId};
 use events::{History, Order};
-use words::{Client, Kind, Refusal, Told};
+use words::{Client, Kind, Refusal, Told, Value};
 
 impl Broker {
     /// A slot, where there is one.
@@ -100,7 +100,7 @@ impl Broker {
 
     /// What the queue of a slot holds by its kept words. It is refused, in this order, where the slot is closed
     /// (NoQueue), and for want of memory (NoMemory).
-    pub fn content(&self, slot: SlotId) -> Result<Vec<u32>, Refusal>
+    pub fn content(&self, slot: SlotId) -> Result<Vec<Value>, Refusal>
         ensures content { IfOk result (λ values. IfWorld (world_at self.now slot.0)
             (λ w. values.items ≡ kept_content w)) }
         ensures open { OnOk result (IsSome (world_at self.now slot.0)) }

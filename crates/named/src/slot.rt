@@ -25,7 +25,7 @@ use arena::{BrokerLayout, DurableLayout, LogLayout, SLOTS, SlotId};
 use events::{History, Order};
 use persist::{Change, EvictableWords, Memory};
 use std::alloc::Global;
-use words::{Call, Client, Kind, MAX_STEPS_ALONE, QUEUE_PORTS, Refusal, Reply, Told};
+use words::{Call, Client, Kind, MAX_STEPS_ALONE, QUEUE_PORTS, Refusal, Reply, Told, Value};
 
 /// A slot: nobody has created a queue in it, or it has one of either kind.
 #[derive(Drop)]
@@ -211,7 +211,7 @@ impl Slot {
     }
 
     /// What its queue holds by the kept words.
-    pub(crate) fn content(&self, memory: &Memory) -> Result<Vec<u32>, Refusal>
+    pub(crate) fn content(&self, memory: &Memory) -> Result<Vec<Value>, Refusal>
         requires { IsSlotWell memory.now.words self.now }
         ensures content { IfOk result (λ values. IfWorld (world_in memory.now.words self.now)
             (λ w. values.items ≡ kept_content w)) }
@@ -434,7 +434,7 @@ impl Slot {
         &self,
         alloc: Global,
         memory: &Memory,
-    ) -> Result<Vec<u32>, Refusal>
+    ) -> Result<Vec<Value>, Refusal>
         requires well { IsSlotWell memory.now.words self.now }
         requires quiet { IsQuietIn self.now }
         ensures base { IfOk result (λ base. IsBaseIn memory.now.words self.now base.items) }
@@ -448,7 +448,7 @@ impl Slot {
     }
 
     /// The history of its queue ends, and another begins with this base.
-    pub(crate) fn begin_anew(&mut self, memory: &Memory, base: Vec<u32>)
+    pub(crate) fn begin_anew(&mut self, memory: &Memory, base: Vec<Value>)
         requires well { IsSlotWell memory.now.words self.old }
         requires quiet { IsQuietIn self.old }
         requires base { IsBaseIn memory.now.words self.old base.items }

@@ -15,7 +15,7 @@ use arena::{SLOTS, SlotId};
 use directory::KeptBroker;
 use persist::Memory;
 use std::alloc::Global;
-use words::Refusal;
+use words::{Refusal, Value};
 
 /// Eight closed slots.
 pub(crate) fn closed_slots(alloc: Global) -> Result<Vec<Slot>, Refusal>
@@ -109,7 +109,7 @@ pub(crate) fn have_calls(slots: &[Slot]) -> bool
 }
 
 /// What the next history of each slot's queue would begin with; of a closed one, nothing.
-pub(crate) fn prepare_each(slots: &Vec<Slot>, memory: &Memory) -> Result<Vec<Vec<u32>>, Refusal>
+pub(crate) fn prepare_each(slots: &Vec<Slot>, memory: &Memory) -> Result<Vec<Vec<Value>>, Refusal>
     requires { AreQuiet memory.now.words slots.now.items }
     ensures bases { IfOk result (λ bases. AreBases memory.now.words slots.now.items (map (λ base. base.items) bases.items)) }
     ensures errors { IfErr result (λ e. e ≡ Refusal.NoMemory) }
@@ -128,7 +128,7 @@ pub(crate) fn prepare_each(slots: &Vec<Slot>, memory: &Memory) -> Result<Vec<Vec
 }
 
 /// The history of each open slot's queue ends, and another begins with its base.
-pub(crate) fn begin_each(slots: &mut [Slot], memory: &Memory, mut bases: Vec<Vec<u32>>)
+pub(crate) fn begin_each(slots: &mut [Slot], memory: &Memory, mut bases: Vec<Vec<Value>>)
     requires quiet { AreQuiet memory.now.words slots.old }
     requires bases { AreBases memory.now.words slots.old (map (λ base. base.items) bases.items) }
     ensures { AreBegunAnew memory.now.words slots.old slots.new }

@@ -1,11 +1,12 @@
 -- Acts of the machine, in any sequence, and the queue that begins it.
 use Rattle.std.specs.Prelude.{◌≡◌, ℕ, ◌+◌, ◌≤◌, ◌<◌, Bool, true, ◌&&◌, List, [], ◌∷◌, Option, Some, None, length, slice_get, nat_lt, nat_le, if◌then◌else◌, ◌==◌}
+use Rattle.words.specs.PlainQueue.{fits_value}
 use Rattle.words.specs.declared.call.Call.{Call}
 use Rattle.words.specs.declared.call.Call.TheVariants.{Enq, Deq}
 use Rattle.words.specs.declared.call.Client.{Client}
 use Rattle.words.specs.declared.call.Kind.{Kind}
 use Rattle.words.specs.declared.call.Kind.TheVariants.{Durable, Log}
-use Rattle.words.specs.declared.limits.TheConstants.{MAX_CALL_NUMBER, MAX_CLIENTS, MAX_VALUE}
+use Rattle.words.specs.declared.limits.TheConstants.{MAX_CALL_NUMBER, MAX_CLIENTS}
 use Rattle.words.specs.declared.told.Told.{Told}
 use Rattle.words.specs.declared.told.Told.TheVariants.{None as told_none}
 use Rattle.arena.specs.Content.{kept_content}
@@ -57,7 +58,7 @@ number_fits Durable number = number == 0
 number_fits Log number = nat_le 1 number && nat_le number MAX_CALL_NUMBER
 
 abbrev pub call_fits : Call → Bool
-call_fits (Enq value) = nat_le value MAX_VALUE
+call_fits (Enq value) = fits_value value
 call_fits Deq = true
 
 -- whether there is such a client, with a record left, and the call fits

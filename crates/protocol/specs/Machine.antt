@@ -1,5 +1,6 @@
 -- The machine: a queue's words by their places, the calls under way, the history, and what each act makes of them.
 use Rattle.std.specs.Prelude.{◌≡◌, ℕ, ◌≤◌, ◌<◌, List, [], ◌∷◌, ◌++◌, length, Option, Some, None, if◌then◌else◌, ◌==◌}
+use Rattle.words.specs.PlainQueue.{FitsValue, Value}
 use Rattle.words.specs.declared.call.Call.{Call}
 use Rattle.words.specs.declared.call.Call.TheVariants.{Enq, Deq}
 use Rattle.words.specs.declared.call.Client.{Client}
@@ -7,7 +8,7 @@ use Rattle.words.specs.declared.call.Kind.{Kind}
 use Rattle.words.specs.declared.call.Kind.TheVariants.{Durable, Log}
 use Rattle.words.specs.declared.call.Reply.{Reply}
 use Rattle.words.specs.declared.call.Reply.TheVariants.{Done as done, Got}
-use Rattle.words.specs.declared.limits.TheConstants.{MAX_CALL_NUMBER, MAX_VALUE}
+use Rattle.words.specs.declared.limits.TheConstants.{MAX_CALL_NUMBER}
 use Rattle.words.specs.declared.told.Told.{Told}
 use Rattle.persist.specs.Memory.{Access, Load, Store, Cas, Flush, Fence}
 use Rattle.arena.specs.Shape.{Shape, record_of, owner}
@@ -67,7 +68,7 @@ pub record World : Type 0 where
   pub memory : Memory
   pub calls : ℕ → Option UnderWay
   pub recovery : Option Recovery
-  pub base : List ℕ
+  pub base : List Value
   pub told : List Told
   pub log : Trace
 
@@ -229,7 +230,7 @@ FitsKind Durable number = number ≡ 0
 FitsKind Log number = (1 ≤ number) × (number ≤ MAX_CALL_NUMBER)
 
 abbrev pub FitsCall : Call → Type 0
-FitsCall (Enq value) = value ≤ MAX_VALUE
+FitsCall (Enq value) = FitsValue value
 FitsCall Deq = Unit {0}
 
 -- the client may start the call: the queue is ready, it has none under way, and a record is left

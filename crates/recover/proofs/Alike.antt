@@ -6,12 +6,13 @@ use Rattle.words.specs.declared.call.Kind.{Kind}
 use Rattle.words.specs.declared.call.Kind.TheVariants.{Durable, Log}
 use Rattle.arena.specs.Shape.{Shape, greatest, owner, record_of}
 use Rattle.arena.specs.Place.{IsPlace, IsNode, IsRecord}
-use Rattle.arena.specs.Words.{links, marks, values, cells, numbers, entry_kinds, statuses, entry_nodes, announcements, bumps}
+use Rattle.arena.specs.Words.{links, marks, value_of, values, cells, numbers, entry_kinds, statuses, entry_nodes, announcements, bumps}
 use Rattle.arena.specs.Chain.{IsChain, IsAmong, LeadsTo, walk}
 use Rattle.arena.specs.Chain.LeadsTo.{there, on}
 use Rattle.arena.specs.Content.{chain_of}
+use Rattle.arena.specs.declared.place.Part.TheVariants.{First}
 use Rattle.arena.specs.declared.place.Place.{Place}
-use Rattle.arena.specs.declared.place.Place.TheVariants.{Head, Tail, Announcement, Bump, Value, Next, Mark, Cell, Insert, Number, EntryKind, Status, EntryNode}
+use Rattle.arena.specs.declared.place.Place.TheVariants.{Head, Tail, Announcement, Bump, Item, Next, Mark, Cell, Insert, Number, EntryKind, Status, EntryNode}
 use Rattle.recover.specs.Sound.{IsIssued, IsBlank, IsBlankAnswer, IsLoose, IsOnChain, IsClaimed, IsPassed, IsOwn, IsClaimOf, IsResult, IsOfSomeCall, IsAnnounced, IsInserted, AnswersAreSound, RowsAreSound, EntriesAreSound, RecordsAreSound, ChainIsSound, ClaimsAreSound, EndsAreSound, IsSound}
 use Rattle.recover.proofs.Chains.{walk_end, walk_next}
 use Rattle.recover.proofs.Surveys.{record_on_chain, in_chain}
@@ -37,8 +38,11 @@ module _ (s : Shape) (k l : Place → ℕ) (same : (p : Place) → IsPlace s p �
   mark : (n : ℕ) → IsNode s n → marks l n ≡ marks k n
   mark n i = same (Mark (record { 0 = n })) i
 
+  word : (n : ℕ) → IsNode s n → l (Item (record { 0 = n }) First) ≡ k (Item (record { 0 = n }) First)
+  word n i = same (Item (record { 0 = n }) First) i
+
   value : (n : ℕ) → IsNode s n → values l n ≡ values k n
-  value n i = same (Value (record { 0 = n })) i
+  value n i = ap value_of (word n i)
 
   -- the chain
   walk_like : (fuel n : ℕ) → IsNode s n → ((m : ℕ) → IsAmong m (walk fuel (links k) n) → IsNode s m) → walk fuel (links l) n ≡ walk fuel (links k) n
@@ -120,7 +124,7 @@ module _ (s : Shape) (k l : Place → ℕ) (same : (p : Place) → IsPlace s p �
     unused = λ n r. record {
       blank = λ none.
           let b : IsBlank s k n = (h.records.unused n r).blank (λ i. none (issued n i)) in
-          record { value = value n r.1 ∙ b.value; link = link n r.1 ∙ b.link; mark = mark n r.1 ∙ b.mark; answer = blank_answer s.kind refl n r b.answer };
+          record { value = word n r.1 ∙ b.value; link = link n r.1 ∙ b.link; mark = mark n r.1 ∙ b.mark; answer = blank_answer s.kind refl n r b.answer };
     };
   }
 
@@ -134,7 +138,7 @@ module _ (s : Shape) (k l : Place → ℕ) (same : (p : Place) → IsPlace s p �
           record { link = link n r.1 ∙ q.link; mark = mark n r.1 ∙ q.mark };
     };
     sentinel = record {
-      value = value 0 (omega arith) ∙ h.chain.sentinel.value;
+      value = word 0 (omega arith) ∙ h.chain.sentinel.value;
       mark = mark 0 (omega arith) ∙ h.chain.sentinel.mark;
       insert = λ log. same (Insert (record { 0 = 0 })) (log, omega arith) ∙ h.chain.sentinel.insert log;
     };
@@ -142,7 +146,7 @@ module _ (s : Shape) (k l : Place → ℕ) (same : (p : Place) → IsPlace s p �
 
   claims_sound : ClaimsAreSound s l
   claims_sound = record {
-    in_range = λ n i. subst (λ x. x ≤ 4294967295) (sym (value n i)) (h.claims.in_range n i);
+    in_range = λ n i. subst (λ x. x ≤ 4294967295) (sym (word n i)) (h.claims.in_range n i);
     in_turn = λ n i c z.
         let j : IsOnChain s k n = back n i in
         h.claims.in_turn n j (claimed (links k n) (subst (IsClaimed s l) (link n (node n j)) c)) (sym (mark n (node n j)) ∙ z);

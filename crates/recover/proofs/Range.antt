@@ -1,15 +1,17 @@
 -- What follows from sound words: the words that recovery and calls read are in range; and all words zero are sound.
 use Rattle.std.proofs.Common.{◌≡◌, ℕ, ◌≤◌, ◌<◌, inl, inr, refl, ◌∙◌, ap, subst, arith}
 use Rattle.std.proofs.lemmas.Bool.{cases_eq, cases_lt}
+use Rattle.words.specs.PlainQueue.{FitsValue}
 use Rattle.words.specs.declared.call.Kind.{Kind}
 use Rattle.words.specs.declared.call.Kind.TheVariants.{Durable, Log}
 use Rattle.arena.specs.Shape.{Shape, greatest}
 use Rattle.arena.specs.Place.{IsPlace, IsNode, IsRecord}
 use Rattle.arena.specs.Ranges.{Fits}
-use Rattle.arena.specs.Words.{links, marks, values, cells, inserts, numbers, entry_kinds, statuses, entry_nodes, announcements}
+use Rattle.arena.specs.Words.{links, marks, values, values_fit, cells, inserts, numbers, entry_kinds, statuses, entry_nodes, announcements}
 use Rattle.arena.specs.Content.{chain_of}
+use Rattle.arena.specs.declared.place.Part.TheVariants.{Length, First, Second, Third}
 use Rattle.arena.specs.declared.place.Place.{Place}
-use Rattle.arena.specs.declared.place.Place.TheVariants.{Head, Tail, Announcement, Bump, Value, Next, Mark, Cell, Insert, Number, EntryKind, Status, EntryNode}
+use Rattle.arena.specs.declared.place.Place.TheVariants.{Head, Tail, Announcement, Bump, Item, Next, Mark, Cell, Insert, Number, EntryKind, Status, EntryNode}
 use Rattle.recover.specs.Sound.{IsAnnouncedOne, IsRead, AnswersAreSound, RowsAreSound, EntriesAreSound, ChainIsSound, IsSound}
 use Rattle.recover.proofs.Surveys.{record_on_chain, claimed_by_mark, next_on_chain, in_chain}
 
@@ -56,7 +58,7 @@ cell_within s kept h kind c r =
       | inl few ↦ omega (arith, few)
       | inr two ↦
           let result = (rows_of s kept kind h).results c r two in
-          let value : values kept result.node ≤ 4294967295 = h.claims.in_range result.node (record_on_chain s kept h.chain result.node result.claim.on_chain).1 in
+          let value : FitsValue (values kept result.node) = values_fit kept result.node (h.claims.in_range result.node (record_on_chain s kept h.chain result.node result.claim.on_chain).1) in
           omega (arith, value, result.value)
     ]
 
@@ -99,7 +101,10 @@ sound_fits s kept h Head place read = elim h.ends.head [ inl z ↦ omega (arith,
 sound_fits s kept h Tail place read = elim h.ends.tail [ inl z ↦ omega (arith, z) | inr c ↦ (record_on_chain s kept h.chain (kept Tail) c).1 ]
 sound_fits s kept h (Announcement t) place read = announced_within s.kind s kept h.answers t.0 place
 sound_fits s kept h (Bump t) place read = h.records.within t.0 place
-sound_fits s kept h (Value n) place read = h.claims.in_range n.0 place
+sound_fits s kept h (Item n Length) place read = absurd place
+sound_fits s kept h (Item n First) place read = h.claims.in_range n.0 place
+sound_fits s kept h (Item n Second) place read = absurd place
+sound_fits s kept h (Item n Third) place read = absurd place
 sound_fits s kept h (Next n) place read = link_within s kept h.chain n.0 place
 sound_fits s kept h (Mark n) place read = mark_within s kept h n.0 place
 sound_fits s kept h (Cell c) place read = cell_within s kept h place.0 c.0 place.1

@@ -7,18 +7,19 @@ use Rattle.words.specs.declared.refusal.Refusal.{Refusal}
 use Rattle.words.specs.declared.refusal.Refusal.TheVariants.{Damaged}
 use Rattle.words.specs.declared.refusal.Rule.{Rule}
 use Rattle.words.specs.declared.refusal.Rule.TheVariants.{Size, Records, Chain, Claims, Ends, Rows, Entries, Image, Directory}
-use Rattle.words.specs.declared.limits.TheConstants.{MAX_CALL_NUMBER, MAX_VALUE}
+use Rattle.words.specs.declared.limits.TheConstants.{MAX_CALL_NUMBER}
 use Rattle.arena.specs.declared.codes.TheConstants.{DEQUEUE_KIND, EMPTY_CELL, EMPTY_STATUS, ENQUEUE_KIND, GOT_CELL, TAKEN_STATUS}
 use Rattle.arena.specs.Broker.{block_size_of}
 use Rattle.arena.specs.Layout.{size_of}
 use Rattle.recover.specs.Kept.{kept_in}
 use Rattle.arena.specs.Shape.{Shape, greatest, record_of, owner}
 use Rattle.arena.specs.Place.{IsClient, IsNode, IsRecord}
-use Rattle.arena.specs.Words.{links, marks, values, inserts, cells, numbers, entry_kinds, statuses, entry_nodes, bumps, announcements}
+use Rattle.arena.specs.Words.{links, marks, values, HoldsValue, inserts, cells, numbers, entry_kinds, statuses, entry_nodes, bumps, announcements}
 use Rattle.arena.specs.Chain.{IsChain, IsAmong, LeadsTo}
 use Rattle.arena.specs.Content.{chain_of}
+use Rattle.arena.specs.declared.place.Part.TheVariants.{First}
 use Rattle.arena.specs.declared.place.Place.{Place}
-use Rattle.arena.specs.declared.place.Place.TheVariants.{Head, Tail, Insert, Number, EntryNode}
+use Rattle.arena.specs.declared.place.Place.TheVariants.{Head, Tail, Item, Insert, Number, EntryNode}
 
 -- a block of a broker: past the queue's words it is all zero
 pub record IsBlock (s : Shape) (ws : List ℕ) : Type 0 where
@@ -48,7 +49,7 @@ IsBlankAnswer Durable kept n = cells kept n ≡ 0
 IsBlankAnswer Log kept n = IsBlankEntry kept n
 
 pub record IsBlank (s : Shape) (kept : Place → ℕ) (n : ℕ) : Type 0 where
-  pub value : values kept n ≡ 0
+  pub value : kept (Item (record { 0 = n }) First) ≡ 0
   pub link : links kept n ≡ 0
   pub mark : marks kept n ≡ 0
   pub answer : IsBlankAnswer s.kind kept n
@@ -79,7 +80,7 @@ pub record IsLooseIfOff (s : Shape) (kept : Place → ℕ) (n : ℕ) : Type 0 wh
 
 -- the words of node 0, but for its link, are 0
 pub record IsSentinel (s : Shape) (kept : Place → ℕ) : Type 0 where
-  pub value : values kept 0 ≡ 0
+  pub value : kept (Item (record { 0 = 0 }) First) ≡ 0
   pub mark : marks kept 0 ≡ 0
   pub insert : s.kind ≡ Log → inserts kept 0 ≡ 0
 
@@ -92,7 +93,7 @@ pub record ChainIsSound (s : Shape) (kept : Place → ℕ) : Type 0 where
 
 -- values are in range; no claimed node follows an unclaimed one; claims are by used records, each by its own
 pub record ClaimsAreSound (s : Shape) (kept : Place → ℕ) : Type 0 where
-  pub in_range : (n : ℕ) → IsNode s n → values kept n ≤ MAX_VALUE
+  pub in_range : (n : ℕ) → IsNode s n → HoldsValue kept n
   pub in_turn : (n : ℕ) → IsOnChain s kept n → IsClaimed s kept (links kept n) → marks kept n ≢ 0
   pub issued : (n : ℕ) → IsClaimed s kept n → IsIssued s kept (marks kept n)
   pub once : (n m : ℕ) → IsClaimed s kept n → IsClaimed s kept m → marks kept n ≡ marks kept m → n ≡ m

@@ -1,5 +1,6 @@
 -- The table of recovery: the access of each waiting point, and what comes then.
 use Rattle.std.specs.Prelude.{◌≡◌, ℕ, ◌+◌, ◌-◌, ◌≤◌, Bool, true, false, ◌&&◌, not, List, replicate, slice_set, Option, Some, None, if◌then◌else◌, ◌==◌, nat_lt, IfSome}
+use Rattle.words.specs.PlainQueue.{FitsValue}
 use Rattle.words.specs.declared.call.Kind.{Kind}
 use Rattle.words.specs.declared.call.Kind.TheVariants.{Durable, Log}
 use Rattle.words.specs.declared.call.Client.{Client}
@@ -12,15 +13,17 @@ use Rattle.words.specs.declared.told.Row.{Row}
 use Rattle.words.specs.declared.told.Row.TheVariants.{NoCall, Open, Empty as row_empty, Got as row_got}
 use Rattle.words.specs.declared.told.Told.{Told}
 use Rattle.words.specs.declared.told.Told.TheVariants.{None as told_none, Verdict as told_verdict, Row as told_row}
-use Rattle.words.specs.declared.limits.TheConstants.{MAX_CALL_NUMBER, MAX_CLIENTS, MAX_VALUE}
+use Rattle.words.specs.declared.limits.TheConstants.{MAX_CALL_NUMBER, MAX_CLIENTS}
 use Rattle.arena.specs.declared.codes.TheConstants.{EMPTY_CELL, EMPTY_STATUS, ENQUEUE_KIND, GOT_CELL, TAKEN_STATUS}
 use Rattle.persist.specs.Memory.{Access, Load, Store, Flush, Fence}
 use Rattle.arena.specs.Shape.{Shape}
 use Rattle.arena.specs.Place.{IsClient, IsNode, IsRecord}
 use Rattle.arena.specs.Answers.{result_of}
+use Rattle.arena.specs.Words.{value_of}
+use Rattle.arena.specs.declared.place.Part.TheVariants.{First}
 use Rattle.arena.specs.declared.place.Write.{Write}
 use Rattle.arena.specs.declared.place.Place.{Place}
-use Rattle.arena.specs.declared.place.Place.TheVariants.{Head, Tail, Announcement, Value, Next, Mark, Cell, Insert, Number, EntryKind, Status, EntryNode}
+use Rattle.arena.specs.declared.place.Place.TheVariants.{Head, Tail, Announcement, Item, Next, Mark, Cell, Insert, Number, EntryKind, Status, EntryNode}
 use Rattle.stepper.specs.declared.resume.After.{After}
 use Rattle.stepper.specs.declared.resume.After.TheVariants.{More, Done as Ended}
 use Rattle.recover.specs.declared.recovery.Recovery.{Recovery}
@@ -53,7 +56,7 @@ access_of kind (RecoveryLoadNext p) = Load (Next p.cur)
 access_of kind (RecoveryLoadInsert p) = Load (Insert p.node)
 access_of kind (RecoveryStoreStatus p) = Store (Status p.entry) TAKEN_STATUS
 access_of kind (RecoveryLoadMark p) = Load (Mark p.node)
-access_of kind (RecoveryLoadValue p) = Load (Value p.node)
+access_of kind (RecoveryLoadValue p) = Load (Item p.node First)
 access_of kind (RecoveryStoreResult p) = store (result_of kind p.mark p.node p.value)
 access_of kind (RecoveryStoreHead p) = Store Head p.cur.0
 access_of kind (RecoveryStoreTail p) = Store Tail p.cur.0
@@ -64,7 +67,7 @@ access_of kind (RecoveryLoadKind p) = Load (EntryKind p.token)
 access_of kind (RecoveryLoadStatus p) = Load (Status p.token)
 access_of kind (RecoveryLoadRemove p) = Load (Mark (node_at p.token.0))
 access_of kind (RecoveryLoadEntryNode p) = Load (EntryNode p.token)
-access_of kind (RecoveryLoadRemovedValue p) = Load (Value p.node)
+access_of kind (RecoveryLoadRemovedValue p) = Load (Item p.node First)
 access_of kind (FlushPoint k) = Flush (kept_place kind k)
 access_of kind (FencePoint k) = Fence (kept_place kind k)
 
@@ -137,7 +140,7 @@ successor s (RecoveryLoadMark p) found =
     More (if found == 0 then RecoveryStoreHead (record { cur = p.cur; unclaimed = Some p.node })
     else to_mark s.kind p.node (token_at found))
 successor s (RecoveryLoadValue p) found =
-    More (RecoveryStoreResult (record { node = p.node; mark = p.mark; value = found }))
+    More (RecoveryStoreResult (record { node = p.node; mark = p.mark; value = value_of found }))
 successor s (RecoveryStoreResult p) found =
     More (FlushPoint (KeepResult (record { node = p.node; mark = p.mark; value = p.value })))
 successor s (RecoveryStoreHead p) found = More (FlushPoint (KeepHead (record { cur = p.cur; unclaimed = p.unclaimed })))
@@ -159,7 +162,7 @@ successor s (RecoveryLoadRemove p) found =
 successor s (RecoveryLoadEntryNode p) found =
     if found == 0 then report_of p.client (not_taken_as p.number)
     else More (RecoveryLoadRemovedValue (record { client = p.client; number = p.number; node = node_at found }))
-successor s (RecoveryLoadRemovedValue p) found = report_of p.client (taken_as p.number (Got found))
+successor s (RecoveryLoadRemovedValue p) found = report_of p.client (taken_as p.number (Got (value_of found)))
 successor s (FlushPoint k) found = More (FencePoint k)
 successor s (FencePoint k) found = More (point_after_keeping k)
 
@@ -194,7 +197,7 @@ boot_recovery = record { told = replicate MAX_CLIENTS told_none; at = RecoveryLo
 -- what it learnt of what it keeps is in range
 abbrev pub IsKeeping : Shape → RecoveryKeeping → Type 0
 IsKeeping s (KeepStatus p) = (s.kind ≡ Log) × IsNode s p.cur.0 × IsNode s p.node.0 × IsRecord s p.entry.0
-IsKeeping s (KeepResult p) = IsNode s p.node.0 × IsRecord s p.mark.0 × (p.value ≤ MAX_VALUE)
+IsKeeping s (KeepResult p) = IsNode s p.node.0 × IsRecord s p.mark.0 × FitsValue p.value
 IsKeeping s (KeepHead p) = IsNode s p.cur.0 × IfSome p.unclaimed (λ n. IsNode s n.0)
 IsKeeping s (KeepTail p) = Unit {0}
 
@@ -206,7 +209,7 @@ IsPoint s (RecoveryLoadInsert p) = (s.kind ≡ Log) × IsNode s p.cur.0 × IsNod
 IsPoint s (RecoveryStoreStatus p) = (s.kind ≡ Log) × IsNode s p.cur.0 × IsNode s p.node.0 × IsRecord s p.entry.0
 IsPoint s (RecoveryLoadMark p) = IsNode s p.cur.0 × IsNode s p.node.0
 IsPoint s (RecoveryLoadValue p) = IsNode s p.node.0 × IsRecord s p.mark.0
-IsPoint s (RecoveryStoreResult p) = IsNode s p.node.0 × IsRecord s p.mark.0 × (p.value ≤ MAX_VALUE)
+IsPoint s (RecoveryStoreResult p) = IsNode s p.node.0 × IsRecord s p.mark.0 × FitsValue p.value
 IsPoint s (RecoveryStoreHead p) = IsNode s p.cur.0 × IfSome p.unclaimed (λ n. IsNode s n.0)
 IsPoint s (RecoveryStoreTail p) = IsNode s p.cur.0
 IsPoint s (RecoveryLoadAnnouncement p) = IsClient s p.client.0

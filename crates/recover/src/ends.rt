@@ -7,10 +7,10 @@ ghost use Rattle.recover.specs.Table.{point_at_the_end, point_past_status};
 
 use crate::keeping::{KeepHead, KeepResult, KeepStatus, KeepTail, RecoveryKeeping};
 use crate::point::{RecoveryPoint, Report};
-use arena::{Layout, Place, TAKEN_STATUS, Write};
+use arena::{Layout, Part, Place, TAKEN_STATUS, Write, value_of};
 use persist::WordMemory;
 use stepper::{After, Resume, Stepped, load_at, store_at};
-use words::{Kind, NodeId, Token};
+use words::{Kind, NodeId, Token, Value};
 
 /// Where recovery goes on past the last node.
 fn at_the_end(cur: NodeId, moved: bool) -> RecoveryPoint
@@ -235,7 +235,7 @@ impl Resume for RecoveryLoadValue {
         memory: &mut M,
     ) -> Stepped<RecoveryPoint, Report> {
         let RecoveryLoadValue { node, mark } = self;
-        let value = load_at(layout, memory, Place::Value(node)) as u32;
+        let value = value_of(load_at(layout, memory, Place::Item(node, Part::First)));
         Stepped::quiet(After::More(RecoveryPoint::RecoveryStoreResult(RecoveryStoreResult {
             node,
             mark,
@@ -249,7 +249,7 @@ impl Resume for RecoveryLoadValue {
 pub struct RecoveryStoreResult {
     pub(crate) node: NodeId,
     pub(crate) mark: Token,
-    pub(crate) value: u32,
+    pub(crate) value: Value,
 }
 
 // Into the record of the claim, not the client's present one: the client may have begun another call since

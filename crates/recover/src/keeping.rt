@@ -16,7 +16,7 @@ use crate::telling::RecoveryLoadAnnouncement;
 use arena::{Layout, Place};
 use persist::WordMemory;
 use stepper::{After, Stepped, fence_at, flush_at};
-use words::{Client, NodeId, Token};
+use words::{Client, NodeId, Token, Value};
 
 /// What recovery is about to keep.
 #[derive(Clone, Copy, Debug, PartialEq, Eq, Hash)]
@@ -49,7 +49,7 @@ pub struct KeepStatus {
 pub struct KeepResult {
     pub(crate) node: NodeId,
     pub(crate) mark: Token,
-    pub(crate) value: u32,
+    pub(crate) value: Value,
 }
 
 /// The head, at the last claimed node. An unclaimed one may follow.

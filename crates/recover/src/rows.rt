@@ -12,7 +12,7 @@ ghost use Rattle.recover.specs.Sound.{ChainIsSound, ClaimsAreSound, EndsAreSound
 ghost use Rattle.recover.specs.Order.{IsPlaceTable, IsTokenTable, CellTells, ClaimIsToldInCell};
 
 use crate::kept::KeptQueue;
-use arena::{EMPTY_CELL, GOT_CELL, Layout, Place};
+use arena::{EMPTY_CELL, GOT_CELL, Layout, Part, Place};
 use persist::KeptWords;
 use words::{Client, NodeId, Token};
 
@@ -80,7 +80,7 @@ impl<L: Layout, W: KeptWords> KeptQueue<'_, L, W> {
         if node == 0 {
             return false;
         }
-        self.kept_at(Place::Value(NodeId(node))) == answer - GOT_CELL
+        self.kept_at(Place::Item(NodeId(node), Part::First)) == answer - GOT_CELL
     }
 
     /// Whether so it is of each cell.

@@ -5,10 +5,12 @@ ghost use Rattle.std.specs.Prelude.{◌≡◌, ◌≤◌, ◌+◌};
 ghost use Rattle.recover.specs.Table.{row_of, taken_as, not_taken_as, report_of};
 
 use crate::point::{RecoveryPoint, Report};
-use arena::{EMPTY_CELL, EMPTY_STATUS, ENQUEUE_KIND, GOT_CELL, Layout, Place, TAKEN_STATUS};
+use arena::{
+    EMPTY_CELL, EMPTY_STATUS, ENQUEUE_KIND, GOT_CELL, Layout, Part, Place, TAKEN_STATUS, value_of,
+};
 use persist::WordMemory;
 use stepper::{After, Resume, Stepped, load_at};
-use words::{Client, Kind, MAX_VALUE, NodeId, Outcome, Reply, Row, Token, Told, Verdict};
+use words::{Client, Kind, MAX_VALUE, NodeId, Outcome, Reply, Row, Token, Told, Value, Verdict};
 
 /// What a cell says.
 fn row(answer: u64) -> Row
@@ -18,7 +20,7 @@ fn row(answer: u64) -> Row
     match answer {
         0 => Row::Open,
         EMPTY_CELL => Row::Empty,
-        _ => Row::Got((answer - GOT_CELL) as u32),
+        _ => Row::Got((answer - GOT_CELL) as Value),
     }
 }
 
@@ -330,7 +332,7 @@ impl Resume for RecoveryLoadRemovedValue {
             number,
             node,
         } = self;
-        let value = load_at(layout, memory, Place::Value(node)) as u32;
+        let value = value_of(load_at(layout, memory, Place::Item(node, Part::First)));
         Stepped::quiet(tell(client, taken(number, Reply::Got(value))))
     }
 }

@@ -1,7 +1,8 @@
 //! What kept words tell each client, without recovery.
 
 ghost use Rattle.std.specs.Prelude.{◌≡◌, ℕ, ◌≤◌, Bool, false, length, slice_index, slice_index_or};
-ghost use Rattle.arena.specs.Place.{IsClient, IsRecord};
+ghost use Rattle.arena.specs.Place.{IsClient, IsNode, IsRecord};
+ghost use Rattle.arena.specs.Words.{HoldsValue, values};
 ghost use Rattle.arena.specs.Content.{chain_of};
 ghost use Rattle.words.specs.declared.call.Kind.TheVariants.{Durable, Log};
 ghost use Rattle.recover.specs.Kept.{kept_in, kept_of};
@@ -10,10 +11,10 @@ ghost use Rattle.recover.specs.Seen.{IsSeen, IsSeenOf, AreSeen, IsNodeNoted, IsC
 ghost use Rattle.recover.specs.Told.{node_claimed_by, row_with, outcome_by, told_by, tells_by};
 
 use crate::kept::KeptQueue;
-use arena::{EMPTY_CELL, EMPTY_STATUS, ENQUEUE_KIND, Layout, Place};
+use arena::{EMPTY_CELL, EMPTY_STATUS, ENQUEUE_KIND, Layout, Part, Place, value_of};
 use persist::KeptWords;
 use words::{
-    Client, Kind, MAX_CLIENTS, NodeId, Outcome, Reply, Reports, Row, Token, Told, Verdict,
+    Client, Kind, MAX_CLIENTS, NodeId, Outcome, Reply, Reports, Row, Token, Told, Value, Verdict,
 };
 
 impl<L: Layout, W: KeptWords> KeptQueue<'_, L, W> {
@@ -68,6 +69,15 @@ impl<L: Layout, W: KeptWords> KeptQueue<'_, L, W> {
         }
     }
 
+    /// The value of a node.
+    fn kept_value(&self, node: NodeId) -> Value
+        requires node { IsNode self.now.shape node.0 }
+        requires holds { HoldsValue (kept_of self.now) node.0 }
+        ensures { result ≡ values (kept_of self.now) node.0 }
+    {
+        value_of(self.kept_at(Place::Item(node, Part::First)))
+    }
+
     /// What the durable queue's client is told whose dequeue has this cell.
     fn row(&self, cell: Token, claimed: u32) -> Row
         requires sound { IsSound self.now.shape (kept_of self.now) }
@@ -78,7 +88,7 @@ impl<L: Layout, W: KeptWords> KeptQueue<'_, L, W> {
             (node_claimed_by (kept_of self.now) cell.0 (chain_of self.now.shape (kept_of self.now))) }
     {
         if claimed != 0 {
-            return Row::Got(self.kept_at(Place::Value(NodeId(claimed))) as u32);
+            return Row::Got(self.kept_value(NodeId(claimed)));
         }
         if self.kept_at(Place::Cell(cell)) == EMPTY_CELL {
             Row::Empty
@@ -108,8 +118,7 @@ impl<L: Layout, W: KeptWords> KeptQueue<'_, L, W> {
         if claimed == 0 {
             return Outcome::NotTaken;
         }
-        let value = self.kept_at(Place::Value(NodeId(claimed)));
-        Outcome::Taken(Reply::Got(value as u32))
+        Outcome::Taken(Reply::Got(self.kept_value(NodeId(claimed))))
     }
 
     /// What the client is told.

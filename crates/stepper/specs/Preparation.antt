@@ -1,16 +1,18 @@
 -- What a call prepares in its record before it acts: words that each take a store, a flush and a fence, in order.
 use Rattle.std.specs.Prelude.{◌≡◌, ℕ, ◌+◌, ◌≤◌, ◌<◌, List, [], ◌∷◌, Option, Some, None, slice_get}
+use Rattle.words.specs.PlainQueue.{Value, FitsValue}
 use Rattle.words.specs.declared.call.Kind.{Kind}
 use Rattle.words.specs.declared.call.Kind.TheVariants.{Durable, Log}
 use Rattle.words.specs.declared.call.Call.{Call}
 use Rattle.words.specs.declared.call.Call.TheVariants.{Enq, Deq}
-use Rattle.words.specs.declared.limits.TheConstants.{MAX_CALL_NUMBER, MAX_VALUE}
+use Rattle.words.specs.declared.limits.TheConstants.{MAX_CALL_NUMBER}
 use Rattle.arena.specs.Shape.{Shape, record_of}
 use Rattle.arena.specs.declared.codes.TheConstants.{ENQUEUE_KIND, DEQUEUE_KIND}
 use Rattle.arena.specs.Place.{IsClient, IsRecord}
 use Rattle.arena.specs.declared.place.Write.{Write}
+use Rattle.arena.specs.declared.place.Part.TheVariants.{First}
 use Rattle.arena.specs.declared.place.Place.{Place}
-use Rattle.arena.specs.declared.place.Place.TheVariants.{Announcement, Bump, Value, Insert, Number, EntryKind, EntryNode}
+use Rattle.arena.specs.declared.place.Place.TheVariants.{Announcement, Bump, Item, Insert, Number, EntryKind, EntryNode}
 use Rattle.persist.specs.Memory.{Access, Store, Flush, Fence}
 use Rattle.stepper.specs.declared.resume.After.{After}
 use Rattle.stepper.specs.declared.resume.After.TheVariants.{More, Done}
@@ -33,11 +35,11 @@ abbrev pub announcement : Begun → Write
 announcement b = write (Announcement b.client) b.token.0
 
 abbrev pub preparation_from : Kind → Call → Begun → List Write
-preparation_from Durable (Enq value) b = bump b ∷ write (Value (record { 0 = b.token.0 })) value ∷ []
+preparation_from Durable (Enq value) b = bump b ∷ write (Item (record { 0 = b.token.0 }) First) value ∷ []
 preparation_from Durable Deq b = bump b ∷ announcement b ∷ []
 preparation_from Log (Enq value) b =
     bump b ∷ write (Number b.token) b.number ∷ write (EntryKind b.token) ENQUEUE_KIND
-    ∷ write (EntryNode b.token) b.token.0 ∷ write (Value (record { 0 = b.token.0 })) value
+    ∷ write (EntryNode b.token) b.token.0 ∷ write (Item (record { 0 = b.token.0 }) First) value
     ∷ write (Insert (record { 0 = b.token.0 })) b.token.0 ∷ announcement b ∷ []
 preparation_from Log Deq b =
     bump b ∷ write (Number b.token) b.number ∷ write (EntryKind b.token) DEQUEUE_KIND ∷ announcement b ∷ []
@@ -72,7 +74,7 @@ pub record IsBegun (s : Shape) (b : Begun) : Type 0 where
   pub is_record : IsRecord s b.token.0
   pub own : b.token.0 ≡ record_of s b.client.0 b.used
   pub number : b.number ≤ MAX_CALL_NUMBER
-  pub value : (v : ℕ) → b.call ≡ Enq v → v ≤ MAX_VALUE
+  pub value : (v : Value) → b.call ≡ Enq v → FitsValue v
 
 -- the write in hand is the one at the index
 pub record IsPreparing (s : Shape) (b : Begun) (index : ℕ) (w : Write) : Type 0 where

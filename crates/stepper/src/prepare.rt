@@ -5,9 +5,9 @@ ghost use Rattle.stepper.specs.Preparation.{preparation_from, prepared_to, bump 
 
 use crate::places::{fence_at, flush_at, store_at};
 use crate::resume::{After, Points, Resume, Stepped};
-use arena::{DEQUEUE_KIND, ENQUEUE_KIND, Layout, Place, Write};
+use arena::{DEQUEUE_KIND, ENQUEUE_KIND, Layout, Part, Place, Write};
 use persist::WordMemory;
-use words::{Call, Client, Kind, NodeId, Token};
+use words::{Call, Client, Kind, NodeId, Token, Value};
 
 /// A call that has taken a record of its client's.
 #[derive(Clone, Copy, Debug, PartialEq, Eq, Hash)]
@@ -64,13 +64,13 @@ pub struct PrepareFence {
 }
 
 /// The words that a durable enqueue prepares, from 0 up, and none beyond the last.
-fn durable_enqueue(begun: Begun, value: u32, index: u8) -> Option<Write>
+fn durable_enqueue(begun: Begun, value: Value, index: u8) -> Option<Write>
     ensures { result ≡ slice_get (preparation_from Kind.Durable (Call.Enq value) begun) index }
 {
     match index {
         0 => Some(bump(begun)),
         1 => Some(Write {
-            place: Place::Value(NodeId(begun.token.0)),
+            place: Place::Item(NodeId(begun.token.0), Part::First),
             value: value as u64,
         }),
         _ => None,
@@ -89,7 +89,7 @@ fn durable_dequeue(begun: Begun, index: u8) -> Option<Write>
 }
 
 /// The words that a log enqueue prepares.
-fn log_enqueue(begun: Begun, value: u32, index: u8) -> Option<Write>
+fn log_enqueue(begun: Begun, value: Value, index: u8) -> Option<Write>
     ensures { result ≡ slice_get (preparation_from Kind.Log (Call.Enq value) begun) index }
 {
     let node = NodeId(begun.token.0);
@@ -99,7 +99,7 @@ fn log_enqueue(begun: Begun, value: u32, index: u8) -> Option<Write>
         1 => (Place::Number(begun.token), begun.number),
         2 => (Place::EntryKind(begun.token), ENQUEUE_KIND),
         3 => (Place::EntryNode(begun.token), number),
-        4 => (Place::Value(node), value as u64),
+        4 => (Place::Item(node, Part::First), value as u64),
         5 => (Place::Insert(node), number),
         6 => return Some(announcement(begun)),
         _ => return None,

@@ -5,7 +5,7 @@ use directory::Name;
 use named::Broker;
 use persist::{KeptWords, Memory};
 use std::alloc::Global;
-use words::{Call, Client, Kind, Refusal, Told};
+use words::{Call, Client, Kind, Refusal, Told, Value};
 
 /// The word of the gate of slot 0, the last of the slot's four in the directory.
 const FIRST_GATE: usize = 5;
@@ -67,7 +67,7 @@ pub(crate) fn told(broker: &Broker, slot: u8, client: u8) -> Result<Told, Refusa
 }
 
 /// Whether the queue of a slot holds these values.
-pub(crate) fn holds(broker: &Broker, slot: u8, values: &[u32]) -> Result<bool, Refusal> {
+pub(crate) fn holds(broker: &Broker, slot: u8, values: &[Value]) -> Result<bool, Refusal> {
     Ok(broker.content(SlotId(slot))?.as_slice() == values)
 }
 

@@ -6,7 +6,7 @@ use events::Entry;
 use persist::{Change, HEADER_BYTES, NUMBER_BYTES};
 use std::alloc::Global;
 use std::fmt;
-use words::{Refusal, Reply};
+use words::{Refusal, Reply, Value};
 
 /// How often a call is made at most: once more than it can be refused where one allocation is.
 pub const MOST_TRIES: u32 = 3;
@@ -24,7 +24,7 @@ pub enum Answer {
     Kept(Option<Change>),
     Reply(Reply),
     Alone(Reply, u32),
-    Values(Vec<u32>),
+    Values(Vec<Value>),
     Entries(Vec<Entry>),
     Image(Image),
 }

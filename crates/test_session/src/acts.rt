@@ -8,7 +8,7 @@ use std::alloc::Global;
 use test_support::brokers::{MOST_STEPS, taken};
 use test_support::call_at;
 use test_support::sessions::A;
-use words::{Call, Client, MAX_CLIENTS, Refusal, Reply, Told, Verdict};
+use words::{Call, Client, MAX_CLIENTS, Refusal, Reply, Told, Value, Verdict};
 
 /// A session over a broker that begins on the image of another.
 pub(crate) fn boot(alloc: Global, broker: &Broker) -> Result<Session, Refusal> {
@@ -77,7 +77,7 @@ pub(crate) fn restart(session: &mut Session) -> Result<u32, Refusal> {
 }
 
 /// Whether a slot's queue holds these values.
-pub(crate) fn holds(session: &Session, slot: SlotId, values: &[u32]) -> Result<bool, Refusal> {
+pub(crate) fn holds(session: &Session, slot: SlotId, values: &[Value]) -> Result<bool, Refusal> {
     Ok(session.broker().content(slot)?.as_slice() == values)
 }
 

@@ -4,7 +4,7 @@ use history::{Event, Events};
 use session::Session;
 use std::alloc::Global;
 use test_support::sessions::A;
-use words::{Call, Refusal, Reply};
+use words::{Call, Refusal, Reply, Value};
 
 /// How many clients there are.
 pub(crate) const CLIENTS: u8 = 2;
@@ -31,7 +31,7 @@ struct Row {
 /// were first given.
 #[derive(Drop)]
 pub(crate) struct Plain {
-    base: Vec<u32>,
+    base: Vec<Value>,
     done: [u64; CLIENTS as usize],
     first: Vec<Row>,
 }
@@ -39,7 +39,7 @@ pub(crate) struct Plain {
 /// What is left of a list of values whose first ones went out.
 #[derive(Drop)]
 struct Left {
-    values: Vec<u32>,
+    values: Vec<Value>,
     out: usize,
 }
 
@@ -62,7 +62,7 @@ impl Left {
     }
 
     /// The values that are left.
-    fn values(&self) -> &[u32] {
+    fn values(&self) -> &[Value] {
         match self.values.get(self.out..) {
             Some(left) => left,
             None => &[],
@@ -71,7 +71,7 @@ impl Left {
 }
 
 /// A list of these values.
-fn list(alloc: Global, values: &[u32]) -> Result<Vec<u32>, Refusal> {
+fn list(alloc: Global, values: &[Value]) -> Result<Vec<Value>, Refusal> {
     let mut list = Vec::new(alloc);
     for value in values {
         if list.push(*value).is_err() {

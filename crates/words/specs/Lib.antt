@@ -1,3 +1,4 @@
+pub mod Item
 pub mod PlainQueue
 pub mod Refusal
 pub mod Text

@@ -1,18 +1,29 @@
 -- The plain queue: a list of values, first in, first out.
-use Rattle.std.specs.Prelude.{ℕ, List, [], ◌∷◌, ◌++◌}
+use Rattle.std.specs.Prelude.{ℕ, Bool, ◌≤◌, nat_le, List, [], ◌∷◌, ◌++◌}
 use Rattle.words.specs.declared.call.Call.{Call}
 use Rattle.words.specs.declared.call.Call.TheVariants.{Enq, Deq}
 use Rattle.words.specs.declared.call.Reply.{Reply}
 use Rattle.words.specs.declared.call.Reply.TheVariants.{Done, Got, Empty}
+use Rattle.words.specs.declared.limits.TheConstants.{MAX_VALUE}
+
+-- what a message is, and which of them the memory can hold
+abbrev pub Value : Type 0
+Value = ℕ
+
+abbrev pub FitsValue : Value → Type 0
+FitsValue value = value ≤ MAX_VALUE
+
+abbrev pub fits_value : Value → Bool
+fits_value value = nat_le value MAX_VALUE
 
 -- what it answers to a call
-abbrev pub reply_of : List ℕ → Call → Reply
+abbrev pub reply_of : List Value → Call → Reply
 reply_of queue (Enq value) = Done
 reply_of (first ∷ rest) Deq = Got first
 reply_of [] Deq = Empty
 
 -- what it holds then: an enqueue appends, a dequeue removes the first, and leaves an empty queue as it is
-abbrev pub served : List ℕ → Call → List ℕ
+abbrev pub served : List Value → Call → List Value
 served queue (Enq value) = queue ++ value ∷ []
 served (first ∷ rest) Deq = rest
 served [] Deq = []

@@ -1,7 +1,7 @@
 -- The number, the name and the text of each refusal, and the number of each rule.
 use Rattle.std.specs.Prelude.{ℕ, List, ◌++◌, codes, decimal}
 use Rattle.words.specs.declared.refusal.Refusal.{Refusal}
-use Rattle.words.specs.declared.refusal.Refusal.TheVariants.{NoWord, BadMagic, BadCount, Truncated, TrailingBytes, NoMemory, BadClients, BadRecords, StaleNumber, Busy, NoRoom, NotReady, NoClient, Idle, AlreadyReady, BadName, Exists, DirectoryFull, Gap, Old, NoQueue, WrongKind, TooLong, BadJson, BadRequest, ReadFailed, WriteFailed, BadLine, Damaged}
+use Rattle.words.specs.declared.refusal.Refusal.TheVariants.{NoWord, BadMagic, BadCount, Truncated, TrailingBytes, NoMemory, BadClients, BadRecords, StaleNumber, Busy, NoRoom, NotReady, NoClient, Idle, AlreadyReady, BadName, Exists, DirectoryFull, Gap, Old, NoQueue, WrongKind, TooLong, BadJson, BadRequest, ReadFailed, WriteFailed, BadLine, Damaged, BadItem}
 use Rattle.words.specs.declared.refusal.Rule.{Rule}
 use Rattle.words.specs.declared.refusal.Rule.TheVariants.{Size, Records, Chain, Claims, Ends, Rows, Entries, Image, Directory}
 
@@ -47,6 +47,7 @@ code_of ReadFailed = 26
 code_of WriteFailed = 27
 code_of (BadLine line) = 28
 code_of (Damaged rule) = 29
+code_of BadItem = 30
 
 abbrev pub name_of : Refusal → List ℕ
 name_of NoWord = codes "NoWord"
@@ -78,6 +79,7 @@ name_of ReadFailed = codes "ReadFailed"
 name_of WriteFailed = codes "WriteFailed"
 name_of (BadLine line) = codes "BadLine"
 name_of (Damaged rule) = codes "Damaged"
+name_of BadItem = codes "BadItem"
 
 -- the number, a space and the name
 abbrev pub refusal_text : Refusal → List ℕ

@@ -1,5 +1,6 @@
 -- How a transcript spells replies and what clients are told.
 use Rattle.std.specs.Prelude.{ℕ, List, ◌++◌, codes, decimal}
+use Rattle.words.specs.PlainQueue.{Value}
 use Rattle.words.specs.declared.call.Reply.{Reply}
 use Rattle.words.specs.declared.call.Reply.TheVariants.{Done, Got, Empty}
 use Rattle.words.specs.declared.told.Outcome.{Outcome}
@@ -10,9 +11,12 @@ use Rattle.words.specs.declared.told.Row.TheVariants.{NoCall, Open, Empty as row
 use Rattle.words.specs.declared.told.Told.{Told}
 use Rattle.words.specs.declared.told.Told.TheVariants.{None as told_none, Verdict as told_verdict, Row as told_row}
 
+abbrev pub value_text : Value → List ℕ
+value_text value = decimal value
+
 abbrev pub reply_text : Reply → List ℕ
 reply_text Done = codes "done"
-reply_text (Got value) = codes "got " ++ decimal value
+reply_text (Got value) = codes "got " ++ value_text value
 reply_text Empty = codes "empty"
 
 abbrev pub outcome_text : Outcome → List ℕ
@@ -27,7 +31,7 @@ abbrev pub row_text : Row → List ℕ
 row_text NoCall = codes "nocall"
 row_text Open = codes "open"
 row_text row_empty = codes "empty"
-row_text (row_got value) = codes "got " ++ decimal value
+row_text (row_got value) = codes "got " ++ value_text value
 
 abbrev pub told_text : Told → List ℕ
 told_text told_none = codes "none"

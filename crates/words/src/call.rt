@@ -23,11 +23,14 @@ pub enum Kind {
     Log,
 }
 
+/// What a queue's messages are.
+pub type Value = u32;
+
 /// What a client asks for.
 #[derive(Clone, Copy, Debug, PartialEq, Eq, Hash)]
 pub enum Call {
     /// Append a value.
-    Enq(u32),
+    Enq(Value),
     /// Remove the first value.
     Deq,
 }
@@ -38,7 +41,7 @@ pub enum Reply {
     /// The value was appended.
     Done,
     /// This value was first, and was removed.
-    Got(u32),
+    Got(Value),
     /// There was none.
     Empty,
 }

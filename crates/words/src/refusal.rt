@@ -63,6 +63,8 @@ pub enum Refusal {
     BadLine(u32),
     /// Booted words break a rule of sound words, this one first.
     Damaged(Rule),
+    /// An item has more than 24 bytes.
+    BadItem,
 }
 
 /// The rules of sound words, in the order in which they are looked at.
@@ -114,7 +116,7 @@ impl Refusal {
     ghost use Rattle.std.specs.Prelude.{◌≡◌};
     ghost use Rattle.words.specs.Refusal.{code_of, name_of};
 
-    /// Its number, from 1 to 29.
+    /// Its number, from 1 to 30.
     pub fn code(self) -> u8
         ensures { result ≡ code_of self }
     {
@@ -148,6 +150,7 @@ impl Refusal {
             Refusal::WriteFailed => 27,
             Refusal::BadLine(_) => 28,
             Refusal::Damaged(_) => 29,
+            Refusal::BadItem => 30,
         }
     }
 
@@ -185,6 +188,7 @@ impl Refusal {
             Refusal::WriteFailed => "WriteFailed",
             Refusal::BadLine(_) => "BadLine",
             Refusal::Damaged(_) => "Damaged",
+            Refusal::BadItem => "BadItem",
         }
     }
 }

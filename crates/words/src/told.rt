@@ -1,6 +1,6 @@
 //! What a client is told after a crash.
 
-use crate::Reply;
+use crate::{Reply, Value};
 use std::fmt;
 
 /// What became of a numbered call.
@@ -29,7 +29,7 @@ pub enum Row {
     /// It found the queue empty.
     Empty,
     /// It got this value.
-    Got(u32),
+    Got(Value),
 }
 
 /// What a client is told, by the kind of its queue.

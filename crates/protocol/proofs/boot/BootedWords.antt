@@ -1,6 +1,8 @@
 -- Kept words that recovery finds sound are such as every crash leaves.
 use Rattle.std.proofs.Common.{◌≡◌, ◌≢◌, ℕ, ◌+◌, ◌≤◌, ◌<◌, ◌⊎◌, inl, inr, List, [], ◌∷◌, ◌++◌, map, refl, sym, ◌∙◌, ap, subst, arith}
 use Rattle.std.proofs.lemmas.Bool.{cases_eq, cases_lt}
+use Rattle.arena.specs.declared.place.Part.TheVariants.{Length, First, Second, Third}
+use Rattle.words.specs.PlainQueue.{Value}
 use Rattle.words.specs.declared.call.Kind.{Kind}
 use Rattle.words.specs.declared.call.Kind.TheVariants.{Durable, Log}
 use Rattle.arena.specs.Answers.{result_of}
@@ -12,7 +14,7 @@ use Rattle.arena.specs.Ranges.{Fits, IsReadByCalls}
 use Rattle.arena.specs.Shape.{Shape, greatest}
 use Rattle.arena.specs.Words.{links, marks, values, bumps, announcements, inserts, cells, numbers, entry_kinds, statuses, entry_nodes, IsWritten}
 use Rattle.arena.specs.declared.place.Place.{Place}
-use Rattle.arena.specs.declared.place.Place.TheVariants.{Head, Tail, Announcement, Bump, Value, Next, Mark, Cell, Insert, Number, EntryKind, Status, EntryNode}
+use Rattle.arena.specs.declared.place.Place.TheVariants.{Head, Tail, Announcement, Bump, Item, Next, Mark, Cell, Insert, Number, EntryKind, Status, EntryNode}
 use Rattle.helping.specs.Table.{token_of, node_of}
 use Rattle.recover.specs.Sound.{IsSound, IsOnChain, IsClaimed, IsPassed as has_passed, IsBlank, IsBlankAnswer, IsBlankEntry, IsRead, IsResult, IsClaimOf, AnswersAreSound, RowsAreSound, EntriesAreSound, IsIssued, IsOwn}
 use Rattle.recover.proofs.Chains.{is_among_or_not}
@@ -136,7 +138,10 @@ place_or_not s Head = inl tt
 place_or_not s Tail = inl tt
 place_or_not s (Announcement t) = below_or_not t.0 s.clients
 place_or_not s (Bump t) = below_or_not t.0 s.clients
-place_or_not s (Value n) = up_or_not n.0 (greatest s)
+place_or_not s (Item n Length) = inr (λ h. h)
+place_or_not s (Item n First) = up_or_not n.0 (greatest s)
+place_or_not s (Item n Second) = inr (λ h. h)
+place_or_not s (Item n Third) = inr (λ h. h)
 place_or_not s (Next n) = up_or_not n.0 (greatest s)
 place_or_not s (Mark n) = up_or_not n.0 (greatest s)
 place_or_not s (Cell c) = both_or_not (s.kind ≡ Durable) (IsRecord s c.0) (kind_or_not s.kind Durable) (record_or_not s c.0)
@@ -151,7 +156,7 @@ calls_read s k Head r = tt
 calls_read s k Tail r = tt
 calls_read s k (Announcement t) r = tt
 calls_read s k (Bump t) r = tt
-calls_read s k (Value n) r = tt
+calls_read s k (Item n part) r = tt
 calls_read s k (Next n) r = tt
 calls_read s k (Mark n) r = tt
 calls_read s k (Cell c) r = tt
@@ -272,7 +277,10 @@ module _ (s : Shape) (k : Place → ℕ) (h : IsSound s k) (nowhere : (p : Place
   blank_at Tail i of ne none = absurd of
   blank_at (Announcement t) i of ne none = absurd of
   blank_at (Bump t) i of ne none = absurd of
-  blank_at (Value n) i of ne none = (unused n.0 (omega (arith, ne), i) none).value
+  blank_at (Item n Length) i of ne none = absurd i
+  blank_at (Item n First) i of ne none = (unused n.0 (omega (arith, ne), i) none).value
+  blank_at (Item n Second) i of ne none = absurd i
+  blank_at (Item n Third) i of ne none = absurd i
   blank_at (Next n) i of ne none = (unused n.0 (omega (arith, ne), i) none).link
   blank_at (Mark n) i of ne none = (unused n.0 (omega (arith, ne), i) none).mark
   blank_at (Cell c) i of ne none = blank_cell c.0 i.0 (unused c.0 i.1 none)
@@ -291,7 +299,10 @@ module _ (s : Shape) (k : Place → ℕ) (h : IsSound s k) (nowhere : (p : Place
   absent_at Tail i none = absurd (none tt)
   absent_at (Announcement t) i none = absurd (none tt)
   absent_at (Bump t) i none = absurd (none tt)
-  absent_at (Value n) i none = elim (cases_eq n.0 0) [ inl z ↦ ap (values k) z ∙ h.chain.sentinel.value | inr some ↦ absurd (none some) ]
+  absent_at (Item n Length) i none = absurd i
+  absent_at (Item n First) i none = elim (cases_eq n.0 0) [ inl z ↦ ap (λ x. k (Item (record { 0 = x }) First)) z ∙ h.chain.sentinel.value | inr some ↦ absurd (none some) ]
+  absent_at (Item n Second) i none = absurd i
+  absent_at (Item n Third) i none = absurd i
   absent_at (Next n) i none = absurd (none tt)
   absent_at (Mark n) i none = absurd (none tt)
   absent_at (Cell c) i none = absurd (none (i.0, λ z. absurd (omega (arith, i.1.0, z))))
@@ -392,7 +403,7 @@ module _ (s : Shape) (k : Place → ℕ) (h : IsSound s k) (nowhere : (p : Place
       let kind : entry_kinds k (links k n) ≡ 1 = ((entries e).inserts (links k n) (next_on n some)).kind in
       record { insert = (i, i); kind = (kind, kind) }
 
-  records_right : (queue : List ℕ) → Records s (memory_at_rest k) (idle_ledger queue)
+  records_right : (queue : List Value) → Records s (memory_at_rest k) (idle_ledger queue)
   records_right queue = record {
     to_head = head_answered;
     to_kept_head = head_answered;

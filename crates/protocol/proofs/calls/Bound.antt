@@ -3,6 +3,7 @@ use Rattle.std.proofs.Common.{◌≡◌, ◌≢◌, ℕ, ◌+◌, ◌-◌, ◌*�
 use Rattle.std.specs.Prelude.{slice_get}
 use Rattle.std.proofs.lemmas.Bool.{eqb-true, eqb-false, eq-eqb, ne_eqb}
 use Rattle.std.proofs.lemmas.Option.{slice_get_within}
+use Rattle.words.specs.PlainQueue.{Value}
 use Rattle.words.specs.declared.call.Call.{Call}
 use Rattle.words.specs.declared.call.Call.TheVariants.{Enq, Deq}
 use Rattle.words.specs.declared.call.Client.{Client}
@@ -305,7 +306,7 @@ module _ (s : Shape) (m : Memory) (l : Ledger) (claimed waiting : List ℕ) (b :
       go true false z = omega arith
       go false e z = omega arith
 
-  falls_claim : (token : Token) (first next : NodeId) (v : ℕ)
+  falls_claim : (token : Token) (first next : NodeId) (v : Value)
       → Falls s (with_access m (Cas (Mark next) 0 token.0)) (successor s.kind (DequeueClaim (record { token = token; first = first; next = next; value = v })) (m.cached (Mark next))) (claim_left m first.0 next.0)
   falls_claim token first next v = go (marks m.cached next.0 == 0)
     where
@@ -315,7 +316,7 @@ module _ (s : Shape) (m : Memory) (l : Ledger) (claimed waiting : List ℕ) (b :
       go true = omega arith
       go false = omega arith
 
-  falls_move_head : (token : Token) (first next : NodeId) (v : ℕ) (claim : Claim) → Knows s m l i (DequeueMoveHead (record { claimed = record { token = token; first = first; next = next; value = v; claim = claim } }))
+  falls_move_head : (token : Token) (first next : NodeId) (v : Value) (claim : Claim) → Knows s m l i (DequeueMoveHead (record { claimed = record { token = token; first = first; next = next; value = v; claim = claim } }))
       → Falls s (with_access m (Cas Head first.0 next.0)) (answer_or_again claim token v) (move_head_left m first.0 claim)
   falls_move_head token first next v Won h = omega arith
   falls_move_head token first next v (LostTo other) h = go (m.cached Head == first.0) refl

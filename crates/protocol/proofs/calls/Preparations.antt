@@ -2,6 +2,8 @@
 use Rattle.std.proofs.Common.{◌≡◌, ℕ, zero, suc, ◌+◌, ◌*◌, ◌≤◌, ◌<◌, inl, inr, Some, None, length, refl, sym, ◌∙◌, ap, subst, arith}
 use Rattle.std.specs.Prelude.{slice_get}
 use Rattle.std.proofs.lemmas.Option.{slice_get_within, slice_get_cases}
+use Rattle.arena.specs.declared.place.Part.TheVariants.{First}
+use Rattle.words.specs.PlainQueue.{Value}
 use Rattle.words.specs.declared.call.Call.{Call}
 use Rattle.words.specs.declared.call.Call.TheVariants.{Enq, Deq}
 use Rattle.words.specs.declared.call.Kind.{Kind}
@@ -10,10 +12,10 @@ use Rattle.words.specs.declared.call.Token.{Token}
 use Rattle.arena.specs.Place.{number_of}
 use Rattle.arena.specs.Ranges.{Fits}
 use Rattle.arena.specs.Shape.{Shape, owner, record_of}
-use Rattle.arena.specs.Words.{values, bumps}
+use Rattle.arena.specs.Words.{values, bumps, value_of_word}
 use Rattle.arena.specs.declared.place.Write.{Write}
 use Rattle.arena.specs.declared.place.Place.{Place}
-use Rattle.arena.specs.declared.place.Place.TheVariants.{Announcement, Bump, Value, Insert, Number, EntryKind, EntryNode}
+use Rattle.arena.specs.declared.place.Place.TheVariants.{Announcement, Bump, Item, Insert, Number, EntryKind, EntryNode}
 use Rattle.stepper.specs.Preparation.{preparation_of, preparation_from, bump, announcement, write, IsBegun}
 use Rattle.stepper.specs.declared.prepare.Begun.{Begun}
 use Rattle.protocol.specs.Machine.{Memory}
@@ -23,7 +25,7 @@ use Rattle.protocol.specs.invariants.Knows.{Written, Prepared}
 use Rattle.protocol.proofs.changes.Puts.{IsEmptyWord}
 
 -- the value that a call gives
-abbrev pub given : Call → ℕ
+abbrev pub given : Call → Value
 given (Enq v) = v
 given Deq = 0
 
@@ -36,7 +38,7 @@ kind_number Deq = 2
 abbrev pub planned : Begun → Place → ℕ
 planned b (Bump t) = b.used + 1
 planned b (Announcement t) = b.token.0
-planned b (Value n) = given b.call
+planned b (Item n part) = given b.call
 planned b (Number e) = b.number
 planned b (EntryKind e) = kind_number b.call
 planned b (EntryNode e) = b.token.0
@@ -69,8 +71,8 @@ planned_from s b Durable (Enq v) zero w c g e =
     record { value = refl; value_kind = λ x q. absurd (cc); speaks = λ r. r; of_kind = tt; fits = omega (arith, g.unused); numbered = λ r. absurd r; bump = λ t q. let same : b.client ≡ record { 0 = t } = cc in ap (λ x. x.0) (sym same); after_kind = λ x q. absurd (cc); announces = λ t q. absurd (cc) } in
     subst (IsPlanned s Durable (Enq v) b zero) same is
 planned_from s b Durable (Enq v) (suc zero) w c g e =
-    let same : write (Value (record { 0 = b.token.0 })) v ≡ w = cc in
-    let is : IsPlanned s Durable (Enq v) b (suc zero) (write (Value (record { 0 = b.token.0 })) v) =
+    let same : write (Item (record { 0 = b.token.0 }) First) v ≡ w = cc in
+    let is : IsPlanned s Durable (Enq v) b (suc zero) (write (Item (record { 0 = b.token.0 }) First) v) =
     record { value = sym (ap given c); value_kind = λ x q. absurd (cc); speaks = λ r. r; of_kind = λ z. absurd (omega (arith, g.is_record.0, z)); fits = g.value v c; numbered = λ r. (refl, omega arith); bump = λ t q. absurd (cc); after_kind = λ x q. absurd (cc); announces = λ t q. absurd (cc) } in
     subst (IsPlanned s Durable (Enq v) b (suc zero)) same is
 planned_from s b Durable (Enq v) (suc (suc j)) w c g e = absurd (cc)
@@ -106,8 +108,8 @@ planned_from s b Log (Enq v) (suc (suc (suc zero))) w c g e =
     record { value = refl; value_kind = λ x q. absurd (cc); speaks = λ r. r; of_kind = (refl, λ z. absurd (omega (arith, g.is_record.0, z))); fits = g.is_record.1; numbered = λ r. (refl, omega arith); bump = λ t q. absurd (cc); after_kind = λ x q. (omega arith, refl); announces = λ t q. absurd (cc) } in
     subst (IsPlanned s Log (Enq v) b (suc (suc (suc zero)))) same is
 planned_from s b Log (Enq v) (suc (suc (suc (suc zero)))) w c g e =
-    let same : write (Value (record { 0 = b.token.0 })) v ≡ w = cc in
-    let is : IsPlanned s Log (Enq v) b (suc (suc (suc (suc zero)))) (write (Value (record { 0 = b.token.0 })) v) =
+    let same : write (Item (record { 0 = b.token.0 }) First) v ≡ w = cc in
+    let is : IsPlanned s Log (Enq v) b (suc (suc (suc (suc zero)))) (write (Item (record { 0 = b.token.0 }) First) v) =
     record { value = sym (ap given c); value_kind = λ x q. absurd (cc); speaks = λ r. r; of_kind = λ z. absurd (omega (arith, g.is_record.0, z)); fits = g.value v c; numbered = λ r. (refl, omega arith); bump = λ t q. absurd (cc); after_kind = λ x q. absurd (cc); announces = λ t q. absurd (cc) } in
     subst (IsPlanned s Log (Enq v) b (suc (suc (suc (suc zero))))) same is
 planned_from s b Log (Enq v) (suc (suc (suc (suc (suc zero))))) w c g e =
@@ -192,12 +194,18 @@ all_written s m b index h none = record {
 }
 
 -- a prepared enqueue has its value in its node
-pub prepared_value : (s : Shape) (m : Memory) (b : Begun) (v : ℕ) → Prepared s m b → b.call ≡ Enq v → (values m.cached b.token.0 ≡ v) × (values m.kept b.token.0 ≡ v)
+pub prepared_value : (s : Shape) (m : Memory) (b : Begun) (v : Value) → Prepared s m b → b.call ≡ Enq v → (values m.cached b.token.0 ≡ v) × (values m.kept b.token.0 ≡ v)
 prepared_value s m b v h c = go s.kind refl
   where
+    word : (Place → ℕ) → ℕ
+    word f = f (Item (record { 0 = b.token.0 }) First)
+
+    written_value : (word m.cached ≡ v) × (word m.kept ≡ v) → (values m.cached b.token.0 ≡ v) × (values m.kept b.token.0 ≡ v)
+    written_value both = (value_of_word (word m.cached) ∙ both.0, value_of_word (word m.kept) ∙ both.1)
+
     go : (kind : Kind) → s.kind ≡ kind → (values m.cached b.token.0 ≡ v) × (values m.kept b.token.0 ≡ v)
-    go Durable e = h.written 1 (write (Value (record { 0 = b.token.0 })) v) (ap (λ k. slice_get (preparation_from k b.call b) 1) e ∙ ap (λ k. slice_get (preparation_from Durable k b) 1) c)
-    go Log e = h.written 4 (write (Value (record { 0 = b.token.0 })) v) (ap (λ k. slice_get (preparation_from k b.call b) 4) e ∙ ap (λ k. slice_get (preparation_from Log k b) 4) c)
+    go Durable e = written_value (h.written 1 (write (Item (record { 0 = b.token.0 }) First) v) (ap (λ k. slice_get (preparation_from k b.call b) 1) e ∙ ap (λ k. slice_get (preparation_from Durable k b) 1) c))
+    go Log e = written_value (h.written 4 (write (Item (record { 0 = b.token.0 }) First) v) (ap (λ k. slice_get (preparation_from k b.call b) 4) e ∙ ap (λ k. slice_get (preparation_from Log k b) 4) c))
 
 pub is_dequeue : (call : Call) → kind_number call ≡ 2 → call ≡ Deq
 is_dequeue (Enq v) e = absurd (cc)

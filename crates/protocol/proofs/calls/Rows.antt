@@ -2,6 +2,9 @@
 use Rattle.std.proofs.Common.{◌≡◌, ◌≢◌, ℕ, suc, ◌+◌, ◌≤◌, ◌<◌, inl, inr, List, ◌∷◌, ◌++◌, Bool, true, false, Option, Some, None, if◌then◌else◌, ◌==◌, refl, sym, ◌∙◌, ap, subst, arith}
 use Rattle.std.specs.Prelude.{slice_get}
 use Rattle.std.proofs.lemmas.Bool.{cases_eq, eqb-true, eqb-false}
+use Rattle.arena.specs.declared.place.Part.TheVariants.{First}
+use Rattle.arena.specs.declared.place.Part.{Part}
+use Rattle.words.specs.PlainQueue.{Value, FitsValue}
 use Rattle.words.specs.declared.call.Call.{Call}
 use Rattle.words.specs.declared.call.Call.TheVariants.{Enq, Deq}
 use Rattle.words.specs.declared.call.Client.{Client}
@@ -15,10 +18,10 @@ use Rattle.arena.specs.Chain.{IsAmong, LeadsTo}
 use Rattle.arena.specs.Chain.LeadsTo.{there}
 use Rattle.arena.specs.Place.{number_of}
 use Rattle.arena.specs.Shape.{Shape, owner, greatest}
-use Rattle.arena.specs.Words.{links, marks, values, bumps, announcements, IsWritten}
+use Rattle.arena.specs.Words.{links, marks, values, bumps, announcements, IsWritten, value_of, values_fit}
 use Rattle.arena.specs.declared.place.Write.{Write}
 use Rattle.arena.specs.declared.place.Place.{Place}
-use Rattle.arena.specs.declared.place.Place.TheVariants.{Announcement, Head, Tail, Bump, Value, Next, Mark}
+use Rattle.arena.specs.declared.place.Place.TheVariants.{Announcement, Head, Tail, Bump, Item, Next, Mark}
 use Rattle.stepper.specs.Preparation.{preparation_of, prepared_to, prepared_with, IsBegun}
 use Rattle.stepper.specs.Step.{place_of, kept_by}
 use Rattle.stepper.specs.declared.resume.After.{After}
@@ -186,7 +189,7 @@ module _ (s : Shape) (m : Memory) (l : Ledger) (claimed waiting : List ℕ) (b :
         of_kind = pl.of_kind;
         fits = pl.fits;
       } in
-      let loose : (x : NodeId) → w.place ≡ Value x → (j : ℕ) → links m.cached j ≢ x.0 = λ x e j q.
+      let loose : (x : NodeId) (part : Part) → w.place ≡ Item x part → (j : ℕ) → links m.cached j ≢ x.0 = λ x part e j q.
       h.before.loose.link j (q ∙ sym (ap number_of e) ∙ (pl.numbered (subst IsOfRecord (sym e) tt)).0) in
       let bump : (t : Client) → w.place ≡ Bump t → (bumps m.kept t.0 ≤ w.value) × (t.0 < s.clients) = λ t e.
       let who : t.0 ≡ bg.client.0 = pl.bump t.0 e in
@@ -505,7 +508,7 @@ module _ (s : Shape) (m : Memory) (l : Ledger) (claimed waiting : List ℕ) (b :
       subst (λ x. IsAmong x (claimed ++ waiting)) c.link (in_chain (links m.kept) 0 (claimed ++ waiting) first b.chained.chain among (λ z. c.some (sym c.link ∙ z))) in
       sym (chain_value s m l claimed waiting b next linked)
 
-  row_DequeueClaim : (token : Token) (first next : NodeId) (v : ℕ) → Knows s m l i (DequeueClaim (record { token = token; first = first; next = next; value = v }))
+  row_DequeueClaim : (token : Token) (first next : NodeId) (v : Value) → Knows s m l i (DequeueClaim (record { token = token; first = first; next = next; value = v }))
       → Row s m l (with_access m (Cas (Mark next) 0 token.0)) l i (successor s.kind (DequeueClaim (record { token = token; first = first; next = next; value = v })) (m.cached (Mark next)))
   row_DequeueClaim token first next v h = go (marks m.cached next.0 == 0) refl
     where
@@ -532,7 +535,7 @@ module _ (s : Shape) (m : Memory) (l : Ledger) (claimed waiting : List ℕ) (b :
           quiet (More (FlushPoint (KeepClaim (record { claimed = record { token = token; first = first; next = next; value = v; claim = LostTo (token_of (marks m.cached next.0)) } }))))
           ((h.0, h.1, eqb-false (marks m.cached next.0) 0 e), h.2, h.3, refl, eqb-false (marks m.cached next.0) 0 e)
 
-  row_KeepClaim : (token : Token) (first next : NodeId) (v : ℕ) (claim : Claim) → Knows s m l i (FencePoint (KeepClaim (record { claimed = record { token = token; first = first; next = next; value = v; claim = claim } })))
+  row_KeepClaim : (token : Token) (first next : NodeId) (v : Value) (claim : Claim) → Knows s m l i (FencePoint (KeepClaim (record { claimed = record { token = token; first = first; next = next; value = v; claim = claim } })))
       → Row s m l (with_fence m (Mark next)) (kept_ledger s m l (Mark next)) i (More (DequeueStoreResult (record { claimed = record { token = token; first = first; next = next; value = v; claim = claim } })))
   row_KeepClaim token first next v claim h =
       fences (FencePoint (KeepClaim (record { claimed = record { token = token; first = first; next = next; value = v; claim = claim } })))
@@ -542,14 +545,14 @@ module _ (s : Shape) (m : Memory) (l : Ledger) (claimed waiting : List ℕ) (b :
         record { claims = g.1; value = g.2; marked = upd_same (marks m.kept) next.0 (marks m.cached next.0) ∙ g.3; some = g.4 },
       ))
 
-  row_DequeueStoreResult : (token : Token) (first next : NodeId) (v : ℕ) (claim : Claim) → Knows s m l i (DequeueStoreResult (record { claimed = record { token = token; first = first; next = next; value = v; claim = claim } }))
+  row_DequeueStoreResult : (token : Token) (first next : NodeId) (v : Value) (claim : Claim) → Knows s m l i (DequeueStoreResult (record { claimed = record { token = token; first = first; next = next; value = v; claim = claim } }))
       → Row s m l (with_store m (result_of s.kind (winner claim token) next v).place (result_of s.kind (winner claim token) next v).value) l i
       (More (FlushPoint (KeepResult (record { claimed = record { token = token; first = first; next = next; value = v; claim = claim } }))))
   row_DequeueStoreResult token first next v claim h =
       let w : Token = winner claim token in
       let cached : marks m.cached next.0 ≡ (winner claim token).0 = b.marked.kept next.0 (λ z. h.1.some (sym h.1.marked ∙ z)) ∙ h.1.marked in
       let node : next.0 ≤ greatest s = subst (λ x. x ≤ greatest s) h.1.claims.link (b.fits_kept (Next first) tt) in
-      let small : v ≤ 4294967295 = subst (λ x. x ≤ 4294967295) h.1.value (b.fits_kept (Value next) tt) in
+      let small : FitsValue v = subst FitsValue h.1.value (values_fit m.kept next.0 (b.fits_kept (Item next First) tt)) in
       anyone (DequeueStoreResult (record { claimed = record { token = token; first = first; next = next; value = v; claim = claim } }))
       (More (FlushPoint (KeepResult (record { claimed = record { token = token; first = first; next = next; value = v; claim = claim } }))))
       (with_store m (result_of s.kind (winner claim token) next v).place (result_of s.kind (winner claim token) next v).value) l
@@ -561,7 +564,7 @@ module _ (s : Shape) (m : Memory) (l : Ledger) (claimed waiting : List ℕ) (b :
       }) h
       (λ c g. (g.0, g.1, put_same m.cached (result_of s.kind (winner claim token) next v).place (result_of s.kind (winner claim token) next v).value))
 
-  row_KeepResult : (token : Token) (first next : NodeId) (v : ℕ) (claim : Claim) → Knows s m l i (FencePoint (KeepResult (record { claimed = record { token = token; first = first; next = next; value = v; claim = claim } })))
+  row_KeepResult : (token : Token) (first next : NodeId) (v : Value) (claim : Claim) → Knows s m l i (FencePoint (KeepResult (record { claimed = record { token = token; first = first; next = next; value = v; claim = claim } })))
       → Row s m l (with_fence m (result_of s.kind (winner claim token) next v).place) (kept_ledger s m l (result_of s.kind (winner claim token) next v).place) i
       (More (DequeueMoveHead (record { claimed = record { token = token; first = first; next = next; value = v; claim = claim } })))
   row_KeepResult token first next v claim h =
@@ -574,7 +577,7 @@ module _ (s : Shape) (m : Memory) (l : Ledger) (claimed waiting : List ℕ) (b :
         put_same m.kept (result_of s.kind (winner claim token) next v).place (m.cached (result_of s.kind (winner claim token) next v).place) ∙ g.2,
       ))
 
-  row_DequeueMoveHead : (token : Token) (first next : NodeId) (v : ℕ) (claim : Claim) → Knows s m l i (DequeueMoveHead (record { claimed = record { token = token; first = first; next = next; value = v; claim = claim } }))
+  row_DequeueMoveHead : (token : Token) (first next : NodeId) (v : Value) (claim : Claim) → Knows s m l i (DequeueMoveHead (record { claimed = record { token = token; first = first; next = next; value = v; claim = claim } }))
       → Row s m l (with_access m (Cas Head first.0 next.0)) l i (answer_or_again claim token v)
   row_DequeueMoveHead token first next v claim h =
       anyone (DequeueMoveHead (record { claimed = record { token = token; first = first; next = next; value = v; claim = claim } })) (answer_or_again claim token v) (with_access m (Cas Head first.0 next.0)) l
@@ -616,7 +619,7 @@ module _ (s : Shape) (m : Memory) (l : Ledger) (claimed waiting : List ℕ) (b :
   row (FencePoint (KeepDequeuePassedLink p)) h = fences (FencePoint (KeepDequeuePassedLink p)) (More (DequeueHelpTail (record { token = p.token; last = p.last; next = p.next }))) (Next p.last) h
       (λ c g. (g.0, g.1, upd_same (links m.kept) p.last.0 (links m.cached p.last.0) ∙ g.2))
   row (DequeueHelpTail p) h = anyone (DequeueHelpTail p) (More (DequeueLoadHead (record { token = p.token }))) (with_access m (Cas Tail p.last.0 p.next.0)) l (tail_moves p.last.0 p.next.0 h.2 h.1) h (λ c g. g.0)
-  row (DequeueLoadValue p) h = quiet (More (DequeueClaim (record { token = p.token; first = p.first; next = p.next; value = m.cached (Value p.next) }))) (h.0, h.1, h.2, claims_value p.first.0 p.next.0 h.2)
+  row (DequeueLoadValue p) h = quiet (More (DequeueClaim (record { token = p.token; first = p.first; next = p.next; value = value_of (m.cached (Item p.next First)) }))) (h.0, h.1, h.2, claims_value p.first.0 p.next.0 h.2)
   row (DequeueClaim p) h = row_DequeueClaim p.token p.first p.next p.value h
   row (FencePoint (KeepClaim p)) h = row_KeepClaim p.claimed.token p.claimed.first p.claimed.next p.claimed.value p.claimed.claim h
   row (DequeueStoreResult p) h = row_DequeueStoreResult p.claimed.token p.claimed.first p.claimed.next p.claimed.value p.claimed.claim h

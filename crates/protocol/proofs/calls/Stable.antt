@@ -1,6 +1,8 @@
 -- What a call knows outlasts the acts of every other client.
 use Rattle.std.proofs.Common.{◌≡◌, ◌≢◌, ℕ, zero, suc, ◌+◌, ◌≤◌, ◌⊎◌, inl, inr, Some, refl, sym, ◌∙◌, ap, subst}
 use Rattle.std.specs.Prelude.{slice_get}
+use Rattle.arena.specs.declared.place.Part.TheVariants.{First}
+use Rattle.words.specs.PlainQueue.{Value}
 use Rattle.words.specs.declared.call.Call.{Call}
 use Rattle.words.specs.declared.call.Call.TheVariants.{Enq, Deq}
 use Rattle.words.specs.declared.call.Kind.{Kind}
@@ -11,10 +13,10 @@ use Rattle.arena.specs.Answers.{empty_answer_of, result_of}
 use Rattle.arena.specs.Chain.{LeadsTo}
 use Rattle.arena.specs.Place.{number_of}
 use Rattle.arena.specs.Shape.{Shape, owner}
-use Rattle.arena.specs.Words.{links, marks, values, announcements, IsWritten}
+use Rattle.arena.specs.Words.{links, marks, values, announcements, IsWritten, value_of}
 use Rattle.arena.specs.declared.place.Write.{Write}
 use Rattle.arena.specs.declared.place.Place.{Place}
-use Rattle.arena.specs.declared.place.Place.TheVariants.{Head, Tail, Announcement, Bump, Value, Next, Mark, Cell, Insert, Number, EntryKind, Status, EntryNode}
+use Rattle.arena.specs.declared.place.Place.TheVariants.{Head, Tail, Announcement, Bump, Item, Next, Mark, Cell, Insert, Number, EntryKind, Status, EntryNode}
 use Rattle.stepper.specs.Preparation.{preparation_of, preparation_from, bump, announcement, write}
 use Rattle.stepper.specs.declared.prepare.Begun.{Begun}
 use Rattle.helping.specs.Claims.{winner}
@@ -46,7 +48,7 @@ pub empty_number : (kind : Kind) (t : Token) → number_of (empty_answer_of kind
 empty_number Durable t = refl
 empty_number Log t = refl
 
-pub result_own : (kind : Kind) (t : Token) (n : NodeId) (v : ℕ) → IsOwnWord (result_of kind t n v).place
+pub result_own : (kind : Kind) (t : Token) (n : NodeId) (v : Value) → IsOwnWord (result_of kind t n v).place
 result_own Durable t n v = tt
 result_own Log t n v = tt
 
@@ -56,7 +58,7 @@ home_of_record s Head r = absurd r
 home_of_record s Tail r = absurd r
 home_of_record s (Announcement t) r = absurd r
 home_of_record s (Bump t) r = absurd r
-home_of_record s (Value n) r = refl
+home_of_record s (Item n part) r = refl
 home_of_record s (Next n) r = refl
 home_of_record s (Mark n) r = refl
 home_of_record s (Cell c) r = refl
@@ -77,7 +79,7 @@ plain_write s b w own whose none = record { own = own; whose = whose; answer = �
 
 own_from : (s : Shape) (b : Begun) (kind : Kind) (call : Call) (j : ℕ) (w : Write) → b.call ≡ call → owner s b.token.0 ≡ b.client.0 → slice_get (preparation_from kind call b) j ≡ Some w → IsOwnWrite s b w
 own_from s b Durable (Enq v) zero w c o e = let same : bump b ≡ w = cc in subst (IsOwnWrite s b) same (plain_write s b (bump b) tt refl (λ x. x))
-own_from s b Durable (Enq v) (suc zero) w c o e = let same : write (Value (record { 0 = b.token.0 })) v ≡ w = cc in subst (IsOwnWrite s b) same (plain_write s b (write (Value (record { 0 = b.token.0 })) v) tt o (λ x. x))
+own_from s b Durable (Enq v) (suc zero) w c o e = let same : write (Item (record { 0 = b.token.0 }) First) v ≡ w = cc in subst (IsOwnWrite s b) same (plain_write s b (write (Item (record { 0 = b.token.0 }) First) v) tt o (λ x. x))
 own_from s b Durable (Enq v) (suc (suc j)) w c o e = absurd (cc)
 own_from s b Durable Deq zero w c o e = let same : bump b ≡ w = cc in subst (IsOwnWrite s b) same (plain_write s b (bump b) tt refl (λ x. x))
 own_from s b Durable Deq (suc zero) w c o e = let same : announcement b ≡ w = cc in subst (IsOwnWrite s b) same (plain_write s b (announcement b) tt refl (λ x. x))
@@ -86,7 +88,7 @@ own_from s b Log (Enq v) zero w c o e = let same : bump b ≡ w = cc in subst (I
 own_from s b Log (Enq v) (suc zero) w c o e = let same : write (Number b.token) b.number ≡ w = cc in subst (IsOwnWrite s b) same (plain_write s b (write (Number b.token) b.number) tt o (λ x. x))
 own_from s b Log (Enq v) (suc (suc zero)) w c o e = let same : write (EntryKind b.token) 1 ≡ w = cc in subst (IsOwnWrite s b) same (plain_write s b (write (EntryKind b.token) 1) tt o (λ x. x))
 own_from s b Log (Enq v) (suc (suc (suc zero))) w c o e = let same : write (EntryNode b.token) b.token.0 ≡ w = cc in subst (IsOwnWrite s b) same (record { own = tt; whose = o; answer = λ a. (λ d. cc, refl) })
-own_from s b Log (Enq v) (suc (suc (suc (suc zero)))) w c o e = let same : write (Value (record { 0 = b.token.0 })) v ≡ w = cc in subst (IsOwnWrite s b) same (plain_write s b (write (Value (record { 0 = b.token.0 })) v) tt o (λ x. x))
+own_from s b Log (Enq v) (suc (suc (suc (suc zero)))) w c o e = let same : write (Item (record { 0 = b.token.0 }) First) v ≡ w = cc in subst (IsOwnWrite s b) same (plain_write s b (write (Item (record { 0 = b.token.0 }) First) v) tt o (λ x. x))
 own_from s b Log (Enq v) (suc (suc (suc (suc (suc zero))))) w c o e = let same : write (Insert (record { 0 = b.token.0 })) b.token.0 ≡ w = cc in subst (IsOwnWrite s b) same (plain_write s b (write (Insert (record { 0 = b.token.0 })) b.token.0) tt o (λ x. x))
 own_from s b Log (Enq v) (suc (suc (suc (suc (suc (suc zero)))))) w c o e = let same : announcement b ≡ w = cc in subst (IsOwnWrite s b) same (plain_write s b (announcement b) tt refl (λ x. x))
 own_from s b Log (Enq v) (suc (suc (suc (suc (suc (suc (suc j))))))) w c o e = absurd (cc)
@@ -183,7 +185,7 @@ module _ (a i : ℕ) (s : Shape) (m : Memory) (l : Ledger) (n : Memory) (k : Led
       g.at_own w.place o.own (λ q. ne (sym h.own ∙ sym o.whose ∙ q)) (λ r x q. h.before.loose.mark x (q ∙ (o.answer r).1)) ∙ e
 
   same_value : (c : ℕ) → owner s c ≡ i → values n.cached c ≡ values m.cached c
-  same_value c own = g.at_own (Value (record { 0 = c })) tt (λ e. ne (sym own ∙ e)) (λ r. absurd r)
+  same_value c own = ap value_of (g.at_own (Item (record { 0 = c }) First) tt (λ e. ne (sym own ∙ e)) (λ r. absurd r))
 
   enqueuing_stable : (c : ℕ) → Enqueuing s m l i c → Enqueuing s n k i c
   enqueuing_stable c h = record {
@@ -191,7 +193,7 @@ module _ (a i : ℕ) (s : Shape) (m : Memory) (l : Ledger) (n : Memory) (k : Led
     acting = acting_stable c (inr h.before.loose.mark) h.acting;
     unmoved = stage_stable c h.before ∙ h.unmoved;
     asks = asks_stable (asked_call l i) refl ∙ h.asks ∙ ap Enq (sym (same_value c h.before.mine.own));
-    kept = elim (g.at_kept_own (Value (record { 0 = c })) tt) [ inl t ↦ t ∙ h.kept | inr t ↦ t ] ∙ sym (same_value c h.before.mine.own);
+    kept = elim (g.at_kept_own (Item (record { 0 = c }) First) tt) [ inl t ↦ ap value_of t ∙ h.kept | inr t ↦ ap value_of t ] ∙ sym (same_value c h.before.mine.own);
   }
 
   linked_stable : (c : ℕ) → Linked s m l i c → Linked s n k i c

@@ -2,6 +2,8 @@
 use Rattle.std.proofs.Common.{◌≡◌, ◌≢◌, ℕ, ◌≤◌, inl, inr, List, ◌∷◌, ◌++◌, map, Bool, true, false, if◌then◌else◌, ◌==◌, refl, sym, ◌∙◌, ap, subst, arith}
 use Rattle.std.proofs.lemmas.Bool.{cases_eq, eqb-true, eqb-false}
 use mathlib.Core.Path.{fun_ext}
+use Rattle.arena.specs.declared.place.Part.{Part}
+use Rattle.words.specs.PlainQueue.{Value}
 use Rattle.words.specs.declared.call.Client.{Client}
 use Rattle.words.specs.declared.call.Kind.{Kind}
 use Rattle.words.specs.declared.call.Kind.TheVariants.{Durable, Log}
@@ -15,7 +17,7 @@ use Rattle.arena.specs.Place.{number_of}
 use Rattle.arena.specs.Shape.{Shape, owner}
 use Rattle.arena.specs.Words.{links, marks, values, bumps}
 use Rattle.arena.specs.declared.place.Place.{Place}
-use Rattle.arena.specs.declared.place.Place.TheVariants.{Head, Tail, Announcement, Bump, Value, Next, Mark, Cell, Insert, Number, EntryKind, Status, EntryNode}
+use Rattle.arena.specs.declared.place.Place.TheVariants.{Head, Tail, Announcement, Bump, Item, Next, Mark, Cell, Insert, Number, EntryKind, Status, EntryNode}
 use Rattle.helping.specs.Table.{token_of}
 use Rattle.protocol.specs.Machine.{Memory, put, with_fence}
 use Rattle.arena.proofs.Chains.{in_left, in_right}
@@ -24,7 +26,7 @@ use Rattle.protocol.specs.invariants.Ledger.{Stage, Ledger, held_token}
 use Rattle.protocol.specs.invariants.Places.{Says, empties}
 use Rattle.protocol.specs.invariants.Base.{Absent, AllFit, IsLinking, IsClaiming, IsAnswering, Empties, Base}
 use Rattle.protocol.specs.invariants.Ledger.Stage.{Unmoved, Seen, Took}
-use Rattle.protocol.proofs.changes.Puts.{IsEmptyWord, put_same, put_other, put_id, put_absent, put_fits, put_empties, Issues, issues_fenced}
+use Rattle.protocol.proofs.changes.Puts.{IsEmptyWord, put_same, put_other, put_id, put_absent, put_fits, put_empties, Issues, issues_fenced, values_fenced}
 use Rattle.protocol.proofs.calls.Stable.{empty_number}
 use Rattle.protocol.proofs.changes.Keeps.{restaged, counted, noticed_ledger, kept_ledger, Kept, still, keep_grows, link_kept, mark_kept}
 
@@ -115,25 +117,19 @@ module _ (s : Shape) (m : Memory) (l : Ledger) (claimed waiting : List ℕ) (b :
   issues : (p : Place) → Issues s m (with_fence m p).kept
   issues p = issues_fenced s m l claimed waiting b p
 
-  value_base : (n : ℕ) → Base s (with_fence m (Value (record { 0 = n }))) l claimed waiting
-  value_base n =
-      let p : Place = Value (record { 0 = n }) in
-      let v : ℕ = values m.cached n in
-      let stays : (x : ℕ) → IsAmong x (claimed ++ waiting) → upd (values m.kept) n (values m.cached n) x ≡ values m.kept x = λ x h.
-      elim (upd_cases (values m.kept) n (values m.cached n) x) [
-        | inl t ↦ t.1 ∙ ap (values m.cached) (sym t.0) ∙ chain_value s m l claimed waiting b x h
-        | inr t ↦ t.1
-      ] in
-      let content : map (upd (values m.kept) n (values m.cached n)) waiting ≡ l.queue =
-      map_agree (upd (values m.kept) n (values m.cached n)) (values m.kept) waiting (λ x h. stays x (in_right x claimed waiting h)) ∙ b.content in
-      let linked : (j : ℕ) → links m.cached j ≢ 0 → values m.cached (links m.cached j) ≡ upd (values m.kept) n (values m.cached n) (links m.cached j) = λ j h.
-      elim (upd_cases (values m.kept) n (values m.cached n) (links m.cached j)) [
-        | inl t ↦ ap (values m.cached) t.0 ∙ sym t.1
-        | inr t ↦ b.linked_value j h ∙ sym t.1
-      ] in
-      let took : (j : ℕ) → marks m.kept j ≢ 0 → held_token l (owner s (marks m.kept j)) ≡ marks m.kept j → l.stage (owner s (marks m.kept j)) ≡ Took (Got (upd (values m.kept) n (values m.cached n) j)) = λ j h hd.
+  -- a part of a message that is kept: where a node is linked its value is kept already
+  item_base : (n : NodeId) (part : Part) → Base s (with_fence m (Item n part)) l claimed waiting
+  item_base n part =
+      let p : Place = Item n part in
+      let v : ℕ = m.cached p in
+      let after : ℕ → Value = values (put m.kept p v) in
+      let stays : (x : ℕ) → IsAmong x (claimed ++ waiting) → after x ≡ values m.kept x = λ x h. values_fenced m p x (chain_value s m l claimed waiting b x h) in
+      let content : map after waiting ≡ l.queue = map_agree after (values m.kept) waiting (λ x h. stays x (in_right x claimed waiting h)) ∙ b.content in
+      let linked : (j : ℕ) → links m.cached j ≢ 0 → values m.cached (links m.cached j) ≡ after (links m.cached j) = λ j h.
+      b.linked_value j h ∙ sym (values_fenced m p (links m.cached j) (b.linked_value j h)) in
+      let took : (j : ℕ) → marks m.kept j ≢ 0 → held_token l (owner s (marks m.kept j)) ≡ marks m.kept j → l.stage (owner s (marks m.kept j)) ≡ Took (Got (after j)) = λ j h hd.
       b.took_mark j h hd ∙ ap (λ x. Took (Got x)) (sym (stays j (in_left j claimed waiting (b.marked.back j h)))) in
-      let empty : Empties s l (marks m.cached) (empties s m.cached) (empties s (put m.kept (Value (record { 0 = n })) (values m.cached n))) =
+      let empty : Empties s l (marks m.cached) (empties s m.cached) (empties s (put m.kept p v)) =
       subst (λ k. Empties s l (marks m.cached) (empties s m.cached) k) (sym (put_empties s m.kept p v (λ x. x))) b.empty in
       let absent_kept = put_absent s m.kept p v (b.absent p) b.absent_kept in
       let fits_kept = put_fits s m.kept p v (b.fits p) b.fits_kept in
@@ -147,8 +143,8 @@ module _ (s : Shape) (m : Memory) (l : Ledger) (claimed waiting : List ℕ) (b :
         kept_head_to_head = b.kept_head_to_head;
         kept_tail = b.kept_tail;
         linked_value = linked;
-        issued_link = (issues (Value (record { 0 = n }))).issued_link;
-        issued_mark = (issues (Value (record { 0 = n }))).issued_mark;
+        issued_link = (issues p).issued_link;
+        issued_mark = (issues p).issued_mark;
         flying_link = b.flying_link;
         flying_mark = b.flying_mark;
         took_link = b.took_link;
@@ -159,10 +155,10 @@ module _ (s : Shape) (m : Memory) (l : Ledger) (claimed waiting : List ℕ) (b :
         empty = empty;
         kept_bump = b.kept_bump;
         no_bump = b.no_bump;
-        announced = (issues (Value (record { 0 = n }))).announced;
-        announced_kept = (issues (Value (record { 0 = n }))).announced_kept;
-        blank = (issues (Value (record { 0 = n }))).blank;
-        blank_kept = (issues (Value (record { 0 = n }))).blank_kept;
+        announced = (issues p).announced;
+        announced_kept = (issues p).announced_kept;
+        blank = (issues p).blank;
+        blank_kept = (issues p).blank_kept;
         absent = b.absent;
         absent_kept = absent_kept;
         fits = b.fits;
@@ -446,7 +442,7 @@ module _ (s : Shape) (m : Memory) (l : Ledger) (claimed waiting : List ℕ) (b :
   new_kept Tail apart = plain_kept Tail tail_base
   new_kept (Announcement t) apart = plain_kept (Announcement t) (announcement_base t)
   new_kept (Bump t) apart = plain_kept (Bump t) (bump_base t.0)
-  new_kept (Value n) apart = plain_kept (Value n) (value_base n.0)
+  new_kept (Item n part) apart = plain_kept (Item n part) (item_base n part)
   new_kept (Next n) apart = link_kept s m l claimed waiting b n.0 apart
   new_kept (Mark n) apart = mark_kept s m l claimed waiting b n.0 apart
   new_kept (Cell c) apart = cell_kept c apart

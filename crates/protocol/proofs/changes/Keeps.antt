@@ -1,6 +1,7 @@
 -- A word becomes kept, by a call's fence or by the environment.
 use Rattle.std.proofs.Common.{◌≡◌, ◌≢◌, ℕ, inl, inr, List, [], ◌∷◌, ◌++◌, map, drop, if◌then◌else◌, ◌==◌, refl, sym, ◌∙◌, ap, subst, append_assoc}
 use Rattle.std.proofs.lemmas.List.{map-append}
+use Rattle.words.specs.PlainQueue.{Value}
 use Rattle.words.specs.declared.call.Call.TheVariants.{Enq, Deq}
 use Rattle.words.specs.declared.call.Reply.TheVariants.{Done, Got, Empty}
 use Rattle.arena.specs.Chain.{IsFirst}
@@ -8,7 +9,7 @@ use Rattle.arena.specs.Chain.LeadsTo.{there}
 use Rattle.arena.specs.Shape.{Shape, owner}
 use Rattle.arena.specs.Words.{links, marks, values}
 use Rattle.arena.specs.declared.place.Place.{Place}
-use Rattle.arena.specs.declared.place.Place.TheVariants.{Head, Tail, Value, Next, Mark, Cell, Status}
+use Rattle.arena.specs.declared.place.Place.TheVariants.{Head, Tail, Next, Mark, Cell, Status}
 use Rattle.protocol.specs.Machine.{Memory, with_fence}
 use Rattle.arena.proofs.Chains.{in_left}
 use Rattle.protocol.proofs.chain.Chains.{upd, upd_at, upd_other, upd_cases, leads_grows}
@@ -20,7 +21,7 @@ use Rattle.protocol.specs.invariants.Base.{IsLinking, IsClaiming, IsAnswering, E
 use Rattle.protocol.specs.invariants.Knows.{Loose}
 use Rattle.protocol.specs.invariants.Grows.{Grows}
 use Rattle.protocol.specs.invariants.Ledger.Stage.{Unmoved, Seen, Took}
-use Rattle.protocol.proofs.changes.Puts.{put_cases, put_absent, put_fits, put_empties, Issues, issues_fenced}
+use Rattle.protocol.proofs.changes.Puts.{put_cases, put_absent, put_fits, put_empties, Issues, issues_fenced, values_fenced}
 
 -- client i's call is at another stage, and the queue is this one
 abbrev pub restaged : Ledger → ℕ → Stage → List ℕ → Ledger
@@ -51,7 +52,7 @@ pub record Kept (s : Shape) (m : Memory) (l : Ledger) (n : Memory) (k : Ledger) 
   pub grows : (a : ℕ) → Grows a s m l n k
 
 -- a stage of another kind than the one that changes stays
-pub still : (l : Ledger) (i0 : ℕ) (st0 st1 : Stage) (queue : List ℕ) → l.stage i0 ≡ st0 → (i : ℕ) (st : Stage) → st ≢ st0 → l.stage i ≡ st → (restaged l i0 st1 queue).stage i ≡ st
+pub still : (l : Ledger) (i0 : ℕ) (st0 st1 : Stage) (queue : List Value) → l.stage i0 ≡ st0 → (i : ℕ) (st : Stage) → st ≢ st0 → l.stage i ≡ st → (restaged l i0 st1 queue).stage i ≡ st
 still l i0 st0 st1 queue at i st ne h = upd_other l.stage i0 st1 i (λ e. ne (sym h ∙ ap l.stage e ∙ at)) ∙ h
 
 enq_or_deq : (v : ℕ) → Deq ≡ Enq v → ⊥
@@ -75,11 +76,8 @@ keep_grows s m l claimed waiting p k b begun stage a = record {
   new_mark = λ x. inl refl;
   at_own = λ q own ne free. refl;
   at_kept_own = λ q own. elim (put_cases m.kept p (m.cached p) q) [ inl t ↦ inr (t.1 ∙ ap m.cached (sym t.0)) | inr t ↦ inl t.1 ];
-  at_linked = λ x h. elim (put_cases m.kept p (m.cached p) (Value (record { 0 = links m.kept x }))) [
-    | inl t ↦ t.1 ∙ ap m.cached (sym t.0)
-        ∙ subst (λ y. values m.cached y ≡ values m.kept y) (b.chained.kept x h) (b.linked_value x (λ z. h (sym (b.chained.kept x h) ∙ z)))
-    | inr t ↦ t.1
-  ];
+  at_linked = λ x h. values_fenced m p (links m.kept x)
+      (subst (λ y. values m.cached y ≡ values m.kept y) (b.chained.kept x h) (b.linked_value x (λ z. h (sym (b.chained.kept x h) ∙ z))));
   at_result = λ x v h e t. t;
   tail = there;
   head = there;
@@ -88,7 +86,7 @@ keep_grows s m l claimed waiting p k b begun stage a = record {
 }
 
 -- a call's first effect leaves the answers of others as they stood
-took_empties : (s : Shape) (l : Ledger) (mark e k : ℕ → ℕ) (i0 : ℕ) (st1 : Stage) (queue : List ℕ) → l.stage i0 ≡ Unmoved → Empties s l mark e k → Empties s (restaged l i0 st1 queue) mark e k
+took_empties : (s : Shape) (l : Ledger) (mark e k : ℕ → ℕ) (i0 : ℕ) (st1 : Stage) (queue : List Value) → l.stage i0 ≡ Unmoved → Empties s l mark e k → Empties s (restaged l i0 st1 queue) mark e k
 took_empties s l mark e k i0 st1 queue at b = record {
   flying = λ d h z.
       let f : IsAnswering s l mark d = b.flying d h z in

@@ -2,6 +2,9 @@
 use Rattle.std.proofs.Common.{◌≡◌, ◌≢◌, ℕ, ◌+◌, ◌*◌, ◌≤◌, ◌<◌, ◌⊎◌, inl, inr, List, refl, sym, ◌∙◌, ap, subst, arith}
 use Rattle.std.proofs.lemmas.Bool.{cases_Bool, false≢true}
 use mathlib.Core.Path.{fun_ext}
+use Rattle.arena.specs.declared.place.Part.TheVariants.{First}
+use Rattle.words.specs.declared.call.NodeId.{NodeId}
+use Rattle.arena.specs.declared.place.Part.{Part}
 use Rattle.words.specs.declared.call.Kind.{Kind}
 use Rattle.words.specs.declared.call.Kind.TheVariants.{Durable, Log}
 use Rattle.words.specs.declared.call.Token.{Token}
@@ -9,9 +12,9 @@ use Rattle.arena.specs.Answers.{empty_answer_of}
 use Rattle.arena.specs.Place.{is_same, is_same-true, is_same-from, number_of}
 use Rattle.arena.specs.Ranges.{Fits, IsReadByCalls}
 use Rattle.arena.specs.Shape.{Shape, owner}
-use Rattle.arena.specs.Words.{links, marks, bumps, announcements}
+use Rattle.arena.specs.Words.{links, marks, bumps, announcements, value_of, values}
 use Rattle.arena.specs.declared.place.Place.{Place}
-use Rattle.arena.specs.declared.place.Place.TheVariants.{Announcement, Bump, Cell, Status}
+use Rattle.arena.specs.declared.place.Place.TheVariants.{Announcement, Bump, Cell, Status, Item}
 use Rattle.helping.specs.Table.{token_of}
 use Rattle.protocol.specs.Machine.{Memory, put, with_fence}
 use Rattle.recover.specs.Sound.{IsIssued, IsOwn}
@@ -32,6 +35,17 @@ pub put_cases : (f : Place → ℕ) (p : Place) (v : ℕ) (q : Place) → ((q �
 put_cases f p v q = elim (cases_Bool (is_same p q)) [
   | inl e ↦ inl (sym (is_same-true p q e), rw e refl)
   | inr e ↦ inr (λ s. false≢true (sym e ∙ is_same-from p q (sym s)), rw e refl)
+]
+
+-- a part of one node's message that is changed leaves the values of the others
+pub values_elsewhere : (f : Place → ℕ) (n : NodeId) (part : Part) (v x : ℕ) → x ≢ n.0 → values (put f (Item n part) v) x ≡ values f x
+values_elsewhere f n part v x ne = ap value_of (put_other f (Item n part) v (Item (record { 0 = x }) First) (λ e. ne (ap number_of e)))
+
+-- a word that is kept leaves the kept value of a node whose two values are one
+pub values_fenced : (m : Memory) (p : Place) (x : ℕ) → values m.cached x ≡ values m.kept x → values (with_fence m p).kept x ≡ values m.kept x
+values_fenced m p x same = elim (put_cases m.kept p (m.cached p) (Item (record { 0 = x }) First)) [
+  | inl t ↦ ap value_of (t.1 ∙ ap m.cached (sym t.0)) ∙ same
+  | inr t ↦ ap value_of t.1
 ]
 
 -- what holds of every word holds of every word still

@@ -1,5 +1,7 @@
 -- A word that a call stores.
 use Rattle.std.proofs.Common.{drop, ◌≡◌, ◌≢◌, ℕ, ◌+◌, ◌≤◌, ◌<◌, ◌⊎◌, inl, inr, List, ◌∷◌, ◌++◌, refl, sym, ◌∙◌, ap, subst, arith}
+use Rattle.arena.specs.declared.place.Part.{Part}
+use Rattle.words.specs.PlainQueue.{Value, FitsValue}
 use Rattle.words.specs.declared.call.Call.TheVariants.{Enq}
 use Rattle.words.specs.declared.call.Client.{Client}
 use Rattle.words.specs.declared.call.Kind.{Kind}
@@ -14,7 +16,7 @@ use Rattle.arena.specs.Ranges.{Fits}
 use Rattle.arena.specs.Shape.{Shape, owner, greatest}
 use Rattle.arena.specs.Words.{links, marks, values, bumps, announcements}
 use Rattle.arena.specs.declared.place.Place.{Place}
-use Rattle.arena.specs.declared.place.Place.TheVariants.{Head, Tail, Announcement, Bump, Value, Next, Mark, Cell, Insert, Number, EntryKind, Status, EntryNode}
+use Rattle.arena.specs.declared.place.Place.TheVariants.{Head, Tail, Announcement, Bump, Item, Next, Mark, Cell, Insert, Number, EntryKind, Status, EntryNode}
 use Rattle.helping.specs.Table.{token_of, node_of}
 use Rattle.protocol.specs.Machine.{Memory, put, with_store}
 use Rattle.recover.specs.Sound.{IsIssued, IsOwn}
@@ -30,7 +32,7 @@ use Rattle.protocol.specs.invariants.Places.{IsOfRecord, IsOwnWord, IsAnswer, Is
 use Rattle.protocol.specs.invariants.Base.{Blank, Absent, AllFit, IsLinking, IsClaiming, IsAnswering, Empties, Base}
 use Rattle.protocol.specs.invariants.Grows.{Grows}
 use Rattle.protocol.specs.invariants.Ledger.Stage.{Unmoved, Seen, Took}
-use Rattle.protocol.proofs.changes.Puts.{IsEmptyWord, put_cases, put_other, put_blank, put_absent, put_fits, put_empties}
+use Rattle.protocol.proofs.changes.Puts.{IsEmptyWord, put_cases, put_other, put_blank, put_absent, put_fits, put_empties, values_elsewhere}
 use Rattle.protocol.proofs.calls.Stable.{empty_own, empty_home, empty_number, result_own}
 use Rattle.protocol.proofs.changes.Fences.{cell_empties, status_empties}
 
@@ -53,11 +55,11 @@ none_grows a s m l = record {
   stage = λ i ne loose silent. refl;
 }
 
-pub result_answer : (kind : Kind) (t : Token) (n : NodeId) (v : ℕ) → IsAnswer (result_of kind t n v).place
+pub result_answer : (kind : Kind) (t : Token) (n : NodeId) (v : Value) → IsAnswer (result_of kind t n v).place
 result_answer Durable t n v = tt
 result_answer Log t n v = tt
 
-pub result_number : (kind : Kind) (t : Token) (n : NodeId) (v : ℕ) → number_of (result_of kind t n v).place ≡ t.0
+pub result_number : (kind : Kind) (t : Token) (n : NodeId) (v : Value) → number_of (result_of kind t n v).place ≡ t.0
 result_number Durable t n v = refl
 result_number Log t n v = refl
 
@@ -126,7 +128,7 @@ module _ (s : Shape) (m : Memory) (l : Ledger) (claimed waiting : List ℕ) (b :
 
 module _ (s : Shape) (m : Memory) (l : Ledger) (claimed waiting : List ℕ) (b : Base s m l claimed waiting) where
   -- a word of a client's own that says nothing of an empty queue
-  pub own_base : (p : Place) (v : ℕ) → MayStore s m p v → IsOwnWord p → (IsEmptyWord p → ⊥) → ((n : NodeId) → p ≡ Value n → (j : ℕ) → links m.cached j ≢ n.0)
+  pub own_base : (p : Place) (v : ℕ) → MayStore s m p v → IsOwnWord p → (IsEmptyWord p → ⊥) → ((n : NodeId) (part : Part) → p ≡ Item n part → (j : ℕ) → links m.cached j ≢ n.0)
       → ((t : Client) → p ≡ Bump t → (bumps m.kept t.0 ≤ v) × (t.0 < s.clients)) → ((t : Client) → p ≡ Announcement t → v ≢ 0 → IsOwn s m.kept t.0 v) → Base s (with_store m p v) l claimed waiting
   own_base Head v may own quiet loose bump announces = absurd own
   own_base Tail v may own quiet loose bump announces = absurd own
@@ -158,16 +160,16 @@ module _ (s : Shape) (m : Memory) (l : Ledger) (claimed waiting : List ℕ) (b :
         | inr q ↦ q.1 ∙ b.no_bump x h
       ] in
       assumption (b, e, bl, ab, fi, kb, nb)
-  own_base (Value n) v may own quiet loose bump announces =
-      let e : Empties s l (marks m.cached) (empties s (put m.cached (Value n) v)) (empties s m.kept) = store_empty s m l claimed waiting b (Value n) v may quiet in
-      let bl : Blank s m.kept (put m.cached (Value n) v) = store_blank s m l claimed waiting b (Value n) v may in
-      let ab : Absent s (put m.cached (Value n) v) = store_absent s m l claimed waiting b (Value n) v may in
-      let fi : AllFit s (put m.cached (Value n) v) = store_fits s m l claimed waiting b (Value n) v may in
-      let lv : (j : ℕ) → links m.cached j ≢ 0 → upd (values m.cached) n.0 v (links m.cached j) ≡ values m.kept (links m.cached j) = λ j h.
-      upd_other (values m.cached) n.0 v (links m.cached j) (loose n refl j) ∙ b.linked_value j h in
-      let fl : (j : ℕ) → links m.cached j ≢ 0 → links m.kept j ≡ 0 → IsLinking s l (upd (values m.cached) n.0 v) (links m.cached j) = λ j h z.
+  own_base (Item n part) v may own quiet loose bump announces =
+      let e : Empties s l (marks m.cached) (empties s (put m.cached (Item n part) v)) (empties s m.kept) = store_empty s m l claimed waiting b (Item n part) v may quiet in
+      let bl : Blank s m.kept (put m.cached (Item n part) v) = store_blank s m l claimed waiting b (Item n part) v may in
+      let ab : Absent s (put m.cached (Item n part) v) = store_absent s m l claimed waiting b (Item n part) v may in
+      let fi : AllFit s (put m.cached (Item n part) v) = store_fits s m l claimed waiting b (Item n part) v may in
+      let lv : (j : ℕ) → links m.cached j ≢ 0 → values (put m.cached (Item n part) v) (links m.cached j) ≡ values m.kept (links m.cached j) = λ j h.
+      values_elsewhere m.cached n part v (links m.cached j) (loose n part refl j) ∙ b.linked_value j h in
+      let fl : (j : ℕ) → links m.cached j ≢ 0 → links m.kept j ≡ 0 → IsLinking s l (values (put m.cached (Item n part) v)) (links m.cached j) = λ j h z.
       let g : IsLinking s l (values m.cached) (links m.cached j) = b.flying_link j h z in
-      record { holds = g.holds; asks = g.asks ∙ ap Enq (sym (upd_other (values m.cached) n.0 v (links m.cached j) (loose n refl j))); unmoved = g.unmoved } in
+      record { holds = g.holds; asks = g.asks ∙ ap Enq (sym (values_elsewhere m.cached n part v (links m.cached j) (loose n part refl j))); unmoved = g.unmoved } in
       assumption (b, e, bl, ab, fi, lv, fl)
   own_base (Insert t) v may own quiet loose bump announces =
       let e : Empties s l (marks m.cached) (empties s (put m.cached (Insert t) v)) (empties s m.kept) = store_empty s m l claimed waiting b (Insert t) v may quiet in
@@ -490,7 +492,7 @@ module _ (s : Shape) (m : Memory) (l : Ledger) (claimed waiting : List ℕ) (b :
           (yes_empties s l (marks m.cached) (empties s m.cached) (empties s m.kept) c.0 2 b.empty now (ap (λ k. (empty_answer_of k c).value) e)))
 
   -- the result of a kept claim is stored
-  pub result_base : (c : Token) (n : NodeId) (v : ℕ) → marks m.cached n.0 ≢ 0 → marks m.cached n.0 ≡ c.0 → n.0 ≤ greatest s → v ≤ 4294967295
+  pub result_base : (c : Token) (n : NodeId) (v : Value) → marks m.cached n.0 ≢ 0 → marks m.cached n.0 ≡ c.0 → n.0 ≤ greatest s → FitsValue v
       → Base s (with_store m (result_of s.kind c n v).place (result_of s.kind c n v).value) l claimed waiting
   result_base c n v some named node small = go s.kind refl
     where
@@ -503,7 +505,7 @@ module _ (s : Shape) (m : Memory) (l : Ledger) (claimed waiting : List ℕ) (b :
       go Log e = subst (λ k. Base s (with_store m (result_of k c n v).place (result_of k c n v).value) l claimed waiting) (sym e)
           (own_base s m l claimed waiting b (EntryNode c) n.0
           (record { issued = λ r q. subst (IsIssued s m.kept) named (b.issued_mark n.0 some); of_kind = (e, λ z. some (named ∙ z)); fits = node })
-          tt (λ q. q) (λ x q. absurd (cc)) (λ t q. absurd (cc)) (λ t q. absurd (cc)))
+          tt (λ q. q) (λ x part q. absurd (cc)) (λ t q. absurd (cc)) (λ t q. absurd (cc)))
 
 module _ (s : Shape) (m : Memory) (l : Ledger) (claimed waiting : List ℕ) (b : Base s m l claimed waiting) (a : ℕ) where
   -- a store to no word of anybody's own, that names no node and claims none
@@ -557,7 +559,7 @@ module _ (s : Shape) (m : Memory) (l : Ledger) (claimed waiting : List ℕ) (b :
       (no_result s m l claimed waiting (empty_answer_of s.kind c).place (empty_answer_of s.kind c).value b (λ r x e. free x (e ∙ empty_number s.kind c)))
 
   -- the result of a kept claim
-  pub result_grows : (c : Token) (n : NodeId) (v : ℕ) → marks m.kept n.0 ≡ c.0 → c.0 ≢ 0 → values m.kept n.0 ≡ v → Grows a s m l (with_store m (result_of s.kind c n v).place (result_of s.kind c n v).value) l
+  pub result_grows : (c : Token) (n : NodeId) (v : Value) → marks m.kept n.0 ≡ c.0 → c.0 ≢ 0 → values m.kept n.0 ≡ v → Grows a s m l (with_store m (result_of s.kind c n v).place (result_of s.kind c n v).value) l
   result_grows c n v named some value =
       let cached : marks m.cached n.0 ≡ c.0 = b.marked.kept n.0 (λ z. some (sym named ∙ z)) ∙ named in
       own_store_grows s m l (result_of s.kind c n v).place (result_of s.kind c n v).value (result_own s.kind c n v) a

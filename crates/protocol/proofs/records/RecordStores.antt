@@ -2,6 +2,7 @@
 use Rattle.std.proofs.Common.{◌≡◌, ◌≢◌, ℕ, zero, suc, ◌+◌, ◌≤◌, ◌<◌, ◌⊎◌, inl, inr, List, [], Bool, true, false, Some, if◌then◌else◌, ◌==◌, refl, sym, ◌∙◌, ap, subst, arith}
 use Rattle.std.specs.Prelude.{slice_get}
 use Rattle.std.proofs.lemmas.Bool.{cases_eq, eqb-true}
+use Rattle.words.specs.PlainQueue.{Value}
 use Rattle.words.specs.declared.call.Call.{Call}
 use Rattle.words.specs.declared.call.Call.TheVariants.{Enq, Deq}
 use Rattle.words.specs.declared.call.Kind.{Kind}
@@ -323,7 +324,7 @@ pub dequeue_kind : (s : Shape) (m : Memory) (b : Begun) → Prepared s m b → b
 dequeue_kind s m b h c k =
     h.written 2 (write (EntryKind b.token) 2) (ap (λ x. slice_get (preparation_from x b.call b) 2) k ∙ ap (λ x. slice_get (preparation_from Log x b) 2) c)
 
-pub enqueue_entry : (s : Shape) (m : Memory) (b : Begun) (v : ℕ) → Prepared s m b → b.call ≡ Enq v → s.kind ≡ Log → IsEnqueued m b.token.0
+pub enqueue_entry : (s : Shape) (m : Memory) (b : Begun) (v : Value) → Prepared s m b → b.call ≡ Enq v → s.kind ≡ Log → IsEnqueued m b.token.0
 enqueue_entry s m b v h c k = record {
   insert = h.written 5 (write (Insert (record { 0 = b.token.0 })) b.token.0) (ap (λ x. slice_get (preparation_from x b.call b) 5) k ∙ ap (λ x. slice_get (preparation_from Log x b) 5) c);
   kind = h.written 2 (write (EntryKind b.token) 1) (ap (λ x. slice_get (preparation_from x b.call b) 2) k ∙ ap (λ x. slice_get (preparation_from Log x b) 2) c);
@@ -339,13 +340,13 @@ empty_status m Log t c h e =
     let is : t ≡ token_of c = cc in
     record { taken = λ q. absurd (one_two 2 q refl); empty = λ q. subst (λ x. Both m (EntryKind x) 2) is (h refl) }
 
-result_cell : (m : Memory) (kind : Kind) (t : Token) (n : NodeId) (v c : ℕ) → marks m.kept n.0 ≡ t.0 → t.0 ≢ 0 → values m.kept n.0 ≡ v → Cell (token_of c) ≡ (result_of kind t n v).place → CellRight m c (result_of kind t n v).value
+result_cell : (m : Memory) (kind : Kind) (t : Token) (n : NodeId) (v : Value) (c : ℕ) → marks m.kept n.0 ≡ t.0 → t.0 ≢ 0 → values m.kept n.0 ≡ v → Cell (token_of c) ≡ (result_of kind t n v).place → CellRight m c (result_of kind t n v).value
 result_cell m Durable t n v c named some value e =
     let is : t ≡ token_of c = cc in
     λ x y. record { at = n.0; named = named ∙ ap (λ z. z.0) is; some = λ z. some (ap (λ q. q.0) is ∙ z); value = ap (λ q. q + 2) (sym value) }
 result_cell m Log t n v c named some value e = absurd (cc)
 
-pub result_node : (m : Memory) (kind : Kind) (t : Token) (n : NodeId) (v c : ℕ) → marks m.kept n.0 ≡ t.0 → t.0 ≢ 0 → EntryNode (token_of c) ≡ (result_of kind t n v).place → NodeRight m c (result_of kind t n v).value
+pub result_node : (m : Memory) (kind : Kind) (t : Token) (n : NodeId) (v : Value) (c : ℕ) → marks m.kept n.0 ≡ t.0 → t.0 ≢ 0 → EntryNode (token_of c) ≡ (result_of kind t n v).place → NodeRight m c (result_of kind t n v).value
 result_node m Durable t n v c named some e = absurd (cc)
 result_node m Log t n v c named some e =
     let is : t ≡ token_of c = cc in
@@ -374,7 +375,7 @@ module _ (s : Shape) (m : Memory) (l : Ledger) (claimed waiting : List ℕ) (b :
       }
 
   -- the result of a claimed node is stored
-  harmless_result : (t : Token) (n : NodeId) (v : ℕ) → marks m.kept n.0 ≡ t.0 → t.0 ≢ 0 → values m.kept n.0 ≡ v → Harmless s m (result_of s.kind t n v).place (result_of s.kind t n v).value
+  harmless_result : (t : Token) (n : NodeId) (v : Value) → marks m.kept n.0 ≡ t.0 → t.0 ≢ 0 → values m.kept n.0 ≡ v → Harmless s m (result_of s.kind t n v).place (result_of s.kind t n v).value
   harmless_result t n v named some value =
       let word : IsAnswer (result_of s.kind t n v).place = result_answer s.kind t n v in
       let cached : marks m.cached n.0 ≡ t.0 = b.marked.kept n.0 (λ z. some (sym named ∙ z)) ∙ named in

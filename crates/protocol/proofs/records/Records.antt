@@ -1,6 +1,7 @@
 -- The words of records, when a word becomes kept.
 use Rattle.std.proofs.Common.{◌≡◌, ◌≢◌, ℕ, suc, ◌+◌, ◌⊎◌, inl, inr, List, [], ◌∷◌, ◌++◌, drop, Bool, true, false, if◌then◌else◌, ◌==◌, refl, sym, ◌∙◌, ap, subst, arith}
 use Rattle.std.proofs.lemmas.Bool.{eqb-true, eqb-false}
+use Rattle.words.specs.PlainQueue.{Value}
 use Rattle.words.specs.declared.call.Call.TheVariants.{Enq, Deq}
 use Rattle.words.specs.declared.call.Kind.{Kind}
 use Rattle.words.specs.declared.call.Kind.TheVariants.{Durable, Log}
@@ -11,7 +12,7 @@ use Rattle.arena.specs.Chain.{IsAmong}
 use Rattle.arena.specs.Shape.{Shape, owner}
 use Rattle.arena.specs.Words.{links, marks, values, cells, entry_kinds, entry_nodes, statuses, announcements}
 use Rattle.arena.specs.declared.place.Place.{Place}
-use Rattle.arena.specs.declared.place.Place.TheVariants.{Head, Tail, Announcement, Bump, Value, Next, Mark, Cell, Insert, Number, EntryKind, Status, EntryNode}
+use Rattle.arena.specs.declared.place.Place.TheVariants.{Head, Tail, Announcement, Bump, Item, Next, Mark, Cell, Insert, Number, EntryKind, Status, EntryNode}
 use Rattle.stepper.specs.declared.prepare.Begun.{Begun}
 use Rattle.helping.specs.Table.{token_of, node_of}
 use Rattle.events.specs.Telling.{IsToldOf}
@@ -141,7 +142,7 @@ module _ (s : Shape) (m : Memory) (l : Ledger) (claimed waiting : List ℕ) (b :
   ]
 
   -- a call that takes effect does so by the word that is kept
-  took_new : (o c : ℕ) (st : Stage) (queue : List ℕ) → o ≡ owner s c → held_token l o ≡ c → ((reply : Reply) → st ≡ Took reply → TookBy s (with_fence m p).kept (l.begun o) reply)
+  took_new : (o c : ℕ) (st : Stage) (queue : List Value) → o ≡ owner s c → held_token l o ≡ c → ((reply : Reply) → st ≡ Took reply → TookBy s (with_fence m p).kept (l.begun o) reply)
       → (i : ℕ) (reply : Reply) → (restaged l o st queue).stage i ≡ Took reply → TookBy s (with_fence m p).kept (l.begun i) reply
   took_new o c st queue own holds now i reply h = elim (upd_cases l.stage o st i) [
     | inl t ↦ subst (λ x. TookBy s (with_fence m p).kept x reply) (sym (ap l.begun t.0)) (now reply (sym t.1 ∙ h))
@@ -173,7 +174,7 @@ module _ (s : Shape) (m : Memory) (l : Ledger) (claimed waiting : List ℕ) (b :
   took_noticed Tail apart = took_same s m l claimed waiting b r Tail
   took_noticed (Announcement t) apart = took_same s m l claimed waiting b r (Announcement t)
   took_noticed (Bump t) apart = took_same s m l claimed waiting b r (Bump t)
-  took_noticed (Value n) apart = took_same s m l claimed waiting b r (Value n)
+  took_noticed (Item n part) apart = took_same s m l claimed waiting b r (Item n part)
   took_noticed (Next n) apart =
       let none : links m.kept n.0 ≡ 0 = kept_apart (links m.cached) (links m.kept) n.0 (b.chained.kept n.0) apart in
       let some : links m.cached n.0 ≢ 0 = λ z. apart (none ∙ sym z) in

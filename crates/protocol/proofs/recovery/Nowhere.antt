@@ -2,16 +2,18 @@
 use Rattle.std.proofs.Common.{◌≡◌, ℕ, ◌+◌, ◌-◌, ◌*◌, ◌≤◌, ◌<◌, inl, inr, List, subst, arith}
 use Rattle.std.proofs.Math.Nat.{div-mul-le_self}
 use Rattle.std.proofs.lemmas.Bool.{cases_eq, cases_lt}
+use Rattle.arena.specs.declared.place.Part.TheVariants.{Length, First, Second, Third}
+use Rattle.words.specs.PlainQueue.{Value}
 use Rattle.arena.specs.Place.{IsPlace, IsRecord, number_of}
 use Rattle.arena.specs.Shape.{Shape, owner, greatest}
 use Rattle.arena.specs.Words.{bumps, announcements}
 use Rattle.arena.specs.declared.place.Place.{Place}
-use Rattle.arena.specs.declared.place.Place.TheVariants.{Head, Tail, Announcement, Bump, Value, Next, Mark, Cell, Insert, Number, EntryKind, Status, EntryNode}
+use Rattle.arena.specs.declared.place.Place.TheVariants.{Head, Tail, Announcement, Bump, Item, Next, Mark, Cell, Insert, Number, EntryKind, Status, EntryNode}
 use Rattle.recover.specs.Sound.{IsIssued, IsOwn}
 use Rattle.protocol.specs.invariants.Places.{IsOfRecord, IsOfKind}
 use Rattle.protocol.specs.invariants.Sound.{Sound}
 
-module _ (s : Shape) (k : Place → ℕ) (claimed waiting queue : List ℕ) (b : Sound s k claimed waiting queue) where
+module _ (s : Shape) (k : Place → ℕ) (claimed waiting : List ℕ) (queue : List Value) (b : Sound s k claimed waiting queue) where
   -- an issued record is one of the layout's clients'
   owner_within : (c : ℕ) → IsIssued s k c → owner s c < s.clients
   owner_within c i = elim (cases_lt (owner s c) s.clients) [
@@ -50,7 +52,10 @@ module _ (s : Shape) (k : Place → ℕ) (claimed waiting queue : List ℕ) (b :
         absurd (out (subst (λ x. x < s.clients) a.owned (owner_within (announcements k t.0) a.issued)))
   ]
   nowhere (Bump t) out = elim (cases_lt t.0 s.clients) [ inl lt ↦ absurd (out lt) | inr ge ↦ b.no_bump t.0 ge ]
-  nowhere (Value n) out = blank_out (Value n) tt (node_out n.0 out)
+  nowhere (Item n Length) out = b.absent (Item n Length) (λ h. h)
+  nowhere (Item n First) out = blank_out (Item n First) tt (node_out n.0 out)
+  nowhere (Item n Second) out = b.absent (Item n Second) (λ h. h)
+  nowhere (Item n Third) out = b.absent (Item n Third) (λ h. h)
   nowhere (Next n) out = blank_out (Next n) tt (node_out n.0 out)
   nowhere (Mark n) out = blank_out (Mark n) tt (node_out n.0 out)
   nowhere (Cell c) out = entry_out (Cell c) tt (λ r h. out (h.0, r)) (λ z h. h.1 z)

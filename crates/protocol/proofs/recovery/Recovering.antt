@@ -1,5 +1,6 @@
 -- What one kept word leaves of sound words, and of what they tell.
 use Rattle.std.proofs.Common.{◌≡◌, ◌≢◌, ℕ, ◌+◌, ◌≤◌, inl, inr, List, [], ◌∷◌, ◌++◌, Bool, true, false, Option, Some, None, refl, sym, ◌∙◌, ap, subst, arith}
+use Rattle.words.specs.PlainQueue.{Value}
 use Rattle.words.specs.declared.call.Kind.{Kind}
 use Rattle.words.specs.declared.call.Kind.TheVariants.{Durable, Log}
 use Rattle.words.specs.declared.call.NodeId.{NodeId}
@@ -83,7 +84,7 @@ module _ (s : Shape) (k : Place → ℕ) (p : Place) (v : ℕ) (h : MayKeep s k 
     kind = elim n.kind [ inl q ↦ inl ((q.0.0, q.0.0), (q.1.0, q.1.0)) | inr q ↦ inr (q.0, q.0) ];
   }
 
-  put_records : (queue : List ℕ) → Records s (memory_at_rest k) (idle_ledger queue) → Records s (memory_at_rest (put k p v)) (idle_ledger queue)
+  put_records : (queue : List Value) → Records s (memory_at_rest k) (idle_ledger queue) → Records s (memory_at_rest (put k p v)) (idle_ledger queue)
   put_records queue r =
       let head : AnsweredTo s (memory_at_rest (put k p v)) (put k p v Head) = put_answered (put k p v Head) h.head in
       let cell_like : (c x : ℕ) → CellRight (memory_at_rest k) c x → CellRight (memory_at_rest (put k p v)) c x = λ c x right a b.
@@ -147,7 +148,7 @@ module _ (s : Shape) (k : Place → ℕ) (p : Place) (v : ℕ) (h : MayKeep s k 
       }
 
   -- the words are sound still
-  pub put_sound : (claimed waiting queue : List ℕ) → Sound s k claimed waiting queue → Sound s (put k p v) claimed waiting queue
+  pub put_sound : (claimed waiting : List ℕ) (queue : List Value) → Sound s k claimed waiting queue → Sound s (put k p v) claimed waiting queue
   put_sound claimed waiting queue b =
       let more : (c : ℕ) → IsIssued s k c → IsIssued s (put k p v) c =
       issued_more s k (put k p v) (λ t. subst (λ x. bumps k t ≤ x) (sym (h.bump t)) (omega arith)) in
@@ -245,7 +246,7 @@ module _ (s : Shape) (k : Place → ℕ) (p : Place) (v : ℕ) (h : MayKeep s k 
   pub put_last_node : (cur : ℕ) → (put k p v Head ≡ k Head) → LastNode s k claimed cur → LastNode s (put k p v) claimed cur
   put_last_node cur same l = record { taken = put_taken cur same l.taken; none = h.link cur ∙ l.none }
 
-module _ (s : Shape) (k : Place → ℕ) (claimed waiting queue : List ℕ) (b : Sound s k claimed waiting queue) where
+module _ (s : Shape) (k : Place → ℕ) (claimed waiting : List ℕ) (queue : List Value) (b : Sound s k claimed waiting queue) where
   here : AnsweredTo s (memory_at_rest k) (k Head)
   here = (b.records queue).to_head
 

@@ -2,6 +2,8 @@
 use Rattle.std.proofs.Common.{◌≡◌, ◌≢◌, ℕ, zero, suc, ◌+◌, ◌-◌, ◌*◌, ◌≤◌, ◌<◌, inl, inr, List, [], ◌∷◌, ◌++◌, length, Bool, true, false, not, ◌&&◌, if◌then◌else◌, ◌==◌, Option, Some, None, nat_lt, refl, sym, ◌∙◌, ap, subst, arith}
 use Rattle.std.specs.Prelude.{slice_set}
 use Rattle.std.proofs.lemmas.Bool.{eqb-false}
+use Rattle.arena.specs.declared.place.Part.TheVariants.{First}
+use Rattle.words.specs.PlainQueue.{Value}
 use Rattle.words.specs.declared.call.Kind.{Kind}
 use Rattle.words.specs.declared.call.Kind.TheVariants.{Durable, Log}
 use Rattle.words.specs.declared.call.Client.{Client}
@@ -12,9 +14,9 @@ use Rattle.words.specs.declared.told.Told.{Told}
 use Rattle.words.specs.declared.told.Told.TheVariants.{Row as told_row}
 use Rattle.arena.specs.Chain.{IsChain, IsAmong, walk}
 use Rattle.arena.specs.Shape.{Shape, greatest}
-use Rattle.arena.specs.Words.{links}
+use Rattle.arena.specs.Words.{links, value_of}
 use Rattle.arena.specs.declared.place.Place.{Place}
-use Rattle.arena.specs.declared.place.Place.TheVariants.{Head, Announcement, Value, Next, Mark, Cell, Status, EntryNode}
+use Rattle.arena.specs.declared.place.Place.TheVariants.{Head, Announcement, Item, Next, Mark, Cell, Status, EntryNode}
 use Rattle.helping.specs.Table.{node_of}
 use Rattle.stepper.specs.Step.{place_of}
 use Rattle.recover.specs.Table.{access_of, successor, boot_recovery, to_answer, to_outcome, row_of, taken_as, not_taken_as, no_call, report_of, after_report, recovery_at, recovery_after, node_at, token_at, point_at_the_end, point_past_status, to_node, to_mark, past_head}
@@ -64,7 +66,7 @@ tail_chain link from ns c n (inr h) =
     let r : (ms : List ℕ) × (IsChain link n ms) × (length ms < length ns) = rest_of link from ns c n h in
     record { ms = r.0; chain = r.1; short = omega (arith, r.2) }
 
-module _ (s : Shape) (m : Memory) (claimed waiting queue : List ℕ) (b : Sound s m.kept claimed waiting queue) where
+module _ (s : Shape) (m : Memory) (claimed waiting : List ℕ) (queue : List Value) (b : Sound s m.kept claimed waiting queue) where
   chain_short : length (claimed ++ waiting) ≤ greatest s
   chain_short =
       few (claimed ++ waiting) (greatest s) (distinct (links m.kept) 0 (claimed ++ waiting) b.chain)
@@ -198,14 +200,14 @@ module _ (s : Shape) (m : Memory) (claimed waiting queue : List ℕ) (b : Sound 
   falls_at told (RecoveryLoadStatus p) at = status_less p.client p.token told p.number p.is_enqueue (m.cached (Status p.token)) at.1.below
   falls_at told (RecoveryLoadRemove p) at = told_less p.client told (if m.cached (Mark (node_at p.token.0)) == 0 then not_taken_as p.number else taken_as p.number Done) (steps_to_tell s p.client.0 - 4) at.1.below (omega (arith, at.1.below))
   falls_at told (RecoveryLoadEntryNode p) at = node_less p.client p.token told p.number (m.cached (EntryNode p.token)) at.1.below
-  falls_at told (RecoveryLoadRemovedValue p) at = told_less p.client told (taken_as p.number (Got (m.cached (Value p.node)))) (steps_to_tell s p.client.0 - 5) at.1.below (omega (arith, at.1.below))
+  falls_at told (RecoveryLoadRemovedValue p) at = told_less p.client told (taken_as p.number (Got (value_of (m.cached (Item p.node First))))) (steps_to_tell s p.client.0 - 5) at.1.below (omega (arith, at.1.below))
 
   pub falls : (r : Recovery) → At s m claimed waiting r
       → IsLess s (with_access m (access_of s.kind r.at)).cached (recovery_after s r (m.cached (place_of (access_of s.kind r.at)))) (weight s m.cached r.at)
   falls r a = less_at s (with_access m (access_of s.kind r.at)).cached r.told (weight s m.cached r.at) (successor s r.at (m.cached (place_of (access_of s.kind r.at)))) (falls_at r.told r.at a.point)
 
 -- where a node follows another, fewer are behind it than the greatest number
-module _ (s : Shape) (m : Memory) (claimed waiting queue : List ℕ) (b : Sound s m.kept claimed waiting queue) where
+module _ (s : Shape) (m : Memory) (claimed waiting : List ℕ) (queue : List Value) (b : Sound s m.kept claimed waiting queue) where
   ahead_less : ((x : ℕ) → links m.cached x ≡ links m.kept x) → (moved : Bool) (cur node : ℕ) → Ahead s m.kept claimed moved cur node
       → suc (rest s (links m.cached) node) ≤ greatest s
   ahead_less same moved cur node a =

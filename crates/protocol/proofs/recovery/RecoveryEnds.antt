@@ -2,6 +2,8 @@
 use Rattle.std.proofs.Common.{◌≡◌, ◌≢◌, ℕ, zero, suc, ◌+◌, ◌≤◌, ◌<◌, ◌⊎◌, inl, inr, List, [], ◌∷◌, ◌++◌, length, Bool, true, false, if◌then◌else◌, ◌==◌, Option, Some, None, refl, sym, ◌∙◌, ap, subst, arith}
 use Rattle.std.specs.Prelude.{slice_get, replicate}
 use Rattle.std.proofs.lemmas.Bool.{cases_eq, eqb-true, eqb-false}
+use Rattle.arena.specs.declared.place.Part.TheVariants.{First}
+use Rattle.words.specs.PlainQueue.{Value, FitsValue}
 use Rattle.words.specs.declared.call.Kind.{Kind}
 use Rattle.words.specs.declared.call.Kind.TheVariants.{Durable, Log}
 use Rattle.words.specs.declared.call.NodeId.{NodeId}
@@ -14,9 +16,9 @@ use Rattle.arena.specs.Chain.{IsChain, IsAmong, LeadsTo}
 use Rattle.arena.specs.Place.{number_of}
 use Rattle.arena.specs.Ranges.{Fits}
 use Rattle.arena.specs.Shape.{Shape, greatest}
-use Rattle.arena.specs.Words.{links, marks, values, cells, statuses}
+use Rattle.arena.specs.Words.{links, marks, values, cells, statuses, value_of, values_fit}
 use Rattle.arena.specs.declared.place.Place.{Place}
-use Rattle.arena.specs.declared.place.Place.TheVariants.{Head, Tail, Announcement, Bump, Value, Next, Mark, Cell, Number, EntryKind, Status}
+use Rattle.arena.specs.declared.place.Place.TheVariants.{Head, Tail, Announcement, Bump, Item, Next, Mark, Cell, Number, EntryKind, Status}
 use Rattle.helping.specs.Table.{token_of, node_of}
 use Rattle.recover.specs.Table.{after_report, successor, node_at, token_at, point_at_the_end, point_past_status, to_node, to_mark, past_head}
 use Rattle.stepper.specs.declared.resume.After.TheVariants.{More, Done as Ready}
@@ -54,15 +56,15 @@ result_value : (kind : Kind) (t : Token) (n : NodeId) (v x : ℕ) → (kind ≡ 
 result_value Durable t n v x h = ap (λ y. y + 2) (h refl)
 result_value Log t n v x h = refl
 
-result_kind : (kind : Kind) (t : Token) (n : NodeId) (v : ℕ) → t.0 ≢ 0 → IsOfKind kind (result_of kind t n v).place
+result_kind : (kind : Kind) (t : Token) (n : NodeId) (v : Value) → t.0 ≢ 0 → IsOfKind kind (result_of kind t n v).place
 result_kind Durable t n v some = (refl, some)
 result_kind Log t n v some = (refl, some)
 
-pub result_fits : (s : Shape) (kind : Kind) (t : Token) (n : NodeId) (v : ℕ) → (kind ≡ Durable → v ≤ 4294967295) → n.0 ≤ greatest s → Fits s (result_of kind t n v).place (result_of kind t n v).value
-result_fits s Durable t n v h node = let small : v ≤ 4294967295 = h refl in omega (arith, small)
+pub result_fits : (s : Shape) (kind : Kind) (t : Token) (n : NodeId) (v : Value) → (kind ≡ Durable → FitsValue v) → n.0 ≤ greatest s → Fits s (result_of kind t n v).place (result_of kind t n v).value
+result_fits s Durable t n v h node = let small : FitsValue v = h refl in omega (arith, small)
 result_fits s Log t n v h node = node
 
-result_cell_right : (m : Memory) (kind : Kind) (t : Token) (n : NodeId) (v c : ℕ) → marks m.kept n.0 ≡ t.0 → t.0 ≢ 0 → (kind ≡ Durable → v ≡ values m.kept n.0) → Cell (token_of c) ≡ (result_of kind t n v).place → CellRight m c (result_of kind t n v).value
+result_cell_right : (m : Memory) (kind : Kind) (t : Token) (n : NodeId) (v : Value) (c : ℕ) → marks m.kept n.0 ≡ t.0 → t.0 ≢ 0 → (kind ≡ Durable → v ≡ values m.kept n.0) → Cell (token_of c) ≡ (result_of kind t n v).place → CellRight m c (result_of kind t n v).value
 result_cell_right m Durable t n v c named some value e =
     let is : t ≡ token_of c = cc in
     λ x y. record { at = n.0; named = named ∙ ap (λ z. z.0) is; some = λ z. some (ap (λ q. q.0) is ∙ z); value = ap (λ q. q + 2) (value refl) }
@@ -89,7 +91,7 @@ path_chain : (k : ℕ → ℕ) (from : ℕ) (ns : List ℕ) → IsPath k from ns
 path_chain k from [] p z = z
 path_chain k from (n ∷ ns) p z = (p.0, p.1, path_chain k n ns p.2 z)
 
-module _ (s : Shape) (k : Place → ℕ) (claimed waiting queue : List ℕ) (b : Sound s k claimed waiting queue) where
+module _ (s : Shape) (k : Place → ℕ) (claimed waiting : List ℕ) (queue : List Value) (b : Sound s k claimed waiting queue) where
   -- a result of a claimed node
   result_may : (node : NodeId) (mark : Token) (v : ℕ) → Claim s k claimed node.0 mark.0 → (s.kind ≡ Durable → v ≡ values k node.0) → MayKeep s k (result_of s.kind mark node v).place (result_of s.kind mark node v).value
   result_may node mark v c value =
@@ -100,12 +102,12 @@ module _ (s : Shape) (k : Place → ℕ) (claimed waiting queue : List ℕ) (b :
       put_other k (result_of s.kind mark node v).place (result_of s.kind mark node v).value q (λ e. none (subst IsAnswer (sym e) word)) in
       let linked : links k c.cur ≢ 0 = λ z. c.ahead.some (sym c.ahead.link ∙ z) in
       let fit : node.0 ≤ greatest s = subst (λ x. x ≤ greatest s) c.ahead.link (b.fits (Next (node_of c.cur)) tt) in
-      let small : s.kind ≡ Durable → v ≤ 4294967295 = λ d. subst (λ x. x ≤ 4294967295) (sym (value d)) (b.fits (Value node) tt) in
+      let small : s.kind ≡ Durable → FitsValue v = λ d. subst FitsValue (sym (value d)) (values_fit k node.0 (b.fits (Item node First) tt)) in
       let claimed_mark : marks k node.0 ≢ 0 = λ z. c.some (sym c.marked ∙ z) in
       record {
         link = λ x. other (Next (node_of x)) (λ q. q);
         mark = λ x. other (Mark (node_of x)) (λ q. q);
-        value = λ x. other (Value (node_of x)) (λ q. q);
+        value = λ x. ap value_of (other (Item (node_of x) First) (λ q. q));
         bump = λ t. other (Bump (record { 0 = t })) (λ q. q);
         announcement = λ t. other (Announcement (record { 0 = t })) (λ q. q);
         head = subst (AnsweredTo s (memory_at_rest k)) (sym (other Head (λ q. q))) (b.records queue).to_head;
@@ -200,17 +202,17 @@ module _ (s : Shape) (k : Place → ℕ) (claimed waiting queue : List ℕ) (b :
       }
 
 -- the words are sound, and recovery knows what it knows where it waits
-pub record Recovers (s : Shape) (m : Memory) (claimed waiting queue : List ℕ) (r : Recovery) : Type 0 where
+pub record Recovers (s : Shape) (m : Memory) (claimed waiting : List ℕ) (queue : List Value) (r : Recovery) : Type 0 where
   pub sound : Sound s m.kept claimed waiting queue
   pub at : At s m claimed waiting r
 
 -- the same of a point, where this was told
-pub record RecoversAt (s : Shape) (m : Memory) (claimed waiting queue : List ℕ) (told : List Told) (point : RecoveryPoint) : Type 0 where
+pub record RecoversAt (s : Shape) (m : Memory) (claimed waiting : List ℕ) (queue : List Value) (told : List Told) (point : RecoveryPoint) : Type 0 where
   pub sound : Sound s m.kept claimed waiting queue
   pub at : AtPoint s m claimed waiting told point
 
 -- every client is told what the kept words tell
-pub record Woken (s : Shape) (m : Memory) (claimed waiting queue : List ℕ) (told : List Told) : Type 0 where
+pub record Woken (s : Shape) (m : Memory) (claimed waiting : List ℕ) (queue : List Value) (told : List Told) : Type 0 where
   pub sound : Sound s m.kept claimed waiting queue
   pub same : Same m
   pub head : m.kept Head ≡ end_of 0 claimed
@@ -237,7 +239,7 @@ same_after m p h q = elim (put_cases m.kept p (m.cached p) q) [ inl t ↦ ap m.c
 pub but_stored : (m : Memory) (p : Place) (v : ℕ) → Same m → SameBut (with_store m p v) p
 but_stored m p v h q ne = put_other m.cached p v q ne ∙ h q
 
-module _ (s : Shape) (m : Memory) (claimed waiting queue : List ℕ) (b : Sound s m.kept claimed waiting queue) where
+module _ (s : Shape) (m : Memory) (claimed waiting : List ℕ) (queue : List Value) (b : Sound s m.kept claimed waiting queue) where
   -- what one kept word in hand leaves
   module _ (p : Place) (v : ℕ) (now : m.cached p ≡ v) (may : MayKeep s m.kept p v) where
     is_put : put m.kept p v ≡ (with_fence m p).kept
@@ -265,7 +267,7 @@ module _ (s : Shape) (m : Memory) (claimed waiting queue : List ℕ) (b : Sound 
         hand_sound (result_of s.kind mark node v).place (result_of s.kind mark node v).value now may,
         subst (λ k. Claim s k claimed node.0 mark.0) (is_put (result_of s.kind mark node v).place (result_of s.kind mark node v).value now may)
             (put_claim s m.kept (result_of s.kind mark node v).place (result_of s.kind mark node v).value may claimed node.0 mark.0 head c),
-        λ d. value d ∙ sym (put_other m.kept (result_of s.kind mark node v).place (m.cached (result_of s.kind mark node v).place) (Value node) (λ e. subst IsAnswer (sym e) (result_answer s.kind mark node v))),
+        λ d. value d ∙ sym (ap value_of (put_other m.kept (result_of s.kind mark node v).place (m.cached (result_of s.kind mark node v).place) (Item node First) (λ e. subst IsAnswer (sym e) (result_answer s.kind mark node v)))),
       )
 
   kept_head : (cur : ℕ) (n : Option NodeId) → m.cached Head ≡ cur → LastClaimed s m.kept claimed cur n → Sound s (with_fence m Head).kept claimed waiting queue × LastClaimed s (with_fence m Head).kept claimed cur n

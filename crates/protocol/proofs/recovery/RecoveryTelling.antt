@@ -2,6 +2,7 @@
 use Rattle.std.proofs.Common.{◌≡◌, ◌≢◌, ℕ, zero, suc, ◌+◌, ◌-◌, ◌≤◌, ◌<◌, inl, inr, List, [], ◌∷◌, ◌++◌, length, Bool, true, false, not, ◌&&◌, if◌then◌else◌, ◌==◌, Some, refl, sym, ◌∙◌, ap, subst, arith}
 use Rattle.std.specs.Prelude.{slice_get, slice_set, nat_lt}
 use Rattle.std.proofs.lemmas.Bool.{cases_eq, cases_lt, eqb-true, eqb-false, ltb-true, ltb-false}
+use Rattle.words.specs.PlainQueue.{Value}
 use Rattle.words.specs.declared.call.Client.{Client}
 use Rattle.words.specs.declared.call.Kind.{Kind}
 use Rattle.words.specs.declared.call.Kind.TheVariants.{Durable, Log}
@@ -65,7 +66,7 @@ path_covers k from (m ∷ ns) (x ∷ xs) ys p c e n i =
       | inr q ↦ inr (path_covers k m ns xs ys p.2 (subst (λ y. IsChain k y (xs ++ ys)) (sym same) c.2) (e ∙ ap (λ y. end_of y xs) (sym same)) n q)
     ]
 
-module _ (s : Shape) (m : Memory) (claimed waiting queue : List ℕ) (b : Sound s m.kept claimed waiting queue) where
+module _ (s : Shape) (m : Memory) (claimed waiting : List ℕ) (queue : List Value) (b : Sound s m.kept claimed waiting queue) where
   -- every claimed node is answered
   pub all_answered : AnsweredTo s (memory_at_rest m.kept) (end_of 0 claimed) → (n : ℕ) → IsAmong n claimed → IsAnswered s (memory_at_rest m.kept) n
   all_answered a n i = a.answered n (path_covers (links m.kept) 0 a.passed claimed waiting a.path b.chain (sym a.at) n i)

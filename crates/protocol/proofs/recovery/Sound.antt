@@ -1,6 +1,7 @@
 -- A crash leaves sound words, and the words of a finished recovery are those of a ready queue.
 use Rattle.std.proofs.Common.{◌≡◌, ◌≢◌, ℕ, ◌≤◌, inl, inr, List, ◌∷◌, ◌++◌, refl, sym, ◌∙◌, ap, subst, arith}
 use Rattle.std.proofs.lemmas.Bool.{cases_eq}
+use Rattle.words.specs.PlainQueue.{Value}
 use Rattle.arena.specs.Chain.{IsAmong, LeadsTo}
 use Rattle.arena.specs.Chain.LeadsTo.{there}
 use Rattle.arena.specs.Shape.{Shape}
@@ -36,7 +37,7 @@ entry_still m e h = record {
 }
 
 -- a crash leaves the words of records as they are kept
-records_still : (s : Shape) (m : Memory) (l : Ledger) (claimed waiting : List ℕ) → Base s m l claimed waiting → Records s m l → (queue : List ℕ) → Records s (memory_at_rest m.kept) (idle_ledger queue)
+records_still : (s : Shape) (m : Memory) (l : Ledger) (claimed waiting : List ℕ) → Base s m l claimed waiting → Records s m l → (queue : List Value) → Records s (memory_at_rest m.kept) (idle_ledger queue)
 records_still s m l claimed waiting b r queue =
     let head : AnsweredTo s (memory_at_rest m.kept) (m.kept Head) = record {
       passed = r.to_kept_head.passed;
@@ -100,7 +101,7 @@ crash_sound s m l claimed waiting b r = record {
     le_zero x y h e = omega (arith, h, e)
 
 -- sound words with the right head and the right tail are those of a ready queue
-pub wake_base : (s : Shape) (k : Place → ℕ) (claimed waiting queue : List ℕ) → Sound s k claimed waiting queue → k Head ≡ end_of 0 claimed → k Tail ≡ end_of 0 (claimed ++ waiting) → Base s (memory_at_rest k) (idle_ledger queue) claimed waiting
+pub wake_base : (s : Shape) (k : Place → ℕ) (claimed waiting : List ℕ) (queue : List Value) → Sound s k claimed waiting queue → k Head ≡ end_of 0 claimed → k Tail ≡ end_of 0 (claimed ++ waiting) → Base s (memory_at_rest k) (idle_ledger queue) claimed waiting
 wake_base s k claimed waiting queue b head tail =
     let marked : Marks (marks k) (marks k) claimed waiting = record { kept = λ n h. refl; back = b.back; on = b.on; ahead = λ n h z. absurd (h z) } in
     let among : IsAmong (k Head) (0 ∷ claimed) = subst (λ x. IsAmong x (0 ∷ claimed)) (sym head) (in_end_of 0 claimed) in

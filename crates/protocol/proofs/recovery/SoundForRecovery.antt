@@ -1,6 +1,8 @@
 -- What every crash leaves keeps all rules by which recovery tells sound words.
 use Rattle.std.proofs.Common.{◌≡◌, ◌≢◌, ℕ, ◌+◌, ◌≤◌, inl, inr, List, [], ◌∷◌, ◌++◌, refl, sym, ◌∙◌, ap, subst, arith}
 use Rattle.std.proofs.lemmas.Bool.{cases_eq, cases_lt}
+use Rattle.arena.specs.declared.place.Part.TheVariants.{First}
+use Rattle.words.specs.PlainQueue.{Value}
 use Rattle.words.specs.declared.call.Kind.{Kind}
 use Rattle.words.specs.declared.call.Kind.TheVariants.{Durable, Log}
 use Rattle.arena.specs.Answers.{result_of}
@@ -11,7 +13,7 @@ use Rattle.arena.specs.Place.{IsRecord, number_of}
 use Rattle.arena.specs.Shape.{Shape}
 use Rattle.arena.specs.Words.{links, marks, values, cells, entry_kinds, statuses, entry_nodes, announcements}
 use Rattle.arena.specs.declared.place.Place.{Place}
-use Rattle.arena.specs.declared.place.Place.TheVariants.{Head, Tail, Bump, Value, Next, Mark, Cell, Insert, Number, EntryKind, Status, EntryNode}
+use Rattle.arena.specs.declared.place.Place.TheVariants.{Head, Tail, Bump, Item, Next, Mark, Cell, Insert, Number, EntryKind, Status, EntryNode}
 use Rattle.helping.specs.Table.{token_of, node_of}
 use Rattle.recover.specs.Sound.{IsBlankAnswer, IsOnChain, IsClaimed, IsClaimOf, IsPassed, StatusIsSound, RemovedIsSound, LogIsSound, RecordsAreSound, ChainIsSound, ClaimsAreSound, EndsAreSound, RowsAreSound, EntriesAreSound, AnswersAreSound, IsIssued, IsSound}
 use Rattle.protocol.specs.Recovered.{end_of}
@@ -49,7 +51,7 @@ passed_before link from ns xs n p c i leads =
           absurd (not_again link (end_of from ns) q.0 rest (leads_inside link (end_of from ns) q.0 (end_of from ns) n rest leads r))
     ]
 
-module _ (s : Shape) (k : Place → ℕ) (claimed waiting queue : List ℕ) (b : Sound s k claimed waiting queue) (chain : chain_of s k ≡ claimed ++ waiting) where
+module _ (s : Shape) (k : Place → ℕ) (claimed waiting : List ℕ) (queue : List Value) (b : Sound s k claimed waiting queue) (chain : chain_of s k ≡ claimed ++ waiting) where
   r : Records s (memory_at_rest k) (idle_ledger queue)
   r = b.records queue
 
@@ -92,7 +94,7 @@ module _ (s : Shape) (k : Place → ℕ) (claimed waiting queue : List ℕ) (b :
     within = λ t client. b.fits (Bump (record { 0 = t })) tt;
     unused = λ n rec. record {
       blank = λ free. record {
-        value = blank_word n rec free (Value (node_of n)) tt refl;
+        value = blank_word n rec free (Item (node_of n) First) tt refl;
         link = blank_word n rec free (Next (node_of n)) tt refl;
         mark = blank_word n rec free (Mark (node_of n)) tt refl;
         answer = blank_answer s.kind n rec free;
@@ -116,7 +118,7 @@ module _ (s : Shape) (k : Place → ℕ) (claimed waiting queue : List ℕ) (b :
     issued = on_issued;
     loose = λ n rec. record { loose = λ off. record { link = unlinked n rec off; mark = unmarked n off } };
     sentinel = record {
-      value = b.absent (Value (node_of 0)) (λ h. h refl);
+      value = b.absent (Item (node_of 0) First) (λ h. h refl);
       mark = unmarked 0 (λ i. (linked 0 i).2 refl);
       insert = λ log. b.absent (Insert (node_of 0)) (λ h. h.1 refl);
     };
@@ -134,7 +136,7 @@ module _ (s : Shape) (k : Place → ℕ) (claimed waiting queue : List ℕ) (b :
 
   claims_sound : ClaimsAreSound s k
   claims_sound = record {
-    in_range = λ n node. b.fits (Value (node_of n)) tt;
+    in_range = λ n node. b.fits (Item (node_of n) First) tt;
     in_turn = in_turn;
     issued = λ n c. b.issued_mark n c.marked;
     once = λ n m c d same. b.one_mark n m c.marked same;

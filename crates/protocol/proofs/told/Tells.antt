@@ -2,6 +2,7 @@
 use Rattle.std.proofs.Common.{◌≡◌, ◌≢◌, ℕ, ◌+◌, ◌⊎◌, inl, inr, List, [], ◌∷◌, ◌++◌, length, refl, sym, ◌∙◌, ap, subst, arith}
 use Rattle.std.proofs.lemmas.Bool.{cases_lt}
 use Rattle.std.proofs.lemmas.List.{length_push}
+use Rattle.words.specs.PlainQueue.{Value}
 use Rattle.words.specs.declared.call.Call.{Call}
 use Rattle.words.specs.declared.call.Call.TheVariants.{Enq, Deq}
 use Rattle.words.specs.declared.call.Client.{Client}
@@ -150,7 +151,7 @@ told_of_cases Durable Deq = inl tt
 told_of_cases Log call = inl tt
 
 -- of a call under way with an announced record the kept words tell rightly
-module _ (s : Shape) (m : Memory) (l : Ledger) (claimed waiting : List ℕ) (b : Base s m l claimed waiting) (r : Records s m l) (base : List ℕ) (told : List Told) (events : List Event) (effects : List Effect) (log : IsTrace s.kind base told events effects)
+module _ (s : Shape) (m : Memory) (l : Ledger) (claimed waiting : List ℕ) (b : Base s m l claimed waiting) (r : Records s m l) (base : List Value) (told : List Told) (events : List Event) (effects : List Effect) (log : IsTrace s.kind base told events effects)
     (i : ℕ) (u : UnderWay) (c : IsCalling events i u) (begun : l.begun i ≡ u.begun) (stage : l.stage i ≡ stage_at u.place effects) (of : IsToldOf s.kind u.begun.call) (ann : announcements m.kept i ≡ u.begun.token.0) (numbered : s.kind ≡ Log → numbers m.kept u.begun.token.0 ≡ u.begun.number) where
   some : announcements m.kept i ≢ 0 → u.begun.token.0 ≢ 0
   some h z = h (ann ∙ z)

@@ -4,6 +4,7 @@ use Rattle.std.specs.Prelude.{slice_get, nat_eq, nat_lt}
 use Rattle.std.specs.List.{list_any, range_with_len}
 use Rattle.std.proofs.lemmas.Bool.{cases_eq, cases_lt, eq-eqb, ne_eqb}
 use mathlib.Core.Path.{fun_ext}
+use Rattle.words.specs.PlainQueue.{Value}
 use Rattle.words.specs.declared.call.Kind.{Kind}
 use Rattle.words.specs.declared.call.Kind.TheVariants.{Durable, Log}
 use Rattle.words.specs.declared.call.Reply.TheVariants.{Done, Got, Empty}
@@ -42,7 +43,7 @@ list_is f from (y ∷ ys) h =
     let rest : ys ≡ map f (range_with_len (from + 1) (length ys)) = list_is f (from + 1) ys (λ t x e. h (suc t) x e ∙ ap f (on t)) in
     cc
 
-module _ (s : Shape) (k : Place → ℕ) (claimed waiting queue : List ℕ) (b : Sound s k claimed waiting queue) (chain : chain_of s k ≡ claimed ++ waiting) where
+module _ (s : Shape) (k : Place → ℕ) (claimed waiting : List ℕ) (queue : List Value) (b : Sound s k claimed waiting queue) (chain : chain_of s k ≡ claimed ++ waiting) where
   pub tellable : IsTellable s k
   tellable = record {
     linked = λ at some. subst (IsAmong (links k at)) (sym chain) (in_chain (links k) 0 (claimed ++ waiting) at b.chain (b.on_chain at some) some);

@@ -1,6 +1,7 @@
 -- What kept words tell a client is one thing, that which `told_by` says.
 use Rattle.std.proofs.Common.{◌≡◌, ◌≢◌, ℕ, ◌<◌, ◌⊎◌, inl, inr, List, [], ◌∷◌, ◌++◌, refl, sym, ◌∙◌, ap, subst}
 use Rattle.std.proofs.lemmas.Bool.{cases_eq}
+use Rattle.words.specs.PlainQueue.{Value}
 use Rattle.words.specs.declared.call.Kind.{Kind}
 use Rattle.words.specs.declared.call.Kind.TheVariants.{Durable, Log}
 use Rattle.words.specs.declared.call.Reply.TheVariants.{Done, Got, Empty}
@@ -23,7 +24,7 @@ use Rattle.protocol.specs.invariants.Sound.{Sound}
 use Rattle.protocol.proofs.worlds.Facts.{chain_is}
 use Rattle.protocol.proofs.told.ToldByWords.{tellable, told_is_by, told_one}
 
-module _ (s : Shape) (k : Place → ℕ) (claimed waiting queue : List ℕ) (b : Sound s k claimed waiting queue) where
+module _ (s : Shape) (k : Place → ℕ) (claimed waiting : List ℕ) (queue : List Value) (b : Sound s k claimed waiting queue) where
   all : chain_of s k ≡ claimed ++ waiting
   all = chain_is s k claimed waiting b.chain b.fits
 

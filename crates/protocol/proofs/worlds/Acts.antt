@@ -6,6 +6,7 @@ use Rattle.std.proofs.lemmas.List.{length_push}
 use Rattle.std.proofs.lemmas.List.Elements.{All-weaker}
 use Rattle.std.proofs.lemmas.Option.{slice_get_within}
 use mathlib.Core.Path.{fun_ext}
+use Rattle.words.specs.PlainQueue.{Value, FitsValue}
 use Rattle.words.specs.declared.call.Call.{Call}
 use Rattle.words.specs.declared.call.Call.TheVariants.{Enq, Deq}
 use Rattle.words.specs.declared.call.Client.{Client}
@@ -123,14 +124,14 @@ same_stage_of calls effects i u x at place j = elim (cases_eq j i) [
 ]
 
 -- it goes on: the log says the same of it
-went_on : (calls : ℕ → Option UnderWay) (events : List Event) (base : List ℕ) (effects : List Effect) (i : ℕ) (u x : UnderWay) → calls i ≡ Some u → x.begun ≡ u.begun → x.place ≡ u.place
+went_on : (calls : ℕ → Option UnderWay) (events : List Event) (base : List Value) (effects : List Effect) (i : ℕ) (u x : UnderWay) → calls i ≡ Some u → x.begun ≡ u.begun → x.place ≡ u.place
     → ledger_from (with_call calls i (Some x)) events base effects ≡ ledger_from calls events base effects
 went_on calls events base effects i u x at same place =
     ap (λ (f : ℕ → Begun). let k : Ledger = record { begun = f; stage = λ j. stage_of (with_call calls i (Some x) j) effects; queue = queue_of events base effects } in k) (fun_ext (same_record calls i u x at same))
     ∙ ap (λ (f : ℕ → Stage). let k : Ledger = record { begun = λ j. record_of_call (calls j); stage = f; queue = queue_of events base effects } in k) (fun_ext (same_stage_of calls effects i u x at place))
 
 -- it begins or ends: the log says so
-changed_call : (calls : ℕ → Option UnderWay) (events : List Event) (base : List ℕ) (effects : List Effect) (i : ℕ) (x : Option UnderWay) (more : List Event) → stage_of x effects ≡ Unmoved
+changed_call : (calls : ℕ → Option UnderWay) (events : List Event) (base : List Value) (effects : List Effect) (i : ℕ) (x : Option UnderWay) (more : List Event) → stage_of x effects ≡ Unmoved
     → queue_of (events ++ more) base effects ≡ queue_of events base effects
     → ledger_from (with_call calls i x) (events ++ more) base effects ≡ rebegun (ledger_from calls events base effects) i (record_of_call x)
 changed_call calls events base effects i x more unmoved same =
@@ -353,8 +354,8 @@ log_number : (kind : Kind) (number : ℕ) → kind ≡ Log → FitsKind kind num
 log_number Durable number k h = absurd (cc)
 log_number Log number k h = h.0
 
-call_fits : (call : Call) (v : ℕ) → FitsCall call → call ≡ Enq v → v ≤ 4294967295
-call_fits (Enq x) v h e = let same : x ≡ v = cc in subst (λ y. y ≤ 4294967295) same h
+call_fits : (call : Call) (v : Value) → FitsCall call → call ≡ Enq v → FitsValue v
+call_fits (Enq x) v h e = let same : x ≡ v = cc in subst FitsValue same h
 call_fits Deq v h e = absurd (cc)
 
 -- a record that is left is one of the layout's

@@ -22,7 +22,7 @@ use Rattle.arena.specs.Ranges.{Fits, IsReadByCalls}
 use Rattle.arena.specs.Shape.{Shape, greatest}
 use Rattle.arena.specs.Words.{links, marks, values}
 use Rattle.arena.specs.declared.place.Place.{Place}
-use Rattle.arena.specs.declared.place.Place.TheVariants.{Head, Tail, Announcement, Bump, Value, Next, Mark, Cell, Insert, Number, EntryKind, Status, EntryNode}
+use Rattle.arena.specs.declared.place.Place.TheVariants.{Head, Tail, Announcement, Bump, Item, Next, Mark, Cell, Insert, Number, EntryKind, Status, EntryNode}
 use Rattle.helping.specs.Table.{node_of, token_of}
 use Rattle.events.specs.Effects.{order_of}
 use Rattle.events.specs.Explains.{Explains}
@@ -231,7 +231,7 @@ zero_fits s Head = omega arith
 zero_fits s Tail = omega arith
 zero_fits s (Announcement t) = omega arith
 zero_fits s (Bump t) = omega arith
-zero_fits s (Value n) = omega arith
+zero_fits s (Item n part) = omega arith
 zero_fits s (Next n) = omega arith
 zero_fits s (Mark n) = omega arith
 zero_fits s (Cell c) = omega arith

@@ -4,7 +4,7 @@ use Rattle.std.specs.Prelude.{slice_get, All}
 use Rattle.std.proofs.lemmas.Bool.{cases_eq, eqb-true, eqb-false}
 use Rattle.std.proofs.lemmas.List.Elements.{All-weaker}
 use mathlib.Core.Path.{fun_ext}
-use Rattle.words.specs.PlainQueue.{reply_of, served}
+use Rattle.words.specs.PlainQueue.{reply_of, served, Value}
 use Rattle.words.specs.declared.call.Call.TheVariants.{Enq, Deq}
 use Rattle.words.specs.declared.call.Kind.{Kind}
 use Rattle.words.specs.declared.call.Kind.TheVariants.{Durable, Log}
@@ -15,7 +15,7 @@ use Rattle.arena.specs.Chain.{IsFirst, IsAmong}
 use Rattle.arena.specs.Shape.{owner}
 use Rattle.arena.specs.Words.{links, marks, values}
 use Rattle.arena.specs.declared.place.Place.{Place}
-use Rattle.arena.specs.declared.place.Place.TheVariants.{Head, Tail, Announcement, Bump, Value, Next, Mark, Cell, Insert, Number, EntryKind, Status, EntryNode}
+use Rattle.arena.specs.declared.place.Place.TheVariants.{Head, Tail, Announcement, Bump, Item, Next, Mark, Cell, Insert, Number, EntryKind, Status, EntryNode}
 use Rattle.events.specs.Effects.{order_of, with_effect, with_pending, without_pending, with_settled}
 use Rattle.events.specs.Trace.{IsTrace, IsPending, queue_of}
 use Rattle.events.specs.Parts.{IsPartOf}
@@ -61,11 +61,11 @@ pub record Noted (w : World) (effects : List Effect) (k : Ledger) : Type 0 where
   pub part : IsPartOf (order_of w.log.effects) (order_of effects)
   pub moved : Moved w effects
 
-served_deq : (queue : List ℕ) → served queue Deq ≡ drop 1 queue
+served_deq : (queue : List Value) → served queue Deq ≡ drop 1 queue
 served_deq [] = refl
 served_deq (x ∷ xs) = refl
 
-reply_deq : (queue : List ℕ) (values : ℕ → ℕ) (waiting : List ℕ) (n : ℕ) → map values waiting ≡ queue → IsFirst n waiting → Got (values n) ≡ reply_of queue Deq
+reply_deq : (queue : List Value) (values : ℕ → ℕ) (waiting : List ℕ) (n : ℕ) → map values waiting ≡ queue → IsFirst n waiting → Got (values n) ≡ reply_of queue Deq
 reply_deq queue values [] n e h = absurd h
 reply_deq queue values (x ∷ xs) n e h = subst (λ q. Got (values n) ≡ reply_of q Deq) e (ap (λ y. Got (values y)) h)
 
@@ -88,7 +88,7 @@ module _ (w : World) (v : Working w) where
   call_stands i u e = ap call_of (calling i u e).1.stands
 
   -- effects that differ in one client's call alone
-  restaged_by : (o : ℕ) (u : UnderWay) (effects : List Effect) (st : Stage) (queue : List ℕ) → w.calls o ≡ Some u → stage_at u.place effects ≡ st
+  restaged_by : (o : ℕ) (u : UnderWay) (effects : List Effect) (st : Stage) (queue : List Value) → w.calls o ≡ Some u → stage_at u.place effects ≡ st
       → ((q : ℕ) → q ≢ u.place → stage_at q effects ≡ stage_at q w.log.effects) → queue_of w.log.events w.base effects ≡ queue
       → ledger_from w.calls w.log.events w.base effects ≡ restaged (ledger_of w) o st queue
   restaged_by o u effects st queue at now others same =
@@ -134,7 +134,7 @@ module _ (w : World) (v : Working w) where
   nothing_noted = record { log = v.log; same = refl; part = part_same (order_of w.log.effects); moved = inl (λ q. refl) }
 
   -- a call takes effect
-  took_noted : (o : ℕ) (u : UnderWay) (reply : Reply) (queue : List ℕ) → w.calls o ≡ Some u → (ledger_of w).stage o ≡ Unmoved → reply ≡ reply_of (ledger_of w).queue u.begun.call
+  took_noted : (o : ℕ) (u : UnderWay) (reply : Reply) (queue : List Value) → w.calls o ≡ Some u → (ledger_of w).stage o ≡ Unmoved → reply ≡ reply_of (ledger_of w).queue u.begun.call
       → served (ledger_of w).queue u.begun.call ≡ queue
       → (IsToldOf w.shape.kind u.begun.call → Both w.memory (Announcement (record { 0 = o })) u.begun.token.0)
       → Noted w (took_by reply (length w.log.events) (w.calls o) w.log.effects) (restaged (ledger_of w) o (Took reply) queue)
@@ -258,7 +258,7 @@ module _ (w : World) (v : Working w) where
   new_noted Tail apart = nothing_noted
   new_noted (Announcement t) apart = nothing_noted
   new_noted (Bump t) apart = nothing_noted
-  new_noted (Value n) apart = nothing_noted
+  new_noted (Item n part) apart = nothing_noted
   new_noted (Insert n) apart = nothing_noted
   new_noted (Number e) apart = nothing_noted
   new_noted (EntryKind e) apart = nothing_noted

@@ -3,6 +3,7 @@ use Rattle.std.proofs.Common.{◌≡◌, ◌≢◌, ℕ, ◌<◌, inl, inr, List
 use Rattle.std.specs.Prelude.{nat_lt}
 use Rattle.std.proofs.lemmas.Bool.{cases_eq, cases_lt, lt-ltb, le-ltb}
 use Rattle.std.proofs.lemmas.List.Elements.{All-weaker}
+use Rattle.words.specs.PlainQueue.{Value}
 use Rattle.words.specs.declared.call.Call.{Call}
 use Rattle.words.specs.declared.call.Client.{Client}
 use Rattle.words.specs.declared.call.Kind.{Kind}
@@ -65,7 +66,7 @@ access_kept m (Flush p) = inl refl
 access_kept m (Fence p) = inr (record { p = p; same = refl })
 
 -- no call stands where the history ends
-pub none_at_end : (kind : Kind) (base : List ℕ) (told : List Told) (events : List Event) (effects : List Effect) → IsTrace kind base told events effects → InOrder (order_of effects) (length events) → ⊥
+pub none_at_end : (kind : Kind) (base : List Value) (told : List Told) (events : List Event) (effects : List Effect) → IsTrace kind base told events effects → InOrder (order_of effects) (length events) → ⊥
 none_at_end kind base told events effects log h =
     let t : (reply : Reply) × (stage_at (length events) effects ≡ Took reply) = stage_in_order (length events) effects h in
     let none : stage_at (length events) effects ≡ Unmoved =

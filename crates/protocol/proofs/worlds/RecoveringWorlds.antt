@@ -5,6 +5,8 @@ use Rattle.std.proofs.lemmas.Bool.{cases_eq}
 use Rattle.std.proofs.lemmas.List.{length_push}
 use Rattle.std.proofs.lemmas.Option.{slice_get_within}
 use mathlib.Core.Path.{fun_ext}
+use Rattle.arena.specs.declared.place.Part.TheVariants.{First}
+use Rattle.words.specs.PlainQueue.{Value, FitsValue}
 use Rattle.words.specs.declared.call.Call.{Call}
 use Rattle.words.specs.declared.call.Client.{Client}
 use Rattle.words.specs.declared.told.Told.{Told}
@@ -12,9 +14,9 @@ use Rattle.arena.specs.Place.{IsNode, IsRecord}
 use Rattle.arena.specs.Chain.{IsAmong}
 use Rattle.arena.specs.Ranges.{Fits, IsReadByCalls}
 use Rattle.arena.specs.Shape.{Shape, owner, greatest}
-use Rattle.arena.specs.Words.{links, marks, values, numbers, inserts, announcements, entry_kinds, entry_nodes}
+use Rattle.arena.specs.Words.{links, marks, values, numbers, inserts, announcements, entry_kinds, entry_nodes, value_of, values_fit}
 use Rattle.arena.specs.declared.place.Place.{Place}
-use Rattle.arena.specs.declared.place.Place.TheVariants.{Head, Tail, Announcement, Bump, Value, Next, Mark, Cell, Insert, Number, EntryKind, Status, EntryNode}
+use Rattle.arena.specs.declared.place.Place.TheVariants.{Head, Tail, Announcement, Bump, Item, Next, Mark, Cell, Insert, Number, EntryKind, Status, EntryNode}
 use Rattle.stepper.specs.Step.{place_of, kept_by}
 use Rattle.stepper.specs.declared.prepare.Begun.{Begun}
 use Rattle.helping.specs.Table.{node_of}
@@ -73,7 +75,7 @@ use Rattle.protocol.proofs.recovery.RecoveryEnds.{answered_among, result_fits, R
 use Rattle.protocol.proofs.recovery.RecoveryTelling.{tell, verdict_right, dequeue_entry, row_LoadAnnouncement, row_LoadCell, row_LoadStatus, row_LoadRemove, row_LoadEntryNode}
 
 -- each step of recovery leads to what it knows next
-point_row : (s : Shape) (m : Memory) (claimed waiting queue : List ℕ) → Sound s m.kept claimed waiting queue → 0 < s.clients
+point_row : (s : Shape) (m : Memory) (claimed waiting : List ℕ) (queue : List Value) → Sound s m.kept claimed waiting queue → 0 < s.clients
     → (told : List Told) (at : RecoveryPoint) → IsUntold told at → AtPoint s m claimed waiting told at
     → RecoversOn s (with_access m (access_of s.kind at)) claimed waiting queue told (successor s at (m.cached (place_of (access_of s.kind at))))
 point_row s m claimed waiting queue b some told (RecoveryLoadHead p) u a =
@@ -88,7 +90,7 @@ point_row s m claimed waiting queue b some told (RecoveryStoreStatus p) u a =
 point_row s m claimed waiting queue b some told (FlushPoint k) u a = record { sound = b; at = a }
 point_row s m claimed waiting queue b some told (FencePoint (KeepStatus p)) u a = row_KeepStatus s m claimed waiting queue b told p.cur p.node p.entry p.moved a
 point_row s m claimed waiting queue b some told (RecoveryLoadMark p) u a = row_LoadMark s m claimed waiting queue b told p.cur p.node a.0 a.1 a.2
-point_row s m claimed waiting queue b some told (RecoveryLoadValue p) u a = record { sound = b; at = (a.0, a.1, λ d. a.0 (Value p.node), subst (λ x. x ≤ 4294967295) (sym (a.0 (Value p.node))) (b.fits (Value p.node) tt)) }
+point_row s m claimed waiting queue b some told (RecoveryLoadValue p) u a = record { sound = b; at = (a.0, a.1, λ d. ap value_of (a.0 (Item p.node First)), subst FitsValue (sym (ap value_of (a.0 (Item p.node First)))) (values_fit m.kept p.node.0 (b.fits (Item p.node First) tt))) }
 point_row s m claimed waiting queue b some told (RecoveryStoreResult p) u a =
     let place : Place = (result_of s.kind p.mark p.node p.value).place in
     record {
@@ -115,9 +117,9 @@ point_row s m claimed waiting queue b some told (RecoveryLoadStatus p) u a = row
 point_row s m claimed waiting queue b some told (RecoveryLoadRemove p) u a = row_LoadRemove s m claimed waiting queue b p.client p.token told p.number a
 point_row s m claimed waiting queue b some told (RecoveryLoadEntryNode p) u a = row_LoadEntryNode s m claimed waiting queue b p.client p.token told p.number a
 point_row s m claimed waiting queue b some told (RecoveryLoadRemovedValue p) u a =
-    tell s m claimed waiting queue b p.client told (taken_as p.number (Got (m.cached (Value p.node)))) a.0 a.1
-    (verdict_right s m claimed waiting queue b p.client a.3.token p.number (Taken (Got (m.cached (Value p.node)))) a.3.announced a.2 a.3.number
-    (a.3.kind, record { at = p.node.0; marked = a.3.marked; value = sym (a.0 (Value p.node)) }))
+    tell s m claimed waiting queue b p.client told (taken_as p.number (Got (value_of (m.cached (Item p.node First))))) a.0 a.1
+    (verdict_right s m claimed waiting queue b p.client a.3.token p.number (Taken (Got (value_of (m.cached (Item p.node First))))) a.3.announced a.2 a.3.number
+    (a.3.kind, record { at = p.node.0; marked = a.3.marked; value = sym (ap value_of (a.0 (Item p.node First))) }))
 
 -- what comes after a point where nobody is told anything is such a point, or the first that tells
 abbrev IsUntoldOn : List Told → After RecoveryPoint Report → Type 0
@@ -199,12 +201,12 @@ untold_next s told (RecoveryLoadEntryNode p) found u = go (found == 0)
     go false = tt
 untold_next s told (RecoveryLoadRemovedValue p) found u = tt
 
-recovers_on : (s : Shape) (m : Memory) (claimed waiting queue : List ℕ) (told : List Told) (next : After RecoveryPoint Report)
+recovers_on : (s : Shape) (m : Memory) (claimed waiting : List ℕ) (queue : List Value) (told : List Told) (next : After RecoveryPoint Report)
     → IsUntoldOn told next → RecoversOn s m claimed waiting queue told next → RecoversNext s m claimed waiting queue (recovery_at s told next)
 recovers_on s m claimed waiting queue told (More at) u h = record { sound = h.sound; at = record { untold = u; point = h.at } }
 recovers_on s m claimed waiting queue told (Ready report) u h = h
 
-pub recovery_row : (s : Shape) (m : Memory) (claimed waiting queue : List ℕ) → Sound s m.kept claimed waiting queue → 0 < s.clients
+pub recovery_row : (s : Shape) (m : Memory) (claimed waiting : List ℕ) (queue : List Value) → Sound s m.kept claimed waiting queue → 0 < s.clients
     → (r : Recovery) → At s m claimed waiting r
     → RecoversNext s (with_access m (access_of s.kind r.at)) claimed waiting queue (recovery_after s r (m.cached (place_of (access_of s.kind r.at))))
 recovery_row s m claimed waiting queue b some r a =
@@ -225,7 +227,7 @@ nobody_took w none p new = go p
     go Tail = refl
     go (Announcement t) = refl
     go (Bump t) = refl
-    go (Value n) = refl
+    go (Item n part) = refl
     go (Next n) = ap (λ c. effects_on_take Done (length w.log.events) c w.log.effects) (none (owner w.shape new))
     go (Mark n) = ap (λ c. effects_on_take (Got (values w.memory.kept n.0)) (length w.log.events) c w.log.effects) (none (owner w.shape new))
     go (Cell c) = counted_none (owner w.shape c.0) (new == 1)
@@ -355,7 +357,7 @@ recovered_to w r next = record w {
 }
 
 module _ (w : World) (r : Recovery) (v : Recovering w r) where
-  queue : List ℕ
+  queue : List Value
   queue = queue_of w.log.events w.base w.log.effects
 
   same_effects : w.log.effects ≡ after_fence w (kept_by (access_of w.shape.kind r.at))
@@ -470,7 +472,7 @@ module _ (w : World) (r : Recovery) (v : Recovering w r) where
   recovered_part = subst (λ e. IsPartOf (order_of w.log.effects) (order_of e)) same_effects (part_same (order_of w.log.effects))
 
 -- where recovery waits, what it learnt is in range
-module _ (s : Shape) (m : Memory) (claimed waiting queue : List ℕ) (b : Sound s m.kept claimed waiting queue) where
+module _ (s : Shape) (m : Memory) (claimed waiting : List ℕ) (queue : List Value) (b : Sound s m.kept claimed waiting queue) where
   link_fits : (cur node : ℕ) → links m.kept cur ≡ node → node ≤ greatest s
   link_fits cur node e = subst (λ x. x ≤ greatest s) e (b.fits (Next (node_of cur)) tt)
 
@@ -578,7 +580,7 @@ module _ (s : Shape) (m : Memory) (claimed waiting queue : List ℕ) (b : Sound 
       subst (λ x. x ≤ greatest s) (sym (a.0 (Insert p.node) ∙ insert)) (link_fits p.cur.0 p.node.0 a.1.link)
   reads_fit_at told (RecoveryStoreStatus p) a = same_fits a.0 (Status p.entry) tt
   reads_fit_at told (RecoveryLoadMark p) a = same_fits a.0 (Mark p.node) tt
-  reads_fit_at told (RecoveryLoadValue p) a = same_fits a.0 (Value p.node) tt
+  reads_fit_at told (RecoveryLoadValue p) a = same_fits a.0 (Item p.node First) tt
   reads_fit_at told (RecoveryStoreResult p) a =
       subst (Fits s (result_of s.kind p.mark p.node p.value).place) (sym (a.0 (result_of s.kind p.mark p.node p.value).place)) (result_word_fits p.node p.mark p.value a.1 s.kind refl)
   reads_fit_at told (RecoveryStoreHead p) a = same_fits a.0 Head tt
@@ -593,7 +595,7 @@ module _ (s : Shape) (m : Memory) (claimed waiting queue : List ℕ) (b : Sound 
   reads_fit_at told (RecoveryLoadRemove p) a = same_fits a.0 (Mark (node_of p.token.0)) tt
   reads_fit_at told (RecoveryLoadEntryNode p) a =
       subst (λ x. x ≤ greatest s) (sym (a.0 (EntryNode p.token))) (removed_fits p.token.0 (dequeue_entry s m claimed waiting queue b p.client p.token a.2 a.3 a.5))
-  reads_fit_at told (RecoveryLoadRemovedValue p) a = same_fits a.0 (Value p.node) tt
+  reads_fit_at told (RecoveryLoadRemovedValue p) a = same_fits a.0 (Item p.node First) tt
 
   pub reads_fit : (r : Recovery) → At s m claimed waiting r → Fits s (place_of (access_of s.kind r.at)) (m.cached (place_of (access_of s.kind r.at)))
   reads_fit r a = reads_fit_at r.told r.at a.point

@@ -1,5 +1,6 @@
 -- What the log says of each client's call, and what the plain queue holds.
 use Rattle.std.specs.Prelude.{[], ◌∷◌, if◌then◌else◌, ◌==◌, List, ℕ}
+use Rattle.words.specs.PlainQueue.{Value}
 use Rattle.words.specs.declared.call.Call.{Call}
 use Rattle.words.specs.declared.call.Call.TheVariants.{Deq}
 use Rattle.words.specs.declared.call.Reply.{Reply}
@@ -16,7 +17,7 @@ pub data Stage : Type 0 where
 pub record Ledger : Type 0 where
   pub begun : ℕ → Begun
   pub stage : ℕ → Stage
-  pub queue : List ℕ
+  pub queue : List Value
 
 -- the record of no call
 abbrev pub nobody : Begun

@@ -1,12 +1,13 @@
 -- Whose word a place is, and of which kind of queue.
 use Rattle.std.specs.Prelude.{◌≡◌, ◌≢◌, ℕ}
+use Rattle.arena.specs.declared.place.Part.TheVariants.{First}
 use Rattle.words.specs.declared.call.Kind.{Kind}
 use Rattle.words.specs.declared.call.Kind.TheVariants.{Durable, Log}
 use Rattle.arena.specs.Answers.{empty_answer_of}
 use Rattle.arena.specs.Place.{number_of}
 use Rattle.arena.specs.Shape.{Shape, owner}
 use Rattle.arena.specs.declared.place.Place.{Place}
-use Rattle.arena.specs.declared.place.Place.TheVariants.{Announcement, Bump, Cell, EntryKind, EntryNode, Head, Insert, Mark, Next, Number, Status, Tail, Value}
+use Rattle.arena.specs.declared.place.Place.TheVariants.{Announcement, Bump, Cell, EntryKind, EntryNode, Head, Insert, Mark, Next, Number, Status, Tail, Item}
 use Rattle.helping.specs.Table.{token_of}
 
 -- a word of a record, or of its node
@@ -31,9 +32,10 @@ IsAnswer (Cell c) = Unit {0}
 IsAnswer (EntryNode e) = Unit {0}
 IsAnswer _ = ⊥
 
--- a word of this kind of queue; node 0 has no value, and there is no record 0
+-- a word of this kind of queue; node 0 has no message, and there is no record 0
 abbrev pub IsOfKind : Kind → Place → Type 0
-IsOfKind kind (Value n) = n.0 ≢ 0
+IsOfKind kind (Item n First) = n.0 ≢ 0
+IsOfKind kind (Item n _) = ⊥
 IsOfKind kind (Cell c) = (kind ≡ Durable) × (c.0 ≢ 0)
 IsOfKind kind (Insert n) = (kind ≡ Log) × (n.0 ≢ 0)
 IsOfKind kind (Number e) = (kind ≡ Log) × (e.0 ≢ 0)

@@ -1,8 +1,9 @@
 -- What recovery knows where it waits.
 use Rattle.std.specs.Prelude.{replicate, ◌≡◌, ◌≢◌, ◌≤◌, ◌<◌, ◌++◌, ◌==◌, Bool, List, None, Option, Some, false, length, slice_get, true, ℕ}
+use Rattle.words.specs.PlainQueue.{FitsValue}
 use Rattle.words.specs.declared.call.Kind.TheVariants.{Durable, Log}
 use Rattle.words.specs.declared.call.NodeId.{NodeId}
-use Rattle.words.specs.declared.limits.TheConstants.{MAX_CLIENTS, MAX_VALUE}
+use Rattle.words.specs.declared.limits.TheConstants.{MAX_CLIENTS}
 use Rattle.words.specs.declared.told.Told.{Told}
 use Rattle.words.specs.declared.told.Told.TheVariants.{None as told_none}
 use Rattle.arena.specs.Answers.{result_of}
@@ -122,7 +123,7 @@ AtKeeping s m claimed (KeepResult p) =
     SameBut m (result_of s.kind p.mark p.node p.value).place
     × (m.cached (result_of s.kind p.mark p.node p.value).place ≡ (result_of s.kind p.mark p.node p.value).value)
     × Claim s m.kept claimed p.node.0 p.mark.0 × (s.kind ≡ Durable → p.value ≡ values m.kept p.node.0)
-    × (p.value ≤ MAX_VALUE)
+    × FitsValue p.value
 AtKeeping s m claimed (KeepHead p) =
     SameBut m Head × (m.cached Head ≡ p.cur.0) × LastClaimed s m.kept claimed p.cur.0 p.unclaimed
 AtKeeping s m claimed (KeepTail p) =
@@ -142,7 +143,7 @@ AtPoint s m claimed waiting told (RecoveryLoadValue p) =
     Same m × Claim s m.kept claimed p.node.0 p.mark.0 × (s.kind ≡ Durable)
 AtPoint s m claimed waiting told (RecoveryStoreResult p) =
     Same m × Claim s m.kept claimed p.node.0 p.mark.0 × (s.kind ≡ Durable → p.value ≡ values m.kept p.node.0)
-    × (p.value ≤ MAX_VALUE)
+    × FitsValue p.value
 AtPoint s m claimed waiting told (RecoveryStoreHead p) = Same m × LastClaimed s m.kept claimed p.cur.0 p.unclaimed
 AtPoint s m claimed waiting told (RecoveryStoreTail p) = Same m × LastNode s m.kept claimed p.cur.0
 AtPoint s m claimed waiting told (RecoveryLoadAnnouncement p) =

@@ -1,5 +1,6 @@
 -- What every crash leaves: the kept words are sound, with a head and a tail that may be stale.
 use Rattle.std.specs.Prelude.{◌≡◌, ◌≢◌, ◌≤◌, ◌∷◌, ◌++◌, List, map, ℕ}
+use Rattle.words.specs.PlainQueue.{Value}
 use Rattle.arena.specs.Chain.{IsAmong, IsChain, LeadsTo}
 use Rattle.arena.specs.Shape.{Shape}
 use Rattle.arena.specs.Words.{announcements, bumps, links, marks, values}
@@ -26,7 +27,7 @@ idle_ledger queue = record {
 }
 
 -- the kept words, where these nodes are claimed and those are waiting
-pub record Sound (s : Shape) (k : Place → ℕ) (claimed waiting queue : List ℕ) : Type 0 where
+pub record Sound (s : Shape) (k : Place → ℕ) (claimed waiting : List ℕ) (queue : List Value) : Type 0 where
   pub chain : IsChain (links k) 0 (claimed ++ waiting)
   pub on_chain : (n : ℕ) → links k n ≢ 0 → IsAmong n (0 ∷ claimed ++ waiting)
   pub back : (n : ℕ) → marks k n ≢ 0 → IsAmong n claimed
@@ -42,4 +43,4 @@ pub record Sound (s : Shape) (k : Place → ℕ) (claimed waiting queue : List �
   pub blank : Blank s k k
   pub absent : Absent s k
   pub fits : AllFit s k
-  pub records : (queue : List ℕ) → Records s (memory_at_rest k) (idle_ledger queue)
+  pub records : (queue : List Value) → Records s (memory_at_rest k) (idle_ledger queue)

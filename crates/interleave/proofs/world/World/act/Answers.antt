@@ -1,5 +1,6 @@
-use Rattle.std.proofs.Common.{◌≡◌, ℕ, ◌≤◌, sym, ap, subst, ◌∙◌, rules}
+use Rattle.std.proofs.Common.{◌≡◌, ◌≤◌, sym, ap, subst, ◌∙◌, rules}
 use Rattle.std.specs.Prelude.{is_ok}
+use Rattle.words.specs.PlainQueue.{Value, FitsValue}
 use Rattle.words.specs.declared.call.Call.TheVariants.{Enq}
 use Rattle.protocol.specs.Machine.{FitsCall}
 use Rattle.interleave.specs.Calls.{is_no_memory}
@@ -42,7 +43,7 @@ returns-in-Recover-clause-attempt g c =
 pub returns-in-Start-clause-holds : goal.returns-in-Start-clause-holds
 returns-in-Start-clause-holds g c =
     let holds : Holds c.args.self.now.now = subst Holds (ap (λ (r : Roomy). r.now) c.self.view_is) c.self.invariant.world in
-    let value : (v : ℕ) → c.in-Start.call ≡ Enq v → v ≤ 4294967295 = search rules in
+    let value : (v : Value) → c.in-Start.call ≡ Enq v → FitsValue v = search rules in
     let fits : FitsCall c.in-Start.call = call_fits c.in-Start.call value in
     subst Holds (sym c.start.ensures.world)
     (holds_after_start (is_no_memory c.start.result) c.args.self.now.now c.in-Start.client c.in-Start.number c.in-Start.call holds fits)

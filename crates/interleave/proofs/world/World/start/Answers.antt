@@ -1,6 +1,7 @@
+use Rattle.words.specs.PlainQueue.{Value, FitsValue}
 use Rattle.interleave.specs.Core.{state_of}
 use Rattle.interleave.specs.Trace.{Roomy}
-use Rattle.std.proofs.Common.{◌≡◌, ◌≤◌, ℕ, sym, subst, ap, ◌∙◌, rules}
+use Rattle.std.proofs.Common.{◌≡◌, ◌≤◌, sym, subst, ap, ◌∙◌, rules}
 use Rattle.words.specs.declared.call.Call.TheVariants.{Enq}
 use Rattle.protocol.specs.Machine.{FitsCall}
 use Rattle.interleave.specs.Calls.{is_no_memory}
@@ -31,7 +32,7 @@ pub returns-clause-reused : goal.returns-clause-reused
 returns-clause-reused g c = λ accepted.
     let old : State = state_of c.self.inside.core c.self.inside.memory.words in
     let was : old ≡ c.args.self.now.now = ap (λ (r : Roomy). r.now) c.self.view_is in
-    let value : (v : ℕ) → c.args.call ≡ Enq v → v ≤ 4294967295 = search rules in
+    let value : (v : Value) → c.args.call ≡ Enq v → FitsValue v = search rules in
     let fits : FitsCall c.args.call = call_fits c.args.call value in
     subst (λ (w : State). EarlierLeftNothing w c.args.client) was
     (reused_left_nothing (is_no_memory c.start_in.result) old c.args.client c.args.number c.args.call
