@@ -8,6 +8,7 @@ use Rattle.std.proofs.lemmas.List.{map-append}
 use Rattle.std.proofs.lemmas.List.Elements.{All-weaker, All-contains_itself, All-filter, All-map, All-push}
 use Rattle.std.proofs.lemmas.List.Elements.{Contains-append_left, Contains-push_cases}
 use Rattle.std.proofs.lemmas.List.Kept.{AllPairs-filter}
+use Rattle.words.specs.PlainQueue.{Value}
 use Rattle.words.specs.declared.call.Client.{Client}
 use Rattle.words.specs.declared.call.Kind.{Kind}
 use Rattle.words.specs.declared.call.Reply.{Reply}
@@ -36,7 +37,7 @@ abbrev pub IsAfterReadies : List Event → ℕ → Type 0
 IsAfterReadies events p = (q : ℕ) (tells : List Told) → ReadyAt events q tells → q < length events → q ≤ p
 
 -- a call that has no end yet began after each Ready
-open_after : (kind : Kind) (base : List ℕ) (told : List Told) (events : List Event) (effects : List Effect)
+open_after : (kind : Kind) (base : List Value) (told : List Told) (events : List Event) (effects : List Effect)
     (client : Client) (p : ℕ)
     → IsTrace kind base told events effects → IsOpenFrom events client (length events) p
     → IsAfterReadies events p
@@ -77,7 +78,8 @@ more_by_last order p reply = record {
 }
 
 -- an effect at the end
-pub record IsNextEffect (events : List Event) (base : List ℕ) (effects : List Effect) (effect : Effect) : Type 0 where
+pub record IsNextEffect (events : List Event) (base : List Value) (effects : List Effect) (effect : Effect)
+    : Type 0 where
   pub client : Client
   pub open_from : IsOpenFrom events client (length events) effect.place
   pub now : effect.moment ≡ length events
@@ -85,7 +87,7 @@ pub record IsNextEffect (events : List Event) (base : List ℕ) (effects : List 
   pub served : IsServed events (queue_of events base effects) (entry_of effect)
   pub empty : effect.settled ≡ false → effect.reply ≡ Empty
 
-next_is_effect : (events : List Event) (base : List ℕ) (effects : List Effect) (effect : Effect)
+next_is_effect : (events : List Event) (base : List Value) (effects : List Effect) (effect : Effect)
     → IsNextEffect events base effects effect → IsEffect events effect
 next_is_effect events base effects effect next = record {
   client = next.client;
@@ -98,7 +100,7 @@ next_is_effect events base effects effect next = record {
   before = omega (arith, next.now);
 }
 
-effect_push : (kind : Kind) (base : List ℕ) (told : List Told) (events : List Event) (effects : List Effect)
+effect_push : (kind : Kind) (base : List Value) (told : List Told) (events : List Event) (effects : List Effect)
     (effect : Effect)
     → IsTrace kind base told events effects → IsNextEffect events base effects effect
     → IsMoreBy effect.place (order_of effects) (order_of (effects ++ effect ∷ []))
@@ -133,7 +135,7 @@ effect_push kind base told events effects effect trace next by =
     }
 
 -- a call without an end and without an effect takes effect, and counts
-pub took : (kind : Kind) (base : List ℕ) (told : List Told) (events : List Event) (effects : List Effect)
+pub took : (kind : Kind) (base : List Value) (told : List Told) (events : List Event) (effects : List Effect)
     (client : Client) (p : ℕ) (reply : Reply)
     → IsTrace kind base told events effects → IsOpenFrom events client (length events) p
     → All (λ x. x.place ≢ p) effects
@@ -153,7 +155,7 @@ took kind base told events effects client p reply trace open_from first served =
     (rw (order_with_effect effects p reply (length events)) (more_by_last (order_of effects) p reply))
 
 -- or finds the queue empty, and does not count yet
-pub found : (kind : Kind) (base : List ℕ) (told : List Told) (events : List Event) (effects : List Effect)
+pub found : (kind : Kind) (base : List Value) (told : List Told) (events : List Event) (effects : List Effect)
     (client : Client) (p : ℕ)
     → IsTrace kind base told events effects → IsOpenFrom events client (length events) p
     → All (λ x. x.place ≢ p) effects
@@ -181,7 +183,7 @@ dropped_empty keep events effects counts pending =
     go x false s is dropped = (is s).empty
 
 -- without some effects that do not count it is a trace still
-kept_trace : (keep : Effect → Bool) (kind : Kind) (base : List ℕ) (told : List Told) (events : List Event)
+kept_trace : (keep : Effect → Bool) (kind : Kind) (base : List Value) (told : List Told) (events : List Event)
     (effects : List Effect)
     → ((x : Effect) → x.settled ≡ true → keep x ≡ true) → IsTrace kind base told events effects
     → IsTrace kind base told events (filter keep effects)
@@ -206,13 +208,13 @@ kept_trace keep kind base told events effects counts trace =
     }
 
 -- the call at p leaves out what it found before
-pub forgot : (kind : Kind) (base : List ℕ) (told : List Told) (events : List Event) (effects : List Effect) (p : ℕ)
+pub forgot : (kind : Kind) (base : List Value) (told : List Told) (events : List Event) (effects : List Effect) (p : ℕ)
     → IsTrace kind base told events effects → IsTrace kind base told events (without_pending p effects)
 forgot kind base told events effects p trace =
     kept_trace (λ e. not (is_pending_at p e)) kind base told events effects (keeps_settled p) trace
 
 -- a crash leaves out what does not count
-pub settled_effects_alone : (kind : Kind) (base : List ℕ) (told : List Told) (events : List Event)
+pub settled_effects_alone : (kind : Kind) (base : List Value) (told : List Told) (events : List Event)
     (effects : List Effect)
     → IsTrace kind base told events effects → IsTrace kind base told events (settled_effects effects)
 settled_effects_alone kind base told events effects trace =
@@ -267,7 +269,7 @@ more_by_settled p effects = record {
 }
 
 -- what the call at p found counts now
-pub settled : (kind : Kind) (base : List ℕ) (told : List Told) (events : List Event) (effects : List Effect)
+pub settled : (kind : Kind) (base : List Value) (told : List Told) (events : List Event) (effects : List Effect)
     (client : Client) (p : ℕ)
     → IsTrace kind base told events effects → IsOpenFrom events client (length events) p
     → IsTrace kind base told events (with_settled p effects)

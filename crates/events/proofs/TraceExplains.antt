@@ -7,6 +7,7 @@ use Rattle.std.proofs.lemmas.List.{get_or-take, length-take}
 use Rattle.std.proofs.lemmas.List.Elements.{All-weaker, All-filter, All-map}
 use Rattle.std.proofs.lemmas.List.Kept.{AllPairs-filter}
 use Rattle.std.proofs.lemmas.Option.{slice_get_within, slice_get-get_or, get_or_from_slice_get}
+use Rattle.words.specs.PlainQueue.{Value}
 use Rattle.words.specs.declared.call.Call.{Call}
 use Rattle.words.specs.declared.call.Client.{Client}
 use Rattle.words.specs.declared.call.Kind.{Kind}
@@ -135,13 +136,13 @@ no_calls events numbers none p number client call at =
     )
 
 -- so a trace's history may arise
-pub trace_arises : (kind : Kind) (base : List ℕ) (told : List Told) (events : List Event) (effects : List Effect)
+pub trace_arises : (kind : Kind) (base : List Value) (told : List Told) (events : List Event) (effects : List Effect)
     → IsTrace kind base told events effects → IsHistory events
 trace_arises kind base told events effects trace =
     record { places = trace.places; numbers = one_kind kind events trace.numbers }
 
 -- its order names calls, none twice, and keeps precedence
-pub trace_is_order : (kind : Kind) (base : List ℕ) (told : List Told) (events : List Event) (effects : List Effect)
+pub trace_is_order : (kind : Kind) (base : List Value) (told : List Told) (events : List Event) (effects : List Effect)
     → IsTrace kind base told events effects → IsOrder events (order_of effects)
 trace_is_order kind base told events effects trace = record {
   calls = All-map (λ e. IsSome (call_at events e.place)) entry_of (settled_effects effects)
@@ -152,7 +153,8 @@ trace_is_order kind base told events effects trace = record {
       (AllPairs-filter (λ x y. x.place ≢ y.place) (λ e. e.settled) effects trace.once));
 }
 
-pub trace_precedence : (kind : Kind) (base : List ℕ) (told : List Told) (events : List Event) (effects : List Effect)
+pub trace_precedence : (kind : Kind) (base : List Value) (told : List Told) (events : List Event)
+    (effects : List Effect)
     → IsTrace kind base told events effects → KeepsPrecedence events (order_of effects)
 trace_precedence kind base told events effects trace =
     precedence_from_pairs events (order_of effects)
@@ -162,7 +164,7 @@ trace_precedence kind base told events effects trace =
     (λ x y. Precedes events y.place x.place → ⊥) effects (not_preceded events) trace.within trace.ascending)))
 
 -- and replays
-pub trace_replays : (kind : Kind) (base : List ℕ) (told : List Told) (events : List Event) (effects : List Effect)
+pub trace_replays : (kind : Kind) (base : List Value) (told : List Told) (events : List Event) (effects : List Effect)
     → IsTrace kind base told events effects → Replays events base (order_of effects)
 trace_replays kind base told events effects trace =
     replays_from_runs events base (order_of effects)
@@ -171,7 +173,7 @@ trace_replays kind base told events effects trace =
     (runs_from_replays events base (entries_of effects) trace.replays))
 
 -- at each Ready each client of a log queue is told of its last call
-trace_verdicts : (kind : Kind) (base : List ℕ) (told : List Told) (events : List Event) (effects : List Effect)
+trace_verdicts : (kind : Kind) (base : List Value) (told : List Told) (events : List Event) (effects : List Effect)
     → IsTrace kind base told events effects → (IsDurable events → ⊥)
     → EachIndex events (λ q. TellsAt Log told events (order_of effects) q)
 trace_verdicts Log base told events effects trace none q lt = trace.tells q lt
@@ -179,14 +181,14 @@ trace_verdicts Durable base told events effects trace none q lt =
     tells_without_calls Durable Log told events (order_of effects) q (no_calls events trace.numbers none)
     (trace.tells q lt)
 
-trace_rows : (kind : Kind) (base : List ℕ) (told : List Told) (events : List Event) (effects : List Effect)
+trace_rows : (kind : Kind) (base : List Value) (told : List Told) (events : List Event) (effects : List Effect)
     → IsTrace kind base told events effects → IsDurable events
     → EachIndex events (λ q. TellsAt Durable told events (order_of effects) q)
 trace_rows Durable base told events effects trace durable = trace.tells
 trace_rows Log base told events effects trace durable = absurd (not_durable events trace.numbers durable)
 
 -- so the order of a trace explains its history
-pub trace_explains : (kind : Kind) (base : List ℕ) (told : List Told) (events : List Event) (effects : List Effect)
+pub trace_explains : (kind : Kind) (base : List Value) (told : List Told) (events : List Event) (effects : List Effect)
     → IsTrace kind base told events effects → Explains base told events (order_of effects)
 trace_explains kind base told events effects trace =
     let order : IsOrder events (order_of effects) = trace_is_order kind base told events effects trace in

@@ -5,6 +5,7 @@ use Rattle.std.specs.Prelude.{All, Contains}
 use Rattle.std.proofs.lemmas.List.{length_push}
 use Rattle.std.proofs.lemmas.List.Elements.{All-weaker, All-contains, All-contains_itself}
 use Rattle.std.proofs.lemmas.Option.{slice_get_within}
+use Rattle.words.specs.PlainQueue.{Value}
 use Rattle.words.specs.declared.call.Call.{Call}
 use Rattle.words.specs.declared.call.Client.{Client}
 use Rattle.words.specs.declared.call.Kind.{Kind}
@@ -48,7 +49,7 @@ pub record IsNextEvent (kind : Kind) (told : List Told) (events : List Event) (e
   pub ready : (tells : List Told) → event ≡ ready_event tells → IsToldNow kind told events (order_of effects) tells
 
 -- an event that is so keeps a trace
-pub trace_push : (kind : Kind) (base : List ℕ) (told : List Told) (events : List Event) (effects : List Effect)
+pub trace_push : (kind : Kind) (base : List Value) (told : List Told) (events : List Event) (effects : List Effect)
     (event : Event)
     → IsTrace kind base told events effects → IsNextEvent kind told events effects event
     → IsTrace kind base told (events ++ event ∷ []) effects
@@ -115,7 +116,7 @@ trace_push kind base told events effects event trace next =
     }
 
 -- where an event ends no call, pending effects stay so
-pending_all : (kind : Kind) (base : List ℕ) (told : List Told) (events : List Event) (effects : List Effect)
+pending_all : (kind : Kind) (base : List Value) (told : List Told) (events : List Event) (effects : List Effect)
     (event : Event)
     → IsTrace kind base told events effects → ((client : Client) → EndsBy event client → ⊥)
     → All (λ effect. effect.settled ≡ false → IsPending (events ++ event ∷ []) effect) effects
@@ -139,7 +140,7 @@ IsToldAt kind told events effects crash_event = ⊥
 IsToldAt kind told events effects (ready_event tells) = IsToldNow kind told events (order_of effects) tells
 
 -- a client that has no call under way calls
-pub called : (kind : Kind) (base : List ℕ) (told : List Told) (events : List Event) (effects : List Effect)
+pub called : (kind : Kind) (base : List Value) (told : List Told) (events : List Event) (effects : List Effect)
     (client : Client) (number : ℕ) (call : Call)
     → IsTrace kind base told events effects → client.0 < 16 → (IsUnderWay events client (length events) → ⊥)
     → (IsDown events (length events) → ⊥) → IsNumberOf kind number
@@ -154,7 +155,7 @@ called kind base told events effects client number call trace small idle up righ
     })
 
 -- a call is answered, with the reply with which it is in the order
-pub answered : (kind : Kind) (base : List ℕ) (told : List Told) (events : List Event) (effects : List Effect)
+pub answered : (kind : Kind) (base : List Value) (told : List Told) (events : List Event) (effects : List Effect)
     (client : Client) (reply : Reply) (p : ℕ)
     → IsTrace kind base told events effects → IsOpenFrom events client (length events) p
     → IsTakenAs (order_of effects) p reply
@@ -196,7 +197,7 @@ answered kind base told events effects client reply p trace open_from taken =
     })
 
 -- everything stops; effects that do not count are left out before
-pub crashed : (kind : Kind) (base : List ℕ) (told : List Told) (events : List Event) (effects : List Effect)
+pub crashed : (kind : Kind) (base : List Value) (told : List Told) (events : List Event) (effects : List Effect)
     → IsTrace kind base told events effects → All (λ x. x.settled ≡ true) effects
     → IsTrace kind base told (events ++ crash_event ∷ []) effects
 crashed kind base told events effects trace settled =
@@ -211,7 +212,7 @@ crashed kind base told events effects trace settled =
     })
 
 -- recovery is done, and clients are told
-pub ready : (kind : Kind) (base : List ℕ) (told : List Told) (events : List Event) (effects : List Effect)
+pub ready : (kind : Kind) (base : List Value) (told : List Told) (events : List Event) (effects : List Effect)
     (tells : List Told)
     → IsTrace kind base told events effects → IsToldNow kind told events (order_of effects) tells
     → IsTrace kind base told (events ++ ready_event tells ∷ []) effects
@@ -225,7 +226,7 @@ ready kind base told events effects tells trace now =
     })
 
 -- a trace begins without events and effects
-pub begun : (kind : Kind) (base : List ℕ) (told : List Told) → IsTrace kind base told [] []
+pub begun : (kind : Kind) (base : List Value) (told : List Told) → IsTrace kind base told [] []
 begun kind base told = record {
   places = λ p event at. cc at;
   numbers = λ p number client call at. cc at;

@@ -4,6 +4,7 @@ use Rattle.std.specs.Prelude.{All}
 use Rattle.std.specs.List.{filter}
 use Rattle.std.proofs.lemmas.List.{map-append}
 use Rattle.std.proofs.lemmas.List.Elements.{filter_passes}
+use Rattle.words.specs.PlainQueue.{Value}
 use Rattle.words.specs.declared.call.Kind.{Kind}
 use Rattle.words.specs.declared.call.Reply.{Reply}
 use Rattle.words.specs.declared.call.Reply.TheVariants.{Empty}
@@ -22,7 +23,7 @@ use Rattle.events.proofs.EffectLists.{order_settled_effects, entries_with_settle
 use Rattle.events.proofs.TraceEffects.{dropped_empty}
 
 -- more events change nothing
-pub queue_with_events : (kind : Kind) (base : List ℕ) (told : List Told) (events : List Event)
+pub queue_with_events : (kind : Kind) (base : List Value) (told : List Told) (events : List Event)
     (effects : List Effect) (more : List Event)
     → IsTrace kind base told events effects
     → queue_of (events ++ more) base effects ≡ queue_of events base effects
@@ -31,7 +32,7 @@ queue_with_events kind base told events effects more trace =
     (runs_from_replays events base (entries_of effects) trace.replays)
 
 -- an effect that counts: the queue after it is what its call leaves
-pub queue_with_effect : (events : List Event) (base : List ℕ) (effects : List Effect) (place : ℕ) (reply : Reply)
+pub queue_with_effect : (events : List Event) (base : List Value) (effects : List Effect) (place : ℕ) (reply : Reply)
     (moment : ℕ)
     → queue_of events base (with_effect place reply moment effects)
     ≡ queue_after_call (queue_of events base effects) (call_at events place)
@@ -41,7 +42,7 @@ queue_with_effect events base effects place reply moment =
     ∙ queue_push events base (entries_of effects) (entry_of x)
 
 -- an Empty leaves the queue as it is
-pub queue_with_pending : (events : List Event) (base : List ℕ) (effects : List Effect) (place moment : ℕ)
+pub queue_with_pending : (events : List Event) (base : List Value) (effects : List Effect) (place moment : ℕ)
     → IsServed events (queue_of events base effects) (record { place = place; reply = Empty })
     → queue_of events base (with_pending place moment effects) ≡ queue_of events base effects
 queue_with_pending events base effects place moment served =
@@ -51,7 +52,7 @@ queue_with_pending events base effects place moment served =
     ∙ empty_leaves events (queue_of events base effects) (entry_of x) served refl
 
 -- so it is without effects that do not count
-queue_without : (keep : Effect → Bool) (kind : Kind) (base : List ℕ) (told : List Told) (events : List Event)
+queue_without : (keep : Effect → Bool) (kind : Kind) (base : List Value) (told : List Told) (events : List Event)
     (effects : List Effect)
     → ((x : Effect) → x.settled ≡ true → keep x ≡ true) → IsTrace kind base told events effects
     → queue_of events base (filter keep effects) ≡ queue_of events base effects
@@ -59,14 +60,14 @@ queue_without keep kind base told events effects counts trace =
     queue_kept keep events base effects (dropped_empty keep events effects counts trace.pending)
     (runs_from_replays events base (entries_of effects) trace.replays)
 
-pub queue_without_pending : (kind : Kind) (base : List ℕ) (told : List Told) (events : List Event)
+pub queue_without_pending : (kind : Kind) (base : List Value) (told : List Told) (events : List Event)
     (effects : List Effect) (p : ℕ)
     → IsTrace kind base told events effects
     → queue_of events base (without_pending p effects) ≡ queue_of events base effects
 queue_without_pending kind base told events effects p trace =
     queue_without (λ e. not (is_pending_at p e)) kind base told events effects (keeps_settled p) trace
 
-pub queue_settled_effects : (kind : Kind) (base : List ℕ) (told : List Told) (events : List Event)
+pub queue_settled_effects : (kind : Kind) (base : List Value) (told : List Told) (events : List Event)
     (effects : List Effect)
     → IsTrace kind base told events effects
     → queue_of events base (settled_effects effects) ≡ queue_of events base effects
@@ -74,12 +75,12 @@ queue_settled_effects kind base told events effects trace =
     queue_without (λ e. e.settled) kind base told events effects (λ x s. s) trace
 
 -- settling changes nothing of it
-pub queue_with_settled : (events : List Event) (base : List ℕ) (effects : List Effect) (p : ℕ)
+pub queue_with_settled : (events : List Event) (base : List Value) (effects : List Effect) (p : ℕ)
     → queue_of events base (with_settled p effects) ≡ queue_of events base effects
 queue_with_settled events base effects p = ap (queue_after events base) (entries_with_settled p effects)
 
 -- the replay of the order leaves what the queue holds after all effects
-pub queue_of_order : (kind : Kind) (base : List ℕ) (told : List Told) (events : List Event) (effects : List Effect)
+pub queue_of_order : (kind : Kind) (base : List Value) (told : List Told) (events : List Event) (effects : List Effect)
     → IsTrace kind base told events effects
     → queue_after events base (order_of effects) ≡ queue_of events base effects
 queue_of_order kind base told events effects trace = queue_settled_effects kind base told events effects trace

@@ -1,5 +1,6 @@
 -- When an order explains a history.
 use Rattle.std.specs.Prelude.{ℕ, EachIndex, ◌≡◌, ◌<◌, List, Some, slice_get, All}
+use Rattle.words.specs.PlainQueue.{Value}
 use Rattle.words.specs.declared.call.Client.{Client}
 use Rattle.words.specs.declared.call.Kind.TheVariants.{Durable, Log}
 use Rattle.words.specs.declared.call.Reply.{Reply}
@@ -25,7 +26,7 @@ KeepsPrecedence events order =
     → Precedes events x.place y.place → i < j
 
 -- the order explains the history that begins with this base, of which clients were told this
-pub record Explains (base : List ℕ) (told : List Told) (events : List Event) (order : List Entry) : Type 0 where
+pub record Explains (base : List Value) (told : List Told) (events : List Event) (order : List Entry) : Type 0 where
   pub is_order : IsOrder events order
   pub answers : EachIndex events (λ p. IsAnswered events order p)
   pub replays : Replays events base order

@@ -1,6 +1,7 @@
 -- A trace: events, and effects of calls on a queue, as a world keeps them beside its memory.
 use Rattle.std.specs.Prelude.{ℕ, EachIndex, ◌≡◌, ◌≢◌, ◌<◌, ◌≤◌, List, Some, slice_get, length, map, All, AllPairs}
 use Rattle.std.specs.Prelude.{false}
+use Rattle.words.specs.PlainQueue.{Value}
 use Rattle.words.specs.declared.call.Call.{Call}
 use Rattle.words.specs.declared.call.Client.{Client}
 use Rattle.words.specs.declared.call.Kind.{Kind}
@@ -27,7 +28,7 @@ abbrev pub entries_of : List Effect → List Entry
 entries_of effects = map entry_of effects
 
 -- what the queue holds after all effects
-abbrev pub queue_of : List Event → List ℕ → List Effect → List ℕ
+abbrev pub queue_of : List Event → List Value → List Effect → List Value
 queue_of events base effects = queue_after events base (entries_of effects)
 
 -- the client's call at the place took effect at a moment between its Call and its end
@@ -54,7 +55,7 @@ pub record IsFreshAfter (events : List Event) (q : ℕ) : Type 0 where
       → IsOpenFrom events client (length events) p → ⊥
 
 -- what a world's events and effects always are
-pub record IsTrace (kind : Kind) (base : List ℕ) (told : List Told) (events : List Event)
+pub record IsTrace (kind : Kind) (base : List Value) (told : List Told) (events : List Event)
     (effects : List Effect) : Type 0 where
   -- each event may stand where it stands, and Calls have numbers of the kind
   pub places : (p : ℕ) (event : Event) → slice_get events p ≡ Some event → MayStand events p event

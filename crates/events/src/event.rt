@@ -2,7 +2,7 @@
 
 use crate::list::Events;
 use crate::sequence::Sequence;
-use words::{Call, Client, Reply, Reports};
+use words::{Call, Client, Reply, Reports, Value};
 
 /// What happened to a queue.
 #[derive(Clone, Copy, Debug, PartialEq, Eq)]
@@ -29,7 +29,7 @@ pub enum Event {
 /// What a queue holds and tells where the history begins, and the events since, one after another.
 #[derive(Drop)]
 pub struct History {
-    pub base: Sequence<u32>,
+    pub base: Sequence<Value>,
     pub told: Reports,
     pub events: Events,
 }

@@ -2,6 +2,7 @@
 use Rattle.std.proofs.Common.{◌≡◌, refl, sym, subst, ap, ◌∙◌, ℕ, List, map}
 use Rattle.std.specs.Prelude.{Bool, IsTrue}
 use Rattle.std.specs.List.{range_with_len}
+use Rattle.words.specs.PlainQueue.{Value}
 use Rattle.words.specs.declared.limits.TheConstants.{MAX_CLIENTS}
 use Rattle.words.specs.declared.told.Told.{Told}
 use Rattle.events.specs.Explains.{Explains, IsExplained}
@@ -32,7 +33,7 @@ explained w h o are holds =
       explains = subst (λ l. Explains l h.told h.events.items o.entries.items) (sym are.base) told;
     }
 
-pub left : (w : State) (h : History) (o : Order) (content : List ℕ) → AreOf w h o → IsWorldExplained w
+pub left : (w : State) (h : History) (o : Order) (content : List Value) → AreOf w h o → IsWorldExplained w
     → content ≡ kept_content w → content ≡ queue_after h.events.items h.base.items o.entries.items
 left w h o content are holds is =
     is ∙ holds.agrees ∙ ap (λ l. queue_after l w.base (order_in w)) (sym are.events)
@@ -40,7 +41,7 @@ left w h o content are holds is =
     ∙ ap (queue_after h.events.items h.base.items) (sym are.order)
 
 -- so its point is ok
-pub found_is : (w : State) (steps : ℕ) (told : List Told) (content : List ℕ) (ok : Bool)
+pub found_is : (w : State) (steps : ℕ) (told : List Told) (content : List Value) (ok : Bool)
     → told ≡ map (told_at w) (range_with_len 0 MAX_CLIENTS) → content ≡ kept_content w → IsTrue ok
     → record { steps = steps; told = told; content = content; ok = ok } ≡ found_in w steps
 unfolding found_in

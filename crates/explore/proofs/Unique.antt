@@ -5,6 +5,8 @@ use Rattle.std.proofs.lemmas.List.Elements.{All-head, All-tail}
 use Rattle.std.specs.Prelude.{Option, Some, None, All}
 use Rattle.std.specs.Str.Parse.{digits_value}
 use Rattle.arena.specs.Limits.{AreCounts}
+use Rattle.words.specs.PlainQueue.{Value, FitsValue}
+use Rattle.words.specs.Text.{value_text}
 use Rattle.words.specs.declared.call.Client.{Client}
 use Rattle.words.specs.declared.call.Kind.{Kind}
 use Rattle.explore.specs.Grammar.{kind_word, queue_words, command_words, IsServedQueue, IsServed}
@@ -19,6 +21,14 @@ use Rattle.explore.proofs.Scripts.{same_kind}
 read : (n : ℕ) → n < 2 ^ 64 → digits_value 10 (decimal n) ≡ n
 read n small = digits_value-decimal own n small
 
+-- a value read back
+value_in : List ℕ → Value
+value_in word = digits_value 10 word
+
+value_back : (value : Value) → FitsValue value → value_in (value_text value) ≡ value
+unfolding value_in
+value_back value fits = read value (omega (arith, fits))
+
 -- which row some words are of: by how many there are, and by the first bytes of the first
 tag : List (List ℕ) → ℕ
 tag [] = 0
@@ -31,10 +41,14 @@ numbers words = map (digits_value 10) (drop 1 words)
 client_of : List ℕ → Client
 client_of ns = record { 0 = slice_index ns 0 }
 
-command_of : ℕ → List ℕ → Command
-command_of row ns =
-    (if row == 26589638 then Enq (client_of ns) (slice_index ns 1) else
-    (if row == 26589639 then NumberedEnq (client_of ns) (slice_index ns 1) (slice_index ns 2) else
+-- the value that stands at a place among some words
+value_at : List (List ℕ) → ℕ → Value
+value_at words place = value_in (slice_index_or words place [])
+
+command_of : ℕ → List (List ℕ) → List ℕ → Command
+command_of row words ns =
+    (if row == 26589638 then Enq (client_of ns) (value_at words 2) else
+    (if row == 26589639 then NumberedEnq (client_of ns) (slice_index ns 1) (value_at words 3) else
     (if row == 26318277 then Deq (client_of ns) else
     (if row == 26318278 then NumberedDeq (client_of ns) (slice_index ns 1) else
     (if row == 30265750 then Step (client_of ns) (slice_index ns 1) else
@@ -46,17 +60,17 @@ command_of row ns =
     (if row == 26066360 then Content else
     Order)))))))))))
 
-read_back : (command : Command) → IsServed command → command_of (tag (command_words command)) (numbers (command_words command)) ≡ command
-unfolding command_of tag numbers client_of
+read_back : (command : Command) → IsServed command → command_of (tag (command_words command)) (command_words command) (numbers (command_words command)) ≡ command
+unfolding command_of tag numbers client_of value_at
 read_back (Enq client value) served =
     let e0 : digits_value 10 (decimal client.0) ≡ client.0 = read client.0 (omega (arith, served)) in
-    let e1 : digits_value 10 (decimal value) ≡ value = read value (omega (arith, served)) in
-    ap (λ n. Enq (record { 0 = n }) (digits_value 10 (decimal value))) e0 ∙ ap (λ n. Enq (record { 0 = client.0 }) (n)) e1
+    let e1 : value_in (value_text value) ≡ value = value_back value served.1 in
+    ap (λ n. Enq (record { 0 = n }) (value_in (value_text value))) e0 ∙ ap (λ v. Enq (record { 0 = client.0 }) v) e1
 read_back (NumberedEnq client number value) served =
     let e0 : digits_value 10 (decimal client.0) ≡ client.0 = read client.0 (omega (arith, served)) in
     let e1 : digits_value 10 (decimal number) ≡ number = read number (omega (arith, served)) in
-    let e2 : digits_value 10 (decimal value) ≡ value = read value (omega (arith, served)) in
-    ap (λ n. NumberedEnq (record { 0 = n }) (digits_value 10 (decimal number)) (digits_value 10 (decimal value))) e0 ∙ ap (λ n. NumberedEnq (record { 0 = client.0 }) (n) (digits_value 10 (decimal value))) e1 ∙ ap (λ n. NumberedEnq (record { 0 = client.0 }) (number) (n)) e2
+    let e2 : value_in (value_text value) ≡ value = value_back value served.2 in
+    ap (λ n. NumberedEnq (record { 0 = n }) (digits_value 10 (decimal number)) (value_in (value_text value))) e0 ∙ ap (λ n. NumberedEnq (record { 0 = client.0 }) (n) (value_in (value_text value))) e1 ∙ ap (λ v. NumberedEnq (record { 0 = client.0 }) (number) v) e2
 read_back (Deq client) served =
     let e0 : digits_value 10 (decimal client.0) ≡ client.0 = read client.0 (omega (arith, served)) in
     ap (λ n. Deq (record { 0 = n })) e0
@@ -83,7 +97,7 @@ read_back Content served = refl
 read_back Order served = refl
 
 same_command : (c d : Command) → IsServed c → IsServed d → command_words c ≡ command_words d → c ≡ d
-same_command c d sc sd e = sym (read_back c sc) ∙ ap (λ (ws : List (List ℕ)). command_of (tag ws) (numbers ws)) e ∙ read_back d sd
+same_command c d sc sd e = sym (read_back c sc) ∙ ap (λ (ws : List (List ℕ)). command_of (tag ws) ws (numbers ws)) e ∙ read_back d sd
 
 same_commands : (cs ds : List Command) → All IsServed cs → All IsServed ds → map command_words cs ≡ map command_words ds → cs ≡ ds
 same_commands [] [] sc sd e = refl

@@ -4,7 +4,8 @@ use Rattle.explore.specs.Lines.{words_of}
 use Rattle.arena.specs.Limits.{AreCounts}
 use Rattle.words.specs.declared.call.Kind.{Kind}
 use Rattle.words.specs.declared.call.Kind.TheVariants.{Durable, Log}
-use Rattle.words.specs.declared.limits.TheConstants.{MAX_VALUE}
+use Rattle.words.specs.PlainQueue.{FitsValue}
+use Rattle.words.specs.Text.{value_text}
 use Rattle.explore.specs.declared.limits.TheConstants.{MAX_CLIENT_NUMBER, MAX_STEPS}
 use Rattle.explore.specs.declared.command.Command.{Command}
 use Rattle.explore.specs.declared.command.Command.TheVariants.{Enq, NumberedEnq, Deq, NumberedDeq, Step, End, Evict, Crash, Recover, RecoverBy, Content, Order}
@@ -21,8 +22,9 @@ queue_words queue = codes "queue" ∷ kind_word queue.kind ∷ decimal queue.cli
 -- `enq C V`, `enq C N V`, `deq C`, `deq C N`, `step C M`, `end C`, `evict W`, `crash`, `recover`, `recover M`,
 -- `content`, `order`
 abbrev pub command_words : Command → List (List ℕ)
-command_words (Enq client value) = codes "enq" ∷ decimal client.0 ∷ decimal value ∷ []
-command_words (NumberedEnq client number value) = codes "enq" ∷ decimal client.0 ∷ decimal number ∷ decimal value ∷ []
+command_words (Enq client value) = codes "enq" ∷ decimal client.0 ∷ value_text value ∷ []
+command_words (NumberedEnq client number value) =
+    codes "enq" ∷ decimal client.0 ∷ decimal number ∷ value_text value ∷ []
 command_words (Deq client) = codes "deq" ∷ decimal client.0 ∷ []
 command_words (NumberedDeq client number) = codes "deq" ∷ decimal client.0 ∷ decimal number ∷ []
 command_words (Step client most) = codes "step" ∷ decimal client.0 ∷ decimal most ∷ []
@@ -38,11 +40,11 @@ command_words Order = codes "order" ∷ []
 abbrev pub IsServedQueue : QueueLine → Type 0
 IsServedQueue queue = AreCounts queue.clients queue.records
 
--- a client's number is one byte, a value has 32 bits, a call's number and a word's have 64, and a line asks for
+-- a client's number is one byte, a value fits in the memory, a call's number and a word's have 64, and a line asks for
 -- some steps, not too many
 abbrev pub IsServed : Command → Type 0
-IsServed (Enq client value) = (client.0 ≤ MAX_CLIENT_NUMBER) × (value ≤ MAX_VALUE)
-IsServed (NumberedEnq client number value) = (client.0 ≤ MAX_CLIENT_NUMBER) × (number < 2 ^ 64) × (value ≤ MAX_VALUE)
+IsServed (Enq client value) = (client.0 ≤ MAX_CLIENT_NUMBER) × FitsValue value
+IsServed (NumberedEnq client number value) = (client.0 ≤ MAX_CLIENT_NUMBER) × (number < 2 ^ 64) × FitsValue value
 IsServed (Deq client) = client.0 ≤ MAX_CLIENT_NUMBER
 IsServed (NumberedDeq client number) = (client.0 ≤ MAX_CLIENT_NUMBER) × (number < 2 ^ 64)
 IsServed (Step client most) = (client.0 ≤ MAX_CLIENT_NUMBER) × (1 ≤ most) × (most ≤ MAX_STEPS)

@@ -3,6 +3,7 @@ use Rattle.std.specs.Prelude.{ℕ, zero, suc, ◌+◌, ◌%◌, ◌==◌, Bool, 
 use Rattle.std.specs.List.{range_with_len}
 use Rattle.rand_pcg.specs.Lcg.{Lcg, started, increment_of}
 use Rattle.rand_pcg.specs.Pcg.{pcg32, multiplier_64}
+use Rattle.words.specs.PlainQueue.{Value}
 use Rattle.words.specs.declared.limits.TheConstants.{MAX_CLIENTS}
 use Rattle.words.specs.declared.told.Told.{Told}
 use Rattle.arena.specs.Layout.{size_of}
@@ -47,7 +48,7 @@ recovery_of s = replicate (most_to_ready s) Recover
 pub record Found : Type 0 where
   pub steps : ℕ
   pub told : List Told
-  pub content : List ℕ
+  pub content : List Value
   pub ok : Bool
 
 abbrev pub found_of : Point → Found

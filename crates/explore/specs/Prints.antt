@@ -2,7 +2,8 @@
 use Rattle.std.specs.Prelude.{ℕ, ◌==◌, List, [], ◌∷◌, ◌++◌, if◌then◌else◌, codes, decimal}
 use Rattle.std.specs.List.{join_with_byte, flat_map}
 use Rattle.words.specs.Refusal.{refusal_text}
-use Rattle.words.specs.Text.{reply_text, told_text}
+use Rattle.words.specs.PlainQueue.{Value}
+use Rattle.words.specs.Text.{value_text, reply_text, told_text}
 use Rattle.words.specs.declared.call.Call.{Call}
 use Rattle.words.specs.declared.call.Call.TheVariants.{Enq, Deq}
 use Rattle.explore.specs.Grammar.{command_words}
@@ -16,19 +17,19 @@ abbrev pub command_text : Command → List ℕ
 command_text command = join_with_byte 32 (command_words command)
 
 -- the values that a queue holds, each after a space, or a dash where there are none
-abbrev pub value_text : ℕ → List ℕ
-value_text value = codes " " ++ decimal value
+abbrev pub spaced_value : Value → List ℕ
+spaced_value value = codes " " ++ value_text value
 
-abbrev pub values_text : List ℕ → List ℕ
+abbrev pub values_text : List Value → List ℕ
 values_text [] = codes " -"
-values_text (value ∷ values) = flat_map value_text (value ∷ values)
+values_text (value ∷ values) = flat_map spaced_value (value ∷ values)
 
 -- a call in the order: its client, its number on a log queue, what it asked for and its reply
 abbrev pub number_text : ℕ → List ℕ
 number_text number = if number == 0 then codes "" else codes " #" ++ decimal number
 
 abbrev pub asked_text : Call → List ℕ
-asked_text (Enq value) = codes " enq " ++ decimal value ++ codes " "
+asked_text (Enq value) = codes " enq " ++ value_text value ++ codes " "
 asked_text Deq = codes " deq "
 
 abbrev pub ordered_text : Ordered → List ℕ

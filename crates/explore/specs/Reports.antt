@@ -1,6 +1,7 @@
 -- What the reports on a script say.
 use Rattle.std.specs.Prelude.{ℕ, ◌+◌, Bool, true, false, List, [], ◌∷◌, ◌++◌, Option, Some, None, length, take, fold, max, codes, decimal}
 use Rattle.std.specs.List.{flat_map}
+use Rattle.words.specs.PlainQueue.{Value}
 use Rattle.words.specs.Text.{reply_text, told_text}
 use Rattle.words.specs.declared.told.Told.{Told}
 use Rattle.explore.specs.Acts.{shape_by}
@@ -28,7 +29,7 @@ ok_text false = codes "bad"
 abbrev pub steps_text : ℕ → ℕ → List ℕ
 steps_text number steps = codes "point " ++ decimal number ++ codes ": recovery " ++ decimal steps ++ codes "; told "
 
-abbrev pub content_text : List ℕ → List ℕ
+abbrev pub content_text : List Value → List ℕ
 content_text content = codes "; content" ++ values_text content
 
 abbrev pub end_text : Bool → List ℕ

@@ -1,13 +1,15 @@
 -- The lines in three groups.
 use Rattle.std.specs.Prelude.{ℕ, List}
+use Rattle.words.specs.PlainQueue.{Value}
 use Rattle.words.specs.declared.call.Client.{Client}
 use Rattle.explore.specs.Grammar.{SaysCommand}
 use Rattle.explore.specs.declared.command.Command.TheVariants.{Enq, NumberedEnq, Deq, NumberedDeq, Step, End, Evict, Crash, Recover, RecoverBy, Content, Order}
 
 -- a line starts no call, and goes on with none
 pub record IsNoCall (line : List ℕ) : Type 0 where
-  pub enq : (client : Client) (value : ℕ) → SaysCommand line (Enq client value) → ⊥
-  pub numbered_enq : (client : Client) (number value : ℕ) → SaysCommand line (NumberedEnq client number value) → ⊥
+  pub enq : (client : Client) (value : Value) → SaysCommand line (Enq client value) → ⊥
+  pub numbered_enq : (client : Client) (number : ℕ) (value : Value)
+      → SaysCommand line (NumberedEnq client number value) → ⊥
   pub deq : (client : Client) → SaysCommand line (Deq client) → ⊥
   pub numbered_deq : (client : Client) (number : ℕ) → SaysCommand line (NumberedDeq client number) → ⊥
   pub step : (client : Client) (most : ℕ) → SaysCommand line (Step client most) → ⊥

@@ -1,7 +1,7 @@
 //! What the lines of a script say.
 
 use std::fmt;
-use words::{Client, Kind};
+use words::{Client, Kind, Value};
 
 /// The first line of a script: the queue that it is about.
 #[derive(Clone, Copy, Debug, PartialEq, Eq)]
@@ -17,13 +17,13 @@ pub enum Command {
     /// The client of a durable queue starts an enqueue.
     Enq {
         client: Client,
-        value: u32,
+        value: Value,
     },
     /// The client of a log queue starts an enqueue, with its number.
     NumberedEnq {
         client: Client,
         number: u64,
-        value: u32,
+        value: Value,
     },
     /// The client of a durable queue starts a dequeue.
     Deq {

@@ -14,7 +14,7 @@ use arena::Layout;
 use history::check_content;
 use interleave::{Act, World};
 use std::alloc::Global;
-use words::{Client, MAX_CLIENTS, Refusal, Reports, Told};
+use words::{Client, MAX_CLIENTS, Refusal, Reports, Told, Value};
 
 /// What a crash at one point of a script comes to, once recovery has ended.
 #[derive(Debug, Drop)]
@@ -24,7 +24,7 @@ pub struct Point {
     /// What each client is told, and None past the last client.
     pub told: Reports,
     /// What the queue holds, the first value first.
-    pub content: Vec<u32>,
+    pub content: Vec<Value>,
     /// Whether the order in which calls took effect explains all that happened, and its replay leaves that content.
     pub ok: bool,
 }

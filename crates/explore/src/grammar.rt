@@ -1,6 +1,7 @@
 //! The lines that are served, a row for each.
 
 ghost use Rattle.std.specs.Prelude.{◌≡◌, ℕ, List, [], ◌∷◌, MatchOption};
+ghost use Rattle.words.specs.PlainQueue.{Value};
 ghost use Rattle.words.specs.declared.call.Client.{Client};
 ghost use Rattle.words.specs.declared.call.Kind.{Kind};
 ghost use Rattle.explore.specs.Lines.{words_of};
@@ -11,8 +12,10 @@ ghost use Rattle.explore.specs.declared.command.QueueLine.{QueueLine};
 
 use crate::command::{Command, QueueLine};
 use crate::limits::{MAX_CLIENT_NUMBER, MAX_STEPS};
-use crate::line::{Limits, after_name, is_name, one_number, three_numbers, two_numbers};
-use words::{Client, Kind, MAX_CLIENTS, MAX_RECORDS, MAX_VALUE};
+use crate::line::{
+    Limits, after_name, is_name, number_and_value, numbers_and_value, one_number, two_numbers,
+};
+use words::{Client, Kind, MAX_CLIENTS, MAX_RECORDS};
 
 const CLIENTS: Limits = Limits {
     least: 1,
@@ -27,11 +30,6 @@ const RECORDS: Limits = Limits {
 const CLIENT: Limits = Limits {
     least: 0,
     most: MAX_CLIENT_NUMBER as u64,
-};
-
-const VALUE: Limits = Limits {
-    least: 0,
-    most: MAX_VALUE as u64,
 };
 
 /// The number of a call, or of a word.
@@ -72,29 +70,31 @@ pub(crate) fn queue_line(line: &[u8]) -> Option<QueueLine>
 
 /// `enq C V`
 fn enq(line: &[u8]) -> Option<Command>
-    ensures { MatchOption result ((client : Client) (value : ℕ) → SaysCommand line.now (Command.Enq client value) → ⊥)
+    ensures { MatchOption result
+        ((client : Client) (value : Value) → SaysCommand line.now (Command.Enq client value) → ⊥)
         (SaysCommand line.now) }
 {
     let numbers = after_name(line, b"enq")?;
-    let (client, value) = two_numbers(numbers, CLIENT, VALUE)?;
+    let (client, value) = number_and_value(numbers, CLIENT)?;
     Some(Command::Enq {
         client: Client(client as u8),
-        value: value as u32,
+        value,
     })
 }
 
 /// `enq C N V`
 fn numbered_enq(line: &[u8]) -> Option<Command>
     ensures { MatchOption result
-        ((client : Client) (number value : ℕ) → SaysCommand line.now (Command.NumberedEnq client number value) → ⊥)
+        ((client : Client) (number : ℕ) (value : Value)
+        → SaysCommand line.now (Command.NumberedEnq client number value) → ⊥)
         (SaysCommand line.now) }
 {
     let numbers = after_name(line, b"enq")?;
-    let (client, number, value) = three_numbers(numbers, CLIENT, NUMBER, VALUE)?;
+    let (client, number, value) = numbers_and_value(numbers, CLIENT, NUMBER)?;
     Some(Command::NumberedEnq {
         client: Client(client as u8),
         number,
-        value: value as u32,
+        value,
     })
 }
 

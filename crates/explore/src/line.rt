@@ -1,10 +1,13 @@
 //! The words of a line, and the numbers among them.
 
 ghost use Rattle.std.specs.Prelude.{◌≡◌, ◌≢◌, ◌↔◌, ◌==◌, ◌<◌, ◌^◌, ℕ, List, ◌∷◌, [], MatchOption, IsTrue, decimal, position, false};
+ghost use Rattle.words.specs.PlainQueue.{Value, FitsValue};
+ghost use Rattle.words.specs.Text.{value_text};
 ghost use Rattle.explore.specs.Lines.{words_of, HasPlainStart};
 ghost use Rattle.explore.specs.Limits.{IsWithin};
 
 use std::str;
+use words::{MAX_VALUE, Value};
 
 /// Whether a word begins as no number does: with a sign, or with a needless zero.
 fn begins_wrong(word: &[u8]) -> bool
@@ -50,6 +53,19 @@ fn number_within(word: &[u8], limits: Limits) -> Option<u64>
     Some(n)
 }
 
+const VALUE: Limits = Limits {
+    least: 0,
+    most: MAX_VALUE as u64,
+};
+
+/// The value that a word is.
+fn value(word: &[u8]) -> Option<Value>
+    ensures { MatchOption result ((value : Value) → FitsValue value → word.now ≢ value_text value)
+        (λ value. (word.now ≡ value_text value) × FitsValue value) }
+{
+    Some(number_within(word, VALUE)? as u32)
+}
+
 /// Where the first space of a text is.
 fn first_space(text: &[u8]) -> Option<usize>
     ensures { result ≡ position (λ byte. byte == 32) text.now }
@@ -89,6 +105,31 @@ pub(crate) fn one_number(text: &[u8], limits: Limits) -> Option<u64>
     number_within(word, limits)
 }
 
+/// The value that is all of a text.
+fn one_value(text: &[u8]) -> Option<Value>
+    ensures { MatchOption result ((value : Value) → FitsValue value → words_of text.now ≢ value_text value ∷ [])
+        (λ value. (words_of text.now ≡ value_text value ∷ []) × FitsValue value) }
+{
+    let (word, rest) = first_word(text);
+    if rest.is_some() {
+        return None;
+    }
+    value(word)
+}
+
+/// The number and the value that are all of a text.
+pub(crate) fn number_and_value(text: &[u8], limits: Limits) -> Option<(u64, Value)>
+    ensures { MatchOption result
+        ((n : ℕ) (value : Value) → IsWithin limits n → FitsValue value
+        → words_of text.now ≢ decimal n ∷ value_text value ∷ [])
+        (λ r. (words_of text.now ≡ decimal r.0 ∷ value_text r.1 ∷ []) × IsWithin limits r.0 × FitsValue r.1) }
+{
+    let (word, rest) = first_word(text);
+    let n = number_within(word, limits)?;
+    let value = one_value(rest?)?;
+    Some((n, value))
+}
+
 /// The two numbers that are all of a text.
 pub(crate) fn two_numbers(text: &[u8], first: Limits, second: Limits) -> Option<(u64, u64)>
     ensures { MatchOption result
@@ -111,21 +152,20 @@ pub(crate) fn is_name(line: &[u8], name: &[u8]) -> bool
     }
 }
 
-/// The three numbers that are all of a text.
-pub(crate) fn three_numbers(
+/// The two numbers and the value that are all of a text.
+pub(crate) fn numbers_and_value(
     text: &[u8],
     first: Limits,
     second: Limits,
-    third: Limits,
-) -> Option<(u64, u64, u64)>
+) -> Option<(u64, u64, Value)>
     ensures { MatchOption result
-        ((k m n : ℕ) → IsWithin first k → IsWithin second m → IsWithin third n
-        → words_of text.now ≢ decimal k ∷ decimal m ∷ decimal n ∷ [])
-        (λ r. (words_of text.now ≡ decimal r.0 ∷ decimal r.1 ∷ decimal r.2 ∷ [])
-        × IsWithin first r.0 × IsWithin second r.1 × IsWithin third r.2) }
+        ((m n : ℕ) (value : Value) → IsWithin first m → IsWithin second n → FitsValue value
+        → words_of text.now ≢ decimal m ∷ decimal n ∷ value_text value ∷ [])
+        (λ r. (words_of text.now ≡ decimal r.0 ∷ decimal r.1 ∷ value_text r.2 ∷ [])
+        × IsWithin first r.0 × IsWithin second r.1 × FitsValue r.2) }
 {
     let (word, rest) = first_word(text);
-    let k = number_within(word, first)?;
-    let (m, n) = two_numbers(rest?, second, third)?;
-    Some((k, m, n))
+    let m = number_within(word, first)?;
+    let (n, value) = number_and_value(rest?, second)?;
+    Some((m, n, value))
 }

@@ -9,7 +9,7 @@ use crate::sweep::Report;
 use interleave::Act;
 use std::alloc::{AllocError, Global};
 use std::fmt::{self, Write};
-use words::{Call, Kind, Outcome, Refusal, Told};
+use words::{Call, Kind, Outcome, Refusal, Told, Value};
 
 /// What the page says of itself, and how it is drawn: each kind of answer has a colour, in light and in dark.
 const HEAD: &str = "<!DOCTYPE html>
@@ -151,7 +151,7 @@ fn colour(told: Told) -> &'static str {
 }
 
 /// The values that a queue holds, or a dash.
-fn values(alloc: Global, content: &[u32]) -> Result<String, AllocError> {
+fn values(alloc: Global, content: &[Value]) -> Result<String, AllocError> {
     let mut text = String::new(alloc);
     for value in content {
         write!(text, " {value}")?;

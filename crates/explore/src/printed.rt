@@ -6,24 +6,25 @@ use crate::command::Command;
 use crate::ordered::Ordered;
 use std::fmt;
 use std::marker::Model;
-use words::{Client, Refusal, Reply, Told};
+use words::{Client, Refusal, Reply, Told, Value};
 
 /// The values that a queue holds, in order.
 #[derive(Drop)]
 pub(crate) struct Values {
-    values: Vec<u32>,
+    values: Vec<Value>,
 }
 
 impl Model for Values {
-    ghost use Rattle.std.specs.Prelude.{ℕ, List};
+    ghost use Rattle.std.specs.Prelude.{List};
+    ghost use Rattle.words.specs.PlainQueue.{Value as Message};
 
-    ghost Value = { List ℕ };
+    ghost Value = { List Message };
 
     ghost view = { λ v. v.values.items };
 }
 
 impl Values {
-    pub(crate) fn from_vec(values: Vec<u32>) -> Self
+    pub(crate) fn from_vec(values: Vec<Value>) -> Self
         ensures { result ≡ values.items }
     {
         Values { values }

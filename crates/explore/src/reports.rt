@@ -19,7 +19,7 @@ use crate::watch::Watch;
 use std::alloc::Global;
 use std::fmt::Write;
 use std::thread::Threads;
-use words::{Refusal, Told};
+use words::{Refusal, Told, Value};
 
 /// Writes what clients are told, parted by commas.
 fn write_told(text: &mut String, told: &[Told]) -> Result<(), Refusal>
@@ -37,7 +37,7 @@ fn write_told(text: &mut String, told: &[Told]) -> Result<(), Refusal>
 }
 
 /// Writes the values that a queue holds, each after a space.
-fn write_values(text: &mut String, values: &[u32]) -> Result<(), Refusal>
+fn write_values(text: &mut String, values: &[Value]) -> Result<(), Refusal>
     ensures text { OnOk result (string_bytes text.new ≡ string_bytes text.old ++ values_text values.now) }
     ensures errors { IfErr result (λ e. e ≡ Refusal.NoMemory) }
 {
@@ -59,7 +59,7 @@ fn write_steps(text: &mut String, number: usize, steps: u64) -> Result<(), Refus
 }
 
 /// Writes what a queue holds.
-fn write_content(text: &mut String, content: &[u32]) -> Result<(), Refusal>
+fn write_content(text: &mut String, content: &[Value]) -> Result<(), Refusal>
     ensures text { OnOk result (string_bytes text.new ≡ string_bytes text.old ++ content_text content.now) }
     ensures errors { IfErr result (λ e. e ≡ Refusal.NoMemory) }
 {

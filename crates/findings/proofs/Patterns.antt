@@ -4,6 +4,7 @@ use Rattle.std.proofs.Common.{get_or, length, refl, ap, arith, subst, sym, ◌�
 use Rattle.std.proofs.lemmas.Bool.{cases_lt}
 use Rattle.std.proofs.lemmas.List.{get_or-take, length-take}
 use Rattle.std.proofs.lemmas.Option.{slice_get_within, slice_get-get_or, get_or_from_slice_get}
+use Rattle.words.specs.PlainQueue.{Value}
 use Rattle.words.specs.declared.call.Reply.{Reply}
 use Rattle.words.specs.declared.call.Reply.TheVariants.{Empty}
 use Rattle.words.specs.declared.told.Outcome.{Outcome}
@@ -76,7 +77,7 @@ one_entry events order is_order k j x y at_k at_j same =
 
 -- two entries that got one value are one entry: values are put once
 one_position : (events : List Event) (order : List Entry) → IsOrder events order → HasDistinctValues events
-    → (n a b value : ℕ) → n ≤ length order → slice_get (put_before events [] order n) a ≡ Some value
+    → (n a b : ℕ) (value : Value) → n ≤ length order → slice_get (put_before events [] order n) a ≡ Some value
     → slice_get (put_before events [] order n) b ≡ Some value → a ≡ b
 one_position events order is_order distinct n a b value le at_a at_b =
     ⊎_elim
@@ -93,7 +94,7 @@ one_position events order is_order distinct n a b value le at_a at_b =
     (put_from events [] order n b value le at_b))
     (put_from events [] order n a value le at_a)
 
-got_grows : (events : List Event) (order : List Entry) → (i j value : ℕ) → j ≤ length order → i < j
+got_grows : (events : List Event) (order : List Entry) → (i j : ℕ) (value : Value) → j ≤ length order → i < j
     → IsGotAt order i value → got_before order i < got_before order j
 got_grows events order i zero value le lt got = absurd (omega arith)
 got_grows events order i (suc j) value le lt got = ⊎_elim
@@ -109,7 +110,8 @@ got_grows events order i (suc j) value le lt got = ⊎_elim
     (cases_lt i j)
 
 pub got_once : (events : List Event) (learnt : List (Option Outcome)) (order : List Entry)
-    → ExplainsFindings events learnt order → HasDistinctValues events → (i j value : ℕ) → IsGotAt order i value
+    → ExplainsFindings events learnt order → HasDistinctValues events → (i j : ℕ) (value : Value)
+    → IsGotAt order i value
     → IsGotAt order j value → i ≡ j
 got_once events learnt order explains distinct i j value one other =
     let within_i : i < length order = slice_get_within order i one.entry one.at in
@@ -133,14 +135,14 @@ got_once events learnt order explains distinct i j value one other =
     (cases_lt i j)
 
 -- a value that is got was put before
-pub record IsPutEarlier (events : List Event) (order : List Entry) (i value : ℕ) : Type 0 where
+pub record IsPutEarlier (events : List Event) (order : List Entry) (i : ℕ) (value : Value) : Type 0 where
   pub index : ℕ
   pub before : index < i
   pub put : IsPutAt events order index value
   pub place : got_before order i ≡ length (put_before events [] order index)
 
 pub got_was_put : (events : List Event) (learnt : List (Option Outcome)) (order : List Entry)
-    → ExplainsFindings events learnt order → (i value : ℕ) → IsGotAt order i value
+    → ExplainsFindings events learnt order → (i : ℕ) (value : Value) → IsGotAt order i value
     → IsPutEarlier events order i value
 got_was_put events learnt order explains i value got =
     let within : i < length order = slice_get_within order i got.entry got.at in
@@ -156,14 +158,14 @@ got_was_put events learnt order explains i value got =
     (got_front events [] order explains.replays i value got))
 
 -- the value that was put at place a, was got before i
-pub record IsGotEarlier (order : List Entry) (i value : ℕ) : Type 0 where
+pub record IsGotEarlier (order : List Entry) (i : ℕ) (value : Value) : Type 0 where
   pub index : ℕ
   pub before : index < i
   pub got : IsGotAt order index value
 
 -- of values that were put before others, and of all that were put before an Empty
 pub got_of_place : (events : List Event) (learnt : List (Option Outcome)) (order : List Entry)
-    → ExplainsFindings events learnt order → (i a value : ℕ) → i ≤ length order → a < got_before order i
+    → ExplainsFindings events learnt order → (i a : ℕ) (value : Value) → i ≤ length order → a < got_before order i
     → slice_get (put_before events [] order i) a ≡ Some value → IsGotEarlier order i value
 got_of_place events learnt order explains i a value within lt at =
     let turn : IsGotBefore events [] order i a = got_in_turn events [] order i a within lt in
@@ -179,7 +181,7 @@ got_of_place events learnt order explains i a value within lt at =
 
 -- a value put before another one is got before it
 pub got_ahead : (events : List Event) (learnt : List (Option Outcome)) (order : List Entry)
-    → ExplainsFindings events learnt order → HasDistinctValues events → (i k j value other : ℕ)
+    → ExplainsFindings events learnt order → HasDistinctValues events → (i k j : ℕ) (value other : Value)
     → IsGotAt order i value → IsPutAt events order j value → k < j → IsPutAt events order k other
     → IsGotEarlier order i other
 got_ahead events learnt order explains distinct i k j value other got put lt ahead =
@@ -200,7 +202,7 @@ got_ahead events learnt order explains distinct i k j value other got put lt ahe
 
 -- all that was put before an Empty is got before it
 pub got_before_empty : (events : List Event) (learnt : List (Option Outcome)) (order : List Entry)
-    → ExplainsFindings events learnt order → (i k value : ℕ) (x : Entry) → slice_get order i ≡ Some x
+    → ExplainsFindings events learnt order → (i k : ℕ) (value : Value) (x : Entry) → slice_get order i ≡ Some x
     → x.reply ≡ Empty → k < i → IsPutAt events order k value → IsGotEarlier order i value
 got_before_empty events learnt order explains i k value x at empty lt put =
     let within : i < length order = slice_get_within order i x at in

@@ -3,6 +3,7 @@ use Rattle.std.proofs.Common.{ℕ, ◌≡◌, ◌+◌, List, [], ◌∷◌, Opti
 use Rattle.std.proofs.Common.{take, inl, inr, refl, ap, arith, subst, sym, ◌∙◌, ⊎_elim}
 use Rattle.std.specs.Prelude.{EachIndex, IsSome}
 use Rattle.std.proofs.lemmas.Option.{slice_get_within, slice_get-get_or}
+use Rattle.words.specs.PlainQueue.{Value}
 use Rattle.words.specs.declared.call.Call.{Call}
 use Rattle.words.specs.declared.call.Client.{Client}
 use Rattle.words.specs.declared.call.Reply.{Reply}
@@ -110,7 +111,7 @@ same_call a b there back p = go (call_at a p) (call_at b p) refl refl
     go None (Some call) is is_other = call_there b a back p call is_other ∙ sym is_other
     go None None is is_other = is ∙ sym is_other
 
-same_queue : (a b : List Event) → HasEventsOf a b → HasEventsOf b a → (base : List ℕ) (order : List Entry)
+same_queue : (a b : List Event) → HasEventsOf a b → HasEventsOf b a → (base : List Value) (order : List Entry)
     → queue_after a base order ≡ queue_after b base order
 same_queue a b there back base [] = refl
 same_queue a b there back base (entry ∷ order) =
@@ -118,13 +119,13 @@ same_queue a b there back base (entry ∷ order) =
     ∙ ap (λ (call : Option Call). queue_after b (queue_after_call base call) order)
     (same_call a b there back entry.place)
 
-pub same_replays : (a b : List Event) → HasEventsOf a b → HasEventsOf b a → (base : List ℕ) (order : List Entry)
+pub same_replays : (a b : List Event) → HasEventsOf a b → HasEventsOf b a → (base : List Value) (order : List Entry)
     → Replays a base order → Replays b base order
 same_replays a b there back base order replays i lt = record {
   served = λ entry at.
       let was : IsServed a (queue_after a base (take i order)) entry = (replays i lt).served entry at in
       let now : IsServed a (queue_after b base (take i order)) entry =
-      subst (λ (queue : List ℕ). IsServed a queue entry) (same_queue a b there back base (take i order)) was in
+      subst (λ (queue : List Value). IsServed a queue entry) (same_queue a b there back base (take i order)) was in
       record {
         call = now.call;
         names = sym (same_call a b there back entry.place) ∙ now.names;

@@ -4,7 +4,7 @@ use Rattle.std.proofs.Common.{get_or, length, take, refl, ap, arith, subst, sym,
 use Rattle.std.specs.Prelude.{Contains}
 use Rattle.std.proofs.lemmas.Bool.{cases_lt}
 use Rattle.std.proofs.lemmas.Option.{slice_get_within, slice_get-get_or, get_or_from_slice_get}
-use Rattle.words.specs.PlainQueue.{reply_of}
+use Rattle.words.specs.PlainQueue.{Value, reply_of}
 use Rattle.words.specs.declared.call.Call.{Call}
 use Rattle.words.specs.declared.call.Call.TheVariants.{Enq, Deq}
 use Rattle.words.specs.declared.call.Client.{Client}
@@ -36,13 +36,14 @@ use Rattle.findings.proofs.Pigeons.{no_more}
 
 -- what got a value is a take
 got_takes : (events : List Event) (learnt : List (Option Outcome)) (order : List Entry)
-    → ExplainsFindings events learnt order → (i value : ℕ) → (got : IsGotAt order i value)
+    → ExplainsFindings events learnt order → (i : ℕ) (value : Value) → (got : IsGotAt order i value)
     → TakesAt events got.entry.place
 got_takes events learnt order explains i value got =
     let served = (explains.replays i (slice_get_within order i got.entry got.at)).served got.entry got.at in
     go served.call (queue_after events [] (take i order)) served.names (sym got.got ∙ served.reply)
   where
-    go : (call : Call) (queue : List ℕ) → call_at events got.entry.place ≡ Some call → Got value ≡ reply_of queue call
+    go : (call : Call) (queue : List Value) → call_at events got.entry.place ≡ Some call
+        → Got value ≡ reply_of queue call
         → TakesAt events got.entry.place
     go (Enq other) queue names same = cc
     go Deq queue names same = names
@@ -79,14 +80,14 @@ stands_before : (events : List Event) (learnt : List (Option Outcome)) (order : 
 stands_before events learnt order explains i j x y at_i at_j before = explains.precedence i j x y at_i at_j before
 
 -- a take that began before the bound got the value
-pub record IsTakenBefore (order : List Entry) (bound value : ℕ) : Type 0 where
+pub record IsTakenBefore (order : List Entry) (bound : ℕ) (value : Value) : Type 0 where
   pub index : ℕ
   pub got : IsGotAt order index value
   pub early : got.entry.place < bound
 
 -- the place of a call that got a value whose take was over: it is not so, since the value was still in
 not_over_since : (events : List Event) (learnt : List (Option Outcome)) (order : List Entry)
-    → ExplainsFindings events learnt order → HasDistinctValues events → (since : Since) (p value j : ℕ)
+    → ExplainsFindings events learnt order → HasDistinctValues events → (since : Since) (p : ℕ) (value : Value) (j : ℕ)
     → PutsAt events p value → IsInAt events learnt since p → (got : IsGotAt order j value)
     → IsOverBy events got.entry.place since.place → ⊥
 not_over_since events learnt order explains distinct since p value j puts is_in got over =
@@ -138,7 +139,7 @@ not_over_since events learnt order explains distinct since p value j puts is_in 
 -- the take of a value can have taken it
 can_have_taken : (events : List Event) (learnt : List (Option Outcome)) (order : List Entry)
     → ExplainsFindings events learnt order → HasDistinctValues events → (puts : List ℕ) (since : Option Since)
-    → AreInSince events learnt puts since → (p value j : ℕ) → Contains puts p → PutsAt events p value
+    → AreInSince events learnt puts since → (p : ℕ) (value : Value) (j : ℕ) → Contains puts p → PutsAt events p value
     → (got : IsGotAt order j value) → CanHaveTaken events learnt puts since got.entry.place
 can_have_taken events learnt order explains distinct puts since in_since p value j contained is_put got = record {
   takes = got_takes events learnt order explains j value got;
@@ -170,7 +171,7 @@ can_have_taken events learnt order explains distinct puts since in_since p value
 
 -- the take of the put's value
 pub record TookValueOf (events : List Event) (order : List Entry) (p r : ℕ) : Type 0 where
-  pub value : ℕ
+  pub value : Value
   pub puts : PutsAt events p value
   pub index : ℕ
   pub got : IsGotAt order index value
@@ -180,7 +181,7 @@ pub record TookValueOf (events : List Event) (order : List Entry) (p r : ℕ) : 
 pub lack_refutes : (events : List Event) (learnt : List (Option Outcome)) (order : List Entry)
     → ExplainsFindings events learnt order → HasDistinctValues events → (bound : ℕ) (lack : Lack)
     → Lacks events learnt bound lack
-    → ((p value : ℕ) → IsPutOf lack p → PutsAt events p value → IsTakenBefore order bound value) → ⊥
+    → ((p : ℕ) (value : Value) → IsPutOf lack p → PutsAt events p value → IsTakenBefore order bound value) → ⊥
 lack_refutes events learnt order explains distinct bound (Late put late_take) lacks each =
     let taken : IsTakenBefore order bound lacks.value = each put lacks.value refl lacks.puts in
     let has : HasEntry order late_take (Got lacks.value) =
@@ -226,7 +227,7 @@ lack_refutes events learnt order explains distinct bound (Few puts takes since) 
 -- the puts of a lack are in the order
 pub lack_puts : (events : List Event) (learnt : List (Option Outcome)) (order : List Entry)
     → ExplainsFindings events learnt order → HasDistinctValues events → (bound : ℕ) (lack : Lack)
-    → Lacks events learnt bound lack → (p value : ℕ) → IsPutOf lack p → PutsAt events p value
+    → Lacks events learnt bound lack → (p : ℕ) (value : Value) → IsPutOf lack p → PutsAt events p value
     → (k : ℕ) × IsPutAt events order k value
 lack_puts events learnt order explains distinct bound (Late put late_take) lacks p value is puts =
     let has : HasEntry order late_take (Got lacks.value) =
@@ -320,7 +321,7 @@ within_events (event ∷ events) zero call is = omega arith
 within_events (event ∷ events) (suc p) call is =
     let lt : p < length events = within_events events p call is in omega arith
 
-invented_refutes : (events : List Event) (learnt : List (Option Outcome)) (take value : ℕ)
+invented_refutes : (events : List Event) (learnt : List (Option Outcome)) (take : ℕ) (value : Value)
     → ShowsInvented events learnt take value → (order : List Entry) → ExplainsFindings events learnt order → ⊥
 invented_refutes events learnt take value shows order explains =
     let has : HasEntry order take (Got value) = known_entry events learnt order explains take (Got value) shows.got in
@@ -341,7 +342,7 @@ invented_refutes events learnt take value shows order explains =
     ))
     (shows.none was.put.entry.place was.put.puts)
 
-twice_refutes : (events : List Event) (learnt : List (Option Outcome)) (first second value : ℕ)
+twice_refutes : (events : List Event) (learnt : List (Option Outcome)) (first second : ℕ) (value : Value)
     → HasDistinctValues events → ShowsTwice events learnt first second value → (order : List Entry)
     → ExplainsFindings events learnt order → ⊥
 twice_refutes events learnt first second value distinct shows order explains =

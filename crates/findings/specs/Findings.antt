@@ -1,5 +1,6 @@
 -- What is known of a queue's calls, and the orders that agree with it.
 use Rattle.std.specs.Prelude.{ℕ, EachIndex, ◌≡◌, ◌≤◌, ◌⊎◌, List, [], Option, Some, slice_get}
+use Rattle.words.specs.PlainQueue.{Value}
 use Rattle.words.specs.declared.call.Call.TheVariants.{Enq, Deq}
 use Rattle.words.specs.declared.call.Client.{Client}
 use Rattle.words.specs.declared.call.Reply.{Reply}
@@ -48,7 +49,7 @@ pub record HasNoOrder (events : List Event) (learnt : List (Option Outcome)) : T
   pub none : (order : List Entry) → ExplainsFindings events learnt order → ⊥
 
 -- the call at p puts this value
-abbrev pub PutsAt : List Event → ℕ → ℕ → Type 0
+abbrev pub PutsAt : List Event → ℕ → Value → Type 0
 PutsAt events p value = call_at events p ≡ Some (Enq value)
 
 -- the call at p takes
@@ -57,10 +58,10 @@ TakesAt events p = call_at events p ≡ Some Deq
 
 -- no two calls put the same value
 pub record HasDistinctValues (events : List Event) : Type 0 where
-  pub each : (p q value : ℕ) → PutsAt events p value → PutsAt events q value → p ≡ q
+  pub each : (p q : ℕ) (value : Value) → PutsAt events p value → PutsAt events q value → p ≡ q
 
 -- the call at p is known to have got this value
-abbrev pub IsKnownGot : List Event → List (Option Outcome) → ℕ → ℕ → Type 0
+abbrev pub IsKnownGot : List Event → List (Option Outcome) → ℕ → Value → Type 0
 IsKnownGot events learnt p value = IsKnown events learnt p (Got value)
 
 -- the call at p ends at some place up to e

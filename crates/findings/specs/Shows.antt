@@ -1,6 +1,7 @@
 -- What a witness shows: why no order explains the findings.
 use Rattle.std.specs.Prelude.{ℕ, ◌≡◌, ◌≢◌, ◌<◌, ◌≤◌, ◌⊎◌, ⊤, All, AllPairs, List, Option, Some, None, Contains}
 use Rattle.std.specs.Prelude.{slice_get, length}
+use Rattle.words.specs.PlainQueue.{Value}
 use Rattle.words.specs.declared.call.Reply.{Reply}
 use Rattle.words.specs.declared.call.Reply.TheVariants.{Done, Got, Empty}
 use Rattle.words.specs.declared.told.Outcome.{Outcome}
@@ -21,19 +22,21 @@ abbrev pub IsNoSource : List Event → List (Option Outcome) → ℕ → ℕ →
 IsNoSource events learnt take p = Precedes events take p ⊎ IsLearnt learnt p NotTaken
 
 -- a value came out that nobody can have put
-pub record ShowsInvented (events : List Event) (learnt : List (Option Outcome)) (take value : ℕ) : Type 0 where
+pub record ShowsInvented (events : List Event) (learnt : List (Option Outcome)) (take : ℕ) (value : Value)
+    : Type 0 where
   pub got : IsKnownGot events learnt take value
   pub none : (p : ℕ) → PutsAt events p value → IsNoSource events learnt take p
 
 -- a value came out twice
-pub record ShowsTwice (events : List Event) (learnt : List (Option Outcome)) (first second value : ℕ) : Type 0 where
+pub record ShowsTwice (events : List Event) (learnt : List (Option Outcome)) (first second : ℕ)
+    (value : Value) : Type 0 where
   pub one : IsKnownGot events learnt first value
   pub other : IsKnownGot events learnt second value
   pub two : first ≢ second
 
 -- the value of some call that ended before the put, and that is known to have come out by the take at `take`
 pub record IsAhead (events : List Event) (learnt : List (Option Outcome)) (ahead : Ahead) (put : ℕ) : Type 0 where
-  pub value : ℕ
+  pub value : Value
   pub puts : PutsAt events ahead.put value
   pub got : IsKnownGot events learnt ahead.take value
   pub before : Precedes events ahead.put put
@@ -56,7 +59,7 @@ WasOver events None take = ⊥
 WasOver events (Some since) take = IsOverBy events take since.place
 
 -- the value of one of the puts
-pub record IsValueOf (events : List Event) (among : List ℕ) (value : ℕ) : Type 0 where
+pub record IsValueOf (events : List Event) (among : List ℕ) (value : Value) : Type 0 where
   pub put : ℕ
   pub contained : Contains among put
   pub puts : PutsAt events put value
@@ -66,7 +69,7 @@ pub record CanHaveTaken (events : List Event) (learnt : List (Option Outcome)) (
     (take : ℕ) : Type 0 where
   pub takes : TakesAt events take
   pub known : (reply : Reply) → IsKnown events learnt take reply
-      → (value : ℕ) × (reply ≡ Got value) × IsValueOf events puts value
+      → (value : Value) × (reply ≡ Got value) × IsValueOf events puts value
   pub not_refused : IsLearnt learnt take NotTaken → ⊥
   pub not_over : WasOver events since take → ⊥
 
@@ -77,7 +80,7 @@ pub record IsListed (events : List Event) (learnt : List (Option Outcome)) (puts
 
 -- a put that is known to have taken effect
 pub record IsKnownPut (events : List Event) (learnt : List (Option Outcome)) (put : ℕ) : Type 0 where
-  pub value : ℕ
+  pub value : Value
   pub puts : PutsAt events put value
   pub known : IsKnown events learnt put Done
 
@@ -92,7 +95,7 @@ pub record IsFew (events : List Event) (learnt : List (Option Outcome)) (bound :
 
 -- the value of the put is known to have come out, by a take that began at `bound` or later
 pub record IsLate (events : List Event) (learnt : List (Option Outcome)) (bound put take : ℕ) : Type 0 where
-  pub value : ℕ
+  pub value : Value
   pub puts : PutsAt events put value
   pub got : IsKnownGot events learnt take value
   pub late : bound ≤ take
@@ -111,7 +114,7 @@ IsPutOf (Few puts takes since) p = Contains puts.items p
 -- did not end
 pub record ShowsPassedOver (events : List Event) (learnt : List (Option Outcome)) (take put bound : ℕ)
     (lack : Lack) : Type 0 where
-  pub value : ℕ
+  pub value : Value
   pub puts : PutsAt events put value
   pub got : IsKnownGot events learnt take value
   pub bounded : IsOverBy events take bound ⊎ (length events ≤ bound)

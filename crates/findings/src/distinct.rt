@@ -5,20 +5,22 @@ ghost use Rattle.std.specs.List.Sorted.{IsStrictlyIncreasing};
 ghost use Rattle.findings.specs.Findings.{HasDistinctValues};
 
 use crate::known::value_of_put;
+use crate::rank::rank_of;
 use events::Events;
 
-/// Whether the values that calls put rise from call to call: then no two are the same. Whoever numbers values by their
-/// puts has them rise.
+/// Whether the numbers of the values that calls put rise from call to call: then no two are the same. Whoever numbers
+/// values by their puts has them rise.
 pub(crate) fn values_rise(events: &Events) -> bool
     ensures { IsTrue result → HasDistinctValues events.now.items }
 {
     let mut least: u64 = 0;
     for p in 0..events.len() {
         if let Some(value) = value_of_put(events, p) {
-            if u64::from(value) < least {
+            let rank = u64::from(rank_of(value));
+            if rank < least {
                 return false;
             }
-            least = u64::from(value) + 1;
+            least = rank + 1;
         }
     }
     true

@@ -11,7 +11,7 @@ use crate::known::{is_known, is_learnt, is_over_by, precedes, puts_at, value_of_
 use crate::lacking::lacks;
 use crate::witness::{Lack, Piece, Witness};
 use events::Events;
-use words::{Outcome, Reply};
+use words::{Outcome, Reply, Value};
 
 /// Whether the put cannot stand before the take.
 fn is_no_source(events: &Events, learnt: &[Option<Outcome>], take: usize, put: usize) -> bool
@@ -25,7 +25,7 @@ fn did_not_put(
     events: &Events,
     learnt: &[Option<Outcome>],
     take: usize,
-    value: u32,
+    value: Value,
     p: usize,
 ) -> bool
     ensures { IsTrue result → PutsAt events.now.items p value → IsNoSource events.now.items learnt.now take p }
@@ -37,7 +37,7 @@ fn did_not_put(
 }
 
 /// Whether nobody can have put the value before the take.
-fn nobody_put(events: &Events, learnt: &[Option<Outcome>], take: usize, value: u32) -> bool
+fn nobody_put(events: &Events, learnt: &[Option<Outcome>], take: usize, value: Value) -> bool
     ensures { IsTrue result
         → ((p : ℕ) → PutsAt events.now.items p value → IsNoSource events.now.items learnt.now take p) }
 {
@@ -50,7 +50,7 @@ fn nobody_put(events: &Events, learnt: &[Option<Outcome>], take: usize, value: u
 }
 
 /// Whether a value came out that nobody can have put.
-fn shows_invented(events: &Events, learnt: &[Option<Outcome>], take: usize, value: u32) -> bool
+fn shows_invented(events: &Events, learnt: &[Option<Outcome>], take: usize, value: Value) -> bool
     ensures { IsTrue result → ShowsInvented events.now.items learnt.now take value }
 {
     if !is_known(events, learnt, take, Reply::Got(value)) {
@@ -65,7 +65,7 @@ fn shows_twice(
     learnt: &[Option<Outcome>],
     first: usize,
     second: usize,
-    value: u32,
+    value: Value,
 ) -> bool
     ensures { IsTrue result → ShowsTwice events.now.items learnt.now first second value }
 {

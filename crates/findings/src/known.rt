@@ -5,7 +5,7 @@ ghost use Rattle.events.specs.History.{EndsAt, Precedes};
 ghost use Rattle.findings.specs.Findings.{IsLearnt, IsReturned, IsKnown, PutsAt, TakesAt, IsOverBy};
 
 use events::{Event, Events};
-use words::{Call, Client, Outcome, Reply};
+use words::{Call, Client, Outcome, Reply, Value};
 
 /// Whether what stands at `p` ends a call of the client.
 fn ends_at(events: &Events, client: Client, p: usize) -> bool
@@ -20,7 +20,7 @@ fn ends_at(events: &Events, client: Client, p: usize) -> bool
 }
 
 /// Whether the call at `p` puts this value.
-pub(crate) fn puts_at(events: &Events, p: usize, value: u32) -> bool
+pub(crate) fn puts_at(events: &Events, p: usize, value: Value) -> bool
     ensures { IsTrue result ↔ PutsAt events.now.items p value }
 {
     match events.get(p) {
@@ -40,7 +40,7 @@ pub(crate) fn takes_at(events: &Events, p: usize) -> bool
 }
 
 /// The value that the call at `p` puts, if it puts one.
-pub(crate) fn value_of_put(events: &Events, p: usize) -> Option<u32>
+pub(crate) fn value_of_put(events: &Events, p: usize) -> Option<Value>
     ensures found { IfSome result (λ value. PutsAt events.now.items p value) }
     ensures none { IfNone result ((value : ℕ) → PutsAt events.now.items p value → ⊥) }
 {

@@ -12,7 +12,7 @@ use crate::known::{
 };
 use crate::witness::{Ahead, Lack, Since};
 use events::Events;
-use words::{Outcome, Reply};
+use words::{Outcome, Reply, Value};
 
 /// Whether the value of `ahead` is ahead of the put's, and came out by its take.
 fn is_ahead(events: &Events, learnt: &[Option<Outcome>], ahead: &Ahead, put: usize) -> bool
@@ -66,7 +66,7 @@ fn was_over(events: &Events, since: &Option<Since>, take: usize) -> bool
 }
 
 /// Whether one of the puts puts this value.
-fn is_value_of(events: &Events, puts: &[usize], value: u32) -> bool
+fn is_value_of(events: &Events, puts: &[usize], value: Value) -> bool
     ensures { IsTrue result ↔ Any (λ put. PutsAt events.now.items put value) puts.now }
 {
     puts.iter().any(|put| puts_at(events, *put, value))

@@ -8,9 +8,11 @@ mod judging;
 mod known;
 mod lacking;
 mod laws;
+mod rank;
 mod witness;
 
 pub use agreeing::explains_known;
 pub use judging::refutes;
 pub use laws::{findings_are_fillings, patterns_refute};
+pub use rank::{rank_of, ranked};
 pub use witness::{Ahead, Lack, Piece, Since, Witness};

@@ -1,5 +1,7 @@
 //! Why no order explains what is known of calls: four patterns, each with the calls that it names by their places.
 
+use words::Value;
+
 /// A value ahead of others, by its put and by the take that is known to have got it.
 #[derive(Clone, Copy, Debug, PartialEq, Eq)]
 pub struct Ahead {
@@ -44,13 +46,13 @@ pub enum Witness {
     /// A value came out that nobody can have put.
     Invented {
         take: usize,
-        value: u32,
+        value: Value,
     },
     /// A value came out twice.
     Twice {
         first: usize,
         second: usize,
-        value: u32,
+        value: Value,
     },
     /// A value came out before values ahead of it. The take that got it ended at `bound`, or did not end.
     PassedOver {

@@ -10,44 +10,44 @@ use Rattle.words.specs.declared.call.Reply.TheVariants.{Got, Empty}
 use Rattle.events.specs.declared.event.Event.{Event}
 use Rattle.events.specs.declared.event.Entry.{Entry}
 use Rattle.events.specs.Replay.{call_at, queue_after_call, queue_after, IsServed}
-use Rattle.words.specs.PlainQueue.{reply_of, served}
+use Rattle.words.specs.PlainQueue.{Value, reply_of, served}
 use Rattle.history.proofs.ReplaySteps.{queue_more}
 use Rattle.history.specs.Counting.{values_of_call, values_of_order, dequeue_count}
 
 -- what a dequeue answers, by the front
-abbrev pub front_reply : Option ℕ → Reply
+abbrev pub front_reply : Option Value → Reply
 front_reply None = Empty
 front_reply (Some value) = Got value
 
-pub reply_at_front : (all : List ℕ) (taken : ℕ) → reply_of (drop taken all) Deq ≡ front_reply (slice_get all taken)
+pub reply_at_front : (all : List Value) (taken : ℕ) → reply_of (drop taken all) Deq ≡ front_reply (slice_get all taken)
 reply_at_front [] zero = refl
 reply_at_front [] (suc n) = refl
 reply_at_front (x ∷ xs) zero = refl
 reply_at_front (x ∷ xs) (suc n) = reply_at_front xs n
 
 -- so for a queue and what was found at its front
-pub reply_by_front : (queue all : List ℕ) (taken : ℕ) (found : Option ℕ) → queue ≡ drop taken all
+pub reply_by_front : (queue all : List Value) (taken : ℕ) (found : Option Value) → queue ≡ drop taken all
     → found ≡ slice_get all taken → front_reply found ≡ reply_of queue Deq
 reply_by_front queue all taken found q f = ap front_reply f ∙ sym (reply_at_front all taken)
-    ∙ ap (λ (r : List ℕ). reply_of r Deq) (sym q)
+    ∙ ap (λ (r : List Value). reply_of r Deq) (sym q)
 
 -- what is left after a call
-pub count_left : (queue all : List ℕ) (taken : ℕ) (call : Call) → queue ≡ drop taken all → taken ≤ length all
+pub count_left : (queue all : List Value) (taken : ℕ) (call : Call) → queue ≡ drop taken all → taken ≤ length all
     → served queue call ≡ drop (taken + dequeue_count (reply_of queue call)) (all ++ values_of_call (Some call))
 count_left queue all taken (Enq value) q le = grind (arith, drop-append-le taken all (value ∷ []), q)
 count_left [] all taken Deq q le = rw (append-nil) (grind (arith, q))
 count_left (x ∷ rest) all taken Deq q le = rw (append-nil) (ap (drop 1) q ∙ drop-drop 1 taken all)
 
 -- what is taken was put
-pub count_within : (queue all : List ℕ) (taken : ℕ) (call : Call) → queue ≡ drop taken all
+pub count_within : (queue all : List Value) (taken : ℕ) (call : Call) → queue ≡ drop taken all
     → taken ≤ length all → taken + dequeue_count (reply_of queue call) ≤ length (all ++ values_of_call (Some call))
 count_within queue all taken (Enq value) q le = omega (arith, length-append all (value ∷ []))
-count_within [] all taken Deq q le = omega (arith, length-append {A = ℕ} all [])
+count_within [] all taken Deq q le = omega (arith, length-append {A = Value} all [])
 count_within (x ∷ rest) all taken Deq q le =
-    omega (arith, length-append {A = ℕ} all [], ap length q, length-drop taken all)
+    omega (arith, length-append {A = Value} all [], ap length q, length-drop taken all)
 
 -- what was put with one more entry
-pub put_more : (events : List Event) (base : List ℕ) (order : List Entry) (i : ℕ) (d : Entry)
+pub put_more : (events : List Event) (base : List Value) (order : List Entry) (i : ℕ) (d : Entry)
     → i < length order
     → base ++ values_of_order events (take (i + 1) order)
     ≡ (base ++ values_of_order events (take i order)) ++ values_of_call (call_at events (get_or order i d).place)
@@ -57,17 +57,17 @@ put_more events base order i d lt =
     (get_or order i d))
 
 -- the queue after the first i entries is what was put, without as many as were taken
-pub record IsCounted (events : List Event) (base : List ℕ) (order : List Entry) (i taken : ℕ) : Type 0 where
+pub record IsCounted (events : List Event) (base : List Value) (order : List Entry) (i taken : ℕ) : Type 0 where
   pub within : taken ≤ length (base ++ values_of_order events (take i order))
   pub queue : queue_after events base (take i order) ≡ drop taken (base ++ values_of_order events (take i order))
 
-pub counted_more : (events : List Event) (base : List ℕ) (order : List Entry) (i taken more : ℕ) (d : Entry)
+pub counted_more : (events : List Event) (base : List Value) (order : List Entry) (i taken more : ℕ) (d : Entry)
     → i < length order → IsCounted events base order i taken
     → IsServed events (queue_after events base (take i order)) (get_or order i d)
     → more ≡ dequeue_count (get_or order i d).reply → IsCounted events base order (i + 1) (taken + more)
 counted_more events base order i taken more d lt so_far right is_more =
-    let queue : List ℕ = queue_after events base (take i order) in
-    let all : List ℕ = base ++ values_of_order events (take i order) in
+    let queue : List Value = queue_after events base (take i order) in
+    let all : List Value = base ++ values_of_order events (take i order) in
     let put : base ++ values_of_order events (take (i + 1) order) ≡ all ++ values_of_call (Some right.call) =
     put_more events base order i d lt ∙ ap (λ (o : Option Call). all ++ values_of_call o) right.names in
     let took : more ≡ dequeue_count (reply_of queue right.call) = is_more ∙ ap dequeue_count right.reply in
@@ -79,8 +79,8 @@ counted_more events base order i taken more d lt so_far right is_more =
     let few : taken + dequeue_count (reply_of queue right.call) ≤ length (all ++ values_of_call (Some right.call)) =
     count_within queue all taken right.call so_far.queue so_far.within in
     record {
-      within = subst (λ (xs : List ℕ). taken + more ≤ length xs) (sym put)
+      within = subst (λ (xs : List Value). taken + more ≤ length xs) (sym put)
           (subst (λ (n : ℕ). taken + n ≤ length (all ++ values_of_call (Some right.call))) (sym took) few);
       queue = left ∙ counted ∙ ap (λ (n : ℕ). drop (taken + n) (all ++ values_of_call (Some right.call))) (sym took)
-          ∙ ap (λ (xs : List ℕ). drop (taken + more) xs) (sym put);
+          ∙ ap (λ (xs : List Value). drop (taken + more) xs) (sym put);
     }

@@ -8,7 +8,7 @@ use Rattle.std.proofs.lemmas.List.Concat.{flat_map-append}
 use Rattle.words.specs.declared.call.Call.{Call}
 use Rattle.words.specs.declared.call.Call.TheVariants.{Enq, Deq}
 use Rattle.words.specs.declared.call.Reply.{Reply}
-use Rattle.words.specs.PlainQueue.{reply_of}
+use Rattle.words.specs.PlainQueue.{Value, reply_of}
 use Rattle.events.specs.declared.event.Event.{Event}
 use Rattle.events.specs.declared.event.Entry.{Entry}
 use Rattle.history.specs.Counting.{values_of_call, values_of_order}
@@ -17,7 +17,7 @@ use Rattle.events.specs.Replay.{call_at, queue_after, IsServed, IsRightAt}
 use Rattle.history.proofs.ReplaySteps.{right_here}
 
 -- the first entry's call puts its value
-pub values_first : (events : List Event) (order : List Entry) (from to value : ℕ) (d : Entry) → from < to
+pub values_first : (events : List Event) (order : List Entry) (from to : ℕ) (value : Value) (d : Entry) → from < to
     → to ≤ length order → call_at events (get_or order from d).place ≡ Some (Enq value)
     → values_between events order from to ≡ value ∷ values_between events order (from + 1) to
 values_first events order from to value d below within names =
@@ -42,17 +42,17 @@ put_last events order from i d below within =
     (omega (arith, length-take i order)))
     ∙ flat_map-append (λ (e : Entry). values_of_call (call_at events e.place)) (drop from (take i order))
     (get_or order i d ∷ [])
-    ∙ ap (λ (vs : List ℕ). values_between events order from i ++ vs)
+    ∙ ap (λ (vs : List Value). values_between events order from i ++ vs)
     (append-nil (values_of_call (call_at events (get_or order i d).place)))
 
 -- what a dequeue answers by the front, and leaves
-pub reply_by_front : (queue rest : List ℕ) (front : Option ℕ) → queue ≡ option_to_list front ++ rest
+pub reply_by_front : (queue rest : List Value) (front : Option Value) → queue ≡ option_to_list front ++ rest
     → IfNone front (queue ≡ []) → reply_of_front front ≡ reply_of queue Deq
 reply_by_front queue rest None is none = rw none refl
 reply_by_front queue rest (Some value) is none = rw is refl
 
 -- the entry at i is right where its reply is the queue's
-pub right_by_reply : (events : List Event) (base : List ℕ) (order : List Entry) (i : ℕ) (d : Entry) (call : Call)
+pub right_by_reply : (events : List Event) (base : List Value) (order : List Entry) (i : ℕ) (d : Entry) (call : Call)
     (reply : Reply)
     → i < length order → call_at events (get_or order i d).place ≡ Some call
     → reply ≡ reply_of (queue_after events base (take i order)) call → (get_or order i d).reply ≡ reply
@@ -61,7 +61,7 @@ right_by_reply events base order i d call reply within names is same =
     right_here events base (queue_after events base (take i order)) order i d within refl
     (record { call = call; names = names; reply = same ∙ is })
 
-pub reply_by_right : (events : List Event) (base : List ℕ) (order : List Entry) (i : ℕ) (d : Entry) (call : Call)
+pub reply_by_right : (events : List Event) (base : List Value) (order : List Entry) (i : ℕ) (d : Entry) (call : Call)
     (reply : Reply)
     → i < length order → call_at events (get_or order i d).place ≡ Some call
     → reply ≡ reply_of (queue_after events base (take i order)) call → IsRightAt events base order i
@@ -72,7 +72,7 @@ reply_by_right events base order i d call reply within names is right =
     let one : served.call ≡ call = cc (served.names, names) in
     served.reply ∙ ap (reply_of (queue_after events base (take i order))) one ∙ sym is
 
-pub wrong_without_call : (events : List Event) (base : List ℕ) (order : List Entry) (i : ℕ) (d : Entry)
+pub wrong_without_call : (events : List Event) (base : List Value) (order : List Entry) (i : ℕ) (d : Entry)
     → i < length order → call_at events (get_or order i d).place ≡ None → IsRightAt events base order i → ⊥
 wrong_without_call events base order i d within none right =
     let served : IsServed events (queue_after events base (take i order)) (get_or order i d) =

@@ -5,7 +5,7 @@ use Rattle.std.specs.Prelude.{EachIndex}
 use Rattle.std.proofs.lemmas.Bool.{cases_lt}
 use Rattle.std.proofs.lemmas.List.{get_or-take, ext_get_or}
 use Rattle.std.proofs.lemmas.Option.{same_Some, slice_get_within, slice_get-get_or, get_or_from_slice_get}
-use Rattle.words.specs.PlainQueue.{reply_of, served}
+use Rattle.words.specs.PlainQueue.{Value, reply_of, served}
 use Rattle.words.specs.declared.call.Call.{Call}
 use Rattle.words.specs.declared.call.Call.TheVariants.{Deq}
 use Rattle.words.specs.declared.call.Client.{Client}
@@ -107,7 +107,7 @@ pub record StandsInOrder (order : List Entry) (i : ℕ) (turn : Turn) : Type 0 w
   pub index : ℕ
   pub at : slice_get order index ≡ Some (entry_in_turn i turn)
 
-stands_in_order : (client : Client) (turns : List Turn) (base : List ℕ) (told : List Told) (order : List Entry)
+stands_in_order : (client : Client) (turns : List Turn) (base : List Value) (told : List Told) (order : List Entry)
     → Explains base told (events_in_turn client turns) order → (i : ℕ) (turn : Turn) → slice_get turns i ≡ Some turn
     → StandsInOrder order i turn
 stands_in_order client turns base told order explains i turn at =
@@ -122,7 +122,7 @@ stands_in_order client turns base told order explains i turn at =
     record { index = taken.0; at = slice_get-get_or order taken.0 (entry_in_turn i turn) taken.1 ∙ ap Some taken.2 }
 
 -- each entry is of one of the calls
-entry_of_turn : (client : Client) (turns : List Turn) (base : List ℕ) (told : List Told) (order : List Entry)
+entry_of_turn : (client : Client) (turns : List Turn) (base : List Value) (told : List Told) (order : List Entry)
     → Explains base told (events_in_turn client turns) order → (i : ℕ) (x : Entry) → slice_get order i ≡ Some x
     → IsTurnAt turns x.place
 entry_of_turn client turns base told order explains i x at =
@@ -143,7 +143,7 @@ none_again turns order n i m x d once so_far past at below within place =
     (so_far.each m (get_or turns m d) below (slice_get-get_or turns m d within)) at (sym place)
 
 -- so the next call stands next
-next_in_turn : (client : Client) (turns : List Turn) (base : List ℕ) (told : List Told) (order : List Entry)
+next_in_turn : (client : Client) (turns : List Turn) (base : List Value) (told : List Told) (order : List Entry)
     → Explains base told (events_in_turn client turns) order → (n : ℕ) (turn : Turn) → AreFirst turns order n
     → slice_get turns n ≡ Some turn → slice_get order n ≡ Some (entry_in_turn n turn)
 next_in_turn client turns base told order explains n turn so_far at =
@@ -189,7 +189,7 @@ next_in_turn client turns base told order explains n turn so_far at =
         (cases_lt is.index n)
 
 -- all of them stand first
-first_in_turn : (client : Client) (turns : List Turn) (base : List ℕ) (told : List Told) (order : List Entry)
+first_in_turn : (client : Client) (turns : List Turn) (base : List Value) (told : List Told) (order : List Entry)
     → Explains base told (events_in_turn client turns) order → (n : ℕ) → AreFirst turns order n
 first_in_turn client turns base told order explains zero = record { each = λ k turn below at. absurd (omega arith) }
 first_in_turn client turns base told order explains (suc n) =
@@ -207,7 +207,7 @@ first_in_turn client turns base told order explains (suc n) =
     }
 
 -- and there is nothing else
-length_in_turn : (client : Client) (turns : List Turn) (base : List ℕ) (told : List Told) (order : List Entry)
+length_in_turn : (client : Client) (turns : List Turn) (base : List Value) (told : List Told) (order : List Entry)
     → Explains base told (events_in_turn client turns) order → AreFirst turns order (length turns)
     → (d : Turn) → (length order ≡ length turns)
 length_in_turn client turns base told order explains all d =
@@ -243,7 +243,7 @@ order_in_turn_at place p (t ∷ turns) (suc i) d turn at is =
     order_in_turn_at (place + 2) p turns i d turn at (omega (arith, is))
 
 -- so the order is the calls in turn
-pub one_order : (client : Client) (turns : List Turn) (base : List ℕ) (told : List Told) (order : List Entry)
+pub one_order : (client : Client) (turns : List Turn) (base : List Value) (told : List Told) (order : List Entry)
     → Explains base told (events_in_turn client turns) order → order ≡ order_in_turn 0 turns
 one_order client turns base told order explains =
     let d : Entry = record { place = 0; reply = Empty } in
@@ -275,7 +275,7 @@ later_begin client turn turns events place begin q =
     let there : place + 2 + q ≡ place + suc (suc q) = omega arith in ap (call_at events) there ∙ begin (suc (suc q))
 
 -- what such an order leaves, the plain queue leaves
-left_from_order : (client : Client) (turns : List Turn) (events : List Event) (base : List ℕ) (place : ℕ)
+left_from_order : (client : Client) (turns : List Turn) (events : List Event) (base : List Value) (place : ℕ)
     → BeginTurns client turns events place
     → queue_after events base (order_in_turn place turns) ≡ queue_in_turn base turns
 left_from_order client [] events base place begin = refl
@@ -285,7 +285,7 @@ left_from_order client (t ∷ turns) events base place begin =
     ∙ left_from_order client turns events (served base t.call) (place + 2)
     (later_begin client t turns events place begin)
 
-pub left_is : (client : Client) (turns : List Turn) (base : List ℕ) (told : List Told) (order : List Entry)
+pub left_is : (client : Client) (turns : List Turn) (base : List Value) (told : List Told) (order : List Entry)
     → Explains base told (events_in_turn client turns) order
     → queue_after (events_in_turn client turns) base order ≡ queue_in_turn base turns
 left_is client turns base told order explains =
@@ -293,7 +293,7 @@ left_is client turns base told order explains =
     ∙ left_from_order client turns (events_in_turn client turns) base 0 (turns_begin client turns)
 
 -- what runs in such an order, the plain queue serves
-served_from_runs : (client : Client) (turns : List Turn) (events : List Event) (base : List ℕ) (place : ℕ)
+served_from_runs : (client : Client) (turns : List Turn) (events : List Event) (base : List Value) (place : ℕ)
     → BeginTurns client turns events place → Runs events base (order_in_turn place turns) → AreServed base turns
 served_from_runs client [] events base place begin runs = tt
 served_from_runs client (t ∷ turns) events base place begin runs =
@@ -302,11 +302,11 @@ served_from_runs client (t ∷ turns) events base place begin runs =
       runs.0.reply ∙ ap (reply_of base) is,
       served_from_runs client turns events (served base t.call) (place + 2)
           (later_begin client t turns events place begin)
-          (subst (λ (queue : List ℕ). Runs events queue (order_in_turn (place + 2) turns))
+          (subst (λ (queue : List Value). Runs events queue (order_in_turn (place + 2) turns))
           (ap (queue_after_call base) names) runs.1),
     )
 
-pub served_in_turn : (client : Client) (turns : List Turn) (base : List ℕ) (told : List Told) (order : List Entry)
+pub served_in_turn : (client : Client) (turns : List Turn) (base : List Value) (told : List Told) (order : List Entry)
     → Explains base told (events_in_turn client turns) order → AreServed base turns
 served_in_turn client turns base told order explains =
     let is : order ≡ order_in_turn 0 turns = one_order client turns base told order explains in

@@ -1,5 +1,6 @@
 -- The queue by its front: what is left of the base, and what the entries from the front on put into it.
 use Rattle.std.specs.Prelude.{ℕ, ◌≡◌, ◌≤◌, List, ◌++◌, Option, Some, None, length, take, drop}
+use Rattle.words.specs.PlainQueue.{Value}
 use Rattle.words.specs.declared.call.Reply.{Reply}
 use Rattle.words.specs.declared.call.Reply.TheVariants.{Got, Empty}
 use Rattle.events.specs.declared.event.Event.{Event}
@@ -8,20 +9,20 @@ use Rattle.history.specs.Counting.{values_of_order}
 use Rattle.events.specs.Replay.{queue_after}
 
 -- the values that the entries from one place up to another put into the queue
-abbrev pub values_between : List Event → List Entry → ℕ → ℕ → List ℕ
+abbrev pub values_between : List Event → List Entry → ℕ → ℕ → List Value
 values_between events order from to = values_of_order events (drop from (take to order))
 
 -- what the queue holds before the entry at `to`
-abbrev pub queue_from : List Event → List ℕ → List Entry → ℕ → ℕ → ℕ → List ℕ
+abbrev pub queue_from : List Event → List Value → List Entry → ℕ → ℕ → ℕ → List Value
 queue_from events base order taken from to = drop taken base ++ values_between events order from to
 
 -- what a dequeue answers whose queue has this front
-abbrev pub reply_of_front : Option ℕ → Reply
+abbrev pub reply_of_front : Option Value → Reply
 reply_of_front None = Empty
 reply_of_front (Some value) = Got value
 
 -- before the entry at i the queue is what is held from this front on
-pub record IsFront (events : List Event) (base : List ℕ) (order : List Entry) (taken from i : ℕ) : Type 0 where
+pub record IsFront (events : List Event) (base : List Value) (order : List Entry) (taken from i : ℕ) : Type 0 where
   pub few : taken ≤ length base
   pub below : from ≤ i
   pub queue : queue_after events base (take i order) ≡ queue_from events base order taken from i

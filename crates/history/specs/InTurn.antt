@@ -1,6 +1,6 @@
 -- A client's calls that run to their ends one after another.
 use Rattle.std.specs.Prelude.{ℕ, ◌≡◌, ◌+◌, ⊤, List, [], ◌∷◌, fold}
-use Rattle.words.specs.PlainQueue.{reply_of, served}
+use Rattle.words.specs.PlainQueue.{Value, reply_of, served}
 use Rattle.words.specs.declared.call.Call.{Call}
 use Rattle.words.specs.declared.call.Client.{Client}
 use Rattle.words.specs.declared.call.Reply.{Reply}
@@ -21,7 +21,7 @@ events_in_turn client (turn ∷ turns) =
     call_event client turn.number turn.call ∷ return_event client turn.reply ∷ events_in_turn client turns
 
 -- each reply is the plain queue's
-abbrev pub AreServed : List ℕ → List Turn → Type 0
+abbrev pub AreServed : List Value → List Turn → Type 0
 AreServed queue [] = ⊤
 AreServed queue (turn ∷ turns) = (turn.reply ≡ reply_of queue turn.call) × AreServed (served queue turn.call) turns
 
@@ -32,5 +32,5 @@ order_in_turn place (turn ∷ turns) =
     record { place = place; reply = turn.reply } ∷ order_in_turn (place + 2) turns
 
 -- what the plain queue holds after them
-abbrev pub queue_in_turn : List ℕ → List Turn → List ℕ
+abbrev pub queue_in_turn : List Value → List Turn → List Value
 queue_in_turn base turns = fold (λ queue turn. served queue turn.call) base turns

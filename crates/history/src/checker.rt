@@ -18,7 +18,7 @@ use crate::preceding::precedence_is_kept;
 use crate::replaying::replay;
 use events::{Entry, Events, History, Order};
 use std::alloc::Global;
-use words::{Kind, Refusal, Reports};
+use words::{Kind, Refusal, Reports, Value};
 
 /// Whether what clients are told agrees with the order. That of interrupted calls follows from the rest: such a call is
 /// its client's last one begun before the next Ready.
@@ -36,7 +36,7 @@ fn tells(told: &Reports, events: &Events, entries: &[Entry]) -> bool
 }
 
 /// Whether the order explains the history, which may arise.
-fn explains(base: &[u32], told: &Reports, events: &Events, entries: &[Entry]) -> bool
+fn explains(base: &[Value], told: &Reports, events: &Events, entries: &[Entry]) -> bool
     requires { IsHistory events.now.items }
     ensures { IsTrue result ↔ Explains base.now told.now events.now.items entries.now }
 {
@@ -78,7 +78,7 @@ pub fn check_content(
     alloc: Global,
     history: &History,
     order: &Order,
-    content: &[u32],
+    content: &[Value],
 ) -> Result<bool, Refusal>
     ensures right { IfOk result (λ right. IsTrue right ↔ (IsExplained history.now order.now
         × (content.now ≡ queue_after history.now.events.items history.now.base.items order.now.entries.items))) }

@@ -7,7 +7,7 @@ ghost use Rattle.events.specs.Replay.{queue_after, IsRightAt, Replays};
 
 use crate::replaying::named_call;
 use events::{Entry, Events};
-use words::{Call, Reply};
+use words::{Call, Reply, Value};
 
 /// Where the front of the queue stands: after so many values of the base, and of the entries from one on.
 #[derive(Clone, Copy)]
@@ -17,7 +17,7 @@ struct Fronts {
 }
 
 /// Takes the first value that the entries from `front` on, before `to`, put into the queue.
-fn take_put(events: &Events, entries: &[Entry], front: &mut usize, to: usize) -> Option<u32>
+fn take_put(events: &Events, entries: &[Entry], front: &mut usize, to: usize) -> Option<Value>
     requires below { front.old ≤ to }
     requires within { to ≤ length entries.now }
     ensures below { front.new ≤ to }
@@ -39,11 +39,11 @@ fn take_put(events: &Events, entries: &[Entry], front: &mut usize, to: usize) ->
 /// Takes the first value of the queue.
 fn take_front(
     events: &Events,
-    base: &[u32],
+    base: &[Value],
     entries: &[Entry],
     fronts: &mut Fronts,
     to: usize,
-) -> Option<u32>
+) -> Option<Value>
     requires base { fronts.old.base ≤ length base.now }
     requires entry { fronts.old.entry ≤ to }
     requires within { to ≤ length entries.now }
@@ -63,7 +63,7 @@ fn take_front(
 }
 
 /// What a dequeue answers whose queue has this front.
-fn reply_with(front: Option<u32>) -> Reply
+fn reply_with(front: Option<Value>) -> Reply
     ensures { result ≡ reply_of_front front }
 {
     match front {
@@ -75,7 +75,7 @@ fn reply_with(front: Option<u32>) -> Reply
 /// Whether the entry at `i` names a call and has the plain queue's reply to it; the front moves on past the call.
 fn is_right_next(
     events: &Events,
-    base: &[u32],
+    base: &[Value],
     entries: &[Entry],
     fronts: &mut Fronts,
     i: usize,
@@ -96,7 +96,7 @@ fn is_right_next(
 }
 
 /// Whether the replay gives every reply.
-pub(crate) fn replay_is_right(events: &Events, base: &[u32], entries: &[Entry]) -> bool
+pub(crate) fn replay_is_right(events: &Events, base: &[Value], entries: &[Entry]) -> bool
     ensures { IsTrue result ↔ Replays events.now.items base.now entries.now }
 {
     let mut fronts = Fronts { base: 0, entry: 0 };

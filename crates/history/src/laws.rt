@@ -1,6 +1,7 @@
 //! What holds of every history.
 
-ghost use Rattle.std.specs.Prelude.{◌≡◌, ℕ, List};
+ghost use Rattle.std.specs.Prelude.{◌≡◌, List};
+ghost use Rattle.words.specs.PlainQueue.{Value};
 ghost use Rattle.words.specs.declared.call.Client.{Client};
 ghost use Rattle.words.specs.declared.told.Told.{Told};
 ghost use Rattle.events.specs.Explains.{Explains};
@@ -11,15 +12,15 @@ ghost use Rattle.events.specs.declared.event.Entry.{Entry};
 /// Whatever order explains them, a client's calls that run to their ends one after another are answered by the plain
 /// queue.
 pub fn calls_in_turn_are_served()
-    ensures { (client : Client) (turns : List Turn) (base : List ℕ) (told : List Told) (order : List Entry)
+    ensures { (client : Client) (turns : List Turn) (base : List Value) (told : List Told) (order : List Entry)
         → Explains base told (events_in_turn client turns) order → AreServed base turns }
 {}
 
 /// Only the order in which they were made explains such calls, and it leaves what the plain queue leaves.
 pub fn calls_in_turn_have_one_order()
-    ensures order { (client : Client) (turns : List Turn) (base : List ℕ) (told : List Told) (order : List Entry)
+    ensures order { (client : Client) (turns : List Turn) (base : List Value) (told : List Told) (order : List Entry)
         → Explains base told (events_in_turn client turns) order → order ≡ order_in_turn 0 turns }
-    ensures left { (client : Client) (turns : List Turn) (base : List ℕ) (told : List Told) (order : List Entry)
+    ensures left { (client : Client) (turns : List Turn) (base : List Value) (told : List Told) (order : List Entry)
         → Explains base told (events_in_turn client turns) order
         → queue_after (events_in_turn client turns) base order ≡ queue_in_turn base turns }
 {}

@@ -9,10 +9,10 @@ use crate::places::{is_durable, is_history};
 use crate::replaying::replays;
 use crate::telling::{tells_at_each_ready, tells_interrupted};
 use events::{Entry, Events, History, Order};
-use words::{Kind, Reports};
+use words::{Kind, Reports, Value};
 
 /// Whether the order explains the history.
-fn explains(base: &[u32], told: &Reports, events: &Events, entries: &[Entry]) -> bool
+fn explains(base: &[Value], told: &Reports, events: &Events, entries: &[Entry]) -> bool
     ensures { IsTrue result ↔ Explains base.now told.now events.now.items entries.now }
 {
     if !is_order(events, entries) {

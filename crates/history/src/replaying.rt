@@ -8,7 +8,7 @@ ghost use Rattle.events.specs.Replay.{call_at, queue_after_call, queue_after, Is
 
 use events::{Entry, Event, Events, History, Order};
 use std::alloc::{AllocError, Global};
-use words::{Call, Refusal, Reply};
+use words::{Call, Refusal, Reply, Value};
 
 /// The call that begins at `p`, if one does.
 pub(crate) fn named_call(events: &Events, p: usize) -> Option<Call>
@@ -21,7 +21,7 @@ pub(crate) fn named_call(events: &Events, p: usize) -> Option<Call>
 }
 
 /// What the queue answers to the call.
-fn answer(queue: &mut Vec<u32>, call: Call) -> Result<Reply, AllocError>
+fn answer(queue: &mut Vec<Value>, call: Call) -> Result<Reply, AllocError>
     ensures left { IfOk result (λ reply. queue.new.items ≡ served queue.old.items call) }
     ensures reply { IfOk result (λ reply. reply ≡ reply_of queue.old.items call) }
 {
@@ -41,7 +41,7 @@ fn answer(queue: &mut Vec<u32>, call: Call) -> Result<Reply, AllocError>
 }
 
 /// Serves the call of the entry, and says whether the entry names one and has the queue's reply.
-fn is_served(queue: &mut Vec<u32>, events: &Events, entry: &Entry) -> Result<bool, AllocError>
+fn is_served(queue: &mut Vec<Value>, events: &Events, entry: &Entry) -> Result<bool, AllocError>
     ensures served { IfOk result (λ yes. IsTrue yes ↔ IsServed events.now.items queue.old.items entry.now) }
     ensures left { IfOk result (λ yes. IsTrue yes → queue.new.items ≡
         queue_after_call queue.old.items (call_at events.now.items entry.now.place)) }
@@ -57,9 +57,9 @@ fn is_served(queue: &mut Vec<u32>, events: &Events, entry: &Entry) -> Result<boo
 fn replay_from(
     alloc: Global,
     events: &Events,
-    base: &[u32],
+    base: &[Value],
     entries: &[Entry],
-) -> Result<Result<Vec<u32>, usize>, AllocError>
+) -> Result<Result<Vec<Value>, usize>, AllocError>
     ensures { IfOk result (λ answer. MatchResult answer
         (λ left. Replays events.now.items base.now entries.now
         × (left.items ≡ queue_after events.now.items base.now entries.now))
@@ -80,7 +80,7 @@ pub fn replay(
     alloc: Global,
     history: &History,
     order: &Order,
-) -> Result<Result<Vec<u32>, usize>, Refusal>
+) -> Result<Result<Vec<Value>, usize>, Refusal>
     ensures replay { IfOk result (λ answer. MatchResult answer
         (λ left. Replays history.now.events.items history.now.base.items order.now.entries.items
         × (left.items ≡ queue_after history.now.events.items history.now.base.items order.now.entries.items))
@@ -110,7 +110,7 @@ pub(crate) fn count_of_reply(reply: Reply) -> usize
 }
 
 /// The n-th of the values that were ever in the queue.
-fn value_at(events: &Events, base: &[u32], before: &[Entry], n: usize) -> Option<u32>
+fn value_at(events: &Events, base: &[Value], before: &[Entry], n: usize) -> Option<Value>
     ensures { result ≡ slice_get (base.now ++ values_of_order events.now.items before.now) n }
 {
     if n < base.len() {
@@ -129,7 +129,7 @@ fn value_at(events: &Events, base: &[u32], before: &[Entry], n: usize) -> Option
 }
 
 /// The queue's reply to a call, where `taken` values were taken out before.
-fn reply_after(events: &Events, base: &[u32], before: &[Entry], taken: usize, call: Call) -> Reply
+fn reply_after(events: &Events, base: &[Value], before: &[Entry], taken: usize, call: Call) -> Reply
     requires { queue_after events.now.items base.now before.now ≡
         drop taken (base.now ++ values_of_order events.now.items before.now) }
     ensures { result ≡ reply_of (queue_after events.now.items base.now before.now) call }
@@ -146,7 +146,7 @@ fn reply_after(events: &Events, base: &[u32], before: &[Entry], taken: usize, ca
 /// Whether the entry has the queue's reply, where `taken` values were taken out before.
 fn is_served_after(
     events: &Events,
-    base: &[u32],
+    base: &[Value],
     before: &[Entry],
     taken: usize,
     entry: &Entry,
@@ -163,7 +163,7 @@ fn is_served_after(
 
 /// Whether the replay gives every reply. It takes no memory: what the queue holds is what was ever put into it,
 /// without as many values as were taken out.
-pub(crate) fn replays(events: &Events, base: &[u32], entries: &[Entry]) -> bool
+pub(crate) fn replays(events: &Events, base: &[Value], entries: &[Entry]) -> bool
     ensures { IsTrue result ↔ Replays events.now.items base.now entries.now }
 {
     let mut taken = 0;

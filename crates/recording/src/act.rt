@@ -1,5 +1,8 @@
 //! What was recorded, one thing after another.
 
+use findings::ranked;
+use words::Value;
+
 /// What a call was answered.
 #[derive(Clone, Copy, Debug, PartialEq, Eq)]
 pub enum Said {
@@ -57,8 +60,8 @@ pub struct Recording {
 }
 
 impl Recording {
-    /// The number of a value among those that are put.
-    pub(crate) fn rank(&self, value: usize) -> u32 {
-        self.ranks.get(value).copied().unwrap_or(u32::MAX)
+    /// The message that stands for a value: its number among those that are put.
+    pub(crate) fn message(&self, value: usize) -> Value {
+        ranked(self.ranks.get(value).copied().unwrap_or(u32::MAX))
     }
 }

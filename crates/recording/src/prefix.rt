@@ -39,7 +39,7 @@ fn refused(alloc: Global, recording: &Recording, count: usize) -> Result<Vec<boo
 fn reply_of(recording: &Recording, said: Said) -> Reply {
     match said {
         Said::Done => Reply::Done,
-        Said::Got(value) => Reply::Got(recording.rank(value)),
+        Said::Got(value) => Reply::Got(recording.message(value)),
         Said::Empty => Reply::Empty,
     }
 }
@@ -52,7 +52,7 @@ fn call_of(recording: &Recording, call: usize) -> Call {
         .copied()
         .and_then(|call| call.puts)
     {
-        Some(value) => Call::Enq(recording.rank(value)),
+        Some(value) => Call::Enq(recording.message(value)),
         None => Call::Deq,
     }
 }

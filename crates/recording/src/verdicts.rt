@@ -5,11 +5,11 @@ use crate::answering::Answer;
 use crate::prefix::Prefix;
 use crate::wording::shown;
 use events::Entry;
-use findings::{Lack, Piece, Since, Witness};
+use findings::{Lack, Piece, Since, Witness, rank_of};
 use seeking::Known;
 use std::alloc::{AllocError, Global};
 use std::fmt::Write;
-use words::Reply;
+use words::{Reply, Value};
 
 /// Text that is put together about the first steps of a recording.
 #[derive(Drop)]
@@ -240,10 +240,10 @@ impl<'a> Pen<'a> {
             .unwrap_or(usize::MAX)
     }
 
-    /// The value that is put as the one of this number.
-    fn value_of(&self, rank: u32) -> usize {
+    /// The value that the message stands for.
+    fn value_of(&self, message: Value) -> usize {
         self.values
-            .get(rank as usize)
+            .get(rank_of(message) as usize)
             .copied()
             .unwrap_or(usize::MAX)
     }
@@ -409,8 +409,8 @@ impl<'a> Pen<'a> {
     }
 
     /// A value that nobody can have put.
-    fn invented(&mut self, take: usize, rank: u32) -> Result<(), AllocError> {
-        let value = self.value_of(rank);
+    fn invented(&mut self, take: usize, message: Value) -> Result<(), AllocError> {
+        let value = self.value_of(message);
         self.value(value)?;
         self.say(" came out and was not put\n  ")?;
         self.take_at(take)?;
@@ -444,8 +444,8 @@ impl<'a> Pen<'a> {
         None
     }
 
-    fn twice(&mut self, first: usize, second: usize, rank: u32) -> Result<(), AllocError> {
-        let value = self.value_of(rank);
+    fn twice(&mut self, first: usize, second: usize, message: Value) -> Result<(), AllocError> {
+        let value = self.value_of(message);
         self.value(value)?;
         self.say(" came out twice\n  ")?;
         self.take_at(first)?;
@@ -504,7 +504,7 @@ impl<'a> Pen<'a> {
         }
         match entry.reply {
             Reply::Done => self.value(of.and_then(|of| of.puts).unwrap_or(usize::MAX))?,
-            Reply::Got(rank) => self.value(self.value_of(rank))?,
+            Reply::Got(message) => self.value(self.value_of(message))?,
             Reply::Empty => {}
         }
         self.say("\n")

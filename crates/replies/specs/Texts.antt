@@ -2,6 +2,7 @@
 use Rattle.std.specs.Prelude.{ℕ, List, [], ◌∷◌, ◌++◌, codes, decimal}
 use Rattle.std.specs.List.{filter_map, join_with_byte}
 use Rattle.std.specs.Option.{option_map}
+use Rattle.words.specs.PlainQueue.{Value}
 use Rattle.words.specs.Refusal.{code_of, name_of}
 use Rattle.words.specs.declared.call.Reply.{Reply}
 use Rattle.words.specs.declared.call.Reply.TheVariants as reply
@@ -23,9 +24,13 @@ abbrev pub refusal_text : Refusal → List ℕ
 refusal_text refusal =
     codes "{\"error\":" ++ decimal (code_of refusal) ++ codes ",\"name\":\"" ++ name_of refusal ++ codes "\"}"
 
+-- a message, as a number
+abbrev pub value_text : Value → List ℕ
+value_text value = decimal value
+
 abbrev pub reply_text : Reply → List ℕ
 reply_text reply.Done = codes "{\"reply\":\"done\"}"
-reply_text (reply.Got value) = codes "{\"got\":" ++ decimal value ++ codes ",\"reply\":\"got\"}"
+reply_text (reply.Got value) = codes "{\"got\":" ++ value_text value ++ codes ",\"reply\":\"got\"}"
 reply_text reply.Empty = codes "{\"reply\":\"empty\"}"
 
 -- the call of this number took effect, with this reply
@@ -33,7 +38,7 @@ abbrev pub taken_text : ℕ → Reply → List ℕ
 taken_text number reply.Done =
     codes "{\"number\":" ++ decimal number ++ codes ",\"reply\":\"done\",\"told\":\"taken\"}"
 taken_text number (reply.Got value) =
-    codes "{\"got\":" ++ decimal value ++ codes ",\"number\":" ++ decimal number
+    codes "{\"got\":" ++ value_text value ++ codes ",\"number\":" ++ decimal number
     ++ codes ",\"reply\":\"got\",\"told\":\"taken\"}"
 taken_text number reply.Empty =
     codes "{\"number\":" ++ decimal number ++ codes ",\"reply\":\"empty\",\"told\":\"taken\"}"
@@ -46,7 +51,7 @@ abbrev pub row_text : Row → List ℕ
 row_text row.NoCall = codes "{\"row\":\"nocall\"}"
 row_text row.Open = codes "{\"row\":\"open\"}"
 row_text row.Empty = codes "{\"row\":\"empty\"}"
-row_text (row.Got value) = codes "{\"got\":" ++ decimal value ++ codes ",\"row\":\"got\"}"
+row_text (row.Got value) = codes "{\"got\":" ++ value_text value ++ codes ",\"row\":\"got\"}"
 
 abbrev pub told_text : Told → List ℕ
 told_text told.None = codes "{\"told\":\"none\"}"

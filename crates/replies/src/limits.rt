@@ -8,3 +8,6 @@ pub(crate) const MAX_SHORT: usize = 128;
 
 /// The most digits of a number.
 pub(crate) const MAX_DIGITS: usize = 20;
+
+/// The most bytes of a message's text.
+pub(crate) const MAX_VALUE_BYTES: usize = 20;

@@ -1,13 +1,33 @@
 //! The texts of replies, and of what clients are told.
 
-ghost use Rattle.std.specs.Prelude.{◌≡◌, ◌≤◌, ◌+◌, ◌++◌};
+ghost use Rattle.std.specs.Prelude.{◌≡◌, ◌≤◌, ◌+◌, ◌++◌, length, codes};
 ghost use Rattle.arrayvec.specs.ArrayVec.{array_vec_len};
-ghost use Rattle.replies.specs.Texts.{reply_text, taken_text, outcome_text, row_text, told_text};
+ghost use Rattle.replies.specs.Texts.{value_text, reply_text, taken_text, outcome_text, row_text, told_text};
 
-use crate::limits::MAX_SHORT;
+use crate::limits::{MAX_SHORT, MAX_VALUE_BYTES};
 use crate::pieces::{put, put_around, put_number};
 use arrayvec::ArrayVec;
-use words::{Outcome, Reply, Row, Told};
+use words::{Outcome, Reply, Row, Told, Value};
+
+/// Puts a message.
+fn put_value<const N: usize>(out: &mut ArrayVec<u8, N>, value: Value)
+    requires { array_vec_len out.old + MAX_VALUE_BYTES ≤ N }
+    ensures text { out.new.items ≡ out.old.items ++ value_text value }
+    ensures short { array_vec_len out.new ≤ array_vec_len out.old + MAX_VALUE_BYTES }
+{
+    put_number(out, u64::from(value));
+}
+
+/// Puts a message that a call got behind the 7 bytes of its key, and what stands behind it.
+fn put_got<const N: usize>(out: &mut ArrayVec<u8, N>, value: Value, back: &[u8])
+    requires { array_vec_len out.old + 7 + MAX_VALUE_BYTES + length back.now ≤ N }
+    ensures text { out.new.items ≡ out.old.items ++ (codes "{\"got\":" ++ value_text value ++ back.now) }
+    ensures short { array_vec_len out.new ≤ array_vec_len out.old + 7 + MAX_VALUE_BYTES + length back.now }
+{
+    put(out, br#"{"got":"#);
+    put_value(out, value);
+    put(out, back);
+}
 
 pub(crate) fn put_reply<const N: usize>(out: &mut ArrayVec<u8, N>, reply: Reply)
     requires { array_vec_len out.old + MAX_SHORT ≤ N }
@@ -16,12 +36,7 @@ pub(crate) fn put_reply<const N: usize>(out: &mut ArrayVec<u8, N>, reply: Reply)
 {
     match reply {
         Reply::Done => put(out, br#"{"reply":"done"}"#),
-        Reply::Got(value) => put_around(
-            out,
-            br#"{"got":"#,
-            u64::from(value),
-            br#","reply":"got"}"#,
-        ),
+        Reply::Got(value) => put_got(out, value, br#","reply":"got"}"#),
         Reply::Empty => put(out, br#"{"reply":"empty"}"#),
     }
 }
@@ -62,7 +77,7 @@ fn put_taken<const N: usize>(out: &mut ArrayVec<u8, N>, number: u64, reply: Repl
             br#","reply":"done","told":"taken"}"#,
         ),
         Reply::Got(value) => {
-            put_around(out, br#"{"got":"#, u64::from(value), br#","number":"#);
+            put_got(out, value, br#","number":"#);
             put_number(out, number);
             put(out, br#","reply":"got","told":"taken"}"#);
         }
@@ -84,6 +99,6 @@ fn put_row<const N: usize>(out: &mut ArrayVec<u8, N>, row: Row)
         Row::NoCall => put(out, br#"{"row":"nocall"}"#),
         Row::Open => put(out, br#"{"row":"open"}"#),
         Row::Empty => put(out, br#"{"row":"empty"}"#),
-        Row::Got(value) => put_around(out, br#"{"got":"#, u64::from(value), br#","row":"got"}"#),
+        Row::Got(value) => put_got(out, value, br#","row":"got"}"#),
     }
 }

@@ -1,13 +1,18 @@
 -- The JSON object that asks each request.
 use Rattle.std.specs.Prelude.{◌≡◌, ◌≤◌, ◌<◌, ◌^◌, ℕ, List, codes, Some, None}
-use Rattle.serde_json.specs.Data.{unsigned, number, string, object, Members, no_members, member}
+use Rattle.serde_json.specs.Data.{Data, unsigned, number, string, object, Members, no_members, member}
 use Rattle.serde_json.specs.Written.{compact_text}
 use Rattle.words.specs.declared.call.Kind.{Kind}
-use Rattle.words.specs.declared.limits.TheConstants.{MAX_CALL_NUMBER, MAX_VALUE}
+use Rattle.words.specs.PlainQueue.{Value, FitsValue}
+use Rattle.words.specs.declared.limits.TheConstants.{MAX_CALL_NUMBER}
 use Rattle.wire.specs.declared.request.Request.{Request}
 use Rattle.wire.specs.declared.request.Request.TheVariants.{Create, List as ListAll, Put, Take, Told, Crash, Recover, Stop}
 use Rattle.wire.specs.Kinds.{kind_text}
 use Rattle.requests.specs.Rows.{name_in}
+
+-- a message is written as a number
+abbrev pub value_data : Value → Data
+value_data v = number (unsigned v)
 
 -- one member each, with those whose keys come behind it
 abbrev pub client : ℕ → Members → Members
@@ -25,8 +30,8 @@ op name rest = member (codes "op") (string name) rest
 abbrev pub queue : List ℕ → Members → Members
 queue text rest = member (codes "queue") (string text) rest
 
-abbrev pub value : ℕ → Members → Members
-value n rest = member (codes "value") (number (unsigned n)) rest
+abbrev pub value : Value → Members → Members
+value v rest = member (codes "value") (value_data v) rest
 
 -- the members of the object that asks a request, where this is the text at `queue`
 abbrev pub members_asking : List ℕ → Request → Members
@@ -49,9 +54,9 @@ line_asking text request = compact_text (object (members_asking text request))
 abbrev pub MayAsk : List ℕ → Request → Type 0
 MayAsk text (Create q k) = name_in text ≡ q
 MayAsk text ListAll = Unit {0}
-MayAsk text (Put c q v None) = (name_in text ≡ q) × (c < 2 ^ 64) × (v ≤ MAX_VALUE)
+MayAsk text (Put c q v None) = (name_in text ≡ q) × (c < 2 ^ 64) × FitsValue v
 MayAsk text (Put c q v (Some n)) =
-    (name_in text ≡ q) × (c < 2 ^ 64) × (v ≤ MAX_VALUE) × (1 ≤ n) × (n ≤ MAX_CALL_NUMBER)
+    (name_in text ≡ q) × (c < 2 ^ 64) × FitsValue v × (1 ≤ n) × (n ≤ MAX_CALL_NUMBER)
 MayAsk text (Take c q None) = (name_in text ≡ q) × (c < 2 ^ 64)
 MayAsk text (Take c q (Some n)) = (name_in text ≡ q) × (c < 2 ^ 64) × (1 ≤ n) × (n ≤ MAX_CALL_NUMBER)
 MayAsk text (Told c q) = (name_in text ≡ q) × (c < 2 ^ 64)

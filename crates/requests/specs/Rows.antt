@@ -5,7 +5,8 @@ use Rattle.serde_json.specs.Data.{Data}
 use Rattle.serde_json.specs.Find.{get}
 use Rattle.words.specs.declared.call.Kind.{Kind}
 use Rattle.words.specs.declared.call.Kind.TheVariants.{Durable, Log}
-use Rattle.words.specs.declared.limits.TheConstants.{MAX_CALL_NUMBER, MAX_VALUE}
+use Rattle.words.specs.PlainQueue.{Value, fits_value}
+use Rattle.words.specs.declared.limits.TheConstants.{MAX_CALL_NUMBER}
 use Rattle.directory.specs.Name.{is_name}
 use Rattle.wire.specs.declared.request.Request.{Request}
 use Rattle.wire.specs.declared.request.Request.TheVariants.{Create, List as ListAll, Put, Take, Told, Crash, Recover, Stop}
@@ -24,6 +25,10 @@ within least most n = if nat_le least n && nat_le n most then Some n else None
 abbrev pub name_in : List ℕ → Option (List ℕ)
 name_in text = if is_name text then Some text else None
 
+-- the message that a number is, if it is one
+abbrev pub value_in : ℕ → Option Value
+value_in n = if fits_value n then Some n else None
+
 abbrev pub kind_in : List ℕ → Option Kind
 kind_in text =
     if bytes_eq text (codes "durable") then Some Durable
@@ -33,8 +38,8 @@ kind_in text =
 abbrev pub client_at : Data → Option ℕ
 client_at json = whole_at (codes "client") json
 
-unfoldable pub value_at : Data → Option ℕ
-value_at json = option_and_then (within 0 MAX_VALUE) (whole_at (codes "value") json)
+unfoldable pub value_at : Data → Option Value
+value_at json = option_and_then value_in (whole_at (codes "value") json)
 
 unfoldable pub number_at : Data → Option ℕ
 number_at json = option_and_then (within 1 MAX_CALL_NUMBER) (whole_at (codes "number") json)

@@ -2,7 +2,9 @@
 
 ghost use Rattle.std.specs.Prelude.{◌≡◌, Option};
 ghost use Rattle.serde_json.specs.View.{view as data_of};
-ghost use Rattle.requests.specs.Rows.{name_in, kind_in, client_at, value_at, number_at, queue_at, kind_at, is_numbered, create_in, put_in, numbered_put_in, take_in, numbered_take_in, told_in, alone, request_in};
+ghost use Rattle.requests.specs.Rows.{name_in, value_in, kind_in, client_at, value_at, number_at, queue_at, kind_at};
+ghost use Rattle.requests.specs.Rows.{is_numbered, create_in, put_in, numbered_put_in, take_in, numbered_take_in};
+ghost use Rattle.requests.specs.Rows.{told_in, alone, request_in};
 
 use crate::members::{has_key, has_keys, text, whole};
 use directory::Name;
@@ -28,6 +30,16 @@ fn kind(text: &str) -> Option<Kind>
     }
 }
 
+/// The message that a number is, if it is one.
+fn message(number: u64) -> Option<words::Value>
+    ensures { result ≡ value_in number }
+{
+    if number > MAX_VALUE as u64 {
+        return None;
+    }
+    Some(number as u32)
+}
+
 /// Any number below 2^64: which of them have a client is known later.
 fn client_at(value: &Value) -> Option<u64>
     ensures { result ≡ client_at (data_of value.now) }
@@ -35,16 +47,12 @@ fn client_at(value: &Value) -> Option<u64>
     whole(value, "client")
 }
 
-/// A value that an item can have.
+/// The message that stands at `value`.
 #[tactic(auto, unfolding(crate::specs::Rows::value_at))]
-fn value_at(value: &Value) -> Option<u32>
+fn value_at(value: &Value) -> Option<words::Value>
     ensures { result ≡ value_at (data_of value.now) }
 {
-    let item = whole(value, "value")?;
-    if item > MAX_VALUE as u64 {
-        return None;
-    }
-    Some(item as u32)
+    message(whole(value, "value")?)
 }
 
 /// A number that a call can have.

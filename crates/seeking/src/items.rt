@@ -2,9 +2,9 @@
 
 use crate::calls::{Known, KnownCall, NEVER};
 use crate::ranks::{at, copies, count_below, keys, set};
-use findings::{Ahead, Lack, Witness};
+use findings::{Ahead, Lack, Witness, rank_of};
 use std::alloc::{AllocError, Global};
-use words::{Call, Reply};
+use words::{Call, Reply, Value};
 
 /// From one place to another.
 #[derive(Clone, Copy, Debug)]
@@ -16,7 +16,7 @@ pub(crate) struct Span {
 /// A value that certainly was put: its put, and its take if it is known to have come out, or given one.
 #[derive(Clone, Copy, Debug)]
 pub(crate) struct Item {
-    pub value: u32,
+    pub value: Value,
     pub put: Span,
     pub take: Option<Span>,
     /// It is known to have come out.
@@ -70,12 +70,17 @@ pub(crate) enum Paired {
     Bad(Witness),
 }
 
-/// One more than the greatest value that is put.
+/// The place of a value in a table by values: its number.
+fn place_of(value: Value) -> usize {
+    rank_of(value) as usize
+}
+
+/// One more than the greatest number of a value that is put.
 fn value_count(calls: &[KnownCall]) -> usize {
     let mut count = 0usize;
     for call in calls {
         if let Call::Enq(value) = call.call {
-            count = count.max((value as usize).saturating_add(1));
+            count = count.max(place_of(value).saturating_add(1));
         }
     }
     count
@@ -86,7 +91,7 @@ fn puts_by_value(alloc: Global, calls: &[KnownCall]) -> Result<Vec<usize>, Alloc
     let mut puts = copies(alloc, 0, value_count(calls))?;
     for (number, call) in calls.iter().enumerate() {
         if let Call::Enq(value) = call.call {
-            set(&mut puts, value as usize, number.wrapping_add(1));
+            set(&mut puts, place_of(value), number.wrapping_add(1));
         }
     }
     Ok(puts)
@@ -96,10 +101,10 @@ fn puts_by_value(alloc: Global, calls: &[KnownCall]) -> Result<Vec<usize>, Alloc
 fn source<'a>(
     calls: &'a [KnownCall],
     puts: &[usize],
-    value: u32,
+    value: Value,
     take: &KnownCall,
 ) -> Option<&'a KnownCall> {
-    let number = at(puts, value as usize);
+    let number = at(puts, place_of(value));
     if number == 0 {
         return None;
     }
@@ -127,7 +132,7 @@ fn takes_by_value(
                 value,
             }));
         }
-        let before = at(&takes, value as usize);
+        let before = at(&takes, place_of(value));
         if let Some(first) = calls.get(before.wrapping_sub(1)) {
             return Ok(Err(Witness::Twice {
                 first: first.begin,
@@ -135,14 +140,14 @@ fn takes_by_value(
                 value,
             }));
         }
-        set(&mut takes, value as usize, number.wrapping_add(1));
+        set(&mut takes, place_of(value), number.wrapping_add(1));
     }
     Ok(Ok(takes))
 }
 
 /// The item of a put, if its value certainly was put.
-fn item_of(calls: &[KnownCall], takes: &[usize], put: &KnownCall, value: u32) -> Option<Item> {
-    let number = at(takes, value as usize);
+fn item_of(calls: &[KnownCall], takes: &[usize], put: &KnownCall, value: Value) -> Option<Item> {
+    let number = at(takes, place_of(value));
     let take = calls.get(number.wrapping_sub(1));
     if take.is_none() && put.known != Known::Taken(Reply::Done) {
         return None;

@@ -9,7 +9,7 @@ use std::test::Fail;
 use test_support::are_explained;
 use test_support::brokers::{create, finish, not_taken, recover, restart, taken};
 use test_support::steps::{GATE_ASKED, LOG_CLAIM_ASKED, LOG_CLAIM_KEPT};
-use words::{Call, Kind, Refusal, Reply, Row, Told};
+use words::{Call, Kind, Refusal, Reply, Row, Told, Value};
 
 /// A durable queue in slot 0 through which three values went, and a log queue in slot 1 whose dequeue stopped after so
 /// many steps; then everything stops.
@@ -32,7 +32,7 @@ fn stopped(alloc: Global, steps: u32) -> Result<Broker, Refusal> {
 /// Whether the durable queue is told of its last value, and the log queue of its dequeue, which took effect where its
 /// claim was kept.
 fn tells(alloc: Global, broker: &Broker, steps: u32) -> Result<bool, Refusal> {
-    let (verdict, left): (_, &[u32]) = if steps >= LOG_CLAIM_KEPT {
+    let (verdict, left): (_, &[Value]) = if steps >= LOG_CLAIM_KEPT {
         (taken(2, Reply::Got(9)), &[])
     } else {
         (not_taken(2), &[9])

@@ -4,7 +4,7 @@ use history::{Entry, Event, History, Order, Sequence, check, check_plainly, repl
 use std::alloc::{AllocError, Global};
 use std::test::Fail;
 use test_support::events_of;
-use words::{Call, Client, Outcome, Reply, Row, Told, Verdict};
+use words::{Call, Client, Outcome, Reply, Row, Told, Value, Verdict};
 
 const NONE: [Told; 16] = [Told::None; 16];
 
@@ -16,7 +16,7 @@ fn call(client: u8, number: u64, call: Call) -> Event {
     }
 }
 
-fn enq(client: u8, value: u32) -> Event {
+fn enq(client: u8, value: Value) -> Event {
     call(client, 0, Call::Enq(value))
 }
 
@@ -47,7 +47,7 @@ fn at(place: usize, reply: Reply) -> Entry {
 
 fn history(
     alloc: Global,
-    base: &[u32],
+    base: &[Value],
     first: Told,
     events: &[Event],
 ) -> Result<History, AllocError> {
@@ -70,7 +70,7 @@ fn order(alloc: Global, entries: &[Entry]) -> Result<Order, AllocError> {
 /// tells client 0 this.
 fn judge(
     alloc: Global,
-    (base, first): (&[u32], Told),
+    (base, first): (&[Value], Told),
     events: &[Event],
     right: &[&[Entry]],
     wrong: &[&[Entry]],
@@ -91,7 +91,7 @@ fn judge(
 /// The same, where the base tells nothing.
 fn says(
     alloc: Global,
-    base: &[u32],
+    base: &[Value],
     events: &[Event],
     right: &[&[Entry]],
     wrong: &[&[Entry]],

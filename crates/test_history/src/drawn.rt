@@ -6,7 +6,7 @@ use rand_pcg::Pcg32;
 use std::alloc::{AllocError, Global};
 use std::test::Fail;
 use test_support::{events_of, index_below};
-use words::{Call, Client, Kind, Outcome, Reply, Row, Told, Verdict};
+use words::{Call, Client, Kind, Outcome, Reply, Row, Told, Value, Verdict};
 
 /// A call under way, and its reply once it took effect.
 #[derive(Clone, Copy)]
@@ -24,7 +24,7 @@ struct Scene {
     kind: Kind,
     events: Vec<Event>,
     entries: Vec<Entry>,
-    queue: Vec<u32>,
+    queue: Vec<Value>,
     under_way: Vec<UnderWay>,
     told: [Told; 16],
     down: bool,

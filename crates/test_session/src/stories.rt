@@ -5,7 +5,7 @@ use session::Session;
 use std::alloc::Global;
 use test_support::brokers::{MOST_STEPS, taken};
 use test_support::sessions::{A, with_queue};
-use words::{Call, Client, Kind, Refusal, Reply};
+use words::{Call, Client, Kind, Refusal, Reply, Value};
 
 /// How many records the client has: one for the call before, one for a call that is cut off, and one for it again.
 pub(crate) const RECORDS: u32 = 3;
@@ -16,7 +16,7 @@ pub(crate) struct Story {
     pub(crate) before: Option<Call>,
     pub(crate) call: Call,
     pub(crate) reply: Reply,
-    pub(crate) left: &'static [u32],
+    pub(crate) left: &'static [Value],
 }
 
 /// It takes 9 out, which was put in before.

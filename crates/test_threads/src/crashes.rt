@@ -18,7 +18,7 @@ use std::time::Clock;
 use test_support::brokers::{not_taken, taken};
 use test_support::sessions::{A, with_queue};
 use test_support::steps::{LOG_ENQUEUE_ANNOUNCED, LOG_LINK_KEPT};
-use words::{Call, Client, Kind, Refusal, Reply, Told};
+use words::{Call, Client, Kind, Refusal, Reply, Told, Value};
 use workers::{Answer, Naming, OpenGate, Opened};
 
 /// A crash, and recovery, while the only client's call stands still after so many steps. Then the client is told this.
@@ -116,7 +116,7 @@ fn gone_on<R: Threads + Wait + Clock + Abort + Sync>(
 }
 
 /// Whether the queue `a` holds these values.
-fn holds(session: &Session, values: &[u32]) -> Result<bool, Refusal> {
+fn holds(session: &Session, values: &[Value]) -> Result<bool, Refusal> {
     Ok(session.broker().content(A)?.as_slice() == values)
 }
 
@@ -145,7 +145,7 @@ fn number_cut_off<R: Threads + Wait + Clock + Abort + Sync>(
     };
     let session = with_queue(alloc, Kind::Log, 1, 2)?;
     let session = cut_off_in(rt, alloc, session, cut_off)?;
-    let values: &[u32] = if is_taken { &[9] } else { &[] };
+    let values: &[Value] = if is_taken { &[9] } else { &[] };
     assert!(rt; holds(&session, values)?, "after {steps} steps");
     let next = Next {
         ask,

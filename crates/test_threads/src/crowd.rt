@@ -23,7 +23,7 @@ use std::thread::{Threads, join, map_vec};
 use std::time::Clock;
 use test_support::below;
 use test_support::sessions::{create, new_session};
-use words::{Call, Kind, MAX_CLIENTS, Refusal};
+use words::{Call, Kind, MAX_CLIENTS, Refusal, Value};
 use workers::{Answer, End, Entry, Naming, Opened, Seat, Shared};
 
 /// How many calls each client makes.
@@ -56,7 +56,7 @@ fn with_all_queues(alloc: Global) -> Result<Session, Refusal> {
 }
 
 /// A drawn call in a drawn queue, with the client's next number in a log queue: it puts this value, or takes one.
-fn drawn(rng: &mut Pcg32, numbers: &mut [u64; LOGS], value: u32) -> Ask {
+fn drawn(rng: &mut Pcg32, numbers: &mut [u64; LOGS], value: Value) -> Ask {
     let slot = below(rng, SLOTS as u32) as usize;
     let call = match below(rng, 2) {
         0 => Call::Enq(value),

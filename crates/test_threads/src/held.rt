@@ -17,18 +17,18 @@ use std::thread::Threads;
 use std::time::Clock;
 use test_support::sessions::{A, with_queue};
 use test_support::steps::{DURABLE_CLAIMED, DURABLE_LINKED};
-use words::{Call, Client, Kind, Reply};
+use words::{Call, Client, Kind, Reply, Value};
 use workers::{Answer, Naming, Opened};
 
 /// In a durable queue that holds some values client 0's call stands still after so many steps until client 1's of the
 /// same kind is answered. Which replies both get, and what the queue holds then.
 #[derive(Clone, Copy)]
 struct Story {
-    values: &'static [u32],
+    values: &'static [Value],
     calls: (Call, Call),
     steps: u32,
     replies: (Reply, Reply),
-    left: &'static [u32],
+    left: &'static [Value],
 }
 
 /// The other helps the enqueue that is linked, and passes by the dequeue that has claimed its node.
@@ -88,7 +88,7 @@ fn held_in<R: Threads + Wait + Clock + Abort + Sync>(
 }
 
 /// A session whose durable queue holds these values.
-fn holding(alloc: Global, values: &[u32]) -> Result<Session, Fail> {
+fn holding(alloc: Global, values: &[Value]) -> Result<Session, Fail> {
     let mut session = with_queue(alloc, Kind::Durable, 2, 3)?;
     for value in values {
         session.plain(Client(0), A, Call::Enq(*value))?;

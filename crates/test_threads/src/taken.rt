@@ -6,7 +6,7 @@ use session::Session;
 use std::alloc::{AllocError, Global};
 use std::test::*;
 use test_support::call_at;
-use words::{Call, MAX_CLIENTS, Refusal, Reply};
+use words::{Call, MAX_CLIENTS, Refusal, Reply, Value};
 use workers::{End, Entry};
 
 /// The replies that a client got to its numbers in a log queue; nothing, where a number was answered twice or left out.
@@ -75,7 +75,7 @@ struct Values {
 }
 
 /// Marks a value, which has no mark yet: whether that is so.
-fn mark(marks: &mut [bool], value: u32) -> bool {
+fn mark(marks: &mut [bool], value: Value) -> bool {
     match marks.get_mut(value as usize) {
         Some(marked) if !*marked => {
             *marked = true;
@@ -99,7 +99,7 @@ impl Values {
     }
 
     /// A value went out.
-    fn goes_out(&mut self, value: u32) {
+    fn goes_out(&mut self, value: Value) {
         self.right &= mark(self.out.as_mut_slice(), value);
     }
 
@@ -127,7 +127,7 @@ impl Values {
     }
 
     /// Whether these values are those that were put and did not go out.
-    fn are_left(mut self, held: &[u32]) -> bool {
+    fn are_left(mut self, held: &[Value]) -> bool {
         for value in held {
             self.goes_out(*value);
         }

@@ -1,7 +1,7 @@
 //! What a client asks.
 
 use directory::Name;
-use words::Kind;
+use words::{Kind, Value};
 
 /// What a client asks, a line each. A queue that is none is a text that is no name.
 #[derive(Clone, Copy, Debug, PartialEq, Eq)]
@@ -17,7 +17,7 @@ pub enum Request {
     Put {
         client: u64,
         queue: Option<Name>,
-        value: u32,
+        value: Value,
         number: Option<u64>,
     },
     /// A dequeue, likewise.

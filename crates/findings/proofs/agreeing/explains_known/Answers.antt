@@ -1,4 +1,5 @@
-use Rattle.std.proofs.Common.{ℕ, ◌≡◌, List, [], arith, subst, rules}
+use Rattle.std.proofs.Common.{◌≡◌, List, [], arith, subst, rules}
+use Rattle.words.specs.PlainQueue.{Value}
 use Rattle.events.specs.Replay.{Replays}
 use Rattle.findings.proofs.Tables.{empty_list}
 use Rattle.findings.proofs.agreeing.explains_known.Goals as goal
@@ -10,7 +11,7 @@ returns-clause-explained c = λ yes.
     record {
       is_order = explained.explains.is_order;
       answers = explained.explains.answers;
-      replays = subst (λ (base : List ℕ). Replays c.args.history.now.events.items base
+      replays = subst (λ (base : List Value). Replays c.args.history.now.events.items base
           c.args.order.now.entries.items) none
           explained.explains.replays;
       precedence = explained.explains.precedence;

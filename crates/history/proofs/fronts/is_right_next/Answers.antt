@@ -1,5 +1,5 @@
-use Rattle.std.proofs.Common.{rules, sym, ◌∙◌, ap, Some, refl, List, ℕ}
-use Rattle.words.specs.PlainQueue.{reply_of}
+use Rattle.std.proofs.Common.{rules, sym, ◌∙◌, ap, Some, refl, List}
+use Rattle.words.specs.PlainQueue.{Value, reply_of}
 use Rattle.words.specs.declared.call.Call.TheVariants.{Deq}
 use Rattle.words.specs.declared.call.Reply.TheVariants.{Done}
 use Rattle.history.proofs.FrontSteps.{right_by_reply, reply_by_right, wrong_without_call, reply_by_front}
@@ -23,7 +23,7 @@ pub returns-in-Some-Deq-clause-right : goal.returns-in-Some-Deq-clause-right
 returns-in-Some-Deq-clause-right c =
     let names = sym c.named_call.ensures ∙ c.in-Some-Deq.is ∙ ap Some c.in-Some-Deq.field-0-is in
     let is = c.reply_with.ensures ∙ reply_by_front _ _ _ c.take_front.ensures.front c.take_front.ensures.none
-    ∙ ap (λ (q : List ℕ). reply_of q Deq) (sym c.requires.front.queue) in (
+    ∙ ap (λ (q : List Value). reply_of q Deq) (sym c.requires.front.queue) in (
       λ same. right_by_reply _ _ _ _ _ _ _ c.requires.within names is (search rules),
       λ right. search (rules, reply_by_right _ _ _ _ _ _ _ c.requires.within names is right),
     )
