@@ -234,7 +234,7 @@ impl<L: Layout + Drop> Player<L> {
     {
         let order = self.world.order()?;
         let events = &self.world.history().events;
-        add(lines, Line::Order(order.entries.len()))?;
+        add(lines, Line::Order(order.entries.as_slice().len()))?;
         for entry in order.entries.as_slice() {
             if let Some(ordered) = named_call(events, *entry) {
                 add(lines, Line::Entry(ordered))?;

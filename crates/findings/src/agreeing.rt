@@ -100,7 +100,7 @@ pub fn explains_known(
     if !check(history, order) {
         return Ok(false);
     }
-    if history.base.len() > 0 {
+    if history.base.as_slice().len() > 0 {
         return Ok(false);
     }
     let entries = order.entries.as_slice();
