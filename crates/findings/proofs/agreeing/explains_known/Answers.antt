@@ -1,4 +1,4 @@
-use Rattle.std.proofs.Common.{◌≡◌, List, [], arith, subst, rules}
+use Rattle.std.proofs.Common.{◌≡◌, List, [], length, ap, arith, subst, rules}
 use Rattle.words.specs.PlainQueue.{Value}
 use Rattle.events.specs.Replay.{Replays}
 use Rattle.findings.proofs.Tables.{empty_list}
@@ -7,7 +7,8 @@ use Rattle.findings.proofs.agreeing.explains_known.Goals as goal
 pub returns-clause-explained : goal.returns-clause-explained
 returns-clause-explained c = λ yes.
     let explained = c.check.ensures.0 c.if-not-check.false in
-    let none : c.args.history.now.base.items ≡ [] = empty_list _ (omega (arith, c.if-len-gt0.false, c.len.ensures)) in
+    let none : c.args.history.now.base.items ≡ [] =
+        empty_list _ (omega (arith, c.if-as_slice-gt0.false, ap length c.as_slice.ensures)) in
     record {
       is_order = explained.explains.is_order;
       answers = explained.explains.answers;
