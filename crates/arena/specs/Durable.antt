@@ -53,7 +53,8 @@ durable_place s w =
     else (if nat_lt w (durable_size s) then Some (Cell (record { 0 = w - cells_from s + 1 }))
     else None)))))
 
-pub durable_below : (s : Shape) (p : Place) → s.kind ≡ Durable → IsPlaceIn OfItems s p → durable_word s p < durable_size s
+pub durable_below : (s : Shape) (p : Place) → s.kind ≡ Durable → IsPlaceIn OfItems s p
+    → durable_word s p < durable_size s
 durable_below s Head kind h = grind arith
 durable_below s Tail kind h = grind arith
 durable_below s (Announcement x) kind h = grind arith
@@ -71,7 +72,8 @@ durable_below s (EntryKind x) kind h = absurd (cc)
 durable_below s (Status x) kind h = absurd (cc)
 durable_below s (EntryNode x) kind h = absurd (cc)
 
-pub durable_own : (s : Shape) (p : Place) → s.kind ≡ Durable → IsPlaceIn OfItems s p → durable_place s (durable_word s p) ≡ Some p
+pub durable_own : (s : Shape) (p : Place) → s.kind ≡ Durable → IsPlaceIn OfItems s p
+    → durable_place s (durable_word s p) ≡ Some p
 durable_own s Head kind h = grind (arith, nat_tests)
 durable_own s Tail kind h = grind (arith, nat_tests)
 durable_own s (Announcement x) kind h = grind (arith, nat_tests)

@@ -41,11 +41,13 @@ durable_values_place s w =
     else (if w == 1 then Some Tail
     else (if nat_lt w (2 + s.clients) then Some (Announcement (record { 0 = w - 2 }))
     else (if nat_lt w (nodes_from s) then Some (Bump (record { 0 = w - 2 - s.clients }))
-    else (if nat_lt w (cells_from s) then Some (durable_values_node_place ((w - nodes_from s) / 3) ((w - nodes_from s) % 3))
+    else (if nat_lt w (cells_from s)
+    then Some (durable_values_node_place ((w - nodes_from s) / 3) ((w - nodes_from s) % 3))
     else (if nat_lt w (durable_values_size s) then Some (Cell (record { 0 = w - cells_from s + 1 }))
     else None)))))
 
-pub durable_values_below : (s : Shape) (p : Place) → s.kind ≡ Durable → IsPlaceIn OfValues s p → durable_values_word s p < durable_values_size s
+pub durable_values_below : (s : Shape) (p : Place) → s.kind ≡ Durable → IsPlaceIn OfValues s p
+    → durable_values_word s p < durable_values_size s
 durable_values_below s Head kind h = grind arith
 durable_values_below s Tail kind h = grind arith
 durable_values_below s (Announcement x) kind h = grind arith
@@ -63,7 +65,8 @@ durable_values_below s (EntryKind x) kind h = absurd (cc)
 durable_values_below s (Status x) kind h = absurd (cc)
 durable_values_below s (EntryNode x) kind h = absurd (cc)
 
-pub durable_values_own : (s : Shape) (p : Place) → s.kind ≡ Durable → IsPlaceIn OfValues s p → durable_values_place s (durable_values_word s p) ≡ Some p
+pub durable_values_own : (s : Shape) (p : Place) → s.kind ≡ Durable → IsPlaceIn OfValues s p
+    → durable_values_place s (durable_values_word s p) ≡ Some p
 durable_values_own s Head kind h = grind (arith, nat_tests)
 durable_values_own s Tail kind h = grind (arith, nat_tests)
 durable_values_own s (Announcement x) kind h = grind (arith, nat_tests)
@@ -82,5 +85,6 @@ durable_values_own s (Status x) kind h = absurd (cc)
 durable_values_own s (EntryNode x) kind h = absurd (cc)
 
 pub durable_values_named : (s : Shape) (w : ℕ) → s.kind ≡ Durable
-    → MatchOption (durable_values_place s w) (durable_values_size s ≤ w) (λ p. IsPlaceIn OfValues s p × (durable_values_word s p ≡ w))
+    → MatchOption (durable_values_place s w) (durable_values_size s ≤ w)
+    (λ p. IsPlaceIn OfValues s p × (durable_values_word s p ≡ w))
 durable_values_named s w kind = grind (arith, nat_tests)

@@ -64,7 +64,8 @@ own_by OfItems Durable s is p at = durable_own s p is at
 own_by OfItems Log s is p at = log_own s p is at
 
 named_by : (form : Form) (kind : Kind) (s : Shape) → s.kind ≡ kind → (w : ℕ)
-    → MatchOption (place_by form kind s w) (size_by form kind s ≤ w) (λ p. IsPlaceIn form s p × (word_by form kind s p ≡ w))
+    → MatchOption (place_by form kind s w) (size_by form kind s ≤ w)
+    (λ p. IsPlaceIn form s p × (word_by form kind s p ≡ w))
 named_by OfValues Durable s is w = durable_values_named s w is
 named_by OfValues Log s is w = log_values_named s w is
 named_by OfItems Durable s is w = durable_named s w is

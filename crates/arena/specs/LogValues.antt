@@ -46,11 +46,14 @@ log_values_place s w =
     else (if w == 1 then Some Tail
     else (if nat_lt w (2 + s.clients) then Some (Announcement (record { 0 = w - 2 }))
     else (if nat_lt w (nodes_from s) then Some (Bump (record { 0 = w - 2 - s.clients }))
-    else (if nat_lt w (entries_from s) then Some (log_values_node_place ((w - nodes_from s) / 4) ((w - nodes_from s) % 4))
-    else (if nat_lt w (log_values_size s) then Some (entry_place ((w - entries_from s) / 4 + 1) ((w - entries_from s) % 4))
+    else (if nat_lt w (entries_from s)
+    then Some (log_values_node_place ((w - nodes_from s) / 4) ((w - nodes_from s) % 4))
+    else (if nat_lt w (log_values_size s)
+    then Some (entry_place ((w - entries_from s) / 4 + 1) ((w - entries_from s) % 4))
     else None)))))
 
-pub log_values_below : (s : Shape) (p : Place) → s.kind ≡ Log → IsPlaceIn OfValues s p → log_values_word s p < log_values_size s
+pub log_values_below : (s : Shape) (p : Place) → s.kind ≡ Log → IsPlaceIn OfValues s p
+    → log_values_word s p < log_values_size s
 log_values_below s Head kind h = grind arith
 log_values_below s Tail kind h = grind arith
 log_values_below s (Announcement x) kind h = grind arith
@@ -68,7 +71,8 @@ log_values_below s (EntryKind x) kind h = grind arith
 log_values_below s (Status x) kind h = grind arith
 log_values_below s (EntryNode x) kind h = grind arith
 
-pub log_values_own : (s : Shape) (p : Place) → s.kind ≡ Log → IsPlaceIn OfValues s p → log_values_place s (log_values_word s p) ≡ Some p
+pub log_values_own : (s : Shape) (p : Place) → s.kind ≡ Log → IsPlaceIn OfValues s p
+    → log_values_place s (log_values_word s p) ≡ Some p
 log_values_own s Head kind h = grind (arith, nat_tests)
 log_values_own s Tail kind h = grind (arith, nat_tests)
 log_values_own s (Announcement x) kind h = grind (arith, nat_tests)
@@ -87,5 +91,6 @@ log_values_own s (Status x) kind h = grind (arith, nat_tests)
 log_values_own s (EntryNode x) kind h = grind (arith, nat_tests)
 
 pub log_values_named : (s : Shape) (w : ℕ) → s.kind ≡ Log
-    → MatchOption (log_values_place s w) (log_values_size s ≤ w) (λ p. IsPlaceIn OfValues s p × (log_values_word s p ≡ w))
+    → MatchOption (log_values_place s w) (log_values_size s ≤ w)
+    (λ p. IsPlaceIn OfValues s p × (log_values_word s p ≡ w))
 log_values_named s w kind = grind (arith, nat_tests)

@@ -36,7 +36,7 @@ fn asked(alloc: Global, number: u64, call: &Call) -> Result<String> {
 
 /// How many calls took effect.
 fn effects(session: &Session) -> Result<usize, Refusal> {
-    Ok(session.broker().order(ORDERS)?.entries.len())
+    Ok(session.broker().order(ORDERS)?.entries.as_slice().len())
 }
 
 /// The client sends a number, and prints its reply, and whether anything ran for it.

@@ -40,8 +40,8 @@ AreQuiet ws slots = (at : ℕ) (slot : Slot) → slice_get slots at ≡ Some slo
 
 pub record AreBases (ws : Words) (slots : List Slot) (bases : List (List Value)) : Type 0 where
   pub count : length bases ≡ length slots
-  pub each : (at : ℕ) (slot : Slot) (base : List Value) → slice_get slots at ≡ Some slot → slice_get bases at ≡ Some base
-      → IsBaseIn ws slot base
+  pub each : (at : ℕ) (slot : Slot) (base : List Value) → slice_get slots at ≡ Some slot
+      → slice_get bases at ≡ Some base → IsBaseIn ws slot base
 
 pub record AreBegunAnew (ws : Words) (old new : List Slot) : Type 0 where
   pub count : length new ≡ length old

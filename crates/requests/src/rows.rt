@@ -2,7 +2,9 @@
 
 ghost use Rattle.std.specs.Prelude.{◌≡◌, Option};
 ghost use Rattle.serde_json.specs.View.{view as data_of};
-ghost use Rattle.requests.specs.Rows.{name_in, value_in, kind_in, client_at, value_at, number_at, queue_at, kind_at, is_numbered, create_in, put_in, numbered_put_in, take_in, numbered_take_in, told_in, alone, request_in};
+ghost use Rattle.requests.specs.Rows.{name_in, value_in, kind_in, client_at, value_at, number_at, queue_at, kind_at};
+ghost use Rattle.requests.specs.Rows.{is_numbered, create_in, put_in, numbered_put_in, take_in, numbered_take_in};
+ghost use Rattle.requests.specs.Rows.{told_in, alone, request_in};
 
 use crate::members::{has_key, has_keys, text, whole};
 use directory::Name;

@@ -74,7 +74,7 @@ pub(crate) fn holds(broker: &Broker, slot: u8, values: &[Value]) -> Result<bool,
 /// How many calls of the queue of a slot took effect; none, where the slot is closed.
 pub(crate) fn effects(broker: &Broker, slot: u8) -> usize {
     match broker.order(SlotId(slot)) {
-        Ok(order) => order.entries.len(),
+        Ok(order) => order.entries.as_slice().len(),
         Err(_) => 0,
     }
 }

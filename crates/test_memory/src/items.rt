@@ -27,7 +27,7 @@ fn its_parts_are_its_length_and_little_endian_words(rt: HostRuntime) -> Result<(
     let whole = Item::of_parts([25, 0x6867_6665_6463_6261, 0, 1]);
     assert_eq!(rt;
         whole.bytes(),
-        b"abcdefgh\0\0\0\0\0\0\0\0\x01\0\0\0\0\0\0\0"
+        b"abcdefgh\0\0\0\0\0\0\0\0\x01\0\0\0\0\0\0\0".as_slice()
     );
     // Bytes past the length are no part of an item.
     assert_eq!(rt;

@@ -83,7 +83,7 @@ pub(crate) fn holds(session: &Session, slot: SlotId, values: &[Value]) -> Result
 
 /// How many calls of a slot's queue took effect.
 pub(crate) fn effects(session: &Session, slot: SlotId) -> Result<usize, Refusal> {
-    Ok(session.broker().order(slot)?.entries.len())
+    Ok(session.broker().order(slot)?.entries.as_slice().len())
 }
 
 /// How many events the history of a slot's queue has.

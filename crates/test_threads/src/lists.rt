@@ -17,7 +17,7 @@ const NEW: Lengths = [0; SLOTS];
 pub(crate) fn lengths(session: &Session) -> Lengths {
     let mut lengths = NEW;
     for slot in 0..SLOTS {
-        lengths[slot] = events_of(session, SlotId(slot as u8)).len();
+        lengths[slot] = events_of(session, SlotId(slot as u8)).map_or(0, |events| events.len());
     }
     lengths
 }

@@ -1,11 +1,11 @@
 -- The words and the text of an item give it back.
-use Rattle.std.proofs.Common.{◌≡◌, ℕ, ◌+◌, ◌-◌, ◌*◌, ◌/◌, ◌%◌, ◌<◌, ◌≤◌, Bool, true, false, List, [], ◌∷◌, ◌++◌, get_or-drop, length, take, drop, get_or, suc, zero, Some, None, if◌then◌else◌, append_assoc, refl, sym, ◌∙◌, ap, arith, inl, inr, ◌⊎◌}
-use Rattle.std.specs.Prelude.{◌==◌, ◌&&◌, replicate, min, Result, Ok, Err}
+use Rattle.std.proofs.Common.{◌≡◌, ℕ, ◌+◌, ◌-◌, ◌*◌, ◌/◌, ◌%◌, ◌<◌, ◌≤◌, Bool, true, List, [], ◌∷◌, ◌++◌, get_or-drop, length, take, drop, get_or, suc, zero, Some, None, if◌then◌else◌, append_assoc, refl, ◌∙◌, ap, arith, inl, inr, ◌⊎◌}
+use Rattle.std.specs.Prelude.{◌==◌, ◌&&◌, replicate, min}
 use Rattle.std.specs.List.{list_all}
 use Rattle.std.specs.Result.{result_ok}
-use Rattle.std.specs.Int.{w64, to_le_bytes, from_le_bytes}
+use Rattle.std.specs.Int.{w64, to_le_bytes}
 use Rattle.std.specs.Str.{IsUtf8}
-use Rattle.std.proofs.lemmas.Bool.{cases_lt, cases_eq}
+use Rattle.std.proofs.lemmas.Bool.{cases_lt}
 use Rattle.std.proofs.lemmas.Bool.Decides.{nat_tests}
 use Rattle.std.proofs.lemmas.Grind.{common_steps}
 use Rattle.std.proofs.lemmas.List.{take-append-drop, get_or-append_right, get_or_past}
@@ -14,9 +14,9 @@ use Rattle.std.proofs.lemmas.Nat.{le_bytes_8}
 use Rattle.std.proofs.lemmas.Str.{IsUtf8-from_ascii}
 use Rattle.std.proofs.Math.ListN.{get_or-append}
 use Rattle.std.proofs.Math.Seq.{take-append_seam}
-use Rattle.hex.specs.Hex.{decode_of, decode_pairs, decode_sized, encode_lower, encode_with, lower_digits}
+use Rattle.hex.specs.Hex.{decode_of, decode_sized, encode_lower, encode_with, lower_digits}
 use Rattle.hex.proofs.HexLemmas.{decode_of-encode_lower, length-encode_with, IsAscii-encode_with}
-use Rattle.words.specs.Item.{IsItem, item_row, item_parts, item_of, item_of_parts, row_of, first_word, second_word, third_word, is_hex, is_lower_digit, item_in}
+use Rattle.words.specs.Item.{IsItem, item_row, item_parts, item_of_parts, row_of, first_word, second_word, third_word, is_hex, is_lower_digit, item_in}
 
 -- zeros are 0 at each place
 pub zeros : (m i : ℕ) → ◌≡◌ {A = ℕ} (get_or (replicate m 0) i 0) 0
@@ -35,7 +35,8 @@ bytes_dropped : (xs : List ℕ) (n i : ℕ) → ((j : ℕ) → get_or xs j 0 < 2
 bytes_dropped xs n i h = rw (get_or-drop n xs i 0) (h (n + i))
 
 -- three rows and the whole
-rows_joined : {a b c p q r back row : List ℕ} → a ≡ p → b ≡ q → c ≡ r → q ++ r ≡ back → p ++ back ≡ row → a ++ b ++ c ≡ row
+rows_joined : {a b c p q r back row : List ℕ} → a ≡ p → b ≡ q → c ≡ r → q ++ r ≡ back → p ++ back ≡ row
+    → a ++ b ++ c ≡ row
 rows_joined one two three joined whole = rw (append_assoc, one, two, three, joined) whole
 
 module _ (item : List ℕ) (h : IsItem item) where
@@ -45,7 +46,8 @@ module _ (item : List ℕ) (h : IsItem item) where
       go : (i < length item) ⊎ (length item ≤ i) → get_or (item_row item) i 0 < 256
       go (inl below) = rw (get_or-append item (replicate (24 - length item) 0) 0 i below) (h.bytes i)
       go (inr past) =
-          let same : get_or (item_row item) i 0 ≡ get_or (replicate (24 - length item) 0) (i - length item) 0 = get_or-append_right item (replicate (24 - length item) 0) (length item) i 0 refl past in
+          let same : get_or (item_row item) i 0 ≡ get_or (replicate (24 - length item) 0) (i - length item) 0 =
+          get_or-append_right item (replicate (24 - length item) 0) (length item) i 0 refl past in
           let none : get_or (item_row item) i 0 ≡ 0 = same ∙ zeros (24 - length item) (i - length item) in
           rw none (omega arith)
 
@@ -58,9 +60,15 @@ module _ (item : List ℕ) (h : IsItem item) where
       let long = length_row in
       let row : List ℕ = item_row item in
       let back : List ℕ = drop 8 row in
-      let one : to_le_bytes w64 (first_word item) ≡ take 8 row = le_bytes_8 (take 8 row) (first_word item) (grind (arith, common_steps)) (λ i. bytes_taken row 8 i row_byte) refl in
-      let two : to_le_bytes w64 (second_word item) ≡ take 8 back = le_bytes_8 (take 8 back) (second_word item) (grind (arith, common_steps)) (λ i. bytes_taken back 8 i (λ j. bytes_dropped row 8 j row_byte)) refl in
-      let three : to_le_bytes w64 (third_word item) ≡ drop 8 back = le_bytes_8 (drop 8 back) (third_word item) (grind (arith, common_steps)) (λ i. bytes_dropped back 8 i (λ j. bytes_dropped row 8 j row_byte)) refl in
+      let one : to_le_bytes w64 (first_word item) ≡ take 8 row =
+      le_bytes_8 (take 8 row) (first_word item) (grind (arith, common_steps))
+      (λ i. bytes_taken row 8 i row_byte) refl in
+      let two : to_le_bytes w64 (second_word item) ≡ take 8 back =
+      le_bytes_8 (take 8 back) (second_word item) (grind (arith, common_steps))
+      (λ i. bytes_taken back 8 i (λ j. bytes_dropped row 8 j row_byte)) refl in
+      let three : to_le_bytes w64 (third_word item) ≡ drop 8 back =
+      le_bytes_8 (drop 8 back) (third_word item) (grind (arith, common_steps))
+      (λ i. bytes_dropped back 8 i (λ j. bytes_dropped row 8 j row_byte)) refl in
       let joined : take 8 back ++ drop 8 back ≡ back = take-append-drop 8 back in
       let whole : take 8 row ++ back ≡ row = take-append-drop 8 row in
       rows_joined one two three joined whole
@@ -77,7 +85,8 @@ lower_digit_at : (d : ℕ) → d < 16 → is_lower_digit (get_or lower_digits d 
 lower_digit_at d below = AllPass-from_list_all is_lower_digit lower_digits refl d 0 below
 
 -- what a text of digits is made of
-digits_lower : (bytes : List ℕ) → ((k : ℕ) → get_or bytes k 0 < 256) → list_all is_lower_digit (encode_lower bytes) ≡ true
+digits_lower : (bytes : List ℕ) → ((k : ℕ) → get_or bytes k 0 < 256)
+    → list_all is_lower_digit (encode_lower bytes) ≡ true
 unfolding encode_with
 digits_lower [] h = refl
 digits_lower (b ∷ rest) h =

@@ -9,7 +9,7 @@ use Rattle.arena.specs.Chain.LeadsTo.{there}
 use Rattle.arena.specs.Shape.{Shape, owner}
 use Rattle.arena.specs.Words.{links, marks, part_at, values}
 use Rattle.arena.specs.declared.place.Place.{Place}
-use Rattle.arena.specs.declared.place.Place.TheVariants.{Head, Tail, Item, Next, Mark, Cell, Status}
+use Rattle.arena.specs.declared.place.Place.TheVariants.{Head, Tail, Next, Mark, Cell, Status}
 use Rattle.protocol.specs.Machine.{Memory, with_fence}
 use Rattle.arena.proofs.Chains.{in_left}
 use Rattle.protocol.proofs.chain.Chains.{upd, upd_at, upd_other, upd_cases, leads_grows}

@@ -1,7 +1,7 @@
 use Rattle.words.specs.PlainQueue.{Value, FitsValue}
 use Rattle.interleave.specs.Core.{state_of}
 use Rattle.interleave.specs.Trace.{Roomy}
-use Rattle.std.proofs.Common.{◌≡◌, ◌≤◌, ℕ, sym, subst, ap, ◌∙◌, rules}
+use Rattle.std.proofs.Common.{◌≡◌, ◌≤◌, sym, subst, ap, ◌∙◌, rules}
 use Rattle.words.specs.declared.call.Call.TheVariants.{Enq}
 use Rattle.protocol.specs.Machine.{FitsCall}
 use Rattle.interleave.specs.Calls.{is_no_memory}
