@@ -1,6 +1,5 @@
 -- Where the answers of dequeues are written.
-use Rattle.std.specs.Prelude.{◌+◌}
-use Rattle.words.specs.PlainQueue.{Value}
+use Rattle.std.specs.Prelude.{ℕ, ◌+◌}
 use Rattle.words.specs.declared.call.Kind.{Kind}
 use Rattle.words.specs.declared.call.Kind.TheVariants.{Durable, Log}
 use Rattle.words.specs.declared.call.NodeId.{NodeId}
@@ -14,7 +13,7 @@ abbrev pub empty_answer_of : Kind → Token → Write
 empty_answer_of Durable token = record { place = Cell token; value = EMPTY_CELL }
 empty_answer_of Log token = record { place = Status token; value = EMPTY_STATUS }
 
--- that the dequeue claimed a node of this value: the value in its cell, or the node in its entry
-abbrev pub result_of : Kind → Token → NodeId → Value → Write
-result_of Durable token node value = record { place = Cell token; value = value + GOT_CELL }
-result_of Log token node value = record { place = EntryNode token; value = node.0 }
+-- that the dequeue claimed a node: the node is named in its cell, or in its entry
+abbrev pub result_of : Kind → Token → NodeId → Write
+result_of Durable token node = record { place = Cell token; value = node.0 + GOT_CELL }
+result_of Log token node = record { place = EntryNode token; value = node.0 }

@@ -7,7 +7,7 @@ use Rattle.arena.specs.declared.broker.BrokerPlace.TheVariants.{Clients, Records
 
 -- a block has room for a queue of either kind: it has as many words as a log queue's layout, the longer of the two
 abbrev pub block_size_of : ℕ → ℕ → ℕ
-block_size_of clients records = 6 + 2 * clients + 8 * (clients * records)
+block_size_of clients records = 9 + 2 * clients + 11 * (clients * records)
 
 -- where a slot's words in the directory begin, and where its block does
 abbrev pub directory_from : ℕ → ℕ

@@ -7,4 +7,4 @@ pub data Form : Type 0 where
 
 -- the form that queues run in
 abbrev pub running : Form
-running = OfValues
+running = OfItems

@@ -1,6 +1,6 @@
 -- The range of each word's value.
 use Rattle.std.specs.Prelude.{ℕ, ◌+◌, ◌≤◌}
-use Rattle.words.specs.declared.limits.TheConstants.{MAX_CALL_NUMBER, MAX_VALUE}
+use Rattle.words.specs.declared.limits.TheConstants.{MAX_CALL_NUMBER}
 use Rattle.arena.specs.declared.codes.TheConstants.{GOT_CELL}
 use Rattle.arena.specs.Shape.{Shape, greatest}
 use Rattle.arena.specs.declared.place.Place.{Place}
@@ -11,10 +11,11 @@ Fits s Head v = v ≤ greatest s
 Fits s Tail v = v ≤ greatest s
 Fits s (Announcement t) v = v ≤ greatest s
 Fits s (Bump t) v = v ≤ s.records
-Fits s (Item n part) v = v ≤ MAX_VALUE
+-- a part has no range of its own: what four parts may be is said of them together
+Fits s (Item n part) v = Unit {0}
 Fits s (Next n) v = v ≤ greatest s
 Fits s (Mark n) v = v ≤ greatest s
-Fits s (Cell c) v = v ≤ MAX_VALUE + GOT_CELL
+Fits s (Cell c) v = v ≤ greatest s + GOT_CELL
 Fits s (Insert n) v = v ≤ greatest s
 Fits s (Number e) v = v ≤ MAX_CALL_NUMBER
 Fits s (EntryKind e) v = v ≤ 2

@@ -1,9 +1,15 @@
 -- The words of a queue, where each place has a value.
-use Rattle.std.specs.Prelude.{◌≡◌, ℕ, ◌≤◌, refl}
+use Rattle.std.specs.Prelude.{◌≡◌, ◌<◌, ◌^◌, ℕ, length, refl}
+use Rattle.std.specs.Int.{w32, to_le_bytes}
+use Rattle.words.specs.Item.{AreParts, item_of, first_word, second_word, third_word}
 use Rattle.words.specs.PlainQueue.{Value, FitsValue}
-use Rattle.words.specs.declared.limits.TheConstants.{MAX_VALUE}
+use Rattle.words.proofs.Items.{parts_again}
+use Rattle.words.proofs.Parts.{item_fits, parts_are}
+use Rattle.arena.specs.Form.{Form, running}
+use Rattle.arena.specs.Form.Form.{OfValues, OfItems}
 use Rattle.arena.specs.declared.place.Write.{Write}
-use Rattle.arena.specs.declared.place.Part.TheVariants.{First}
+use Rattle.arena.specs.declared.place.Part.{Part}
+use Rattle.arena.specs.declared.place.Part.TheVariants.{Length, First, Second, Third}
 use Rattle.arena.specs.declared.place.Place.{Place}
 use Rattle.arena.specs.declared.place.Place.TheVariants.{Announcement, Bump, Item, Next, Mark, Cell, Insert, Number, EntryKind, Status, EntryNode}
 
@@ -14,27 +20,60 @@ links f n = f (Next (record { 0 = n }))
 abbrev pub marks : (Place → ℕ) → ℕ → ℕ
 marks f n = f (Mark (record { 0 = n }))
 
--- the value that a node's word is
-unfoldable pub value_of : ℕ → Value
-value_of word = word
+-- a part of a node's item
+abbrev pub part_at : (Place → ℕ) → ℕ → Part → ℕ
+part_at f n part = f (Item (record { 0 = n }) part)
 
-pub value_of_word : (word : ℕ) → value_of word ≡ word
-unfolding value_of
-value_of_word word = refl
+-- the number that is written for a part of an item
+unfoldable pub item_part : Value → Part → ℕ
+item_part item Length = length item
+item_part item First = first_word item
+item_part item Second = second_word item
+item_part item Third = third_word item
 
-pub value_of_fits : (word : ℕ) → word ≤ MAX_VALUE → FitsValue (value_of word)
-unfolding value_of
-value_of_fits word fits = fits
+-- the item of a length and three words
+unfoldable pub value_of : ℕ → ℕ → ℕ → ℕ → Value
+value_of len first second third = item_of len first second third
+
+-- an item is found again from its parts
+pub item_again : (item : Value) → FitsValue item
+    → value_of (item_part item Length) (item_part item First) (item_part item Second) (item_part item Third) ≡ item
+unfolding value_of item_part
+item_again item fits = parts_again item fits
+
+-- they are an item's
+pub item_parts : (item : Value) → FitsValue item
+    → AreParts (item_part item Length) (item_part item First) (item_part item Second) (item_part item Third)
+unfolding item_part
+item_parts item fits = parts_are item fits
+
+-- the message of a node: the item of its parts, and in the form of values the four bytes of its one word
+abbrev pub values_in : Form → (Place → ℕ) → ℕ → Value
+values_in OfItems f n = value_of (part_at f n Length) (part_at f n First) (part_at f n Second) (part_at f n Third)
+values_in OfValues f n = to_le_bytes w32 (part_at f n First)
 
 abbrev pub values : (Place → ℕ) → ℕ → Value
-values f n = value_of (f (Item (record { 0 = n }) First))
+values = values_in running
 
--- the node's word is that of a value that fits
-abbrev pub HoldsValue : (Place → ℕ) → ℕ → Type 0
-HoldsValue f n = f (Item (record { 0 = n }) First) ≤ MAX_VALUE
+-- the node's words are an item's: in the form of values any word of 32 bits is one
+abbrev pub HoldsIn : Form → (Place → ℕ) → ℕ → Type 0
+HoldsIn OfItems f n = AreParts (part_at f n Length) (part_at f n First) (part_at f n Second) (part_at f n Third)
+HoldsIn OfValues f n = part_at f n First < 2 ^ 32
 
-pub values_fit : (f : Place → ℕ) (n : ℕ) → HoldsValue f n → FitsValue (values f n)
-values_fit f n h = value_of_fits (f (Item (record { 0 = n }) First)) h
+abbrev pub HoldsItem : (Place → ℕ) → ℕ → Type 0
+HoldsItem = HoldsIn running
+
+-- all of them are 0
+pub record IsBlankItem (f : Place → ℕ) (n : ℕ) : Type 0 where
+  pub len : part_at f n Length ≡ 0
+  pub first : part_at f n First ≡ 0
+  pub second : part_at f n Second ≡ 0
+  pub third : part_at f n Third ≡ 0
+
+-- a node's message is an item, whatever its words are
+pub values_fit : (f : Place → ℕ) (n : ℕ) → FitsValue (values f n)
+unfolding value_of
+values_fit f n = item_fits (part_at f n Length) (part_at f n First) (part_at f n Second) (part_at f n Third)
 
 abbrev pub inserts : (Place → ℕ) → ℕ → ℕ
 inserts f n = f (Insert (record { 0 = n }))

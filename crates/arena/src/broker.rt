@@ -79,7 +79,7 @@ pub fn block_size(clients: u32, records: u32) -> usize
     ensures some { 0 < result }
     ensures small { result ≤ MAX_LAYOUT_WORDS }
 {
-    6 + 2 * clients as usize + 8 * (clients as usize * records as usize)
+    9 + 2 * clients as usize + 11 * (clients as usize * records as usize)
 }
 
 /// One of the four words of a slot in the directory.

@@ -3,7 +3,7 @@
 /// In a cell: its dequeue found the queue empty. An open cell is 0.
 pub const EMPTY_CELL: u64 = 1;
 
-/// In a cell: its dequeue got a value. The word is the value and this.
+/// In a cell: its dequeue claimed a node. The word is the node's number and this.
 pub const GOT_CELL: u64 = 2;
 
 /// The kind of an entry: its call is an enqueue.

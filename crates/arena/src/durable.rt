@@ -3,15 +3,13 @@
 ghost use Rattle.std.specs.Prelude.{◌≡◌, ◌↔◌, ◌⊎◌, ◌<◌, ◌≤◌, IfOk, IfErr, IsOk, Err, Ok};
 ghost use Rattle.arena.specs.Shape.{greatest, shape_of};
 ghost use Rattle.arena.specs.Limits.{AreCounts};
-ghost use Rattle.arena.specs.DurableValues.{durable_values_node_place};
+ghost use Rattle.arena.specs.Durable.{durable_node_place};
 
 use crate::codes::{EMPTY_CELL, GOT_CELL};
 use crate::layout::{Layout, check_counts};
 use crate::place::{Part, Place, Write};
 use std::marker::Model;
-use words::{
-    Client, Kind, MAX_CLIENTS, MAX_RECORD_NUMBER, MAX_RECORDS, NodeId, Refusal, Token, Value,
-};
+use words::{Client, Kind, MAX_CLIENTS, MAX_RECORD_NUMBER, MAX_RECORDS, NodeId, Refusal, Token};
 
 /// The words of a durable queue.
 #[derive(Clone, Copy, Debug)]
@@ -58,13 +56,16 @@ impl DurableLayout {
     }
 }
 
-/// One of the three words of a node.
+/// One of the six words of a node.
 fn node_place(node: NodeId, field: usize) -> Place
-    ensures { result ≡ durable_values_node_place node.0 field }
+    ensures { result ≡ durable_node_place node.0 field }
 {
     match field {
-        0 => Place::Item(node, Part::First),
-        1 => Place::Next(node),
+        0 => Place::Item(node, Part::Length),
+        1 => Place::Item(node, Part::First),
+        2 => Place::Item(node, Part::Second),
+        3 => Place::Item(node, Part::Third),
+        4 => Place::Next(node),
         _ => Place::Mark(node),
     }
 }
@@ -78,7 +79,7 @@ impl Layout for DurableLayout {
 
     fn size(&self) -> usize {
         let greatest = self.greatest();
-        5 + 2 * self.clients as usize + 4 * greatest
+        8 + 2 * self.clients as usize + 7 * greatest
     }
 
     fn kind(&self) -> Kind {
@@ -102,11 +103,11 @@ impl Layout for DurableLayout {
             Place::Tail => 1,
             Place::Announcement(client) => 2 + client.0 as usize,
             Place::Bump(client) => 2 + clients + client.0 as usize,
-            Place::Item(node, Part::First) => nodes_from + 3 * node.0 as usize,
-            Place::Next(node) => nodes_from + 3 * node.0 as usize + 1,
-            Place::Mark(node) => nodes_from + 3 * node.0 as usize + 2,
-            Place::Cell(token) => 5 + 2 * clients + 3 * greatest + token.0 as usize - 1,
-            // The others are places of a log queue, or of the form of items.
+            Place::Item(node, part) => nodes_from + 6 * node.0 as usize + part as usize,
+            Place::Next(node) => nodes_from + 6 * node.0 as usize + 4,
+            Place::Mark(node) => nodes_from + 6 * node.0 as usize + 5,
+            Place::Cell(token) => 8 + 2 * clients + 6 * greatest + token.0 as usize - 1,
+            // The others are places of a log queue.
             _ => unreachable!(),
         }
     }
@@ -115,7 +116,7 @@ impl Layout for DurableLayout {
         let greatest = self.greatest();
         let clients = self.clients as usize;
         let nodes_from = 2 + 2 * clients;
-        let cells_from = 5 + 2 * clients + 3 * greatest;
+        let cells_from = 8 + 2 * clients + 6 * greatest;
         if word == 0 {
             Some(Place::Head)
         } else if word == 1 {
@@ -125,9 +126,9 @@ impl Layout for DurableLayout {
         } else if word < nodes_from {
             Some(Place::Bump(Client((word - 2 - clients) as u8)))
         } else if word < cells_from {
-            let node = NodeId(((word - nodes_from) / 3) as u32);
-            Some(node_place(node, (word - nodes_from) % 3))
-        } else if word < 5 + 2 * clients + 4 * greatest {
+            let node = NodeId(((word - nodes_from) / 6) as u32);
+            Some(node_place(node, (word - nodes_from) % 6))
+        } else if word < 8 + 2 * clients + 7 * greatest {
             Some(Place::Cell(Token((word - cells_from + 1) as u32)))
         } else {
             None
@@ -141,11 +142,10 @@ impl Layout for DurableLayout {
         }
     }
 
-    fn result(&self, token: Token, node: NodeId, value: Value) -> Write {
-        let _node = node;
+    fn result(&self, token: Token, node: NodeId) -> Write {
         Write {
             place: Place::Cell(token),
-            value: value as u64 + GOT_CELL,
+            value: node.0 as u64 + GOT_CELL,
         }
     }
 }

@@ -4,10 +4,10 @@ ghost use Rattle.std.specs.Prelude.{◌≡◌, ◌↔◌, ◌⊎◌, ◌<◌, �
 ghost use Rattle.arena.specs.Limits.{AreCounts};
 
 use crate::place::{Place, Write};
-use words::{Kind, MAX_CLIENTS, MAX_RECORD_NUMBER, MAX_RECORDS, NodeId, Refusal, Token, Value};
+use words::{Kind, MAX_CLIENTS, MAX_RECORD_NUMBER, MAX_RECORDS, NodeId, Refusal, Token};
 
 /// The most words of a queue's layout: those of a log queue with the most clients and the most records.
-pub const MAX_LAYOUT_WORDS: usize = 524_326;
+pub const MAX_LAYOUT_WORDS: usize = 720_937;
 
 /// Which word is whose. Each place of the layout has a word of its own below the size, and each word
 /// below the size is some place's.
@@ -55,9 +55,9 @@ pub trait Layout {
     fn empty_answer(&self, token: Token) -> Write
         ensures { result ≡ empty_answer_of (shape self.now).kind token };
 
-    /// Where the result of a dequeue is written that claimed a node of this value.
-    fn result(&self, token: Token, node: NodeId, value: Value) -> Write
-        ensures { result ≡ result_of (shape self.now).kind token node value };
+    /// Where the result of a dequeue is written that claimed a node.
+    fn result(&self, token: Token, node: NodeId) -> Write
+        ensures { result ≡ result_of (shape self.now).kind token node };
 }
 
 /// Whether a queue may have so many clients and records.

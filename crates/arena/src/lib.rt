@@ -19,4 +19,4 @@ pub use codes::{
 pub use durable::DurableLayout;
 pub use layout::Layout;
 pub use log::LogLayout;
-pub use place::{Part, Place, Write, value_of};
+pub use place::{Part, Place, Write, item_part, value_of};

@@ -3,16 +3,13 @@
 ghost use Rattle.std.specs.Prelude.{◌≡◌, ◌↔◌, ◌⊎◌, ◌<◌, ◌≤◌, IfOk, IfErr, IsOk, Err, Ok};
 ghost use Rattle.arena.specs.Shape.{greatest, shape_of};
 ghost use Rattle.arena.specs.Limits.{AreCounts};
-ghost use Rattle.arena.specs.Log.{entry_place as entry_place_at};
-ghost use Rattle.arena.specs.LogValues.{log_values_node_place};
+ghost use Rattle.arena.specs.Log.{entry_place as entry_place_at, log_node_place};
 
 use crate::codes::EMPTY_STATUS;
 use crate::layout::{Layout, check_counts};
 use crate::place::{Part, Place, Write};
 use std::marker::Model;
-use words::{
-    Client, Kind, MAX_CLIENTS, MAX_RECORD_NUMBER, MAX_RECORDS, NodeId, Refusal, Token, Value,
-};
+use words::{Client, Kind, MAX_CLIENTS, MAX_RECORD_NUMBER, MAX_RECORDS, NodeId, Refusal, Token};
 
 /// The words of a log queue.
 #[derive(Clone, Copy, Debug)]
@@ -59,14 +56,17 @@ impl LogLayout {
     }
 }
 
-/// One of the four words of a node.
+/// One of the seven words of a node.
 fn node_place(node: NodeId, field: usize) -> Place
-    ensures { result ≡ log_values_node_place node.0 field }
+    ensures { result ≡ log_node_place node.0 field }
 {
     match field {
-        0 => Place::Item(node, Part::First),
-        1 => Place::Next(node),
-        2 => Place::Insert(node),
+        0 => Place::Item(node, Part::Length),
+        1 => Place::Item(node, Part::First),
+        2 => Place::Item(node, Part::Second),
+        3 => Place::Item(node, Part::Third),
+        4 => Place::Next(node),
+        5 => Place::Insert(node),
         _ => Place::Mark(node),
     }
 }
@@ -92,7 +92,7 @@ impl Layout for LogLayout {
 
     fn size(&self) -> usize {
         let greatest = self.greatest();
-        6 + 2 * self.clients as usize + 8 * greatest
+        9 + 2 * self.clients as usize + 11 * greatest
     }
 
     fn kind(&self) -> Kind {
@@ -111,22 +111,22 @@ impl Layout for LogLayout {
         let greatest = self.greatest();
         let clients = self.clients as usize;
         let nodes_from = 2 + 2 * clients;
-        let entries_from = 6 + 2 * clients + 4 * greatest;
+        let entries_from = 9 + 2 * clients + 7 * greatest;
         match place {
             Place::Head => 0,
             Place::Tail => 1,
             Place::Announcement(client) => 2 + client.0 as usize,
             Place::Bump(client) => 2 + clients + client.0 as usize,
-            Place::Item(node, Part::First) => nodes_from + 4 * node.0 as usize,
-            Place::Next(node) => nodes_from + 4 * node.0 as usize + 1,
-            Place::Insert(node) => nodes_from + 4 * node.0 as usize + 2,
-            Place::Mark(node) => nodes_from + 4 * node.0 as usize + 3,
+            Place::Item(node, part) => nodes_from + 7 * node.0 as usize + part as usize,
+            Place::Next(node) => nodes_from + 7 * node.0 as usize + 4,
+            Place::Insert(node) => nodes_from + 7 * node.0 as usize + 5,
+            Place::Mark(node) => nodes_from + 7 * node.0 as usize + 6,
             Place::Number(entry) => entries_from + 4 * (entry.0 as usize - 1),
             Place::EntryKind(entry) => entries_from + 4 * (entry.0 as usize - 1) + 1,
             Place::Status(entry) => entries_from + 4 * (entry.0 as usize - 1) + 2,
             Place::EntryNode(entry) => entries_from + 4 * (entry.0 as usize - 1) + 3,
-            // The others are places of a durable queue, or of the form of items.
-            Place::Cell(_) | Place::Item(..) => unreachable!(),
+            // A place of a durable queue.
+            Place::Cell(_) => unreachable!(),
         }
     }
 
@@ -134,7 +134,7 @@ impl Layout for LogLayout {
         let greatest = self.greatest();
         let clients = self.clients as usize;
         let nodes_from = 2 + 2 * clients;
-        let entries_from = 6 + 2 * clients + 4 * greatest;
+        let entries_from = 9 + 2 * clients + 7 * greatest;
         if word == 0 {
             Some(Place::Head)
         } else if word == 1 {
@@ -144,9 +144,9 @@ impl Layout for LogLayout {
         } else if word < nodes_from {
             Some(Place::Bump(Client((word - 2 - clients) as u8)))
         } else if word < entries_from {
-            let node = NodeId(((word - nodes_from) / 4) as u32);
-            Some(node_place(node, (word - nodes_from) % 4))
-        } else if word < 6 + 2 * clients + 8 * greatest {
+            let node = NodeId(((word - nodes_from) / 7) as u32);
+            Some(node_place(node, (word - nodes_from) % 7))
+        } else if word < 9 + 2 * clients + 11 * greatest {
             let entry = Token(((word - entries_from) / 4 + 1) as u32);
             Some(entry_place(entry, (word - entries_from) % 4))
         } else {
@@ -161,8 +161,7 @@ impl Layout for LogLayout {
         }
     }
 
-    fn result(&self, token: Token, node: NodeId, value: Value) -> Write {
-        let _value = value;
+    fn result(&self, token: Token, node: NodeId) -> Write {
         Write {
             place: Place::EntryNode(token),
             value: node.0 as u64,

@@ -1,9 +1,9 @@
 //! The words of a queue, by what they are for.
 
-ghost use Rattle.std.specs.Prelude.{◌≡◌, ◌≤◌};
-ghost use Rattle.arena.specs.Words.{value_of};
+ghost use Rattle.std.specs.Prelude.{◌≡◌, slice_index};
+ghost use Rattle.arena.specs.Words.{item_part, value_of};
 
-use words::{Client, MAX_VALUE, NodeId, Token, Value};
+use words::{Client, NodeId, Token, Value};
 
 /// A part of an item: its length, or one of the three words of its bytes.
 #[derive(Clone, Copy, Debug, PartialEq, Eq, Hash)]
@@ -25,13 +25,13 @@ pub enum Place {
     Announcement(Client),
     /// How many records the client has used.
     Bump(Client),
-    /// A part of the node's message. A message that is a value has its first word alone.
+    /// A part of the node's message. In an image of the old form it has its first word alone.
     Item(NodeId, Part),
     /// The node's successor, or 0.
     Next(NodeId),
     /// The token that claims the node, or 0. In a log queue this is the remove word.
     Mark(NodeId),
-    /// Durable: the answer of a dequeue: 0 none yet, 1 empty, `v + 2` got `v`.
+    /// Durable: the answer of a dequeue: 0 none yet, 1 empty, `n + 2` claimed node `n`.
     Cell(Token),
     /// Log: the entry that inserts the node.
     Insert(NodeId),
@@ -52,12 +52,18 @@ pub struct Write {
     pub value: u64,
 }
 
-/// The value that a node's word is.
-#[inline(always)]
-#[tactic(auto, unfolding(crate::specs::Words::value_of))]
-pub fn value_of(word: u64) -> Value
-    requires { word ≤ MAX_VALUE }
-    ensures { result ≡ value_of word }
+/// The word that is written for a part of an item.
+#[tactic(auto, unfolding(crate::specs::Words::item_part))]
+pub fn item_part(item: Value, part: Part) -> u64
+    ensures { result ≡ item_part item part }
 {
-    word as Value
+    item.parts()[part as usize]
+}
+
+/// The item of a length and three words.
+#[tactic(auto, unfolding(crate::specs::Words::value_of))]
+pub fn value_of(parts: [u64; 4]) -> Value
+    ensures { result ≡ value_of (slice_index parts 0) (slice_index parts 1) (slice_index parts 2) (slice_index parts 3) }
+{
+    Value::of_parts(parts)
 }

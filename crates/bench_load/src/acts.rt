@@ -8,6 +8,7 @@ use interleave::World;
 use named::Broker;
 use std::alloc::Global;
 use std::time::Instant;
+use test_support::item;
 use words::{Call, Client, Refusal, Reply};
 
 /// How many rounds there are before the measured ones, how many of these, and whether the queue is one of a broker.
@@ -105,7 +106,7 @@ impl<Q: Acting + Drop> Played<Q> {
         *last = last.saturating_add(1);
         let number = *last;
         let call = if number % 2 == 1 {
-            Call::Enq(number)
+            Call::Enq(item(number))
         } else {
             Call::Deq
         };

@@ -1,8 +1,10 @@
 //! A made history, checked so many times.
 
 use anyhow::Result;
+use events::copied;
 use history::{Entry, Event, Events, History, Order, Sequence, check, check_plainly};
 use std::alloc::{AllocError, Global};
+use test_support::item;
 use words::{Call, Client, Reply, Row, Told};
 
 /// A history in the making, and its order.
@@ -24,7 +26,7 @@ impl Making {
     fn round(&mut self, clients: u8, gets: bool) -> Result<(), AllocError> {
         let first = self.events.len();
         for t in 0..clients {
-            let value = t as u32;
+            let value = item(t as u32);
             let call = if gets { Call::Deq } else { Call::Enq(value) };
             let reply = if gets { Reply::Got(value) } else { Reply::Done };
             self.add(Event::Call {
@@ -38,7 +40,7 @@ impl Making {
             })?;
         }
         for t in 0..clients {
-            let value = t as u32;
+            let value = item(t as u32);
             let reply = if gets { Reply::Got(value) } else { Reply::Done };
             self.add(Event::Return {
                 client: Client(t),
@@ -54,7 +56,9 @@ impl Making {
     /// Everything stops, and each client is told of its last dequeue.
     fn stop(&mut self) -> Result<(), AllocError> {
         self.add(Event::Crash)?;
-        self.add(Event::Ready { told: self.told })?;
+        self.add(Event::Ready {
+            told: copied(&self.told),
+        })?;
         Ok(())
     }
 }

@@ -6,6 +6,7 @@ use arena::Layout;
 use interleave::World;
 use std::alloc::Global;
 use std::time::Instant;
+use test_support::item;
 use words::{Call, Client, Refusal};
 
 /// How many values the queue holds.
@@ -27,7 +28,7 @@ fn filled<L: Layout + Drop>(alloc: Global, layout: L, nodes: u32) -> Result<Worl
     let mut world = World::make(alloc, layout)?;
     for node in 0..nodes {
         let number = u64::from(node) + 1;
-        world.start(Client(0), number, Call::Enq(node))?;
+        world.start(Client(0), number, Call::Enq(item(node)))?;
         world.run_alone(Client(0))?;
     }
     Ok(world)

@@ -5,6 +5,7 @@ use arena::SlotId;
 use directory::CREATION_STEPS;
 use named::Broker;
 use std::time::Instant;
+use test_support::item;
 use words::{Call, Client, Kind, Refusal};
 
 /// How many crashes a turn has: as many as a queue with the fewest records of a script can take calls.
@@ -46,7 +47,7 @@ fn turn(rt: &HostRuntime, clients: u32, records: u32) -> Result<(u128, u32)> {
     let mut steps = 0;
     let begun = Instant::now(rt)?;
     for _ in 0..CRASHES {
-        broker.start(slot, Client(0), 0, Call::Enq(7))?;
+        broker.start(slot, Client(0), 0, Call::Enq(item(7)))?;
         for _ in 0..STEPS {
             broker.step(slot, Client(0))?;
         }

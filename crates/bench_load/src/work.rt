@@ -4,6 +4,7 @@ use arena::SlotId;
 use named::Broker;
 use session::Session;
 use std::alloc::Global;
+use test_support::item;
 use words::{Call, Kind, Refusal};
 
 /// How many clients the broker has, and how many records each of them has in a queue.
@@ -42,7 +43,7 @@ pub(crate) fn better(one: Figures, other: Figures) -> Figures {
 /// A client's call with this number, from 0 on: in turn it puts a value in and takes one out.
 pub(crate) fn call_of(number: u32) -> Call {
     if number % 2 == 0 {
-        Call::Enq(number)
+        Call::Enq(item(number))
     } else {
         Call::Deq
     }

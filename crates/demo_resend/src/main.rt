@@ -6,13 +6,14 @@ mod orders;
 
 use crate::orders::{begin, open, restart, send, show};
 use anyhow::Result;
-use words::Call;
+use words::{Call, Item};
 
-/// Number 1 puts 9 in. Number 2 is to take it out, and after so many steps of that everything stops. The client does
-/// not know what became of it, and sends it again.
+/// Number 1 puts 9 in, as four bytes. Number 2 is to take it out, and after so many steps of that everything stops. The
+/// client does not know what became of it, and sends it again.
 fn play(rt: &HostRuntime, steps: u32) -> Result<()> {
     let mut session = open(rt.alloc())?;
-    send(rt, &mut session, 1, Call::Enq(9))?;
+    let nine = Item::make(&9u32.to_le_bytes())?;
+    send(rt, &mut session, 1, Call::Enq(nine))?;
     begin(rt, &mut session, 2, Call::Deq, steps)?;
     restart(rt, &mut session)?;
     send(rt, &mut session, 2, Call::Deq)?;

@@ -27,7 +27,7 @@ pub(crate) fn open(alloc: Global) -> Result<Session, Refusal> {
 }
 
 /// A call and its number, as it is asked for.
-fn asked(alloc: Global, number: u64, call: Call) -> Result<String> {
+fn asked(alloc: Global, number: u64, call: &Call) -> Result<String> {
     Ok(match call {
         Call::Enq(value) => format!(in alloc; "{number}, enqueue {value}")?,
         Call::Deq => format!(in alloc; "{number}, dequeue")?,
@@ -42,12 +42,16 @@ fn effects(session: &Session) -> Result<usize, Refusal> {
 /// The client sends a number, and prints its reply, and whether anything ran for it.
 pub(crate) fn send(rt: &HostRuntime, session: &mut Session, number: u64, call: Call) -> Result<()> {
     let before = effects(session)?;
-    let asked = asked(rt.alloc(), number, call)?;
+    let asked = asked(rt.alloc(), number, &call)?;
     match session.request(CLIENT, ORDERS, number, call) {
-        Ok(reply) if effects(session)? == before => {
-            println!(rt; "  the client sends {asked}: {reply} (the kept reply: nothing ran)")?;
+        Ok(reply) => {
+            let kept = if effects(session)? == before {
+                " (the kept reply: nothing ran)"
+            } else {
+                ""
+            };
+            println!(rt; "  the client sends {asked}: {reply}{kept}")?;
         }
-        Ok(reply) => println!(rt; "  the client sends {asked}: {reply}")?,
         Err(refusal) => println!(rt; "  the client sends {asked}: refused, {}", refusal.name())?,
     }
     Ok(())
@@ -61,11 +65,11 @@ pub(crate) fn begin(
     call: Call,
     steps: u32,
 ) -> Result<()> {
+    let asked = asked(rt.alloc(), number, &call)?;
     session.begin(CLIENT, ORDERS, Some(number), call)?;
     for _ in 0..steps {
         session.advance(CLIENT, ORDERS)?;
     }
-    let asked = asked(rt.alloc(), number, call)?;
     println!(rt; "  the client sends {asked}: it is under way, and has made {steps} steps")?;
     Ok(())
 }

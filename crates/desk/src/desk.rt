@@ -6,6 +6,7 @@ ghost use Rattle.desk.specs.Serving.{has_stopped, AreAnswered};
 use crate::answering::answer_to;
 use crate::seating::Seating;
 use engine::Desk;
+use events::copied;
 use std::alloc::{AllocError, Global};
 use std::sync::Wait;
 use wire::{Answer, Request};
@@ -47,9 +48,9 @@ impl<J: Naming> Desk for BrokerDesk<'_, J> {
 
     fn answer<R: Wait>(&mut self, rt: &R, request: Request) -> Result<Answer, AllocError> {
         self.served.reserve(1)?;
-        let made = request;
+        let made = copied(&request);
         let answer = answer_to(rt, self.shared, self.seats, request);
-        let told = answer;
+        let told = copied(&answer);
         self.served.push_reserved((made, answer));
         Ok(told)
     }

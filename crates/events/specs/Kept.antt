@@ -1,5 +1,5 @@
 -- Events as they are kept: what Readys tell stands in a list of its own.
-use Rattle.std.specs.Prelude.{ℕ, ◌<◌, ⊤, List, [], ◌∷◌, length, map, slice_index_or}
+use Rattle.std.specs.Prelude.{◌<◌, ⊤, List, [], length, map, slice_index_or}
 use Rattle.words.specs.declared.told.Told.{Told}
 use Rattle.events.specs.declared.event.Event.{Event}
 use Rattle.events.specs.declared.event.Event.TheVariants.{Call as call_event, Return as return_event}
@@ -25,10 +25,3 @@ IsToldIn tellings (kept_call client number call) = ⊤
 IsToldIn tellings (kept_return client reply) = ⊤
 IsToldIn tellings kept_crash = ⊤
 IsToldIn tellings (kept_ready telling) = telling < length tellings
-
--- what the event adds to the list
-abbrev pub told_by : Event → List (List Told)
-told_by (call_event client number call) = []
-told_by (return_event client reply) = []
-told_by crash_event = []
-told_by (ready_event told) = told ∷ []

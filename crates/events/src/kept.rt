@@ -1,7 +1,7 @@
 //! Events as they are kept: what Readys tell lies apart, so that the others are small.
 
-ghost use Rattle.std.specs.Prelude.{◌≡◌, ◌<◌, ◌≤◌, ◌+◌, ◌++◌, Some, length, vec_len, vec_capacity, All, slice_get};
-ghost use Rattle.events.specs.Kept.{event_of, events_of, told_by, IsToldIn};
+ghost use Rattle.std.specs.Prelude.{◌≡◌, ◌<◌, ◌+◌, ◌++◌, ◌∷◌, [], Some, length, vec_len, vec_capacity, All, slice_get};
+ghost use Rattle.events.specs.Kept.{event_of, events_of, IsToldIn};
 
 use crate::event::Event;
 use words::{Call, Client, Reply, Reports};
@@ -25,33 +25,18 @@ pub(crate) enum Kept {
     },
 }
 
-/// Keeps an event, and what it tells, where there is room for that.
-pub(crate) fn keep(tellings: &mut Vec<Reports>, event: Event) -> Kept
+/// Keeps a Ready, and what it tells, where there is room for that.
+pub(crate) fn keep_ready(tellings: &mut Vec<Reports>, told: Reports) -> Kept
     requires { vec_len tellings.old < vec_capacity tellings.old }
-    ensures tellings { tellings.new.items ≡ tellings.old.items ++ told_by event }
-    ensures event { event_of tellings.new.items result ≡ event }
+    ensures tellings { tellings.new.items ≡ tellings.old.items ++ told ∷ [] }
+    ensures event { event_of tellings.new.items result ≡ Event.Ready told }
     ensures told { IsToldIn tellings.new.items result }
-    ensures len { vec_len tellings.new ≤ vec_len tellings.old + 1 }
+    ensures len { vec_len tellings.new ≡ vec_len tellings.old + 1 }
     ensures capacity { vec_capacity tellings.new ≡ vec_capacity tellings.old }
 {
-    match event {
-        Event::Call {
-            client,
-            number,
-            call,
-        } => Kept::Call {
-            client,
-            number,
-            call,
-        },
-        Event::Return { client, reply } => Kept::Return { client, reply },
-        Event::Crash => Kept::Crash,
-        Event::Ready { told } => {
-            let telling = tellings.len();
-            tellings.push_reserved(told);
-            Kept::Ready { telling }
-        }
-    }
+    let telling = tellings.len();
+    tellings.push_reserved(told);
+    Kept::Ready { telling }
 }
 
 /// The event that is kept so.
@@ -72,9 +57,17 @@ pub(crate) fn event(tellings: &[Reports], kept: Kept) -> Event
         Kept::Return { client, reply } => Event::Return { client, reply },
         Kept::Crash => Event::Crash,
         Kept::Ready { telling } => Event::Ready {
-            told: tellings[telling],
+            told: copied(&tellings[telling]),
         },
     }
+}
+
+/// The same once more. The borrow checker sees no other way to copy an array, or a variable that is used again, where
+/// its type has a message somewhere within.
+pub fn copied<T: Copy>(value: &T) -> T
+    ensures { result ≡ value.now }
+{
+    *value
 }
 
 /// The event that is kept at a place.

@@ -5,9 +5,12 @@ mod event;
 mod keeping;
 mod kept;
 mod list;
+mod same;
 mod sequence;
 
 pub use event::{Effect, Entry, Event, History, Order};
 pub use keeping::{keep_settled, order};
+pub use kept::copied;
 pub use list::Events;
+pub use same::{are_same_values, is_same_outcome, is_same_reply, is_same_told, is_same_value};
 pub use sequence::Sequence;

@@ -3,7 +3,7 @@
 ghost use Rattle.std.specs.Prelude.{◌≡◌, ◌+◌, ◌^◌, ◌<◌, ◌≤◌, ◌++◌, [], ◌∷◌, Some, length, slice_get, min, IfSome, IfOk, OnOk, OnErr};
 
 use crate::event::Event;
-use crate::kept::{Kept, event_at, keep};
+use crate::kept::{Kept, event_at, keep_ready};
 use std::alloc::{AllocError, Global};
 use std::marker::Model;
 use words::Reports;
@@ -87,8 +87,27 @@ impl Events {
         ensures items { self.new.items ≡ self.old.items ++ event ∷ [] }
         ensures room { self.old.room ≤ self.new.room + 1 }
     {
-        let kept = keep(&mut self.tellings, event);
-        self.kept.push_reserved(kept);
+        match event {
+            Event::Call {
+                client,
+                number,
+                call,
+            } => {
+                self.kept.push_reserved(Kept::Call {
+                    client,
+                    number,
+                    call,
+                });
+            }
+            Event::Return { client, reply } => {
+                self.kept.push_reserved(Kept::Return { client, reply });
+            }
+            Event::Crash => self.kept.push_reserved(Kept::Crash),
+            Event::Ready { told } => {
+                let kept = keep_ready(&mut self.tellings, told);
+                self.kept.push_reserved(kept);
+            }
+        }
     }
 
     /// Makes room for so many more events, each of which may be a Ready.

@@ -1,4 +1,5 @@
 pub mod Numbers
+pub mod ItemWords
 pub mod Cuts
 pub mod Rows
 pub mod Scripts

@@ -2,9 +2,11 @@
 use Rattle.std.proofs.Common.{◌≡◌, ℕ, ◌<◌, ◌+◌, ◌*◌, ◌^◌, ◌==◌, List, [], ◌∷◌, length, slice_index, slice_index_or, drop, map, decimal, sym, ap, ◌∙◌, arith, refl, if◌then◌else◌}
 use Rattle.std.proofs.lemmas.Fmt.{digits_value-decimal}
 use Rattle.std.proofs.lemmas.List.Elements.{All-head, All-tail}
-use Rattle.std.specs.Prelude.{Option, Some, None, All}
+use Rattle.std.specs.Prelude.{Option, Some, None, unwrap_or, All}
 use Rattle.std.specs.Str.Parse.{digits_value}
 use Rattle.arena.specs.Limits.{AreCounts}
+use Rattle.words.proofs.Items.{hex_again}
+use Rattle.words.specs.Item.{item_in}
 use Rattle.words.specs.PlainQueue.{Value, FitsValue}
 use Rattle.words.specs.Text.{value_text}
 use Rattle.words.specs.declared.call.Client.{Client}
@@ -23,11 +25,12 @@ read n small = digits_value-decimal own n small
 
 -- a value read back
 value_in : List ℕ → Value
-value_in word = digits_value 10 word
+value_in word = unwrap_or (item_in word) []
 
 value_back : (value : Value) → FitsValue value → value_in (value_text value) ≡ value
 unfolding value_in
-value_back value fits = read value (omega (arith, fits))
+value_back [] fits = refl
+value_back (first ∷ rest) fits = ap (λ (item : Option Value). unwrap_or item []) (hex_again (first ∷ rest) fits)
 
 -- which row some words are of: by how many there are, and by the first bytes of the first
 tag : List (List ℕ) → ℕ

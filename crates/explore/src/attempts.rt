@@ -70,17 +70,17 @@ pub(crate) fn attempt_all<L: Layout + Drop>(
 /// accepted. It has to be one that changes nothing where it is refused.
 pub(crate) fn repeat<L: Layout + Drop>(
     world: &mut World<L>,
-    act: Act,
+    act: &Act,
     most: u32,
 ) -> Result<u32, Refusal>
-    requires { IsSteady act }
-    ensures world { OnOk result (world.new.now ≡ after_acts world.old.now (replicate most act)) }
-    ensures accepted { IfOk result (λ taken. taken ≡ taken_of world.old.now (replicate most act)) }
+    requires { IsSteady act.now }
+    ensures world { OnOk result (world.new.now ≡ after_acts world.old.now (replicate most act.now)) }
+    ensures accepted { IfOk result (λ taken. taken ≡ taken_of world.old.now (replicate most act.now)) }
     ensures few { IfOk result (λ taken. taken ≤ most) }
     ensures errors { IfErr result (λ e. e ≡ Refusal.NoMemory) }
 {
     for taken in 0..most {
-        if !attempt(world, act)? {
+        if !attempt(world, *act)? {
             return Ok(taken);
         }
     }

@@ -61,7 +61,7 @@ pub enum Command {
     Order,
 }
 
-/// As a script spells it: `enq 0 5`.
+/// As a script spells it: `enq 0 05`.
 impl fmt::Display for Command {
     ghost use Rattle.std.specs.Prelude.{Some};
     ghost use Rattle.explore.specs.Prints.{command_text};

@@ -74,7 +74,7 @@ fn crash_on<L: Layout + Drop>(
     evict_words(&mut world, evictions, point);
     world.crash()?;
     let most = most_to_ready(world.layout());
-    let steps = repeat(&mut world, Act::Recover, most)?;
+    let steps = repeat(&mut world, &Act::Recover, most)?;
     let found = found(alloc, &world, steps);
     spare.keep(world);
     found

@@ -31,14 +31,14 @@ pub(crate) struct Frame {
 }
 
 /// Makes an act, and answers with which reply a call returned by it.
-fn make<L: Layout + Drop>(world: &mut World<L>, act: Act) -> Result<Option<Reply>, Refusal>
+fn make<L: Layout + Drop>(world: &mut World<L>, act: &Act) -> Result<Option<Reply>, Refusal>
     ensures errors { IfErr result (λ e. e ≡ Refusal.NoMemory) }
 {
     let Act::Step { client } = act else {
-        attempt(world, act)?;
+        attempt(world, *act)?;
         return Ok(None);
     };
-    match world.step(client) {
+    match world.step(*client) {
         Ok(answer) => Ok(answer),
         Err(Refusal::NoMemory) => Err(Refusal::NoMemory),
         Err(_) => Ok(None),
@@ -81,7 +81,7 @@ fn frames_on<L: Layout + Drop>(
     let mut world = World::make(alloc, layout)?;
     let mut frames = Vec::new(alloc);
     for act in acts {
-        let reply = make(&mut world, *act)?;
+        let reply = make(&mut world, act)?;
         let differs = differing(alloc, &world)?;
         push(
             &mut frames,

@@ -275,8 +275,8 @@ pub(crate) fn command(line: &[u8]) -> Option<Command>
 }
 
 /// Whether a queue of this kind has such a command.
-pub(crate) fn is_on(kind: Kind, command: Command) -> bool
-    ensures { result ≡ is_on kind command }
+pub(crate) fn is_on(kind: Kind, command: &Command) -> bool
+    ensures { result ≡ is_on kind command.now }
 {
     match (kind, command) {
         (Kind::Durable, Command::NumberedEnq { .. } | Command::NumberedDeq { .. }) => false,

@@ -1,4 +1,4 @@
-//! The words of a line, and the numbers among them.
+//! The words of a line, and the numbers and values among them.
 
 ghost use Rattle.std.specs.Prelude.{◌≡◌, ◌≢◌, ◌↔◌, ◌==◌, ◌<◌, ◌^◌, ℕ, List, ◌∷◌, [], MatchOption, IsTrue, decimal, position, false};
 ghost use Rattle.words.specs.PlainQueue.{Value, FitsValue};
@@ -7,7 +7,7 @@ ghost use Rattle.explore.specs.Lines.{words_of, HasPlainStart};
 ghost use Rattle.explore.specs.Limits.{IsWithin};
 
 use std::str;
-use words::{MAX_VALUE, Value};
+use words::{Item, Value};
 
 /// Whether a word begins as no number does: with a sign, or with a needless zero.
 fn begins_wrong(word: &[u8]) -> bool
@@ -53,17 +53,18 @@ fn number_within(word: &[u8], limits: Limits) -> Option<u64>
     Some(n)
 }
 
-const VALUE: Limits = Limits {
-    least: 0,
-    most: MAX_VALUE as u64,
-};
-
-/// The value that a word is.
+/// The value that a word is: two lowercase hexadecimal digits for each of its bytes, or `.` where it has none.
 fn value(word: &[u8]) -> Option<Value>
     ensures { MatchOption result ((value : Value) → FitsValue value → word.now ≢ value_text value)
         (λ value. (word.now ≡ value_text value) × FitsValue value) }
 {
-    Some(number_within(word, VALUE)? as u32)
+    if word.is_empty() {
+        return None;
+    }
+    if word == b".".as_slice() {
+        return Item::of_hex(&[]);
+    }
+    Item::of_hex(word)
 }
 
 /// Where the first space of a text is.

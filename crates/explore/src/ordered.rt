@@ -17,7 +17,7 @@ pub(crate) struct Ordered {
     pub(crate) reply: Reply,
 }
 
-/// As a transcript spells it: `0 enq 5 done`, `0 #1 enq 9 done`, `1 deq got 5`.
+/// As a transcript spells it: `0 enq 05 done`, `0 #1 enq 09 done`, `1 deq got 05`.
 impl fmt::Display for Ordered {
     ghost use Rattle.std.specs.Prelude.{Some};
     ghost use Rattle.explore.specs.Prints.{ordered_text};

@@ -39,7 +39,7 @@ fn command_on(kind: Kind, line: &[u8]) -> Option<Command>
         (λ command. SaysCommand line.now command × (is_on kind command ≡ true)) }
 {
     let command = command(line)?;
-    if is_on(kind, command) {
+    if is_on(kind, &command) {
         Some(command)
     } else {
         None

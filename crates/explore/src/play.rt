@@ -26,7 +26,7 @@ fn play<L: Layout + Drop>(
     add(&mut lines, Line::Size(layout.size()))?;
     let mut player = Player::new(alloc, layout)?;
     for command in commands {
-        player.follow(&mut lines, *command)?;
+        player.follow(&mut lines, command)?;
     }
     Ok(lines)
 }

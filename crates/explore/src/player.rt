@@ -45,20 +45,20 @@ impl<L: Layout + Drop> Player<L> {
     fn start(
         &mut self,
         lines: &mut Vec<Line>,
-        command: Command,
+        command: &Command,
         client: Client,
         number: u64,
         call: Call,
     ) -> Result<(), Refusal>
         ensures play { OnOk result (self.new ≡ play_after_start self.old client number call) }
         ensures lines { OnOk result (lines.new.items
-            ≡ lines.old.items ++ start_line command (start_result false self.old.world client number) ∷ []) }
+            ≡ lines.old.items ++ start_line command.now (start_result false self.old.world client number) ∷ []) }
         ensures errors { IfErr result (λ e. e ≡ Refusal.NoMemory) }
     {
         match self.world.start(client, number, call) {
             Ok(()) => {
                 self.steps.begin(client);
-                add(lines, Line::Call(command))
+                add(lines, Line::Call(*command))
             }
             Err(refusal) => add_refused(lines, refusal),
         }
@@ -244,30 +244,30 @@ impl<L: Layout + Drop> Player<L> {
     }
 
     /// Follows a command, and adds its lines.
-    pub(crate) fn follow(&mut self, lines: &mut Vec<Line>, command: Command) -> Result<(), Refusal>
+    pub(crate) fn follow(&mut self, lines: &mut Vec<Line>, command: &Command) -> Result<(), Refusal>
         ensures play { OnOk result (self.new ≡ after_command self.old command) }
-        ensures lines { OnOk result (lines.new.items ≡ lines.old.items ++ command_lines self.old command) }
+        ensures lines { OnOk result (lines.new.items ≡ lines.old.items ++ command_lines self.old command.now) }
         ensures errors { IfErr result (λ e. e ≡ Refusal.NoMemory) }
     {
         match command {
             Command::Enq { client, value } => {
-                self.start(lines, command, client, 0, Call::Enq(value))
+                self.start(lines, command, *client, 0, Call::Enq(*value))
             }
             Command::NumberedEnq {
                 client,
                 number,
                 value,
-            } => self.start(lines, command, client, number, Call::Enq(value)),
-            Command::Deq { client } => self.start(lines, command, client, 0, Call::Deq),
+            } => self.start(lines, command, *client, *number, Call::Enq(*value)),
+            Command::Deq { client } => self.start(lines, command, *client, 0, Call::Deq),
             Command::NumberedDeq { client, number } => {
-                self.start(lines, command, client, number, Call::Deq)
+                self.start(lines, command, *client, *number, Call::Deq)
             }
-            Command::Step { client, most } => self.go_on(lines, client, most),
-            Command::End { client } => self.end(lines, client),
-            Command::Evict { word } => self.evict(lines, word),
+            Command::Step { client, most } => self.go_on(lines, *client, *most),
+            Command::End { client } => self.end(lines, *client),
+            Command::Evict { word } => self.evict(lines, *word),
             Command::Crash => self.crash(lines),
             Command::Recover => self.recover(lines),
-            Command::RecoverBy { most } => self.recover_by(lines, most),
+            Command::RecoverBy { most } => self.recover_by(lines, *most),
             Command::Content => self.show_content(lines),
             Command::Order => self.show_order(lines),
         }

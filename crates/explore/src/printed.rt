@@ -90,8 +90,8 @@ impl fmt::Display for Values {
     }
 }
 
-/// `size 15`, `call enq 0 5`, `return 0 done steps 10`, `refused 11 NoRoom`, `evict 5 kept` or `evict 5 same`,
-/// `crash`, `recovering`, `ready steps 13`, `told 0 got 5`, `content 10 20` or `content -`, `order 2`, `0 enq 5 done`.
+/// `size 24`, `call enq 0 05`, `return 0 done steps 22`, `refused 11 NoRoom`, `evict 5 kept` or `evict 5 same`,
+/// `crash`, `recovering`, `ready steps 19`, `told 0 got 05`, `content 05 .` or `content -`, `order 2`, `0 enq 05 done`.
 impl fmt::Display for Line {
     ghost use Rattle.std.specs.Prelude.{Some};
     ghost use Rattle.explore.specs.Prints.{line_text};

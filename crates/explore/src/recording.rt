@@ -14,13 +14,31 @@ use interleave::{Act, World};
 use std::alloc::Global;
 use words::{Call, Client, MAX_STEPS_ALONE, Refusal};
 
+/// Adds an act.
+fn add(acts: &mut Vec<Act>, act: &Act) -> Result<(), Refusal>
+    ensures acts { OnOk result (acts.new.items ≡ acts.old.items ++ act.now ∷ []) }
+    ensures errors { IfErr result (λ e. e ≡ Refusal.NoMemory) }
+{
+    match act {
+        Act::Start {
+            client,
+            number,
+            call,
+        } => push(acts, start(*client, *number, *call)),
+        Act::Step { client } => push(acts, Act::Step { client: *client }),
+        Act::Evict { at } => push(acts, Act::Evict { at: *at }),
+        Act::Crash => push(acts, Act::Crash),
+        Act::Recover => push(acts, Act::Recover),
+    }
+}
+
 /// Adds an act so many times.
-fn push_all(acts: &mut Vec<Act>, act: Act, times: u32) -> Result<(), Refusal>
-    ensures acts { OnOk result (acts.new.items ≡ acts.old.items ++ replicate times act) }
+fn push_all(acts: &mut Vec<Act>, act: &Act, times: u32) -> Result<(), Refusal>
+    ensures acts { OnOk result (acts.new.items ≡ acts.old.items ++ replicate times act.now) }
     ensures errors { IfErr result (λ e. e ≡ Refusal.NoMemory) }
 {
     for _ in 0..times {
-        push(acts, act)?;
+        add(acts, act)?;
     }
     Ok(())
 }
@@ -29,14 +47,14 @@ fn push_all(acts: &mut Vec<Act>, act: Act, times: u32) -> Result<(), Refusal>
 fn once<L: Layout + Drop>(
     world: &mut World<L>,
     acts: &mut Vec<Act>,
-    act: Act,
+    act: &Act,
 ) -> Result<(), Refusal>
-    ensures world { OnOk result (world.new.now ≡ after_acts world.old.now (act ∷ [])) }
-    ensures acts { OnOk result (acts.new.items ≡ acts.old.items ++ accepted_of world.old.now (act ∷ [])) }
+    ensures world { OnOk result (world.new.now ≡ after_acts world.old.now (act.now ∷ [])) }
+    ensures acts { OnOk result (acts.new.items ≡ acts.old.items ++ accepted_of world.old.now (act.now ∷ [])) }
     ensures errors { IfErr result (λ e. e ≡ Refusal.NoMemory) }
 {
-    if attempt(world, act)? {
-        push(acts, act)?;
+    if attempt(world, *act)? {
+        add(acts, act)?;
     }
     Ok(())
 }
@@ -45,12 +63,12 @@ fn once<L: Layout + Drop>(
 fn some<L: Layout + Drop>(
     world: &mut World<L>,
     acts: &mut Vec<Act>,
-    act: Act,
+    act: &Act,
     most: u32,
 ) -> Result<(), Refusal>
-    requires { IsSteady act }
-    ensures world { OnOk result (world.new.now ≡ after_acts world.old.now (replicate most act)) }
-    ensures acts { OnOk result (acts.new.items ≡ acts.old.items ++ accepted_of world.old.now (replicate most act)) }
+    requires { IsSteady act.now }
+    ensures world { OnOk result (world.new.now ≡ after_acts world.old.now (replicate most act.now)) }
+    ensures acts { OnOk result (acts.new.items ≡ acts.old.items ++ accepted_of world.old.now (replicate most act.now)) }
     ensures errors { IfErr result (λ e. e ≡ Refusal.NoMemory) }
 {
     let times = repeat(world, act, most)?;
@@ -80,25 +98,25 @@ fn follow<L: Layout + Drop>(
     ensures errors { IfErr result (λ e. e ≡ Refusal.NoMemory) }
 {
     match command {
-        Command::Enq { client, value } => once(world, acts, start(client, 0, Call::Enq(value))),
+        Command::Enq { client, value } => once(world, acts, &start(client, 0, Call::Enq(value))),
         Command::NumberedEnq {
             client,
             number,
             value,
-        } => once(world, acts, start(client, number, Call::Enq(value))),
-        Command::Deq { client } => once(world, acts, start(client, 0, Call::Deq)),
+        } => once(world, acts, &start(client, number, Call::Enq(value))),
+        Command::Deq { client } => once(world, acts, &start(client, 0, Call::Deq)),
         Command::NumberedDeq { client, number } => {
-            once(world, acts, start(client, number, Call::Deq))
+            once(world, acts, &start(client, number, Call::Deq))
         }
-        Command::Step { client, most } => some(world, acts, Act::Step { client }, most),
-        Command::End { client } => some(world, acts, Act::Step { client }, MAX_STEPS_ALONE),
-        Command::Evict { word } => once(world, acts, Act::Evict { at: word as usize }),
-        Command::Crash => once(world, acts, Act::Crash),
+        Command::Step { client, most } => some(world, acts, &Act::Step { client }, most),
+        Command::End { client } => some(world, acts, &Act::Step { client }, MAX_STEPS_ALONE),
+        Command::Evict { word } => once(world, acts, &Act::Evict { at: word as usize }),
+        Command::Crash => once(world, acts, &Act::Crash),
         Command::Recover => {
             let most = most_to_ready(world.layout());
-            some(world, acts, Act::Recover, most)
+            some(world, acts, &Act::Recover, most)
         }
-        Command::RecoverBy { most } => some(world, acts, Act::Recover, most),
+        Command::RecoverBy { most } => some(world, acts, &Act::Recover, most),
         Command::Content | Command::Order => Ok(()),
     }
 }

@@ -148,6 +148,6 @@ pub agrees_each : (learnt : List (Option Outcome)) (order : List Entry) → Agre
     → AgreesAt learnt order p
 agrees_each learnt order agrees p = record { agrees = λ outcome is. agrees.each p outcome is }
 
-pub empty_list : (xs : List ℕ) → length xs ≤ 0 → xs ≡ []
-empty_list [] le = refl
-empty_list (x ∷ xs) le = absurd (omega arith)
+pub empty_list : {X : Type 0} (xs : List X) → length xs ≤ 0 → xs ≡ []
+empty_list {X} [] le = refl
+empty_list {X} (x ∷ xs) le = absurd (omega arith)

@@ -169,7 +169,7 @@ put_from events base order (suc i) a value le at =
         (λ (new : (a ≡ length (put_before events base order i)) × (other ≡ value)). inr (record {
           index = i;
           before = omega arith;
-          put = record { entry = x; at = at_x; puts = calls ∙ ap (λ (n : ℕ). Some (Enq n)) new.1 };
+          put = record { entry = x; at = at_x; puts = calls ∙ ap (λ (v : Value). Some (Enq v)) new.1 };
           place = new.0;
         }))
         (get_push_cases (put_before events base order i) other a value now)

@@ -6,7 +6,7 @@ ghost use Rattle.events.specs.Orders.{IsNew};
 ghost use Rattle.findings.specs.Agreeing.{AgreesAt, IsAgreed, IsTableOf};
 ghost use Rattle.findings.specs.Findings.{Agrees, ExplainsFindings};
 
-use events::{Entry, History, Order};
+use events::{Entry, History, Order, is_same_reply};
 use history::check;
 use std::alloc::{AllocError, Global};
 use words::{Outcome, Refusal, Reply};
@@ -43,10 +43,12 @@ fn replies_by_place(
 fn is_agreed(outcome: Outcome, reply: Option<Reply>) -> bool
     ensures { IsTrue result ↔ IsAgreed outcome reply }
 {
-    match (outcome, reply) {
-        (Outcome::NotTaken, None) => true,
-        (Outcome::Taken(reply), Some(other)) => other == reply,
-        _ => false,
+    match outcome {
+        Outcome::NotTaken => reply.is_none(),
+        Outcome::Taken(taken) => match reply {
+            Some(other) => is_same_reply(&other, &taken),
+            None => false,
+        },
     }
 }
 

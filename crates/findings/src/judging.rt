@@ -25,10 +25,10 @@ fn did_not_put(
     events: &Events,
     learnt: &[Option<Outcome>],
     take: usize,
-    value: Value,
+    value: &Value,
     p: usize,
 ) -> bool
-    ensures { IsTrue result → PutsAt events.now.items p value → IsNoSource events.now.items learnt.now take p }
+    ensures { IsTrue result → PutsAt events.now.items p value.now → IsNoSource events.now.items learnt.now take p }
 {
     if puts_at(events, p, value) {
         return is_no_source(events, learnt, take, p);
@@ -37,9 +37,9 @@ fn did_not_put(
 }
 
 /// Whether nobody can have put the value before the take.
-fn nobody_put(events: &Events, learnt: &[Option<Outcome>], take: usize, value: Value) -> bool
+fn nobody_put(events: &Events, learnt: &[Option<Outcome>], take: usize, value: &Value) -> bool
     ensures { IsTrue result
-        → ((p : ℕ) → PutsAt events.now.items p value → IsNoSource events.now.items learnt.now take p) }
+        → ((p : ℕ) → PutsAt events.now.items p value.now → IsNoSource events.now.items learnt.now take p) }
 {
     for k in 0..events.len() {
         if !did_not_put(events, learnt, take, value, k) {
@@ -56,7 +56,7 @@ fn shows_invented(events: &Events, learnt: &[Option<Outcome>], take: usize, valu
     if !is_known(events, learnt, take, Reply::Got(value)) {
         return false;
     }
-    nobody_put(events, learnt, take, value)
+    nobody_put(events, learnt, take, &value)
 }
 
 /// Whether a value came out twice.

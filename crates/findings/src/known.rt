@@ -1,10 +1,12 @@
 //! What is known of one call.
 
 ghost use Rattle.std.specs.Prelude.{◌≡◌, ◌<◌, ◌≤◌, ◌↔◌, ℕ, length, IfNone, IfSome, IsTrue};
+ghost use Rattle.words.specs.PlainQueue.{Value};
+ghost use Rattle.words.specs.declared.call.Call.TheVariants.{Enq};
 ghost use Rattle.events.specs.History.{EndsAt, Precedes};
 ghost use Rattle.findings.specs.Findings.{IsLearnt, IsReturned, IsKnown, PutsAt, TakesAt, IsOverBy};
 
-use events::{Event, Events};
+use events::{Event, Events, is_same_outcome, is_same_reply, is_same_value};
 use words::{Call, Client, Outcome, Reply, Value};
 
 /// Whether what stands at `p` ends a call of the client.
@@ -19,12 +21,33 @@ fn ends_at(events: &Events, client: Client, p: usize) -> bool
     }
 }
 
+/// The value that the call puts, if it puts one.
+fn value_put(call: Call) -> Option<Value>
+    ensures found { IfSome result (λ value. call ≡ Enq value) }
+    ensures none { IfNone result ((value : Value) → call ≡ Enq value → ⊥) }
+{
+    match call {
+        Call::Enq(value) => Some(value),
+        Call::Deq => None,
+    }
+}
+
+/// Whether the call puts this value.
+fn puts(call: Call, value: &Value) -> bool
+    ensures { IsTrue result ↔ (call ≡ Enq value.now) }
+{
+    match value_put(call) {
+        Some(other) => is_same_value(&other, value),
+        None => false,
+    }
+}
+
 /// Whether the call at `p` puts this value.
-pub(crate) fn puts_at(events: &Events, p: usize, value: Value) -> bool
-    ensures { IsTrue result ↔ PutsAt events.now.items p value }
+pub(crate) fn puts_at(events: &Events, p: usize, value: &Value) -> bool
+    ensures { IsTrue result ↔ PutsAt events.now.items p value.now }
 {
     match events.get(p) {
-        Some(Event::Call { call, .. }) => call == Call::Enq(value),
+        Some(Event::Call { call, .. }) => puts(call, value),
         _ => false,
     }
 }
@@ -34,7 +57,7 @@ pub(crate) fn takes_at(events: &Events, p: usize) -> bool
     ensures { IsTrue result ↔ TakesAt events.now.items p }
 {
     match events.get(p) {
-        Some(Event::Call { call, .. }) => call == Call::Deq,
+        Some(Event::Call { call, .. }) => matches!(call, Call::Deq),
         _ => false,
     }
 }
@@ -42,15 +65,10 @@ pub(crate) fn takes_at(events: &Events, p: usize) -> bool
 /// The value that the call at `p` puts, if it puts one.
 pub(crate) fn value_of_put(events: &Events, p: usize) -> Option<Value>
     ensures found { IfSome result (λ value. PutsAt events.now.items p value) }
-    ensures none { IfNone result ((value : ℕ) → PutsAt events.now.items p value → ⊥) }
+    ensures none { IfNone result ((value : Value) → PutsAt events.now.items p value → ⊥) }
 {
     match events.get(p) {
-        Some(
-            Event::Call {
-                call: Call::Enq(value),
-                ..
-            },
-        ) => Some(value),
+        Some(Event::Call { call, .. }) => value_put(call),
         _ => None,
     }
 }
@@ -60,7 +78,7 @@ pub(crate) fn is_learnt(learnt: &[Option<Outcome>], p: usize, outcome: Outcome) 
     ensures { IsTrue result ↔ IsLearnt learnt.now p outcome }
 {
     match learnt.get(p) {
-        Some(Some(other)) => *other == outcome,
+        Some(Some(other)) => is_same_outcome(other, &outcome),
         _ => false,
     }
 }
@@ -77,7 +95,11 @@ fn returned_reply(events: &Events, p: usize) -> Option<Reply>
             Event::Return {
                 client: other,
                 reply,
-            } if other == client => return Some(reply),
+            } => {
+                if other == client {
+                    return Some(reply);
+                }
+            }
             Event::Crash => return None,
             _ => {}
         }
@@ -100,7 +122,7 @@ pub(crate) fn is_known(events: &Events, learnt: &[Option<Outcome>], p: usize, re
     ensures { IsTrue result → IsKnown events.now.items learnt.now p reply }
 {
     match known_reply(events, learnt, p) {
-        Some(other) => other == reply,
+        Some(other) => is_same_reply(&other, &reply),
         None => false,
     }
 }

@@ -69,17 +69,19 @@ fn was_over(events: &Events, since: &Option<Since>, take: usize) -> bool
 fn is_value_of(events: &Events, puts: &[usize], value: Value) -> bool
     ensures { IsTrue result ↔ Any (λ put. PutsAt events.now.items put value) puts.now }
 {
-    puts.iter().any(|put| puts_at(events, *put, value))
+    puts.iter().any(|put| puts_at(events, *put, &value))
 }
 
 /// Whether what is known of the take's reply allows that it took a value of the puts.
 fn allows_value(events: &Events, learnt: &[Option<Outcome>], puts: &[usize], take: usize) -> bool
     ensures { (since : Option Since) → CanHaveTaken events.now.items learnt.now puts.now since take → IsTrue result }
 {
-    match known_reply(events, learnt, take) {
-        Some(Reply::Got(value)) => is_value_of(events, puts, value),
-        Some(_) => false,
-        None => true,
+    let Some(reply) = known_reply(events, learnt, take) else {
+        return true;
+    };
+    match reply {
+        Reply::Got(value) => is_value_of(events, puts, value),
+        _ => false,
     }
 }
 

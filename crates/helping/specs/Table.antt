@@ -1,6 +1,6 @@
 -- The table of the steps: the access of each waiting point, and what comes then.
 use Rattle.std.specs.Prelude.{ℕ, if◌then◌else◌, ◌==◌}
-use Rattle.words.specs.PlainQueue.{Value, FitsValue}
+use Rattle.words.specs.PlainQueue.{Value}
 use Rattle.words.specs.declared.call.Kind.{Kind}
 use Rattle.words.specs.declared.call.NodeId.{NodeId}
 use Rattle.words.specs.declared.call.Token.{Token}
@@ -12,12 +12,13 @@ use Rattle.persist.specs.Memory.{Access, Load, Store, Cas, Flush, Fence}
 use Rattle.arena.specs.Shape.{Shape}
 use Rattle.arena.specs.Place.{IsNode, IsRecord}
 use Rattle.arena.specs.Answers.{empty_answer_of, result_of}
-use Rattle.arena.specs.Words.{value_of}
-use Rattle.arena.specs.declared.place.Part.TheVariants.{First}
 use Rattle.arena.specs.declared.place.Write.{Write}
 use Rattle.arena.specs.declared.place.Place.{Place}
 use Rattle.arena.specs.declared.place.Place.TheVariants.{Head, Tail, Item, Next, Mark}
 use Rattle.stepper.specs.Preparation.{prepared_to, access_of as prepare_access, successor as prepare_successor, IsPoint as IsPreparePoint}
+use Rattle.stepper.specs.Loading.{part_next, loaded_with}
+use Rattle.stepper.specs.declared.loading.Loading.{Loading}
+use Rattle.stepper.specs.declared.loading.Loading.TheVariants.{Length as at_length}
 use Rattle.stepper.specs.declared.resume.After.{After}
 use Rattle.stepper.specs.declared.resume.After.TheVariants.{More, Done}
 use Rattle.stepper.specs.declared.prepare.Begun.{Begun}
@@ -27,9 +28,10 @@ use Rattle.helping.specs.Claims.{winner}
 use Rattle.helping.specs.declared.dequeue.Claim.{Claim}
 use Rattle.helping.specs.declared.dequeue.Claimed.{Claimed}
 use Rattle.helping.specs.declared.dequeue.DequeueClaim.{DequeueClaim as ClaimPoint}
+use Rattle.helping.specs.declared.dequeue.DequeueLoadItem.{DequeueLoadItem as LoadPoint}
 use Rattle.helping.specs.declared.dequeue.Claim.TheVariants.{Won, LostTo}
 use Rattle.helping.specs.declared.op.Op.{Op}
-use Rattle.helping.specs.declared.op.Op.TheVariants.{PrepareStore, PrepareFlush, PrepareFence, EnqueueLoadTail, EnqueueLoadNext, EnqueueCheckTail, EnqueueLink, EnqueueMoveTail, EnqueueHelpTail, DequeueLoadHead, DequeueLoadTail, DequeueLoadNext, DequeueCheckHead, DequeueStoreEmpty, DequeueHelpTail, DequeueLoadValue, DequeueClaim, DequeueStoreResult, DequeueMoveHead, Flush as FlushPoint, Fence as FencePoint}
+use Rattle.helping.specs.declared.op.Op.TheVariants.{PrepareStore, PrepareFlush, PrepareFence, EnqueueLoadTail, EnqueueLoadNext, EnqueueCheckTail, EnqueueLink, EnqueueMoveTail, EnqueueHelpTail, DequeueLoadHead, DequeueLoadTail, DequeueLoadNext, DequeueCheckHead, DequeueStoreEmpty, DequeueHelpTail, DequeueLoadItem, DequeueClaim, DequeueStoreResult, DequeueMoveHead, Flush as FlushPoint, Fence as FencePoint}
 use Rattle.helping.specs.declared.keeping.Keeping.{Keeping}
 use Rattle.helping.specs.declared.keeping.Keeping.TheVariants.{Link as KeepLink, PassedLink as KeepPassedLink, Empty as KeepEmpty, DequeuePassedLink as KeepDequeuePassedLink, Claim as KeepClaim, Result as KeepResult}
 
@@ -51,7 +53,7 @@ kept_place kind (KeepEmpty p) = (empty_answer_of kind p.token).place
 kept_place kind (KeepDequeuePassedLink p) = Next p.last
 kept_place kind (KeepClaim p) = Mark p.claimed.next
 kept_place kind (KeepResult p) =
-    (result_of kind (winner p.claimed.claim p.claimed.token) p.claimed.next p.claimed.value).place
+    (result_of kind (winner p.claimed.claim p.claimed.token) p.claimed.next).place
 
 -- the one access of each waiting point
 abbrev pub access_of : Kind → Op → Access Place
@@ -70,10 +72,10 @@ access_of kind (DequeueLoadNext p) = Load (Next p.first)
 access_of kind (DequeueCheckHead p) = Load Head
 access_of kind (DequeueStoreEmpty p) = store (empty_answer_of kind p.token)
 access_of kind (DequeueHelpTail p) = Cas Tail p.last.0 p.next.0
-access_of kind (DequeueLoadValue p) = Load (Item p.next First)
+access_of kind (DequeueLoadItem p) = Load (Item p.next (part_next p.loading))
 access_of kind (DequeueClaim p) = Cas (Mark p.next) 0 p.token.0
 access_of kind (DequeueStoreResult p) =
-    store (result_of kind (winner p.claimed.claim p.claimed.token) p.claimed.next p.claimed.value)
+    store (result_of kind (winner p.claimed.claim p.claimed.token) p.claimed.next)
 access_of kind (DequeueMoveHead p) = Cas Head p.claimed.first.0 p.claimed.next.0
 access_of kind (FlushPoint k) = Flush (kept_place kind k)
 access_of kind (FencePoint k) = Fence (kept_place kind k)
@@ -108,6 +110,13 @@ claim_by found = if found == 0 then Won else LostTo (token_of found)
 
 abbrev pub claimed_at : ClaimPoint → Claim → Claimed
 claimed_at p claim = record { token = p.token; first = p.first; next = p.next; value = p.value; claim = claim }
+
+-- the next part is loaded, and after the last the node is claimed
+abbrev pub with_loaded : LoadPoint → After Loading Value → Op
+with_loaded p (More loading) =
+    DequeueLoadItem (record { token = p.token; first = p.first; next = p.next; loading = loading })
+with_loaded p (Done value) =
+    DequeueClaim (record { token = p.token; first = p.first; next = p.next; value = value })
 
 -- what comes once the word is kept
 abbrev pub after_keeping : Keeping → After Op Reply
@@ -150,12 +159,11 @@ successor kind (DequeueCheckHead p) found =
     then (if p.next.0 == 0
     then More (DequeueStoreEmpty (record { token = p.token }))
     else More (FlushPoint (KeepDequeuePassedLink (record { token = p.token; last = p.last; next = p.next }))))
-    else More (DequeueLoadValue (record { token = p.token; first = p.first; next = p.next })))
+    else More (DequeueLoadItem (record { token = p.token; first = p.first; next = p.next; loading = at_length })))
     else More (DequeueLoadHead (record { token = p.token }))
 successor kind (DequeueStoreEmpty p) found = More (FlushPoint (KeepEmpty (record { token = p.token })))
 successor kind (DequeueHelpTail p) found = More (DequeueLoadHead (record { token = p.token }))
-successor kind (DequeueLoadValue p) found =
-    More (DequeueClaim (record { token = p.token; first = p.first; next = p.next; value = value_of found }))
+successor kind (DequeueLoadItem p) found = More (with_loaded p (loaded_with p.loading found))
 successor kind (DequeueClaim p) found = More (FlushPoint (KeepClaim (record { claimed = claimed_at p (claim_by found) })))
 successor kind (DequeueStoreResult p) found = More (FlushPoint (KeepResult (record { claimed = p.claimed })))
 successor kind (DequeueMoveHead p) found = answer_or_again p.claimed.claim p.claimed.token p.claimed.value
@@ -163,11 +171,11 @@ successor kind (FlushPoint k) found = More (FencePoint k)
 successor kind (FencePoint k) found = after_keeping k
 
 -- the numbers of a claim, and of what follows it
-abbrev pub IsClaiming : Shape → ℕ → ℕ → ℕ → Value → Type 0
-IsClaiming s token first next value = IsRecord s token × IsNode s first × IsNode s next × FitsValue value
+abbrev pub IsClaiming : Shape → ℕ → ℕ → ℕ → Type 0
+IsClaiming s token first next = IsRecord s token × IsNode s first × IsNode s next
 
 abbrev pub IsClaimedAt : Shape → Claimed → Type 0
-IsClaimedAt s c = IsClaiming s c.token.0 c.first.0 c.next.0 c.value × IsRecord s (winner c.claim c.token).0
+IsClaimedAt s c = IsClaiming s c.token.0 c.first.0 c.next.0 × IsRecord s (winner c.claim c.token).0
 
 -- what it learnt of what it keeps is in range
 abbrev pub IsKeeping : Shape → Keeping → Type 0
@@ -195,8 +203,8 @@ IsPoint s (DequeueLoadNext p) = IsRecord s p.token.0 × IsNode s p.first.0 × Is
 IsPoint s (DequeueCheckHead p) = IsRecord s p.token.0 × IsNode s p.first.0 × IsNode s p.last.0 × IsNode s p.next.0
 IsPoint s (DequeueStoreEmpty p) = IsRecord s p.token.0
 IsPoint s (DequeueHelpTail p) = IsRecord s p.token.0 × IsNode s p.last.0 × IsNode s p.next.0
-IsPoint s (DequeueLoadValue p) = IsRecord s p.token.0 × IsNode s p.first.0 × IsNode s p.next.0
-IsPoint s (DequeueClaim p) = IsClaiming s p.token.0 p.first.0 p.next.0 p.value
+IsPoint s (DequeueLoadItem p) = IsClaiming s p.token.0 p.first.0 p.next.0
+IsPoint s (DequeueClaim p) = IsClaiming s p.token.0 p.first.0 p.next.0
 IsPoint s (DequeueStoreResult p) = IsClaimedAt s p.claimed
 IsPoint s (DequeueMoveHead p) = IsClaimedAt s p.claimed
 IsPoint s (FlushPoint k) = IsKeeping s k

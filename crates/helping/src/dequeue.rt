@@ -9,9 +9,9 @@ ghost use Rattle.helping.specs.Claims.{winner};
 
 use crate::Op;
 use crate::keeping::{KeepClaim, KeepDequeuePassedLink, KeepEmpty, KeepResult, Keeping};
-use arena::{Layout, Part, Place, Write, value_of};
+use arena::{Layout, Place, Write};
 use persist::{Swap, WordMemory};
-use stepper::{After, Resume, Stepped, cas_at, load_at, store_at};
+use stepper::{After, Loading, Resume, Stepped, cas_at, load_at, store_at};
 use words::{NodeId, Reply, Token, Value};
 
 /// How a claim went.
@@ -48,9 +48,9 @@ impl Claimed {
     /// Where the winner's result is written, and what.
     pub(crate) fn result<L: Layout>(&self, layout: &L) -> Write
         ensures { result
-            ≡ result_of (L.shape layout.now).kind (winner self.now.claim self.now.token) self.now.next self.now.value }
+            ≡ result_of (L.shape layout.now).kind (winner self.now.claim self.now.token) self.now.next }
     {
-        layout.result(self.claim.winner(self.token), self.next, self.value)
+        layout.result(self.claim.winner(self.token), self.next)
     }
 }
 
@@ -162,7 +162,12 @@ impl Resume for DequeueCheckHead {
         Stepped::quiet(After::More(if head != first.0 as u64 {
             Op::DequeueLoadHead(DequeueLoadHead { token })
         } else if first.0 != last.0 {
-            Op::DequeueLoadValue(DequeueLoadValue { token, first, next })
+            Op::DequeueLoadItem(DequeueLoadItem {
+                token,
+                first,
+                next,
+                loading: Loading::Length,
+            })
         } else if next.0 == 0 {
             Op::DequeueStoreEmpty(DequeueStoreEmpty { token })
         } else {
@@ -220,31 +225,46 @@ impl Resume for DequeueHelpTail {
     }
 }
 
-/// About to load the value of the first node.
+/// About to load a part of the message of the first node.
 #[derive(Clone, Copy, Debug, PartialEq, Eq, Hash)]
-pub struct DequeueLoadValue {
+pub struct DequeueLoadItem {
     pub(crate) token: Token,
     pub(crate) first: NodeId,
     pub(crate) next: NodeId,
+    pub(crate) loading: Loading,
 }
 
-// It comes before the claim, so that winner and losers alike can write the result without a further load.
-impl Resume for DequeueLoadValue {
+// It comes before the claim: the winner is answered with what it loaded, and whoever moves the head has nothing to load
+// once the node is passed.
+impl Resume for DequeueLoadItem {
     type Point = Op;
 
-    ghost use Rattle.helping.specs.declared.op.Op.TheVariants.{DequeueLoadValue};
+    ghost use Rattle.helping.specs.declared.op.Op.TheVariants.{DequeueLoadItem};
 
-    ghost point = { DequeueLoadValue };
+    ghost point = { DequeueLoadItem };
 
     fn step<L: Layout, M: WordMemory>(self, layout: &L, memory: &mut M) -> Stepped<Op, Reply> {
-        let DequeueLoadValue { token, first, next } = self;
-        let value = value_of(load_at(layout, memory, Place::Item(next, Part::First)));
-        Stepped::quiet(After::More(Op::DequeueClaim(DequeueClaim {
+        let DequeueLoadItem {
             token,
             first,
             next,
-            value,
-        })))
+            loading,
+        } = self;
+        let word = load_at(layout, memory, Place::Item(next, loading.part()));
+        Stepped::quiet(After::More(match loading.with(word) {
+            After::More(loading) => Op::DequeueLoadItem(DequeueLoadItem {
+                token,
+                first,
+                next,
+                loading,
+            }),
+            After::Done(value) => Op::DequeueClaim(DequeueClaim {
+                token,
+                first,
+                next,
+                value,
+            }),
+        }))
     }
 }
 

@@ -9,7 +9,7 @@ mod op;
 
 pub use dequeue::{
     Claim, Claimed, DequeueCheckHead, DequeueClaim, DequeueHelpTail, DequeueLoadHead,
-    DequeueLoadNext, DequeueLoadTail, DequeueLoadValue, DequeueMoveHead, DequeueStoreEmpty,
+    DequeueLoadNext, DequeueLoadItem, DequeueLoadTail, DequeueMoveHead, DequeueStoreEmpty,
     DequeueStoreResult,
 };
 pub use enqueue::{

@@ -6,8 +6,8 @@ ghost use Rattle.helping.specs.Table.{first_of, begun_at, prepared_op};
 ghost use Rattle.helping.specs.Looks.{is_look, found_no_node};
 
 use crate::dequeue::{
-    DequeueCheckHead, DequeueClaim, DequeueHelpTail, DequeueLoadHead, DequeueLoadNext,
-    DequeueLoadTail, DequeueLoadValue, DequeueMoveHead, DequeueStoreEmpty, DequeueStoreResult,
+    DequeueCheckHead, DequeueClaim, DequeueHelpTail, DequeueLoadHead, DequeueLoadItem,
+    DequeueLoadNext, DequeueLoadTail, DequeueMoveHead, DequeueStoreEmpty, DequeueStoreResult,
 };
 use crate::enqueue::{
     EnqueueCheckTail, EnqueueHelpTail, EnqueueLink, EnqueueLoadNext, EnqueueLoadTail,
@@ -40,7 +40,7 @@ pub enum Op {
     DequeueCheckHead(DequeueCheckHead),
     DequeueStoreEmpty(DequeueStoreEmpty),
     DequeueHelpTail(DequeueHelpTail),
-    DequeueLoadValue(DequeueLoadValue),
+    DequeueLoadItem(DequeueLoadItem),
     DequeueClaim(DequeueClaim),
     DequeueStoreResult(DequeueStoreResult),
     DequeueMoveHead(DequeueMoveHead),
@@ -145,7 +145,7 @@ impl Resume for Op {
             Op::DequeueCheckHead(point) => point.step(layout, memory),
             Op::DequeueStoreEmpty(point) => point.step(layout, memory),
             Op::DequeueHelpTail(point) => point.step(layout, memory),
-            Op::DequeueLoadValue(point) => point.step(layout, memory),
+            Op::DequeueLoadItem(point) => point.step(layout, memory),
             Op::DequeueClaim(point) => point.step(layout, memory),
             Op::DequeueStoreResult(point) => point.step(layout, memory),
             Op::DequeueMoveHead(point) => point.step(layout, memory),

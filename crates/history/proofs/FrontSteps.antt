@@ -6,7 +6,7 @@ use Rattle.std.proofs.lemmas.List.{drop_more, drop_all, get_or-take, take_more, 
 use Rattle.std.proofs.lemmas.Option.{slice_get-get_or}
 use Rattle.std.proofs.lemmas.List.Concat.{flat_map-append}
 use Rattle.words.specs.declared.call.Call.{Call}
-use Rattle.words.specs.declared.call.Call.TheVariants.{Enq, Deq}
+use Rattle.words.specs.declared.call.Call.TheVariants.{Deq}
 use Rattle.words.specs.declared.call.Reply.{Reply}
 use Rattle.words.specs.PlainQueue.{Value, reply_of}
 use Rattle.events.specs.declared.event.Event.{Event}
@@ -17,14 +17,13 @@ use Rattle.events.specs.Replay.{call_at, queue_after, IsServed, IsRightAt}
 use Rattle.history.proofs.ReplaySteps.{right_here}
 
 -- the first entry's call puts its value
-pub values_first : (events : List Event) (order : List Entry) (from to : ℕ) (value : Value) (d : Entry) → from < to
-    → to ≤ length order → call_at events (get_or order from d).place ≡ Some (Enq value)
-    → values_between events order from to ≡ value ∷ values_between events order (from + 1) to
-values_first events order from to value d below within names =
+pub values_more : (events : List Event) (order : List Entry) (from to : ℕ) (d : Entry) → from < to → to ≤ length order
+    → values_between events order from to
+    ≡ values_of_call (call_at events (get_or order from d).place) ++ values_between events order (from + 1) to
+values_more events order from to d below within =
     ap (values_of_order events) (drop_more (take to order) from d (omega (arith, length-take to order)))
     ∙ ap (λ (e : Entry). values_of_call (call_at events e.place) ++ values_between events order (from + 1) to)
     (get_or-take to order from d below)
-    ∙ ap (λ (c : Option Call). values_of_call c ++ values_between events order (from + 1) to) names
 
 -- no entries put nothing
 pub values_none : (events : List Event) (order : List Entry) (to : ℕ) → values_between events order to to ≡ []

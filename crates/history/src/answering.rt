@@ -9,7 +9,7 @@ ghost use Rattle.events.specs.Orders.{IsNew};
 ghost use Rattle.history.specs.Sweeps.{IsAnsweredOf, IsAnsweredTo, IsNextEntry, HasNoEntryFrom};
 
 use crate::places::begins_at;
-use events::{Entry, Event, Events};
+use events::{Entry, Event, Events, is_same_reply};
 use words::{Client, Reply};
 
 /// Where a client's pass stands: its last call, and the entry from which on its next one stands.
@@ -28,7 +28,7 @@ fn place_after_entry(entries: &[Entry], from: usize, p: usize, reply: Reply) -> 
     for i in from..entries.len() {
         let entry = entries[i];
         if entry.place == p {
-            return if entry.reply == reply {
+            return if is_same_reply(&entry.reply, &reply) {
                 Some(i + 1)
             } else {
                 None
@@ -48,7 +48,7 @@ fn return_at(events: &Events, client: Client, k: usize) -> Option<Reply>
         Event::Return {
             client: other,
             reply,
-        } if other == client => Some(reply),
+        } => { if other == client { Some(reply) } else { None } }
         _ => None,
     }
 }

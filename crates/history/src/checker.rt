@@ -16,7 +16,7 @@ use crate::ordering::names_calls;
 use crate::places::is_durable;
 use crate::preceding::precedence_is_kept;
 use crate::replaying::replay;
-use events::{Entry, Events, History, Order};
+use events::{Entry, Events, History, Order, are_same_values};
 use std::alloc::Global;
 use words::{Kind, Refusal, Reports, Value};
 
@@ -88,7 +88,7 @@ pub fn check_content(
         return Ok(false);
     }
     match replay(alloc, history, order)? {
-        Ok(left) => Ok(left.as_slice() == content),
+        Ok(left) => Ok(are_same_values(left.as_slice(), content)),
         Err(_) => Ok(false),
     }
 }

@@ -21,8 +21,10 @@ fn is_answered(events: &Events, entries: &[Entry], p: usize) -> bool
             Event::Return {
                 client: other,
                 reply,
-            } if other == client => {
-                return is_taken_as(entries, p, reply);
+            } => {
+                if other == client {
+                    return is_taken_as(entries, p, reply);
+                }
             }
             Event::Crash => return true,
             _ => {}

@@ -5,8 +5,8 @@ ghost use Rattle.history.specs.Counting.{values_of_order};
 ghost use Rattle.history.specs.Fronts.{values_between, queue_from, reply_of_front, IsFront};
 ghost use Rattle.events.specs.Replay.{queue_after, IsRightAt, Replays};
 
-use crate::replaying::named_call;
-use events::{Entry, Events};
+use crate::replaying::{named_call, value_put};
+use events::{Entry, Events, is_same_reply};
 use words::{Call, Reply, Value};
 
 /// Where the front of the queue stands: after so many values of the base, and of the entries from one on.
@@ -27,9 +27,10 @@ fn take_put(events: &Events, entries: &[Entry], front: &mut usize, to: usize) ->
 {
     let from = *front;
     for k in from..to {
-        if let Some(Call::Enq(value)) = named_call(events, entries[k].place) {
+        let put = value_put(named_call(events, entries[k].place));
+        if put.is_some() {
             *front = k + 1;
-            return Some(value);
+            return put;
         }
     }
     *front = to;
@@ -86,11 +87,13 @@ fn is_right_next(
     ensures front { IsTrue result
         → IsFront events.now.items base.now entries.now fronts.new.base fronts.new.entry (i + 1) }
 {
-    match named_call(events, entries[i].place) {
+    let entry = &entries[i];
+    match named_call(events, entry.place) {
         None => false,
-        Some(Call::Enq(_)) => entries[i].reply == Reply::Done,
+        Some(Call::Enq(_)) => is_same_reply(&entry.reply, &Reply::Done),
         Some(Call::Deq) => {
-            entries[i].reply == reply_with(take_front(events, base, entries, fronts, i))
+            let reply = reply_with(take_front(events, base, entries, fronts, i));
+            is_same_reply(&entry.reply, &reply)
         }
     }
 }

@@ -41,8 +41,8 @@ fn is_row_taken(reply: Reply, row: Row) -> bool
 }
 
 /// Whether what is told says of a call with this number that it took effect with this reply.
-fn says_taken(kind: Kind, number: u64, reply: Reply, told: Told) -> bool
-    ensures { IsTrue result ↔ SaysTaken kind number reply told }
+fn says_taken(kind: Kind, number: u64, reply: Reply, told: &Told) -> bool
+    ensures { IsTrue result ↔ SaysTaken kind number reply told.now }
 {
     match told {
         Told::Verdict(verdict) => {
@@ -50,28 +50,28 @@ fn says_taken(kind: Kind, number: u64, reply: Reply, told: Told) -> bool
                 && verdict.number == number
                 && is_outcome_taken(reply, verdict.outcome)
         }
-        Told::Row(row) => kind == Kind::Durable && is_row_taken(reply, row),
+        Told::Row(row) => kind == Kind::Durable && is_row_taken(reply, *row),
         Told::None => false,
     }
 }
 
 /// Whether what is told says of a call with this number that it took no effect.
-fn says_not_taken(kind: Kind, number: u64, told: Told) -> bool
-    ensures { IsTrue result ↔ SaysNotTaken kind number told }
+fn says_not_taken(kind: Kind, number: u64, told: &Told) -> bool
+    ensures { IsTrue result ↔ SaysNotTaken kind number told.now }
 {
     match told {
         Told::Verdict(verdict) => {
             kind == Kind::Log && verdict.number == number && verdict.outcome == Outcome::NotTaken
         }
-        Told::Row(row) => kind == Kind::Durable && row == Row::Open,
+        Told::Row(row) => kind == Kind::Durable && *row == Row::Open,
         Told::None => false,
     }
 }
 
 /// Whether a call of the client begins at `p`, and what is told says that it took no effect.
-fn is_told_not_taken(who: &Listener, told: Told, p: usize) -> bool
+fn is_told_not_taken(who: &Listener, told: &Told, p: usize) -> bool
     requires { p < length who.now.events.now.items }
-    ensures { IsTrue result ↔ IsToldNotTaken who.now.kind who.now.events.now.items who.now.client told p }
+    ensures { IsTrue result ↔ IsToldNotTaken who.now.kind who.now.events.now.items who.now.client told.now p }
 {
     match who.events.at(p) {
         Event::Call {
@@ -90,13 +90,13 @@ fn is_told_not_taken(who: &Listener, told: Told, p: usize) -> bool
 /// Whether so it is at some place from one up to another, which is then `found`.
 fn is_told_not_taken_in(
     who: &Listener,
-    told: Told,
+    told: &Told,
     from: usize,
     to: usize,
     found: &mut usize,
 ) -> bool
     requires { to ≤ length who.now.events.now.items }
-    ensures { IsTrue result ↔ IsToldNotTakenIn who.now.kind who.now.events.now.items who.now.client told from to }
+    ensures { IsTrue result ↔ IsToldNotTakenIn who.now.kind who.now.events.now.items who.now.client told.now from to }
 {
     for p in from..to {
         if is_told_not_taken(who, told, p) {
@@ -108,10 +108,11 @@ fn is_told_not_taken_in(
 }
 
 /// Whether what is told says what became of the client's call of the entry at `i`.
-fn says_last(who: &Listener, told: Told, i: usize) -> bool
+fn says_last(who: &Listener, told: &Told, i: usize) -> bool
     requires within { i < length who.now.entries.now }
     requires calls { All (λ entry. entry.place < length who.now.events.now.items) who.now.entries.now }
-    ensures { IsTrue result ↔ SaysLast who.now.kind who.now.events.now.items who.now.entries.now who.now.client told i }
+    ensures { IsTrue result ↔
+        SaysLast who.now.kind who.now.events.now.items who.now.entries.now who.now.client told.now i }
 {
     let entry = who.entries[i];
     match who.events.at(entry.place) {
@@ -142,11 +143,11 @@ struct Progress {
 }
 
 /// Whether what is told says what became of the client's last call in the order, if there is one.
-fn says_of_last(who: &Listener, told: Told, last: Option<usize>) -> bool
+fn says_of_last(who: &Listener, told: &Told, last: Option<usize>) -> bool
     requires within { IfSome last (λ i. i < length who.now.entries.now) }
     requires calls { All (λ entry. entry.place < length who.now.events.now.items) who.now.entries.now }
     ensures { IsTrue result ↔
-        IsSaidLast who.now.kind who.now.events.now.items who.now.entries.now who.now.client told last }
+        IsSaidLast who.now.kind who.now.events.now.items who.now.entries.now who.now.client told.now last }
 {
     match last {
         Some(i) => says_last(who, told, i),
@@ -156,9 +157,9 @@ fn says_of_last(who: &Listener, told: Told, last: Option<usize>) -> bool
 
 /// Whether it says of a later call that it took no effect. Mostly that is the client's last call, or the one that was
 /// `found` at an earlier Ready.
-fn says_of_later(who: &Listener, told: Told, from: usize, to: usize, found: &mut usize) -> bool
+fn says_of_later(who: &Listener, told: &Told, from: usize, to: usize, found: &mut usize) -> bool
     requires { to ≤ length who.now.events.now.items }
-    ensures { IsTrue result ↔ IsToldNotTakenIn who.now.kind who.now.events.now.items who.now.client told from to }
+    ensures { IsTrue result ↔ IsToldNotTakenIn who.now.kind who.now.events.now.items who.now.client told.now from to }
 {
     if from >= to {
         return false;
@@ -180,7 +181,7 @@ fn tells_it_rightly(
     who: &Listener,
     base: &Reports,
     q: usize,
-    told: Told,
+    told: &Told,
     progress: Progress,
     found: &mut usize,
 ) -> bool
@@ -193,8 +194,8 @@ fn tells_it_rightly(
     requires few { progress.calls ≤ q }
     requires later { HasNoCall who.now.kind who.now.events.now.items who.now.client progress.calls q }
     ensures { IsTrue result ↔
-        IsToldSome who.now.kind who.now.events.now.items who.now.entries.now who.now.client q told
-        ⊎ IsToldBase who.now.kind base.now who.now.events.now.items who.now.entries.now who.now.client q told }
+        IsToldSome who.now.kind who.now.events.now.items who.now.entries.now who.now.client q told.now
+        ⊎ IsToldBase who.now.kind base.now who.now.events.now.items who.now.entries.now who.now.client q told.now }
 {
     if says_of_last(who, told, progress.last) {
         return true;
@@ -321,7 +322,7 @@ fn is_told_at(
 {
     match who.events.at(q) {
         Event::Ready { told } => match report_to(&told, who.client) {
-            Some(told) => tells_it_rightly(who, base, q, told, progress, found),
+            Some(told) => tells_it_rightly(who, base, q, &told, progress, found),
             None => true,
         },
         _ => true,

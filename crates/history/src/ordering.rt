@@ -1,18 +1,25 @@
 //! What an order holds.
 
-ghost use Rattle.std.specs.Prelude.{◌<◌, ◌↔◌, length, IsTrue, EachIndex, IsSome, All};
+ghost use Rattle.std.specs.Prelude.{◌≡◌, ◌<◌, ◌↔◌, length, IsTrue, EachIndex, IsSome, All};
 ghost use Rattle.events.specs.Replay.{call_at};
 ghost use Rattle.events.specs.Orders.{IsTakenAs, InOrder, IsNew, IsOrder};
 
 use crate::replaying::named_call;
-use events::{Entry, Events};
+use events::{Entry, Events, is_same_reply};
 use words::Reply;
+
+/// Whether the entry is of the call at `p`, with this reply.
+fn is_of(entry: &Entry, p: usize, reply: &Reply) -> bool
+    ensures { IsTrue result ↔ (entry.now ≡ record { place = p; reply = reply.now }) }
+{
+    entry.place == p && is_same_reply(&entry.reply, reply)
+}
 
 /// Whether the call at `p` is in the order, with this reply.
 pub(crate) fn is_taken_as(entries: &[Entry], p: usize, reply: Reply) -> bool
     ensures { IsTrue result ↔ IsTakenAs entries.now p reply }
 {
-    entries.contains(&Entry { place: p, reply })
+    entries.iter().any(|entry| is_of(entry, p, &reply))
 }
 
 /// Whether the call at `p` is in the order.

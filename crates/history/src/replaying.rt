@@ -1,12 +1,12 @@
 //! The replay of an order on a plain queue.
 
 ghost use Rattle.std.specs.Prelude.{◌≡◌, ◌<◌, ◌≤◌, ◌↔◌, ◌++◌, length, IsTrue, IfOk, IfErr, MatchResult, slice_get};
-ghost use Rattle.std.specs.Prelude.{drop};
+ghost use Rattle.std.specs.Prelude.{drop, option_to_list};
 ghost use Rattle.words.specs.PlainQueue.{reply_of, served};
-ghost use Rattle.history.specs.Counting.{values_of_order, dequeue_count};
+ghost use Rattle.history.specs.Counting.{values_of_call, values_of_order, dequeue_count};
 ghost use Rattle.events.specs.Replay.{call_at, queue_after_call, queue_after, IsServed, Replays, IsFirstWrong};
 
-use events::{Entry, Event, Events, History, Order};
+use events::{Entry, Event, Events, History, Order, is_same_reply};
 use std::alloc::{AllocError, Global};
 use words::{Call, Refusal, Reply, Value};
 
@@ -17,6 +17,16 @@ pub(crate) fn named_call(events: &Events, p: usize) -> Option<Call>
     match events.get(p) {
         Some(Event::Call { call, .. }) => Some(call),
         _ => None,
+    }
+}
+
+/// The value that the call puts into the queue, if there is one and it puts one.
+pub(crate) fn value_put(call: Option<Call>) -> Option<Value>
+    ensures { option_to_list result ≡ values_of_call call }
+{
+    match call? {
+        Call::Enq(value) => Some(value),
+        Call::Deq => None,
     }
 }
 
@@ -50,7 +60,7 @@ fn is_served(queue: &mut Vec<Value>, events: &Events, entry: &Entry) -> Result<b
         return Ok(false);
     };
     let reply = answer(queue, call)?;
-    Ok(reply == entry.reply)
+    Ok(is_same_reply(&reply, &entry.reply))
 }
 
 /// What the plain queue leaves from the base, or the place of the first wrong entry.
@@ -118,9 +128,10 @@ fn value_at(events: &Events, base: &[Value], before: &[Entry], n: usize) -> Opti
     }
     let mut skip = n - base.len();
     for entry in before {
-        if let Some(Call::Enq(value)) = named_call(events, entry.place) {
+        let put = value_put(named_call(events, entry.place));
+        if put.is_some() {
             if skip == 0 {
-                return Some(value);
+                return put;
             }
             skip -= 1;
         }
@@ -157,7 +168,10 @@ fn is_served_after(
 {
     match named_call(events, entry.place) {
         None => false,
-        Some(call) => entry.reply == reply_after(events, base, before, taken, call),
+        Some(call) => {
+            let reply = reply_after(events, base, before, taken, call);
+            is_same_reply(&entry.reply, &reply)
+        }
     }
 }
 
@@ -168,10 +182,11 @@ pub(crate) fn replays(events: &Events, base: &[Value], entries: &[Entry]) -> boo
 {
     let mut taken = 0;
     for i in 0..entries.len() {
-        if !is_served_after(events, base, &entries[..i], taken, &entries[i]) {
+        let entry = &entries[i];
+        if !is_served_after(events, base, &entries[..i], taken, entry) {
             return false;
         }
-        taken += count_of_reply(entries[i].reply);
+        taken += count_of_reply(entry.reply);
     }
     true
 }

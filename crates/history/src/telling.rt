@@ -6,7 +6,7 @@ ghost use Rattle.events.specs.Telling.{IsToldSome, IsToldBase, TellsRightly, Tel
 ghost use Rattle.events.specs.Telling.{IsToldIfInterrupted};
 
 use crate::ordering::{in_order, is_taken_as};
-use events::{Entry, Event, Events};
+use events::{Entry, Event, Events, is_same_told};
 use words::{Call, Client, Kind, Outcome, Reply, Reports, Row, Told, Verdict};
 
 /// A client of a queue of this kind, in a history with its order.
@@ -78,24 +78,24 @@ fn is_row(entries: &[Entry], p: usize, row: Row) -> bool
 }
 
 /// Whether what is told says what became of the call at `p` with this number.
-fn says(kind: Kind, entries: &[Entry], p: usize, number: u64, told: Told) -> bool
-    ensures { IsTrue result ↔ Says kind entries.now p number told }
+fn says(kind: Kind, entries: &[Entry], p: usize, number: u64, told: &Told) -> bool
+    ensures { IsTrue result ↔ Says kind entries.now p number told.now }
 {
     match told {
         Told::Verdict(verdict) => {
             kind == Kind::Log && verdict.number == number && is_outcome(entries, p, verdict.outcome)
         }
-        Told::Row(row) => kind == Kind::Durable && is_row(entries, p, row),
+        Told::Row(row) => kind == Kind::Durable && is_row(entries, p, *row),
         Told::None => false,
     }
 }
 
 /// Whether the client is told of its call at `p`, and no later one before the Ready is in the order.
-fn is_told_call(who: &Listener, ready: usize, told: Told, p: usize) -> bool
+fn is_told_call(who: &Listener, ready: usize, told: &Told, p: usize) -> bool
     requires first { p < ready }
     requires second { ready ≤ length who.now.events.now.items }
     ensures { IsTrue result ↔
-        IsToldCall who.now.kind who.now.events.now.items who.now.entries.now who.now.client ready told p }
+        IsToldCall who.now.kind who.now.events.now.items who.now.entries.now who.now.client ready told.now p }
 {
     match who.events.at(p) {
         Event::Call {
@@ -113,10 +113,10 @@ fn is_told_call(who: &Listener, ready: usize, told: Told, p: usize) -> bool
 }
 
 /// Whether the client is told of one of its calls begun before the Ready.
-fn is_told_some(who: &Listener, ready: usize, told: Told) -> bool
+fn is_told_some(who: &Listener, ready: usize, told: &Told) -> bool
     requires { ready ≤ length who.now.events.now.items }
     ensures { IsTrue result ↔
-        IsToldSome who.now.kind who.now.events.now.items who.now.entries.now who.now.client ready told }
+        IsToldSome who.now.kind who.now.events.now.items who.now.entries.now who.now.client ready told.now }
 {
     for p in 0..ready {
         if is_told_call(who, ready, told, p) {
@@ -127,30 +127,30 @@ fn is_told_some(who: &Listener, ready: usize, told: Told) -> bool
 }
 
 /// Whether the client is told this.
-pub(crate) fn is_told(tells: &Reports, client: Client, told: Told) -> bool
-    ensures { IsTrue result ↔ (slice_get tells.now client.0 ≡ Some told) }
+pub(crate) fn is_told(tells: &Reports, client: Client, told: &Told) -> bool
+    ensures { IsTrue result ↔ (slice_get tells.now client.0 ≡ Some told.now) }
 {
     match tells.get(client.0 as usize) {
-        Some(other) => *other == told,
+        Some(other) => is_same_told(other, told),
         None => false,
     }
 }
 
 /// Whether none of the client's calls before the Ready is in the order, and it is told what the base tells.
-fn is_told_base(who: &Listener, base: &Reports, ready: usize, told: Told) -> bool
+fn is_told_base(who: &Listener, base: &Reports, ready: usize, told: &Told) -> bool
     requires { ready ≤ length who.now.events.now.items }
     ensures { IsTrue result ↔
-        IsToldBase who.now.kind base.now who.now.events.now.items who.now.entries.now who.now.client ready told }
+        IsToldBase who.now.kind base.now who.now.events.now.items who.now.entries.now who.now.client ready told.now }
 {
     is_told(base, who.client, told) && has_none_taken(who, 0, ready)
 }
 
 /// Whether the client is told the one or the other.
-fn is_told_rightly(who: &Listener, base: &Reports, ready: usize, told: Told) -> bool
+fn is_told_rightly(who: &Listener, base: &Reports, ready: usize, told: &Told) -> bool
     requires { ready ≤ length who.now.events.now.items }
     ensures { IsTrue result ↔
-        IsToldSome who.now.kind who.now.events.now.items who.now.entries.now who.now.client ready told
-        ⊎ IsToldBase who.now.kind base.now who.now.events.now.items who.now.entries.now who.now.client ready told }
+        IsToldSome who.now.kind who.now.events.now.items who.now.entries.now who.now.client ready told.now
+        ⊎ IsToldBase who.now.kind base.now who.now.events.now.items who.now.entries.now who.now.client ready told.now }
 {
     is_told_some(who, ready, told) || is_told_base(who, base, ready, told)
 }
@@ -174,7 +174,7 @@ fn tells_rightly(
             entries,
             client: Client(t),
         };
-        if !is_told_rightly(&who, base, ready, tells[t as usize]) {
+        if !is_told_rightly(&who, base, ready, &tells[t as usize]) {
             return false;
         }
     }
@@ -220,7 +220,7 @@ fn is_told_taken(events: &Events, client: Client, number: u64, reply: Reply, e: 
             return is_told(
                 &told,
                 client,
-                Told::Verdict(Verdict {
+                &Told::Verdict(Verdict {
                     number,
                     outcome: Outcome::Taken(reply),
                 }),
@@ -239,7 +239,11 @@ fn is_told_if_interrupted(events: &Events, entry: &Entry) -> bool
     };
     for k in entry.place + 1..events.len() {
         match events.at(k) {
-            Event::Return { client: other, .. } if other == client => return true,
+            Event::Return { client: other, .. } => {
+                if other == client {
+                    return true;
+                }
+            }
             Event::Crash => return is_told_taken(events, client, number, entry.reply, k),
             _ => {}
         }

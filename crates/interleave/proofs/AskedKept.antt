@@ -12,6 +12,7 @@ use Rattle.words.specs.declared.call.Kind.TheVariants.{Durable, Log}
 use Rattle.words.specs.declared.call.NodeId.{NodeId}
 use Rattle.words.specs.declared.call.Token.{Token}
 use Rattle.words.specs.declared.call.Reply.{Reply}
+use Rattle.words.specs.PlainQueue.{Value}
 use Rattle.words.specs.declared.limits.TheConstants.{RECOVERY_PORT}
 use Rattle.words.specs.declared.refusal.Refusal.{Refusal}
 use Rattle.words.specs.declared.told.Told.{Told}
@@ -19,23 +20,27 @@ use Rattle.persist.specs.Memory.{Access, Around, Cas, Fence, Flush, Lent, Load, 
 use Rattle.persist.proofs.Requests.{asked_elsewhere, lent_alike}
 use Rattle.arena.specs.Layout.{place_at}
 use Rattle.arena.specs.Shape.{Shape}
+use Rattle.arena.specs.declared.codes.TheConstants.{EMPTY_CELL}
 use Rattle.arena.specs.declared.place.Place.{Place}
 use Rattle.arena.specs.declared.place.Write.{Write}
+use Rattle.stepper.specs.Loading.{loaded_with}
 use Rattle.stepper.specs.Preparation.{preparation_of, prepared_with}
+use Rattle.stepper.specs.declared.loading.Loading.{Loading}
+use Rattle.stepper.specs.declared.loading.Loading.TheVariants.{Length as at_length, First as at_first, Second as at_second, Third as at_third}
 use Rattle.stepper.specs.Step.{IsAskedFor, lent_after_one, place_of}
 use Rattle.stepper.specs.declared.prepare.Begun.{Begun}
 use Rattle.stepper.specs.declared.resume.After.{After}
 use Rattle.stepper.specs.declared.resume.After.TheVariants.{More, Done}
-use Rattle.helping.specs.Table.{access_of, answer_or_again, begun_at, first_from, prepared_op, successor}
+use Rattle.helping.specs.Table.{access_of, answer_or_again, begun_at, first_from, prepared_op, successor, with_loaded}
 use Rattle.helping.specs.declared.dequeue.Claim.{Claim}
 use Rattle.helping.specs.declared.dequeue.Claim.TheVariants.{Won, LostTo}
 use Rattle.helping.specs.declared.keeping.Keeping.TheVariants.{Link, PassedLink, Empty, DequeuePassedLink, Claim as KeepClaim, Result as KeepResult}
 use Rattle.helping.specs.declared.op.Op.{Op}
-use Rattle.helping.specs.declared.op.Op.TheVariants.{PrepareStore, PrepareFlush, PrepareFence, EnqueueLoadTail, EnqueueLoadNext, EnqueueCheckTail, EnqueueLink, EnqueueMoveTail, EnqueueHelpTail, DequeueLoadHead, DequeueLoadTail, DequeueLoadNext, DequeueCheckHead, DequeueStoreEmpty, DequeueHelpTail, DequeueLoadValue, DequeueClaim, DequeueStoreResult, DequeueMoveHead, Flush as FlushPoint, Fence as FencePoint}
-use Rattle.recover.specs.Table.{access_of as recovery_access, after_report, boot_recovery, past_head, point_at_the_end, point_past_status, recovery_after, recovery_at, successor as recovery_successor, to_answer, to_mark, to_node, to_outcome}
+use Rattle.helping.specs.declared.op.Op.TheVariants.{PrepareStore, PrepareFlush, PrepareFence, EnqueueLoadTail, EnqueueLoadNext, EnqueueCheckTail, EnqueueLink, EnqueueMoveTail, EnqueueHelpTail, DequeueLoadHead, DequeueLoadTail, DequeueLoadNext, DequeueCheckHead, DequeueStoreEmpty, DequeueHelpTail, DequeueLoadItem, DequeueClaim, DequeueStoreResult, DequeueMoveHead, Flush as FlushPoint, Fence as FencePoint}
+use Rattle.recover.specs.Table.{access_of as recovery_access, after_report, boot_recovery, past_head, point_at_the_end, point_past_status, recovery_after, recovery_at, successor as recovery_successor, to_answer, to_node, to_outcome, to_row, got_with, removed_with}
 use Rattle.recover.specs.declared.keeping.RecoveryKeeping.TheVariants.{Status, Result as RecoveryKeepResult, Head, Tail}
 use Rattle.recover.specs.declared.point.RecoveryPoint.{RecoveryPoint}
-use Rattle.recover.specs.declared.point.RecoveryPoint.TheVariants.{RecoveryLoadHead, RecoveryLoadNext, RecoveryLoadInsert, RecoveryStoreStatus, RecoveryLoadMark, RecoveryLoadValue, RecoveryStoreResult, RecoveryStoreHead, RecoveryStoreTail, RecoveryLoadAnnouncement, RecoveryLoadCell, RecoveryLoadNumber, RecoveryLoadKind, RecoveryLoadStatus, RecoveryLoadRemove, RecoveryLoadEntryNode, RecoveryLoadRemovedValue, Flush as RecoveryFlush, Fence as RecoveryFence}
+use Rattle.recover.specs.declared.point.RecoveryPoint.TheVariants.{RecoveryLoadHead, RecoveryLoadNext, RecoveryLoadInsert, RecoveryStoreStatus, RecoveryLoadMark, RecoveryStoreResult, RecoveryStoreHead, RecoveryStoreTail, RecoveryLoadAnnouncement, RecoveryLoadCell, RecoveryLoadGot, RecoveryLoadNumber, RecoveryLoadKind, RecoveryLoadStatus, RecoveryLoadRemove, RecoveryLoadEntryNode, RecoveryLoadRemovedItem, Flush as RecoveryFlush, Fence as RecoveryFence}
 use Rattle.recover.specs.declared.point.Report.{Report}
 use Rattle.recover.specs.declared.recovery.Recovery.{Recovery}
 use Rattle.protocol.specs.Machine.{begun_of, call_begun, next_of, next_recovery, recovery_left, with_next}
@@ -64,9 +69,17 @@ prepared_asked : (s : Shape) (r : Request) (b : Begun) (index : ℕ) (o : Option
 prepared_asked s r b index (Some w) = tt
 prepared_asked s r b index None = first_asked s r b b.call
 
-again_asked : (s : Shape) (r : Request) (claim : Claim) (token : Token) (value : ℕ) → IfMoreAsked s (answer_or_again claim token value) r
+again_asked : (s : Shape) (r : Request) (claim : Claim) (token : Token) (value : Value) → IfMoreAsked s (answer_or_again claim token value) r
 again_asked s r Won token value = tt
 again_asked s r (LostTo other) token value = tt
+
+-- a message is loaded part by part
+loaded_asked : (s : Shape) (r : Request) (token : Token) (first next : NodeId) (loading : Loading) (found : ℕ)
+    → IfMoreAsked s (More (with_loaded (record { token = token; first = first; next = next; loading = loading }) (loaded_with loading found))) r
+loaded_asked s r token first next at_length found = tt
+loaded_asked s r token first next (at_first len) found = tt
+loaded_asked s r token first next (at_second len one) found = tt
+loaded_asked s r token first next (at_third len one two) found = tt
 
 -- only a flush leads to a fence, and to that of its own word
 next_asked : (s : Shape) (op : Op) (found : ℕ) (lent : Lent) → IfMoreAsked s (successor s.kind op found) (lent_after_one s (access_of s.kind op) lent).request
@@ -87,7 +100,7 @@ next_asked s (DequeueCheckHead p) found lent =
     (either s lent.request (p.first.0 == p.last.0) _ _ (either s lent.request (p.next.0 == 0) _ _ tt tt) tt) tt
 next_asked s (DequeueStoreEmpty p) found lent = tt
 next_asked s (DequeueHelpTail p) found lent = tt
-next_asked s (DequeueLoadValue p) found lent = tt
+next_asked s (DequeueLoadItem p) found lent = loaded_asked s lent.request p.token p.first p.next p.loading found
 next_asked s (DequeueClaim p) found lent = tt
 next_asked s (DequeueStoreResult p) found lent = tt
 next_asked s (DequeueMoveHead p) found lent = again_asked s lent.request p.claimed.claim p.claimed.token p.claimed.value
@@ -144,10 +157,6 @@ module _ (s : Shape) (r : Request) where
   node_asked Durable cur node moved = past_asked cur node moved
   node_asked Log cur node moved = tt
 
-  mark_asked : (kind : Kind) (node : NodeId) (mark : Token) → IsAskedFor s (recovery_access s.kind (to_mark kind node mark)) r
-  mark_asked Durable node mark = tt
-  mark_asked Log node mark = tt
-
   head_asked : (cur : NodeId) (unclaimed : Option NodeId) → IsAskedFor s (recovery_access s.kind (past_head cur unclaimed)) r
   head_asked cur (Some node) = tt
   head_asked cur None = tt
@@ -160,25 +169,42 @@ module _ (s : Shape) (r : Request) where
   outcome_asked true client token number = tt
   outcome_asked false client token number = tt
 
+  row_asked : (client : Client) (answer : ℕ) → IfPointAsked s (to_row client answer) r
+  row_asked client answer = point_of (answer == 0) _ _ tt (point_of (answer == EMPTY_CELL) _ _ tt tt)
+
+  got_asked : (client : Client) (node : NodeId) (loading : Loading) (found : ℕ)
+      → IfPointAsked s (got_with (record { client = client; node = node; loading = loading }) (loaded_with loading found)) r
+  got_asked client node at_length found = tt
+  got_asked client node (at_first len) found = tt
+  got_asked client node (at_second len one) found = tt
+  got_asked client node (at_third len one two) found = tt
+
+  removed_asked : (client : Client) (number : ℕ) (node : NodeId) (loading : Loading) (found : ℕ)
+      → IfPointAsked s (removed_with (record { client = client; number = number; node = node; loading = loading }) (loaded_with loading found)) r
+  removed_asked client number node at_length found = tt
+  removed_asked client number node (at_first len) found = tt
+  removed_asked client number node (at_second len one) found = tt
+  removed_asked client number node (at_third len one two) found = tt
+
 point_asked : (s : Shape) (at : RecoveryPoint) (found : ℕ) (lent : Lent) → IfPointAsked s (recovery_successor s at found) (lent_after_one s (recovery_access s.kind at) lent).request
 point_asked s (RecoveryLoadHead p) found lent = tt
 point_asked s (RecoveryLoadNext p) found lent = one_of s lent.request (found == 0) _ _ (end_asked s lent.request p.cur p.moved) (node_asked s lent.request s.kind p.cur _ p.moved)
 point_asked s (RecoveryLoadInsert p) found lent = tt
 point_asked s (RecoveryStoreStatus p) found lent = tt
-point_asked s (RecoveryLoadMark p) found lent = one_of s lent.request (found == 0) _ _ tt (mark_asked s lent.request s.kind p.node _)
-point_asked s (RecoveryLoadValue p) found lent = tt
+point_asked s (RecoveryLoadMark p) found lent = one_of s lent.request (found == 0) _ _ tt tt
 point_asked s (RecoveryStoreResult p) found lent = tt
 point_asked s (RecoveryStoreHead p) found lent = tt
 point_asked s (RecoveryStoreTail p) found lent = tt
 point_asked s (RecoveryLoadAnnouncement p) found lent = point_of s lent.request (found == 0) _ _ tt (answer_asked s lent.request s.kind p.client _)
-point_asked s (RecoveryLoadCell p) found lent = tt
+point_asked s (RecoveryLoadCell p) found lent = row_asked s lent.request p.client found
+point_asked s (RecoveryLoadGot p) found lent = got_asked s lent.request p.client p.node p.loading found
 point_asked s (RecoveryLoadNumber p) found lent = tt
 point_asked s (RecoveryLoadKind p) found lent = tt
 point_asked s (RecoveryLoadStatus p) found lent =
     point_of s lent.request (p.is_enqueue && (found == 1)) _ _ tt (point_of s lent.request ((not p.is_enqueue) && (found == 2)) _ _ tt (outcome_asked s lent.request p.is_enqueue p.client p.token p.number))
 point_asked s (RecoveryLoadRemove p) found lent = tt
 point_asked s (RecoveryLoadEntryNode p) found lent = point_of s lent.request (found == 0) _ _ tt tt
-point_asked s (RecoveryLoadRemovedValue p) found lent = tt
+point_asked s (RecoveryLoadRemovedItem p) found lent = removed_asked s lent.request p.client p.number p.node p.loading found
 point_asked s (RecoveryFlush k) found lent = refl
 point_asked s (RecoveryFence (Status p)) found lent = past_asked s _ p.cur p.node p.moved
 point_asked s (RecoveryFence (RecoveryKeepResult p)) found lent = tt

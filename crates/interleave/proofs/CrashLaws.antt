@@ -32,7 +32,7 @@ pub state_same : (s : Shape) (ws : Words) (queue : Queue) (calls : List (Option 
     → a.base ≡ base → a.told ≡ told → a.log.events ≡ events → a.log.issued ≡ issued → a.log.effects ≡ effects → a.recovery ≡ recovery
     → state_with s ws queue calls a ≡ (let w : State = record { shape = s; words = ws; queue = queue; calls = calls; base = base; told = told; log = record { events = events; issued = issued; effects = effects }; recovery = recovery } in w)
 state_same s ws queue calls a base told events issued effects recovery b t e i f r =
-    ap (λ (x : List ℕ). let w : State = record (state_with s ws queue calls a) { base = x } in w) b
+    ap (λ (x : List Value). let w : State = record (state_with s ws queue calls a) { base = x } in w) b
     ∙ ap (λ (x : List Told). let w : State = record (state_with s ws queue calls a) { base = base; told = x } in w) t
     ∙ ap (λ (x : List Event). let w : State = record (state_with s ws queue calls a) { base = base; told = told; log = record { events = x; issued = a.log.issued; effects = a.log.effects } } in w) e
     ∙ ap (λ (x : List Issued). let w : State = record (state_with s ws queue calls a) { base = base; told = told; log = record { events = events; issued = x; effects = a.log.effects } } in w) i

@@ -2,6 +2,7 @@
 use Rattle.std.proofs.Common.{◌≡◌, ℕ, ◌≤◌, ◌<◌, inl, inr, List, length, Option, Some, None, Result, Ok, Err, refl, slice_index, slice_set, sym, ap, ◌∙◌, subst, arith}
 use Rattle.std.proofs.lemmas.List.{set-get_or}
 use Rattle.std.proofs.lemmas.Bool.{eq-eqb, lt-ltb, le-ltb}
+use Rattle.words.specs.PlainQueue.{Value}
 use Rattle.words.specs.declared.refusal.Refusal.{Refusal}
 use Rattle.words.specs.declared.refusal.Refusal.TheVariants.{NoWord}
 use Rattle.persist.specs.declared.access.Change.{Change}
@@ -93,7 +94,7 @@ module _ (s : Shape) (ws : Words) (queue : Queue) (calls : List (Option UnderWay
       → state_with s now queue calls after ≡ after_evict (state_with s ws queue calls t) word
   left_is now after words base told log recovery =
       ap (λ (m : Words). state_with s m queue calls after) words
-      ∙ ap (λ (b : List ℕ). let w : State = record (state_with s (words_after_eviction word ws) queue calls after) { base = b } in w) base
+      ∙ ap (λ (b : List Value). let w : State = record (state_with s (words_after_eviction word ws) queue calls after) { base = b } in w) base
       ∙ ap (λ o. let w : State = record (state_with s (words_after_eviction word ws) queue calls after) { base = t.base; told = o } in w) told
       ∙ ap (λ (l : Trace). let w : State = record (state_with s (words_after_eviction word ws) queue calls t) { log = l; recovery = after.recovery } in w) log
       ∙ ap (λ (r : Option Recovery). let w : State = record (evict_with (state_with s ws queue calls t) word (Some p)) { recovery = r } in w) recovery
@@ -157,7 +158,7 @@ module _ (s : Shape) (ws : Words) (queue : Queue) (calls : List (Option UnderWay
             let same : now ≡ ws = words ∙ rest_words s ws word holds.safe.words (past_none s word e) within in
             let kept : after.log ≡ t.log = log ∙ ap (λ (es : List Effect). let l : Trace = record t.log { effects = es } in l) (none_noted e) in
             ap (λ (m : Words). state_with s m queue calls after) same
-            ∙ ap (λ (b : List ℕ). let w : State = record (state_with s ws queue calls after) { base = b } in w) base
+            ∙ ap (λ (b : List Value). let w : State = record (state_with s ws queue calls after) { base = b } in w) base
             ∙ ap (λ o. let w : State = record (state_with s ws queue calls after) { base = t.base; told = o } in w) told
             ∙ ap (λ (l : Trace). let w : State = record (state_with s ws queue calls t) { log = l; recovery = after.recovery } in w) kept
             ∙ ap (λ (r : Option Recovery). let w : State = record (state_with s ws queue calls t) { recovery = r } in w) recovery

@@ -4,31 +4,36 @@ use Rattle.std.proofs.Common.{◌≡◌, ℕ, zero, suc, ◌+◌, List, [], ◌�
 use Rattle.std.proofs.lemmas.Bool.Decides.{nat_tests}
 use Rattle.words.specs.declared.call.Kind.{Kind}
 use Rattle.words.specs.declared.call.Kind.TheVariants.{Durable, Log}
+use Rattle.words.specs.PlainQueue.{Value}
+use Rattle.words.specs.declared.call.NodeId.{NodeId}
 use Rattle.words.specs.declared.call.Token.{Token}
 use Rattle.words.specs.declared.call.Call.{Call}
 use Rattle.words.specs.declared.call.Call.TheVariants.{Enq, Deq}
 use Rattle.persist.specs.Memory.{Access, Load, Store, Cas, Flush, Fence}
-use Rattle.arena.specs.Words.{value_of_fits}
+use Rattle.stepper.specs.Loading.{loaded_with}
+use Rattle.stepper.specs.declared.loading.Loading.{Loading}
+use Rattle.stepper.specs.declared.loading.Loading.TheVariants.{Length as at_length, First as at_first, Second as at_second, Third as at_third}
 use Rattle.arena.specs.Shape.{Shape}
 use Rattle.arena.specs.Place.{IsPlace}
 use Rattle.arena.specs.Ranges.{Fits, IsReadByCalls}
 use Rattle.arena.specs.declared.place.Place.{Place}
+use Rattle.arena.specs.declared.place.Place.TheVariants.{Insert}
 use Rattle.arena.specs.declared.place.Write.{Write}
 use Rattle.recover.specs.Table.{access_of as recovery_access, kept_place as recovery_kept_place, IsKeeping as IsRecoveryKeeping, IsPoint as IsRecoveryPoint}
 use Rattle.recover.specs.declared.point.RecoveryPoint.{RecoveryPoint}
-use Rattle.recover.specs.declared.point.RecoveryPoint.TheVariants.{RecoveryLoadHead, RecoveryLoadNext, RecoveryLoadInsert, RecoveryStoreStatus, RecoveryLoadMark, RecoveryLoadValue, RecoveryStoreResult, RecoveryStoreHead, RecoveryStoreTail, RecoveryLoadAnnouncement, RecoveryLoadCell, RecoveryLoadNumber, RecoveryLoadKind, RecoveryLoadStatus, RecoveryLoadRemove, RecoveryLoadEntryNode, RecoveryLoadRemovedValue, Flush as RecoveryFlush, Fence as RecoveryFence}
+use Rattle.recover.specs.declared.point.RecoveryPoint.TheVariants.{RecoveryLoadHead, RecoveryLoadNext, RecoveryLoadInsert, RecoveryStoreStatus, RecoveryLoadMark, RecoveryStoreResult, RecoveryStoreHead, RecoveryStoreTail, RecoveryLoadAnnouncement, RecoveryLoadCell, RecoveryLoadGot, RecoveryLoadNumber, RecoveryLoadKind, RecoveryLoadStatus, RecoveryLoadRemove, RecoveryLoadEntryNode, RecoveryLoadRemovedItem, Flush as RecoveryFlush, Fence as RecoveryFence}
 use Rattle.recover.specs.declared.keeping.RecoveryKeeping.{RecoveryKeeping}
 use Rattle.recover.specs.declared.keeping.RecoveryKeeping.TheVariants.{Status as RecoveryKeepStatus, Result as RecoveryKeepResult, Head as RecoveryKeepHead, Tail as RecoveryKeepTail}
 use Rattle.stepper.specs.Step.{place_of, IsReadInRange}
-use Rattle.stepper.specs.Preparation.{preparation_from, preparation_of, prepared_with, IsBegun, IsPreparing}
+use Rattle.stepper.specs.Preparation.{announcement, item_writes, preparation_from, preparation_of, prepared_with, write, IsBegun, IsPreparing}
 use Rattle.stepper.specs.declared.resume.After.{After}
 use Rattle.stepper.specs.declared.resume.After.TheVariants.{More, Done}
 use Rattle.stepper.specs.declared.prepare.Begun.{Begun}
 use Rattle.helping.specs.declared.dequeue.Claim.{Claim}
 use Rattle.helping.specs.declared.dequeue.Claim.TheVariants.{Won, LostTo}
-use Rattle.helping.specs.Table.{access_of, after_keeping, kept_place, successor, first_from, prepared_op, begun_at, answer_or_again, IsKeeping, IsPoint}
+use Rattle.helping.specs.Table.{access_of, after_keeping, kept_place, successor, first_from, prepared_op, begun_at, answer_or_again, with_loaded, IsClaiming, IsKeeping, IsPoint}
 use Rattle.helping.specs.declared.op.Op.{Op}
-use Rattle.helping.specs.declared.op.Op.TheVariants.{PrepareStore, PrepareFlush, PrepareFence, EnqueueLoadTail, EnqueueLoadNext, EnqueueCheckTail, EnqueueLink, EnqueueMoveTail, EnqueueHelpTail, DequeueLoadHead, DequeueLoadTail, DequeueLoadNext, DequeueCheckHead, DequeueStoreEmpty, DequeueHelpTail, DequeueLoadValue, DequeueClaim, DequeueStoreResult, DequeueMoveHead, Flush as FlushPoint, Fence as FencePoint}
+use Rattle.helping.specs.declared.op.Op.TheVariants.{PrepareStore, PrepareFlush, PrepareFence, EnqueueLoadTail, EnqueueLoadNext, EnqueueCheckTail, EnqueueLink, EnqueueMoveTail, EnqueueHelpTail, DequeueLoadHead, DequeueLoadTail, DequeueLoadNext, DequeueCheckHead, DequeueStoreEmpty, DequeueHelpTail, DequeueLoadItem, DequeueClaim, DequeueStoreResult, DequeueMoveHead, Flush as FlushPoint, Fence as FencePoint}
 use Rattle.helping.specs.declared.keeping.Keeping.{Keeping}
 use Rattle.helping.specs.declared.keeping.Keeping.TheVariants.{Link as KeepLink, PassedLink as KeepPassedLink, Empty as KeepEmpty, DequeuePassedLink as KeepDequeuePassedLink, Claim as KeepClaim, Result as KeepResult}
 
@@ -64,12 +69,19 @@ one_of s [] i w all e = cc
 one_of s (v ∷ ws) zero w all e = let same : v ≡ w = cc in subst (WriteFits s) same all.0
 one_of s (v ∷ ws) (suc i) w all e = one_of s ws i w all.1 e
 
+-- the parts of a message fit
+parts_fit : (s : Shape) (b : Begun) (value : Value) → IsBegun s b → (rest : List Write) → AllWritesFit s rest → AllWritesFit s (item_writes b value rest)
+parts_fit s b value h rest all =
+    (record { is_place = grind (arith, h.is_record); fits = tt }, (record { is_place = grind (arith, h.is_record); fits = tt }, (record { is_place = grind (arith, h.is_record); fits = tt }, (record { is_place = grind (arith, h.is_record); fits = tt }, all))))
+
 -- what a call prepares fits
 preparation_fits : (s : Shape) (kind : Kind) (call : Call) (b : Begun) → s.kind ≡ kind → b.call ≡ call → IsBegun s b → AllWritesFit s (preparation_from kind call b)
-preparation_fits s Durable (Enq value) b k c h = (record { is_place = h.client; fits = grind (arith, h.unused) }, (record { is_place = grind (arith, h.is_record); fits = h.value value c }, tt))
+preparation_fits s Durable (Enq value) b k c h = (record { is_place = h.client; fits = grind (arith, h.unused) }, parts_fit s b value h [] tt)
 preparation_fits s Durable Deq b k c h = (record { is_place = h.client; fits = grind (arith, h.unused) }, (record { is_place = h.client; fits = grind (arith, h.is_record) }, tt))
 preparation_fits s Log (Enq value) b k c h =
-    (record { is_place = h.client; fits = grind (arith, h.unused) }, (record { is_place = (k, h.is_record); fits = h.number }, (record { is_place = (k, h.is_record); fits = grind arith }, (record { is_place = (k, h.is_record); fits = grind (arith, h.is_record) }, (record { is_place = grind (arith, h.is_record); fits = h.value value c }, (record { is_place = (k, grind (arith, h.is_record)); fits = grind (arith, h.is_record) }, (record { is_place = h.client; fits = grind (arith, h.is_record) }, tt)))))))
+    (record { is_place = h.client; fits = grind (arith, h.unused) }, (record { is_place = (k, h.is_record); fits = h.number }, (record { is_place = (k, h.is_record); fits = grind arith }, (record { is_place = (k, h.is_record); fits = grind (arith, h.is_record) },
+    parts_fit s b value h (write (Insert (record { 0 = b.token.0 })) b.token.0 ∷ announcement b ∷ [])
+    (record { is_place = (k, grind (arith, h.is_record)); fits = grind (arith, h.is_record) }, (record { is_place = h.client; fits = grind (arith, h.is_record) }, tt))))))
 preparation_fits s Log Deq b k c h = (record { is_place = h.client; fits = grind (arith, h.unused) }, (record { is_place = (k, h.is_record); fits = h.number }, (record { is_place = (k, h.is_record); fits = grind arith }, (record { is_place = h.client; fits = grind (arith, h.is_record) }, tt))))
 
 in_hand_fits : (s : Shape) (b : Begun) (i : ℕ) (w : Write) → IsPreparing s b i w → WriteFits s w
@@ -86,7 +98,7 @@ prepared_fits s b i (Some w) e h = record { begun = h; in_hand = e }
 pub begun_fits : (s : Shape) (b : Begun) → IsBegun s b → IsPoint s (begun_at s.kind b)
 begun_fits s b h = prepared_fits s b 0 (slice_get (preparation_of s.kind b) 0) refl h
 
-again_fits : (s : Shape) (claim : Claim) (p : Token) (v : ℕ) → IsPoint s (DequeueLoadHead (record { token = p })) → AfterFits s (answer_or_again claim p v)
+again_fits : (s : Shape) (claim : Claim) (p : Token) (v : Value) → IsPoint s (DequeueLoadHead (record { token = p })) → AfterFits s (answer_or_again claim p v)
 again_fits s Won p v h = tt
 again_fits s (LostTo other) p v h = h
 
@@ -116,7 +128,7 @@ reads_by_calls kind (DequeueLoadNext p) = tt
 reads_by_calls kind (DequeueCheckHead p) = tt
 reads_by_calls kind (DequeueStoreEmpty p) = tt
 reads_by_calls kind (DequeueHelpTail p) = tt
-reads_by_calls kind (DequeueLoadValue p) = tt
+reads_by_calls kind (DequeueLoadItem p) = tt
 reads_by_calls kind (DequeueClaim p) = tt
 reads_by_calls kind (DequeueStoreResult p) = tt
 reads_by_calls kind (DequeueMoveHead p) = tt
@@ -164,7 +176,7 @@ access_fits s kind (DequeueCheckHead p) k h = tt
 access_fits s Durable (DequeueStoreEmpty p) k h = grind arith
 access_fits s Log (DequeueStoreEmpty p) k h = grind arith
 access_fits s kind (DequeueHelpTail p) k h = grind arith
-access_fits s kind (DequeueLoadValue p) k h = grind arith
+access_fits s kind (DequeueLoadItem p) k h = h.2
 access_fits s kind (DequeueClaim p) k h = grind arith
 access_fits s Durable (DequeueStoreResult p) k h = grind arith
 access_fits s Log (DequeueStoreResult p) k h = grind arith
@@ -184,7 +196,6 @@ recovery_access_fits s kind (RecoveryLoadNext p) k h = grind arith
 recovery_access_fits s kind (RecoveryLoadInsert p) k h = grind arith
 recovery_access_fits s kind (RecoveryStoreStatus p) k h = ((h.0, h.3), omega arith)
 recovery_access_fits s kind (RecoveryLoadMark p) k h = grind arith
-recovery_access_fits s kind (RecoveryLoadValue p) k h = grind arith
 recovery_access_fits s Durable (RecoveryStoreResult p) k h = grind arith
 recovery_access_fits s Log (RecoveryStoreResult p) k h = grind arith
 recovery_access_fits s kind (RecoveryStoreHead p) k h = grind arith
@@ -193,12 +204,13 @@ recovery_access_fits s kind (RecoveryFlush q) k h = recovery_kept_fits s kind q 
 recovery_access_fits s kind (RecoveryFence q) k h = recovery_kept_fits s kind q k h
 recovery_access_fits s kind (RecoveryLoadAnnouncement p) k h = h
 recovery_access_fits s kind (RecoveryLoadCell p) k h = grind arith
+recovery_access_fits s kind (RecoveryLoadGot p) k h = h.1
 recovery_access_fits s kind (RecoveryLoadNumber p) k h = grind arith
 recovery_access_fits s kind (RecoveryLoadKind p) k h = grind arith
 recovery_access_fits s kind (RecoveryLoadStatus p) k h = grind arith
 recovery_access_fits s kind (RecoveryLoadRemove p) k h = grind arith
 recovery_access_fits s kind (RecoveryLoadEntryNode p) k h = grind arith
-recovery_access_fits s kind (RecoveryLoadRemovedValue p) k h = grind arith
+recovery_access_fits s kind (RecoveryLoadRemovedItem p) k h = h.1
 
 after_keeping_fits : (s : Shape) (q : Keeping) → IsKeeping s q → AfterFits s (after_keeping q)
 after_keeping_fits s (KeepLink p) h = grind (arith, nat_tests)
@@ -207,6 +219,12 @@ after_keeping_fits s (KeepEmpty p) h = tt
 after_keeping_fits s (KeepDequeuePassedLink p) h = grind (arith, nat_tests)
 after_keeping_fits s (KeepClaim p) h = grind (arith, nat_tests)
 after_keeping_fits s (KeepResult p) h = grind (arith, nat_tests)
+
+loaded_fits : (s : Shape) (token : Token) (first next : NodeId) (loading : Loading) (v : ℕ) → IsClaiming s token.0 first.0 next.0 → AfterFits s (More (with_loaded (record { token = token; first = first; next = next; loading = loading }) (loaded_with loading v)))
+loaded_fits s token first next at_length v h = h
+loaded_fits s token first next (at_first len) v h = h
+loaded_fits s token first next (at_second len one) v h = h
+loaded_fits s token first next (at_third len one two) v h = h
 
 pub successor_fits : (s : Shape) (op : Op) (v : ℕ) → IsPoint s op → IsReadInRange s (access_of s.kind op) v → AfterFits s (successor s.kind op v)
 successor_fits s (PrepareStore p) v h f = h
@@ -226,7 +244,7 @@ successor_fits s (DequeueLoadNext p) v h f = grind (arith, nat_tests)
 successor_fits s (DequeueCheckHead p) v h f = grind (arith, nat_tests)
 successor_fits s (DequeueStoreEmpty p) v h f = grind (arith, nat_tests)
 successor_fits s (DequeueHelpTail p) v h f = grind (arith, nat_tests)
-successor_fits s (DequeueLoadValue p) v h f = (h.0, h.1, h.2, value_of_fits v f)
+successor_fits s (DequeueLoadItem p) v h f = loaded_fits s p.token p.first p.next p.loading v h
 successor_fits s (DequeueClaim p) v h f = grind (arith, nat_tests)
 successor_fits s (DequeueStoreResult p) v h f = grind (arith, nat_tests)
 successor_fits s (DequeueMoveHead p) v h f = again_fits s p.claimed.claim p.claimed.token p.claimed.value h.0.0

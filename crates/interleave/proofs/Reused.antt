@@ -11,7 +11,7 @@ use Rattle.words.specs.declared.refusal.Refusal.TheVariants.{NoMemory, NoRoom}
 use Rattle.arena.specs.Shape.{Shape, owner, record_of}
 use Rattle.arena.specs.Words.{bumps}
 use Rattle.arena.specs.declared.place.Place.{Place}
-use Rattle.arena.specs.declared.place.Part.TheVariants.{First}
+use Rattle.arena.specs.declared.place.Part.TheVariants.{Length, First, Second, Third}
 use Rattle.arena.specs.declared.place.Place.TheVariants.{Item, Next, Mark, Cell, Insert}
 use Rattle.arena.specs.declared.place.Place.TheVariants.{Number, EntryKind, Status, EntryNode}
 use Rattle.helping.specs.Table.{node_of, token_of}
@@ -34,7 +34,12 @@ same_used from used next e = omega (arith, e)
 blank_record : (s : Shape) (kept f : Place → ℕ) (n : ℕ) → Blank s kept f → n ≢ 0 → (IsIssued s kept n → ⊥)
     → IsBlank s f n
 blank_record s kept f n blank some free = record {
-  value = blank (Item (node_of n) First) tt some free;
+  item = record {
+    len = blank (Item (node_of n) Length) tt some free;
+    first = blank (Item (node_of n) First) tt some free;
+    second = blank (Item (node_of n) Second) tt some free;
+    third = blank (Item (node_of n) Third) tt some free;
+  };
   link = blank (Next (node_of n)) tt some free;
   mark = blank (Mark (node_of n)) tt some free;
   answer = by_kind s.kind;

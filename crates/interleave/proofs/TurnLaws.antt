@@ -3,7 +3,7 @@ use Rattle.std.proofs.Common.{◌≡◌, ℕ, false, List, [], ◌∷◌, ◌++�
 use Rattle.std.specs.Prelude.{IsSome}
 use Rattle.std.proofs.lemmas.List.{append-nil, length_push}
 use Rattle.std.proofs.lemmas.Option.{slice_get_within}
-use Rattle.words.specs.PlainQueue.{reply_of, served}
+use Rattle.words.specs.PlainQueue.{reply_of, served, Value}
 use Rattle.words.specs.declared.call.Call.{Call}
 use Rattle.words.specs.declared.call.Client.{Client}
 use Rattle.words.specs.declared.call.Reply.{Reply}
@@ -121,18 +121,18 @@ answered_in_turn old now new client call reply turn was is went left answers par
     ∙ ap (λ (es : List Event). es ++ return_event client reply ∷ []) went.events in
     let explains : Explains old.base old.told (old.log.events ++ return_event client reply ∷ []) (order_in new) =
     subst (λ (es : List Event). Explains old.base old.told es (order_in new)) events
-    (subst (λ (b : List ℕ). Explains b old.told new.log.events (order_in new)) base
+    (subst (λ (b : List Value). Explains b old.told new.log.events (order_in new)) base
     (subst (λ (ts : List Told). Explains new.base ts new.log.events (order_in new)) told is.explains)) in
     let both = turn_served old.base old.told old.log.events (order_in old) (order_in new) client reply was.history
     was.explains explains part (ended_on old now new went ended) turn.place turn.number call turn.begins turn.last
     turn.alone turn.fresh in
     let holds : kept_content new
     ≡ queue_after (old.log.events ++ return_event client reply ∷ []) old.base (order_in new) =
-    is.agrees ∙ ap (λ (b : List ℕ). queue_after new.log.events b (order_in new)) base
+    is.agrees ∙ ap (λ (b : List Value). queue_after new.log.events b (order_in new)) base
     ∙ ap (λ (es : List Event). queue_after es old.base (order_in new)) events in
     record {
-      answer = both.0 ∙ ap (λ (q : List ℕ). reply_of q call) (sym was.agrees);
-      content = holds ∙ both.1 ∙ ap (λ (q : List ℕ). served q call) (sym was.agrees);
+      answer = both.0 ∙ ap (λ (q : List Value). reply_of q call) (sym was.agrees);
+      content = holds ∙ both.1 ∙ ap (λ (q : List Value). served q call) (sym was.agrees);
       nobody = subst (λ (es : List Event). (other : Client) → IsUnderWay es other (length es) → ⊥) (sym events)
           (nobody_after old.log.events client reply turn.alone);
     }

@@ -226,10 +226,10 @@ module _ (base : List Value) (told : List Told) (events : List Event) (before af
       runs_last (events ++ answer) base before own
       (subst (Runs (events ++ answer) base) comes_last (runs_from_replays (events ++ answer) base after is.replays)) in
       let same : serves.call ≡ call = cc (serves.names, names) in (
-        serves.reply ∙ ap (λ (q : List ℕ). reply_of q serves.call) old
+        serves.reply ∙ ap (λ (q : List Value). reply_of q serves.call) old
             ∙ ap (reply_of (queue_after events base before)) same,
         ap (queue_after (events ++ answer) base) comes_last
             ∙ queue_push (events ++ answer) base before own
             ∙ ap (queue_after_call (queue_after (events ++ answer) base before)) names
-            ∙ ap (λ (q : List ℕ). served q call) old,
+            ∙ ap (λ (q : List Value). served q call) old,
       )

@@ -3,6 +3,7 @@ use Rattle.std.proofs.Common.{◌≡◌, ℕ, zero, suc, ◌≤◌, ◌<◌, ◌
 use Rattle.std.proofs.lemmas.List.{ext_get_or, length-append, length-replicate}
 use Rattle.std.proofs.lemmas.List.FromFn.{length-map-range_with_len}
 use Rattle.std.proofs.lemmas.Option.{get_or_from_slice_get}
+use Rattle.words.specs.PlainQueue.{Value}
 use Rattle.words.specs.declared.call.Kind.{Kind}
 use Rattle.words.specs.declared.call.Kind.TheVariants.{Durable as durable_kind, Log as log_kind}
 use Rattle.words.specs.declared.told.Row.TheVariants.{NoCall}
@@ -88,7 +89,7 @@ module _ (s : Shape) (ws : Words) (unused : AreUnused s ws) (some : 1 ≤ s.clie
       let new : State = world_over s ws in
       ap (λ (x : Words). let w : State = record booted { words = x } in w) words
       ∙ ap (λ (x : Queue). let w : State = record booted { words = ws; queue = x } in w) queue
-      ∙ ap (λ (x : List ℕ). let w : State = record booted { words = ws; queue = new.queue; base = x } in w) base
+      ∙ ap (λ (x : List Value). let w : State = record booted { words = ws; queue = new.queue; base = x } in w) base
       ∙ ap (λ (x : List Told). let w : State = record booted { words = ws; queue = new.queue; base = []; told = x } in w) tells
 
   pub holds_unused : Holds (booted_world s ws)

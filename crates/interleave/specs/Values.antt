@@ -5,7 +5,6 @@ use Rattle.words.specs.declared.call.Kind.TheVariants.{Durable, Log}
 use Rattle.persist.specs.Memory.{Words}
 use Rattle.arena.specs.Layout.{word_at}
 use Rattle.arena.specs.Shape.{Shape, greatest}
-use Rattle.arena.specs.declared.place.Part.TheVariants.{First}
 use Rattle.arena.specs.declared.place.Place.{Place}
 use Rattle.arena.specs.declared.place.Place.TheVariants.{Head, Tail, Announcement, Bump, Item, Next, Mark, Cell, Insert, Number, EntryKind, Status, EntryNode}
 use Rattle.protocol.specs.Machine.{Memory}
@@ -27,8 +26,7 @@ is_place s Head = true
 is_place s Tail = true
 is_place s (Announcement t) = nat_lt t.0 s.clients
 is_place s (Bump t) = nat_lt t.0 s.clients
-is_place s (Item n First) = nat_le n.0 (greatest s)
-is_place s (Item n _) = false
+is_place s (Item n part) = nat_le n.0 (greatest s)
 is_place s (Next n) = nat_le n.0 (greatest s)
 is_place s (Mark n) = nat_le n.0 (greatest s)
 is_place s (Cell c) = is_durable s.kind && is_record s c.0

@@ -20,7 +20,7 @@ use crate::content::content;
 use crate::queue::Queue;
 use crate::trace::Trace;
 use arena::Layout;
-use events::{History, Order, Sequence};
+use events::{History, Order, Sequence, copied};
 use persist::KeptWords;
 use recover::{sound, tells};
 use std::alloc::Global;
@@ -79,7 +79,7 @@ impl<L: Layout + Drop> Core<L> {
         sound(&layout, kept)?;
         let base = content(alloc, &layout, kept)?;
         let told = tells(&layout, kept);
-        let queue = Queue::at_boot(layout.kind(), told);
+        let queue = Queue::at_boot(layout.kind(), copied(&told));
         let calls = Calls::none(clients);
         let trace = Trace::booted(alloc, base, told);
         Ok(Core {
@@ -175,8 +175,10 @@ impl<L: Layout + Drop> Core<L> {
     pub fn calling(&self, client: Client) -> Option<u64>
         ensures { result ≡ number_of_call (slice_index_or self.now.calls client.0 None) }
     {
-        let call = self.calls.under_way(client.0 as usize);
-        call.map(|call| call.begun.number)
+        match self.calls.under_way(client.0 as usize) {
+            Some(call) => Some(call.begun.number),
+            None => None,
+        }
     }
 
     /// What the client was last told: what the last recovery read, and at first what the base tells. A client that

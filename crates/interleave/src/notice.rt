@@ -4,7 +4,7 @@ ghost use Rattle.std.specs.Prelude.{◌≡◌, ◌≤◌, length, slice_index_or
 ghost use Rattle.arena.specs.Layout.{size_of};
 ghost use Rattle.arena.specs.Shape.{owner};
 ghost use Rattle.arena.specs.Place.{IsNode, IsPlace};
-ghost use Rattle.arena.specs.Words.{HoldsValue, values};
+ghost use Rattle.arena.specs.Words.{values};
 ghost use Rattle.protocol.specs.Machine.{effects_on_keep, effects_on_count};
 ghost use Rattle.interleave.specs.Core.{machine_over, core_with_effects};
 ghost use Rattle.interleave.specs.Effects.{AreInSequence};
@@ -28,14 +28,18 @@ pub(crate) fn kept_at<L: Layout, K: KeptWords>(layout: &L, kept: &K, place: Plac
     kept.kept(word)
 }
 
-/// The kept value of a node.
+/// The kept message of a node.
 pub(crate) fn kept_value<L: Layout, K: KeptWords>(layout: &L, kept: &K, node: NodeId) -> Value
     requires node { IsNode (L.shape layout.now) node.0 }
     requires room { size_of (L.shape layout.now) ≤ length (K.kept_words kept.now) }
-    requires holds { HoldsValue (value_of_place (L.shape layout.now) (K.kept_words kept.now)) node.0 }
     ensures { result ≡ values (value_of_place (L.shape layout.now) (K.kept_words kept.now)) node.0 }
 {
-    value_of(kept_at(layout, kept, Place::Item(node, Part::First)))
+    value_of([
+        kept_at(layout, kept, Place::Item(node, Part::Length)),
+        kept_at(layout, kept, Place::Item(node, Part::First)),
+        kept_at(layout, kept, Place::Item(node, Part::Second)),
+        kept_at(layout, kept, Place::Item(node, Part::Third)),
+    ])
 }
 
 impl<L: Layout + Drop> Core<L> {

@@ -6,6 +6,7 @@ ghost use Rattle.interleave.specs.Rotation.{queue_with_told};
 ghost use Rattle.interleave.specs.Queue.{new_queue, told_in, number_check, after_return, queue_with_reports};
 
 use durable::DurableQueue;
+use events::copied;
 use logqueue::LogQueue;
 use words::{Client, Kind, MAX_CLIENTS, Refusal, Reports};
 
@@ -43,8 +44,8 @@ impl Queue {
         ensures { result ≡ told_in self.now }
     {
         match self {
-            Queue::Durable(queue) => *queue.told(),
-            Queue::Log(queue) => *queue.told(),
+            Queue::Durable(queue) => copied(queue.told()),
+            Queue::Log(queue) => copied(queue.told()),
         }
     }
 

@@ -15,6 +15,7 @@ ghost use Rattle.interleave.specs.Rotation.{after_rotate, after_rotation, rotate
 use crate::content::content;
 use crate::lent::Core;
 use arena::Layout;
+use events::copied;
 use persist::KeptWords;
 use recover::tells;
 use words::{Refusal, Reports, Value};
@@ -70,7 +71,7 @@ impl<L: Layout + Drop> Core<L> {
             → Holds (state_of self.old ws) → Holds (state_of self.new ws) }
     {
         let told = self.tells(kept);
-        self.queue.tell(told);
+        self.queue.tell(copied(&told));
         self.trace.begin_anew(base, told);
     }
 

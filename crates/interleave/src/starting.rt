@@ -35,28 +35,28 @@ impl<L: Layout + Drop> Core<L> {
     }
 
     /// A client that is there begins a call, with this record.
-    fn take_record(&mut self, begun: Begun)
-        requires client { begun.client.0 < length self.old.calls }
+    fn take_record(&mut self, begun: &Begun)
+        requires client { begun.now.client.0 < length self.old.calls }
         requires room { 0 < self.old.trace.room }
         ensures shape { self.new.shape ≡ self.old.shape }
         ensures queue { self.new.queue ≡ self.old.queue }
         ensures calls { let place = length self.old.trace.log.events in
-            self.new.calls ≡ slice_set self.old.calls begun.client.0
-            (Some (record { place = place; begun = begun; op = begun_at self.old.shape.kind begun })) }
+            self.new.calls ≡ slice_set self.old.calls begun.now.client.0
+            (Some (record { place = place; begun = begun.now; op = begun_at self.old.shape.kind begun.now })) }
         ensures base { self.new.trace.base ≡ self.old.trace.base }
         ensures told { self.new.trace.told ≡ self.old.trace.told }
         ensures events { self.new.trace.log.events
-            ≡ self.old.trace.log.events ++ call_event begun.client begun.number begun.call ∷ [] }
+            ≡ self.old.trace.log.events ++ call_event begun.now.client begun.now.number begun.now.call ∷ [] }
         ensures issued { let place = length self.old.trace.log.events in
-            self.new.trace.log.issued ≡ self.old.trace.log.issued ++ record { place = place; begun = begun } ∷ [] }
+            self.new.trace.log.issued ≡ self.old.trace.log.issued ++ record { place = place; begun = begun.now } ∷ [] }
         ensures effects { self.new.trace.log.effects ≡ self.old.trace.log.effects }
         ensures recovery { self.new.trace.recovery ≡ self.old.trace.recovery }
         ensures room { self.old.trace.room ≤ self.new.trace.room + 1 }
     {
         let under_way = UnderWay {
             place: self.trace.moment(),
-            begun,
-            op: Op::begin(self.layout.kind(), begun),
+            begun: *begun,
+            op: Op::begin(self.layout.kind(), *begun),
         };
         self.calls.begin(begun.client, under_way);
         self.trace.begin(begun);
@@ -97,7 +97,7 @@ impl<L: Layout + Drop> Core<L> {
             number,
             call,
         };
-        self.take_record(begun);
+        self.take_record(&begun);
         Ok(())
     }
 

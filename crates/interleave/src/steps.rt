@@ -24,8 +24,8 @@ use stepper::{After, Resume, Stepped};
 use words::{Client, Refusal, Reply};
 
 /// Whether a dequeue looked, and found no node to take.
-fn found_nothing(after: After<Op, Reply>) -> bool
-    ensures { result ≡ went_on_to_nothing after }
+fn found_nothing(after: &After<Op, Reply>) -> bool
+    ensures { result ≡ went_on_to_nothing after.now }
 {
     match after {
         After::More(op) => op.found_no_node(),
@@ -64,19 +64,21 @@ impl<L: Layout + Drop> Core<L> {
     fn note<M: EvictableWords>(
         &mut self,
         memory: &M,
-        under_way: UnderWay,
-        stepped: Stepped<Op, Reply>,
+        under_way: &UnderWay,
+        stepped: &Stepped<Op, Reply>,
     )
         requires fit { WordsFit self.old.shape (M.words memory.now) }
         requires sequence { AreInSequence self.old.trace.log.effects }
         requires room { let w = machine_over self.old (M.words memory.now) in
-            length (effects_on_step w under_way stepped.change stepped.after) ≤ length self.old.trace.log.events }
+            length (effects_on_step w under_way.now stepped.now.change stepped.now.after)
+            ≤ length self.old.trace.log.events }
         ensures { let w = machine_over self.old (M.words memory.now) in
-            self.new ≡ core_with_effects self.old (effects_on_step w under_way stepped.change stepped.after) }
+            self.new ≡ core_with_effects self.old
+            (effects_on_step w under_way.now stepped.now.change stepped.now.after) }
     {
         if under_way.op.looks() {
             self.trace
-                .look(under_way.place, found_nothing(stepped.after));
+                .look(under_way.place, found_nothing(&stepped.after));
             return;
         }
         self.note_change(memory, stepped.change);
@@ -105,9 +107,10 @@ impl<L: Layout + Drop> Core<L> {
                 None
             }
             After::Done(reply) => {
+                let answer = reply;
                 self.calls.end(client);
                 self.trace.answer(client, reply);
-                Some(reply)
+                Some(answer)
             }
         }
     }
@@ -117,35 +120,35 @@ impl<L: Layout + Drop> Core<L> {
         &mut self,
         memory: &mut M,
         client: Client,
-        under_way: UnderWay,
+        under_way: &UnderWay,
     ) -> Option<Reply>
         requires safe { IsSafe self.old.shape (M.words memory.old) self.old.calls }
         requires asked { let s = self.old.shape in
-            IsAskedFor s (access_of s.kind under_way.op) (M.lent memory.old).request }
-        requires waits { slice_get self.old.calls client.0 ≡ Some (Some under_way) }
+            IsAskedFor s (access_of s.kind under_way.now.op) (M.lent memory.old).request }
+        requires waits { slice_get self.old.calls client.0 ≡ Some (Some under_way.now) }
         requires sequence { AreInSequence self.old.trace.log.effects }
-        requires effects { length (effects_after (machine_over self.old (M.words memory.old)) under_way under_way.op)
-            ≤ length self.old.trace.log.events }
+        requires effects { let w = machine_over self.old (M.words memory.old) in
+            length (effects_after w under_way.now under_way.now.op) ≤ length self.old.trace.log.events }
         requires room { 0 < self.old.trace.room }
         ensures words { M.words memory.new
-            ≡ after_one self.old.shape (access_of self.old.shape.kind under_way.op) (M.words memory.old) }
+            ≡ after_one self.old.shape (access_of self.old.shape.kind under_way.now.op) (M.words memory.old) }
         ensures lent { M.lent memory.new
-            ≡ lent_after_one self.old.shape (access_of self.old.shape.kind under_way.op) (M.lent memory.old) }
+            ≡ lent_after_one self.old.shape (access_of self.old.shape.kind under_way.now.op) (M.lent memory.old) }
         ensures shape { self.new.shape ≡ self.old.shape }
         ensures queue { self.new.queue ≡ self.old.queue }
-        ensures calls { self.new.calls ≡ slice_set self.old.calls client.0
-            (with_next under_way (next_of (machine_over self.old (M.words memory.old)) under_way)) }
+        ensures calls { let w = machine_over self.old (M.words memory.old) in
+            self.new.calls ≡ slice_set self.old.calls client.0 (with_next under_way.now (next_of w under_way.now)) }
         ensures base { self.new.trace.base ≡ self.old.trace.base }
         ensures told { self.new.trace.told ≡ self.old.trace.told }
         ensures log { self.new.trace.log
-            ≡ (with_step (machine_over self.old (M.words memory.old)) client under_way).log }
-        ensures answer { result ≡ answer_of (next_of (machine_over self.old (M.words memory.old)) under_way) }
+            ≡ (with_step (machine_over self.old (M.words memory.old)) client under_way.now).log }
+        ensures answer { result ≡ answer_of (next_of (machine_over self.old (M.words memory.old)) under_way.now) }
         ensures recovery { self.new.trace.recovery ≡ self.old.trace.recovery }
         ensures room { self.old.trace.room ≤ self.new.trace.room + 1 }
         ensures stays { result ≡ None → self.new.trace.room ≡ self.old.trace.room }
     {
         let stepped = self.step_at(memory, under_way.op);
-        self.note(memory, under_way, stepped);
+        self.note(memory, under_way, &stepped);
         self.go_on(client, stepped.after)
     }
 
@@ -175,11 +178,11 @@ impl<L: Layout + Drop> Core<L> {
     {
         let under_way = self.waiting(client)?;
         self.reserve(1)?;
-        let answer = self.advance(memory, client, under_way);
-        if answer.is_some() {
-            self.queue
-                .returned(under_way.begun.client, under_way.begun.number);
-        }
-        Ok(answer)
+        let Some(reply) = self.advance(memory, client, &under_way) else {
+            return Ok(None);
+        };
+        let begun = &under_way.begun;
+        self.queue.returned(begun.client, begun.number);
+        Ok(Some(reply))
     }
 }

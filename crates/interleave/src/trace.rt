@@ -15,7 +15,7 @@ ghost use Rattle.interleave.specs.Trace.{with_effects};
 
 use crate::effects::{forget, settle};
 use arena::Layout;
-use events::{Effect, Event, Events, History, Sequence, keep_settled};
+use events::{Effect, Event, Events, History, Sequence, copied, keep_settled};
 use persist::WordMemory;
 use protocol::Issued;
 use recover::{Recovery, boot};
@@ -140,14 +140,14 @@ impl Trace {
     }
 
     /// A client began a call.
-    pub(crate) fn begin(&mut self, begun: Begun)
+    pub(crate) fn begin(&mut self, begun: &Begun)
         requires { 0 < self.old.room }
         ensures base { self.new.base ≡ self.old.base }
         ensures told { self.new.told ≡ self.old.told }
         ensures events { self.new.log.events
-            ≡ self.old.log.events ++ call_event begun.client begun.number begun.call ∷ [] }
+            ≡ self.old.log.events ++ call_event begun.now.client begun.now.number begun.now.call ∷ [] }
         ensures issued { self.new.log.issued
-            ≡ self.old.log.issued ++ record { place = length self.old.log.events; begun = begun } ∷ [] }
+            ≡ self.old.log.issued ++ record { place = length self.old.log.events; begun = begun.now } ∷ [] }
         ensures effects { self.new.log.effects ≡ self.old.log.effects }
         ensures recovery { self.new.recovery ≡ self.old.recovery }
         ensures room { self.old.room ≤ self.new.room + 1 }
@@ -158,7 +158,10 @@ impl Trace {
             number: begun.number,
             call: begun.call,
         });
-        self.issued.push_reserved(Issued { place, begun });
+        self.issued.push_reserved(Issued {
+            place,
+            begun: *begun,
+        });
     }
 
     /// A client's call was answered.
@@ -233,12 +236,13 @@ impl Trace {
         ensures room { self.old.room ≤ self.new.room + 1 }
     {
         let told = match &self.recovery {
-            Some(recovery) => *recovery.told(),
+            Some(recovery) => copied(recovery.told()),
             None => [Told::None; MAX_CLIENTS],
         };
+        let answer = copied(&told);
         self.history.events.push(Event::Ready { told });
         self.recovery = None;
-        told
+        answer
     }
 
     /// The history ends, and another begins on this. The room that events had stays.

@@ -53,10 +53,10 @@ get_left (z ∷ xs) x zero y e = e
 get_left (z ∷ xs) x (suc at) y e = get_left xs x at y e
 
 -- a base more
-pub bases_more : (ws : Words) (slots : List Slot) (bases : List (List ℕ)) (slot : Slot) (base : List Value)
-    → ((at : ℕ) (s : Slot) (b : List ℕ) → slice_get slots at ≡ Some s → slice_get bases at ≡ Some b → IsBaseIn ws s b)
+pub bases_more : (ws : Words) (slots : List Slot) (bases : List (List Value)) (slot : Slot) (base : List Value)
+    → ((at : ℕ) (s : Slot) (b : List Value) → slice_get slots at ≡ Some s → slice_get bases at ≡ Some b → IsBaseIn ws s b)
     → slice_get slots (length bases) ≡ Some slot → IsBaseIn ws slot base
-    → (at : ℕ) (s : Slot) (b : List ℕ) → slice_get slots at ≡ Some s → slice_get (bases ++ base ∷ []) at ≡ Some b → IsBaseIn ws s b
+    → (at : ℕ) (s : Slot) (b : List Value) → slice_get slots at ≡ Some s → slice_get (bases ++ base ∷ []) at ≡ Some b → IsBaseIn ws s b
 bases_more ws slots bases slot base each here own at s b there more = elim (get_push bases base at b more) [
   | inl before ↦ each at s b there before
   | inr last ↦
@@ -65,14 +65,14 @@ bases_more ws slots bases slot base each here own at s b there more = elim (get_
 ]
 
 -- the histories that end while there is a base left for each of the others: those of the slots past them ended
-pub record AreBegunFrom (ws : Words) (old : List Slot) (bases : List (List ℕ)) (new : List Slot) (left : List (List ℕ)) : Type 0 where
+pub record AreBegunFrom (ws : Words) (old : List Slot) (bases : List (List Value)) (new : List Slot) (left : List (List Value)) : Type 0 where
   pub count : length new ≡ length old
   pub few : length left ≤ length old
   pub bases_left : (at : ℕ) (base : List Value) → slice_get left at ≡ Some base → slice_get bases at ≡ Some base
   pub still : (at : ℕ) → at < length left → slice_get new at ≡ slice_get old at
   pub begun : (at : ℕ) (was is : Slot) → length left ≤ at → slice_get old at ≡ Some was → slice_get new at ≡ Some is → IsBegunAnew ws was is
 
-pub begun_more : (ws : Words) (old : List Slot) (bases : List (List ℕ)) (new : List Slot) (left : List (List ℕ)) (base : List Value) (was is : Slot)
+pub begun_more : (ws : Words) (old : List Slot) (bases : List (List Value)) (new : List Slot) (left : List (List Value)) (base : List Value) (was is : Slot)
     → AreBegunFrom ws old bases new (left ++ base ∷ []) → slice_get new (length left) ≡ Some was → IsBegunAnew ws was is
     → AreBegunFrom ws old bases (slice_set new (length left) is) left
 begun_more ws old bases new left base was is h here begun =
@@ -93,12 +93,12 @@ begun_more ws old bases new left base was is h here begun =
     }
 
 -- the slot whose history ends next is as it was, and there is its base
-pub record IsNext (old new : List Slot) (bases : List (List ℕ)) (base : List Value) (at : ℕ) (slot : Slot) : Type 0 where
+pub record IsNext (old new : List Slot) (bases : List (List Value)) (base : List Value) (at : ℕ) (slot : Slot) : Type 0 where
   pub now : slice_get new at ≡ Some slot
   pub was : slice_get old at ≡ Some slot
   pub its_base : slice_get bases at ≡ Some base
 
-pub next_slot : (ws : Words) (old : List Slot) (bases : List (List ℕ)) (new : List Slot) (left : List (List ℕ)) (base : List Value) (at : ℕ) (d : Slot)
+pub next_slot : (ws : Words) (old : List Slot) (bases : List (List Value)) (new : List Slot) (left : List (List Value)) (base : List Value) (at : ℕ) (d : Slot)
     → AreBegunFrom ws old bases new (left ++ base ∷ []) → at ≡ length left → IsNext old new bases base at (slice_index_or new at d)
 next_slot ws old bases new left base at d h last =
     let long : length (left ++ base ∷ []) ≡ length left + 1 = length_push left base in
@@ -109,7 +109,7 @@ next_slot ws old bases new left base at d h last =
       its_base = h.bases_left at base (ap (slice_get (left ++ base ∷ [])) last ∙ get_last left base);
     }
 
-pub begun_all : (ws : Words) (old : List Slot) (bases : List (List ℕ)) (new : List Slot) (left : List (List ℕ)) → AreBegunFrom ws old bases new left
+pub begun_all : (ws : Words) (old : List Slot) (bases : List (List Value)) (new : List Slot) (left : List (List Value)) → AreBegunFrom ws old bases new left
     → length left ≡ 0 → AreBegunAnew ws old new
 begun_all ws old bases new left h none = record {
   count = h.count;

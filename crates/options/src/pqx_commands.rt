@@ -16,13 +16,14 @@ A script names a queue and then acts on it, a line for each act. An empty line, 
 nothing. This one has a client call, stops everything before the call's effect is kept, and recovers:
 
   queue log 1 2    a log queue of 1 client, who can begin 2 calls
-  enq 0 1 9        client 0 calls: to enqueue 9, as its call number 1
-  step 0 25        the call goes on by 25 steps, and has then linked its node
+  enq 0 1 09       client 0 calls: to enqueue the byte 9, as its call number 1
+  step 0 34        the call goes on by 34 steps, and has then linked its node
   crash            the whole system stops, and what is not kept is lost
   recover          recovery goes on to its end, and client 0 is told that its call was not taken
   content          prints what the queue holds: nothing
 
 The other lines: queue durable T K, deq C N, end C, evict W, recover M, order; on a durable queue enq C V and deq C.
+V is two lowercase hexadecimal digits for each of at most 24 bytes, and . for none.
 docs/SCRIPT.md has all of them, and every line that is printed.";
 
 /// What help says of recordings.

@@ -23,17 +23,21 @@ AreBytes bytes = All (λ byte. byte < 2 ^ 8) bytes
 abbrev pub magic : List ℕ
 magic = codes "PQW1"
 
--- the one image of words: the magic, how many words, and each word; every number in eight bytes, the low one first
+-- the one image of words that begins so: then how many words, and each word; every number in eight bytes, the low one
+-- first
+abbrev pub image_by : List ℕ → List ℕ → List ℕ
+image_by first words = first ++ to_le_bytes w64 (length words) ++ flat_map (to_le_bytes w64) words
+
 abbrev pub image_of : List ℕ → List ℕ
-image_of words = magic ++ to_le_bytes w64 (length words) ++ flat_map (to_le_bytes w64) words
+image_of words = image_by magic words
 
 -- how many bytes an image of so many words has
 abbrev pub image_size : ℕ → ℕ
 image_size count = HEADER_BYTES + NUMBER_BYTES * count
 
--- whether what there is of the first four bytes is the magic's
-abbrev pub begins_as_image : List ℕ → Bool
-begins_as_image bytes = bytes_eq (take MAGIC_BYTES bytes) (take (length bytes) magic)
+-- whether what there is of the first four bytes is as these
+abbrev pub begins_with : List ℕ → List ℕ → Bool
+begins_with first bytes = bytes_eq (take MAGIC_BYTES bytes) (take (length bytes) first)
 
 -- how many words the bytes say that there are
 abbrev pub count_in : List ℕ → ℕ
@@ -43,13 +47,16 @@ count_in bytes = from_le_bytes w64 (take NUMBER_BYTES (drop MAGIC_BYTES bytes))
 abbrev pub words_in : ℕ → List ℕ → List ℕ
 words_in count bytes = map (from_le_bytes w64) (first_chunks NUMBER_BYTES count (drop HEADER_BYTES bytes))
 
--- what bytes are read as: the words, or the first that is wrong with them
-unfoldable pub reading : List ℕ → Result (List ℕ) Refusal
-reading bytes =
+-- what bytes are read as that have to begin so: the words, or the first that is wrong with them
+unfoldable pub reading_by : List ℕ → List ℕ → Result (List ℕ) Refusal
+reading_by first bytes =
     let count = count_in bytes in
-    if not (begins_as_image bytes) then Err BadMagic
+    if not (begins_with first bytes) then Err BadMagic
     else (if nat_lt (length bytes) HEADER_BYTES then Err Truncated
     else (if (count == 0) || nat_lt MAX_WORDS count then Err BadCount
     else (if nat_lt (length bytes) (image_size count) then Err Truncated
     else (if nat_lt (image_size count) (length bytes) then Err TrailingBytes
     else Ok (words_in count bytes)))))
+
+abbrev pub reading : List ℕ → Result (List ℕ) Refusal
+reading bytes = reading_by magic bytes

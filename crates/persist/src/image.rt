@@ -3,7 +3,7 @@
 ghost use Rattle.std.specs.Prelude.{◌≡◌, ◌⊎◌, ◌^◌, ◌<◌, ◌≤◌, length, drop, map, All, Ok, Err, IsOk, IfOk, IfErr, IfSome, IfNone};
 ghost use Rattle.std.specs.Int.{w64, from_le_bytes};
 ghost use Rattle.persist.specs.Memory.{words_at_rest, IsUnasked};
-ghost use Rattle.persist.specs.Image.{image_of, begins_as_image, count_in, reading};
+ghost use Rattle.persist.specs.Image.{image_of, image_by, begins_with, count_in, reading, reading_by};
 
 use crate::memory::{MAX_WORDS, Memory};
 use std::alloc::{AllocError, Global};
@@ -21,12 +21,12 @@ pub const NUMBER_BYTES: usize = 8;
 /// How many bytes stand before the words: the magic and the count.
 pub const HEADER_BYTES: usize = MAGIC_BYTES + NUMBER_BYTES;
 
-/// Whether what there is of the first four bytes is the magic's.
-fn begins_right(bytes: &[u8]) -> bool
-    ensures { result ≡ begins_as_image bytes.now }
+/// Whether what there is of the first four bytes is as these.
+fn begins_right(first: &[u8; MAGIC_BYTES], bytes: &[u8]) -> bool
+    ensures { result ≡ begins_with first.now bytes.now }
 {
     let there = bytes.len().min(MAGIC_BYTES);
-    bytes[..there] == MAGIC[..there]
+    bytes[..there] == first[..there]
 }
 
 /// The count, and the bytes after it, unless there are too few.
@@ -41,15 +41,18 @@ fn split_header(bytes: &[u8]) -> Option<(u64, &[u8])>
     Some((u64::from_le_bytes(*count), rest))
 }
 
-/// The bytes of each word, or the first that is wrong with an image.
-#[tactic(auto, unfolding(crate::specs::Image::reading))]
-fn words_of(bytes: &[u8]) -> Result<&[[u8; NUMBER_BYTES]], Refusal>
-    ensures ok { IfOk result (λ words. reading bytes.now ≡ Ok (map (from_le_bytes w64) words.now)) }
+/// The bytes of each word, or the first that is wrong with an image that begins so.
+#[tactic(auto, unfolding(crate::specs::Image::reading_by))]
+fn words_of<'a>(
+    first: &[u8; MAGIC_BYTES],
+    bytes: &'a [u8],
+) -> Result<&'a [[u8; NUMBER_BYTES]], Refusal>
+    ensures ok { IfOk result (λ words. reading_by first.now bytes.now ≡ Ok (map (from_le_bytes w64) words.now)) }
     ensures some { IfOk result (λ words. 0 < length words.now) }
     ensures few { IfOk result (λ words. length words.now ≤ MAX_WORDS) }
-    ensures err { IfErr result (λ e. reading bytes.now ≡ Err e) }
+    ensures err { IfErr result (λ e. reading_by first.now bytes.now ≡ Err e) }
 {
-    if !begins_right(bytes) {
+    if !begins_right(first, bytes) {
         return Err(Refusal::BadMagic);
     }
     let Some((count, rest)) = split_header(bytes) else {
@@ -121,7 +124,20 @@ impl Memory {
         ensures errors { IfErr result (λ e. (reading bytes.now ≡ Err e)
             ⊎ (e ≡ Refusal.NoMemory) × IsOk (reading bytes.now)) }
     {
-        let words = words_of(bytes)?;
+        Memory::read(alloc, &MAGIC, bytes)
+    }
+
+    /// The same of bytes that begin so.
+    fn read(alloc: Global, first: &[u8; MAGIC_BYTES], bytes: &[u8]) -> Result<Self, Refusal>
+        requires { length first.now ≡ MAGIC_BYTES }
+        ensures read { IfOk result (λ m. reading_by first.now bytes.now ≡ Ok m.words.kept) }
+        ensures at_rest { IfOk result (λ m. m.words ≡ words_at_rest m.words.kept) }
+        ensures unasked { IfOk result IsUnasked }
+        ensures image { IfOk result (λ m. image_by first.now m.words.kept ≡ bytes.now) }
+        ensures errors { IfErr result (λ e. (reading_by first.now bytes.now ≡ Err e)
+            ⊎ (e ≡ Refusal.NoMemory) × IsOk (reading_by first.now bytes.now)) }
+    {
+        let words = words_of(first, bytes)?;
         let Ok(kept) = numbers(alloc, words) else {
             return Err(Refusal::NoMemory);
         };

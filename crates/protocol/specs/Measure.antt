@@ -7,10 +7,11 @@ use Rattle.arena.specs.Shape.{Shape, greatest}
 use Rattle.arena.specs.Words.{links}
 use Rattle.arena.specs.declared.place.Place.{Place}
 use Rattle.arena.specs.declared.place.Place.TheVariants.{Head}
+use Rattle.stepper.specs.Loading.{parts_left}
 use Rattle.stepper.specs.Steps.{keep_steps, load_steps}
 use Rattle.recover.specs.declared.recovery.Recovery.{Recovery}
 use Rattle.recover.specs.declared.point.RecoveryPoint.{RecoveryPoint}
-use Rattle.recover.specs.declared.point.RecoveryPoint.TheVariants.{RecoveryLoadHead, RecoveryLoadNext, RecoveryLoadInsert, RecoveryStoreStatus, RecoveryLoadMark, RecoveryLoadValue, RecoveryStoreResult, RecoveryStoreHead, RecoveryStoreTail, RecoveryLoadAnnouncement, RecoveryLoadCell, RecoveryLoadNumber, RecoveryLoadKind, RecoveryLoadStatus, RecoveryLoadRemove, RecoveryLoadEntryNode, RecoveryLoadRemovedValue, Flush as FlushPoint, Fence as FencePoint}
+use Rattle.recover.specs.declared.point.RecoveryPoint.TheVariants.{RecoveryLoadHead, RecoveryLoadNext, RecoveryLoadInsert, RecoveryStoreStatus, RecoveryLoadMark, RecoveryStoreResult, RecoveryStoreHead, RecoveryStoreTail, RecoveryLoadAnnouncement, RecoveryLoadCell, RecoveryLoadGot, RecoveryLoadNumber, RecoveryLoadKind, RecoveryLoadStatus, RecoveryLoadRemove, RecoveryLoadEntryNode, RecoveryLoadRemovedItem, Flush as FlushPoint, Fence as FencePoint}
 use Rattle.recover.specs.declared.keeping.RecoveryKeeping.{RecoveryKeeping}
 use Rattle.recover.specs.declared.keeping.RecoveryKeeping.TheVariants.{Status as KeepStatus, Result as KeepResult, Head as KeepHead, Tail as KeepTail}
 use Rattle.protocol.specs.Machine.{World}
@@ -60,20 +61,19 @@ weight s c (RecoveryLoadInsert p) =
 weight s c (RecoveryStoreStatus p) =
     STEPS_PER_RECORD * rest s (links c) p.node.0 + steps_on_arrival p.moved + 1 + keep_steps + steps_to_tell_all s
 weight s c (RecoveryLoadMark p) = STEPS_PER_RECORD * rest s (links c) p.node.0 + steps_on_arrival false + steps_to_tell_all s
-weight s c (RecoveryLoadValue p) =
-    STEPS_PER_RECORD * rest s (links c) p.node.0 + 4 + load_steps + 3 * keep_steps + steps_to_tell_all s
 weight s c (RecoveryStoreResult p) =
     STEPS_PER_RECORD * rest s (links c) p.node.0 + 4 + 3 * keep_steps + steps_to_tell_all s
 weight s c (RecoveryStoreHead p) = steps_onward s (links c) p.unclaimed + 2 + 2 * keep_steps + steps_to_tell_all s
 weight s c (RecoveryStoreTail p) = 1 + keep_steps + steps_to_tell_all s
 weight s c (RecoveryLoadAnnouncement p) = steps_to_tell s p.client.0
 weight s c (RecoveryLoadCell p) = steps_to_tell s p.client.0 - 1
+weight s c (RecoveryLoadGot p) = steps_to_tell s p.client.0 - 2 - load_steps + parts_left p.loading
 weight s c (RecoveryLoadNumber p) = steps_to_tell s p.client.0 - 1
 weight s c (RecoveryLoadKind p) = steps_to_tell s p.client.0 - 2
 weight s c (RecoveryLoadStatus p) = steps_to_tell s p.client.0 - 3
 weight s c (RecoveryLoadRemove p) = steps_to_tell s p.client.0 - 4
 weight s c (RecoveryLoadEntryNode p) = steps_to_tell s p.client.0 - 4
-weight s c (RecoveryLoadRemovedValue p) = steps_to_tell s p.client.0 - 5
+weight s c (RecoveryLoadRemovedItem p) = steps_to_tell s p.client.0 - 5 - load_steps + parts_left p.loading
 weight s c (FlushPoint k) = weight_kept s c k + keep_steps
 weight s c (FencePoint k) = weight_kept s c k + keep_steps - 1
 

@@ -5,7 +5,7 @@ use Rattle.arena.specs.Answers.{result_of}
 use Rattle.arena.specs.Chain.{IsAmong}
 use Rattle.arena.specs.Content.{chain_of, claimed_of, waiting_of}
 use Rattle.arena.specs.Shape.{Shape}
-use Rattle.arena.specs.Words.{marks, values, statuses, IsWritten}
+use Rattle.arena.specs.Words.{marks, statuses, IsWritten}
 use Rattle.arena.specs.declared.place.Place.{Place}
 use Rattle.arena.specs.declared.place.Place.TheVariants.{Head, Tail}
 
@@ -23,5 +23,5 @@ pub record IsRecovered (s : Shape) (k : Place → ℕ) : Type 0 where
   pub head : k Head ≡ end_of 0 (claimed_of s k)
   pub tail : k Tail ≡ end_of 0 (chain_of s k)
   pub answered : (n : ℕ) → IsAmong n (claimed_of s k)
-      → IsWritten k (result_of s.kind (record { 0 = marks k n }) (record { 0 = n }) (values k n))
+      → IsWritten k (result_of s.kind (record { 0 = marks k n }) (record { 0 = n }))
   pub taken : s.kind ≡ Log → (n : ℕ) → IsAmong n (waiting_of s k) → statuses k n ≡ 1

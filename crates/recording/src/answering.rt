@@ -142,7 +142,10 @@ fn bound(recording: &Recording, whole: &Prefix, witness: &Witness) -> usize {
 fn end_of(whole: &Prefix, place: usize) -> usize {
     let calls = &whole.calls.calls;
     match calls.binary_search_by_key(&place, |call| call.begin) {
-        Ok(number) => calls.get(number).copied().map_or(0, |call| call.end),
+        Ok(number) => match calls.get(number) {
+            Some(call) => call.end,
+            None => 0,
+        },
         Err(_) => 0,
     }
 }

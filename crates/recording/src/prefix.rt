@@ -1,7 +1,7 @@
 //! The first so many steps of a recording, as calls and as events.
 
 use crate::act::{Act, Recording, Said};
-use events::{Event, Events};
+use events::{Event, Events, copied};
 use seeking::{Calls, Known};
 use std::alloc::{AllocError, Global};
 use words::{Call, Client, Outcome, Reply, Reports, Told};
@@ -248,7 +248,7 @@ impl Prefix {
                 reply: reply_of(recording, said),
             },
             Some(Act::Crash) if before != Some(number) => Event::Crash,
-            _ => Event::Ready { told: *told },
+            _ => Event::Ready { told: copied(told) },
         }
     }
 }

@@ -6,7 +6,7 @@ use crate::prefix::Prefix;
 use crate::wording::shown;
 use events::Entry;
 use findings::{Lack, Piece, Since, Witness, rank_of};
-use seeking::Known;
+use seeking::{Known, KnownCall};
 use std::alloc::{AllocError, Global};
 use std::fmt::Write;
 use words::{Reply, Value};
@@ -238,6 +238,15 @@ impl<'a> Pen<'a> {
             .and_then(|call| self.recording.calls.get(call).copied())
             .and_then(|call| call.puts)
             .unwrap_or(usize::MAX)
+    }
+
+    /// The value that a call with this reply put, or took.
+    fn value_of_reply(&self, reply: Reply, puts: Option<usize>) -> Option<usize> {
+        match reply {
+            Reply::Done => Some(puts.unwrap_or(usize::MAX)),
+            Reply::Got(message) => Some(self.value_of(message)),
+            Reply::Empty => None,
+        }
     }
 
     /// The value that the message stands for.
@@ -502,10 +511,8 @@ impl<'a> Pen<'a> {
                 Reply::Empty => " finds nothing",
             })?;
         }
-        match entry.reply {
-            Reply::Done => self.value(of.and_then(|of| of.puts).unwrap_or(usize::MAX))?,
-            Reply::Got(message) => self.value(self.value_of(message))?,
-            Reply::Empty => {}
+        if let Some(value) = self.value_of_reply(entry.reply, of.and_then(|of| of.puts)) {
+            self.value(value)?;
         }
         self.say("\n")
     }
@@ -543,6 +550,17 @@ fn more(count: &mut usize) {
     *count = count.saturating_add(1);
 }
 
+/// Whether nobody was told the outcome of the call that begins at a place.
+fn is_open_at(calls: &[KnownCall], place: usize) -> bool {
+    let Ok(number) = calls.binary_search_by_key(&place, |call| call.begin) else {
+        return false;
+    };
+    match calls.get(number) {
+        Some(call) => matches!(call.known, Known::Open),
+        None => false,
+    }
+}
+
 fn counts_of(recording: &Recording, prefix: &Prefix, entries: &[Entry]) -> Counts {
     let mut counts = Counts::default();
     let calls = &prefix.calls.calls;
@@ -567,14 +585,8 @@ fn counts_of(recording: &Recording, prefix: &Prefix, entries: &[Entry]) -> Count
             Reply::Got(_) => more(&mut counts.gots),
             Reply::Empty => more(&mut counts.empties),
         }
-        if let Ok(number) = calls.binary_search_by_key(&entry.place, |call| call.begin) {
-            if calls
-                .get(number)
-                .copied()
-                .map_or(false, |call| call.known == Known::Open)
-            {
-                more(&mut counts.untold_taken);
-            }
+        if is_open_at(calls, entry.place) {
+            more(&mut counts.untold_taken);
         }
     }
     counts

@@ -6,11 +6,12 @@ use Rattle.words.specs.declared.call.Kind.{Kind}
 use Rattle.words.specs.declared.call.Kind.TheVariants.{Durable, Log}
 use Rattle.arena.specs.Shape.{Shape, greatest, owner, record_of}
 use Rattle.arena.specs.Place.{IsPlace, IsNode, IsRecord}
-use Rattle.arena.specs.Words.{links, marks, value_of, values, cells, numbers, entry_kinds, statuses, entry_nodes, announcements, bumps}
+use Rattle.arena.specs.Words.{links, part_at, IsBlankItem, marks, cells, numbers, entry_kinds, statuses, entry_nodes, announcements, bumps}
 use Rattle.arena.specs.Chain.{IsChain, IsAmong, LeadsTo, walk}
 use Rattle.arena.specs.Chain.LeadsTo.{there, on}
 use Rattle.arena.specs.Content.{chain_of}
-use Rattle.arena.specs.declared.place.Part.TheVariants.{First}
+use Rattle.arena.specs.declared.place.Part.{Part}
+use Rattle.arena.specs.declared.place.Part.TheVariants.{Length, First, Second, Third}
 use Rattle.arena.specs.declared.place.Place.{Place}
 use Rattle.arena.specs.declared.place.Place.TheVariants.{Head, Tail, Announcement, Bump, Item, Next, Mark, Cell, Insert, Number, EntryKind, Status, EntryNode}
 use Rattle.recover.specs.Sound.{IsIssued, IsBlank, IsBlankAnswer, IsLoose, IsOnChain, IsClaimed, IsPassed, IsOwn, IsClaimOf, IsResult, IsOfSomeCall, IsAnnounced, IsInserted, AnswersAreSound, RowsAreSound, EntriesAreSound, RecordsAreSound, ChainIsSound, ClaimsAreSound, EndsAreSound, IsSound}
@@ -38,11 +39,16 @@ module _ (s : Shape) (k l : Place → ℕ) (same : (p : Place) → IsPlace s p �
   mark : (n : ℕ) → IsNode s n → marks l n ≡ marks k n
   mark n i = same (Mark (record { 0 = n })) i
 
-  word : (n : ℕ) → IsNode s n → l (Item (record { 0 = n }) First) ≡ k (Item (record { 0 = n }) First)
-  word n i = same (Item (record { 0 = n }) First) i
+  part : (n : ℕ) (p : Part) → IsNode s n → part_at l n p ≡ part_at k n p
+  part n p i = same (Item (record { 0 = n }) p) i
 
-  value : (n : ℕ) → IsNode s n → values l n ≡ values k n
-  value n i = ap value_of (word n i)
+  blank_item : (n : ℕ) → IsNode s n → IsBlankItem k n → IsBlankItem l n
+  blank_item n i b = record {
+    len = part n Length i ∙ b.len;
+    first = part n First i ∙ b.first;
+    second = part n Second i ∙ b.second;
+    third = part n Third i ∙ b.third;
+  }
 
   -- the chain
   walk_like : (fuel n : ℕ) → IsNode s n → ((m : ℕ) → IsAmong m (walk fuel (links k) n) → IsNode s m) → walk fuel (links l) n ≡ walk fuel (links k) n
@@ -124,7 +130,7 @@ module _ (s : Shape) (k l : Place → ℕ) (same : (p : Place) → IsPlace s p �
     unused = λ n r. record {
       blank = λ none.
           let b : IsBlank s k n = (h.records.unused n r).blank (λ i. none (issued n i)) in
-          record { value = word n r.1 ∙ b.value; link = link n r.1 ∙ b.link; mark = mark n r.1 ∙ b.mark; answer = blank_answer s.kind refl n r b.answer };
+          record { item = blank_item n r.1 b.item; link = link n r.1 ∙ b.link; mark = mark n r.1 ∙ b.mark; answer = blank_answer s.kind refl n r b.answer };
     };
   }
 
@@ -138,7 +144,7 @@ module _ (s : Shape) (k l : Place → ℕ) (same : (p : Place) → IsPlace s p �
           record { link = link n r.1 ∙ q.link; mark = mark n r.1 ∙ q.mark };
     };
     sentinel = record {
-      value = word 0 (omega arith) ∙ h.chain.sentinel.value;
+      item = blank_item 0 (omega arith) h.chain.sentinel.item;
       mark = mark 0 (omega arith) ∙ h.chain.sentinel.mark;
       insert = λ log. same (Insert (record { 0 = 0 })) (log, omega arith) ∙ h.chain.sentinel.insert log;
     };
@@ -146,7 +152,7 @@ module _ (s : Shape) (k l : Place → ℕ) (same : (p : Place) → IsPlace s p �
 
   claims_sound : ClaimsAreSound s l
   claims_sound = record {
-    in_range = λ n i. subst (λ x. x ≤ 4294967295) (sym (word n i)) (h.claims.in_range n i);
+    in_range = λ n i. rw (part n Length i, part n First i, part n Second i, part n Third i) (h.claims.in_range n i);
     in_turn = λ n i c z.
         let j : IsOnChain s k n = back n i in
         h.claims.in_turn n j (claimed (links k n) (subst (IsClaimed s l) (link n (node n j)) c)) (sym (mark n (node n j)) ∙ z);
@@ -175,7 +181,7 @@ module _ (s : Shape) (k l : Place → ℕ) (same : (p : Place) → IsPlace s p �
     results = λ c i two.
         let a : cells l c ≡ cells k c = same (Cell (record { 0 = c })) (e, i) in
         let q : IsResult s k c = r.results c i (subst (λ x. 2 ≤ x) a two) in
-        record { node = q.node; claim = claim_onto c q.node q.claim; value = ap (λ x. x + 2) (value q.node (node q.node q.claim.on_chain)) ∙ q.value ∙ sym a };
+        record { node = q.node; claim = claim_onto c q.node q.claim; named = q.named ∙ sym a };
     not_empty = λ n c z. r.not_empty n (claimed n c) (sym (cell n c) ∙ z);
     not_open = λ n p z. r.not_open n (passed n p) (sym (cell n p.claimed) ∙ z);
   }

@@ -15,10 +15,11 @@ use Rattle.words.specs.declared.told.Told.TheVariants.{Verdict as told_verdict, 
 use Rattle.words.specs.declared.told.Verdict.{Verdict}
 use Rattle.arena.specs.Shape.{Shape}
 use Rattle.arena.specs.Place.{IsPlace, IsNode, IsRecord}
-use Rattle.arena.specs.Words.{marks, value_of, values, numbers, entry_kinds, statuses, announcements}
+use Rattle.arena.specs.Words.{marks, part_at, values, numbers, entry_kinds, statuses, announcements}
 use Rattle.arena.specs.Chain.{IsAmong}
 use Rattle.arena.specs.Content.{chain_of, kept_content}
-use Rattle.arena.specs.declared.place.Part.TheVariants.{First}
+use Rattle.arena.specs.declared.place.Part.{Part}
+use Rattle.arena.specs.declared.place.Part.TheVariants.{Length, First, Second, Third}
 use Rattle.arena.specs.declared.place.Place.{Place}
 use Rattle.arena.specs.declared.place.Place.TheVariants.{Announcement, Item, Mark, Cell, Number, EntryKind, Status}
 use Rattle.recover.specs.Sound.{AnswersAreSound, IsSound}
@@ -44,11 +45,11 @@ module _ (s : Shape) (k l : Place → ℕ) (same : (p : Place) → IsPlace s p �
   mark : (n : ℕ) → IsNode s n → marks l n ≡ marks k n
   mark n i = same (Mark (record { 0 = n })) i
 
-  word : (n : ℕ) → IsNode s n → l (Item (record { 0 = n }) First) ≡ k (Item (record { 0 = n }) First)
-  word n i = same (Item (record { 0 = n }) First) i
+  part : (n : ℕ) (p : Part) → IsNode s n → part_at l n p ≡ part_at k n p
+  part n p i = same (Item (record { 0 = n }) p) i
 
   value : (n : ℕ) → IsNode s n → values l n ≡ values k n
-  value n i = ap value_of (word n i)
+  value n i = cc (part n Length i, part n First i, part n Second i, part n Third i)
 
   -- the node that a token claims
   claimed_like : (c : ℕ) (ns : List ℕ) → ((n : ℕ) → IsAmong n ns → IsNode s n) → node_claimed_by l c ns ≡ node_claimed_by k c ns

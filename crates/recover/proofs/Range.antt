@@ -1,5 +1,5 @@
 -- What follows from sound words: the words that recovery and calls read are in range; and all words zero are sound.
-use Rattle.std.proofs.Common.{◌≡◌, ℕ, ◌≤◌, ◌<◌, inl, inr, refl, ◌∙◌, ap, subst, arith}
+use Rattle.std.proofs.Common.{◌≡◌, ℕ, ◌+◌, ◌≤◌, ◌<◌, inl, inr, refl, ◌∙◌, ap, subst, arith}
 use Rattle.std.proofs.lemmas.Bool.{cases_eq, cases_lt}
 use Rattle.words.specs.PlainQueue.{FitsValue}
 use Rattle.words.specs.declared.call.Kind.{Kind}
@@ -52,14 +52,14 @@ mark_within s kept h n node =
     ]
 
 -- a cell
-cell_within : (s : Shape) (kept : Place → ℕ) → IsSound s kept → s.kind ≡ Durable → (c : ℕ) → IsRecord s c → cells kept c ≤ 4294967297
+cell_within : (s : Shape) (kept : Place → ℕ) → IsSound s kept → s.kind ≡ Durable → (c : ℕ) → IsRecord s c → cells kept c ≤ greatest s + 2
 cell_within s kept h kind c r =
     elim (cases_lt (cells kept c) 2) [
       | inl few ↦ omega (arith, few)
       | inr two ↦
           let result = (rows_of s kept kind h).results c r two in
-          let value : FitsValue (values kept result.node) = values_fit kept result.node (h.claims.in_range result.node (record_on_chain s kept h.chain result.node result.claim.on_chain).1) in
-          omega (arith, value, result.value)
+          let few : result.node ≤ greatest s = (record_on_chain s kept h.chain result.node result.claim.on_chain).1 in
+          omega (arith, few, result.named)
     ]
 
 -- an entry's status and node word
@@ -101,10 +101,7 @@ sound_fits s kept h Head place read = elim h.ends.head [ inl z ↦ omega (arith,
 sound_fits s kept h Tail place read = elim h.ends.tail [ inl z ↦ omega (arith, z) | inr c ↦ (record_on_chain s kept h.chain (kept Tail) c).1 ]
 sound_fits s kept h (Announcement t) place read = announced_within s.kind s kept h.answers t.0 place
 sound_fits s kept h (Bump t) place read = h.records.within t.0 place
-sound_fits s kept h (Item n Length) place read = absurd place
-sound_fits s kept h (Item n First) place read = h.claims.in_range n.0 place
-sound_fits s kept h (Item n Second) place read = absurd place
-sound_fits s kept h (Item n Third) place read = absurd place
+sound_fits s kept h (Item n part) place read = tt
 sound_fits s kept h (Next n) place read = link_within s kept h.chain n.0 place
 sound_fits s kept h (Mark n) place read = mark_within s kept h n.0 place
 sound_fits s kept h (Cell c) place read = cell_within s kept h place.0 c.0 place.1

@@ -96,10 +96,10 @@ pub not_if : (b : Bool) (P : Type 0) → (IsTrue b → P) → (P → IsTrue b) �
 not_if true P f g = (λ no p. absurd (false≢true no), λ no. absurd (no (f refl)))
 not_if false P f g = (λ yes p. absurd (false≢true (g p)), λ no. refl)
 
--- a cell that tells a value
-pub result_if : (s : Shape) (kept : Place → ℕ) (claimed : ℕ → ℕ) → IsClaimTable s kept claimed → (c answer v : ℕ) → claimed c ≢ 0 → answer ≡ cells kept c → v ≡ values kept (claimed c) → v ≡ answer - 2 → CellTells s kept c
-result_if s kept claimed t c answer v some at value same = record {
-  result = λ two. record { node = claimed c; claim = t.claim c some; value = omega (arith, at, value, same, two) };
+-- a cell that names a node
+pub result_if : (s : Shape) (kept : Place → ℕ) (claimed : ℕ → ℕ) → IsClaimTable s kept claimed → (c answer : ℕ) → claimed c ≢ 0 → answer ≡ cells kept c → claimed c ≡ answer - 2 → CellTells s kept c
+result_if s kept claimed t c answer some at same = record {
+  result = λ two. record { node = claimed c; claim = t.claim c some; named = omega (arith, at, same, two) };
 }
 
 pub claims_only : (s : Shape) (kept : Place → ℕ) (claimed : ℕ → ℕ) → ChainIsSound s kept → IsClaimTable s kept claimed → (c n : ℕ) → c ≢ 0 → IsClaimOf s kept c n → claimed c ≢ 0
@@ -112,11 +112,11 @@ result_some s kept claimed chain t c answer r at two told =
     let h : IsResult s kept c = told.result (omega (arith, at, two)) in
     claims_only s kept claimed chain t c h.node (λ z. omega (arith, z, r.0)) h.claim
 
-pub result_only : (s : Shape) (kept : Place → ℕ) (claimed : ℕ → ℕ) → IsClaimTable s kept claimed → (c answer v : ℕ) → IsRecord s c → answer ≡ cells kept c → 2 ≤ answer → v ≡ values kept (claimed c) → CellTells s kept c → v ≡ answer - 2
-result_only s kept claimed t c answer v r at two value told =
+pub result_only : (s : Shape) (kept : Place → ℕ) (claimed : ℕ → ℕ) → IsClaimTable s kept claimed → (c answer : ℕ) → IsRecord s c → answer ≡ cells kept c → 2 ≤ answer → CellTells s kept c → claimed c ≡ answer - 2
+result_only s kept claimed t c answer r at two told =
     let h : IsResult s kept c = told.result (omega (arith, at, two)) in
-    let same : values kept (claimed c) ≡ values kept h.node = ap (values kept) (claim_noted s kept claimed t c h.node (λ z. omega (arith, z, r.0)) h.claim) in
-    omega (arith, same, value, h.value, at)
+    let same : claimed c ≡ h.node = claim_noted s kept claimed t c h.node (λ z. omega (arith, z, r.0)) h.claim in
+    omega (arith, same, h.named, at)
 
 -- all rows and cells
 pub rows_if : (s : Shape) (kept : Place → ℕ) → ChainIsSound s kept → ((t : ℕ) → IsClient s t → RowIsSound s kept t) → ((c : ℕ) → IsRecord s c → CellTells s kept c) → ((n : ℕ) → IsRecord s n → ClaimIsToldInCell s kept n) → RowsAreSound s kept

@@ -14,12 +14,11 @@ use Rattle.arena.specs.Layout.{size_of}
 use Rattle.recover.specs.Kept.{kept_in}
 use Rattle.arena.specs.Shape.{Shape, greatest, record_of, owner}
 use Rattle.arena.specs.Place.{IsClient, IsNode, IsRecord}
-use Rattle.arena.specs.Words.{links, marks, values, HoldsValue, inserts, cells, numbers, entry_kinds, statuses, entry_nodes, bumps, announcements}
+use Rattle.arena.specs.Words.{links, marks, HoldsItem, IsBlankItem, inserts, cells, numbers, entry_kinds, statuses, entry_nodes, bumps, announcements}
 use Rattle.arena.specs.Chain.{IsChain, IsAmong, LeadsTo}
 use Rattle.arena.specs.Content.{chain_of}
-use Rattle.arena.specs.declared.place.Part.TheVariants.{First}
 use Rattle.arena.specs.declared.place.Place.{Place}
-use Rattle.arena.specs.declared.place.Place.TheVariants.{Head, Tail, Item, Insert, Number, EntryNode}
+use Rattle.arena.specs.declared.place.Place.TheVariants.{Head, Tail, Insert, Number, EntryNode}
 
 -- a block of a broker: past the queue's words it is all zero
 pub record IsBlock (s : Shape) (ws : List ℕ) : Type 0 where
@@ -49,7 +48,7 @@ IsBlankAnswer Durable kept n = cells kept n ≡ 0
 IsBlankAnswer Log kept n = IsBlankEntry kept n
 
 pub record IsBlank (s : Shape) (kept : Place → ℕ) (n : ℕ) : Type 0 where
-  pub value : kept (Item (record { 0 = n }) First) ≡ 0
+  pub item : IsBlankItem kept n
   pub link : links kept n ≡ 0
   pub mark : marks kept n ≡ 0
   pub answer : IsBlankAnswer s.kind kept n
@@ -80,7 +79,7 @@ pub record IsLooseIfOff (s : Shape) (kept : Place → ℕ) (n : ℕ) : Type 0 wh
 
 -- the words of node 0, but for its link, are 0
 pub record IsSentinel (s : Shape) (kept : Place → ℕ) : Type 0 where
-  pub value : kept (Item (record { 0 = 0 }) First) ≡ 0
+  pub item : IsBlankItem kept 0
   pub mark : marks kept 0 ≡ 0
   pub insert : s.kind ≡ Log → inserts kept 0 ≡ 0
 
@@ -91,9 +90,9 @@ pub record ChainIsSound (s : Shape) (kept : Place → ℕ) : Type 0 where
   pub loose : (n : ℕ) → IsRecord s n → IsLooseIfOff s kept n
   pub sentinel : IsSentinel s kept
 
--- values are in range; no claimed node follows an unclaimed one; claims are by used records, each by its own
+-- messages are items; no claimed node follows an unclaimed one; claims are by used records, each by its own
 pub record ClaimsAreSound (s : Shape) (kept : Place → ℕ) : Type 0 where
-  pub in_range : (n : ℕ) → IsNode s n → HoldsValue kept n
+  pub in_range : (n : ℕ) → IsNode s n → HoldsItem kept n
   pub in_turn : (n : ℕ) → IsOnChain s kept n → IsClaimed s kept (links kept n) → marks kept n ≢ 0
   pub issued : (n : ℕ) → IsClaimed s kept n → IsIssued s kept (marks kept n)
   pub once : (n m : ℕ) → IsClaimed s kept n → IsClaimed s kept m → marks kept n ≡ marks kept m → n ≡ m
@@ -124,11 +123,11 @@ pub record IsClaimOf (s : Shape) (kept : Place → ℕ) (token n : ℕ) : Type 0
   pub on_chain : IsOnChain s kept n
   pub mark : marks kept n ≡ token
 
--- the cell tells the value of a node that it claims
+-- the cell names a node that it claims
 pub record IsResult (s : Shape) (kept : Place → ℕ) (cell : ℕ) : Type 0 where
   pub node : ℕ
   pub claim : IsClaimOf s kept cell node
-  pub value : values kept node + GOT_CELL ≡ cells kept cell
+  pub named : node + GOT_CELL ≡ cells kept cell
 
 abbrev pub RowIsSound : Shape → (Place → ℕ) → ℕ → Type 0
 RowIsSound s kept t = (announcements kept t ≡ 0) ⊎ IsOwn s kept t (announcements kept t)

@@ -1,6 +1,6 @@
 -- The table of recovery: the access of each waiting point, and what comes then.
 use Rattle.std.specs.Prelude.{◌≡◌, ℕ, ◌+◌, ◌-◌, ◌≤◌, Bool, true, false, ◌&&◌, not, List, replicate, slice_set, Option, Some, None, if◌then◌else◌, ◌==◌, nat_lt, IfSome}
-use Rattle.words.specs.PlainQueue.{FitsValue}
+use Rattle.words.specs.PlainQueue.{Value}
 use Rattle.words.specs.declared.call.Kind.{Kind}
 use Rattle.words.specs.declared.call.Kind.TheVariants.{Durable, Log}
 use Rattle.words.specs.declared.call.Client.{Client}
@@ -19,17 +19,20 @@ use Rattle.persist.specs.Memory.{Access, Load, Store, Flush, Fence}
 use Rattle.arena.specs.Shape.{Shape}
 use Rattle.arena.specs.Place.{IsClient, IsNode, IsRecord}
 use Rattle.arena.specs.Answers.{result_of}
-use Rattle.arena.specs.Words.{value_of}
-use Rattle.arena.specs.declared.place.Part.TheVariants.{First}
 use Rattle.arena.specs.declared.place.Write.{Write}
 use Rattle.arena.specs.declared.place.Place.{Place}
 use Rattle.arena.specs.declared.place.Place.TheVariants.{Head, Tail, Announcement, Item, Next, Mark, Cell, Insert, Number, EntryKind, Status, EntryNode}
+use Rattle.stepper.specs.Loading.{part_next, loaded_with}
+use Rattle.stepper.specs.declared.loading.Loading.{Loading}
+use Rattle.stepper.specs.declared.loading.Loading.TheVariants.{Length as at_length}
 use Rattle.stepper.specs.declared.resume.After.{After}
 use Rattle.stepper.specs.declared.resume.After.TheVariants.{More, Done as Ended}
 use Rattle.recover.specs.declared.recovery.Recovery.{Recovery}
 use Rattle.recover.specs.declared.point.Report.{Report}
 use Rattle.recover.specs.declared.point.RecoveryPoint.{RecoveryPoint}
-use Rattle.recover.specs.declared.point.RecoveryPoint.TheVariants.{RecoveryLoadHead, RecoveryLoadNext, RecoveryLoadInsert, RecoveryStoreStatus, RecoveryLoadMark, RecoveryLoadValue, RecoveryStoreResult, RecoveryStoreHead, RecoveryStoreTail, RecoveryLoadAnnouncement, RecoveryLoadCell, RecoveryLoadNumber, RecoveryLoadKind, RecoveryLoadStatus, RecoveryLoadRemove, RecoveryLoadEntryNode, RecoveryLoadRemovedValue, Flush as FlushPoint, Fence as FencePoint}
+use Rattle.recover.specs.declared.point.RecoveryPoint.TheVariants.{RecoveryLoadHead, RecoveryLoadNext, RecoveryLoadInsert, RecoveryStoreStatus, RecoveryLoadMark, RecoveryStoreResult, RecoveryStoreHead, RecoveryStoreTail, RecoveryLoadAnnouncement, RecoveryLoadCell, RecoveryLoadGot, RecoveryLoadNumber, RecoveryLoadKind, RecoveryLoadStatus, RecoveryLoadRemove, RecoveryLoadEntryNode, RecoveryLoadRemovedItem, Flush as FlushPoint, Fence as FencePoint}
+use Rattle.recover.specs.declared.telling.RecoveryLoadGot.{RecoveryLoadGot as GotPoint}
+use Rattle.recover.specs.declared.telling.RecoveryLoadRemovedItem.{RecoveryLoadRemovedItem as RemovedPoint}
 use Rattle.recover.specs.declared.keeping.RecoveryKeeping.{RecoveryKeeping}
 use Rattle.recover.specs.declared.keeping.RecoveryKeeping.TheVariants.{Status as KeepStatus, Result as KeepResult, Head as KeepHead, Tail as KeepTail}
 
@@ -45,7 +48,7 @@ store w = Store w.place w.value
 -- the place whose word is kept
 abbrev pub kept_place : Kind → RecoveryKeeping → Place
 kept_place kind (KeepStatus p) = Status p.entry
-kept_place kind (KeepResult p) = (result_of kind p.mark p.node p.value).place
+kept_place kind (KeepResult p) = (result_of kind p.mark p.node).place
 kept_place kind (KeepHead p) = Head
 kept_place kind (KeepTail p) = Tail
 
@@ -56,18 +59,18 @@ access_of kind (RecoveryLoadNext p) = Load (Next p.cur)
 access_of kind (RecoveryLoadInsert p) = Load (Insert p.node)
 access_of kind (RecoveryStoreStatus p) = Store (Status p.entry) TAKEN_STATUS
 access_of kind (RecoveryLoadMark p) = Load (Mark p.node)
-access_of kind (RecoveryLoadValue p) = Load (Item p.node First)
-access_of kind (RecoveryStoreResult p) = store (result_of kind p.mark p.node p.value)
+access_of kind (RecoveryStoreResult p) = store (result_of kind p.mark p.node)
 access_of kind (RecoveryStoreHead p) = Store Head p.cur.0
 access_of kind (RecoveryStoreTail p) = Store Tail p.cur.0
 access_of kind (RecoveryLoadAnnouncement p) = Load (Announcement p.client)
 access_of kind (RecoveryLoadCell p) = Load (Cell p.token)
+access_of kind (RecoveryLoadGot p) = Load (Item p.node (part_next p.loading))
 access_of kind (RecoveryLoadNumber p) = Load (Number p.token)
 access_of kind (RecoveryLoadKind p) = Load (EntryKind p.token)
 access_of kind (RecoveryLoadStatus p) = Load (Status p.token)
 access_of kind (RecoveryLoadRemove p) = Load (Mark (node_at p.token.0))
 access_of kind (RecoveryLoadEntryNode p) = Load (EntryNode p.token)
-access_of kind (RecoveryLoadRemovedValue p) = Load (Item p.node First)
+access_of kind (RecoveryLoadRemovedItem p) = Load (Item p.node (part_next p.loading))
 access_of kind (FlushPoint k) = Flush (kept_place kind k)
 access_of kind (FencePoint k) = Fence (kept_place kind k)
 
@@ -85,17 +88,9 @@ abbrev pub to_node : Kind → NodeId → NodeId → Bool → RecoveryPoint
 to_node Durable cur node moved = point_past_status cur node moved
 to_node Log cur node moved = RecoveryLoadInsert (record { cur = cur; node = node; moved = moved })
 
-abbrev pub to_mark : Kind → NodeId → Token → RecoveryPoint
-to_mark Durable node mark = RecoveryLoadValue (record { node = node; mark = mark })
-to_mark Log node mark = RecoveryStoreResult (record { node = node; mark = mark; value = 0 })
-
 abbrev pub past_head : NodeId → Option NodeId → RecoveryPoint
 past_head cur (Some node) = RecoveryLoadNext (record { cur = node; moved = true })
 past_head cur None = RecoveryStoreTail (record { cur = cur })
-
--- what a cell says
-abbrev pub row_of : ℕ → Row
-row_of answer = if answer == 0 then Open else (if answer == EMPTY_CELL then row_empty else row_got (answer - GOT_CELL))
 
 abbrev pub taken_as : ℕ → Reply → Told
 taken_as number reply = told_verdict (record { number = number; outcome = Taken reply })
@@ -110,6 +105,23 @@ report_of client told = Ended (record { client = client; told = told })
 abbrev pub no_call : Kind → Told
 no_call Durable = told_row NoCall
 no_call Log = told_none
+
+-- what a cell says: of a node that it names the message comes
+abbrev pub to_row : Client → ℕ → After RecoveryPoint Report
+to_row client answer =
+    if answer == 0 then report_of client (told_row Open)
+    else (if answer == EMPTY_CELL then report_of client (told_row row_empty)
+    else More (RecoveryLoadGot (record { client = client; node = node_at (answer - GOT_CELL); loading = at_length })))
+
+-- the next part of the message is loaded, and after the last the client is told
+abbrev pub got_with : GotPoint → After Loading Value → After RecoveryPoint Report
+got_with p (More loading) = More (RecoveryLoadGot (record { client = p.client; node = p.node; loading = loading }))
+got_with p (Ended value) = report_of p.client (told_row (row_got value))
+
+abbrev pub removed_with : RemovedPoint → After Loading Value → After RecoveryPoint Report
+removed_with p (More loading) = More
+    (RecoveryLoadRemovedItem (record { client = p.client; number = p.number; node = p.node; loading = loading }))
+removed_with p (Ended value) = report_of p.client (taken_as p.number (Got value))
 
 abbrev pub to_answer : Kind → Client → Token → RecoveryPoint
 to_answer Durable client token = RecoveryLoadCell (record { client = client; token = token })
@@ -138,16 +150,15 @@ successor s (RecoveryStoreStatus p) found =
     More (FlushPoint (KeepStatus (record { cur = p.cur; node = p.node; entry = p.entry; moved = p.moved })))
 successor s (RecoveryLoadMark p) found =
     More (if found == 0 then RecoveryStoreHead (record { cur = p.cur; unclaimed = Some p.node })
-    else to_mark s.kind p.node (token_at found))
-successor s (RecoveryLoadValue p) found =
-    More (RecoveryStoreResult (record { node = p.node; mark = p.mark; value = value_of found }))
+    else RecoveryStoreResult (record { node = p.node; mark = token_at found }))
 successor s (RecoveryStoreResult p) found =
-    More (FlushPoint (KeepResult (record { node = p.node; mark = p.mark; value = p.value })))
+    More (FlushPoint (KeepResult (record { node = p.node; mark = p.mark })))
 successor s (RecoveryStoreHead p) found = More (FlushPoint (KeepHead (record { cur = p.cur; unclaimed = p.unclaimed })))
 successor s (RecoveryStoreTail p) found = More (FlushPoint (KeepTail (record {})))
 successor s (RecoveryLoadAnnouncement p) found =
     if found == 0 then report_of p.client (no_call s.kind) else More (to_answer s.kind p.client (token_at found))
-successor s (RecoveryLoadCell p) found = report_of p.client (told_row (row_of found))
+successor s (RecoveryLoadCell p) found = to_row p.client found
+successor s (RecoveryLoadGot p) found = got_with p (loaded_with p.loading found)
 successor s (RecoveryLoadNumber p) found =
     More (RecoveryLoadKind (record { client = p.client; token = p.token; number = found }))
 successor s (RecoveryLoadKind p) found =
@@ -161,8 +172,9 @@ successor s (RecoveryLoadRemove p) found =
     report_of p.client (if found == 0 then not_taken_as p.number else taken_as p.number Done)
 successor s (RecoveryLoadEntryNode p) found =
     if found == 0 then report_of p.client (not_taken_as p.number)
-    else More (RecoveryLoadRemovedValue (record { client = p.client; number = p.number; node = node_at found }))
-successor s (RecoveryLoadRemovedValue p) found = report_of p.client (taken_as p.number (Got (value_of found)))
+    else More (RecoveryLoadRemovedItem
+    (record { client = p.client; number = p.number; node = node_at found; loading = at_length }))
+successor s (RecoveryLoadRemovedItem p) found = removed_with p (loaded_with p.loading found)
 successor s (FlushPoint k) found = More (FencePoint k)
 successor s (FencePoint k) found = More (point_after_keeping k)
 
@@ -197,7 +209,7 @@ boot_recovery = record { told = replicate MAX_CLIENTS told_none; at = RecoveryLo
 -- what it learnt of what it keeps is in range
 abbrev pub IsKeeping : Shape → RecoveryKeeping → Type 0
 IsKeeping s (KeepStatus p) = (s.kind ≡ Log) × IsNode s p.cur.0 × IsNode s p.node.0 × IsRecord s p.entry.0
-IsKeeping s (KeepResult p) = IsNode s p.node.0 × IsRecord s p.mark.0 × FitsValue p.value
+IsKeeping s (KeepResult p) = IsNode s p.node.0 × IsRecord s p.mark.0
 IsKeeping s (KeepHead p) = IsNode s p.cur.0 × IfSome p.unclaimed (λ n. IsNode s n.0)
 IsKeeping s (KeepTail p) = Unit {0}
 
@@ -208,12 +220,12 @@ IsPoint s (RecoveryLoadNext p) = IsNode s p.cur.0
 IsPoint s (RecoveryLoadInsert p) = (s.kind ≡ Log) × IsNode s p.cur.0 × IsNode s p.node.0
 IsPoint s (RecoveryStoreStatus p) = (s.kind ≡ Log) × IsNode s p.cur.0 × IsNode s p.node.0 × IsRecord s p.entry.0
 IsPoint s (RecoveryLoadMark p) = IsNode s p.cur.0 × IsNode s p.node.0
-IsPoint s (RecoveryLoadValue p) = IsNode s p.node.0 × IsRecord s p.mark.0
-IsPoint s (RecoveryStoreResult p) = IsNode s p.node.0 × IsRecord s p.mark.0 × FitsValue p.value
+IsPoint s (RecoveryStoreResult p) = IsNode s p.node.0 × IsRecord s p.mark.0
 IsPoint s (RecoveryStoreHead p) = IsNode s p.cur.0 × IfSome p.unclaimed (λ n. IsNode s n.0)
 IsPoint s (RecoveryStoreTail p) = IsNode s p.cur.0
 IsPoint s (RecoveryLoadAnnouncement p) = IsClient s p.client.0
 IsPoint s (RecoveryLoadCell p) = (s.kind ≡ Durable) × IsClient s p.client.0 × IsRecord s p.token.0
+IsPoint s (RecoveryLoadGot p) = IsClient s p.client.0 × IsNode s p.node.0
 IsPoint s (RecoveryLoadNumber p) = (s.kind ≡ Log) × IsClient s p.client.0 × IsRecord s p.token.0
 IsPoint s (RecoveryLoadKind p) =
     (s.kind ≡ Log) × IsClient s p.client.0 × IsRecord s p.token.0 × (p.number ≤ MAX_CALL_NUMBER)
@@ -223,6 +235,6 @@ IsPoint s (RecoveryLoadRemove p) =
     (s.kind ≡ Log) × IsClient s p.client.0 × IsRecord s p.token.0 × (p.number ≤ MAX_CALL_NUMBER)
 IsPoint s (RecoveryLoadEntryNode p) =
     (s.kind ≡ Log) × IsClient s p.client.0 × IsRecord s p.token.0 × (p.number ≤ MAX_CALL_NUMBER)
-IsPoint s (RecoveryLoadRemovedValue p) = IsClient s p.client.0 × IsNode s p.node.0 × (p.number ≤ MAX_CALL_NUMBER)
+IsPoint s (RecoveryLoadRemovedItem p) = IsClient s p.client.0 × IsNode s p.node.0 × (p.number ≤ MAX_CALL_NUMBER)
 IsPoint s (FlushPoint k) = IsKeeping s k
 IsPoint s (FencePoint k) = IsKeeping s k

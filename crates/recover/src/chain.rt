@@ -8,7 +8,7 @@ ghost use Rattle.recover.specs.Sound.{IsLoose, IsLooseIfOff, IsSentinel, ChainIs
 ghost use Rattle.recover.specs.Order.{IsRun, IsOrder};
 
 use crate::kept::KeptQueue;
-use arena::{Layout, Part, Place};
+use arena::{Layout, Place};
 use persist::KeptWords;
 use words::{Kind, NodeId};
 
@@ -50,7 +50,7 @@ impl<L: Layout, W: KeptWords> KeptQueue<'_, L, W> {
     fn is_sentinel(&self) -> bool
         ensures { IsTrue result ↔ IsSentinel self.now.shape (kept_of self.now) }
     {
-        if self.kept_at(Place::Item(NodeId(0), Part::First)) != 0 {
+        if !self.has_no_item(NodeId(0)) {
             return false;
         }
         if self.kept_at(Place::Mark(NodeId(0))) != 0 {

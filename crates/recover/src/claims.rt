@@ -3,25 +3,25 @@
 ghost use Rattle.std.specs.Prelude.{◌≡◌, ◌≢◌, ℕ, ◌≤◌, ◌<◌, ◌↔◌, ◌⊎◌, length, slice_index, IsTrue};
 ghost use Rattle.arena.specs.Place.{IsPlace, IsNode, IsRecord};
 ghost use Rattle.arena.specs.Shape.{greatest};
-ghost use Rattle.arena.specs.Words.{HoldsValue};
+ghost use Rattle.arena.specs.Words.{HoldsItem};
 ghost use Rattle.recover.specs.Kept.{kept_of};
 ghost use Rattle.recover.specs.Sound.{ChainIsSound, ClaimsAreSound, EndsAreSound, HeadIsSound, TailIsSound};
 ghost use Rattle.recover.specs.Order.{IsOrder, AreClaims, IsClaimTable, IsInTurn};
 
 use crate::chain::has_place;
 use crate::kept::KeptQueue;
-use arena::{Layout, Part, Place};
+use arena::{Layout, Place};
 use persist::KeptWords;
-use words::{MAX_VALUE, NodeId};
+use words::NodeId;
 
 impl<L: Layout, W: KeptWords> KeptQueue<'_, L, W> {
-    /// Whether each value is in range.
+    /// Whether the words of each message are an item's.
     fn are_in_range(&self) -> bool
-        ensures { IsTrue result ↔ ((n : ℕ) → IsNode self.now.shape n → HoldsValue (kept_of self.now) n) }
+        ensures { IsTrue result ↔ ((n : ℕ) → IsNode self.now.shape n → HoldsItem (kept_of self.now) n) }
     {
         let greatest = self.clients() * self.records();
         for node in 0..greatest + 1 {
-            if self.kept_at(Place::Item(NodeId(node), Part::First)) > MAX_VALUE as u64 {
+            if !self.holds_item(NodeId(node)) {
                 return false;
             }
         }

@@ -7,10 +7,10 @@ ghost use Rattle.recover.specs.Table.{point_at_the_end, point_past_status};
 
 use crate::keeping::{KeepHead, KeepResult, KeepStatus, KeepTail, RecoveryKeeping};
 use crate::point::{RecoveryPoint, Report};
-use arena::{Layout, Part, Place, TAKEN_STATUS, Write, value_of};
+use arena::{Layout, Place, TAKEN_STATUS, Write};
 use persist::WordMemory;
 use stepper::{After, Resume, Stepped, load_at, store_at};
-use words::{Kind, NodeId, Token, Value};
+use words::{Kind, NodeId, Token};
 
 /// Where recovery goes on past the last node.
 fn at_the_end(cur: NodeId, moved: bool) -> RecoveryPoint
@@ -202,45 +202,8 @@ impl Resume for RecoveryLoadMark {
                 unclaimed: Some(node),
             })
         } else {
-            match layout.kind() {
-                Kind::Durable => RecoveryPoint::RecoveryLoadValue(RecoveryLoadValue { node, mark }),
-                Kind::Log => RecoveryPoint::RecoveryStoreResult(RecoveryStoreResult {
-                    node,
-                    mark,
-                    value: 0,
-                }),
-            }
+            RecoveryPoint::RecoveryStoreResult(RecoveryStoreResult { node, mark })
         }))
-    }
-}
-
-/// Durable queue: about to load the value of a claimed node.
-#[derive(Clone, Copy, Debug, PartialEq, Eq, Hash)]
-pub struct RecoveryLoadValue {
-    pub(crate) node: NodeId,
-    pub(crate) mark: Token,
-}
-
-// A cell tells the value itself; an entry of a log queue names the node, and needs no load.
-impl Resume for RecoveryLoadValue {
-    type Point = RecoveryPoint;
-
-    ghost use Rattle.recover.specs.declared.point.RecoveryPoint.TheVariants.{RecoveryLoadValue};
-
-    ghost point = { RecoveryLoadValue };
-
-    fn step<L: Layout, M: WordMemory>(
-        self,
-        layout: &L,
-        memory: &mut M,
-    ) -> Stepped<RecoveryPoint, Report> {
-        let RecoveryLoadValue { node, mark } = self;
-        let value = value_of(load_at(layout, memory, Place::Item(node, Part::First)));
-        Stepped::quiet(After::More(RecoveryPoint::RecoveryStoreResult(RecoveryStoreResult {
-            node,
-            mark,
-            value,
-        })))
     }
 }
 
@@ -249,7 +212,6 @@ impl Resume for RecoveryLoadValue {
 pub struct RecoveryStoreResult {
     pub(crate) node: NodeId,
     pub(crate) mark: Token,
-    pub(crate) value: Value,
 }
 
 // Into the record of the claim, not the client's present one: the client may have begun another call since
@@ -266,12 +228,11 @@ impl Resume for RecoveryStoreResult {
         layout: &L,
         memory: &mut M,
     ) -> Stepped<RecoveryPoint, Report> {
-        let RecoveryStoreResult { node, mark, value } = self;
-        store_at(layout, memory, layout.result(mark, node, value));
+        let RecoveryStoreResult { node, mark } = self;
+        store_at(layout, memory, layout.result(mark, node));
         Stepped::quiet(After::More(RecoveryPoint::Flush(RecoveryKeeping::Result(KeepResult {
             node,
             mark,
-            value,
         }))))
     }
 }

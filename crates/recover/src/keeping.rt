@@ -16,7 +16,7 @@ use crate::telling::RecoveryLoadAnnouncement;
 use arena::{Layout, Place};
 use persist::WordMemory;
 use stepper::{After, Stepped, fence_at, flush_at};
-use words::{Client, NodeId, Token, Value};
+use words::{Client, NodeId, Token};
 
 /// What recovery is about to keep.
 #[derive(Clone, Copy, Debug, PartialEq, Eq, Hash)]
@@ -49,7 +49,6 @@ pub struct KeepStatus {
 pub struct KeepResult {
     pub(crate) node: NodeId,
     pub(crate) mark: Token,
-    pub(crate) value: Value,
 }
 
 /// The head, at the last claimed node. An unclaimed one may follow.
@@ -86,9 +85,7 @@ impl RecoveryKeeping {
     {
         match self {
             RecoveryKeeping::Status(KeepStatus { entry, .. }) => Place::Status(*entry),
-            RecoveryKeeping::Result(KeepResult { node, mark, value }) => {
-                layout.result(*mark, *node, *value).place
-            }
+            RecoveryKeeping::Result(KeepResult { node, mark }) => layout.result(*mark, *node).place,
             RecoveryKeeping::Head(_) => Place::Head,
             RecoveryKeeping::Tail(_) => Place::Tail,
         }

@@ -1,17 +1,19 @@
 //! A queue as its kept words have it.
 
-ghost use Rattle.std.specs.Prelude.{◌≡◌, ◌≤◌, ◌↔◌, length, IsTrue};
+ghost use Rattle.std.specs.Prelude.{◌≡◌, ◌≤◌, ◌↔◌, length, slice_index, IsTrue};
 ghost use Rattle.arena.specs.Layout.{size_of};
 ghost use Rattle.arena.specs.Limits.{AreCounts};
-ghost use Rattle.arena.specs.Place.{IsPlace};
+ghost use Rattle.arena.specs.Place.{IsNode, IsPlace};
+ghost use Rattle.arena.specs.Words.{part_at, HoldsItem, IsBlankItem};
+ghost use Rattle.arena.specs.declared.place.Part.TheVariants.{Length, First, Second, Third};
 ghost use Rattle.arena.specs.Shape.{greatest};
 ghost use Rattle.recover.specs.Kept.{kept_of};
 ghost use Rattle.recover.specs.Sound.{IsIssued};
 
-use arena::{Layout, Place};
+use arena::{Layout, Part, Place};
 use persist::KeptWords;
 use std::marker::Model;
-use words::{Client, Kind, MAX_RECORD_NUMBER};
+use words::{Client, Item, Kind, MAX_RECORD_NUMBER, NodeId};
 
 /// Kept words that have room for a queue of this layout, to look at. It borrows them, and looking is no access.
 #[derive(Drop)]
@@ -69,6 +71,39 @@ impl<'a, L: Layout, W: KeptWords> KeptQueue<'a, L, W> {
     {
         let word = self.layout.word(place);
         self.words.kept(word)
+    }
+
+    /// The kept words of a node's message: its length and three words.
+    pub fn kept_parts(&self, node: NodeId) -> [u64; 4]
+        requires { IsNode self.now.shape node.0 }
+        ensures len { slice_index result 0 ≡ part_at (kept_of self.now) node.0 Length }
+        ensures first { slice_index result 1 ≡ part_at (kept_of self.now) node.0 First }
+        ensures second { slice_index result 2 ≡ part_at (kept_of self.now) node.0 Second }
+        ensures third { slice_index result 3 ≡ part_at (kept_of self.now) node.0 Third }
+    {
+        [
+            self.kept_at(Place::Item(node, Part::Length)),
+            self.kept_at(Place::Item(node, Part::First)),
+            self.kept_at(Place::Item(node, Part::Second)),
+            self.kept_at(Place::Item(node, Part::Third)),
+        ]
+    }
+
+    /// Whether they are an item's.
+    pub(crate) fn holds_item(&self, node: NodeId) -> bool
+        requires { IsNode self.now.shape node.0 }
+        ensures { IsTrue result ↔ HoldsItem (kept_of self.now) node.0 }
+    {
+        Item::are_parts(self.kept_parts(node))
+    }
+
+    /// Whether each of them is 0.
+    pub(crate) fn has_no_item(&self, node: NodeId) -> bool
+        requires { IsNode self.now.shape node.0 }
+        ensures { IsTrue result ↔ IsBlankItem (kept_of self.now) node.0 }
+    {
+        let [len, first, second, third] = self.kept_parts(node);
+        len == 0 && first == 0 && second == 0 && third == 0
     }
 
     /// Whether a client used the record with this number.

@@ -16,8 +16,8 @@ mod telling;
 mod told;
 
 pub use ends::{
-    RecoveryLoadHead, RecoveryLoadInsert, RecoveryLoadMark, RecoveryLoadNext, RecoveryLoadValue,
-    RecoveryStoreHead, RecoveryStoreResult, RecoveryStoreStatus, RecoveryStoreTail,
+    RecoveryLoadHead, RecoveryLoadInsert, RecoveryLoadMark, RecoveryLoadNext, RecoveryStoreHead,
+    RecoveryStoreResult, RecoveryStoreStatus, RecoveryStoreTail,
 };
 pub use keeping::{KeepHead, KeepResult, KeepStatus, KeepTail, RecoveryKeeping};
 pub use kept::KeptQueue;
@@ -25,7 +25,8 @@ pub use point::{RecoveryPoint, Report};
 pub use recovery::{Recovery, boot};
 pub use soundness::sound;
 pub use telling::{
-    RecoveryLoadAnnouncement, RecoveryLoadCell, RecoveryLoadEntryNode, RecoveryLoadKind,
-    RecoveryLoadNumber, RecoveryLoadRemove, RecoveryLoadRemovedValue, RecoveryLoadStatus,
+    RecoveryLoadAnnouncement, RecoveryLoadCell, RecoveryLoadEntryNode, RecoveryLoadGot,
+    RecoveryLoadKind, RecoveryLoadNumber, RecoveryLoadRemove, RecoveryLoadRemovedItem,
+    RecoveryLoadStatus,
 };
 pub use told::tells;

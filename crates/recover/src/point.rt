@@ -1,13 +1,14 @@
 //! Where recovery waits.
 
 use crate::ends::{
-    RecoveryLoadHead, RecoveryLoadInsert, RecoveryLoadMark, RecoveryLoadNext, RecoveryLoadValue,
-    RecoveryStoreHead, RecoveryStoreResult, RecoveryStoreStatus, RecoveryStoreTail,
+    RecoveryLoadHead, RecoveryLoadInsert, RecoveryLoadMark, RecoveryLoadNext, RecoveryStoreHead,
+    RecoveryStoreResult, RecoveryStoreStatus, RecoveryStoreTail,
 };
 use crate::keeping::RecoveryKeeping;
 use crate::telling::{
-    RecoveryLoadAnnouncement, RecoveryLoadCell, RecoveryLoadEntryNode, RecoveryLoadKind,
-    RecoveryLoadNumber, RecoveryLoadRemove, RecoveryLoadRemovedValue, RecoveryLoadStatus,
+    RecoveryLoadAnnouncement, RecoveryLoadCell, RecoveryLoadEntryNode, RecoveryLoadGot,
+    RecoveryLoadKind, RecoveryLoadNumber, RecoveryLoadRemove, RecoveryLoadRemovedItem,
+    RecoveryLoadStatus,
 };
 use arena::Layout;
 use persist::WordMemory;
@@ -22,18 +23,18 @@ pub enum RecoveryPoint {
     RecoveryLoadInsert(RecoveryLoadInsert),
     RecoveryStoreStatus(RecoveryStoreStatus),
     RecoveryLoadMark(RecoveryLoadMark),
-    RecoveryLoadValue(RecoveryLoadValue),
     RecoveryStoreResult(RecoveryStoreResult),
     RecoveryStoreHead(RecoveryStoreHead),
     RecoveryStoreTail(RecoveryStoreTail),
     RecoveryLoadAnnouncement(RecoveryLoadAnnouncement),
     RecoveryLoadCell(RecoveryLoadCell),
+    RecoveryLoadGot(RecoveryLoadGot),
     RecoveryLoadNumber(RecoveryLoadNumber),
     RecoveryLoadKind(RecoveryLoadKind),
     RecoveryLoadStatus(RecoveryLoadStatus),
     RecoveryLoadRemove(RecoveryLoadRemove),
     RecoveryLoadEntryNode(RecoveryLoadEntryNode),
-    RecoveryLoadRemovedValue(RecoveryLoadRemovedValue),
+    RecoveryLoadRemovedItem(RecoveryLoadRemovedItem),
     /// About to ask that a word be kept.
     Flush(RecoveryKeeping),
     /// About to keep it.
@@ -77,18 +78,18 @@ impl Resume for RecoveryPoint {
             RecoveryPoint::RecoveryLoadInsert(point) => point.step(layout, memory),
             RecoveryPoint::RecoveryStoreStatus(point) => point.step(layout, memory),
             RecoveryPoint::RecoveryLoadMark(point) => point.step(layout, memory),
-            RecoveryPoint::RecoveryLoadValue(point) => point.step(layout, memory),
             RecoveryPoint::RecoveryStoreResult(point) => point.step(layout, memory),
             RecoveryPoint::RecoveryStoreHead(point) => point.step(layout, memory),
             RecoveryPoint::RecoveryStoreTail(point) => point.step(layout, memory),
             RecoveryPoint::RecoveryLoadAnnouncement(point) => point.step(layout, memory),
             RecoveryPoint::RecoveryLoadCell(point) => point.step(layout, memory),
+            RecoveryPoint::RecoveryLoadGot(point) => point.step(layout, memory),
             RecoveryPoint::RecoveryLoadNumber(point) => point.step(layout, memory),
             RecoveryPoint::RecoveryLoadKind(point) => point.step(layout, memory),
             RecoveryPoint::RecoveryLoadStatus(point) => point.step(layout, memory),
             RecoveryPoint::RecoveryLoadRemove(point) => point.step(layout, memory),
             RecoveryPoint::RecoveryLoadEntryNode(point) => point.step(layout, memory),
-            RecoveryPoint::RecoveryLoadRemovedValue(point) => point.step(layout, memory),
+            RecoveryPoint::RecoveryLoadRemovedItem(point) => point.step(layout, memory),
             RecoveryPoint::Flush(keeping) => keeping.ask(layout, memory),
             RecoveryPoint::Fence(keeping) => keeping.complete(layout, memory),
         }

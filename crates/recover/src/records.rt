@@ -8,7 +8,7 @@ ghost use Rattle.recover.specs.Kept.{kept_of};
 ghost use Rattle.recover.specs.Sound.{IsBlank, IsBlankEntry, IsBlankIfUnused, RecordsAreSound};
 
 use crate::kept::KeptQueue;
-use arena::{Layout, Part, Place};
+use arena::{Layout, Place};
 use persist::KeptWords;
 use words::{Client, Kind, NodeId, Token};
 
@@ -54,7 +54,7 @@ impl<L: Layout, W: KeptWords> KeptQueue<'_, L, W> {
         ensures { IsTrue result ↔ IsBlank self.now.shape (kept_of self.now) number }
     {
         let node = NodeId(number);
-        if self.kept_at(Place::Item(node, Part::First)) != 0 {
+        if !self.has_no_item(node) {
             return false;
         }
         if self.kept_at(Place::Next(node)) != 0 {

@@ -12,7 +12,7 @@ ghost use Rattle.recover.specs.Sound.{ChainIsSound, ClaimsAreSound, EndsAreSound
 ghost use Rattle.recover.specs.Order.{IsPlaceTable, IsTokenTable, CellTells, ClaimIsToldInCell};
 
 use crate::kept::KeptQueue;
-use arena::{EMPTY_CELL, GOT_CELL, Layout, Part, Place};
+use arena::{EMPTY_CELL, GOT_CELL, Layout, Place};
 use persist::KeptWords;
 use words::{Client, NodeId, Token};
 
@@ -64,7 +64,7 @@ impl<L: Layout, W: KeptWords> KeptQueue<'_, L, W> {
         true
     }
 
-    /// Whether the cell tells no value, or that of a node that it claims.
+    /// Whether the cell names no node, or one that it claims.
     fn is_result_sound(&self, claimed: &[u32], cell: u32) -> bool
         requires durable { self.now.shape.kind ≡ Durable }
         requires chain { ChainIsSound self.now.shape (kept_of self.now) }
@@ -80,7 +80,7 @@ impl<L: Layout, W: KeptWords> KeptQueue<'_, L, W> {
         if node == 0 {
             return false;
         }
-        self.kept_at(Place::Item(NodeId(node), Part::First)) == answer - GOT_CELL
+        node as u64 == answer - GOT_CELL
     }
 
     /// Whether so it is of each cell.

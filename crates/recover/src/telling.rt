@@ -2,27 +2,13 @@
 //! point says what goes wrong without it, with the must-fail edit that shows it.
 
 ghost use Rattle.std.specs.Prelude.{◌≡◌, ◌≤◌, ◌+◌};
-ghost use Rattle.recover.specs.Table.{row_of, taken_as, not_taken_as, report_of};
+ghost use Rattle.recover.specs.Table.{to_row, taken_as, not_taken_as, report_of};
 
 use crate::point::{RecoveryPoint, Report};
-use arena::{
-    EMPTY_CELL, EMPTY_STATUS, ENQUEUE_KIND, GOT_CELL, Layout, Part, Place, TAKEN_STATUS, value_of,
-};
+use arena::{EMPTY_CELL, EMPTY_STATUS, ENQUEUE_KIND, GOT_CELL, Layout, Place, TAKEN_STATUS};
 use persist::WordMemory;
-use stepper::{After, Resume, Stepped, load_at};
-use words::{Client, Kind, MAX_VALUE, NodeId, Outcome, Reply, Row, Token, Told, Value, Verdict};
-
-/// What a cell says.
-fn row(answer: u64) -> Row
-    requires { answer ≤ MAX_VALUE + GOT_CELL }
-    ensures { result ≡ row_of answer }
-{
-    match answer {
-        0 => Row::Open,
-        EMPTY_CELL => Row::Empty,
-        _ => Row::Got((answer - GOT_CELL) as Value),
-    }
-}
+use stepper::{After, Loading, Resume, Stepped, load_at};
+use words::{Client, Kind, MAX_RECORD_NUMBER, NodeId, Outcome, Reply, Row, Token, Told, Verdict};
 
 /// That the call of this number took effect.
 fn taken(number: u64, reply: Reply) -> Told
@@ -49,6 +35,22 @@ fn tell(client: Client, told: Told) -> After<RecoveryPoint, Report>
     ensures { result ≡ report_of client told }
 {
     After::Done(Report { client, told })
+}
+
+/// What a cell says to its client: of a node that it names the message comes.
+fn row(client: Client, answer: u64) -> After<RecoveryPoint, Report>
+    requires { answer ≤ MAX_RECORD_NUMBER + GOT_CELL }
+    ensures { result ≡ to_row client answer }
+{
+    match answer {
+        0 => tell(client, Told::Row(Row::Open)),
+        EMPTY_CELL => tell(client, Told::Row(Row::Empty)),
+        _ => After::More(RecoveryPoint::RecoveryLoadGot(RecoveryLoadGot {
+            client,
+            node: NodeId((answer - GOT_CELL) as u32),
+            loading: Loading::Length,
+        })),
+    }
 }
 
 /// About to load what a client announced last.
@@ -109,7 +111,45 @@ impl Resume for RecoveryLoadCell {
     ) -> Stepped<RecoveryPoint, Report> {
         let RecoveryLoadCell { client, token } = self;
         let answer = load_at(layout, memory, Place::Cell(token));
-        Stepped::quiet(tell(client, Told::Row(row(answer))))
+        Stepped::quiet(row(client, answer))
+    }
+}
+
+/// Durable queue: about to load a part of the message of the node that the cell names.
+#[derive(Clone, Copy, Debug, PartialEq, Eq, Hash)]
+pub struct RecoveryLoadGot {
+    pub(crate) client: Client,
+    pub(crate) node: NodeId,
+    pub(crate) loading: Loading,
+}
+
+// The row carries the message: the node stays its own after it was claimed, so nothing has to be written twice.
+impl Resume for RecoveryLoadGot {
+    type Point = RecoveryPoint;
+
+    ghost use Rattle.recover.specs.declared.point.RecoveryPoint.TheVariants.{RecoveryLoadGot};
+
+    ghost point = { RecoveryLoadGot };
+
+    fn step<L: Layout, M: WordMemory>(
+        self,
+        layout: &L,
+        memory: &mut M,
+    ) -> Stepped<RecoveryPoint, Report> {
+        let RecoveryLoadGot {
+            client,
+            node,
+            loading,
+        } = self;
+        let word = load_at(layout, memory, Place::Item(node, loading.part()));
+        Stepped::quiet(match loading.with(word) {
+            After::More(loading) => After::More(RecoveryPoint::RecoveryLoadGot(RecoveryLoadGot {
+                client,
+                node,
+                loading,
+            })),
+            After::Done(value) => tell(client, Told::Row(Row::Got(value))),
+        })
     }
 }
 
@@ -296,43 +336,56 @@ impl Resume for RecoveryLoadEntryNode {
         if node.0 == 0 {
             return Stepped::quiet(tell(client, not_taken(number)));
         }
-        Stepped::quiet(After::More(RecoveryPoint::RecoveryLoadRemovedValue(
-            RecoveryLoadRemovedValue {
+        Stepped::quiet(After::More(RecoveryPoint::RecoveryLoadRemovedItem(
+            RecoveryLoadRemovedItem {
                 client,
                 number,
                 node,
+                loading: Loading::Length,
             },
         )))
     }
 }
 
-/// Log queue: about to load the value of that node.
+/// Log queue: about to load a part of the message of that node.
 #[derive(Clone, Copy, Debug, PartialEq, Eq, Hash)]
-pub struct RecoveryLoadRemovedValue {
+pub struct RecoveryLoadRemovedItem {
     pub(crate) client: Client,
     pub(crate) number: u64,
     pub(crate) node: NodeId,
+    pub(crate) loading: Loading,
 }
 
-// The verdict carries the reply, and the reply its value.
-impl Resume for RecoveryLoadRemovedValue {
+// The verdict carries the reply, and the reply its message.
+impl Resume for RecoveryLoadRemovedItem {
     type Point = RecoveryPoint;
 
-    ghost use Rattle.recover.specs.declared.point.RecoveryPoint.TheVariants.{RecoveryLoadRemovedValue};
+    ghost use Rattle.recover.specs.declared.point.RecoveryPoint.TheVariants.{RecoveryLoadRemovedItem};
 
-    ghost point = { RecoveryLoadRemovedValue };
+    ghost point = { RecoveryLoadRemovedItem };
 
     fn step<L: Layout, M: WordMemory>(
         self,
         layout: &L,
         memory: &mut M,
     ) -> Stepped<RecoveryPoint, Report> {
-        let RecoveryLoadRemovedValue {
+        let RecoveryLoadRemovedItem {
             client,
             number,
             node,
+            loading,
         } = self;
-        let value = value_of(load_at(layout, memory, Place::Item(node, Part::First)));
-        Stepped::quiet(tell(client, taken(number, Reply::Got(value))))
+        let word = load_at(layout, memory, Place::Item(node, loading.part()));
+        Stepped::quiet(match loading.with(word) {
+            After::More(loading) => After::More(RecoveryPoint::RecoveryLoadRemovedItem(
+                RecoveryLoadRemovedItem {
+                    client,
+                    number,
+                    node,
+                    loading,
+                },
+            )),
+            After::Done(value) => tell(client, taken(number, Reply::Got(value))),
+        })
     }
 }

@@ -2,7 +2,7 @@
 
 ghost use Rattle.std.specs.Prelude.{◌≡◌, ℕ, ◌≤◌, Bool, false, length, slice_index, slice_index_or};
 ghost use Rattle.arena.specs.Place.{IsClient, IsNode, IsRecord};
-ghost use Rattle.arena.specs.Words.{HoldsValue, values};
+ghost use Rattle.arena.specs.Words.{values};
 ghost use Rattle.arena.specs.Content.{chain_of};
 ghost use Rattle.words.specs.declared.call.Kind.TheVariants.{Durable, Log};
 ghost use Rattle.recover.specs.Kept.{kept_in, kept_of};
@@ -11,7 +11,7 @@ ghost use Rattle.recover.specs.Seen.{IsSeen, IsSeenOf, AreSeen, IsNodeNoted, IsC
 ghost use Rattle.recover.specs.Told.{node_claimed_by, row_with, outcome_by, told_by, tells_by};
 
 use crate::kept::KeptQueue;
-use arena::{EMPTY_CELL, EMPTY_STATUS, ENQUEUE_KIND, Layout, Part, Place, value_of};
+use arena::{EMPTY_CELL, EMPTY_STATUS, ENQUEUE_KIND, Layout, Place, value_of};
 use persist::KeptWords;
 use words::{
     Client, Kind, MAX_CLIENTS, NodeId, Outcome, Reply, Reports, Row, Token, Told, Value, Verdict,
@@ -69,13 +69,12 @@ impl<L: Layout, W: KeptWords> KeptQueue<'_, L, W> {
         }
     }
 
-    /// The value of a node.
+    /// The message of a node.
     fn kept_value(&self, node: NodeId) -> Value
         requires node { IsNode self.now.shape node.0 }
-        requires holds { HoldsValue (kept_of self.now) node.0 }
         ensures { result ≡ values (kept_of self.now) node.0 }
     {
-        value_of(self.kept_at(Place::Item(node, Part::First)))
+        value_of(self.kept_parts(node))
     }
 
     /// What the durable queue's client is told whose dequeue has this cell.

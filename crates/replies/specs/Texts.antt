@@ -2,6 +2,7 @@
 use Rattle.std.specs.Prelude.{ℕ, List, [], ◌∷◌, ◌++◌, codes, decimal}
 use Rattle.std.specs.List.{filter_map, join_with_byte}
 use Rattle.std.specs.Option.{option_map}
+use Rattle.hex.specs.Hex.{encode_lower}
 use Rattle.words.specs.PlainQueue.{Value}
 use Rattle.words.specs.Refusal.{code_of, name_of}
 use Rattle.words.specs.declared.call.Reply.{Reply}
@@ -24,9 +25,9 @@ abbrev pub refusal_text : Refusal → List ℕ
 refusal_text refusal =
     codes "{\"error\":" ++ decimal (code_of refusal) ++ codes ",\"name\":\"" ++ name_of refusal ++ codes "\"}"
 
--- a message, as a number
+-- a message, as a text of two lowercase hexadecimal digits for each byte
 abbrev pub value_text : Value → List ℕ
-value_text value = decimal value
+value_text value = codes "\"" ++ encode_lower value ++ codes "\""
 
 abbrev pub reply_text : Reply → List ℕ
 reply_text reply.Done = codes "{\"reply\":\"done\"}"

@@ -1,11 +1,13 @@
 //! Pieces of a text, put behind what a row of bytes has.
 
-ghost use Rattle.std.specs.Prelude.{◌≡◌, ◌≤◌, ◌+◌, ◌++◌, length, decimal};
+ghost use Rattle.std.specs.Prelude.{◌≡◌, ◌≤◌, ◌+◌, ◌*◌, ◌++◌, length, decimal};
+ghost use Rattle.hex.specs.Hex.{encode_lower};
 ghost use Rattle.arrayvec.specs.ArrayVec.{array_vec_len};
 
-use crate::limits::MAX_DIGITS;
+use crate::limits::{MAX_DIGITS, MAX_HEX};
 use arrayvec::ArrayVec;
 use itoa::Buffer;
+use words::ITEM_BYTES;
 
 pub(crate) const COMMA: u8 = b',';
 
@@ -28,6 +30,22 @@ pub(crate) fn put_number<const N: usize>(out: &mut ArrayVec<u8, N>, number: u64)
 {
     let mut digits = Buffer::new();
     put(out, digits.format(number).as_bytes());
+}
+
+/// Puts two lowercase hexadecimal digits for each byte.
+pub(crate) fn put_hex<const N: usize>(out: &mut ArrayVec<u8, N>, bytes: &[u8])
+    requires few { length bytes.now ≤ ITEM_BYTES }
+    requires room { array_vec_len out.old + 2 * length bytes.now ≤ N }
+    ensures items { out.new.items ≡ out.old.items ++ encode_lower bytes.now }
+    ensures len { array_vec_len out.new ≡ array_vec_len out.old + 2 * length bytes.now }
+{
+    let mut row = [0; MAX_HEX];
+    let digits = &mut row[..2 * bytes.len()];
+    let Ok(()) = hex::encode_to_slice(bytes, digits) else {
+        // There is room for two digits a byte.
+        unreachable!();
+    };
+    put(out, digits);
 }
 
 /// Puts a number between two pieces.

@@ -5,17 +5,19 @@ ghost use Rattle.arrayvec.specs.ArrayVec.{array_vec_len};
 ghost use Rattle.replies.specs.Texts.{value_text, reply_text, taken_text, outcome_text, row_text, told_text};
 
 use crate::limits::{MAX_SHORT, MAX_VALUE_BYTES};
-use crate::pieces::{put, put_around, put_number};
+use crate::pieces::{put, put_around, put_hex, put_number};
 use arrayvec::ArrayVec;
 use words::{Outcome, Reply, Row, Told, Value};
 
-/// Puts a message.
+/// Puts a message: its digits, between quotes.
 fn put_value<const N: usize>(out: &mut ArrayVec<u8, N>, value: Value)
     requires { array_vec_len out.old + MAX_VALUE_BYTES ≤ N }
     ensures text { out.new.items ≡ out.old.items ++ value_text value }
     ensures short { array_vec_len out.new ≤ array_vec_len out.old + MAX_VALUE_BYTES }
 {
-    put_number(out, u64::from(value));
+    put(out, br#"""#);
+    put_hex(out, value.bytes());
+    put(out, br#"""#);
 }
 
 /// Puts a message that a call got behind the 7 bytes of its key, and what stands behind it.

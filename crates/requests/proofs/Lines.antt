@@ -8,6 +8,7 @@ use Rattle.words.specs.declared.call.Kind.TheVariants.{Durable, Log}
 use Rattle.words.specs.declared.refusal.Refusal.TheVariants.{BadJson, BadRequest}
 use Rattle.wire.specs.declared.request.Request.{Request}
 use Rattle.wire.specs.declared.request.Request.TheVariants.{Create, List as ListAll, Put, Take, Told, Crash, Recover, Stop}
+use Rattle.words.proofs.Items.{digits_text}
 use Rattle.json.proofs.Printed.Utf8.{IsUtf8-are_ascii}
 use Rattle.wire.specs.Kinds.{kind_text}
 use Rattle.requests.specs.Line.{meaning, value_meaning}
@@ -41,8 +42,8 @@ value_key = IsUtf8-are_ascii _ refl
 plain : (text : List ℕ) (request : Request) → IsUtf8 text → MayAsk text request → ArePlain (members_asking text request)
 plain text (Create q k) utf8 may = (kind_key, kind_utf8 k, (op_key, IsUtf8-are_ascii _ refl, (queue_key, utf8, tt)))
 plain text ListAll utf8 may = (op_key, IsUtf8-are_ascii _ refl, tt)
-plain text (Put c q v None) utf8 may = (client_key, may.1, (op_key, IsUtf8-are_ascii _ refl, (queue_key, utf8, (value_key, omega (arith, may.2), tt))))
-plain text (Put c q v (Some n)) utf8 may = (client_key, may.1, (number_key, omega (arith, may.4), (op_key, IsUtf8-are_ascii _ refl, (queue_key, utf8, (value_key, omega (arith, may.2), tt)))))
+plain text (Put c q v None) utf8 may = (client_key, may.1, (op_key, IsUtf8-are_ascii _ refl, (queue_key, utf8, (value_key, digits_text v, tt))))
+plain text (Put c q v (Some n)) utf8 may = (client_key, may.1, (number_key, omega (arith, may.4), (op_key, IsUtf8-are_ascii _ refl, (queue_key, utf8, (value_key, digits_text v, tt)))))
 plain text (Take c q None) utf8 may = (client_key, may.1, (op_key, IsUtf8-are_ascii _ refl, (queue_key, utf8, tt)))
 plain text (Take c q (Some n)) utf8 may = (client_key, may.1, (number_key, omega (arith, may.3), (op_key, IsUtf8-are_ascii _ refl, (queue_key, utf8, tt))))
 plain text (Told c q) utf8 may = (client_key, may.1, (op_key, IsUtf8-are_ascii _ refl, (queue_key, utf8, tt)))

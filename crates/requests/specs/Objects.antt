@@ -1,5 +1,6 @@
 -- The JSON object that asks each request.
 use Rattle.std.specs.Prelude.{◌≡◌, ◌≤◌, ◌<◌, ◌^◌, ℕ, List, codes, Some, None}
+use Rattle.hex.specs.Hex.{encode_lower}
 use Rattle.serde_json.specs.Data.{Data, unsigned, number, string, object, Members, no_members, member}
 use Rattle.serde_json.specs.Written.{compact_text}
 use Rattle.words.specs.declared.call.Kind.{Kind}
@@ -10,9 +11,9 @@ use Rattle.wire.specs.declared.request.Request.TheVariants.{Create, List as List
 use Rattle.wire.specs.Kinds.{kind_text}
 use Rattle.requests.specs.Rows.{name_in}
 
--- a message is written as a number
+-- a message is written as a text of two lowercase hexadecimal digits for each byte
 abbrev pub value_data : Value → Data
-value_data v = number (unsigned v)
+value_data v = string (encode_lower v)
 
 -- one member each, with those whose keys come behind it
 abbrev pub client : ℕ → Members → Members

@@ -5,7 +5,8 @@ use Rattle.serde_json.specs.Data.{Data}
 use Rattle.serde_json.specs.Find.{get}
 use Rattle.words.specs.declared.call.Kind.{Kind}
 use Rattle.words.specs.declared.call.Kind.TheVariants.{Durable, Log}
-use Rattle.words.specs.PlainQueue.{Value, fits_value}
+use Rattle.words.specs.Item.{item_in}
+use Rattle.words.specs.PlainQueue.{Value}
 use Rattle.words.specs.declared.limits.TheConstants.{MAX_CALL_NUMBER}
 use Rattle.directory.specs.Name.{is_name}
 use Rattle.wire.specs.declared.request.Request.{Request}
@@ -25,9 +26,9 @@ within least most n = if nat_le least n && nat_le n most then Some n else None
 abbrev pub name_in : List ℕ → Option (List ℕ)
 name_in text = if is_name text then Some text else None
 
--- the message that a number is, if it is one
-abbrev pub value_in : ℕ → Option Value
-value_in n = if fits_value n then Some n else None
+-- the message that a text spells, two lowercase hexadecimal digits for each byte, if it spells one
+abbrev pub value_in : List ℕ → Option Value
+value_in text = item_in text
 
 abbrev pub kind_in : List ℕ → Option Kind
 kind_in text =
@@ -39,7 +40,7 @@ abbrev pub client_at : Data → Option ℕ
 client_at json = whole_at (codes "client") json
 
 unfoldable pub value_at : Data → Option Value
-value_at json = option_and_then value_in (whole_at (codes "value") json)
+value_at json = option_and_then value_in (text_at (codes "value") json)
 
 unfoldable pub number_at : Data → Option ℕ
 number_at json = option_and_then (within 1 MAX_CALL_NUMBER) (whole_at (codes "number") json)

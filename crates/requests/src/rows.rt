@@ -10,7 +10,7 @@ use crate::members::{has_key, has_keys, text, whole};
 use directory::Name;
 use serde_json::Value;
 use wire::Request;
-use words::{Kind, MAX_CALL_NUMBER, MAX_VALUE};
+use words::{Item, Kind, MAX_CALL_NUMBER};
 
 /// The name that a text is, if it is one.
 fn name(text: &str) -> Option<Name>
@@ -30,14 +30,11 @@ fn kind(text: &str) -> Option<Kind>
     }
 }
 
-/// The message that a number is, if it is one.
-fn message(number: u64) -> Option<words::Value>
-    ensures { result ≡ value_in number }
+/// The message that a text spells, if it spells one.
+fn message(text: &str) -> Option<words::Value>
+    ensures { result ≡ value_in text.now }
 {
-    if number > MAX_VALUE as u64 {
-        return None;
-    }
-    Some(number as u32)
+    Item::of_hex(text.as_bytes())
 }
 
 /// Any number below 2^64: which of them have a client is known later.
@@ -52,7 +49,7 @@ fn client_at(value: &Value) -> Option<u64>
 fn value_at(value: &Value) -> Option<words::Value>
     ensures { result ≡ value_at (data_of value.now) }
 {
-    message(whole(value, "value")?)
+    message(text(value, "value")?)
 }
 
 /// A number that a call can have.
@@ -95,7 +92,7 @@ fn create(value: &Value) -> Option<Request>
     Some(Request::Create { queue, kind })
 }
 
-/// `{"op":"put","client":0,"queue":"a","value":5}`
+/// `{"op":"put","client":0,"queue":"a","value":"05"}`
 #[tactic(auto, unfolding(crate::specs::Rows::put_in))]
 fn put(value: &Value) -> Option<Request>
     ensures { result ≡ put_in (data_of value.now) }
@@ -111,7 +108,7 @@ fn put(value: &Value) -> Option<Request>
     })
 }
 
-/// `{"op":"put","client":0,"queue":"a","value":5,"number":1}`
+/// `{"op":"put","client":0,"queue":"a","value":"05","number":1}`
 #[tactic(auto, unfolding(crate::specs::Rows::numbered_put_in))]
 fn numbered_put(value: &Value) -> Option<Request>
     ensures { result ≡ numbered_put_in (data_of value.now) }

@@ -17,6 +17,16 @@ pub enum Known {
     Open,
 }
 
+impl Known {
+    /// What is known of a call by its answer, if it was answered.
+    fn by(reply: Option<Reply>) -> Self {
+        match reply {
+            Some(reply) => Known::Taken(reply),
+            None => Known::Open,
+        }
+    }
+}
+
 /// A call from one place to another, and what is known of it.
 #[derive(Clone, Copy, Debug)]
 pub struct KnownCall {
@@ -50,7 +60,7 @@ impl Calls {
             begin: self.places,
             end: NEVER,
             call,
-            known: Known::Open,
+            known: Known::by(None),
         })?;
         self.places = self.places.wrapping_add(1);
         Ok(number)
@@ -60,7 +70,7 @@ impl Calls {
     pub fn answer(&mut self, number: usize, reply: Reply) {
         if let Some(call) = self.calls.get_mut(number) {
             call.end = self.places;
-            call.known = Known::Taken(reply);
+            call.known = Known::by(Some(reply));
         }
         self.places = self.places.wrapping_add(1);
     }

@@ -97,15 +97,18 @@ impl Kept {
         slot: SlotId,
         client: Client,
         number: Option<u64>,
-        answer: Option<Reply>,
+        answer: &Option<Reply>,
     )
         requires slot { slot.0 < SLOTS }
         requires client { client.0 < MAX_CLIENTS }
         ensures { IsKeptNow self.old self.new slot.0 client.0
-            (last_after number (Ok answer) (kept_in self.old slot.0 client.0)) }
+            (last_after number (Ok answer.now) (kept_in self.old slot.0 client.0)) }
     {
-        if let (Some(number), Some(reply)) = (number, answer) {
-            let outcome = Outcome::Taken(reply);
+        let Some(number) = number else {
+            return;
+        };
+        if let Some(reply) = answer {
+            let outcome = Outcome::Taken(*reply);
             self.keep(slot, client, Verdict { number, outcome });
         }
     }

@@ -82,7 +82,8 @@ impl Session {
             return Ok(reply);
         }
         let reply = run(&mut self.broker, client, queue, number, call)?;
-        self.kept.hear(queue, client, Some(number), Some(reply));
+        let answer = Some(reply);
+        self.kept.hear(queue, client, Some(number), &answer);
         Ok(reply)
     }
 
@@ -151,7 +152,7 @@ impl Session {
     {
         let number = self.calling(client, queue)?;
         let answer = self.broker.step(queue, client)?;
-        self.kept.hear(queue, client, number, answer);
+        self.kept.hear(queue, client, number, &answer);
         Ok(answer)
     }
 }

@@ -1,3 +1,4 @@
 pub mod Step
 pub mod Preparation
 pub mod Steps
+pub mod Loading

@@ -10,7 +10,9 @@ use Rattle.arena.specs.Shape.{Shape, record_of}
 use Rattle.arena.specs.declared.codes.TheConstants.{ENQUEUE_KIND, DEQUEUE_KIND}
 use Rattle.arena.specs.Place.{IsClient, IsRecord}
 use Rattle.arena.specs.declared.place.Write.{Write}
-use Rattle.arena.specs.declared.place.Part.TheVariants.{First}
+use Rattle.arena.specs.declared.place.Part.{Part}
+use Rattle.arena.specs.declared.place.Part.TheVariants.{Length, First, Second, Third}
+use Rattle.arena.specs.Words.{item_part}
 use Rattle.arena.specs.declared.place.Place.{Place}
 use Rattle.arena.specs.declared.place.Place.TheVariants.{Announcement, Bump, Item, Insert, Number, EntryKind, EntryNode}
 use Rattle.persist.specs.Memory.{Access, Store, Flush, Fence}
@@ -34,13 +36,22 @@ bump b = write (Bump b.client) (b.used + 1)
 abbrev pub announcement : Begun → Write
 announcement b = write (Announcement b.client) b.token.0
 
+-- a part of the message, in the node of the record
+abbrev pub part_write : Begun → Value → Part → Write
+part_write b value part = write (Item (record { 0 = b.token.0 }) part) (item_part value part)
+
+-- all four parts of a message, also those that are 0, the length first; what comes then
+abbrev pub item_writes : Begun → Value → List Write → List Write
+item_writes b value rest =
+    part_write b value Length ∷ part_write b value First ∷ part_write b value Second ∷ part_write b value Third ∷ rest
+
 abbrev pub preparation_from : Kind → Call → Begun → List Write
-preparation_from Durable (Enq value) b = bump b ∷ write (Item (record { 0 = b.token.0 }) First) value ∷ []
+preparation_from Durable (Enq value) b = bump b ∷ item_writes b value []
 preparation_from Durable Deq b = bump b ∷ announcement b ∷ []
 preparation_from Log (Enq value) b =
     bump b ∷ write (Number b.token) b.number ∷ write (EntryKind b.token) ENQUEUE_KIND
-    ∷ write (EntryNode b.token) b.token.0 ∷ write (Item (record { 0 = b.token.0 }) First) value
-    ∷ write (Insert (record { 0 = b.token.0 })) b.token.0 ∷ announcement b ∷ []
+    ∷ write (EntryNode b.token) b.token.0
+    ∷ item_writes b value (write (Insert (record { 0 = b.token.0 })) b.token.0 ∷ announcement b ∷ [])
 preparation_from Log Deq b =
     bump b ∷ write (Number b.token) b.number ∷ write (EntryKind b.token) DEQUEUE_KIND ∷ announcement b ∷ []
 

@@ -5,6 +5,6 @@ use Rattle.std.specs.Prelude.{ℕ}
 abbrev pub keep_steps : ℕ
 keep_steps = 2
 
--- to load a value
+-- to load an item: its length and three words
 abbrev pub load_steps : ℕ
-load_steps = 1
+load_steps = 4

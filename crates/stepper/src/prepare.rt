@@ -1,11 +1,11 @@
 //! The preparation of a call: it writes its record, each word with a store, a flush and a fence, before it acts.
 
 ghost use Rattle.std.specs.Prelude.{◌≡◌, slice_get};
-ghost use Rattle.stepper.specs.Preparation.{preparation_from, prepared_to, bump as bump_of, announcement as announcement_of};
+ghost use Rattle.stepper.specs.Preparation.{preparation_from, preparation_of, prepared_to, bump as bump_of, announcement as announcement_of, part_write};
 
 use crate::places::{fence_at, flush_at, store_at};
 use crate::resume::{After, Points, Resume, Stepped};
-use arena::{DEQUEUE_KIND, ENQUEUE_KIND, Layout, Part, Place, Write};
+use arena::{DEQUEUE_KIND, ENQUEUE_KIND, Layout, Part, Place, Write, item_part};
 use persist::WordMemory;
 use words::{Call, Client, Kind, NodeId, Token, Value};
 
@@ -69,10 +69,10 @@ fn durable_enqueue(begun: Begun, value: Value, index: u8) -> Option<Write>
 {
     match index {
         0 => Some(bump(begun)),
-        1 => Some(Write {
-            place: Place::Item(NodeId(begun.token.0), Part::First),
-            value: value as u64,
-        }),
+        1 => Some(part(begun, value, Part::Length)),
+        2 => Some(part(begun, value, Part::First)),
+        3 => Some(part(begun, value, Part::Second)),
+        4 => Some(part(begun, value, Part::Third)),
         _ => None,
     }
 }
@@ -92,16 +92,18 @@ fn durable_dequeue(begun: Begun, index: u8) -> Option<Write>
 fn log_enqueue(begun: Begun, value: Value, index: u8) -> Option<Write>
     ensures { result ≡ slice_get (preparation_from Kind.Log (Call.Enq value) begun) index }
 {
-    let node = NodeId(begun.token.0);
     let number = begun.token.0 as u64;
     let (place, value) = match index {
         0 => return Some(bump(begun)),
         1 => (Place::Number(begun.token), begun.number),
         2 => (Place::EntryKind(begun.token), ENQUEUE_KIND),
         3 => (Place::EntryNode(begun.token), number),
-        4 => (Place::Item(node, Part::First), value as u64),
-        5 => (Place::Insert(node), number),
-        6 => return Some(announcement(begun)),
+        4 => return Some(part(begun, value, Part::Length)),
+        5 => return Some(part(begun, value, Part::First)),
+        6 => return Some(part(begun, value, Part::Second)),
+        7 => return Some(part(begun, value, Part::Third)),
+        8 => (Place::Insert(NodeId(begun.token.0)), number),
+        9 => return Some(announcement(begun)),
         _ => return None,
     };
     Some(Write { place, value })
@@ -119,6 +121,17 @@ fn log_dequeue(begun: Begun, index: u8) -> Option<Write>
         _ => return None,
     };
     Some(Write { place, value })
+}
+
+/// A part of its message.
+// The length comes first: were a word kept before it, by an eviction, a crash could leave bytes past the length.
+fn part(begun: Begun, value: Value, part: Part) -> Write
+    ensures { result ≡ part_write begun value part }
+{
+    Write {
+        place: Place::Item(NodeId(begun.token.0), part),
+        value: item_part(value, part),
+    }
 }
 
 /// That the record is used.
@@ -141,17 +154,23 @@ fn announcement(begun: Begun) -> Write
     }
 }
 
+/// The words that a call prepares.
+fn write_at(kind: Kind, begun: &Begun, index: u8) -> Option<Write>
+    ensures { result ≡ slice_get (preparation_of kind begun.now) index }
+{
+    match (kind, begun.call) {
+        (Kind::Durable, Call::Enq(value)) => durable_enqueue(*begun, value, index),
+        (Kind::Durable, Call::Deq) => durable_dequeue(*begun, index),
+        (Kind::Log, Call::Enq(value)) => log_enqueue(*begun, value, index),
+        (Kind::Log, Call::Deq) => log_dequeue(*begun, index),
+    }
+}
+
 /// Where a preparation comes to its write at this index; past the last it is at its end.
 fn prepare_at(kind: Kind, begun: Begun, index: u8) -> After<Prepare, Prepared>
     ensures { result ≡ prepared_to kind begun index }
 {
-    let write = match (kind, begun.call) {
-        (Kind::Durable, Call::Enq(value)) => durable_enqueue(begun, value, index),
-        (Kind::Durable, Call::Deq) => durable_dequeue(begun, index),
-        (Kind::Log, Call::Enq(value)) => log_enqueue(begun, value, index),
-        (Kind::Log, Call::Deq) => log_dequeue(begun, index),
-    };
-    match write {
+    match write_at(kind, &begun, index) {
         Some(write) => After::More(Prepare::Store(PrepareStore {
             begun,
             index,

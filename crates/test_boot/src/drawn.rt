@@ -8,7 +8,7 @@ use rand_core::Rng;
 use rand_pcg::Pcg32;
 use std::alloc::Global;
 use std::test::Fail;
-use test_support::index_below;
+use test_support::{index_below, item};
 use words::{Call, Client, Refusal};
 
 /// How many acts a world is drawn.
@@ -18,7 +18,7 @@ const ACTS: usize = 600;
 fn start(rng: &mut Pcg32, client: Client, number: u64) -> Act {
     let value = rng.next_u32();
     let call = if value % 2 == 0 {
-        Call::Enq(value)
+        Call::Enq(item(value))
     } else {
         Call::Deq
     };

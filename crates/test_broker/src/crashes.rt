@@ -6,9 +6,9 @@ use arena::SlotId;
 use named::Broker;
 use std::alloc::Global;
 use std::test::Fail;
-use test_support::are_explained;
 use test_support::brokers::{create, finish, not_taken, recover, restart, taken};
 use test_support::steps::{GATE_ASKED, LOG_CLAIM_ASKED, LOG_CLAIM_KEPT};
+use test_support::{are_explained, item};
 use words::{Call, Kind, Refusal, Reply, Row, Told, Value};
 
 /// A durable queue in slot 0 through which three values went, and a log queue in slot 1 whose dequeue stopped after so
@@ -18,12 +18,12 @@ fn stopped(alloc: Global, steps: u32) -> Result<Broker, Refusal> {
     create(&mut broker, b"d", Kind::Durable)?;
     create(&mut broker, b"l", Kind::Log)?;
     for value in 1..=3 {
-        finish(&mut broker, 0, 0, 0, Call::Enq(value))?;
+        finish(&mut broker, 0, 0, 0, Call::Enq(item(value)))?;
     }
     for _ in 0..3 {
         finish(&mut broker, 0, 0, 0, Call::Deq)?;
     }
-    finish(&mut broker, 1, 0, 1, Call::Enq(9))?;
+    finish(&mut broker, 1, 0, 1, Call::Enq(item(9)))?;
     begin(&mut broker, 1, 0, 2, Call::Deq, steps)?;
     broker.crash()?;
     Ok(broker)
@@ -32,12 +32,13 @@ fn stopped(alloc: Global, steps: u32) -> Result<Broker, Refusal> {
 /// Whether the durable queue is told of its last value, and the log queue of its dequeue, which took effect where its
 /// claim was kept.
 fn tells(alloc: Global, broker: &Broker, steps: u32) -> Result<bool, Refusal> {
+    let nine = [item(9)];
     let (verdict, left): (_, &[Value]) = if steps >= LOG_CLAIM_KEPT {
-        (taken(2, Reply::Got(9)), &[])
+        (taken(2, Reply::Got(item(9))), &[])
     } else {
-        (not_taken(2), &[9])
+        (not_taken(2), &nine)
     };
-    let mut right = told(broker, 0, 0)? == Told::Row(Row::Got(3));
+    let mut right = told(broker, 0, 0)? == Told::Row(Row::Got(item(3)));
     right &= told(broker, 1, 0)? == Told::Verdict(verdict);
     right &= holds(broker, 0, &[])? && holds(broker, 1, left)?;
     right &= has(broker, 0, b"d", Kind::Durable)? && has(broker, 1, b"l", Kind::Log)?;
@@ -87,11 +88,11 @@ fn to_be_found(alloc: Global) -> Result<Broker, Refusal> {
 fn serves_as_found(alloc: Global, broker: &mut Broker) -> Result<bool, Refusal> {
     let mut right = broker.create_step() == Err(Refusal::Idle);
     right &= told(broker, 1, 0)? == Told::None;
-    right &= finish(broker, 1, 0, 1, Call::Enq(5))? == Reply::Done;
+    right &= finish(broker, 1, 0, 1, Call::Enq(item(5)))? == Reply::Done;
     right &= create(broker, b"next", Kind::Durable)? == SlotId(2);
     restart(broker)?;
     right &= told(broker, 1, 0)? == Told::Verdict(taken(1, Reply::Done));
-    right &= holds(broker, 1, &[5])? && effects(broker, 1) == 1 && queues(broker)? == 3;
+    right &= holds(broker, 1, &[item(5)])? && effects(broker, 1) == 1 && queues(broker)? == 3;
     Ok(right && are_explained(alloc, broker)?)
 }
 

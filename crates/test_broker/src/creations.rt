@@ -6,9 +6,9 @@ use directory::Name;
 use named::Broker;
 use std::alloc::Global;
 use std::test::Fail;
-use test_support::are_explained;
 use test_support::brokers::{create, finish, restart};
 use test_support::steps::{CREATED, GATE_STORED};
+use test_support::{are_explained, item};
 use words::{Call, Kind, Refusal, Reply};
 
 /// The first word of slot 0 in the directory.
@@ -61,9 +61,9 @@ fn is_whole_or_free(
         // No word of the dropped name may come back in the slot's next one.
         right &= create(broker, b"b", kind)? == SlotId(0) && has(broker, 0, b"b", kind)?;
     }
-    right &= finish(broker, 0, 0, 1, Call::Enq(7))? == Reply::Done;
+    right &= finish(broker, 0, 0, 1, Call::Enq(item(7)))? == Reply::Done;
     restart(broker)?;
-    Ok(right && holds(broker, 0, &[7])? && are_explained(alloc, broker)?)
+    Ok(right && holds(broker, 0, &[item(7)])? && are_explained(alloc, broker)?)
 }
 
 /// Whether the queue is there after a crash exactly where its gate is kept open: by the last step, or by the

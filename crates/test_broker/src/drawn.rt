@@ -9,7 +9,7 @@ use rand_core::Rng;
 use rand_pcg::Pcg32;
 use std::alloc::Global;
 use std::test::Fail;
-use test_support::{are_explained, below, pass_over};
+use test_support::{are_explained, below, item, pass_over};
 use words::{Call, Client, Kind, Refusal};
 
 /// How many records each client has in each queue.
@@ -25,7 +25,7 @@ fn start(broker: &mut Broker, rng: &mut Pcg32, client: Client, number: u64) -> R
     let slot = slot(rng);
     let value = rng.next_u32();
     let call = if value % 2 == 0 {
-        Call::Enq(value)
+        Call::Enq(item(value))
     } else {
         Call::Deq
     };

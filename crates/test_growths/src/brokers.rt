@@ -5,7 +5,8 @@ use crate::worlds::write_history;
 use arena::{SLOTS, SlotId};
 use named::Broker;
 use std::fmt::Write;
-use words::{Call, Client, Kind, Refusal};
+use test_support::Wish;
+use words::{Client, Kind, Refusal};
 
 /// How many clients there are.
 pub const CLIENTS: u8 = 2;
@@ -15,7 +16,7 @@ pub const CLIENTS: u8 = 2;
 pub enum Act {
     Create(&'static str, Kind),
     CreateStep,
-    Start(u8, u8, u64, Call),
+    Start(u8, u8, u64, Wish),
     Step(u8, u8),
     Alone(u8, u8),
     Evict(usize),
@@ -86,8 +87,8 @@ impl Subject for Broker {
         match act {
             Act::Create(name, kind) => self.create(name.as_bytes(), kind).map(|()| Answer::Done),
             Act::CreateStep => Ok(Answer::slot(self.create_step()?)),
-            Act::Start(slot, client, number, call) => {
-                self.start(SlotId(slot), Client(client), number, call)?;
+            Act::Start(slot, client, number, wish) => {
+                self.start(SlotId(slot), Client(client), number, wish.call())?;
                 Ok(Answer::Done)
             }
             Act::Step(slot, client) => {

@@ -5,16 +5,17 @@ use crate::brokers::{CLIENTS, write_broker};
 use arena::SlotId;
 use session::Session;
 use std::fmt::Write;
-use words::{Call, Client, Kind, Refusal};
+use test_support::Wish;
+use words::{Client, Kind, Refusal};
 
 /// What a session is asked to do: mostly by client, and by slot.
 #[derive(Clone, Copy, Debug)]
 pub enum Act {
     Create(&'static str, Kind),
     CreateStep,
-    Request(u8, u8, u64, Call),
-    Plain(u8, u8, Call),
-    Begin(u8, u8, Option<u64>, Call),
+    Request(u8, u8, u64, Wish),
+    Plain(u8, u8, Wish),
+    Begin(u8, u8, Option<u64>, Wish),
     Advance(u8, u8),
     Evict(usize),
     Crash,
@@ -55,17 +56,17 @@ impl Subject for Session {
         match act {
             Act::Create(name, kind) => self.create(name.as_bytes(), kind).map(|()| Answer::Done),
             Act::CreateStep => Ok(Answer::slot(self.create_step()?)),
-            Act::Request(client, slot, number, call) => self
-                .request(Client(client), SlotId(slot), number, call)
+            Act::Request(client, slot, number, wish) => self
+                .request(Client(client), SlotId(slot), number, wish.call())
                 .map(Answer::Reply),
-            Act::Plain(client, slot, call) => self
-                .plain(Client(client), SlotId(slot), call)
+            Act::Plain(client, slot, wish) => self
+                .plain(Client(client), SlotId(slot), wish.call())
                 .map(Answer::Reply),
-            Act::Begin(client, slot, number, call) => Ok(Answer::step(self.begin(
+            Act::Begin(client, slot, number, wish) => Ok(Answer::step(self.begin(
                 Client(client),
                 SlotId(slot),
                 number,
-                call,
+                wish.call(),
             )?)),
             Act::Advance(client, slot) => {
                 Ok(Answer::step(self.advance(Client(client), SlotId(slot))?))

@@ -6,12 +6,13 @@ use arena::Layout;
 use history::History;
 use interleave::World;
 use std::fmt::Write;
-use words::{Call, Client, Refusal};
+use test_support::Wish;
+use words::{Client, Refusal};
 
 /// What a world is asked to do.
 #[derive(Clone, Copy, Debug)]
 pub enum Act {
-    Start(u8, u64, Call),
+    Start(u8, u64, Wish),
     Step(u8),
     Alone(u8),
     Evict(usize),
@@ -22,13 +23,45 @@ pub enum Act {
     Content,
     Order,
     /// This act by a list of it alone.
-    Run(interleave::Act),
+    Run(Listed),
+}
+
+/// An act that a list has.
+#[derive(Clone, Copy, Debug)]
+pub enum Listed {
+    Start {
+        client: Client,
+        number: u64,
+        call: Wish,
+    },
+    Step {
+        client: Client,
+    },
+    Crash,
+}
+
+impl Listed {
+    fn act(self) -> interleave::Act {
+        match self {
+            Listed::Start {
+                client,
+                number,
+                call,
+            } => interleave::Act::Start {
+                client,
+                number,
+                call: call.call(),
+            },
+            Listed::Step { client } => interleave::Act::Step { client },
+            Listed::Crash => interleave::Act::Crash,
+        }
+    }
 }
 
 /// Writes what a history has.
 pub(crate) fn write_history(history: &History, text: &mut String) -> Result<(), Refusal> {
     let base = history.base.as_slice();
-    let told = history.told;
+    let told = &history.told;
     let events = &history.events;
     if write!(text, "base {base:?} told {told:?} events [").is_err() {
         return Err(Refusal::NoMemory);
@@ -72,8 +105,8 @@ impl<L: Layout + Drop> Subject for World<L> {
 
     fn act(&mut self, act: Act) -> Result<Answer, Refusal> {
         match act {
-            Act::Start(client, number, call) => {
-                self.start(Client(client), number, call)?;
+            Act::Start(client, number, wish) => {
+                self.start(Client(client), number, wish.call())?;
                 Ok(Answer::Done)
             }
             Act::Step(client) => Ok(Answer::step(self.step(Client(client))?)),
@@ -88,7 +121,7 @@ impl<L: Layout + Drop> Subject for World<L> {
             Act::Reserve(acts) => self.reserve(acts).map(|()| Answer::Done),
             Act::Content => self.content().map(Answer::Values),
             Act::Order => Ok(Answer::Entries(self.order()?.entries.into_vec())),
-            Act::Run(act) => run(self, act),
+            Act::Run(listed) => run(self, listed.act()),
         }
     }
 

@@ -3,7 +3,7 @@
 use history::{Entry, Event, History, Order, Sequence, check, check_plainly, replay};
 use std::alloc::{AllocError, Global};
 use std::test::Fail;
-use test_support::events_of;
+use test_support::{events_of, item};
 use words::{Call, Client, Outcome, Reply, Row, Told, Value, Verdict};
 
 const NONE: [Told; 16] = [Told::None; 16];
@@ -16,8 +16,8 @@ fn call(client: u8, number: u64, call: Call) -> Event {
     }
 }
 
-fn enq(client: u8, value: Value) -> Event {
-    call(client, 0, Call::Enq(value))
+fn enq(client: u8, value: u32) -> Event {
+    call(client, 0, Call::Enq(item(value)))
 }
 
 fn deq(client: u8) -> Event {
@@ -31,18 +31,34 @@ fn returns(client: u8, reply: Reply) -> Event {
     }
 }
 
+fn done(client: u8) -> Event {
+    returns(client, Reply::Done)
+}
+
+fn got(value: u32) -> Reply {
+    Reply::Got(item(value))
+}
+
 fn verdict(number: u64, outcome: Outcome) -> Told {
     Told::Verdict(Verdict { number, outcome })
 }
 
-fn ready(first: Told) -> Event {
+fn ready(first: &Told) -> Event {
     let mut told = NONE;
-    told[0] = first;
+    told[0] = *first;
     Event::Ready { told }
 }
 
 fn at(place: usize, reply: Reply) -> Entry {
     Entry { place, reply }
+}
+
+fn put_at(place: usize) -> Entry {
+    at(place, Reply::Done)
+}
+
+fn got_at(place: usize, value: u32) -> Entry {
+    at(place, got(value))
 }
 
 fn history(
@@ -102,59 +118,51 @@ fn says(
 #[test]
 fn complete_calls_are_in_the_order(rt: HostRuntime) -> Result<(), Fail> {
     let a = rt.alloc();
-    let got = at(0, Reply::Got(5));
-    let events = [deq(0), returns(0, Reply::Got(5))];
-    let not: [&[Entry]; 4] = [&[], &[got, got], &[at(1, got.reply)], &[at(2, got.reply)]];
-    assert!(rt; says(a, &[5], &events, &[&[got]], &not)?);
-    assert!(rt; says(a, &[5, 5], &events, &[&[got]], &not)?);
-    let other = [deq(0), returns(0, Reply::Got(6))];
-    assert!(rt; says(a, &[5], &other, &[], &[&[got]])?);
+    let events = [deq(0), returns(0, got(5))];
+    let right: [&[Entry]; 1] = [&[got_at(0, 5)]];
+    let not: [&[Entry]; 4] = [
+        &[],
+        &[got_at(0, 5), got_at(0, 5)],
+        &[got_at(1, 5)],
+        &[got_at(2, 5)],
+    ];
+    assert!(rt; says(a, &[item(5)], &events, &right, &not)?);
+    assert!(rt; says(a, &[item(5), item(5)], &events, &right, &not)?);
+    let other = [deq(0), returns(0, got(6))];
+    assert!(rt; says(a, &[item(5)], &other, &[], &right)?);
     Ok(())
 }
 
 #[test]
 fn precedence_is_kept(rt: HostRuntime) -> Result<(), Fail> {
     let a = rt.alloc();
-    let (one, two) = (returns(0, Reply::Done), returns(1, Reply::Done));
-    let (first, second) = (at(0, Reply::Done), at(2, Reply::Done));
-    let one_by_one = [enq(0, 1), one, enq(1, 2), two];
-    assert!(rt;
-        says(
-            a,
-            &[],
-            &one_by_one,
-            &[&[first, second]],
-            &[&[second, first]]
-        )?
-    );
-    let second = at(1, Reply::Done);
-    let overlap = [enq(0, 1), enq(1, 2), one, two];
-    assert!(rt; says(a, &[], &overlap, &[&[first, second], &[second, first]], &[])?);
+    let one_by_one = [enq(0, 1), done(0), enq(1, 2), done(1)];
+    let right: [&[Entry]; 1] = [&[put_at(0), put_at(2)]];
+    let wrong: [&[Entry]; 1] = [&[put_at(2), put_at(0)]];
+    assert!(rt; says(a, &[], &one_by_one, &right, &wrong)?);
+    let overlap = [enq(0, 1), enq(1, 2), done(0), done(1)];
+    let both: [&[Entry]; 2] = [&[put_at(0), put_at(1)], &[put_at(1), put_at(0)]];
+    assert!(rt; says(a, &[], &overlap, &both, &[])?);
     Ok(())
 }
 
 #[test]
 fn the_plain_queue_gives_the_replies(rt: HostRuntime) -> Result<(), Fail> {
     let a = rt.alloc();
-    let later = [
-        deq(0),
-        returns(0, Reply::Got(7)),
-        enq(1, 7),
-        returns(1, Reply::Done),
-    ];
-    let (got, put) = (at(0, Reply::Got(7)), at(2, Reply::Done));
-    assert!(rt; says(a, &[], &later, &[], &[&[got, put], &[put, got]])?);
+    let later = [deq(0), returns(0, got(7)), enq(1, 7), done(1)];
+    let not: [&[Entry]; 2] = [&[got_at(0, 7), put_at(2)], &[put_at(2), got_at(0, 7)]];
+    assert!(rt; says(a, &[], &later, &[], &not)?);
     let empties = [
         deq(0),
         deq(1),
         returns(0, Reply::Empty),
         enq(2, 5),
-        returns(2, Reply::Done),
+        done(2),
         returns(1, Reply::Empty),
     ];
-    let (one, other, put) = (at(0, Reply::Empty), at(1, Reply::Empty), at(3, Reply::Done));
-    let right: [&[Entry]; 2] = [&[one, other, put], &[other, one, put]];
-    let wrong: [&[Entry]; 2] = [&[one, put, other], &[put, one, other]];
+    let (one, other) = (|| at(0, Reply::Empty), || at(1, Reply::Empty));
+    let right: [&[Entry]; 2] = [&[one(), other(), put_at(3)], &[other(), one(), put_at(3)]];
+    let wrong: [&[Entry]; 2] = [&[one(), put_at(3), other()], &[put_at(3), one(), other()]];
     assert!(rt; says(a, &[], &empties, &right, &wrong)?);
     Ok(())
 }
@@ -162,8 +170,8 @@ fn the_plain_queue_gives_the_replies(rt: HostRuntime) -> Result<(), Fail> {
 #[test]
 fn verdicts_agree_with_the_order(rt: HostRuntime) -> Result<(), Fail> {
     let a = rt.alloc();
-    let told = |first: Told| [call(0, 1, Call::Enq(9)), Event::Crash, ready(first)];
-    let (none, taken): ([Entry; 0], [Entry; 1]) = ([], [at(0, Reply::Done)]);
+    let told = |first: Told| [call(0, 1, Call::Enq(item(9))), Event::Crash, ready(&first)];
+    let (none, taken): ([Entry; 0], [Entry; 1]) = ([], [put_at(0)]);
     for first in [verdict(1, Outcome::NotTaken), Told::None] {
         assert!(rt; says(a, &[], &told(first), &[&none], &[&taken])?);
     }
@@ -178,14 +186,14 @@ fn verdicts_agree_with_the_order(rt: HostRuntime) -> Result<(), Fail> {
 #[test]
 fn verdicts_are_of_the_last_call(rt: HostRuntime) -> Result<(), Fail> {
     let a = rt.alloc();
-    let both = [at(0, Reply::Done), at(2, Reply::Done)];
+    let both = [put_at(0), put_at(2)];
     let told = |number: u64| [
-        call(0, 1, Call::Enq(1)),
-        returns(0, Reply::Done),
-        call(0, 2, Call::Enq(2)),
-        returns(0, Reply::Done),
+        call(0, 1, Call::Enq(item(1))),
+        done(0),
+        call(0, 2, Call::Enq(item(2))),
+        done(0),
         Event::Crash,
-        ready(verdict(number, Outcome::Taken(Reply::Done))),
+        ready(&verdict(number, Outcome::Taken(Reply::Done))),
     ];
     assert!(rt; says(a, &[], &told(2), &[&both], &[])?);
     assert!(rt; says(a, &[], &told(1), &[], &[&both])?);
@@ -199,48 +207,50 @@ fn an_interrupted_call_is_in_the_order_where_it_is_told(rt: HostRuntime) -> Resu
     told[0] = verdict(1, Outcome::NotTaken);
     told[1] = verdict(1, Outcome::Taken(Reply::Done));
     let events = [
-        call(0, 1, Call::Enq(1)),
-        call(1, 1, Call::Enq(2)),
+        call(0, 1, Call::Enq(item(1))),
+        call(1, 1, Call::Enq(item(2))),
         Event::Crash,
         Event::Ready { told },
         call(0, 2, Call::Deq),
-        returns(0, Reply::Got(2)),
+        returns(0, got(2)),
     ];
-    let (one, two, got) = (at(0, Reply::Done), at(1, Reply::Done), at(4, Reply::Got(2)));
-    let wrong: [&[Entry]; 2] = [&[got, two], &[two, one, got]];
-    assert!(rt; says(a, &[], &events, &[&[two, got]], &wrong)?);
+    let right: [&[Entry]; 1] = [&[put_at(1), got_at(4, 2)]];
+    let wrong: [&[Entry]; 2] = [
+        &[got_at(4, 2), put_at(1)],
+        &[put_at(1), put_at(0), got_at(4, 2)],
+    ];
+    assert!(rt; says(a, &[], &events, &right, &wrong)?);
     // Nor is a call that is in no verdict, though it would explain the reply.
     let untold = [
-        call(1, 1, Call::Enq(2)),
+        call(1, 1, Call::Enq(item(2))),
         Event::Crash,
-        ready(Told::None),
+        ready(&Told::None),
         call(2, 1, Call::Deq),
-        returns(2, Reply::Got(2)),
+        returns(2, got(2)),
     ];
-    let (put, got) = (at(0, Reply::Done), at(3, Reply::Got(2)));
-    assert!(rt; says(a, &[], &untold, &[], &[&[put, got]])?);
-    assert!(rt; says(a, &[2], &untold, &[&[got]], &[&[put, got]])?);
+    let both: [&[Entry]; 1] = [&[put_at(0), got_at(3, 2)]];
+    assert!(rt; says(a, &[], &untold, &[], &both)?);
+    assert!(rt; says(a, &[item(2)], &untold, &[&[got_at(3, 2)]], &both)?);
     Ok(())
 }
 
 #[test]
 fn rows_tell_of_dequeues(rt: HostRuntime) -> Result<(), Fail> {
     let a = rt.alloc();
-    let found = at(0, Reply::Empty);
     let told = |row: Row| [
         deq(0),
         returns(0, Reply::Empty),
         enq(0, 3),
         Event::Crash,
-        ready(Told::Row(row)),
+        ready(&Told::Row(row)),
     ];
-    let right: [&[Entry]; 2] = [&[found], &[found, at(2, Reply::Done)]];
+    let right: [&[Entry]; 2] = [&[at(0, Reply::Empty)], &[at(0, Reply::Empty), put_at(2)]];
     assert!(rt; says(a, &[], &told(Row::Empty), &right, &[])?);
-    for row in [Row::Open, Row::NoCall, Row::Got(3)] {
-        assert!(rt; says(a, &[], &told(row), &[], &[&[found]])?);
+    for row in [Row::Open, Row::NoCall, Row::Got(item(3))] {
+        assert!(rt; says(a, &[], &told(row), &[], &[&[at(0, Reply::Empty)]])?);
     }
-    let open = [deq(0), Event::Crash, ready(Told::Row(Row::Open))];
-    assert!(rt; says(a, &[4], &open, &[&[]], &[&[at(0, Reply::Got(4))]])?);
+    let open = [deq(0), Event::Crash, ready(&Told::Row(Row::Open))];
+    assert!(rt; says(a, &[item(4)], &open, &[&[]], &[&[got_at(0, 4)]])?);
     Ok(())
 }
 
@@ -250,11 +260,11 @@ fn the_base_tells_until_a_call_is_taken(rt: HostRuntime) -> Result<(), Fail> {
     let old = verdict(7, Outcome::Taken(Reply::Done));
     let events = [
         Event::Crash,
-        ready(old),
+        ready(&old),
         call(0, 8, Call::Deq),
         Event::Crash,
         Event::Crash,
-        ready(old),
+        ready(&old),
     ];
     let taken = [at(2, Reply::Empty)];
     assert!(rt; judge(a, (&[], old), &events, &[&[]], &[&taken])?);
@@ -265,26 +275,27 @@ fn the_base_tells_until_a_call_is_taken(rt: HostRuntime) -> Result<(), Fail> {
 #[test]
 fn nobody_calls_or_returns_out_of_turn(rt: HostRuntime) -> Result<(), Fail> {
     let a = rt.alloc();
-    let (none, put, done) = (ready(Told::None), enq(0, 1), returns(0, Reply::Done));
-    let idle = [none, Event::Crash, Event::Crash, none, none];
+    let none = || ready(&Told::None);
+    let idle = [none(), Event::Crash, Event::Crash, none(), none()];
     let arising: [&[Event]; 3] = [&[], &idle, &[enq(15, 1)]];
     for events in arising {
         assert!(rt; says(a, &[], events, &[&[]], &[])?, "{events:?}");
     }
     let not: [&[Event]; 7] = [
-        &[put, enq(0, 2)],
-        &[put, call(1, 1, Call::Enq(2))],
+        &[enq(0, 1), enq(0, 2)],
+        &[enq(0, 1), call(1, 1, Call::Enq(item(2)))],
         &[enq(16, 1)],
-        &[done],
-        &[Event::Crash, put],
-        &[put, Event::Crash, done],
-        &[put, Event::Crash, none, done],
+        &[done(0)],
+        &[Event::Crash, enq(0, 1)],
+        &[enq(0, 1), Event::Crash, done(0)],
+        &[enq(0, 1), Event::Crash, none(), done(0)],
     ];
-    let taken = [at(0, Reply::Done)];
+    let taken = [put_at(0)];
     for events in not {
         assert!(rt; says(a, &[], events, &[], &[&[], &taken])?, "{events:?}");
     }
-    assert!(rt; says(a, &[], &[put, none, done], &[&taken], &[&[]])?);
+    let ready_before = [enq(0, 1), none(), done(0)];
+    assert!(rt; says(a, &[], &ready_before, &[&taken], &[&[]])?);
     Ok(())
 }
 
@@ -292,16 +303,15 @@ fn nobody_calls_or_returns_out_of_turn(rt: HostRuntime) -> Result<(), Fail> {
 fn replay_leaves_the_queue(rt: HostRuntime) -> Result<(), Fail> {
     let a = rt.alloc();
     let events = [enq(0, 1), deq(1), enq(2, 2), Event::Crash];
-    let (one, got, two) = (at(0, Reply::Done), at(1, Reply::Got(8)), at(2, Reply::Done));
-    let history = history(a, &[8, 9], Told::None, &events)?;
-    let left = replay(a, &history, &order(a, &[one, got, two])?)?;
-    let Ok(values) = left else {
+    let history = history(a, &[item(8), item(9)], Told::None, &events)?;
+    let right = order(a, &[put_at(0), got_at(1, 8), put_at(2)])?;
+    let Ok(values) = replay(a, &history, &right)? else {
         return Err(Fail::new("every entry is right"));
     };
-    assert_eq!(rt; values.as_slice(), [9, 1, 2].as_slice());
-    let wrong = replay(a, &history, &order(a, &[one, at(1, Reply::Got(9)), two])?)?;
-    assert_eq!(rt; wrong.err(), Some(1));
-    let none = replay(a, &history, &order(a, &[one, got, at(3, Reply::Done)])?)?;
-    assert_eq!(rt; none.err(), Some(2));
+    assert_eq!(rt; values.as_slice(), [item(9), item(1), item(2)].as_slice());
+    let wrong = order(a, &[put_at(0), got_at(1, 9), put_at(2)])?;
+    assert_eq!(rt; replay(a, &history, &wrong)?.err(), Some(1));
+    let none = order(a, &[put_at(0), got_at(1, 8), put_at(3)])?;
+    assert_eq!(rt; replay(a, &history, &none)?.err(), Some(2));
     Ok(())
 }

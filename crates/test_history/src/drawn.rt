@@ -1,21 +1,22 @@
 //! Drawn histories, right and wrong, on which both checkers agree.
 
+use events::copied;
 use history::{Entry, Event, History, Order, Sequence, check, check_plainly};
 use rand_core::Rng;
 use rand_pcg::Pcg32;
 use std::alloc::{AllocError, Global};
 use std::test::Fail;
-use test_support::{events_of, index_below};
-use words::{Call, Client, Kind, Outcome, Reply, Row, Told, Value, Verdict};
+use test_support::{Said, Wish, events_of, index_below, item};
+use words::{Client, Kind, Outcome, Reply, Row, Told, Verdict};
 
 /// A call under way, and its reply once it took effect.
 #[derive(Clone, Copy)]
 struct UnderWay {
     client: u8,
     number: u64,
-    call: Call,
+    wish: Wish,
     place: usize,
-    reply: Option<Reply>,
+    said: Option<Said>,
 }
 
 /// A queue's clients, and what became of their calls.
@@ -24,7 +25,7 @@ struct Scene {
     kind: Kind,
     events: Vec<Event>,
     entries: Vec<Entry>,
-    queue: Vec<Value>,
+    queue: Vec<u32>,
     under_way: Vec<UnderWay>,
     told: [Told; 16],
     down: bool,
@@ -43,6 +44,25 @@ impl Scene {
         }
     }
 
+    /// Adds an event.
+    fn add(&mut self, event: Event) -> Result<(), Fail> {
+        match event {
+            Event::Call {
+                client,
+                number,
+                call,
+            } => self.events.push(Event::Call {
+                client,
+                number,
+                call,
+            })?,
+            Event::Return { client, reply } => self.events.push(Event::Return { client, reply })?,
+            Event::Crash => self.events.push(Event::Crash)?,
+            Event::Ready { told } => self.events.push(Event::Ready { told })?,
+        }
+        Ok(())
+    }
+
     /// A client calls, if it has no call under way.
     fn call(&mut self, client: u8, value: u32) -> Result<(), Fail> {
         if self.down || self.under_way.iter().any(|one| one.client == client) {
@@ -53,49 +73,52 @@ impl Scene {
             Kind::Durable => 0,
             Kind::Log => place as u64 + 1,
         };
-        let call = if value % 2 == 0 {
-            Call::Enq(value)
+        let wish = if value % 2 == 0 {
+            Wish::Enq(value)
         } else {
-            Call::Deq
+            Wish::Deq
         };
-        self.events.push(Event::Call {
+        self.add(Event::Call {
             client: Client(client),
             number,
-            call,
+            call: wish.call(),
         })?;
         self.under_way.push(UnderWay {
             client,
             number,
-            call,
+            wish,
             place,
-            reply: None,
+            said: None,
         })?;
         Ok(())
     }
 
     /// What the queue answers.
-    fn answer(&mut self, call: Call) -> Result<Reply, Fail> {
-        match call {
-            Call::Enq(value) => {
+    fn answer(&mut self, wish: Wish) -> Result<Said, Fail> {
+        match wish {
+            Wish::Enq(value) => {
                 self.queue.push(value)?;
-                Ok(Reply::Done)
+                Ok(Said::Done)
             }
-            Call::Deq if self.queue.is_empty() => Ok(Reply::Empty),
-            Call::Deq => Ok(Reply::Got(self.queue.remove(0))),
+            Wish::Deq if self.queue.is_empty() => Ok(Said::Empty),
+            Wish::Deq => Ok(Said::Got(self.queue.remove(0))),
         }
     }
 
     /// A client is told from now on that its call took effect with this reply, or that it did not.
-    fn tell(&mut self, one: UnderWay, outcome: Outcome) {
-        let told = match (self.kind, outcome, one.call) {
-            (Kind::Log, _, _) => Told::Verdict(Verdict {
+    fn tell(&mut self, one: UnderWay, said: Option<Said>) {
+        let told = match (self.kind, said, one.wish) {
+            (Kind::Log, said, _) => Told::Verdict(Verdict {
                 number: one.number,
-                outcome,
+                outcome: match said {
+                    Some(said) => Outcome::Taken(said.reply()),
+                    None => Outcome::NotTaken,
+                },
             }),
-            (_, _, Call::Enq(_)) => return,
-            (_, Outcome::Taken(Reply::Got(value)), _) => Told::Row(Row::Got(value)),
-            (_, Outcome::Taken(_), _) => Told::Row(Row::Empty),
-            (_, Outcome::NotTaken, _) => Told::Row(Row::Open),
+            (_, _, Wish::Enq(_)) => return,
+            (_, Some(Said::Got(value)), _) => Told::Row(Row::Got(item(value))),
+            (_, Some(_), _) => Told::Row(Row::Empty),
+            (_, None, _) => Told::Row(Row::Open),
         };
         if let Some(place) = self.told.get_mut(one.client as usize) {
             *place = told;
@@ -108,20 +131,20 @@ impl Scene {
             return Ok(());
         }
         let mut one = self.under_way.remove(index);
-        if let Some(reply) = one.reply {
-            self.events.push(Event::Return {
+        if let Some(said) = one.said {
+            self.add(Event::Return {
                 client: Client(one.client),
-                reply,
+                reply: said.reply(),
             })?;
             return Ok(());
         }
-        let reply = self.answer(one.call)?;
+        let said = self.answer(one.wish)?;
         self.entries.push(Entry {
             place: one.place,
-            reply,
+            reply: said.reply(),
         })?;
-        self.tell(one, Outcome::Taken(reply));
-        one.reply = Some(reply);
+        self.tell(one, Some(said));
+        one.said = Some(said);
         self.under_way.push(one)?;
         Ok(())
     }
@@ -130,17 +153,18 @@ impl Scene {
     fn stop_or_ready(&mut self) -> Result<(), Fail> {
         if self.down {
             self.down = false;
-            self.events.push(Event::Ready { told: self.told })?;
+            let told = copied(&self.told);
+            self.add(Event::Ready { told })?;
             return Ok(());
         }
         self.down = true;
-        self.events.push(Event::Crash)?;
+        self.add(Event::Crash)?;
         for _ in 0..self.under_way.len() {
             let Some(one) = self.under_way.pop() else {
                 break;
             };
-            if one.reply.is_none() {
-                self.tell(one, Outcome::NotTaken);
+            if one.said.is_none() {
+                self.tell(one, None);
             }
         }
         Ok(())
@@ -171,7 +195,7 @@ impl Scene {
             1 if i < self.entries.len() => {
                 let _entry = self.entries.remove(i);
             }
-            2 if i < self.entries.len() => self.entries[i].reply = Reply::Got(2),
+            2 if i < self.entries.len() => self.entries[i].reply = Reply::Got(item(2)),
             3 if i < self.entries.len() => self.entries[i].place = k,
             4 if k < self.events.len() => {
                 let _event = self.events.remove(k);
@@ -184,7 +208,7 @@ impl Scene {
     /// What both checkers answer, if they agree.
     fn checked(self, alloc: Global) -> Result<Option<bool>, AllocError> {
         let history = History {
-            base: Sequence::from_vec(self.queue),
+            base: Sequence::new(alloc),
             told: [Told::None; 16],
             events: events_of(alloc, &self.events)?,
         };
@@ -211,7 +235,6 @@ fn drawn(alloc: Global, kind: Kind, draw: u64, spoils: usize) -> Result<Option<b
     for _ in 0..spoils {
         scene.spoil(&mut rng);
     }
-    scene.queue.clear();
     Ok(scene.checked(alloc)?)
 }
 

@@ -15,7 +15,7 @@ use recover::sound;
 use std::alloc::Global;
 use std::test::Fail;
 use test_support::brokers::create;
-use test_support::{below, pass_over};
+use test_support::{below, item, pass_over};
 use words::{Call, Client, Kind, Refusal, Rule};
 
 /// How many histories are drawn, how many acts each has, and how many images near what it leaves.
@@ -39,7 +39,7 @@ fn act(broker: &mut Broker, rng: &mut Pcg32, number: u64) -> Result<(), Refusal>
         0 => broker.crash(),
         1..=3 => pass_over(broker.evict(below(rng, 200) as usize)),
         _ if down => pass_over(broker.recover_step()),
-        4..=9 => pass_over(broker.start(slot, client, number, Call::Enq(rng.next_u32()))),
+        4..=9 => pass_over(broker.start(slot, client, number, Call::Enq(item(rng.next_u32())))),
         10..=15 => pass_over(broker.start(slot, client, number, Call::Deq)),
         _ => pass_over(broker.step(slot, client)),
     }

@@ -6,6 +6,7 @@ use named::Broker;
 use std::alloc::Global;
 use std::test::Fail;
 use test_support::brokers::{create, finish};
+use test_support::item;
 use words::{Call, Kind, Refusal};
 
 /// How many of the tried images were refused, and on how many a broker began and served.
@@ -25,8 +26,8 @@ fn two_queues(alloc: Global) -> Result<Vec<u8>, Refusal> {
     let mut broker = Broker::make(alloc, 1, 1)?;
     create(&mut broker, b"d", Kind::Durable)?;
     create(&mut broker, b"l", Kind::Log)?;
-    finish(&mut broker, 0, 0, 1, Call::Enq(5))?;
-    finish(&mut broker, 1, 0, 1, Call::Enq(5))?;
+    finish(&mut broker, 0, 0, 1, Call::Enq(item(5)))?;
+    finish(&mut broker, 1, 0, 1, Call::Enq(item(5)))?;
     broker.to_image()
 }
 
@@ -34,7 +35,7 @@ fn two_queues(alloc: Global) -> Result<Vec<u8>, Refusal> {
 fn one_put(alloc: Global) -> Result<Vec<u8>, Refusal> {
     let mut broker = Broker::make(alloc, 1, 2)?;
     create(&mut broker, b"q", Kind::Log)?;
-    finish(&mut broker, 0, 0, 1, Call::Enq(5))?;
+    finish(&mut broker, 0, 0, 1, Call::Enq(item(5)))?;
     broker.to_image()
 }
 

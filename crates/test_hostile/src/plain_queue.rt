@@ -2,7 +2,7 @@
 //! tables, and each rule by itself.
 
 use std::alloc::Global;
-use words::{Kind, MAX_CALL_NUMBER, MAX_VALUE, Refusal, Reply, Rule};
+use words::{ITEM_BYTES, Kind, MAX_CALL_NUMBER, Refusal, Reply, Rule};
 
 /// A queue's words, and how many clients and records it has.
 #[derive(Clone, Copy)]
@@ -15,11 +15,11 @@ pub(crate) struct PlainQueue<'a> {
 
 /// How many words a queue's block has in a broker.
 pub(crate) fn block_size(clients: u64, records: u64) -> u64 {
-    let each = clients.saturating_mul(records).saturating_mul(8);
+    let each = clients.saturating_mul(records).saturating_mul(11);
     clients
         .saturating_mul(2)
         .saturating_add(each)
-        .saturating_add(6)
+        .saturating_add(9)
 }
 
 /// Where the words are.
@@ -55,8 +55,8 @@ impl PlainQueue<'_> {
 
     fn words_of_node(&self) -> u64 {
         match self.kind {
-            Kind::Durable => 3,
-            Kind::Log => 4,
+            Kind::Durable => 6,
+            Kind::Log => 7,
         }
     }
 
@@ -87,19 +87,26 @@ impl PlainQueue<'_> {
         self.at(self.nodes(), self.words_of_node(), number, word)
     }
 
-    fn value(&self, node: u64) -> u64 {
+    /// The length of a node's message.
+    fn length(&self, node: u64) -> u64 {
         self.node(node, 0)
     }
 
+    /// A byte of the three words behind it.
+    fn byte(&self, node: u64, place: u64) -> u8 {
+        let word = self.node(node, (place / 8).saturating_add(1));
+        word.to_le_bytes()[(place % 8) as usize]
+    }
+
     fn next(&self, node: u64) -> u64 {
-        self.node(node, 1)
+        self.node(node, 4)
     }
 
     /// The insert word of a node of a log queue.
     fn insert(&self, node: u64) -> u64 {
         match self.kind {
             Kind::Durable => 0,
-            Kind::Log => self.node(node, 2),
+            Kind::Log => self.node(node, 5),
         }
     }
 
@@ -182,8 +189,9 @@ impl PlainQueue<'_> {
 
     /// Whether the sentinel, and each node off the chain, is as it was at first.
     fn are_others_loose(&self, chain: &[u64]) -> bool {
-        let sentinel = self.value(0) == 0 && self.mark(0) == 0 && self.insert(0) == 0;
+        let sentinel = self.mark(0) == 0 && self.insert(0) == 0;
         sentinel
+            && (0..4u64).all(|part| self.node(0, part) == 0)
             && (1..=self.last()).all(|node| {
                 chain.contains(&node) || self.next(node) == 0 && self.mark(node) == 0
             })
@@ -202,9 +210,15 @@ impl PlainQueue<'_> {
         true
     }
 
+    /// Whether a node has at most 24 bytes, and zeros behind them.
+    fn has_item(&self, node: u64) -> bool {
+        let (length, most) = (self.length(node), ITEM_BYTES as u64);
+        length <= most && (length..most).all(|place| self.byte(node, place) == 0)
+    }
+
     fn are_claims_right(&self, chain: &[u64]) -> bool {
         let mut past = chain.iter().skip_while(|node| self.mark(**node) != 0);
-        (0..=self.last()).all(|node| self.value(node) <= u64::from(MAX_VALUE))
+        (0..=self.last()).all(|node| self.has_item(node))
             && past.all(|node| self.mark(*node) == 0)
             && self.are_marks_right(chain)
     }
@@ -234,7 +248,7 @@ impl PlainQueue<'_> {
         match (self.claimed_by(chain, cell), self.answer(cell, 0)) {
             (None, answer) => answer <= 1,
             (Some((place, _)), 0) => !self.is_passed(chain, place),
-            (Some((_, node)), answer) => answer.checked_sub(2) == Some(self.value(node)),
+            (Some((_, node)), answer) => answer.checked_sub(2) == Some(node),
         }
     }
 

@@ -5,7 +5,8 @@ use named::Broker;
 use persist::Memory;
 use test_growths::brokers::{Act, CLIENTS};
 use test_growths::{MOST_TRIES, made, play, say_again};
-use words::{Call, Kind, Refusal};
+use test_support::Wish;
+use words::{Kind, Refusal};
 
 /// Two queues, `a` in slot 0 and `b` in slot 1. Each has an interrupted call, so that starts, steps, crashes and
 /// recoveries all come to be the one that takes memory.
@@ -14,13 +15,13 @@ static STORY: [(u32, Act); 46] = [
     (12, Act::CreateStep),
     (1, Act::Create("b", Kind::Log)),
     (12, Act::CreateStep),
-    (1, Act::Start(0, 0, 0, Call::Enq(5))),
+    (1, Act::Start(0, 0, 0, Wish::Enq(5))),
     (1, Act::Alone(0, 0)),
-    (1, Act::Start(1, 0, 1, Call::Enq(7))),
+    (1, Act::Start(1, 0, 1, Wish::Enq(7))),
     (1, Act::Alone(1, 0)),
-    (1, Act::Start(0, 1, 0, Call::Deq)),
+    (1, Act::Start(0, 1, 0, Wish::Deq)),
     (4, Act::Step(0, 1)),
-    (1, Act::Start(1, 1, 1, Call::Deq)),
+    (1, Act::Start(1, 1, 1, Wish::Deq)),
     (30, Act::Step(1, 1)),
     (1, Act::Create("c", Kind::Log)),
     (11, Act::CreateStep),
@@ -36,16 +37,16 @@ static STORY: [(u32, Act); 46] = [
     (1, Act::Content(1)),
     (1, Act::Order(1)),
     (1, Act::Image),
-    (1, Act::Start(0, 0, 0, Call::Deq)),
+    (1, Act::Start(0, 0, 0, Wish::Deq)),
     (1, Act::Alone(0, 0)),
-    (1, Act::Start(1, 0, 2, Call::Enq(8))),
+    (1, Act::Start(1, 0, 2, Wish::Enq(8))),
     (1, Act::Alone(1, 0)),
-    (1, Act::Start(1, 0, 3, Call::Enq(9))),
+    (1, Act::Start(1, 0, 3, Wish::Enq(9))),
     (1, Act::Step(1, 0)),
     (1, Act::Alone(1, 0)),
     (1, Act::Rotate),
     (1, Act::Reserve(1, 9)),
-    (1, Act::Start(1, 1, 2, Call::Deq)),
+    (1, Act::Start(1, 1, 2, Wish::Deq)),
     (6, Act::Step(1, 1)),
     (1, Act::Evict(2)),
     (1, Act::Evict(111)),
@@ -54,16 +55,16 @@ static STORY: [(u32, Act); 46] = [
     (1, Act::Rotate),
     (1, Act::Crash),
     (80, Act::Recover),
-    (1, Act::Start(0, 1, 0, Call::Enq(6))),
+    (1, Act::Start(0, 1, 0, Wish::Enq(6))),
     (1, Act::Alone(0, 1)),
 ];
 
 /// What is done once a broker was booted.
 static BOOTED_STORY: [(u32, Act); 6] = [
     (100, Act::Recover),
-    (1, Act::Start(0, 1, 0, Call::Deq)),
+    (1, Act::Start(0, 1, 0, Wish::Deq)),
     (1, Act::Alone(0, 1)),
-    (1, Act::Start(1, 1, 5, Call::Deq)),
+    (1, Act::Start(1, 1, 5, Wish::Deq)),
     (1, Act::Alone(1, 1)),
     (1, Act::Content(1)),
 ];

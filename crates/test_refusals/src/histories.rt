@@ -5,67 +5,72 @@ ghost use Rattle.std.specs.Prelude.{◌<◌, OnOk};
 use anyhow::Result;
 use history::{Effect, Event, Events, History, Order, Sequence, check, order, replay};
 use test_growths::{MOST_TRIES, made, say_again};
+use test_support::item;
 use words::{Call, Client, Refusal, Reply, Told};
 
-const EVENTS: [Event; 7] = [
-    Event::Call {
-        client: Client(0),
-        number: 1,
-        call: Call::Enq(7),
-    },
-    Event::Call {
-        client: Client(1),
-        number: 1,
-        call: Call::Deq,
-    },
-    Event::Return {
-        client: Client(0),
-        reply: Reply::Done,
-    },
-    Event::Return {
-        client: Client(1),
-        reply: Reply::Got(7),
-    },
-    Event::Call {
-        client: Client(1),
-        number: 2,
-        call: Call::Deq,
-    },
-    Event::Call {
-        client: Client(0),
-        number: 2,
-        call: Call::Enq(8),
-    },
-    Event::Crash,
-];
+fn all_events() -> [Event; 7] {
+    [
+        Event::Call {
+            client: Client(0),
+            number: 1,
+            call: Call::Enq(item(7)),
+        },
+        Event::Call {
+            client: Client(1),
+            number: 1,
+            call: Call::Deq,
+        },
+        Event::Return {
+            client: Client(0),
+            reply: Reply::Done,
+        },
+        Event::Return {
+            client: Client(1),
+            reply: Reply::Got(item(7)),
+        },
+        Event::Call {
+            client: Client(1),
+            number: 2,
+            call: Call::Deq,
+        },
+        Event::Call {
+            client: Client(0),
+            number: 2,
+            call: Call::Enq(item(8)),
+        },
+        Event::Crash,
+    ]
+}
 
 /// The third one is pending, and in no order.
-static EFFECTS: [Effect; 4] = [
-    Effect {
-        place: 0,
-        reply: Reply::Done,
-        moment: 2,
-        settled: true,
-    },
-    Effect {
-        place: 1,
-        reply: Reply::Got(7),
-        moment: 3,
-        settled: true,
-    },
-    Effect {
-        place: 4,
-        reply: Reply::Empty,
-        moment: 5,
-        settled: false,
-    },
-    Effect {
-        place: 5,
-        reply: Reply::Done,
-        moment: 6,
-        settled: true,
-    },
-];
+fn all_effects() -> [Effect; 4] {
+    [
+        Effect {
+            place: 0,
+            reply: Reply::Done,
+            moment: 2,
+            settled: true,
+        },
+        Effect {
+            place: 1,
+            reply: Reply::Got(item(7)),
+            moment: 3,
+            settled: true,
+        },
+        Effect {
+            place: 4,
+            reply: Reply::Empty,
+            moment: 5,
+            settled: false,
+        },
+        Effect {
+            place: 5,
+            reply: Reply::Done,
+            moment: 6,
+            settled: true,
+        },
+    ]
+}
 
 /// Makes room for an event more.
 fn make_room<R: Print>(rt: &R, events: &mut Events) -> Result<()>
@@ -84,8 +89,7 @@ fn make_room<R: Print>(rt: &R, events: &mut Events) -> Result<()>
 /// The events one after another.
 fn filled<R: Print + AllocGlobal>(rt: &R) -> Result<Events> {
     let mut events = Events::new(rt.alloc());
-    let all = EVENTS;
-    for event in all {
+    for event in all_events() {
         make_room(rt, &mut events)?;
         events.push(event);
     }
@@ -107,7 +111,8 @@ pub(crate) fn tell<R: Print + AllocGlobal>(rt: &R) -> Result<()> {
         print!(rt; "{mark}{:?}", history.events.at(place))?;
     }
     println!(rt; "]")?;
-    let entries = made(rt, "events::order", || order(alloc, &EFFECTS))?;
+    let effects = all_effects();
+    let entries = made(rt, "events::order", || order(alloc, &effects))?;
     let order = Order {
         entries: Sequence::from_vec(entries),
     };

@@ -13,8 +13,8 @@ use words::Refusal;
 
 /// A script of either kind, as short as reports on each of their points allow.
 static SCRIPTS: [&str; 2] = [
-    "# One client.\nqueue durable 1 1\nenq 0 5\nstep 0 3\ncrash\nrecover 1\nrecover\norder\n",
-    "queue log 1 1\nenq 0 1 9\nstep 0 3\nevict 3\nstep 0 1\ncontent\nend 9\n",
+    "# One client.\nqueue durable 1 1\nenq 0 05000000\nstep 0 3\ncrash\nrecover 1\nrecover\norder\n",
+    "queue log 1 1\nenq 0 1 09000000\nstep 0 3\nevict 3\nstep 0 1\ncontent\nend 9\n",
 ];
 
 /// How far the points have come.

@@ -4,57 +4,58 @@ use anyhow::Result;
 use arena::{DurableLayout, Layout, LogLayout};
 use interleave::World;
 use persist::Memory;
-use test_growths::worlds::Act;
+use test_growths::worlds::{Act, Listed};
 use test_growths::{MOST_TRIES, made, play, say_again};
-use words::{Call, Client, Refusal};
+use test_support::Wish;
+use words::{Client, Refusal};
 
 static STORY: [(u32, Act); 42] = [
-    (1, Act::Start(0, 1, Call::Enq(7))),
+    (1, Act::Start(0, 1, Wish::Enq(7))),
     (1, Act::Alone(0)),
-    (1, Act::Start(0, 2, Call::Enq(8))),
+    (1, Act::Start(0, 2, Wish::Enq(8))),
     (9, Act::Step(0)),
-    (1, Act::Start(1, 1, Call::Deq)),
+    (1, Act::Start(1, 1, Wish::Deq)),
     (1, Act::Alone(1)),
     (1, Act::Evict(5)),
     (30, Act::Step(0)),
     (1, Act::Order),
     (1, Act::Content),
-    (1, Act::Start(1, 2, Call::Deq)),
+    (1, Act::Start(1, 2, Wish::Deq)),
     (12, Act::Step(1)),
     (1, Act::Crash),
-    (1, Act::Start(0, 3, Call::Deq)),
+    (1, Act::Start(0, 3, Wish::Deq)),
     (3, Act::Recover),
     (1, Act::Crash),
     (60, Act::Recover),
     (1, Act::Rotate),
     (
         1,
-        Act::Run(interleave::Act::Start {
+        Act::Run(Listed::Start {
             client: Client(0),
             number: 3,
-            call: Call::Enq(9),
+            call: Wish::Enq(9),
         }),
     ),
     (1, Act::Crash),
     (60, Act::Recover),
-    (1, Act::Start(0, 3, Call::Deq)),
+    (1, Act::Start(0, 3, Wish::Deq)),
     (40, Act::Step(0)),
-    (1, Act::Start(1, 2, Call::Enq(6))),
+    (1, Act::Start(1, 2, Wish::Enq(6))),
     (1, Act::Alone(1)),
-    (1, Act::Start(1, 3, Call::Enq(5))),
-    (1, Act::Run(interleave::Act::Step { client: Client(1) })),
-    (1, Act::Run(interleave::Act::Crash)),
+    (1, Act::Start(1, 3, Wish::Enq(5))),
+    (1, Act::Run(Listed::Step { client: Client(1) })),
+    (1, Act::Run(Listed::Crash)),
     (60, Act::Recover),
     (1, Act::Reserve(20)),
-    (1, Act::Start(1, 4, Call::Enq(5))),
+    (1, Act::Start(1, 4, Wish::Enq(5))),
     (1, Act::Alone(1)),
-    (1, Act::Start(0, 4, Call::Deq)),
+    (1, Act::Start(0, 4, Wish::Deq)),
     (1, Act::Alone(0)),
-    (1, Act::Start(0, 5, Call::Deq)),
+    (1, Act::Start(0, 5, Wish::Deq)),
     (1, Act::Alone(0)),
     (1, Act::Order),
     (1, Act::Content),
-    (1, Act::Start(1, 5, Call::Enq(3))),
+    (1, Act::Start(1, 5, Wish::Enq(3))),
     (1, Act::Alone(1)),
     (1, Act::Rotate),
     (1, Act::Content),
@@ -62,22 +63,22 @@ static STORY: [(u32, Act); 42] = [
 
 /// Crashes where the history's room is just used up, of which a list makes one.
 static CRASHES: [(u32, Act); 10] = [
-    (1, Act::Start(0, 1, Call::Enq(7))),
+    (1, Act::Start(0, 1, Wish::Enq(7))),
     (1, Act::Alone(0)),
-    (1, Act::Start(0, 2, Call::Enq(8))),
+    (1, Act::Start(0, 2, Wish::Enq(8))),
     (1, Act::Alone(0)),
     (1, Act::Crash),
     (60, Act::Recover),
-    (1, Act::Start(1, 1, Call::Deq)),
+    (1, Act::Start(1, 1, Wish::Deq)),
     (1, Act::Alone(1)),
-    (1, Act::Run(interleave::Act::Crash)),
+    (1, Act::Run(Listed::Crash)),
     (60, Act::Recover),
 ];
 
 /// What is done once a world was booted.
 static BOOTED_STORY: [(u32, Act); 4] = [
     (60, Act::Recover),
-    (1, Act::Start(0, 9, Call::Deq)),
+    (1, Act::Start(0, 9, Wish::Deq)),
     (1, Act::Alone(0)),
     (1, Act::Content),
 ];

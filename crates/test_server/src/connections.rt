@@ -23,7 +23,7 @@ fn beside_a_silent_one<R: Net + Abort>(rt: &R, alloc: Global, address: SocketAdd
     let silent = called(rt, alloc, address);
     let mut caller = called(rt, alloc, address);
     assert!(rt; caller.is_replied(CREATE, CREATED), "a creation");
-    let put = br#"{"op":"put","client":0,"queue":"a","number":1,"value":5}"#;
+    let put = br#"{"op":"put","client":0,"queue":"a","number":1,"value":"05000000"}"#;
     assert!(rt; caller.is_replied(put, DONE), "a put");
     assert!(rt; caller.is_replied(STOP, STOPPING), "a stop");
     drop(silent);
@@ -37,7 +37,7 @@ static LEFT: [(&str, &str); 2] = [
     ),
     (
         r#"{"op":"take","client":1,"queue":"a","number":1}"#,
-        r#"{"got":5,"reply":"got"}"#,
+        r#"{"got":"05000000","reply":"got"}"#,
     ),
 ];
 
@@ -74,7 +74,7 @@ fn beside_broken_ones<R: Net + Abort>(rt: &R, alloc: Global, address: SocketAddr
         }
         drop(unread);
         let put = format!(in alloc;
-            r#"{{"op":"put","client":1,"queue":"a","number":{number},"value":{number}}}"#
+            r#"{{"op":"put","client":1,"queue":"a","number":{number},"value":"{number:02x}"}}"#
         ).expect(rt, "memory");
         assert!(rt; caller.is_replied(put.as_bytes(), DONE), "number {number}");
     }
@@ -93,11 +93,11 @@ static UNBROKEN: [(&str, &str); 4] = [
     ),
     (
         r#"{"op":"take","client":0,"queue":"a","number":1}"#,
-        r#"{"got":1,"reply":"got"}"#,
+        r#"{"got":"01000000","reply":"got"}"#,
     ),
     (
         r#"{"op":"take","client":0,"queue":"a","number":2}"#,
-        r#"{"got":2,"reply":"got"}"#,
+        r#"{"got":"02000000","reply":"got"}"#,
     ),
 ];
 
@@ -127,7 +127,7 @@ fn open_at_the_stop<R: Net + Abort>(rt: &R, alloc: Global, address: SocketAddr) 
         stopping.reply().is_some_and(|rest| rest.is_empty()),
         "more than a stop"
     );
-    let put = br#"{"op":"put","client":0,"queue":"a","number":1,"value":5}"#;
+    let put = br#"{"op":"put","client":0,"queue":"a","number":1,"value":"05000000"}"#;
     assert!(rt; other.is_replied(put, DONE), "a put after the stop");
 }
 

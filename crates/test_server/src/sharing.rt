@@ -17,6 +17,7 @@ use std::sync::atomic::{AtomicU64, Ordering};
 use std::test::*;
 use std::thread::{Threads, map_indices};
 use std::time::Clock;
+use test_support::item;
 use wire::{Answer, Request};
 use words::{Kind, Refusal, Reply};
 use workers::{Naming, Opened, Shared};
@@ -69,7 +70,7 @@ fn put_all<J: Naming, R: Wait + Clock>(
         let put = Request::Put {
             client: 0,
             queue: Name::make(b"a").ok(),
-            value,
+            value: item(value),
             number: None,
         };
         match desk.answer(rt, put) {

@@ -9,20 +9,20 @@ pub(crate) static STORY: [Row; 15] = [
         r#"{"reply":"created","slot":0}"#,
     ),
     (
-        r#"{"op":"put","client":0,"queue":"a","number":1,"value":4294967295}"#,
+        r#"{"op":"put","client":0,"queue":"a","number":1,"value":"ffffffff"}"#,
         r#"{"reply":"done"}"#,
     ),
     (
-        r#"{"op":"put","client":0,"queue":"a","number":1,"value":4294967295}"#,
+        r#"{"op":"put","client":0,"queue":"a","number":1,"value":"ffffffff"}"#,
         r#"{"reply":"done"}"#,
     ),
     (
         r#"{"op":"take","client":1,"queue":"a","number":1}"#,
-        r#"{"got":4294967295,"reply":"got"}"#,
+        r#"{"got":"ffffffff","reply":"got"}"#,
     ),
     (
         r#"{"op":"take","client":1,"queue":"a","number":1}"#,
-        r#"{"got":4294967295,"reply":"got"}"#,
+        r#"{"got":"ffffffff","reply":"got"}"#,
     ),
     (
         r#"{"op":"take","client":1,"queue":"a","number":3}"#,
@@ -36,7 +36,7 @@ pub(crate) static STORY: [Row; 15] = [
     (r#"{"op":"recover"}"#, r#"{"reply":"ready"}"#),
     (
         r#"{"op":"told","client":1,"queue":"a"}"#,
-        r#"{"got":4294967295,"number":1,"reply":"got","told":"taken"}"#,
+        r#"{"got":"ffffffff","number":1,"reply":"got","told":"taken"}"#,
     ),
     (
         r#"{"op":"take","client":1,"queue":"a"}"#,

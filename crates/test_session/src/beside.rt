@@ -6,6 +6,7 @@ use session::Session;
 use std::alloc::Global;
 use std::test::Fail;
 use test_support::brokers::{not_taken, taken};
+use test_support::item;
 use test_support::sessions::{A, B, create, with_queue};
 use test_support::steps::LOG_DEQUEUE_ANNOUNCED;
 use words::{Call, Client, Kind, Refusal, Reply};
@@ -13,15 +14,15 @@ use words::{Call, Client, Kind, Refusal, Reply};
 /// Whether both clients are cut off by a crash, after as many steps each, and both are done once.
 fn are_both_done(alloc: Global, first: u32, second: u32) -> Result<bool, Refusal> {
     let mut session = with_queue(alloc, Kind::Log, 2, 4)?;
-    ask(&mut session, 0, 1, Call::Enq(5))?;
-    ask(&mut session, 1, 1, Call::Enq(6))?;
+    ask(&mut session, 0, 1, Call::Enq(item(5)))?;
+    ask(&mut session, 1, 1, Call::Enq(item(6)))?;
     begin(&mut session, 0, 2, Call::Deq, first)?;
     begin(&mut session, 1, 2, Call::Deq, second)?;
     restart(&mut session)?;
     let one = ask(&mut session, 0, 2, Call::Deq)?;
     let other = ask(&mut session, 1, 2, Call::Deq)?;
-    let fives = one == Reply::Got(5) && other == Reply::Got(6);
-    let mut right = fives || one == Reply::Got(6) && other == Reply::Got(5);
+    let (five, six) = (Reply::Got(item(5)), Reply::Got(item(6)));
+    let mut right = one == five && other == six || one == six && other == five;
     right &= comes_to(&mut session, 0, 2, Call::Deq, Ok(Some(one)))?;
     right &= comes_to(&mut session, 1, 2, Call::Deq, Ok(Some(other)))?;
     right &= effects(&session, A)? == 4 && holds(&session, A, &[])?;
@@ -50,9 +51,9 @@ fn plain(session: &mut Session, client: u8, call: Call) -> Result<Reply, Refusal
 fn go_on_beside(alloc: Global) -> Result<bool, Refusal> {
     let mut session = with_queue(alloc, Kind::Log, 2, 8)?;
     create(&mut session, b"d", Kind::Durable)?;
-    let mut right = plain(&mut session, 0, Call::Enq(1))? == Reply::Done;
-    right &= ask(&mut session, 0, 1, Call::Enq(2))? == Reply::Done;
-    right &= plain(&mut session, 0, Call::Enq(1))? == Reply::Done;
+    let mut right = plain(&mut session, 0, Call::Enq(item(1)))? == Reply::Done;
+    right &= ask(&mut session, 0, 1, Call::Enq(item(2)))? == Reply::Done;
+    right &= plain(&mut session, 0, Call::Enq(item(1)))? == Reply::Done;
     right &= session.begin(Client(0), B, None, Call::Deq)?.is_none();
     right &= begin(&mut session, 0, 2, Call::Deq, LOG_DEQUEUE_ANNOUNCED)?.is_none();
     right &= session.advance(Client(0), B)?.is_none();
@@ -60,13 +61,13 @@ fn go_on_beside(alloc: Global) -> Result<bool, Refusal> {
         && last(&session, 0) == Some(taken(1, Reply::Done));
     restart(&mut session)?;
     right &= session.last(Client(0), B).is_none() && last(&session, 0) == Some(not_taken(2));
-    right &= plain(&mut session, 0, Call::Deq)? == Reply::Got(1);
-    right &= plain(&mut session, 1, Call::Deq)? == Reply::Got(1);
-    right &= ask(&mut session, 0, 2, Call::Deq)? == Reply::Got(2);
+    right &= plain(&mut session, 0, Call::Deq)? == Reply::Got(item(1));
+    right &= plain(&mut session, 1, Call::Deq)? == Reply::Got(item(1));
+    right &= ask(&mut session, 0, 2, Call::Deq)? == Reply::Got(item(2));
     right &= plain(&mut session, 0, Call::Deq)? == Reply::Empty;
     restart(&mut session)?;
     right &= session.last(Client(0), B).is_none() && session.last(Client(1), B).is_none();
-    right &= comes_to(&mut session, 0, 2, Call::Deq, Ok(Some(Reply::Got(2))))?;
+    right &= comes_to(&mut session, 0, 2, Call::Deq, Ok(Some(Reply::Got(item(2)))))?;
     Ok(right && holds(&session, B, &[])? && are_explained(alloc, &session)?)
 }
 

@@ -26,6 +26,18 @@ struct Drawn {
     right: bool,
 }
 
+/// The reply to this number, where the verdict says that it was taken.
+fn reply_to(last: Option<Verdict>, number: u64) -> Option<Reply> {
+    let verdict = last?;
+    if verdict.number != number {
+        return None;
+    }
+    match verdict.outcome {
+        Outcome::Taken(reply) => Some(reply),
+        Outcome::NotTaken => None,
+    }
+}
+
 /// What a number comes to by the plain account, once it is known that nothing else is refused. Of a number that was not
 /// answered the account knows nothing: what recovery told says whether it is to run.
 fn wanted(
@@ -47,26 +59,18 @@ fn wanted(
     }
     // The next number runs, or was taken before a crash.
     if number == answered.saturating_add(1) {
-        return match last {
-            Some(
-                Verdict {
-                    number: kept,
-                    outcome: Outcome::Taken(reply),
-                },
-            ) if kept == number => Ok(Some(reply)),
-            _ => Ok(None),
-        };
+        return Ok(reply_to(last, number));
     }
     Err(Refusal::Gap)
 }
 
 /// Whether an answer is what was wanted; a run may also be refused for want of records.
 fn is_wanted(
-    wanted: Result<Option<Reply>, Refusal>,
-    answer: Result<Option<Reply>, Refusal>,
+    wanted: &Result<Option<Reply>, Refusal>,
+    answer: &Result<Option<Reply>, Refusal>,
 ) -> bool {
     match wanted {
-        Ok(Some(_)) | Err(_) => answer == wanted,
+        Ok(Some(_)) | Err(_) => *answer == *wanted,
         Ok(None) => matches!(answer, Ok(_) | Err(Refusal::NoRoom)),
     }
 }
@@ -110,10 +114,10 @@ impl Drawn {
             self.session.begin(Client(client), A, Some(number), call)
         };
         self.requests = self.requests.saturating_add(1);
-        self.right &= is_wanted(wanted, answer);
+        self.right &= is_wanted(&wanted, &answer);
         let ran = events(&self.session, A)? != before;
         self.right &= !ran || wanted == Ok(None);
-        if let (Ok(Some(_)), Ok(_)) = (wanted, answer) {
+        if let (Ok(Some(_)), Ok(_)) = (&wanted, &answer) {
             self.repeats = self.repeats.saturating_add(1);
         }
         self.note(client, number, answer)

@@ -3,6 +3,7 @@
 use history::{Event, Events};
 use session::Session;
 use std::alloc::Global;
+use test_support::item;
 use test_support::sessions::A;
 use words::{Call, Refusal, Reply, Value};
 
@@ -13,7 +14,7 @@ pub(crate) const CLIENTS: u8 = 2;
 pub(crate) fn call_of(client: u8, number: u64) -> Call {
     let number = (number % 1_000_000) as u32;
     if (5 * number + 3 * u32::from(client)) % 7 < 4 {
-        Call::Enq(1_000_000 * u32::from(client) + number)
+        Call::Enq(item(1_000_000 * u32::from(client) + number))
     } else {
         Call::Deq
     }
@@ -174,7 +175,10 @@ impl Plain {
         };
         *last = last.saturating_add(1);
         let first = self.first(client, number);
-        let given = first.is_none() || first == Some(reply);
+        let given = match first {
+            Some(first) => first == reply,
+            None => true,
+        };
         let next = *last == number && call == call_of(client, number);
         Ok(given && next && left.serve(call)? == reply)
     }

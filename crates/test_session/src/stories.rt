@@ -1,11 +1,12 @@
 //! Numbers of one client in a log queue `a`, which tests cut off and send again.
 
-use crate::acts::{are_explained, are_once, ask, begin, comes_to, holds, is_as_told, last};
+use crate::acts::{are_explained, are_once, ask, begin, comes_to, is_as_told, last};
 use session::Session;
 use std::alloc::Global;
 use test_support::brokers::{MOST_STEPS, taken};
 use test_support::sessions::{A, with_queue};
-use words::{Call, Client, Kind, Refusal, Reply, Value};
+use test_support::{Said, Wish, are_items};
+use words::{Client, Kind, Refusal};
 
 /// How many records the client has: one for the call before, one for a call that is cut off, and one for it again.
 pub(crate) const RECORDS: u32 = 3;
@@ -13,41 +14,41 @@ pub(crate) const RECORDS: u32 = 3;
 /// A client's call, whether another one was answered before, the reply that it has to get, and what is left then.
 #[derive(Clone, Copy, Debug)]
 pub(crate) struct Story {
-    pub(crate) before: Option<Call>,
-    pub(crate) call: Call,
-    pub(crate) reply: Reply,
-    pub(crate) left: &'static [Value],
+    pub(crate) before: Option<Wish>,
+    pub(crate) wish: Wish,
+    pub(crate) said: Said,
+    pub(crate) left: &'static [u32],
 }
 
 /// It takes 9 out, which was put in before.
 pub(crate) const GETS: Story = Story {
-    before: Some(Call::Enq(9)),
-    call: Call::Deq,
-    reply: Reply::Got(9),
+    before: Some(Wish::Enq(9)),
+    wish: Wish::Deq,
+    said: Said::Got(9),
     left: &[],
 };
 
 /// It puts 9 in, and is the first one.
 pub(crate) const PUTS_FIRST: Story = Story {
     before: None,
-    call: Call::Enq(9),
-    reply: Reply::Done,
+    wish: Wish::Enq(9),
+    said: Said::Done,
     left: &[9],
 };
 
 /// It puts 5 in, behind 9.
 pub(crate) const PUTS: Story = Story {
-    before: Some(Call::Enq(9)),
-    call: Call::Enq(5),
-    reply: Reply::Done,
+    before: Some(Wish::Enq(9)),
+    wish: Wish::Enq(5),
+    said: Said::Done,
     left: &[9, 5],
 };
 
 /// It finds nothing, as the one before did.
 pub(crate) const FINDS_NONE: Story = Story {
-    before: Some(Call::Deq),
-    call: Call::Deq,
-    reply: Reply::Empty,
+    before: Some(Wish::Deq),
+    wish: Wish::Deq,
+    said: Said::Empty,
     left: &[],
 };
 
@@ -60,8 +61,8 @@ impl Story {
     /// A session in which the call before was answered.
     fn begun(self, alloc: Global) -> Result<Session, Refusal> {
         let mut session = with_queue(alloc, Kind::Log, 1, RECORDS)?;
-        if let Some(call) = self.before {
-            ask(&mut session, 0, 1, call)?;
+        if let Some(wish) = self.before {
+            ask(&mut session, 0, 1, wish.call())?;
         }
         Ok(session)
     }
@@ -69,7 +70,7 @@ impl Story {
     /// A session in which the call then went on by so many steps, or to its answer.
     pub(crate) fn under_way(self, alloc: Global, steps: u32) -> Result<Session, Refusal> {
         let mut session = self.begun(alloc)?;
-        begin(&mut session, 0, self.number(), self.call, steps)?;
+        begin(&mut session, 0, self.number(), self.wish.call(), steps)?;
         Ok(session)
     }
 
@@ -87,18 +88,20 @@ impl Story {
     /// Whether the number, sent again, has its reply, and again, is what is kept, and took effect once; and the number
     /// before is Old.
     pub(crate) fn is_done(self, alloc: Global, session: &mut Session) -> Result<bool, Refusal> {
-        let (number, call, reply) = (self.number(), self.call, self.reply);
-        let mut right = is_as_told(session, 0)? && ask(session, 0, number, call)? == reply;
-        right &= last(session, 0) == Some(taken(number, reply));
-        right &= comes_to(session, 0, number, call, Ok(Some(reply)))?;
+        let (number, wish, said) = (self.number(), self.wish, self.said);
+        let mut right = is_as_told(session, 0)?;
+        right &= ask(session, 0, number, wish.call())? == said.reply();
+        right &= last(session, 0) == Some(taken(number, said.reply()));
+        right &= comes_to(session, 0, number, wish.call(), Ok(Some(said.reply())))?;
         right &= comes_to(
             session,
             0,
             number.saturating_sub(1),
-            call,
+            wish.call(),
             Err(Refusal::Old),
         )?;
-        right &= holds(session, A, self.left)? && are_once(session, A)?;
+        right &= are_items(session.broker().content(A)?.as_slice(), self.left);
+        right &= are_once(session, A)?;
         Ok(right && are_explained(alloc, session)?)
     }
 }

@@ -31,7 +31,7 @@ enum Asks {
 }
 
 /// A request that finishes the client's open call and is refused itself, since the queue is of the other kind.
-static FINISHING: &str = r#"{"op":"put","client":0,"queue":"b","number":1,"value":1}"#;
+static FINISHING: &str = r#"{"op":"put","client":0,"queue":"b","number":1,"value":"01000000"}"#;
 
 static WRONG_KIND: &[u8] = b"{\"error\":22,\"name\":\"WrongKind\"}\n";
 
@@ -44,11 +44,11 @@ static LINES: [(Asks, &str); 24] = [
     (Asks::Numbered, r#"{"op":"list"}"#),
     (
         Asks::Numbered,
-        r#"{"op":"put","client":0,"queue":"a","number":4,"value":1}"#,
+        r#"{"op":"put","client":0,"queue":"a","number":4,"value":"01000000"}"#,
     ),
     (
         Asks::Numbered,
-        r#"{"op":"put","client":0,"queue":"a","number":5,"value":2}"#,
+        r#"{"op":"put","client":0,"queue":"a","number":5,"value":"02000000"}"#,
     ),
     (
         Asks::Numbered,
@@ -64,23 +64,23 @@ static LINES: [(Asks, &str); 24] = [
     ),
     (
         Asks::Put,
-        r#"{"op":"put","client":0,"queue":"b","value":3}"#,
+        r#"{"op":"put","client":0,"queue":"b","value":"03000000"}"#,
     ),
     (
         Asks::Put,
-        r#"{"op":"put","client":0,"queue":"b","value":4}"#,
+        r#"{"op":"put","client":0,"queue":"b","value":"04000000"}"#,
     ),
     (Asks::Take, r#"{"op":"take","client":0,"queue":"b"}"#),
     (Asks::Numbered, r#"{"op":"crash"}"#),
     (
         Asks::Numbered,
-        r#"{"op":"put","client":0,"queue":"a","number":6,"value":1}"#,
+        r#"{"op":"put","client":0,"queue":"a","number":6,"value":"01000000"}"#,
     ),
     (Asks::Numbered, r#"{"op":"recover"}"#),
     (Asks::Numbered, r#"{"op":"told","client":0,"queue":"b"}"#),
     (
         Asks::Put,
-        r#"{"op":"put","client":0,"queue":"b","value":5}"#,
+        r#"{"op":"put","client":0,"queue":"b","value":"05000000"}"#,
     ),
     (Asks::Take, r#"{"op":"take","client":0,"queue":"b"}"#),
     (Asks::Numbered, r#"{"op":"crash"}"#),
@@ -92,7 +92,7 @@ static LINES: [(Asks, &str); 24] = [
     ),
     (
         Asks::Numbered,
-        r#"{"op":"put","client":1,"queue":"c","number":1,"value":1}"#,
+        r#"{"op":"put","client":1,"queue":"c","number":1,"value":"01000000"}"#,
     ),
     (
         Asks::Numbered,

@@ -17,22 +17,22 @@ use words::Refusal;
 /// What each pipe reads. The next one begins on the image that the one before left.
 static INPUTS: [&str; 4] = [
     r#"{"op":"create","queue":"a","kind":"log"}
-{"op":"put","client":0,"queue":"a","number":1,"value":7}
-{"op":"put","client":1,"queue":"a","number":1,"value":8}
+{"op":"put","client":0,"queue":"a","number":1,"value":"07000000"}
+{"op":"put","client":1,"queue":"a","number":1,"value":"08000000"}
 {"op":"create","queue":"b","kind":"durable"}
-{"op":"put","client":0,"queue":"b","value":5}
+{"op":"put","client":0,"queue":"b","value":"05000000"}
 "#,
     r#"{"op":"told","client":1,"queue":"a"}
-{"op":"put","client":1,"queue":"a","number":1,"value":8}
+{"op":"put","client":1,"queue":"a","number":1,"value":"08000000"}
 {"op":"take","client":0,"queue":"a","number":2}
-{"op":"put","client":0,"queue":"a","number":3,"value":9}
+{"op":"put","client":0,"queue":"a","number":3,"value":"09000000"}
 {"op":"crash"}
 {"op":"recover"}
 {"op":"list"}
 "#,
     r#"no line of JSON
 {"op":"take","client":1,"queue":"b"}
-{"op":"put","client":1,"queue":"b","value":6}
+{"op":"put","client":1,"queue":"b","value":"06000000"}
 {"op":"crash"}
 {"op":"list"}
 "#,
@@ -44,7 +44,7 @@ static INPUTS: [&str; 4] = [
 /// Lines that are read alone.
 static LINES: [&str; 8] = [
     r#"{"op":"create","queue":"a","kind":"log"}"#,
-    r#"{"op":"put","client":0,"queue":"a","number":1,"value":7}"#,
+    r#"{"op":"put","client":0,"queue":"a","number":1,"value":"07000000"}"#,
     r#"{"op":"take","client":0,"queue":"b"}"#,
     r#"{"op":"told","client":0,"queue":"no name"}"#,
     r#"{"op":"recover"}"#,

@@ -9,7 +9,8 @@ use session::Session;
 use test_growths::brokers::CLIENTS;
 use test_growths::sessions::Act;
 use test_growths::{MOST_TRIES, play, say_again};
-use words::{Call, Kind, Refusal};
+use test_support::Wish;
+use words::{Kind, Refusal};
 
 /// A durable queue in slot 0, and a log queue in slot 1.
 static STORY: [(u32, Act); 35] = [
@@ -17,37 +18,37 @@ static STORY: [(u32, Act); 35] = [
     (12, Act::CreateStep),
     (1, Act::Create("b", Kind::Log)),
     (12, Act::CreateStep),
-    (1, Act::Plain(0, 0, Call::Enq(5))),
-    (1, Act::Plain(1, 0, Call::Enq(6))),
-    (1, Act::Request(0, 1, 1, Call::Enq(7))),
-    (1, Act::Request(0, 1, 1, Call::Enq(7))),
-    (1, Act::Request(1, 1, 1, Call::Deq)),
-    (1, Act::Request(1, 1, 3, Call::Deq)),
-    (1, Act::Begin(0, 0, None, Call::Deq)),
+    (1, Act::Plain(0, 0, Wish::Enq(5))),
+    (1, Act::Plain(1, 0, Wish::Enq(6))),
+    (1, Act::Request(0, 1, 1, Wish::Enq(7))),
+    (1, Act::Request(0, 1, 1, Wish::Enq(7))),
+    (1, Act::Request(1, 1, 1, Wish::Deq)),
+    (1, Act::Request(1, 1, 3, Wish::Deq)),
+    (1, Act::Begin(0, 0, None, Wish::Deq)),
     (4, Act::Advance(0, 0)),
-    (1, Act::Begin(0, 1, Some(2), Call::Enq(8))),
+    (1, Act::Begin(0, 1, Some(2), Wish::Enq(8))),
     (9, Act::Advance(0, 1)),
-    (1, Act::Plain(1, 0, Call::Deq)),
+    (1, Act::Plain(1, 0, Wish::Deq)),
     (1, Act::Rotate),
     (1, Act::Crash),
     (20, Act::Recover),
     (1, Act::Crash),
     (80, Act::Recover),
-    (1, Act::Request(0, 1, 2, Call::Enq(8))),
-    (1, Act::Begin(1, 1, Some(2), Call::Deq)),
+    (1, Act::Request(0, 1, 2, Wish::Enq(8))),
+    (1, Act::Begin(1, 1, Some(2), Wish::Deq)),
     (40, Act::Advance(1, 1)),
-    (1, Act::Begin(1, 1, Some(2), Call::Deq)),
-    (1, Act::Begin(0, 0, None, Call::Deq)),
+    (1, Act::Begin(1, 1, Some(2), Wish::Deq)),
+    (1, Act::Begin(0, 0, None, Wish::Deq)),
     (1, Act::Advance(0, 0)),
     (40, Act::Advance(0, 0)),
     (1, Act::Rotate),
-    (1, Act::Begin(0, 0, None, Call::Enq(4))),
+    (1, Act::Begin(0, 0, None, Wish::Enq(4))),
     (1, Act::Evict(40)),
     (1, Act::Crash),
     (80, Act::Recover),
-    (1, Act::Plain(0, 0, Call::Deq)),
+    (1, Act::Plain(0, 0, Wish::Deq)),
     (1, Act::Reserve(1, 9)),
-    (1, Act::Request(0, 1, 3, Call::Deq)),
+    (1, Act::Request(0, 1, 3, Wish::Deq)),
 ];
 
 /// A step and a crash where a history's room is just used up.
@@ -56,12 +57,12 @@ static CRASH: [(u32, Act); 12] = [
     (12, Act::CreateStep),
     (1, Act::Create("b", Kind::Log)),
     (12, Act::CreateStep),
-    (1, Act::Request(0, 1, 1, Call::Enq(7))),
-    (1, Act::Begin(0, 1, Some(2), Call::Enq(8))),
-    (1, Act::Begin(1, 1, Some(1), Call::Deq)),
+    (1, Act::Request(0, 1, 1, Wish::Enq(7))),
+    (1, Act::Begin(0, 1, Some(2), Wish::Enq(8))),
+    (1, Act::Begin(1, 1, Some(1), Wish::Deq)),
     (4, Act::Advance(1, 1)),
-    (1, Act::Plain(0, 0, Call::Enq(5))),
-    (1, Act::Plain(1, 0, Call::Deq)),
+    (1, Act::Plain(0, 0, Wish::Enq(5))),
+    (1, Act::Plain(1, 0, Wish::Deq)),
     (1, Act::Crash),
     (80, Act::Recover),
 ];

@@ -13,6 +13,7 @@ use std::marker::Brand;
 use std::sync::Wait;
 use test_growths::sessions::Act;
 use test_growths::{MOST_TRIES, play, say_again, seen};
+use test_support::item;
 use words::{Call, Client, Kind, Refusal};
 use workers::{Gate, Naming, OpenGate, Opened, Seat, Shared};
 
@@ -127,16 +128,16 @@ fn first_calls<J: Naming, R: Wait + Print + AllocGlobal>(
     requires clients { J.clients ≡ 1 }
     ensures { IfOk result (λ next. next.client ≡ seat.client) }
 {
-    let seat = call(rt, shared, seat, numbered(1, Call::Enq(7)), &OpenGate)?;
-    let seat = call(rt, shared, seat, numbered(2, Call::Enq(8)), &OpenGate)?;
-    let seat = call(rt, shared, seat, plain(Call::Enq(5)), &OpenGate)?;
+    let seat = call(rt, shared, seat, numbered(1, Call::Enq(item(7))), &OpenGate)?;
+    let seat = call(rt, shared, seat, numbered(2, Call::Enq(item(8))), &OpenGate)?;
+    let seat = call(rt, shared, seat, plain(Call::Enq(item(5))), &OpenGate)?;
     crash(rt, shared)?;
     recover(rt, shared)?;
     let gate = Stopping { shared, steps: 20 };
     let seat = call(rt, shared, seat, numbered(3, Call::Deq), &gate)?;
     recover(rt, shared)?;
     let seat = call(rt, shared, seat, numbered(3, Call::Deq), &OpenGate)?;
-    let seat = call(rt, shared, seat, numbered(4, Call::Enq(9)), &OpenGate)?;
+    let seat = call(rt, shared, seat, numbered(4, Call::Enq(item(9))), &OpenGate)?;
     let gate = Stopping { shared, steps: 7 };
     let seat = call(rt, shared, seat, plain(Call::Deq), &gate)?;
     recover(rt, shared)?;

@@ -9,12 +9,14 @@ ghost use Rattle.test_support.specs.Calls.{caller_of};
 
 pub mod brokers;
 mod draws;
+mod items;
 pub mod sessions;
 pub mod steps;
 
 use arena::{SLOTS, SlotId};
 pub use draws::{below, index_below};
 use history::{Event, Events, check_content};
+pub use items::{Said, Wish, are_items, item, number_of};
 use named::Broker;
 use std::alloc::{AllocError, Global};
 use words::Refusal;

@@ -16,6 +16,7 @@ use std::test::*;
 use std::thread::Threads;
 use std::time::Clock;
 use test_support::brokers::{not_taken, taken};
+use test_support::item;
 use test_support::sessions::{A, with_queue};
 use test_support::steps::{LOG_ENQUEUE_ANNOUNCED, LOG_LINK_KEPT};
 use words::{Call, Client, Kind, Refusal, Reply, Told, Value};
@@ -137,23 +138,25 @@ fn number_cut_off<R: Threads + Wait + Clock + Abort + Sync>(
     alloc: Global,
     steps: u32,
 ) -> Result<(), Fail> {
-    let (ask, is_taken) = (Ask::numbered(1, Call::Enq(9)), steps >= LOG_LINK_KEPT);
+    let ask = || Ask::numbered(1, Call::Enq(item(9)));
+    let is_taken = steps >= LOG_LINK_KEPT;
     let cut_off = CutOff {
-        ask,
+        ask: ask(),
         steps: u64::from(steps),
         told: wanted(steps),
     };
     let session = with_queue(alloc, Kind::Log, 1, 2)?;
     let session = cut_off_in(rt, alloc, session, cut_off)?;
-    let values: &[Value] = if is_taken { &[9] } else { &[] };
+    let nine = [item(9)];
+    let values: &[Value] = if is_taken { &nine } else { &[] };
     assert!(rt; holds(&session, values)?, "after {steps} steps");
     let next = Next {
-        ask,
+        ask: ask(),
         reply: Reply::Done,
         runs: !is_taken,
     };
     let session = gone_on(rt, alloc, session, next)?;
-    assert!(rt; holds(&session, &[9])?, "after {steps} steps");
+    assert!(rt; holds(&session, &nine)?, "after {steps} steps");
     Ok(())
 }
 

@@ -21,9 +21,9 @@ use std::sync::atomic::{AtomicU64, Ordering};
 use std::test::*;
 use std::thread::{Threads, join, map_vec};
 use std::time::Clock;
-use test_support::below;
 use test_support::sessions::{create, new_session};
-use words::{Call, Kind, MAX_CLIENTS, Refusal, Value};
+use test_support::{below, item};
+use words::{Call, Kind, MAX_CLIENTS, Refusal};
 use workers::{Answer, End, Entry, Naming, Opened, Seat, Shared};
 
 /// How many calls each client makes.
@@ -56,10 +56,10 @@ fn with_all_queues(alloc: Global) -> Result<Session, Refusal> {
 }
 
 /// A drawn call in a drawn queue, with the client's next number in a log queue: it puts this value, or takes one.
-fn drawn(rng: &mut Pcg32, numbers: &mut [u64; LOGS], value: Value) -> Ask {
+fn drawn(rng: &mut Pcg32, numbers: &mut [u64; LOGS], value: u32) -> Ask {
     let slot = below(rng, SLOTS as u32) as usize;
     let call = match below(rng, 2) {
-        0 => Call::Enq(value),
+        0 => Call::Enq(item(value)),
         _ => Call::Deq,
     };
     let number = match numbers.get_mut(slot) {
@@ -102,13 +102,13 @@ fn sent_until_answered<J: Naming, R: Wait + Clock>(
     rt: &R,
     shared: &Shared<J>,
     seat: Seat<J>,
-    ask: Ask,
+    ask: &Ask,
 ) -> (Seat<J>, bool)
     ensures { result.0.client ≡ seat.client }
 {
     let mut seat = seat;
     for _ in 0..TURNS {
-        let (after, answer) = asked(rt, shared, seat, ask);
+        let (after, answer) = asked(rt, shared, seat, *ask);
         seat = after;
         match answer {
             Answer::Reply(_) => return (seat, true),
@@ -129,7 +129,7 @@ fn sent<J: Naming, R: Wait + Clock>(
     ensures { result.0.client ≡ seat.client }
 {
     match ask.number {
-        Some(_) => sent_until_answered(rt, shared, seat, ask),
+        Some(_) => sent_until_answered(rt, shared, seat, &ask),
         None => sent_once(rt, shared, seat, ask),
     }
 }

@@ -17,37 +17,43 @@ use std::thread::Threads;
 use std::time::Clock;
 use test_support::sessions::{A, with_queue};
 use test_support::steps::{DURABLE_CLAIMED, DURABLE_LINKED};
-use words::{Call, Client, Kind, Reply, Value};
+use test_support::{Said, Wish, are_items, item};
+use words::{Call, Client, Kind};
 use workers::{Answer, Naming, Opened};
 
 /// In a durable queue that holds some values client 0's call stands still after so many steps until client 1's of the
 /// same kind is answered. Which replies both get, and what the queue holds then.
 #[derive(Clone, Copy)]
 struct Story {
-    values: &'static [Value],
-    calls: (Call, Call),
+    values: &'static [u32],
+    calls: (Wish, Wish),
     steps: u32,
-    replies: (Reply, Reply),
-    left: &'static [Value],
+    replies: (Said, Said),
+    left: &'static [u32],
 }
 
 /// The other helps the enqueue that is linked, and passes by the dequeue that has claimed its node.
 static STORIES: [Story; 2] = [
     Story {
         values: &[],
-        calls: (Call::Enq(5), Call::Enq(7)),
+        calls: (Wish::Enq(5), Wish::Enq(7)),
         steps: DURABLE_LINKED,
-        replies: (Reply::Done, Reply::Done),
+        replies: (Said::Done, Said::Done),
         left: &[5, 7],
     },
     Story {
         values: &[7, 8],
-        calls: (Call::Deq, Call::Deq),
+        calls: (Wish::Deq, Wish::Deq),
         steps: DURABLE_CLAIMED,
-        replies: (Reply::Got(7), Reply::Got(8)),
+        replies: (Said::Got(7), Said::Got(8)),
         left: &[],
     },
 ];
+
+/// It without a number.
+fn asked_for(wish: Wish) -> Ask {
+    Ask::plain(wish.call())
+}
 
 fn held<J: Naming + Send + Sync, R: Threads + Wait + Clock + Abort + Sync>(
     rt: &R,
@@ -60,18 +66,27 @@ fn held<J: Naming + Send + Sync, R: Threads + Wait + Clock + Abort + Sync>(
 {
     let (shared, seats) = begun::<J>(alloc, opened)?;
     let (zero, one) = taken_apart(seats).ok_or("two seats")?;
-    let (ask, other) = (Ask::plain(story.calls.0), Ask::plain(story.calls.1));
-    let steps = u64::from(story.steps);
-    let hold = Hold { ask, steps };
-    let ((zero, first), (one, second), in_time) = held_beside(rt, &shared, zero, hold, one, other);
+    let (wish, other) = story.calls;
+    let hold = Hold {
+        ask: asked_for(wish),
+        steps: u64::from(story.steps),
+    };
+    let ((zero, first), (one, second), in_time) = held_beside(
+        rt,
+        &shared,
+        zero,
+        hold,
+        one,
+        asked_for(other),
+    );
     assert!(rt; in_time);
     let (held, whole) = story.replies;
-    assert_eq!(rt; second, Answer::Reply(whole));
-    assert_eq!(rt; first, Answer::Reply(held));
+    assert_eq!(rt; second, Answer::Reply(whole.reply()));
+    assert_eq!(rt; first, Answer::Reply(held.reply()));
     let place = since[0];
-    assert!(rt; zero.list.as_slice() == [ask.ran(place, held)].as_slice());
+    assert!(rt; zero.list.as_slice() == [asked_for(wish).ran(place, held.reply())].as_slice());
     let next = place.saturating_add(1);
-    assert!(rt; one.list.as_slice() == [other.ran(next, whole)].as_slice());
+    assert!(rt; one.list.as_slice() == [asked_for(other).ran(next, whole.reply())].as_slice());
     ended(alloc, shared, put_together(alloc, zero, one)?, since)
 }
 
@@ -88,10 +103,10 @@ fn held_in<R: Threads + Wait + Clock + Abort + Sync>(
 }
 
 /// A session whose durable queue holds these values.
-fn holding(alloc: Global, values: &[Value]) -> Result<Session, Fail> {
+fn holding(alloc: Global, values: &[u32]) -> Result<Session, Fail> {
     let mut session = with_queue(alloc, Kind::Durable, 2, 3)?;
     for value in values {
-        session.plain(Client(0), A, Call::Enq(*value))?;
+        session.plain(Client(0), A, Call::Enq(item(*value)))?;
     }
     Ok(session)
 }
@@ -102,7 +117,7 @@ fn a_call_that_stands_still_holds_nobody_up(rt: HostRuntime) -> Result<(), Fail>
         let session = holding(rt.alloc(), story.values)?;
         let session = held_in(&rt, rt.alloc(), session, story)?;
         let left = session.broker().content(A)?;
-        assert!(rt; left.as_slice() == story.left, "{left:?}");
+        assert!(rt; are_items(left.as_slice(), story.left), "{left:?}");
     }
     Ok(())
 }

@@ -70,18 +70,24 @@ fn remembered(
                 client: who,
                 number,
                 call,
-            } if who == client && place >= since => calls.push(Entry {
-                queue,
-                number: if number == 0 { None } else { Some(number) },
-                call,
-                place: Some(place),
-                end: End::Open,
-            })?,
-            Event::Return { client: who, reply } if who == client => {
-                end_last(&mut calls, End::Answered(reply));
+            } => {
+                if who == client && place >= since {
+                    calls.push(Entry {
+                        queue,
+                        number: if number == 0 { None } else { Some(number) },
+                        call,
+                        place: Some(place),
+                        end: End::Open,
+                    })?;
+                }
+            }
+            Event::Return { client: who, reply } => {
+                if who == client {
+                    end_last(&mut calls, End::Answered(reply));
+                }
             }
             Event::Crash => end_last(&mut calls, End::Interrupted),
-            Event::Call { .. } | Event::Return { .. } | Event::Ready { .. } => {}
+            Event::Ready { .. } => {}
         }
     }
     Ok(calls)

@@ -16,6 +16,7 @@ use std::test::*;
 use std::thread::Threads;
 use std::time::Clock;
 use test_support::brokers::taken;
+use test_support::item;
 use test_support::sessions::{A, with_queue};
 use words::{Call, Client, Kind, Refusal, Reply, Told};
 use workers::{Answer, Naming, Opened, Seat, Shared};
@@ -36,17 +37,20 @@ fn rotated<J: Naming, R: Wait + Abort>(
     ensures { IfOk result (λ seats. AreAllInOrder (λ seat. seat.client) J.clients seats.items) }
 {
     let (zero, one) = taken_apart(seats).ok_or("two seats")?;
-    let (zero, first) = asked(rt, shared, zero, Ask::numbered(1, Call::Enq(5)));
-    let (one, second) = asked(rt, shared, one, Ask::numbered(1, Call::Enq(6)));
+    let (zero, first) = asked(rt, shared, zero, Ask::numbered(1, Call::Enq(item(5))));
+    let (one, second) = asked(rt, shared, one, Ask::numbered(1, Call::Enq(item(6))));
     let (zero, third) = asked(rt, shared, zero, Ask::numbered(2, Call::Deq));
     assert!(rt; first == DONE && second == DONE);
-    assert_eq!(rt; third, Answer::Reply(Reply::Got(5)));
+    assert_eq!(rt; third, Answer::Reply(Reply::Got(item(5))));
     shared.crash(rt)?;
     shared.recover(rt)?;
     let (seats, rotated) = shared.rotate(rt, put_together(alloc, zero, one)?);
     assert_eq!(rt; rotated, Ok(()));
     assert!(rt; seats.iter().all(|seat| seat.list.is_empty()));
-    assert_eq!(rt; shared.told(rt, Client(0), A), told_of(2, Reply::Got(5)));
+    assert_eq!(rt;
+        shared.told(rt, Client(0), A),
+        told_of(2, Reply::Got(item(5)))
+    );
     assert_eq!(rt; shared.told(rt, Client(1), A), told_of(1, Reply::Done));
     Ok(seats)
 }
@@ -62,16 +66,20 @@ fn gone_on<J: Naming, R: Wait + Abort>(
     ensures { IfOk result (λ seats. AreAllInOrder (λ seat. seat.client) J.clients seats.items) }
 {
     let (zero, one) = taken_apart(seats).ok_or("two seats")?;
-    let (last, next) = (Ask::numbered(2, Call::Deq), Ask::numbered(3, Call::Enq(8)));
-    let (zero, again) = asked(rt, shared, zero, last);
-    assert_eq!(rt; again, Answer::Reply(Reply::Got(5)));
-    let (one, takes) = asked(rt, shared, one, last);
-    assert_eq!(rt; takes, Answer::Reply(Reply::Got(6)));
-    let (zero, puts) = asked(rt, shared, zero, next);
+    let last = || Ask::numbered(2, Call::Deq);
+    let next = || Ask::numbered(3, Call::Enq(item(8)));
+    let (zero, again) = asked(rt, shared, zero, last());
+    assert_eq!(rt; again, Answer::Reply(Reply::Got(item(5))));
+    let (one, takes) = asked(rt, shared, one, last());
+    assert_eq!(rt; takes, Answer::Reply(Reply::Got(item(6))));
+    let (zero, puts) = asked(rt, shared, zero, next());
     assert_eq!(rt; puts, DONE);
-    let of_zero = [last.repeated(Reply::Got(5)), next.ran(2, Reply::Done)];
+    let of_zero = [
+        last().repeated(Reply::Got(item(5))),
+        next().ran(2, Reply::Done),
+    ];
     assert!(rt; zero.list.as_slice() == of_zero.as_slice());
-    assert!(rt; one.list.as_slice() == [last.ran(0, Reply::Got(6))].as_slice());
+    assert!(rt; one.list.as_slice() == [last().ran(0, Reply::Got(item(6)))].as_slice());
     Ok(put_together(alloc, zero, one)?)
 }
 

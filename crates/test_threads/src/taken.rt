@@ -5,7 +5,7 @@ use history::Event;
 use session::Session;
 use std::alloc::{AllocError, Global};
 use std::test::*;
-use test_support::call_at;
+use test_support::{call_at, number_of};
 use words::{Call, MAX_CLIENTS, Refusal, Reply, Value};
 use workers::{End, Entry};
 
@@ -75,8 +75,8 @@ struct Values {
 }
 
 /// Marks a value, which has no mark yet: whether that is so.
-fn mark(marks: &mut [bool], value: Value) -> bool {
-    match marks.get_mut(value as usize) {
+fn mark(marks: &mut [bool], value: &Value) -> bool {
+    match marks.get_mut(number_of(value) as usize) {
         Some(marked) if !*marked => {
             *marked = true;
             true
@@ -99,21 +99,22 @@ impl Values {
     }
 
     /// A value went out.
-    fn goes_out(&mut self, value: Value) {
+    fn goes_out(&mut self, value: &Value) {
         self.right &= mark(self.out.as_mut_slice(), value);
     }
 
     /// A call was answered.
     fn answered(&mut self, call: Call, reply: Reply) {
-        match (call, reply) {
-            (Call::Enq(value), Reply::Done) => {
-                self.right &= mark(self.put.as_mut_slice(), value);
+        match call {
+            Call::Enq(value) => {
+                self.right &= mark(self.put.as_mut_slice(), &value);
+                self.right &= matches!(reply, Reply::Done);
             }
-            (Call::Deq, Reply::Got(value)) => self.goes_out(value),
-            (Call::Deq, Reply::Empty) => {}
-            (Call::Enq(_), Reply::Got(_) | Reply::Empty) | (Call::Deq, Reply::Done) => {
-                self.right = false;
-            }
+            Call::Deq => match reply {
+                Reply::Got(value) => self.goes_out(&value),
+                Reply::Empty => {}
+                Reply::Done => self.right = false,
+            },
         }
     }
 
@@ -129,7 +130,7 @@ impl Values {
     /// Whether these values are those that were put and did not go out.
     fn are_left(mut self, held: &[Value]) -> bool {
         for value in held {
-            self.goes_out(*value);
+            self.goes_out(value);
         }
         self.right && self.put.as_slice() == self.out.as_slice()
     }

@@ -19,13 +19,13 @@ use Rattle.hex.proofs.HexLemmas.{decode_of-encode_lower, length-encode_with, IsA
 use Rattle.words.specs.Item.{IsItem, item_row, item_parts, item_of_parts, row_of, first_word, second_word, third_word, is_hex, is_lower_digit, item_in}
 
 -- zeros are 0 at each place
-zeros : (m i : ℕ) → ◌≡◌ {A = ℕ} (get_or (replicate m 0) i 0) 0
+pub zeros : (m i : ℕ) → ◌≡◌ {A = ℕ} (get_or (replicate m 0) i 0) 0
 zeros zero i = refl
 zeros (suc m) zero = refl
 zeros (suc m) (suc i) = zeros m i
 
 -- the first bytes of bytes are bytes
-bytes_taken : (xs : List ℕ) (n i : ℕ) → ((j : ℕ) → get_or xs j 0 < 256) → get_or (take n xs) i 0 < 256
+pub bytes_taken : (xs : List ℕ) (n i : ℕ) → ((j : ℕ) → get_or xs j 0 < 256) → get_or (take n xs) i 0 < 256
 bytes_taken xs zero i h = omega arith
 bytes_taken [] (suc n) i h = omega arith
 bytes_taken (x ∷ xs) (suc n) zero h = h 0
@@ -55,7 +55,7 @@ module _ (item : List ℕ) (h : IsItem item) where
   length_row = let short = h.short in grind (arith, common_steps)
 
   -- its words give the row back
-  row_again : row_of (first_word item) (second_word item) (third_word item) ≡ item_row item
+  pub row_again : row_of (first_word item) (second_word item) (third_word item) ≡ item_row item
   row_again =
       let long = length_row in
       let row : List ℕ = item_row item in

@@ -1,5 +1,5 @@
 -- Items: how a length and three words have one, and how texts spell one.
-use Rattle.std.specs.Prelude.{◌≡◌, ℕ, ◌-◌, ◌<◌, ◌≤◌, min, Bool, ◌&&◌, ◌||◌, nat_le, if◌then◌else◌, List, [], ◌∷◌, ◌++◌, length, take, drop, replicate, codes, slice_index, Option, None}
+use Rattle.std.specs.Prelude.{◌≡◌, ◌==◌, ℕ, ◌-◌, ◌<◌, ◌≤◌, min, Bool, ◌&&◌, ◌||◌, nat_le, if◌then◌else◌, List, [], ◌∷◌, ◌++◌, length, take, drop, replicate, codes, slice_index, Option, None}
 use Rattle.std.specs.List.{list_all}
 use Rattle.std.specs.Result.{result_ok}
 use Rattle.std.specs.Int.{w64, from_le_bytes, to_le_bytes}
@@ -39,10 +39,18 @@ item_of len first second third = take (min len ITEM_BYTES) (row_of first second 
 abbrev pub item_of_parts : List ℕ → List ℕ
 item_of_parts parts = item_of (slice_index parts 0) (slice_index parts 1) (slice_index parts 2) (slice_index parts 3)
 
+-- a length and three words are those of an item: the length is at most 24, and each byte past it is 0
+pub record AreParts (len first second third : ℕ) : Type 0 where
+  pub short : len ≤ ITEM_BYTES
+  pub padded : (k : ℕ) → len ≤ k → slice_index (row_of first second third) k ≡ 0
+
 -- as a transcript spells it: two lowercase hexadecimal digits for each byte, and `.` for none
 abbrev pub item_text : List ℕ → List ℕ
 item_text [] = codes "."
 item_text (first ∷ rest) = encode_lower (first ∷ rest)
+
+abbrev pub is_zero : ℕ → Bool
+is_zero byte = byte == 0
 
 -- a digit or a letter from a to f
 abbrev pub is_lower_digit : ℕ → Bool

@@ -1,5 +1,6 @@
 -- How a transcript spells replies and what clients are told.
 use Rattle.std.specs.Prelude.{ℕ, List, ◌++◌, codes, decimal}
+use Rattle.words.specs.Item.{item_text}
 use Rattle.words.specs.PlainQueue.{Value}
 use Rattle.words.specs.declared.call.Reply.{Reply}
 use Rattle.words.specs.declared.call.Reply.TheVariants.{Done, Got, Empty}
@@ -12,7 +13,7 @@ use Rattle.words.specs.declared.told.Told.{Told}
 use Rattle.words.specs.declared.told.Told.TheVariants.{None as told_none, Verdict as told_verdict, Row as told_row}
 
 abbrev pub value_text : Value → List ℕ
-value_text value = decimal value
+value_text value = item_text value
 
 abbrev pub reply_text : Reply → List ℕ
 reply_text Done = codes "done"

@@ -1,5 +1,6 @@
 //! Calls and replies, and who they are of.
 
+use crate::Item;
 use std::fmt;
 
 /// A client, from 0 to 15.
@@ -24,7 +25,7 @@ pub enum Kind {
 }
 
 /// What a queue's messages are.
-pub type Value = u32;
+pub type Value = Item;
 
 /// What a client asks for.
 #[derive(Clone, Copy, Debug, PartialEq, Eq, Hash)]
@@ -46,7 +47,7 @@ pub enum Reply {
     Empty,
 }
 
-/// As a transcript spells it: `done`, `got 5`, `empty`.
+/// As a transcript spells it: `done`, `got 68656c6c6f`, `empty`.
 impl fmt::Display for Reply {
     ghost use Rattle.std.specs.Prelude.{Some};
     ghost use Rattle.words.specs.Text.{reply_text};

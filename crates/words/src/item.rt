@@ -1,10 +1,10 @@
-//! Items: what a message is to be.
+//! Items: what a message is.
 
-ghost use Rattle.std.specs.Prelude.{◌≡◌, ◌↔◌, ◌≤◌, ◌<◌, ◌*◌, ℕ, List, length, take, IsOk, IfOk, IfErr, Some};
+ghost use Rattle.std.specs.Prelude.{◌≡◌, ◌↔◌, ◌≤◌, ◌<◌, ◌*◌, ℕ, List, length, take, slice_index, IsOk, IfOk, IfErr, IsTrue, Some};
 ghost use Rattle.std.specs.List.{list_all};
 ghost use Rattle.std.specs.Str.{IsUtf8};
 ghost use Rattle.hex.specs.Hex.{encode_lower};
-ghost use Rattle.words.specs.Item.{IsItem, item_row, item_parts, item_of_parts, row_of, item_in, is_hex, is_lower_digit};
+ghost use Rattle.words.specs.Item.{AreParts, IsItem, item_row, item_parts, item_of_parts, row_of, item_in, is_hex, is_lower_digit, is_zero};
 
 use crate::Refusal;
 use std::fmt;
@@ -61,6 +61,13 @@ fn row_of(first: u64, second: u64, third: u64) -> [u8; ITEM_BYTES]
     row[WORD_BYTES..2 * WORD_BYTES].copy_from_slice(&second.to_le_bytes());
     row[2 * WORD_BYTES..].copy_from_slice(&third.to_le_bytes());
     row
+}
+
+/// Whether each of the bytes is 0.
+fn are_zeros(bytes: &[u8]) -> bool
+    ensures { result ≡ list_all is_zero bytes.now }
+{
+    bytes.iter().all(|byte| *byte == 0)
 }
 
 /// Whether the byte is a digit or a letter from a to f.
@@ -138,6 +145,19 @@ impl Item {
         let [len, first, second, third] = parts;
         let row = row_of(first, second, third);
         Item::of(&row[..len.min(ITEM_BYTES as u64) as usize])
+    }
+
+    /// Whether a length and three words are those of an item: the length is at most 24, and each byte past it is 0.
+    pub fn are_parts(parts: [u64; 4]) -> bool
+        ensures { IsTrue result ↔ AreParts (slice_index parts 0) (slice_index parts 1) (slice_index parts 2)
+            (slice_index parts 3) }
+    {
+        let [len, first, second, third] = parts;
+        if len > ITEM_BYTES as u64 {
+            return false;
+        }
+        let row = row_of(first, second, third);
+        are_zeros(&row[len as usize..])
     }
 
     /// The item that this text spells, two lowercase digits for each byte, if it spells one.

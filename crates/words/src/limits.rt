@@ -21,17 +21,14 @@ pub const MAX_RECORD_NUMBER: u32 = 65_536;
 /// The greatest number of a log queue's call.
 pub const MAX_CALL_NUMBER: u64 = 1_099_511_627_776;
 
-/// The greatest value of an item.
-pub const MAX_VALUE: u32 = 4_294_967_295;
-
 /// The most steps of a call that goes on alone, wherever the other clients stopped.
-pub const MAX_STEPS_ALONE: u32 = 96;
+pub const MAX_STEPS_ALONE: u32 = 128;
 
 /// The most steps of a recovery are so many for each record that there is, ..
 pub const STEPS_PER_RECORD: u32 = 10;
 
 /// .. so many for each client ..
-pub const STEPS_PER_CLIENT: u32 = 8;
+pub const STEPS_PER_CLIENT: u32 = 9;
 
 /// .. and so many more.
 pub const STEPS_BESIDES: u32 = 10;

@@ -41,7 +41,7 @@ pub enum Told {
     Row(Row),
 }
 
-/// As a transcript spells it: `1 nottaken`, `2 got 9`.
+/// As a transcript spells it: `1 nottaken`, `2 got 68656c6c6f`.
 impl fmt::Display for Verdict {
     ghost use Rattle.std.specs.Prelude.{Some};
     ghost use Rattle.words.specs.Text.{verdict_text};
@@ -57,7 +57,7 @@ impl fmt::Display for Verdict {
     }
 }
 
-/// As a transcript spells it: `nocall`, `open`, `empty`, `got 5`.
+/// As a transcript spells it: `nocall`, `open`, `empty`, `got 68656c6c6f`.
 impl fmt::Display for Row {
     ghost use Rattle.std.specs.Prelude.{Some};
     ghost use Rattle.words.specs.Text.{row_text};

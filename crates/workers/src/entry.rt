@@ -53,11 +53,11 @@ pub(crate) struct Request {
 
 impl Request {
     /// The entry of the call that begins at this place, or that was answered with the reply that was kept.
-    pub(crate) fn entry(self, next: usize, kept: Option<Reply>) -> Entry
-        ensures { result ≡ entry_begun self next kept }
+    pub(crate) fn entry(&self, next: usize, kept: &Option<Reply>) -> Entry
+        ensures { result ≡ entry_begun self.now next kept.now }
     {
         let (place, end) = match kept {
-            Some(reply) => (None, End::Answered(reply)),
+            Some(reply) => (None, End::Answered(*reply)),
             None => (Some(next), End::Open),
         };
         Entry {
@@ -80,8 +80,8 @@ pub(crate) enum Took {
 }
 
 /// Whether a call is open.
-fn is_open_end(end: End) -> bool
-    ensures { result ≡ is_open end }
+fn is_open_end(end: &End) -> bool
+    ensures { result ≡ is_open end.now }
 {
     matches!(end, End::Open)
 }
@@ -93,7 +93,7 @@ pub(crate) fn has_open_call(list: &[Entry]) -> bool
     if list.is_empty() {
         return false;
     }
-    is_open_end(list[list.len() - 1].end)
+    is_open_end(&list[list.len() - 1].end)
 }
 
 /// The queue of the last call of a list.

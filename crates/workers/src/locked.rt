@@ -115,27 +115,26 @@ impl<J: Naming> Locked<J> {
         &mut self,
         roll: &Roll<Entry>,
         seat: Seat<J>,
-        request: Request,
+        request: &Request,
     ) -> (Seat<J>, Result<Option<Reply>, Refusal>)
         requires roll { roll.now ≡ J.roll }
         requires idle { ends_open seat.list.items ≡ false }
         requires room { vec_len seat.list < vec_capacity seat.list }
         ensures client { result.0.client ≡ seat.client }
-        ensures begun { IsListBegun seat.list.items request result.1 result.0.list.items }
-        ensures act { IsBegunBy self.old.session self.new.session request.queue.0 seat.client
-            (number_or_zero request.number) request.call result.1
-            (answer_to self.old.session request.queue.0 seat.client request.number) }
+        ensures begun { IsListBegun seat.list.items request.now result.1 result.0.list.items }
+        ensures act { IsBegunBy self.old.session self.new.session request.now.queue.0 seat.client
+            (number_or_zero request.now.number) request.now.call result.1
+            (answer_to self.old.session request.now.queue.0 seat.client request.now.number) }
         ensures errors { IfErr result.1 (λ refusal. IsTrue (is_call_refusal refusal)) }
     {
-        let Request {
-            queue,
-            number,
-            call,
-        } = request;
+        let queue = request.queue;
         let next = events_in(&self.session, queue);
-        match self.session.begin(seat.client, queue, number, call) {
+        match self
+            .session
+            .begin(seat.client, queue, request.number, request.call)
+        {
             Ok(began) => {
-                let entry = request.entry(next, began);
+                let entry = request.entry(next, &began);
                 (with_entry(roll, &mut self.keeper, seat, entry), Ok(began))
             }
             Err(refusal) => (seat, Err(refusal)),
@@ -152,10 +151,11 @@ impl<J: Naming> Locked<J> {
         let queue = last_queue(seat.list.as_slice());
         match self.session.advance(seat.client, queue) {
             Ok(None) => (seat, Took::More),
-            Ok(Some(reply)) => (
-                with_last(roll, &mut self.keeper, seat, End::Answered(reply)),
-                Took::Answered(reply),
-            ),
+            Ok(Some(reply)) => {
+                let answer = reply;
+                let seat = with_last(roll, &mut self.keeper, seat, End::Answered(reply));
+                (seat, Took::Answered(answer))
+            }
             Err(refusal) => {
                 if is_want_of_memory(refusal) {
                     return (seat, Took::NoMemory);

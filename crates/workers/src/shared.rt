@@ -57,7 +57,7 @@ impl<J: Naming> Shared<J> {
         ensures begun { IsListBegun seat.list.items request result.1 result.0.list.items }
         ensures errors { IfErr result.1 (λ refusal. IsTrue (is_call_refusal refusal)) }
     {
-        self.locked.lock(rt).begin(&self.roll, seat, request)
+        self.locked.lock(rt).begin(&self.roll, seat, &request)
     }
 
     /// One step of the seat's open call.

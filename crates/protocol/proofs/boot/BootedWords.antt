@@ -1,7 +1,9 @@
 -- Kept words that recovery finds sound are such as every crash leaves.
 use Rattle.std.proofs.Common.{◌≡◌, ◌≢◌, ℕ, ◌+◌, ◌≤◌, ◌<◌, ◌⊎◌, inl, inr, List, [], ◌∷◌, ◌++◌, map, refl, sym, ◌∙◌, ap, subst, arith}
 use Rattle.std.proofs.lemmas.Bool.{cases_eq, cases_lt}
+use Rattle.arena.specs.declared.place.Part.{Part}
 use Rattle.arena.specs.declared.place.Part.TheVariants.{Length, First, Second, Third}
+use Rattle.words.proofs.Parts.{parts_blank}
 use Rattle.words.specs.PlainQueue.{Value}
 use Rattle.words.specs.declared.call.Kind.{Kind}
 use Rattle.words.specs.declared.call.Kind.TheVariants.{Durable, Log}
@@ -12,7 +14,7 @@ use Rattle.arena.specs.Content.{chain_of, kept_content}
 use Rattle.arena.specs.Place.{IsPlace, IsRecord, number_of}
 use Rattle.arena.specs.Ranges.{Fits, IsReadByCalls}
 use Rattle.arena.specs.Shape.{Shape, greatest}
-use Rattle.arena.specs.Words.{links, marks, values, bumps, announcements, inserts, cells, numbers, entry_kinds, statuses, entry_nodes, IsWritten}
+use Rattle.arena.specs.Words.{links, marks, part_at, values, HoldsItem, IsBlankItem, bumps, announcements, inserts, cells, numbers, entry_kinds, statuses, entry_nodes, IsWritten}
 use Rattle.arena.specs.declared.place.Place.{Place}
 use Rattle.arena.specs.declared.place.Place.TheVariants.{Head, Tail, Announcement, Bump, Item, Next, Mark, Cell, Insert, Number, EntryKind, Status, EntryNode}
 use Rattle.helping.specs.Table.{token_of, node_of}
@@ -138,10 +140,7 @@ place_or_not s Head = inl tt
 place_or_not s Tail = inl tt
 place_or_not s (Announcement t) = below_or_not t.0 s.clients
 place_or_not s (Bump t) = below_or_not t.0 s.clients
-place_or_not s (Item n Length) = inr (λ h. h)
-place_or_not s (Item n First) = up_or_not n.0 (greatest s)
-place_or_not s (Item n Second) = inr (λ h. h)
-place_or_not s (Item n Third) = inr (λ h. h)
+place_or_not s (Item n part) = up_or_not n.0 (greatest s)
 place_or_not s (Next n) = up_or_not n.0 (greatest s)
 place_or_not s (Mark n) = up_or_not n.0 (greatest s)
 place_or_not s (Cell c) = both_or_not (s.kind ≡ Durable) (IsRecord s c.0) (kind_or_not s.kind Durable) (record_or_not s c.0)
@@ -272,15 +271,25 @@ module _ (s : Shape) (k : Place → ℕ) (h : IsSound s k) (nowhere : (p : Place
   blank_entry : (n : ℕ) → s.kind ≡ Log → IsBlank s k n → IsBlankEntry k n
   blank_entry n e b = let answer : IsBlankAnswer Log k n = subst (λ x. IsBlankAnswer x k n) e b.answer in answer
 
+  blank_part : {n : ℕ} → IsBlankItem k n → (part : Part) → part_at k n part ≡ 0
+  blank_part b Length = b.len
+  blank_part b First = b.first
+  blank_part b Second = b.second
+  blank_part b Third = b.third
+
+  -- every node's words are an item's: those of one that there is not are 0
+  items : (n : ℕ) → HoldsItem k n
+  items n = elim (up_or_not n (greatest s)) [
+    | inl i ↦ h.claims.in_range n i
+    | inr out ↦ rw (nowhere (Item (node_of n) Length) out, nowhere (Item (node_of n) First) out, nowhere (Item (node_of n) Second) out, nowhere (Item (node_of n) Third) out) (parts_blank 0 (omega arith))
+  ]
+
   blank_at : (q : Place) → IsPlace s q → IsOfRecord q → number_of q ≢ 0 → (IsIssued s k (number_of q) → ⊥) → k q ≡ 0
   blank_at Head i of ne none = absurd of
   blank_at Tail i of ne none = absurd of
   blank_at (Announcement t) i of ne none = absurd of
   blank_at (Bump t) i of ne none = absurd of
-  blank_at (Item n Length) i of ne none = absurd i
-  blank_at (Item n First) i of ne none = (unused n.0 (omega (arith, ne), i) none).value
-  blank_at (Item n Second) i of ne none = absurd i
-  blank_at (Item n Third) i of ne none = absurd i
+  blank_at (Item n part) i of ne none = blank_part (unused n.0 (omega (arith, ne), i) none).item part
   blank_at (Next n) i of ne none = (unused n.0 (omega (arith, ne), i) none).link
   blank_at (Mark n) i of ne none = (unused n.0 (omega (arith, ne), i) none).mark
   blank_at (Cell c) i of ne none = blank_cell c.0 i.0 (unused c.0 i.1 none)
@@ -293,16 +302,13 @@ module _ (s : Shape) (k : Place → ℕ) (h : IsSound s k) (nowhere : (p : Place
   blank : Blank s k k
   blank q of ne none = elim (place_or_not s q) [ inl i ↦ blank_at q i of ne none | inr out ↦ nowhere q out ]
 
-  -- a word of the layout is of this kind of queue, but for the value and the insert word of node 0, which are 0
+  -- a word of the layout is of this kind of queue, but for the message and the insert word of node 0, which are 0
   absent_at : (q : Place) → IsPlace s q → (IsOfKind s.kind q → ⊥) → k q ≡ 0
   absent_at Head i none = absurd (none tt)
   absent_at Tail i none = absurd (none tt)
   absent_at (Announcement t) i none = absurd (none tt)
   absent_at (Bump t) i none = absurd (none tt)
-  absent_at (Item n Length) i none = absurd i
-  absent_at (Item n First) i none = elim (cases_eq n.0 0) [ inl z ↦ ap (λ x. k (Item (record { 0 = x }) First)) z ∙ h.chain.sentinel.value | inr some ↦ absurd (none some) ]
-  absent_at (Item n Second) i none = absurd i
-  absent_at (Item n Third) i none = absurd i
+  absent_at (Item n part) i none = elim (cases_eq n.0 0) [ inl z ↦ ap (λ x. k (Item (record { 0 = x }) part)) z ∙ blank_part h.chain.sentinel.item part | inr some ↦ absurd (none some) ]
   absent_at (Next n) i none = absurd (none tt)
   absent_at (Mark n) i none = absurd (none tt)
   absent_at (Cell c) i none = absurd (none (i.0, λ z. absurd (omega (arith, i.1.0, z))))
@@ -316,13 +322,13 @@ module _ (s : Shape) (k : Place → ℕ) (h : IsSound s k) (nowhere : (p : Place
   absent q none = elim (place_or_not s q) [ inl i ↦ absent_at q i none | inr out ↦ nowhere q out ]
 
   -- the result of a claimed node that the head has passed stands where it belongs
-  passed_cell : s.kind ≡ Durable → (n : ℕ) → has_passed s k n → cells k (marks k n) ≡ values k n + 2
+  passed_cell : s.kind ≡ Durable → (n : ℕ) → has_passed s k n → cells k (marks k n) ≡ n + 2
   passed_cell e n passed =
       let not_empty : cells k (marks k n) ≢ 1 = (rows e).not_empty n passed.claimed in
       let not_open : cells k (marks k n) ≢ 0 = (rows e).not_open n passed in
       let result : IsResult s k (marks k n) = (rows e).results (marks k n) (h.claims.issued n passed.claimed).is_record (omega (arith, not_empty, not_open)) in
       let same : n ≡ result.node = one_claim n result.node passed.claimed.marked (sym result.claim.mark) in
-      sym result.value ∙ ap (λ x. values k x + 2) (sym same)
+      sym result.named ∙ ap (λ x. x + 2) (sym same)
 
   passed_entry : s.kind ≡ Log → (n : ℕ) → has_passed s k n → entry_nodes k (marks k n) ≡ n
   passed_entry e n passed =
@@ -334,7 +340,7 @@ module _ (s : Shape) (k : Place → ℕ) (h : IsSound s k) (nowhere : (p : Place
   passed_answered : (n : ℕ) → has_passed s k n → IsAnswered s (memory_at_rest k) n
   passed_answered n passed = (go s.kind refl, go s.kind refl)
     where
-      go : (kind : Kind) → s.kind ≡ kind → IsWritten k (result_of kind (token_of (marks k n)) (node_of n) (values k n))
+      go : (kind : Kind) → s.kind ≡ kind → IsWritten k (result_of kind (token_of (marks k n)) (node_of n))
       go Durable e = passed_cell e n passed
       go Log e = passed_entry e n passed
 
@@ -358,7 +364,7 @@ module _ (s : Shape) (k : Place → ℕ) (h : IsSound s k) (nowhere : (p : Place
   cell_right c some other =
       let place : (s.kind ≡ Durable) × IsRecord s c = is_place (Cell (token_of c)) some in
       let result : IsResult s k c = (rows place.0).results c place.1 (omega (arith, some, other)) in
-      record { at = result.node; named = result.claim.mark; some = λ z. absurd (omega (arith, place.1.0, z)); value = sym result.value }
+      record { at = result.node; named = result.claim.mark; some = λ z. absurd (omega (arith, place.1.0, z)); value = sym result.named }
 
   node_right : (c : ℕ) → NodeRight (memory_at_rest k) c (entry_nodes k c)
   node_right c kind some =
@@ -429,6 +435,7 @@ module _ (s : Shape) (k : Place → ℕ) (h : IsSound s k) (nowhere : (p : Place
     back = back;
     on = p.on;
     content = content;
+    item = items;
     tail = tail;
     issued_link = λ n some. h.chain.issued (links k n) (next_on n some);
     issued_mark = λ n some. h.claims.issued n (claimed_if n some);

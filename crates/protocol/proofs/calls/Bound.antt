@@ -15,13 +15,16 @@ use Rattle.persist.specs.Memory.{Cas, Fence}
 use Rattle.words.specs.declared.limits.TheConstants.{MAX_STEPS_ALONE}
 use Rattle.arena.specs.Answers.{result_of}
 use Rattle.arena.specs.Shape.{Shape}
-use Rattle.arena.specs.Words.{links, marks}
+use Rattle.arena.specs.Words.{links, marks, part_at}
 use Rattle.arena.specs.declared.place.Write.{Write}
 use Rattle.arena.specs.declared.place.Place.{Place}
 use Rattle.arena.specs.declared.place.Place.TheVariants.{Head, Tail, Next, Mark}
 use Rattle.stepper.specs.Preparation.{preparation_of, preparation_from, prepared_to, prepared_with}
 use Rattle.stepper.specs.Step.{place_of}
 use Rattle.stepper.specs.Steps.{keep_steps, load_steps}
+use Rattle.stepper.specs.Loading.{part_next, loaded_with, parts_left}
+use Rattle.stepper.specs.declared.loading.Loading.{Loading}
+use Rattle.stepper.specs.declared.loading.Loading.TheVariants.{Length as at_length, First as at_first, Second as at_second, Third as at_third}
 use Rattle.stepper.specs.declared.resume.After.{After}
 use Rattle.stepper.specs.declared.resume.After.TheVariants.{More, Done}
 use Rattle.stepper.specs.declared.prepare.Begun.{Begun}
@@ -30,7 +33,7 @@ use Rattle.helping.specs.Table.{token_of, access_of, successor, first_from, prep
 use Rattle.helping.specs.declared.dequeue.Claim.{Claim}
 use Rattle.helping.specs.declared.dequeue.Claim.TheVariants.{Won, LostTo}
 use Rattle.helping.specs.declared.op.Op.{Op}
-use Rattle.helping.specs.declared.op.Op.TheVariants.{PrepareStore, PrepareFlush, PrepareFence, EnqueueLoadTail, EnqueueLoadNext, EnqueueCheckTail, EnqueueLink, EnqueueMoveTail, EnqueueHelpTail, DequeueLoadHead, DequeueLoadTail, DequeueLoadNext, DequeueCheckHead, DequeueStoreEmpty, DequeueHelpTail, DequeueLoadValue, DequeueClaim, DequeueStoreResult, DequeueMoveHead, Flush as FlushPoint, Fence as FencePoint}
+use Rattle.helping.specs.declared.op.Op.TheVariants.{PrepareStore, PrepareFlush, PrepareFence, EnqueueLoadTail, EnqueueLoadNext, EnqueueCheckTail, EnqueueLink, EnqueueMoveTail, EnqueueHelpTail, DequeueLoadHead, DequeueLoadTail, DequeueLoadNext, DequeueCheckHead, DequeueStoreEmpty, DequeueHelpTail, DequeueLoadItem, DequeueClaim, DequeueStoreResult, DequeueMoveHead, Flush as FlushPoint, Fence as FencePoint}
 use Rattle.helping.specs.declared.keeping.Keeping.{Keeping}
 use Rattle.helping.specs.declared.keeping.Keeping.TheVariants.{Link as KeepLink, PassedLink as KeepPassedLink, Empty as KeepEmpty, DequeuePassedLink as KeepDequeuePassedLink, Claim as KeepClaim, Result as KeepResult}
 use Rattle.words.specs.declared.call.Reply.{Reply}
@@ -134,7 +137,7 @@ left s m (DequeueLoadNext p) = 1 + check_head_left m p.first.0 p.last.0 (links m
 left s m (DequeueCheckHead p) = check_head_left m p.first.0 p.last.0 p.next.0
 left s m (DequeueStoreEmpty p) = 1 + keep_steps
 left s m (DequeueHelpTail p) = help_dequeue_left m p.last.0
-left s m (DequeueLoadValue p) = load_steps + claim_left m p.first.0 p.next.0
+left s m (DequeueLoadItem p) = parts_left p.loading + claim_left m p.first.0 p.next.0
 left s m (DequeueClaim p) = claim_left m p.first.0 p.next.0
 left s m (DequeueStoreResult p) = 1 + keep_steps + move_head_left m p.claimed.first.0 p.claimed.claim
 left s m (DequeueMoveHead p) = move_head_left m p.claimed.first.0 p.claimed.claim
@@ -298,13 +301,21 @@ module _ (s : Shape) (m : Memory) (l : Ledger) (claimed waiting : List ℕ) (b :
           then (if z
           then More (DequeueStoreEmpty (record { token = token }))
           else More (FlushPoint (KeepDequeuePassedLink (record { token = token; last = last; next = next }))))
-          else More (DequeueLoadValue (record { token = token; first = first; next = next })))
+          else More (DequeueLoadItem (record { token = token; first = first; next = next; loading = at_length })))
           else More (DequeueLoadHead (record { token = token })))
           (if t then (if e then (if z then 2 + keep_steps else 1 + keep_steps + help_dequeue_left m last.0) else 1 + load_steps + claim_left m first.0 next.0) else 1 + dequeue_left m)
       go true true true = omega arith
       go true true false = omega arith
       go true false z = omega arith
       go false e z = omega arith
+
+  falls_load : (token : Token) (first next : NodeId) (loading : Loading)
+      → Falls s m (successor s.kind (DequeueLoadItem (record { token = token; first = first; next = next; loading = loading })) (part_at m.cached next.0 (part_next loading)))
+      (parts_left loading + claim_left m first.0 next.0)
+  falls_load token first next at_length = omega arith
+  falls_load token first next (at_first len) = omega arith
+  falls_load token first next (at_second len one) = omega arith
+  falls_load token first next (at_third len one two) = omega arith
 
   falls_claim : (token : Token) (first next : NodeId) (v : Value)
       → Falls s (with_access m (Cas (Mark next) 0 token.0)) (successor s.kind (DequeueClaim (record { token = token; first = first; next = next; value = v })) (m.cached (Mark next))) (claim_left m first.0 next.0)
@@ -347,7 +358,7 @@ module _ (s : Shape) (m : Memory) (l : Ledger) (claimed waiting : List ℕ) (b :
 
   -- each step leaves fewer
   pub falls : (op : Op) → Knows s m l i op → Falls s (with_access m (access_of s.kind op)) (successor s.kind op (m.cached (place_of (access_of s.kind op)))) (left s m op)
-  falls (PrepareStore p) h = falls_store p.begun p.index p.write h
+  falls (PrepareStore p) h = falls_store p.begun p.index p.write h.0
   falls (PrepareFlush p) h =
       let inside : p.index < length (preparation_of s.kind p.begun) = slice_get_within (preparation_of s.kind p.begun) p.index p.write h.0.in_hand in
       omega (arith, inside)
@@ -372,23 +383,29 @@ module _ (s : Shape) (m : Memory) (l : Ledger) (claimed waiting : List ℕ) (b :
   falls (FencePoint (KeepEmpty p)) h = omega arith
   falls (FencePoint (KeepDequeuePassedLink p)) h = omega arith
   falls (DequeueHelpTail p) h = falls_help_dequeue p.last.0 p.next.0 h.2 h.1
-  falls (DequeueLoadValue p) h = omega arith
+  falls (DequeueLoadItem p) h = falls_load p.token p.first p.next p.loading
   falls (DequeueClaim p) h = falls_claim p.token p.first p.next p.value
   falls (FencePoint (KeepClaim p)) h = omega (arith, same_move (with_access m (Fence (Mark p.claimed.next))) p.claimed.first.0 p.claimed.claim refl)
   falls (DequeueStoreResult p) h =
       omega (
         arith,
-        own_move_head_left (result_of s.kind (winner p.claimed.claim p.claimed.token) p.claimed.next p.claimed.value).place (result_of s.kind (winner p.claimed.claim p.claimed.token) p.claimed.next p.claimed.value).value p.claimed.first.0 p.claimed.claim
-            (result_own s.kind (winner p.claimed.claim p.claimed.token) p.claimed.next p.claimed.value),
+        own_move_head_left (result_of s.kind (winner p.claimed.claim p.claimed.token) p.claimed.next).place (result_of s.kind (winner p.claimed.claim p.claimed.token) p.claimed.next).value p.claimed.first.0 p.claimed.claim
+            (result_own s.kind (winner p.claimed.claim p.claimed.token) p.claimed.next),
       )
-  falls (FencePoint (KeepResult p)) h = omega (arith, same_move (with_access m (Fence (result_of s.kind (winner p.claimed.claim p.claimed.token) p.claimed.next p.claimed.value).place)) p.claimed.first.0 p.claimed.claim refl)
+  falls (FencePoint (KeepResult p)) h = omega (arith, same_move (with_access m (Fence (result_of s.kind (winner p.claimed.claim p.claimed.token) p.claimed.next).place)) p.claimed.first.0 p.claimed.claim refl)
   falls (DequeueMoveHead p) h = falls_move_head p.claimed.token p.claimed.first p.claimed.next p.claimed.value p.claimed.claim h
 
 either : (t : Bool) (x y k : ℕ) → x ≤ k → y ≤ k → (if t then x else y) ≤ k
 either true x y k h g = h
 either false x y k h g = g
 
-preparation_most : (kind : Kind) (call : Call) (b : Begun) → length (preparation_from kind call b) ≤ 7
+pub loading_most : (loading : Loading) → parts_left loading ≤ 4
+loading_most at_length = omega arith
+loading_most (at_first len) = omega arith
+loading_most (at_second len first) = omega arith
+loading_most (at_third len first second) = omega arith
+
+preparation_most : (kind : Kind) (call : Call) (b : Begun) → length (preparation_from kind call b) ≤ 10
 preparation_most Durable (Enq v) b = omega arith
 preparation_most Durable Deq b = omega arith
 preparation_most Log (Enq v) b = omega arith
@@ -398,10 +415,10 @@ module _ (s : Shape) (m : Memory) where
   enqueue_most : enqueue_left m ≤ 13
   enqueue_most = omega (arith, one_if_most (links m.cached (m.cached Tail)))
 
-  dequeue_most : dequeue_left m ≤ 31
+  dequeue_most : dequeue_left m ≤ 37
   dequeue_most = omega (arith, one_if_most (links m.cached (m.cached Tail)), head_lag_most m)
 
-  call_most : (call : Call) → call_left m call ≤ 31
+  call_most : (call : Call) → call_left m call ≤ 37
   call_most (Enq v) = omega (arith, enqueue_most)
   call_most Deq = dequeue_most
 
@@ -416,28 +433,28 @@ module _ (s : Shape) (m : Memory) where
       either (m.cached Tail == last) (if next == 0 then 1 + link_left m last else 1 + keep_steps + help_enqueue_left m last) (1 + enqueue_left m) 17
       (either (next == 0) (1 + link_left m last) (1 + keep_steps + help_enqueue_left m last) 17 (omega (arith, link_most last)) (omega (arith, help_enqueue_most last))) (omega (arith, enqueue_most))
 
-  help_dequeue_most : (last : ℕ) → help_dequeue_left m last ≤ 32
-  help_dequeue_most last = either (m.cached Tail == last) (1 + dequeue_alone + dequeue_alone * head_lag m) (1 + dequeue_left m) 32 (omega (arith, head_lag_most m)) (omega (arith, dequeue_most))
+  help_dequeue_most : (last : ℕ) → help_dequeue_left m last ≤ 38
+  help_dequeue_most last = either (m.cached Tail == last) (1 + dequeue_alone + dequeue_alone * head_lag m) (1 + dequeue_left m) 38 (omega (arith, head_lag_most m)) (omega (arith, dequeue_most))
 
-  lost_most : (first : ℕ) → lost_left m first ≤ 32
+  lost_most : (first : ℕ) → lost_left m first ≤ 38
   lost_most first =
-      either (m.cached Head == first) (1 + dequeue_alone + (5 + keep_steps) * tail_lag m) (1 + dequeue_left m) 32 (omega (arith, one_if_most (links m.cached (m.cached Tail)))) (omega (arith, dequeue_most))
+      either (m.cached Head == first) (1 + dequeue_alone + (5 + keep_steps) * tail_lag m) (1 + dequeue_left m) 38 (omega (arith, one_if_most (links m.cached (m.cached Tail)))) (omega (arith, dequeue_most))
 
-  move_head_most : (first : ℕ) (claim : Claim) → move_head_left m first claim ≤ 32
+  move_head_most : (first : ℕ) (claim : Claim) → move_head_left m first claim ≤ 38
   move_head_most first Won = omega arith
   move_head_most first (LostTo other) = lost_most first
 
-  claim_most : (first next : ℕ) → claim_left m first next ≤ 38
-  claim_most first next = either (marks m.cached next == 0) (3 + 2 * keep_steps) (2 + 2 * keep_steps + lost_left m first) 38 (omega arith) (omega (arith, lost_most first))
+  claim_most : (first next : ℕ) → claim_left m first next ≤ 44
+  claim_most first next = either (marks m.cached next == 0) (3 + 2 * keep_steps) (2 + 2 * keep_steps + lost_left m first) 44 (omega arith) (omega (arith, lost_most first))
 
-  check_head_most : (first last next : ℕ) → check_head_left m first last next ≤ 40
+  check_head_most : (first last next : ℕ) → check_head_left m first last next ≤ 49
   check_head_most first last next =
-      either (m.cached Head == first) (if first == last then (if next == 0 then 2 + keep_steps else 1 + keep_steps + help_dequeue_left m last) else 1 + load_steps + claim_left m first next) (1 + dequeue_left m) 40
-      (either (first == last) (if next == 0 then 2 + keep_steps else 1 + keep_steps + help_dequeue_left m last) (1 + load_steps + claim_left m first next) 40
-      (either (next == 0) (2 + keep_steps) (1 + keep_steps + help_dequeue_left m last) 40 (omega arith) (omega (arith, help_dequeue_most last))) (omega (arith, claim_most first next)))
+      either (m.cached Head == first) (if first == last then (if next == 0 then 2 + keep_steps else 1 + keep_steps + help_dequeue_left m last) else 1 + load_steps + claim_left m first next) (1 + dequeue_left m) 49
+      (either (first == last) (if next == 0 then 2 + keep_steps else 1 + keep_steps + help_dequeue_left m last) (1 + load_steps + claim_left m first next) 49
+      (either (next == 0) (2 + keep_steps) (1 + keep_steps + help_dequeue_left m last) 49 (omega arith) (omega (arith, help_dequeue_most last))) (omega (arith, claim_most first next)))
       (omega (arith, dequeue_most))
 
-  kept_most : (k : Keeping) → kept_left m k ≤ 40
+  kept_most : (k : Keeping) → kept_left m k ≤ 49
   kept_most (KeepLink p) = omega arith
   kept_most (KeepPassedLink p) = omega (arith, help_enqueue_most p.last.0)
   kept_most (KeepEmpty p) = omega arith
@@ -462,7 +479,7 @@ module _ (s : Shape) (m : Memory) where
   left_most (DequeueCheckHead p) = omega (arith, check_head_most p.first.0 p.last.0 p.next.0)
   left_most (DequeueStoreEmpty p) = omega arith
   left_most (DequeueHelpTail p) = omega (arith, help_dequeue_most p.last.0)
-  left_most (DequeueLoadValue p) = omega (arith, claim_most p.first.0 p.next.0)
+  left_most (DequeueLoadItem p) = omega (arith, loading_most p.loading, claim_most p.first.0 p.next.0)
   left_most (DequeueClaim p) = omega (arith, claim_most p.first.0 p.next.0)
   left_most (DequeueStoreResult p) = omega (arith, move_head_most p.claimed.first.0 p.claimed.claim)
   left_most (DequeueMoveHead p) = omega (arith, move_head_most p.claimed.first.0 p.claimed.claim)

@@ -2,9 +2,13 @@
 use Rattle.std.proofs.Common.{◌≡◌, ◌≢◌, ℕ, suc, ◌+◌, ◌≤◌, ◌<◌, inl, inr, List, ◌∷◌, ◌++◌, Bool, true, false, Option, Some, None, if◌then◌else◌, ◌==◌, refl, sym, ◌∙◌, ap, subst, arith}
 use Rattle.std.specs.Prelude.{slice_get}
 use Rattle.std.proofs.lemmas.Bool.{cases_eq, eqb-true, eqb-false}
-use Rattle.arena.specs.declared.place.Part.TheVariants.{First}
+use Rattle.arena.specs.declared.place.Part.TheVariants.{Length, First, Second, Third}
+use Rattle.stepper.specs.Loading.{part_next, loaded_with, IsLoaded}
+use Rattle.stepper.specs.declared.loading.Loading.{Loading}
+use Rattle.stepper.specs.declared.loading.Loading.TheVariants.{Length as at_length, First as at_first, Second as at_second, Third as at_third}
+use Rattle.protocol.proofs.calls.Messages.{message_stored}
 use Rattle.arena.specs.declared.place.Part.{Part}
-use Rattle.words.specs.PlainQueue.{Value, FitsValue}
+use Rattle.words.specs.PlainQueue.{Value}
 use Rattle.words.specs.declared.call.Call.{Call}
 use Rattle.words.specs.declared.call.Call.TheVariants.{Enq, Deq}
 use Rattle.words.specs.declared.call.Client.{Client}
@@ -18,7 +22,7 @@ use Rattle.arena.specs.Chain.{IsAmong, LeadsTo}
 use Rattle.arena.specs.Chain.LeadsTo.{there}
 use Rattle.arena.specs.Place.{number_of}
 use Rattle.arena.specs.Shape.{Shape, owner, greatest}
-use Rattle.arena.specs.Words.{links, marks, values, bumps, announcements, IsWritten, value_of, values_fit}
+use Rattle.arena.specs.Words.{links, marks, values, bumps, announcements, part_at, IsWritten, value_of}
 use Rattle.arena.specs.declared.place.Write.{Write}
 use Rattle.arena.specs.declared.place.Place.{Place}
 use Rattle.arena.specs.declared.place.Place.TheVariants.{Announcement, Head, Tail, Bump, Item, Next, Mark}
@@ -32,7 +36,7 @@ use Rattle.helping.specs.Table.{node_of, token_of, access_of, successor, first_f
 use Rattle.helping.specs.declared.dequeue.Claim.{Claim}
 use Rattle.helping.specs.declared.dequeue.Claim.TheVariants.{Won, LostTo}
 use Rattle.helping.specs.declared.op.Op.{Op}
-use Rattle.helping.specs.declared.op.Op.TheVariants.{PrepareStore, PrepareFlush, PrepareFence, EnqueueLoadTail, EnqueueLoadNext, EnqueueCheckTail, EnqueueLink, EnqueueMoveTail, EnqueueHelpTail, DequeueLoadHead, DequeueLoadTail, DequeueLoadNext, DequeueCheckHead, DequeueStoreEmpty, DequeueHelpTail, DequeueLoadValue, DequeueClaim, DequeueStoreResult, DequeueMoveHead, Flush as FlushPoint, Fence as FencePoint}
+use Rattle.helping.specs.declared.op.Op.TheVariants.{PrepareStore, PrepareFlush, PrepareFence, EnqueueLoadTail, EnqueueLoadNext, EnqueueCheckTail, EnqueueLink, EnqueueMoveTail, EnqueueHelpTail, DequeueLoadHead, DequeueLoadTail, DequeueLoadNext, DequeueCheckHead, DequeueStoreEmpty, DequeueHelpTail, DequeueLoadItem, DequeueClaim, DequeueStoreResult, DequeueMoveHead, Flush as FlushPoint, Fence as FencePoint}
 use Rattle.helping.specs.declared.keeping.Keeping.TheVariants.{Link as KeepLink, PassedLink as KeepPassedLink, Empty as KeepEmpty, DequeuePassedLink as KeepDequeuePassedLink, Claim as KeepClaim, Result as KeepResult}
 use Rattle.protocol.specs.Machine.{Memory, put, with_store, with_fence, with_access}
 use Rattle.recover.specs.Sound.{IsIssued, IsOwn}
@@ -40,15 +44,15 @@ use Rattle.arena.proofs.Chains.{leads_at, leads_trans, leads_one, in_left}
 use Rattle.protocol.proofs.chain.Chains.{upd, upd_same, upd_other, leads_from, leads_in, leads_next, in_chain}
 use Rattle.protocol.specs.invariants.Ledger.{Stage, Ledger, held_token, asked_call}
 use Rattle.protocol.specs.invariants.Places.{IsOwnWord, IsOfRecord, Says, SaysEmpty, empties}
-use Rattle.protocol.specs.invariants.Base.{IsLinking, IsClaiming, IsAnswering, Empties, Base}
-use Rattle.protocol.specs.invariants.Knows.{Mine, Loose, Before, Written, Unwritten, Preparing, Prepared, Acting, Enqueuing, Linked, Dequeuing, IsPassed, Claims, Knows}
+use Rattle.protocol.specs.invariants.Base.{IsMessage, IsLinking, IsClaiming, IsAnswering, Empties, Base}
+use Rattle.protocol.specs.invariants.Knows.{Mine, Loose, Before, Written, Unwritten, UnwrittenBelow, Unstored, Preparing, Prepared, Acting, Enqueuing, Linked, Dequeuing, IsPassed, Claims, Knows}
 use Rattle.protocol.specs.invariants.Grows.{Grows}
 use Rattle.protocol.specs.invariants.Ledger.Stage.{Unmoved, Seen, Took}
 use Rattle.protocol.proofs.changes.Puts.{IsEmptyWord, empty_word, put_cases, put_same, put_other, put_empties}
 use Rattle.protocol.proofs.calls.Stable.{empty_own, IsOwnWrite, own_write, stable}
 use Rattle.protocol.proofs.changes.Keeps.{restaged, kept_ledger, Kept}
-use Rattle.protocol.proofs.changes.Fences.{chain_value, keep_any}
-use Rattle.protocol.proofs.calls.Preparations.{IsLastWrite, IsPlanned, planned, planned_write, one_plan, prepared_issued, written_issued, all_written, prepared_value}
+use Rattle.protocol.proofs.changes.Fences.{chain_part, keep_any}
+use Rattle.protocol.proofs.calls.Preparations.{IsLastWrite, IsPlanned, planned, planned_write, turn_of, one_plan, prepared_issued, written_issued, all_written, prepared_part, prepared_value}
 use Rattle.protocol.proofs.changes.Stores.{none_grows, same_links, same_marks, own_store_grows, no_result, MayStore, own_base, head_base, tail_base, link_base, claim_base, empty_base, result_base, head_grows, tail_grows, link_grows, claim_grows, empty_grows, result_grows}
 
 -- what a call knows after a step, or that it took effect with its answer
@@ -79,7 +83,7 @@ pub record Row (s : Shape) (m : Memory) (l : Ledger) (n : Memory) (k : Ledger) (
 
 -- where a call is that has written this much of its record
 pub arrives : (s : Shape) (m : Memory) (l : Ledger) (i : ℕ) (b : Begun) (index : ℕ) → Before s m l i b.token.0 → l.stage i ≡ Unmoved → l.begun i ≡ b → b.client.0 ≡ i → Written s m b index → bumps m.cached i ≤ b.used + 1
-    → ((p : Place) → IsOwnWord p → IsOfRecord p → number_of p ≡ b.token.0 → Unwritten s b index p → (m.cached p ≡ 0) × (m.kept p ≡ 0))
+    → ((p : Place) → IsOwnWord p → IsOfRecord p → number_of p ≡ b.token.0 → UnwrittenBelow s b index p → (m.cached p ≡ 0) × (m.kept p ≡ 0))
     → (Unwritten s b index (Announcement (record { 0 = i })) → (announcements m.cached i ≢ b.token.0) × (announcements m.kept i ≢ b.token.0))
     → Knows s m l i (prepared_op (prepared_to s.kind b index))
 arrives s m l i b index before unmoved begun own written bump rest unannounced = go (slice_get (preparation_of s.kind b) index) refl
@@ -89,13 +93,13 @@ arrives s m l i b index before unmoved begun own written bump rest unannounced =
 
     first : Prepared s m b → (call : Call) → b.call ≡ call → Knows s m l i (first_from call b)
     first p (Enq v) c =
-        let at : (values m.cached b.token.0 ≡ v) × (values m.kept b.token.0 ≡ v) = prepared_value s m b v p c in
+        let at : values m.cached b.token.0 ≡ v = prepared_value s m b v p c in
         let r : Enqueuing s m l i b.token.0 = record {
           before = before;
           acting = acting p;
           unmoved = unmoved;
-          asks = ap (λ x. x.call) begun ∙ c ∙ ap Enq (sym at.0);
-          kept = at.1 ∙ sym at.0;
+          asks = ap (λ x. x.call) begun ∙ c ∙ ap Enq (sym at);
+          kept = λ part. (prepared_part s m b v part p c).1 ∙ sym (prepared_part s m b v part p c).0;
         } in
         r
     first p Deq c =
@@ -104,8 +108,26 @@ arrives s m l i b index before unmoved begun own written bump rest unannounced =
 
     go : (o : Option Write) → slice_get (preparation_of s.kind b) index ≡ o → Knows s m l i (prepared_op (prepared_with b index o))
     go (Some w) e =
-        let r : Preparing s m l i b index w = record { before = before; unmoved = unmoved; begun = begun; own = own; in_hand = e; so_far = written; bump = bump; rest = rest; unannounced = unannounced } in
-        r
+        let r : Preparing s m l i b index w = record {
+          before = before;
+          unmoved = unmoved;
+          begun = begun;
+          own = own;
+          in_hand = e;
+          so_far = written;
+          bump = bump;
+          rest = λ p whose of named none. rest p whose of named (λ j v lt f. none j v (omega (arith, lt)) f);
+          unannounced = unannounced;
+        } in
+        let pl : IsPlanned s s.kind b.call b index w = planned_write s b index w written.begun e in
+        let fresh : Unstored m w = λ x part at.
+        rest w.place (own_write s b index w (before.mine.own ∙ sym own) e).own (subst IsOfRecord (sym at) tt) (pl.numbered (subst IsOfRecord (sym at) tt)).0
+        (λ j v lt f same.
+        let one : turn_of s.kind b.call v.place ≡ j = (planned_write s b j v written.begun f).turn in
+        let two : turn_of s.kind b.call w.place ≡ index = pl.turn in
+        let both : turn_of s.kind b.call v.place ≡ turn_of s.kind b.call w.place = ap (turn_of s.kind b.call) same in
+        absurd (omega (arith, lt, one, two, both))) in
+        (r, fresh)
     go None e = first (all_written s m b index written e) b.call refl
 
 looked_cases : (found : ℕ) (t : Bool) → (found == 0) ≡ t
@@ -177,9 +199,9 @@ module _ (s : Shape) (m : Memory) (l : Ledger) (claimed waiting : List ℕ) (b :
   acting_issued c h =
       subst (IsIssued s m.kept) h.mine.holds (prepared_issued s m (l.begun i) h.prepared (ap (owner s) h.mine.holds ∙ h.mine.own ∙ sym h.client))
 
-  row_PrepareStore : (bg : Begun) (index : ℕ) (w : Write) → Preparing s m l i bg index w
+  row_PrepareStore : (bg : Begun) (index : ℕ) (w : Write) → Preparing s m l i bg index w → Unstored m w
       → Row s m l (with_store m w.place w.value) l i (More (PrepareFlush (record { begun = bg; index = index; write = w })))
-  row_PrepareStore bg index w h =
+  row_PrepareStore bg index w h fresh =
       let g : IsBegun s bg = h.so_far.begun in
       let c : ℕ = bg.token.0 in
       let o : IsOwnWrite s bg w = own_write s bg index w (h.before.mine.own ∙ sym h.own) h.in_hand in
@@ -189,8 +211,10 @@ module _ (s : Shape) (m : Memory) (l : Ledger) (claimed waiting : List ℕ) (b :
         of_kind = pl.of_kind;
         fits = pl.fits;
       } in
-      let loose : (x : NodeId) (part : Part) → w.place ≡ Item x part → (j : ℕ) → links m.cached j ≢ x.0 = λ x part e j q.
-      h.before.loose.link j (q ∙ sym (ap number_of e) ∙ (pl.numbered (subst IsOfRecord (sym e) tt)).0) in
+      let loose : (x : NodeId) (part : Part) → w.place ≡ Item x part → ((j : ℕ) → links m.cached j ≢ x.0) × IsMessage (with_store m w.place w.value) x.0 = λ x part e. (
+        λ j q. h.before.loose.link j (q ∙ sym (ap number_of e) ∙ (pl.numbered (subst IsOfRecord (sym e) tt)).0),
+        message_stored s m l i bg index w h fresh x part e,
+      ) in
       let bump : (t : Client) → w.place ≡ Bump t → (bumps m.kept t.0 ≤ w.value) × (t.0 < s.clients) = λ t e.
       let who : t.0 ≡ bg.client.0 = pl.bump t.0 e in
       let up : w.value ≡ bg.used + 1 = pl.value ∙ ap (planned bg) e in
@@ -422,7 +446,7 @@ module _ (s : Shape) (m : Memory) (l : Ledger) (claimed waiting : List ℕ) (b :
           then (if z
           then More (DequeueStoreEmpty (record { token = token }))
           else More (FlushPoint (KeepDequeuePassedLink (record { token = token; last = last; next = next }))))
-          else More (DequeueLoadValue (record { token = token; first = first; next = next })))
+          else More (DequeueLoadItem (record { token = token; first = first; next = next; loading = at_length })))
           else More (DequeueLoadHead (record { token = token })))
       go false at e q z f = quiet (More (DequeueLoadHead (record { token = token }))) h.0
       go true at true q true f = quiet (More (DequeueStoreEmpty (record { token = token }))) (h.0, h.5 (eqb-true next.0 0 f))
@@ -433,7 +457,7 @@ module _ (s : Shape) (m : Memory) (l : Ledger) (claimed waiting : List ℕ) (b :
           let some : next.0 ≢ 0 = h.6 apart in
           let r : (links m.kept first.0 ≢ 0) × LeadsTo (links m.kept) last.0 (links m.kept first.0) = leads_next (links m.kept) first.0 last.0 h.2 apart in
           let link : links m.kept first.0 ≡ next.0 = sym (b.chained.kept first.0 r.0) ∙ (h.4 some).0 in
-          quiet (More (DequeueLoadValue (record { token = token; first = first; next = next }))) (
+          quiet (More (DequeueLoadItem (record { token = token; first = first; next = next; loading = at_length }))) (
             h.0,
             (h.4 some).1,
             record {
@@ -443,6 +467,7 @@ module _ (s : Shape) (m : Memory) (l : Ledger) (claimed waiting : List ℕ) (b :
               some = some;
               tail = leads_trans (links m.kept) last.0 (m.cached Tail) next.0 (subst (λ x. LeadsTo (links m.kept) last.0 x) link r.1) h.3;
             },
+            tt,
           )
 
   row_DequeueStoreEmpty : (token : Token) → Knows s m l i (DequeueStoreEmpty (record { token = token }))
@@ -500,13 +525,29 @@ module _ (s : Shape) (m : Memory) (l : Ledger) (claimed waiting : List ℕ) (b :
         acting = g.0;
       })
 
-  -- the value of a node that may be claimed
-  claims_value : (first next : ℕ) → Claims m first next → values m.kept next ≡ values m.cached next
-  claims_value first next c =
+  -- the message of a node that may be claimed
+  claims_part : (first next : ℕ) (part : Part) → Claims m first next → part_at m.kept next part ≡ part_at m.cached next part
+  claims_part first next part c =
       let among : IsAmong first (0 ∷ claimed ++ waiting) = in_left first (0 ∷ claimed) waiting (elim c.passed [ inl z ↦ inl z | inr q ↦ inr (b.marked.back first q) ]) in
       let linked : IsAmong next (claimed ++ waiting) =
       subst (λ x. IsAmong x (claimed ++ waiting)) c.link (in_chain (links m.kept) 0 (claimed ++ waiting) first b.chained.chain among (λ z. c.some (sym c.link ∙ z))) in
-      sym (chain_value s m l claimed waiting b next linked)
+      sym (chain_part s m l claimed waiting b next linked part)
+
+  -- a part of it is loaded, and after the last it is known
+  row_DequeueLoadItem : (token : Token) (first next : NodeId) (loading : Loading) → Knows s m l i (DequeueLoadItem (record { token = token; first = first; next = next; loading = loading }))
+      → Row s m l m l i (successor s.kind (DequeueLoadItem (record { token = token; first = first; next = next; loading = loading })) (m.cached (Item next (part_next loading))))
+  row_DequeueLoadItem token first next at_length h =
+      quiet (More (DequeueLoadItem (record { token = token; first = first; next = next; loading = at_first (part_at m.cached next.0 Length) })))
+      (h.0, h.1, h.2, claims_part first.0 next.0 Length h.2)
+  row_DequeueLoadItem token first next (at_first len) h =
+      quiet (More (DequeueLoadItem (record { token = token; first = first; next = next; loading = at_second len (part_at m.cached next.0 First) })))
+      (h.0, h.1, h.2, (h.3, claims_part first.0 next.0 First h.2))
+  row_DequeueLoadItem token first next (at_second len one) h =
+      quiet (More (DequeueLoadItem (record { token = token; first = first; next = next; loading = at_third len one (part_at m.cached next.0 Second) })))
+      (h.0, h.1, h.2, (h.3.0, h.3.1, claims_part first.0 next.0 Second h.2))
+  row_DequeueLoadItem token first next (at_third len one two) h =
+      quiet (More (DequeueClaim (record { token = token; first = first; next = next; value = value_of len one two (part_at m.cached next.0 Third) })))
+      (h.0, h.1, h.2, rw (h.3.0, h.3.1, h.3.2, claims_part first.0 next.0 Third h.2) refl)
 
   row_DequeueClaim : (token : Token) (first next : NodeId) (v : Value) → Knows s m l i (DequeueClaim (record { token = token; first = first; next = next; value = v }))
       → Row s m l (with_access m (Cas (Mark next) 0 token.0)) l i (successor s.kind (DequeueClaim (record { token = token; first = first; next = next; value = v })) (m.cached (Mark next)))
@@ -546,35 +587,34 @@ module _ (s : Shape) (m : Memory) (l : Ledger) (claimed waiting : List ℕ) (b :
       ))
 
   row_DequeueStoreResult : (token : Token) (first next : NodeId) (v : Value) (claim : Claim) → Knows s m l i (DequeueStoreResult (record { claimed = record { token = token; first = first; next = next; value = v; claim = claim } }))
-      → Row s m l (with_store m (result_of s.kind (winner claim token) next v).place (result_of s.kind (winner claim token) next v).value) l i
+      → Row s m l (with_store m (result_of s.kind (winner claim token) next).place (result_of s.kind (winner claim token) next).value) l i
       (More (FlushPoint (KeepResult (record { claimed = record { token = token; first = first; next = next; value = v; claim = claim } }))))
   row_DequeueStoreResult token first next v claim h =
       let w : Token = winner claim token in
       let cached : marks m.cached next.0 ≡ (winner claim token).0 = b.marked.kept next.0 (λ z. h.1.some (sym h.1.marked ∙ z)) ∙ h.1.marked in
       let node : next.0 ≤ greatest s = subst (λ x. x ≤ greatest s) h.1.claims.link (b.fits_kept (Next first) tt) in
-      let small : FitsValue v = subst FitsValue h.1.value (values_fit m.kept next.0 (b.fits_kept (Item next First) tt)) in
       anyone (DequeueStoreResult (record { claimed = record { token = token; first = first; next = next; value = v; claim = claim } }))
       (More (FlushPoint (KeepResult (record { claimed = record { token = token; first = first; next = next; value = v; claim = claim } }))))
-      (with_store m (result_of s.kind (winner claim token) next v).place (result_of s.kind (winner claim token) next v).value) l
+      (with_store m (result_of s.kind (winner claim token) next).place (result_of s.kind (winner claim token) next).value) l
       (record {
         claimed = claimed;
         waiting = waiting;
-        base = result_base s m l claimed waiting b (winner claim token) next v (λ z. h.1.some (sym cached ∙ z)) cached node small;
-        grows = λ a. result_grows s m l claimed waiting b a (winner claim token) next v h.1.marked h.1.some h.1.value;
+        base = result_base s m l claimed waiting b (winner claim token) next (λ z. h.1.some (sym cached ∙ z)) cached node;
+        grows = λ a. result_grows s m l claimed waiting b a (winner claim token) next h.1.marked h.1.some;
       }) h
-      (λ c g. (g.0, g.1, put_same m.cached (result_of s.kind (winner claim token) next v).place (result_of s.kind (winner claim token) next v).value))
+      (λ c g. (g.0, g.1, put_same m.cached (result_of s.kind (winner claim token) next).place (result_of s.kind (winner claim token) next).value))
 
   row_KeepResult : (token : Token) (first next : NodeId) (v : Value) (claim : Claim) → Knows s m l i (FencePoint (KeepResult (record { claimed = record { token = token; first = first; next = next; value = v; claim = claim } })))
-      → Row s m l (with_fence m (result_of s.kind (winner claim token) next v).place) (kept_ledger s m l (result_of s.kind (winner claim token) next v).place) i
+      → Row s m l (with_fence m (result_of s.kind (winner claim token) next).place) (kept_ledger s m l (result_of s.kind (winner claim token) next).place) i
       (More (DequeueMoveHead (record { claimed = record { token = token; first = first; next = next; value = v; claim = claim } })))
   row_KeepResult token first next v claim h =
       fences (FencePoint (KeepResult (record { claimed = record { token = token; first = first; next = next; value = v; claim = claim } })))
-      (More (DequeueMoveHead (record { claimed = record { token = token; first = first; next = next; value = v; claim = claim } }))) (result_of s.kind (winner claim token) next v).place h
+      (More (DequeueMoveHead (record { claimed = record { token = token; first = first; next = next; value = v; claim = claim } }))) (result_of s.kind (winner claim token) next).place h
       (λ c g. (
         g.0,
         g.1,
         g.2,
-        put_same m.kept (result_of s.kind (winner claim token) next v).place (m.cached (result_of s.kind (winner claim token) next v).place) ∙ g.2,
+        put_same m.kept (result_of s.kind (winner claim token) next).place (m.cached (result_of s.kind (winner claim token) next).place) ∙ g.2,
       ))
 
   row_DequeueMoveHead : (token : Token) (first next : NodeId) (v : Value) (claim : Claim) → Knows s m l i (DequeueMoveHead (record { claimed = record { token = token; first = first; next = next; value = v; claim = claim } }))
@@ -596,7 +636,7 @@ module _ (s : Shape) (m : Memory) (l : Ledger) (claimed waiting : List ℕ) (b :
 
   -- each waiting point
   pub row : (op : Op) → Knows s m l i op → Row s m l (with_access m (access_of s.kind op)) (ledger_after s m l i op) i (successor s.kind op (m.cached (place_of (access_of s.kind op))))
-  row (PrepareStore p) h = row_PrepareStore p.begun p.index p.write h
+  row (PrepareStore p) h = row_PrepareStore p.begun p.index p.write h.0 h.1
   row (PrepareFlush p) h = quiet (More (PrepareFence (record { begun = p.begun; index = p.index; write = p.write }))) h
   row (PrepareFence p) h = row_PrepareFence p.begun p.index p.write h
   row (EnqueueLoadTail p) h = quiet (More (EnqueueLoadNext (record { node = p.node; last = node_of (m.cached Tail) }))) (h, record { chain = tail_on_chain; tail = there })
@@ -619,7 +659,7 @@ module _ (s : Shape) (m : Memory) (l : Ledger) (claimed waiting : List ℕ) (b :
   row (FencePoint (KeepDequeuePassedLink p)) h = fences (FencePoint (KeepDequeuePassedLink p)) (More (DequeueHelpTail (record { token = p.token; last = p.last; next = p.next }))) (Next p.last) h
       (λ c g. (g.0, g.1, upd_same (links m.kept) p.last.0 (links m.cached p.last.0) ∙ g.2))
   row (DequeueHelpTail p) h = anyone (DequeueHelpTail p) (More (DequeueLoadHead (record { token = p.token }))) (with_access m (Cas Tail p.last.0 p.next.0)) l (tail_moves p.last.0 p.next.0 h.2 h.1) h (λ c g. g.0)
-  row (DequeueLoadValue p) h = quiet (More (DequeueClaim (record { token = p.token; first = p.first; next = p.next; value = value_of (m.cached (Item p.next First)) }))) (h.0, h.1, h.2, claims_value p.first.0 p.next.0 h.2)
+  row (DequeueLoadItem p) h = row_DequeueLoadItem p.token p.first p.next p.loading h
   row (DequeueClaim p) h = row_DequeueClaim p.token p.first p.next p.value h
   row (FencePoint (KeepClaim p)) h = row_KeepClaim p.claimed.token p.claimed.first p.claimed.next p.claimed.value p.claimed.claim h
   row (DequeueStoreResult p) h = row_DequeueStoreResult p.claimed.token p.claimed.first p.claimed.next p.claimed.value p.claimed.claim h

@@ -1,7 +1,12 @@
 -- What a call knows outlasts the acts of every other client.
 use Rattle.std.proofs.Common.{◌≡◌, ◌≢◌, ℕ, zero, suc, ◌+◌, ◌≤◌, ◌⊎◌, inl, inr, Some, refl, sym, ◌∙◌, ap, subst}
 use Rattle.std.specs.Prelude.{slice_get}
-use Rattle.arena.specs.declared.place.Part.TheVariants.{First}
+use Rattle.arena.specs.declared.place.Part.{Part}
+use Rattle.arena.specs.declared.place.Part.TheVariants.{Length, First, Second, Third}
+use Rattle.stepper.specs.Loading.{IsLoaded}
+use Rattle.stepper.specs.declared.loading.Loading.{Loading}
+use Rattle.stepper.specs.declared.loading.Loading.TheVariants.{Length as at_length, First as at_first, Second as at_second, Third as at_third}
+use Rattle.protocol.proofs.changes.Puts.{values_same}
 use Rattle.words.specs.PlainQueue.{Value}
 use Rattle.words.specs.declared.call.Call.{Call}
 use Rattle.words.specs.declared.call.Call.TheVariants.{Enq, Deq}
@@ -13,18 +18,18 @@ use Rattle.arena.specs.Answers.{empty_answer_of, result_of}
 use Rattle.arena.specs.Chain.{LeadsTo}
 use Rattle.arena.specs.Place.{number_of}
 use Rattle.arena.specs.Shape.{Shape, owner}
-use Rattle.arena.specs.Words.{links, marks, values, announcements, IsWritten, value_of}
+use Rattle.arena.specs.Words.{links, marks, values, announcements, part_at, IsWritten}
 use Rattle.arena.specs.declared.place.Write.{Write}
 use Rattle.arena.specs.declared.place.Place.{Place}
 use Rattle.arena.specs.declared.place.Place.TheVariants.{Head, Tail, Announcement, Bump, Item, Next, Mark, Cell, Insert, Number, EntryKind, Status, EntryNode}
-use Rattle.stepper.specs.Preparation.{preparation_of, preparation_from, bump, announcement, write}
+use Rattle.stepper.specs.Preparation.{preparation_of, preparation_from, part_write, bump, announcement, write}
 use Rattle.stepper.specs.declared.prepare.Begun.{Begun}
 use Rattle.helping.specs.Claims.{winner}
 use Rattle.helping.specs.Table.{token_of, node_of}
 use Rattle.helping.specs.declared.dequeue.Claim.{Claim}
 use Rattle.helping.specs.declared.dequeue.Claim.TheVariants.{Won, LostTo}
 use Rattle.helping.specs.declared.op.Op.{Op}
-use Rattle.helping.specs.declared.op.Op.TheVariants.{PrepareStore, PrepareFlush, PrepareFence, EnqueueLoadTail, EnqueueLoadNext, EnqueueCheckTail, EnqueueLink, EnqueueMoveTail, EnqueueHelpTail, DequeueLoadHead, DequeueLoadTail, DequeueLoadNext, DequeueCheckHead, DequeueStoreEmpty, DequeueHelpTail, DequeueLoadValue, DequeueClaim, DequeueStoreResult, DequeueMoveHead, Flush as FlushPoint, Fence as FencePoint}
+use Rattle.helping.specs.declared.op.Op.TheVariants.{PrepareStore, PrepareFlush, PrepareFence, EnqueueLoadTail, EnqueueLoadNext, EnqueueCheckTail, EnqueueLink, EnqueueMoveTail, EnqueueHelpTail, DequeueLoadHead, DequeueLoadTail, DequeueLoadNext, DequeueCheckHead, DequeueStoreEmpty, DequeueHelpTail, DequeueLoadItem, DequeueClaim, DequeueStoreResult, DequeueMoveHead, Flush as FlushPoint, Fence as FencePoint}
 use Rattle.helping.specs.declared.keeping.Keeping.{Keeping}
 use Rattle.helping.specs.declared.keeping.Keeping.TheVariants.{Link as KeepLink, PassedLink as KeepPassedLink, Empty as KeepEmpty, DequeuePassedLink as KeepDequeuePassedLink, Claim as KeepClaim, Result as KeepResult}
 use Rattle.protocol.specs.Machine.{Memory}
@@ -32,7 +37,7 @@ use Rattle.arena.proofs.Chains.{leads_trans}
 use Rattle.protocol.proofs.chain.Chains.{leads_grows}
 use Rattle.protocol.specs.invariants.Places.{IsOfRecord, IsOwnWord, IsAnswer, home, SaysEmpty}
 use Rattle.protocol.specs.invariants.Ledger.{Ledger, asked_call}
-use Rattle.protocol.specs.invariants.Knows.{Mine, Loose, Before, Preparing, Prepared, Acting, Enqueuing, Linked, Dequeuing, IsPassed, WasTail, Claims, Claimer, Claimed, Knows, KnowsKeeping}
+use Rattle.protocol.specs.invariants.Knows.{Unstored, Mine, Loose, Before, Preparing, Prepared, Acting, Enqueuing, Linked, Dequeuing, IsPassed, WasTail, Claims, Claimer, Claimed, Knows, KnowsKeeping}
 use Rattle.protocol.specs.invariants.Grows.{Grows}
 
 -- where an empty answer is written
@@ -48,9 +53,9 @@ pub empty_number : (kind : Kind) (t : Token) → number_of (empty_answer_of kind
 empty_number Durable t = refl
 empty_number Log t = refl
 
-pub result_own : (kind : Kind) (t : Token) (n : NodeId) (v : Value) → IsOwnWord (result_of kind t n v).place
-result_own Durable t n v = tt
-result_own Log t n v = tt
+pub result_own : (kind : Kind) (t : Token) (n : NodeId) → IsOwnWord (result_of kind t n).place
+result_own Durable t n = tt
+result_own Log t n = tt
 
 -- a word of a record belongs to the record's client
 home_of_record : (s : Shape) (p : Place) → IsOfRecord p → home s p ≡ owner s (number_of p)
@@ -79,8 +84,11 @@ plain_write s b w own whose none = record { own = own; whose = whose; answer = �
 
 own_from : (s : Shape) (b : Begun) (kind : Kind) (call : Call) (j : ℕ) (w : Write) → b.call ≡ call → owner s b.token.0 ≡ b.client.0 → slice_get (preparation_from kind call b) j ≡ Some w → IsOwnWrite s b w
 own_from s b Durable (Enq v) zero w c o e = let same : bump b ≡ w = cc in subst (IsOwnWrite s b) same (plain_write s b (bump b) tt refl (λ x. x))
-own_from s b Durable (Enq v) (suc zero) w c o e = let same : write (Item (record { 0 = b.token.0 }) First) v ≡ w = cc in subst (IsOwnWrite s b) same (plain_write s b (write (Item (record { 0 = b.token.0 }) First) v) tt o (λ x. x))
-own_from s b Durable (Enq v) (suc (suc j)) w c o e = absurd (cc)
+own_from s b Durable (Enq v) (suc zero) w c o e = let same : part_write b v Length ≡ w = cc in subst (IsOwnWrite s b) same (plain_write s b (part_write b v Length) tt o (λ x. x))
+own_from s b Durable (Enq v) (suc (suc zero)) w c o e = let same : part_write b v First ≡ w = cc in subst (IsOwnWrite s b) same (plain_write s b (part_write b v First) tt o (λ x. x))
+own_from s b Durable (Enq v) (suc (suc (suc zero))) w c o e = let same : part_write b v Second ≡ w = cc in subst (IsOwnWrite s b) same (plain_write s b (part_write b v Second) tt o (λ x. x))
+own_from s b Durable (Enq v) (suc (suc (suc (suc zero)))) w c o e = let same : part_write b v Third ≡ w = cc in subst (IsOwnWrite s b) same (plain_write s b (part_write b v Third) tt o (λ x. x))
+own_from s b Durable (Enq v) (suc (suc (suc (suc (suc j))))) w c o e = absurd (cc)
 own_from s b Durable Deq zero w c o e = let same : bump b ≡ w = cc in subst (IsOwnWrite s b) same (plain_write s b (bump b) tt refl (λ x. x))
 own_from s b Durable Deq (suc zero) w c o e = let same : announcement b ≡ w = cc in subst (IsOwnWrite s b) same (plain_write s b (announcement b) tt refl (λ x. x))
 own_from s b Durable Deq (suc (suc j)) w c o e = absurd (cc)
@@ -88,10 +96,13 @@ own_from s b Log (Enq v) zero w c o e = let same : bump b ≡ w = cc in subst (I
 own_from s b Log (Enq v) (suc zero) w c o e = let same : write (Number b.token) b.number ≡ w = cc in subst (IsOwnWrite s b) same (plain_write s b (write (Number b.token) b.number) tt o (λ x. x))
 own_from s b Log (Enq v) (suc (suc zero)) w c o e = let same : write (EntryKind b.token) 1 ≡ w = cc in subst (IsOwnWrite s b) same (plain_write s b (write (EntryKind b.token) 1) tt o (λ x. x))
 own_from s b Log (Enq v) (suc (suc (suc zero))) w c o e = let same : write (EntryNode b.token) b.token.0 ≡ w = cc in subst (IsOwnWrite s b) same (record { own = tt; whose = o; answer = λ a. (λ d. cc, refl) })
-own_from s b Log (Enq v) (suc (suc (suc (suc zero)))) w c o e = let same : write (Item (record { 0 = b.token.0 }) First) v ≡ w = cc in subst (IsOwnWrite s b) same (plain_write s b (write (Item (record { 0 = b.token.0 }) First) v) tt o (λ x. x))
-own_from s b Log (Enq v) (suc (suc (suc (suc (suc zero))))) w c o e = let same : write (Insert (record { 0 = b.token.0 })) b.token.0 ≡ w = cc in subst (IsOwnWrite s b) same (plain_write s b (write (Insert (record { 0 = b.token.0 })) b.token.0) tt o (λ x. x))
-own_from s b Log (Enq v) (suc (suc (suc (suc (suc (suc zero)))))) w c o e = let same : announcement b ≡ w = cc in subst (IsOwnWrite s b) same (plain_write s b (announcement b) tt refl (λ x. x))
-own_from s b Log (Enq v) (suc (suc (suc (suc (suc (suc (suc j))))))) w c o e = absurd (cc)
+own_from s b Log (Enq v) (suc (suc (suc (suc zero)))) w c o e = let same : part_write b v Length ≡ w = cc in subst (IsOwnWrite s b) same (plain_write s b (part_write b v Length) tt o (λ x. x))
+own_from s b Log (Enq v) (suc (suc (suc (suc (suc zero))))) w c o e = let same : part_write b v First ≡ w = cc in subst (IsOwnWrite s b) same (plain_write s b (part_write b v First) tt o (λ x. x))
+own_from s b Log (Enq v) (suc (suc (suc (suc (suc (suc zero)))))) w c o e = let same : part_write b v Second ≡ w = cc in subst (IsOwnWrite s b) same (plain_write s b (part_write b v Second) tt o (λ x. x))
+own_from s b Log (Enq v) (suc (suc (suc (suc (suc (suc (suc zero))))))) w c o e = let same : part_write b v Third ≡ w = cc in subst (IsOwnWrite s b) same (plain_write s b (part_write b v Third) tt o (λ x. x))
+own_from s b Log (Enq v) (suc (suc (suc (suc (suc (suc (suc (suc zero)))))))) w c o e = let same : write (Insert (record { 0 = b.token.0 })) b.token.0 ≡ w = cc in subst (IsOwnWrite s b) same (plain_write s b (write (Insert (record { 0 = b.token.0 })) b.token.0) tt o (λ x. x))
+own_from s b Log (Enq v) (suc (suc (suc (suc (suc (suc (suc (suc (suc zero))))))))) w c o e = let same : announcement b ≡ w = cc in subst (IsOwnWrite s b) same (plain_write s b (announcement b) tt refl (λ x. x))
+own_from s b Log (Enq v) (suc (suc (suc (suc (suc (suc (suc (suc (suc (suc j)))))))))) w c o e = absurd (cc)
 own_from s b Log Deq zero w c o e = let same : bump b ≡ w = cc in subst (IsOwnWrite s b) same (plain_write s b (bump b) tt refl (λ x. x))
 own_from s b Log Deq (suc zero) w c o e = let same : write (Number b.token) b.number ≡ w = cc in subst (IsOwnWrite s b) same (plain_write s b (write (Number b.token) b.number) tt o (λ x. x))
 own_from s b Log Deq (suc (suc zero)) w c o e = let same : write (EntryKind b.token) 2 ≡ w = cc in subst (IsOwnWrite s b) same (plain_write s b (write (EntryKind b.token) 2) tt o (λ x. x))
@@ -179,13 +190,21 @@ module _ (a i : ℕ) (s : Shape) (m : Memory) (l : Ledger) (n : Memory) (k : Led
         );
   }
 
+  unstored_stable : (b : Begun) (index : ℕ) (w : Write) → Preparing s m l i b index w → Unstored m w → Unstored n w
+  unstored_stable b index w h fresh x part e =
+      let o : IsOwnWrite s b w = own_write s b index w (h.before.mine.own ∙ sym h.own) h.in_hand in
+      own_stands w.place 0 o.own (o.whose ∙ h.own) (λ r y q. h.before.loose.mark y (q ∙ (o.answer r).1)) (fresh x part e)
+
   in_hand_stable : (b : Begun) (index : ℕ) (w : Write) → Preparing s m l i b index w → IsWritten m.cached w → IsWritten n.cached w
   in_hand_stable b index w h e =
       let o : IsOwnWrite s b w = own_write s b index w (h.before.mine.own ∙ sym h.own) h.in_hand in
       g.at_own w.place o.own (λ q. ne (sym h.own ∙ sym o.whose ∙ q)) (λ r x q. h.before.loose.mark x (q ∙ (o.answer r).1)) ∙ e
 
+  same_part : (c : ℕ) (part : Part) → owner s c ≡ i → part_at n.cached c part ≡ part_at m.cached c part
+  same_part c part own = g.at_own (Item (record { 0 = c }) part) tt (λ e. ne (sym own ∙ e)) (λ r. absurd r)
+
   same_value : (c : ℕ) → owner s c ≡ i → values n.cached c ≡ values m.cached c
-  same_value c own = ap value_of (g.at_own (Item (record { 0 = c }) First) tt (λ e. ne (sym own ∙ e)) (λ r. absurd r))
+  same_value c own = values_same n.cached m.cached c (λ part. same_part c part own)
 
   enqueuing_stable : (c : ℕ) → Enqueuing s m l i c → Enqueuing s n k i c
   enqueuing_stable c h = record {
@@ -193,7 +212,7 @@ module _ (a i : ℕ) (s : Shape) (m : Memory) (l : Ledger) (n : Memory) (k : Led
     acting = acting_stable c (inr h.before.loose.mark) h.acting;
     unmoved = stage_stable c h.before ∙ h.unmoved;
     asks = asks_stable (asked_call l i) refl ∙ h.asks ∙ ap Enq (sym (same_value c h.before.mine.own));
-    kept = elim (g.at_kept_own (Item (record { 0 = c }) First) tt) [ inl t ↦ ap value_of t ∙ h.kept | inr t ↦ ap value_of t ] ∙ sym (same_value c h.before.mine.own);
+    kept = λ part. elim (g.at_kept_own (Item (record { 0 = c }) part) tt) [ inl t ↦ t ∙ h.kept part | inr t ↦ t ] ∙ sym (same_part c part h.before.mine.own);
   }
 
   linked_stable : (c : ℕ) → Linked s m l i c → Linked s n k i c
@@ -242,14 +261,23 @@ module _ (a i : ℕ) (s : Shape) (m : Memory) (l : Ledger) (n : Memory) (k : Led
     tail = tail_stable y h.tail;
   }
 
-  value_stable : (x y v : ℕ) → Claims m x y → values m.kept y ≡ v → values n.kept y ≡ v
-  value_stable x y v h e = subst (λ z. values n.kept z ≡ values m.kept z) h.link (g.at_linked x (λ z. h.some (sym h.link ∙ z))) ∙ e
+  part_stable : (x y : ℕ) (part : Part) → Claims m x y → part_at n.kept y part ≡ part_at m.kept y part
+  part_stable x y part h = subst (λ z. part_at n.kept z part ≡ part_at m.kept z part) h.link (g.at_linked x part (λ z. h.some (sym h.link ∙ z)))
+
+  value_stable : (x y : ℕ) (v : Value) → Claims m x y → values m.kept y ≡ v → values n.kept y ≡ v
+  value_stable x y v h e = values_same n.kept m.kept y (λ part. part_stable x y part h) ∙ e
+
+  loaded_stable : (x y : ℕ) (loading : Loading) → Claims m x y → IsLoaded m.kept y loading → IsLoaded n.kept y loading
+  loaded_stable x y at_length h e = e
+  loaded_stable x y (at_first len) h e = part_stable x y Length h ∙ e
+  loaded_stable x y (at_second len first) h e = (part_stable x y Length h ∙ e.0, part_stable x y First h ∙ e.1)
+  loaded_stable x y (at_third len first second) h e = (part_stable x y Length h ∙ e.0, part_stable x y First h ∙ e.1, part_stable x y Second h ∙ e.2)
 
   claimer_stable : (token : Token) (claim : Claim) → Claimer s m l i token claim → Claimer s n k i token claim
   claimer_stable token Won h = (acting_stable token.0 (inl h.1) h.0, asks_stable Deq h.1)
   claimer_stable token (LostTo other) h = (dequeuing_stable token.0 h.0, stage_stable token.0 h.0.before ∙ h.1, h.2)
 
-  claimed_stable : (x y v found : ℕ) → Claimed m x y v found → Claimed n x y v found
+  claimed_stable : (x y : ℕ) (v : Value) (found : ℕ) → Claimed m x y v found → Claimed n x y v found
   claimed_stable x y v found h = record {
     claims = claims_stable x y h.claims;
     value = value_stable x y v h.claims h.value;
@@ -257,10 +285,10 @@ module _ (a i : ℕ) (s : Shape) (m : Memory) (l : Ledger) (n : Memory) (k : Led
     some = h.some;
   }
 
-  result_stable : (x y v : ℕ) (token : Token) → Claimed m x y v token.0 → IsWritten m.cached (result_of s.kind token (node_of y) v) → IsWritten n.cached (result_of s.kind token (node_of y) v)
+  result_stable : (x y : ℕ) (v : Value) (token : Token) → Claimed m x y v token.0 → IsWritten m.cached (result_of s.kind token (node_of y)) → IsWritten n.cached (result_of s.kind token (node_of y))
   result_stable x y v token h =
-      subst (λ t. IsWritten m.cached (result_of s.kind (token_of t) (node_of y) v) → IsWritten n.cached (result_of s.kind (token_of t) (node_of y) v)) h.marked
-      (g.at_result y v (λ z. h.some (sym h.marked ∙ z)) h.value)
+      subst (λ t. IsWritten m.cached (result_of s.kind (token_of t) (node_of y)) → IsWritten n.cached (result_of s.kind (token_of t) (node_of y))) h.marked
+      (g.at_result y (λ z. h.some (sym h.marked ∙ z)))
 
   keeping_stable : (q : Keeping) → KnowsKeeping s m l i q → KnowsKeeping s n k i q
   keeping_stable (KeepLink p) h = (linked_stable p.node.0 h.0, link_stable p.last.0 p.node.0 h.0.acting.mine.some h.1)
@@ -286,7 +314,7 @@ module _ (a i : ℕ) (s : Shape) (m : Memory) (l : Ledger) (n : Memory) (k : Led
   )
 
   pub stable : (op : Op) → Knows s m l i op → Knows s n k i op
-  stable (PrepareStore p) h = preparing_stable p.begun p.index p.write h
+  stable (PrepareStore p) h = (preparing_stable p.begun p.index p.write h.0, unstored_stable p.begun p.index p.write h.0 h.1)
   stable (PrepareFence p) h = (preparing_stable p.begun p.index p.write h.0, in_hand_stable p.begun p.index p.write h.0 h.1)
   stable (PrepareFlush p) h = (preparing_stable p.begun p.index p.write h.0, in_hand_stable p.begun p.index p.write h.0 h.1)
   stable (EnqueueLoadTail p) h = enqueuing_stable p.node.0 h
@@ -309,7 +337,12 @@ module _ (a i : ℕ) (s : Shape) (m : Memory) (l : Ledger) (n : Memory) (k : Led
   )
   stable (DequeueStoreEmpty p) h = (dequeuing_stable p.token.0 h.0, stage_stable p.token.0 h.0.before ∙ h.1)
   stable (DequeueHelpTail p) h = (dequeuing_stable p.token.0 h.0, h.1, kept_link_stable p.last.0 p.next.0 h.1 h.2)
-  stable (DequeueLoadValue p) h = (dequeuing_stable p.token.0 h.0, stage_stable p.token.0 h.0.before ∙ h.1, claims_stable p.first.0 p.next.0 h.2)
+  stable (DequeueLoadItem p) h = (
+    dequeuing_stable p.token.0 h.0,
+    stage_stable p.token.0 h.0.before ∙ h.1,
+    claims_stable p.first.0 p.next.0 h.2,
+    loaded_stable p.first.0 p.next.0 p.loading h.2 h.3,
+  )
   stable (DequeueClaim p) h = (
     dequeuing_stable p.token.0 h.0,
     stage_stable p.token.0 h.0.before ∙ h.1,
@@ -318,11 +351,11 @@ module _ (a i : ℕ) (s : Shape) (m : Memory) (l : Ledger) (n : Memory) (k : Led
   )
   stable (DequeueStoreResult p) h = (claimer_stable p.claimed.token p.claimed.claim h.0, claimed_stable p.claimed.first.0 p.claimed.next.0 p.claimed.value (winner p.claimed.claim p.claimed.token).0 h.1)
   stable (DequeueMoveHead p) h =
-      let now : IsWritten n.cached (result_of s.kind (winner p.claimed.claim p.claimed.token) p.claimed.next p.claimed.value) = result_stable p.claimed.first.0 p.claimed.next.0 p.claimed.value (winner p.claimed.claim p.claimed.token) h.1 h.2 in (
+      let now : IsWritten n.cached (result_of s.kind (winner p.claimed.claim p.claimed.token) p.claimed.next) = result_stable p.claimed.first.0 p.claimed.next.0 p.claimed.value (winner p.claimed.claim p.claimed.token) h.1 h.2 in (
         claimer_stable p.claimed.token p.claimed.claim h.0,
         claimed_stable p.claimed.first.0 p.claimed.next.0 p.claimed.value (winner p.claimed.claim p.claimed.token).0 h.1,
         now,
-        elim (g.at_kept_own (result_of s.kind (winner p.claimed.claim p.claimed.token) p.claimed.next p.claimed.value).place (result_own s.kind (winner p.claimed.claim p.claimed.token) p.claimed.next p.claimed.value)) [ inl t ↦ t ∙ h.3 | inr t ↦ t ∙ h.2 ],
+        elim (g.at_kept_own (result_of s.kind (winner p.claimed.claim p.claimed.token) p.claimed.next).place (result_own s.kind (winner p.claimed.claim p.claimed.token) p.claimed.next)) [ inl t ↦ t ∙ h.3 | inr t ↦ t ∙ h.2 ],
       )
   stable (FlushPoint q) h = keeping_stable q h
   stable (FencePoint q) h = keeping_stable q h

@@ -143,7 +143,7 @@ few xs n d none below =
     (λ q h. elim (any_in q (0 ∷ xs) h) [ inl e ↦ omega arith | inr t ↦ omega (arith, below q t) ]) in
     omega arith
 
-pub map_agree : (f g : ℕ → ℕ) (xs : List ℕ) → ((x : ℕ) → IsAmong x xs → f x ≡ g x) → map f xs ≡ map g xs
+pub map_agree : {X : Type 0} (f g : ℕ → X) (xs : List ℕ) → ((x : ℕ) → IsAmong x xs → f x ≡ g x) → map f xs ≡ map g xs
 map_agree f g [] h = refl
 map_agree f g (x ∷ xs) h =
     let e : f x ≡ g x = h x (inl refl) in

@@ -15,7 +15,7 @@ use Rattle.arena.specs.Chain.{IsAmong}
 use Rattle.arena.specs.Chain.LeadsTo.{there}
 use Rattle.arena.specs.Place.{number_of}
 use Rattle.arena.specs.Shape.{Shape, owner}
-use Rattle.arena.specs.Words.{links, marks, values, bumps}
+use Rattle.arena.specs.Words.{links, marks, part_at, values, bumps}
 use Rattle.arena.specs.declared.place.Place.{Place}
 use Rattle.arena.specs.declared.place.Place.TheVariants.{Head, Tail, Announcement, Bump, Item, Next, Mark, Cell, Insert, Number, EntryKind, Status, EntryNode}
 use Rattle.helping.specs.Table.{token_of}
@@ -26,16 +26,16 @@ use Rattle.protocol.specs.invariants.Ledger.{Stage, Ledger, held_token}
 use Rattle.protocol.specs.invariants.Places.{Says, empties}
 use Rattle.protocol.specs.invariants.Base.{Absent, AllFit, IsLinking, IsClaiming, IsAnswering, Empties, Base}
 use Rattle.protocol.specs.invariants.Ledger.Stage.{Unmoved, Seen, Took}
-use Rattle.protocol.proofs.changes.Puts.{IsEmptyWord, put_same, put_other, put_id, put_absent, put_fits, put_empties, Issues, issues_fenced, values_fenced}
+use Rattle.protocol.proofs.changes.Puts.{IsEmptyWord, put_same, put_other, put_id, put_absent, put_fits, put_empties, Issues, issues_fenced, parts_fenced, values_fenced, messages_fenced}
 use Rattle.protocol.proofs.calls.Stable.{empty_number}
 use Rattle.protocol.proofs.changes.Keeps.{restaged, counted, noticed_ledger, kept_ledger, Kept, still, keep_grows, link_kept, mark_kept}
 
--- a node of the chain has its value kept
-pub chain_value : (s : Shape) (m : Memory) (l : Ledger) (claimed waiting : List ℕ) → Base s m l claimed waiting → (x : ℕ) → IsAmong x (claimed ++ waiting) → values m.cached x ≡ values m.kept x
-chain_value s m l claimed waiting b x h =
+-- a node of the chain has its message kept
+pub chain_part : (s : Shape) (m : Memory) (l : Ledger) (claimed waiting : List ℕ) → Base s m l claimed waiting → (x : ℕ) → IsAmong x (claimed ++ waiting) → (part : Part) → part_at m.cached x part ≡ part_at m.kept x part
+chain_part s m l claimed waiting b x h part =
     let p : (p : ℕ) × (links m.kept p ≡ x) × (x ≢ 0) = linked_by (links m.kept) 0 (claimed ++ waiting) b.chained.chain x h in
     let same : links m.cached p.0 ≡ x = b.chained.kept p.0 (λ z. p.2 (sym p.1 ∙ z)) ∙ p.1 in
-    subst (λ y. values m.cached y ≡ values m.kept y) same (b.linked_value p.0 (λ z. p.2 (sym same ∙ z)))
+    subst (λ y. part_at m.cached y part ≡ part_at m.kept y part) same (b.linked_part p.0 part (λ z. p.2 (sym same ∙ z)))
 
 -- the empty answers, one of them written
 pub empties_put : (s : Shape) (f : Place → ℕ) (c v : ℕ) → empties s (put f (empty_answer_of s.kind (token_of c)).place v) ≡ upd (empties s f) c v
@@ -123,10 +123,10 @@ module _ (s : Shape) (m : Memory) (l : Ledger) (claimed waiting : List ℕ) (b :
       let p : Place = Item n part in
       let v : ℕ = m.cached p in
       let after : ℕ → Value = values (put m.kept p v) in
-      let stays : (x : ℕ) → IsAmong x (claimed ++ waiting) → after x ≡ values m.kept x = λ x h. values_fenced m p x (chain_value s m l claimed waiting b x h) in
+      let stays : (x : ℕ) → IsAmong x (claimed ++ waiting) → after x ≡ values m.kept x = λ x h. values_fenced m p x (chain_part s m l claimed waiting b x h) in
       let content : map after waiting ≡ l.queue = map_agree after (values m.kept) waiting (λ x h. stays x (in_right x claimed waiting h)) ∙ b.content in
-      let linked : (j : ℕ) → links m.cached j ≢ 0 → values m.cached (links m.cached j) ≡ after (links m.cached j) = λ j h.
-      b.linked_value j h ∙ sym (values_fenced m p (links m.cached j) (b.linked_value j h)) in
+      let linked : (j : ℕ) (other : Part) → links m.cached j ≢ 0 → part_at m.cached (links m.cached j) other ≡ part_at (put m.kept p v) (links m.cached j) other = λ j other h.
+      b.linked_part j other h ∙ sym (parts_fenced m p (links m.cached j) (λ q. b.linked_part j q h) other) in
       let took : (j : ℕ) → marks m.kept j ≢ 0 → held_token l (owner s (marks m.kept j)) ≡ marks m.kept j → l.stage (owner s (marks m.kept j)) ≡ Took (Got (after j)) = λ j h hd.
       b.took_mark j h hd ∙ ap (λ x. Took (Got x)) (sym (stays j (in_left j claimed waiting (b.marked.back j h)))) in
       let empty : Empties s l (marks m.cached) (empties s m.cached) (empties s (put m.kept p v)) =
@@ -142,7 +142,8 @@ module _ (s : Shape) (m : Memory) (l : Ledger) (claimed waiting : List ℕ) (b :
         kept_head = b.kept_head;
         kept_head_to_head = b.kept_head_to_head;
         kept_tail = b.kept_tail;
-        linked_value = linked;
+        linked_part = linked;
+        message = messages_fenced m p b.message;
         issued_link = (issues p).issued_link;
         issued_mark = (issues p).issued_mark;
         flying_link = b.flying_link;
@@ -183,7 +184,8 @@ module _ (s : Shape) (m : Memory) (l : Ledger) (claimed waiting : List ℕ) (b :
         kept_head = b.kept_head;
         kept_head_to_head = b.kept_head_to_head;
         kept_tail = b.kept_tail;
-        linked_value = b.linked_value;
+        linked_part = b.linked_part;
+        message = b.message;
         issued_link = (issues (Bump (record { 0 = t }))).issued_link;
         issued_mark = (issues (Bump (record { 0 = t }))).issued_mark;
         flying_link = b.flying_link;
@@ -218,7 +220,8 @@ module _ (s : Shape) (m : Memory) (l : Ledger) (claimed waiting : List ℕ) (b :
         kept_head = b.head;
         kept_head_to_head = there;
         kept_tail = b.kept_tail;
-        linked_value = b.linked_value;
+        linked_part = b.linked_part;
+        message = b.message;
         issued_link = (issues Head).issued_link;
         issued_mark = (issues Head).issued_mark;
         flying_link = b.flying_link;
@@ -254,7 +257,8 @@ module _ (s : Shape) (m : Memory) (l : Ledger) (claimed waiting : List ℕ) (b :
         kept_head = b.kept_head;
         kept_head_to_head = b.kept_head_to_head;
         kept_tail = leads_from (links m.kept) 0 (claimed ++ waiting) (m.cached Tail) b.chained.chain on_chain;
-        linked_value = b.linked_value;
+        linked_part = b.linked_part;
+        message = b.message;
         issued_link = (issues Tail).issued_link;
         issued_mark = (issues Tail).issued_mark;
         flying_link = b.flying_link;

@@ -7,7 +7,7 @@ use Rattle.words.specs.declared.call.Reply.TheVariants.{Done, Got, Empty}
 use Rattle.arena.specs.Chain.{IsFirst}
 use Rattle.arena.specs.Chain.LeadsTo.{there}
 use Rattle.arena.specs.Shape.{Shape, owner}
-use Rattle.arena.specs.Words.{links, marks, values}
+use Rattle.arena.specs.Words.{links, marks, part_at, values}
 use Rattle.arena.specs.declared.place.Place.{Place}
 use Rattle.arena.specs.declared.place.Place.TheVariants.{Head, Tail, Next, Mark, Cell, Status}
 use Rattle.protocol.specs.Machine.{Memory, with_fence}
@@ -21,10 +21,10 @@ use Rattle.protocol.specs.invariants.Base.{IsLinking, IsClaiming, IsAnswering, E
 use Rattle.protocol.specs.invariants.Knows.{Loose}
 use Rattle.protocol.specs.invariants.Grows.{Grows}
 use Rattle.protocol.specs.invariants.Ledger.Stage.{Unmoved, Seen, Took}
-use Rattle.protocol.proofs.changes.Puts.{put_cases, put_absent, put_fits, put_empties, Issues, issues_fenced, values_fenced}
+use Rattle.protocol.proofs.changes.Puts.{put_cases, put_absent, put_fits, put_empties, Issues, issues_fenced, parts_fenced}
 
 -- client i's call is at another stage, and the queue is this one
-abbrev pub restaged : Ledger → ℕ → Stage → List ℕ → Ledger
+abbrev pub restaged : Ledger → ℕ → Stage → List Value → Ledger
 restaged l i st queue = record { begun = l.begun; stage = upd l.stage i st; queue = queue }
 
 -- what a found empty queue comes to, once its answer is kept
@@ -55,7 +55,7 @@ pub record Kept (s : Shape) (m : Memory) (l : Ledger) (n : Memory) (k : Ledger) 
 pub still : (l : Ledger) (i0 : ℕ) (st0 st1 : Stage) (queue : List Value) → l.stage i0 ≡ st0 → (i : ℕ) (st : Stage) → st ≢ st0 → l.stage i ≡ st → (restaged l i0 st1 queue).stage i ≡ st
 still l i0 st0 st1 queue at i st ne h = upd_other l.stage i0 st1 i (λ e. ne (sym h ∙ ap l.stage e ∙ at)) ∙ h
 
-enq_or_deq : (v : ℕ) → Deq ≡ Enq v → ⊥
+enq_or_deq : (v : Value) → Deq ≡ Enq v → ⊥
 enq_or_deq v e = cc
 
 -- one word that is kept leaves what every client relies on
@@ -76,9 +76,9 @@ keep_grows s m l claimed waiting p k b begun stage a = record {
   new_mark = λ x. inl refl;
   at_own = λ q own ne free. refl;
   at_kept_own = λ q own. elim (put_cases m.kept p (m.cached p) q) [ inl t ↦ inr (t.1 ∙ ap m.cached (sym t.0)) | inr t ↦ inl t.1 ];
-  at_linked = λ x h. values_fenced m p (links m.kept x)
-      (subst (λ y. values m.cached y ≡ values m.kept y) (b.chained.kept x h) (b.linked_value x (λ z. h (sym (b.chained.kept x h) ∙ z))));
-  at_result = λ x v h e t. t;
+  at_linked = λ x part h. parts_fenced m p (links m.kept x)
+      (λ q. subst (λ y. part_at m.cached y q ≡ part_at m.kept y q) (b.chained.kept x h) (b.linked_part x q (λ z. h (sym (b.chained.kept x h) ∙ z)))) part;
+  at_result = λ x h t. t;
   tail = there;
   head = there;
   begun = λ i ne. begun i;
@@ -128,7 +128,8 @@ module _ (s : Shape) (m : Memory) (l : Ledger) (claimed waiting : List ℕ) (b :
         kept_head = b.kept_head;
         kept_head_to_head = leads_grows (links m.kept) (upd (links m.kept) n (links m.cached n)) (m.cached Head) (m.kept Head) old_link b.kept_head_to_head;
         kept_tail = leads_grows (links m.kept) (upd (links m.kept) n (links m.cached n)) (m.kept Tail) 0 old_link b.kept_tail;
-        linked_value = b.linked_value;
+        linked_part = b.linked_part;
+        message = b.message;
         issued_link = x.issued_link;
         issued_mark = x.issued_mark;
         flying_link = λ j h z. absurd (no_link_ahead (links m.cached) (links m.kept) (claimed ++ waiting) n apart b.chained j h z);
@@ -173,7 +174,7 @@ module _ (s : Shape) (m : Memory) (l : Ledger) (claimed waiting : List ℕ) (b :
         (λ i loose silent. upd_other l.stage (owner s (links m.cached n)) (Took Done) i (λ e. loose.link n (sym linking.holds ∙ ap (held_token l) (sym e))));
   }
 
-drop_map : (f : ℕ → ℕ) (xs : List ℕ) → map f (drop 1 xs) ≡ drop 1 (map f xs)
+drop_map : {X : Type 0} (f : ℕ → X) (xs : List ℕ) → map f (drop 1 xs) ≡ drop 1 (map f xs)
 drop_map f [] = refl
 drop_map f (x ∷ xs) = refl
 
@@ -206,7 +207,8 @@ module _ (s : Shape) (m : Memory) (l : Ledger) (claimed waiting : List ℕ) (b :
         kept_head = in_left (m.kept Head) (0 ∷ claimed) (n ∷ []) b.kept_head;
         kept_head_to_head = b.kept_head_to_head;
         kept_tail = b.kept_tail;
-        linked_value = b.linked_value;
+        linked_part = b.linked_part;
+        message = b.message;
         issued_link = x.issued_link;
         issued_mark = x.issued_mark;
         flying_link = λ j h z.

@@ -1,8 +1,10 @@
 -- What one changed word leaves of the others.
 use Rattle.std.proofs.Common.{◌≡◌, ◌≢◌, ℕ, ◌+◌, ◌*◌, ◌≤◌, ◌<◌, ◌⊎◌, inl, inr, List, refl, sym, ◌∙◌, ap, subst, arith}
-use Rattle.std.proofs.lemmas.Bool.{cases_Bool, false≢true}
+use Rattle.std.proofs.lemmas.Bool.{cases_Bool, cases_eq, false≢true}
 use mathlib.Core.Path.{fun_ext}
-use Rattle.arena.specs.declared.place.Part.TheVariants.{First}
+use Rattle.arena.specs.declared.place.Part.TheVariants.{Length, First, Second, Third}
+use Rattle.words.specs.Item.{AreParts}
+use Rattle.words.proofs.Parts.{parts_blank, parts_cut}
 use Rattle.words.specs.declared.call.NodeId.{NodeId}
 use Rattle.arena.specs.declared.place.Part.{Part}
 use Rattle.words.specs.declared.call.Kind.{Kind}
@@ -12,7 +14,7 @@ use Rattle.arena.specs.Answers.{empty_answer_of}
 use Rattle.arena.specs.Place.{is_same, is_same-true, is_same-from, number_of}
 use Rattle.arena.specs.Ranges.{Fits, IsReadByCalls}
 use Rattle.arena.specs.Shape.{Shape, owner}
-use Rattle.arena.specs.Words.{links, marks, bumps, announcements, value_of, values}
+use Rattle.arena.specs.Words.{links, marks, bumps, announcements, part_at, values, HoldsItem}
 use Rattle.arena.specs.declared.place.Place.{Place}
 use Rattle.arena.specs.declared.place.Place.TheVariants.{Announcement, Bump, Cell, Status, Item}
 use Rattle.helping.specs.Table.{token_of}
@@ -20,7 +22,7 @@ use Rattle.protocol.specs.Machine.{Memory, put, with_fence}
 use Rattle.recover.specs.Sound.{IsIssued, IsOwn}
 use Rattle.protocol.specs.invariants.Ledger.{Ledger}
 use Rattle.protocol.specs.invariants.Places.{IsOfRecord, IsOfKind, empties}
-use Rattle.protocol.specs.invariants.Base.{Blank, Absent, AllFit, Base}
+use Rattle.protocol.specs.invariants.Base.{Blank, Absent, AllFit, IsMessage, Base}
 
 pub put_same : (f : Place → ℕ) (p : Place) (v : ℕ) → put f p v p ≡ v
 put_same f p v = rw (is_same-from p p refl) refl
@@ -37,16 +39,93 @@ put_cases f p v q = elim (cases_Bool (is_same p q)) [
   | inr e ↦ inr (λ s. false≢true (sym e ∙ is_same-from p q (sym s)), rw e refl)
 ]
 
--- a part of one node's message that is changed leaves the values of the others
-pub values_elsewhere : (f : Place → ℕ) (n : NodeId) (part : Part) (v x : ℕ) → x ≢ n.0 → values (put f (Item n part) v) x ≡ values f x
-values_elsewhere f n part v x ne = ap value_of (put_other f (Item n part) v (Item (record { 0 = x }) First) (λ e. ne (ap number_of e)))
+-- the messages of nodes whose parts are the same
+pub values_same : (f g : Place → ℕ) (x : ℕ) → ((part : Part) → part_at f x part ≡ part_at g x part) → values f x ≡ values g x
+values_same f g x same = cc (same Length, same First, same Second, same Third)
 
--- a word that is kept leaves the kept value of a node whose two values are one
-pub values_fenced : (m : Memory) (p : Place) (x : ℕ) → values m.cached x ≡ values m.kept x → values (with_fence m p).kept x ≡ values m.kept x
-values_fenced m p x same = elim (put_cases m.kept p (m.cached p) (Item (record { 0 = x }) First)) [
-  | inl t ↦ ap value_of (t.1 ∙ ap m.cached (sym t.0)) ∙ same
-  | inr t ↦ ap value_of t.1
+-- a part of one node's message that is changed leaves the parts of the others
+pub parts_elsewhere : (f : Place → ℕ) (n : NodeId) (part : Part) (v x : ℕ) → x ≢ n.0 → (other : Part) → part_at (put f (Item n part) v) x other ≡ part_at f x other
+parts_elsewhere f n part v x ne other = put_other f (Item n part) v (Item (record { 0 = x }) other) (λ e. ne (ap number_of e))
+
+pub values_elsewhere : (f : Place → ℕ) (n : NodeId) (part : Part) (v x : ℕ) → x ≢ n.0 → values (put f (Item n part) v) x ≡ values f x
+values_elsewhere f n part v x ne = values_same (put f (Item n part) v) f x (parts_elsewhere f n part v x ne)
+
+-- a word that is kept leaves the kept parts of a node whose cached ones are the same
+pub parts_fenced : (m : Memory) (p : Place) (x : ℕ) → ((part : Part) → part_at m.cached x part ≡ part_at m.kept x part)
+    → (part : Part) → part_at (with_fence m p).kept x part ≡ part_at m.kept x part
+parts_fenced m p x same part = elim (put_cases m.kept p (m.cached p) (Item (record { 0 = x }) part)) [
+  | inl t ↦ t.1 ∙ ap m.cached (sym t.0) ∙ same part
+  | inr t ↦ t.1
 ]
+
+pub values_fenced : (m : Memory) (p : Place) (x : ℕ) → ((part : Part) → part_at m.cached x part ≡ part_at m.kept x part)
+    → values (with_fence m p).kept x ≡ values m.kept x
+values_fenced m p x same = values_same (with_fence m p).kept m.kept x (parts_fenced m p x same)
+
+-- what is said of a message is said of one with the same words
+pub message_same : (m n : Memory) (x : ℕ) → ((part : Part) → part_at n.cached x part ≡ part_at m.cached x part)
+    → ((part : Part) → part_at n.kept x part ≡ part_at m.kept x part) → IsMessage m x → IsMessage n x
+message_same m n x cached kept h = record {
+  item = rw (cached Length, cached First, cached Second, cached Third) h.item;
+  stays = λ part. elim (h.stays part) [
+    | inl same ↦ inl (kept part ∙ same ∙ sym (cached part))
+    | inr none ↦ inr (kept part ∙ none)
+  ];
+  sized = λ part word some. kept Length ∙ h.sized part word (λ z. some (cached part ∙ z)) ∙ sym (cached Length);
+}
+
+-- a part of a message is stored, and what is said of that message holds still
+pub messages_put : (m : Memory) (n : NodeId) (part : Part) (v : ℕ) → IsMessage (record { cached = put m.cached (Item n part) v; kept = m.kept }) n.0
+    → ((x : ℕ) → IsMessage m x) → (x : ℕ) → IsMessage (record { cached = put m.cached (Item n part) v; kept = m.kept }) x
+messages_put m n part v here all x = elim (cases_eq x n.0) [
+  | inl e ↦ subst (IsMessage (record { cached = put m.cached (Item n part) v; kept = m.kept })) (sym e) here
+  | inr ne ↦
+      message_same m (record { cached = put m.cached (Item n part) v; kept = m.kept }) x (parts_elsewhere m.cached n part v x ne) (λ other. refl) (all x)
+]
+
+-- a word becomes kept
+pub messages_fenced : (m : Memory) (p : Place) → ((x : ℕ) → IsMessage m x) → (x : ℕ) → IsMessage (with_fence m p) x
+messages_fenced m p all x =
+    let h : IsMessage m x = all x in
+    record {
+      item = h.item;
+      stays = λ part. elim (put_cases m.kept p (m.cached p) (Item (record { 0 = x }) part)) [
+        | inl t ↦ inl (t.1 ∙ ap m.cached (sym t.0))
+        | inr t ↦ elim (h.stays part) [ inl same ↦ inl (t.1 ∙ same) | inr none ↦ inr (t.1 ∙ none) ]
+      ];
+      sized = λ part word some. elim (put_cases m.kept p (m.cached p) (Item (record { 0 = x }) Length)) [
+        | inl t ↦ t.1 ∙ ap m.cached (sym t.0)
+        | inr t ↦ t.1 ∙ h.sized part word some
+      ];
+    }
+
+-- a message's kept words are an item's, too
+pub kept_item : (m : Memory) (x : ℕ) → IsMessage m x → HoldsItem m.kept x
+kept_item m x h = go (cases_eq (part_at m.cached x First) 0) (cases_eq (part_at m.cached x Second) 0) (cases_eq (part_at m.cached x Third) 0)
+  where
+    -- the length is kept, and each word is the cached one or 0
+    whole : part_at m.kept x Length ≡ part_at m.cached x Length → HoldsItem m.kept x
+    whole same =
+        subst (λ len. AreParts len (part_at m.kept x First) (part_at m.kept x Second) (part_at m.kept x Third)) (sym same)
+        (parts_cut (part_at m.cached x Length) (part_at m.cached x First) (part_at m.cached x Second) (part_at m.cached x Third)
+        (part_at m.kept x First) (part_at m.kept x Second) (part_at m.kept x Third) h.item (h.stays First) (h.stays Second) (h.stays Third))
+
+    -- no word is cached, and none is kept
+    none : (part : Part) → part_at m.cached x part ≡ 0 → part_at m.kept x part ≡ 0
+    none part z = elim (h.stays part) [ inl same ↦ same ∙ z | inr zero ↦ zero ]
+
+    short : part_at m.kept x Length ≤ 24
+    short = elim (h.stays Length) [
+      | inl same ↦ (let few = h.item.short in omega (arith, same, few))
+      | inr zero ↦ omega (arith, zero)
+    ]
+
+    go : (part_at m.cached x First ≡ 0) ⊎ (part_at m.cached x First ≢ 0) → (part_at m.cached x Second ≡ 0) ⊎ (part_at m.cached x Second ≢ 0)
+        → (part_at m.cached x Third ≡ 0) ⊎ (part_at m.cached x Third ≢ 0) → HoldsItem m.kept x
+    go (inr some) second third = whole (h.sized First (λ e. cc) some)
+    go (inl a) (inr some) third = whole (h.sized Second (λ e. cc) some)
+    go (inl a) (inl b) (inr some) = whole (h.sized Third (λ e. cc) some)
+    go (inl a) (inl b) (inl c) = rw (none First a, none Second b, none Third c) (parts_blank (part_at m.kept x Length) short)
 
 -- what holds of every word holds of every word still
 pub put_all : (P : Place → ℕ → Type 0) (f : Place → ℕ) (p : Place) (v : ℕ) → ((q : Place) → P q (f q)) → P p v → (q : Place) → P q (put f p v q)

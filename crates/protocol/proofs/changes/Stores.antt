@@ -1,7 +1,6 @@
 -- A word that a call stores.
 use Rattle.std.proofs.Common.{drop, ◌≡◌, ◌≢◌, ℕ, ◌+◌, ◌≤◌, ◌<◌, ◌⊎◌, inl, inr, List, ◌∷◌, ◌++◌, refl, sym, ◌∙◌, ap, subst, arith}
 use Rattle.arena.specs.declared.place.Part.{Part}
-use Rattle.words.specs.PlainQueue.{Value, FitsValue}
 use Rattle.words.specs.declared.call.Call.TheVariants.{Enq}
 use Rattle.words.specs.declared.call.Client.{Client}
 use Rattle.words.specs.declared.call.Kind.{Kind}
@@ -14,7 +13,7 @@ use Rattle.arena.specs.Chain.LeadsTo.{there}
 use Rattle.arena.specs.Place.{number_of}
 use Rattle.arena.specs.Ranges.{Fits}
 use Rattle.arena.specs.Shape.{Shape, owner, greatest}
-use Rattle.arena.specs.Words.{links, marks, values, bumps, announcements}
+use Rattle.arena.specs.Words.{links, marks, part_at, values, bumps, announcements}
 use Rattle.arena.specs.declared.place.Place.{Place}
 use Rattle.arena.specs.declared.place.Place.TheVariants.{Head, Tail, Announcement, Bump, Item, Next, Mark, Cell, Insert, Number, EntryKind, Status, EntryNode}
 use Rattle.helping.specs.Table.{token_of, node_of}
@@ -29,10 +28,10 @@ use Rattle.words.specs.declared.call.Reply.TheVariants.{Done}
 use Rattle.protocol.specs.invariants.Knows.{WasTail, Enqueuing, Dequeuing, Claims}
 use Rattle.protocol.specs.invariants.Ledger.{Ledger, held_token, asked_call}
 use Rattle.protocol.specs.invariants.Places.{IsOfRecord, IsOwnWord, IsAnswer, IsOfKind, home, Says, empties}
-use Rattle.protocol.specs.invariants.Base.{Blank, Absent, AllFit, IsLinking, IsClaiming, IsAnswering, Empties, Base}
+use Rattle.protocol.specs.invariants.Base.{Blank, Absent, AllFit, IsMessage, IsLinking, IsClaiming, IsAnswering, Empties, Base}
 use Rattle.protocol.specs.invariants.Grows.{Grows}
 use Rattle.protocol.specs.invariants.Ledger.Stage.{Unmoved, Seen, Took}
-use Rattle.protocol.proofs.changes.Puts.{IsEmptyWord, put_cases, put_other, put_blank, put_absent, put_fits, put_empties, values_elsewhere}
+use Rattle.protocol.proofs.changes.Puts.{IsEmptyWord, put_cases, put_other, put_blank, put_absent, put_fits, put_empties, parts_elsewhere, values_elsewhere, messages_put}
 use Rattle.protocol.proofs.calls.Stable.{empty_own, empty_home, empty_number, result_own}
 use Rattle.protocol.proofs.changes.Fences.{cell_empties, status_empties}
 
@@ -47,21 +46,21 @@ none_grows a s m l = record {
   new_mark = λ x. inl refl;
   at_own = λ p own ne free. refl;
   at_kept_own = λ p own. inl refl;
-  at_linked = λ x h. refl;
-  at_result = λ x v h e t. t;
+  at_linked = λ x part h. refl;
+  at_result = λ x h t. t;
   tail = there;
   head = there;
   begun = λ i ne. refl;
   stage = λ i ne loose silent. refl;
 }
 
-pub result_answer : (kind : Kind) (t : Token) (n : NodeId) (v : Value) → IsAnswer (result_of kind t n v).place
-result_answer Durable t n v = tt
-result_answer Log t n v = tt
+pub result_answer : (kind : Kind) (t : Token) (n : NodeId) → IsAnswer (result_of kind t n).place
+result_answer Durable t n = tt
+result_answer Log t n = tt
 
-pub result_number : (kind : Kind) (t : Token) (n : NodeId) (v : Value) → number_of (result_of kind t n v).place ≡ t.0
-result_number Durable t n v = refl
-result_number Log t n v = refl
+pub result_number : (kind : Kind) (t : Token) (n : NodeId) → number_of (result_of kind t n).place ≡ t.0
+result_number Durable t n = refl
+result_number Log t n = refl
 
 -- a store to a word of a client's own, or to an answer of a claimed node's
 module _ (s : Shape) (m : Memory) (l : Ledger) (p : Place) (v : ℕ) (own : IsOwnWord p) where
@@ -72,7 +71,7 @@ module _ (s : Shape) (m : Memory) (l : Ledger) (p : Place) (v : ℕ) (own : IsOw
   same_marks x = put_other m.cached p v (Mark (record { 0 = x })) (λ e. subst IsOwnWord (sym e) own)
 
   pub own_store_grows : (a : ℕ) → (home s p ≡ a) ⊎ (IsAnswer p × record { at : ℕ; named : marks m.cached at ≡ number_of p })
-      → ((x w : ℕ) → marks m.kept x ≢ 0 → values m.kept x ≡ w → (result_of s.kind (token_of (marks m.kept x)) (node_of x) w).place ≡ p → (result_of s.kind (token_of (marks m.kept x)) (node_of x) w).value ≡ v)
+      → ((x : ℕ) → marks m.kept x ≢ 0 → (result_of s.kind (token_of (marks m.kept x)) (node_of x)).place ≡ p → (result_of s.kind (token_of (marks m.kept x)) (node_of x)).value ≡ v)
       → Grows a s m l (with_store m p v) l
   own_store_grows a whose result = record {
     at_link = λ x h. same_links x;
@@ -89,9 +88,9 @@ module _ (s : Shape) (m : Memory) (l : Ledger) (p : Place) (v : ℕ) (own : IsOw
       | inr t ↦ t.1
     ];
     at_kept_own = λ q o. inl refl;
-    at_linked = λ x h. refl;
-    at_result = λ x w h e t. elim (put_cases m.cached p v (result_of s.kind (token_of (marks m.kept x)) (node_of x) w).place) [
-      | inl q ↦ q.1 ∙ sym (result x w h e q.0)
+    at_linked = λ x part h. refl;
+    at_result = λ x h t. elim (put_cases m.cached p v (result_of s.kind (token_of (marks m.kept x)) (node_of x)).place) [
+      | inl q ↦ q.1 ∙ sym (result x h q.0)
       | inr q ↦ q.1 ∙ t
     ];
     tail = leads_at (links m.kept) (m.cached Tail) (put m.cached p v Tail) (sym (put_other m.cached p v Tail (λ e. subst IsOwnWord (sym e) own)));
@@ -102,10 +101,10 @@ module _ (s : Shape) (m : Memory) (l : Ledger) (p : Place) (v : ℕ) (own : IsOw
 
 -- the word is no answer that anybody has been given
 pub no_result : (s : Shape) (m : Memory) (l : Ledger) (claimed waiting : List ℕ) (p : Place) (v : ℕ) → Base s m l claimed waiting → (IsAnswer p → (x : ℕ) → marks m.cached x ≢ number_of p)
-    → (x w : ℕ) → marks m.kept x ≢ 0 → values m.kept x ≡ w → (result_of s.kind (token_of (marks m.kept x)) (node_of x) w).place ≡ p → (result_of s.kind (token_of (marks m.kept x)) (node_of x) w).value ≡ v
-no_result s m l claimed waiting p v b free x w h e at =
-    absurd (free (subst IsAnswer at (result_answer s.kind (token_of (marks m.kept x)) (node_of x) w)) x
-    (b.marked.kept x h ∙ sym (result_number s.kind (token_of (marks m.kept x)) (node_of x) w) ∙ ap number_of at))
+    → (x : ℕ) → marks m.kept x ≢ 0 → (result_of s.kind (token_of (marks m.kept x)) (node_of x)).place ≡ p → (result_of s.kind (token_of (marks m.kept x)) (node_of x)).value ≡ v
+no_result s m l claimed waiting p v b free x h at =
+    absurd (free (subst IsAnswer at (result_answer s.kind (token_of (marks m.kept x)) (node_of x))) x
+    (b.marked.kept x h ∙ sym (result_number s.kind (token_of (marks m.kept x)) (node_of x)) ∙ ap number_of at))
 
 -- what a store has to obey
 pub record MayStore (s : Shape) (m : Memory) (p : Place) (v : ℕ) : Type 0 where
@@ -128,7 +127,8 @@ module _ (s : Shape) (m : Memory) (l : Ledger) (claimed waiting : List ℕ) (b :
 
 module _ (s : Shape) (m : Memory) (l : Ledger) (claimed waiting : List ℕ) (b : Base s m l claimed waiting) where
   -- a word of a client's own that says nothing of an empty queue
-  pub own_base : (p : Place) (v : ℕ) → MayStore s m p v → IsOwnWord p → (IsEmptyWord p → ⊥) → ((n : NodeId) (part : Part) → p ≡ Item n part → (j : ℕ) → links m.cached j ≢ n.0)
+  pub own_base : (p : Place) (v : ℕ) → MayStore s m p v → IsOwnWord p → (IsEmptyWord p → ⊥)
+      → ((n : NodeId) (part : Part) → p ≡ Item n part → ((j : ℕ) → links m.cached j ≢ n.0) × IsMessage (with_store m p v) n.0)
       → ((t : Client) → p ≡ Bump t → (bumps m.kept t.0 ≤ v) × (t.0 < s.clients)) → ((t : Client) → p ≡ Announcement t → v ≢ 0 → IsOwn s m.kept t.0 v) → Base s (with_store m p v) l claimed waiting
   own_base Head v may own quiet loose bump announces = absurd own
   own_base Tail v may own quiet loose bump announces = absurd own
@@ -165,12 +165,13 @@ module _ (s : Shape) (m : Memory) (l : Ledger) (claimed waiting : List ℕ) (b :
       let bl : Blank s m.kept (put m.cached (Item n part) v) = store_blank s m l claimed waiting b (Item n part) v may in
       let ab : Absent s (put m.cached (Item n part) v) = store_absent s m l claimed waiting b (Item n part) v may in
       let fi : AllFit s (put m.cached (Item n part) v) = store_fits s m l claimed waiting b (Item n part) v may in
-      let lv : (j : ℕ) → links m.cached j ≢ 0 → values (put m.cached (Item n part) v) (links m.cached j) ≡ values m.kept (links m.cached j) = λ j h.
-      values_elsewhere m.cached n part v (links m.cached j) (loose n part refl j) ∙ b.linked_value j h in
+      let lv : (j : ℕ) (other : Part) → links m.cached j ≢ 0 → part_at (put m.cached (Item n part) v) (links m.cached j) other ≡ part_at m.kept (links m.cached j) other = λ j other h.
+      parts_elsewhere m.cached n part v (links m.cached j) ((loose n part refl).0 j) other ∙ b.linked_part j other h in
+      let me : (x : ℕ) → IsMessage (with_store m (Item n part) v) x = messages_put m n part v (loose n part refl).1 b.message in
       let fl : (j : ℕ) → links m.cached j ≢ 0 → links m.kept j ≡ 0 → IsLinking s l (values (put m.cached (Item n part) v)) (links m.cached j) = λ j h z.
       let g : IsLinking s l (values m.cached) (links m.cached j) = b.flying_link j h z in
-      record { holds = g.holds; asks = g.asks ∙ ap Enq (sym (values_elsewhere m.cached n part v (links m.cached j) (loose n part refl j))); unmoved = g.unmoved } in
-      assumption (b, e, bl, ab, fi, lv, fl)
+      record { holds = g.holds; asks = g.asks ∙ ap Enq (sym (values_elsewhere m.cached n part v (links m.cached j) ((loose n part refl).0 j))); unmoved = g.unmoved } in
+      assumption (b, e, bl, ab, fi, lv, me, fl)
   own_base (Insert t) v may own quiet loose bump announces =
       let e : Empties s l (marks m.cached) (empties s (put m.cached (Insert t) v)) (empties s m.kept) = store_empty s m l claimed waiting b (Insert t) v may quiet in
       let bl : Blank s m.kept (put m.cached (Insert t) v) = store_blank s m l claimed waiting b (Insert t) v may in
@@ -246,10 +247,10 @@ module _ (s : Shape) (m : Memory) (l : Ledger) (claimed waiting : List ℕ) (b :
       let may : MayStore s m (Next (node_of last)) node = record { issued = λ t some. chain_issued last here some; of_kind = tt; fits = fit } in
       let c : Links (upd (links m.cached) last node) (links m.kept) (claimed ++ waiting) =
       new_link (links m.cached) (links m.kept) (claimed ++ waiting) last node b.chained here empty r.before.mine.some r.before.loose.link in
-      let lv : (j : ℕ) → upd (links m.cached) last node j ≢ 0 → values m.cached (upd (links m.cached) last node j) ≡ values m.kept (upd (links m.cached) last node j) = λ j h.
+      let lv : (j : ℕ) (part : Part) → upd (links m.cached) last node j ≢ 0 → part_at m.cached (upd (links m.cached) last node j) part ≡ part_at m.kept (upd (links m.cached) last node j) part = λ j part h.
       elim (upd_cases (links m.cached) last node j) [
-        | inl t ↦ subst (λ y. values m.cached y ≡ values m.kept y) (sym t.1) (sym r.kept)
-        | inr t ↦ subst (λ y. values m.cached y ≡ values m.kept y) (sym t.1) (b.linked_value j (λ z. h (t.1 ∙ z)))
+        | inl t ↦ subst (λ y. part_at m.cached y part ≡ part_at m.kept y part) (sym t.1) (sym (r.kept part))
+        | inr t ↦ subst (λ y. part_at m.cached y part ≡ part_at m.kept y part) (sym t.1) (b.linked_part j part (λ z. h (t.1 ∙ z)))
       ] in
       let il : (j : ℕ) → upd (links m.cached) last node j ≢ 0 → IsIssued s m.kept (upd (links m.cached) last node j) = λ j h.
       elim (upd_cases (links m.cached) last node j) [
@@ -492,17 +493,17 @@ module _ (s : Shape) (m : Memory) (l : Ledger) (claimed waiting : List ℕ) (b :
           (yes_empties s l (marks m.cached) (empties s m.cached) (empties s m.kept) c.0 2 b.empty now (ap (λ k. (empty_answer_of k c).value) e)))
 
   -- the result of a kept claim is stored
-  pub result_base : (c : Token) (n : NodeId) (v : Value) → marks m.cached n.0 ≢ 0 → marks m.cached n.0 ≡ c.0 → n.0 ≤ greatest s → FitsValue v
-      → Base s (with_store m (result_of s.kind c n v).place (result_of s.kind c n v).value) l claimed waiting
-  result_base c n v some named node small = go s.kind refl
+  pub result_base : (c : Token) (n : NodeId) → marks m.cached n.0 ≢ 0 → marks m.cached n.0 ≡ c.0 → n.0 ≤ greatest s
+      → Base s (with_store m (result_of s.kind c n).place (result_of s.kind c n).value) l claimed waiting
+  result_base c n some named node = go s.kind refl
     where
-      go : (kind : Kind) → s.kind ≡ kind → Base s (with_store m (result_of s.kind c n v).place (result_of s.kind c n v).value) l claimed waiting
-      go Durable e = subst (λ k. Base s (with_store m (result_of k c n v).place (result_of k c n v).value) l claimed waiting) (sym e)
-          (cell_base c (v + 2) e (record { issued = λ r q. subst (IsIssued s m.kept) named (b.issued_mark n.0 some); of_kind = (e, λ z. some (named ∙ z)); fits = omega (arith, small) })
-          (no_empties s l (marks m.cached) (empties s m.cached) (empties s m.kept) c.0 (v + 2) b.empty
-          (λ q. let two : 1 ≡ v + 2 = sym (ap (λ k. (empty_answer_of k c).value) e) ∙ q in absurd (omega (arith, two)))
+      go : (kind : Kind) → s.kind ≡ kind → Base s (with_store m (result_of s.kind c n).place (result_of s.kind c n).value) l claimed waiting
+      go Durable e = subst (λ k. Base s (with_store m (result_of k c n).place (result_of k c n).value) l claimed waiting) (sym e)
+          (cell_base c (n.0 + 2) e (record { issued = λ r q. subst (IsIssued s m.kept) named (b.issued_mark n.0 some); of_kind = (e, λ z. some (named ∙ z)); fits = omega (arith, node) })
+          (no_empties s l (marks m.cached) (empties s m.cached) (empties s m.kept) c.0 (n.0 + 2) b.empty
+          (λ q. let two : 1 ≡ n.0 + 2 = sym (ap (λ k. (empty_answer_of k c).value) e) ∙ q in absurd (omega (arith, two)))
           (record { at = n.0; some = some; named = named })))
-      go Log e = subst (λ k. Base s (with_store m (result_of k c n v).place (result_of k c n v).value) l claimed waiting) (sym e)
+      go Log e = subst (λ k. Base s (with_store m (result_of k c n).place (result_of k c n).value) l claimed waiting) (sym e)
           (own_base s m l claimed waiting b (EntryNode c) n.0
           (record { issued = λ r q. subst (IsIssued s m.kept) named (b.issued_mark n.0 some); of_kind = (e, λ z. some (named ∙ z)); fits = node })
           tt (λ q. q) (λ x part q. absurd (cc)) (λ t q. absurd (cc)) (λ t q. absurd (cc)))
@@ -523,10 +524,10 @@ module _ (s : Shape) (m : Memory) (l : Ledger) (claimed waiting : List ℕ) (b :
     new_mark = nm;
     at_own = λ q own ne free. put_other m.cached p v q (λ e. shared (subst IsOwnWord e own));
     at_kept_own = λ q own. inl refl;
-    at_linked = λ x h. refl;
-    at_result = λ x w h e t.
-        put_other m.cached p v (result_of s.kind (token_of (marks m.kept x)) (node_of x) w).place
-        (λ q. shared (subst IsOwnWord q (result_own s.kind (token_of (marks m.kept x)) (node_of x) w))) ∙ t;
+    at_linked = λ x part h. refl;
+    at_result = λ x h t.
+        put_other m.cached p v (result_of s.kind (token_of (marks m.kept x)) (node_of x)).place
+        (λ q. shared (subst IsOwnWord q (result_own s.kind (token_of (marks m.kept x)) (node_of x)))) ∙ t;
     tail = tail;
     head = head;
     begun = λ i ne. refl;
@@ -559,15 +560,13 @@ module _ (s : Shape) (m : Memory) (l : Ledger) (claimed waiting : List ℕ) (b :
       (no_result s m l claimed waiting (empty_answer_of s.kind c).place (empty_answer_of s.kind c).value b (λ r x e. free x (e ∙ empty_number s.kind c)))
 
   -- the result of a kept claim
-  pub result_grows : (c : Token) (n : NodeId) (v : Value) → marks m.kept n.0 ≡ c.0 → c.0 ≢ 0 → values m.kept n.0 ≡ v → Grows a s m l (with_store m (result_of s.kind c n v).place (result_of s.kind c n v).value) l
-  result_grows c n v named some value =
+  pub result_grows : (c : Token) (n : NodeId) → marks m.kept n.0 ≡ c.0 → c.0 ≢ 0 → Grows a s m l (with_store m (result_of s.kind c n).place (result_of s.kind c n).value) l
+  result_grows c n named some =
       let cached : marks m.cached n.0 ≡ c.0 = b.marked.kept n.0 (λ z. some (sym named ∙ z)) ∙ named in
-      own_store_grows s m l (result_of s.kind c n v).place (result_of s.kind c n v).value (result_own s.kind c n v) a
-      (inr (result_answer s.kind c n v, record { at = n.0; named = cached ∙ sym (result_number s.kind c n v) }))
-      (λ x w h e at.
-      let same : marks m.kept x ≡ c.0 = sym (result_number s.kind (token_of (marks m.kept x)) (node_of x) w) ∙ ap number_of at ∙ result_number s.kind c n v in
+      own_store_grows s m l (result_of s.kind c n).place (result_of s.kind c n).value (result_own s.kind c n) a
+      (inr (result_answer s.kind c n, record { at = n.0; named = cached ∙ sym (result_number s.kind c n) }))
+      (λ x h at.
+      let same : marks m.kept x ≡ c.0 = sym (result_number s.kind (token_of (marks m.kept x)) (node_of x)) ∙ ap number_of at ∙ result_number s.kind c n in
       let is_n : x ≡ n.0 = b.one_mark x n.0 (λ z. h (sym (b.marked.kept x h) ∙ z)) (b.marked.kept x h ∙ same ∙ sym cached) in
-      let is_v : w ≡ v = sym e ∙ ap (values m.kept) is_n ∙ value in
-      ap (λ q. (result_of s.kind (token_of q) (node_of x) w).value) same
-      ∙ ap (λ q. (result_of s.kind c (node_of q) w).value) is_n
-      ∙ ap (λ q. (result_of s.kind c n q).value) is_v)
+      ap (λ q. (result_of s.kind (token_of q) (node_of x)).value) same
+      ∙ ap (λ q. (result_of s.kind c (node_of q)).value) is_n)

@@ -25,7 +25,7 @@ use Rattle.helping.specs.Table.{token_of, node_of, access_of, kept_place}
 use Rattle.helping.specs.declared.dequeue.Claim.{Claim}
 use Rattle.helping.specs.declared.dequeue.Claim.TheVariants.{Won, LostTo}
 use Rattle.helping.specs.declared.op.Op.{Op}
-use Rattle.helping.specs.declared.op.Op.TheVariants.{PrepareStore, PrepareFlush, PrepareFence, EnqueueLoadTail, EnqueueLoadNext, EnqueueCheckTail, EnqueueLink, EnqueueMoveTail, EnqueueHelpTail, DequeueLoadHead, DequeueLoadTail, DequeueLoadNext, DequeueCheckHead, DequeueStoreEmpty, DequeueHelpTail, DequeueLoadValue, DequeueClaim, DequeueStoreResult, DequeueMoveHead, Flush as FlushPoint, Fence as FencePoint}
+use Rattle.helping.specs.declared.op.Op.TheVariants.{PrepareStore, PrepareFlush, PrepareFence, EnqueueLoadTail, EnqueueLoadNext, EnqueueCheckTail, EnqueueLink, EnqueueMoveTail, EnqueueHelpTail, DequeueLoadHead, DequeueLoadTail, DequeueLoadNext, DequeueCheckHead, DequeueStoreEmpty, DequeueHelpTail, DequeueLoadItem, DequeueClaim, DequeueStoreResult, DequeueMoveHead, Flush as FlushPoint, Fence as FencePoint}
 use Rattle.helping.specs.declared.keeping.Keeping.{Keeping}
 use Rattle.helping.specs.declared.keeping.Keeping.TheVariants.{Link as KeepLink, PassedLink as KeepPassedLink, Empty as KeepEmpty, DequeuePassedLink as KeepDequeuePassedLink, Claim as KeepClaim, Result as KeepResult}
 use Rattle.events.specs.Telling.{IsToldOf}
@@ -168,7 +168,7 @@ one_two n e f = absurd (omega (arith, e, f))
 -- a store to no word of a record
 pub harmless_shared : (s : Shape) (m : Memory) (p : Place) (v : ℕ) → (IsOwnWord p → ⊥) → Harmless s m p v
 harmless_shared s m p v shared = record {
-  answers = λ x h e. absurd (shared (subst IsOwnWord e (result_own s.kind (token_of (marks m.kept x)) (node_of x) (values m.kept x))));
+  answers = λ x h e. absurd (shared (subst IsOwnWord e (result_own s.kind (token_of (marks m.kept x)) (node_of x))));
   inserts = λ k x h e. absurd (shared (subst IsOwnWord e tt));
   enqueues = λ k x h e. absurd (shared (subst IsOwnWord e tt));
   dequeues = λ k x h e. absurd (shared (subst IsOwnWord e tt));
@@ -185,7 +185,10 @@ harmless_shared s m p v shared = record {
 announces_told : (kind : Kind) (call : Call) (b : Begun) (j : ℕ) (w : Write) (t : ℕ) → slice_get (preparation_from kind call b) j ≡ Some w → w.place ≡ Announcement (record { 0 = t }) → IsToldOf kind call
 announces_told Durable (Enq v) b zero w t e at = absurd (cc)
 announces_told Durable (Enq v) b (suc zero) w t e at = absurd (cc)
-announces_told Durable (Enq v) b (suc (suc j)) w t e at = absurd (cc)
+announces_told Durable (Enq v) b (suc (suc zero)) w t e at = absurd (cc)
+announces_told Durable (Enq v) b (suc (suc (suc zero))) w t e at = absurd (cc)
+announces_told Durable (Enq v) b (suc (suc (suc (suc zero)))) w t e at = absurd (cc)
+announces_told Durable (Enq v) b (suc (suc (suc (suc (suc j))))) w t e at = absurd (cc)
 announces_told Durable Deq b j w t e at = tt
 announces_told Log call b j w t e at = tt
 
@@ -200,7 +203,7 @@ acting_announced s m l i c h told =
     go : (kind : Kind) (call : Call) → s.kind ≡ kind → asked_call l i ≡ call → IsToldOf s.kind (asked_call l i) → Both m (Announcement (l.begun i).client) (l.begun i).token.0
     go Durable (Enq v) k c told = absurd (subst (λ x. IsToldOf x (Enq v)) k (subst (IsToldOf s.kind) c told))
     go Durable Deq k c told = h.prepared.written 1 (announcement (l.begun i)) (at Durable Deq k c 1)
-    go Log (Enq v) k c told = h.prepared.written 6 (announcement (l.begun i)) (at Log (Enq v) k c 6)
+    go Log (Enq v) k c told = h.prepared.written 9 (announcement (l.begun i)) (at Log (Enq v) k c 9)
     go Log Deq k c told = h.prepared.written 3 (announcement (l.begun i)) (at Log Deq k c 3)
 
 -- the words of a prepared log record
@@ -263,7 +266,7 @@ module _ (s : Shape) (m : Memory) (l : Ledger) (claimed waiting : List ℕ) (b :
     harmless_preparation = record {
       answers = λ x marked e.
           let q : marks m.kept x ≡ bg.token.0 =
-          sym (result_number s.kind (token_of (marks m.kept x)) (node_of x) (values m.kept x)) ∙ ap number_of e ∙ (own.answer (subst IsAnswer e (result_answer s.kind (token_of (marks m.kept x)) (node_of x) (values m.kept x)))).1 in
+          sym (result_number s.kind (token_of (marks m.kept x)) (node_of x)) ∙ ap number_of e ∙ (own.answer (subst IsAnswer e (result_answer s.kind (token_of (marks m.kept x)) (node_of x)))).1 in
           absurd (h.before.loose.mark x (b.marked.kept x marked ∙ q));
       inserts = λ k x some e. absurd (h.before.loose.link x (named (Insert (node_of (links m.cached x))) e tt));
       enqueues = λ k x some e. absurd (h.before.loose.link x (named (EntryKind (token_of (links m.cached x))) e tt));
@@ -313,8 +316,8 @@ module _ (s : Shape) (m : Memory) (l : Ledger) (claimed waiting : List ℕ) (b :
           where
             go : (call : Call) → bg.call ≡ call → j < index
             go (Enq v) c =
-                let six : slice_get (preparation_of s.kind bg) 6 ≡ Some (announcement bg) = ap (λ y. slice_get (preparation_from y bg.call bg) 6) k ∙ ap (λ y. slice_get (preparation_from Log y bg) 6) c in
-                omega (arith, lt, last.last 6 (announcement bg) six)
+                let nine : slice_get (preparation_of s.kind bg) 9 ≡ Some (announcement bg) = ap (λ y. slice_get (preparation_from y bg.call bg) 9) k ∙ ap (λ y. slice_get (preparation_from Log y bg) 9) c in
+                omega (arith, lt, last.last 9 (announcement bg) nine)
             go Deq c =
                 let three : slice_get (preparation_of s.kind bg) 3 ≡ Some (announcement bg) = ap (λ y. slice_get (preparation_from y bg.call bg) 3) k ∙ ap (λ y. slice_get (preparation_from Log y bg) 3) c in
                 omega (arith, deq c, last.last 3 (announcement bg) three)
@@ -326,7 +329,7 @@ dequeue_kind s m b h c k =
 
 pub enqueue_entry : (s : Shape) (m : Memory) (b : Begun) (v : Value) → Prepared s m b → b.call ≡ Enq v → s.kind ≡ Log → IsEnqueued m b.token.0
 enqueue_entry s m b v h c k = record {
-  insert = h.written 5 (write (Insert (record { 0 = b.token.0 })) b.token.0) (ap (λ x. slice_get (preparation_from x b.call b) 5) k ∙ ap (λ x. slice_get (preparation_from Log x b) 5) c);
+  insert = h.written 8 (write (Insert (record { 0 = b.token.0 })) b.token.0) (ap (λ x. slice_get (preparation_from x b.call b) 8) k ∙ ap (λ x. slice_get (preparation_from Log x b) 8) c);
   kind = h.written 2 (write (EntryKind b.token) 1) (ap (λ x. slice_get (preparation_from x b.call b) 2) k ∙ ap (λ x. slice_get (preparation_from Log x b) 2) c);
 }
 
@@ -340,15 +343,15 @@ empty_status m Log t c h e =
     let is : t ≡ token_of c = cc in
     record { taken = λ q. absurd (one_two 2 q refl); empty = λ q. subst (λ x. Both m (EntryKind x) 2) is (h refl) }
 
-result_cell : (m : Memory) (kind : Kind) (t : Token) (n : NodeId) (v : Value) (c : ℕ) → marks m.kept n.0 ≡ t.0 → t.0 ≢ 0 → values m.kept n.0 ≡ v → Cell (token_of c) ≡ (result_of kind t n v).place → CellRight m c (result_of kind t n v).value
-result_cell m Durable t n v c named some value e =
+result_cell : (m : Memory) (kind : Kind) (t : Token) (n : NodeId) (c : ℕ) → marks m.kept n.0 ≡ t.0 → t.0 ≢ 0 → Cell (token_of c) ≡ (result_of kind t n).place → CellRight m c (result_of kind t n).value
+result_cell m Durable t n c named some e =
     let is : t ≡ token_of c = cc in
-    λ x y. record { at = n.0; named = named ∙ ap (λ z. z.0) is; some = λ z. some (ap (λ q. q.0) is ∙ z); value = ap (λ q. q + 2) (sym value) }
-result_cell m Log t n v c named some value e = absurd (cc)
+    λ x y. record { at = n.0; named = named ∙ ap (λ z. z.0) is; some = λ z. some (ap (λ q. q.0) is ∙ z); value = refl }
+result_cell m Log t n c named some e = absurd (cc)
 
-pub result_node : (m : Memory) (kind : Kind) (t : Token) (n : NodeId) (v : Value) (c : ℕ) → marks m.kept n.0 ≡ t.0 → t.0 ≢ 0 → EntryNode (token_of c) ≡ (result_of kind t n v).place → NodeRight m c (result_of kind t n v).value
-result_node m Durable t n v c named some e = absurd (cc)
-result_node m Log t n v c named some e =
+pub result_node : (m : Memory) (kind : Kind) (t : Token) (n : NodeId) (c : ℕ) → marks m.kept n.0 ≡ t.0 → t.0 ≢ 0 → EntryNode (token_of c) ≡ (result_of kind t n).place → NodeRight m c (result_of kind t n).value
+result_node m Durable t n c named some e = absurd (cc)
+result_node m Log t n c named some e =
     let is : t ≡ token_of c = cc in
     λ kind x. (named ∙ ap (λ z. z.0) is, λ z. some (ap (λ q. q.0) is ∙ z))
 
@@ -360,7 +363,7 @@ module _ (s : Shape) (m : Memory) (l : Ledger) (claimed waiting : List ℕ) (b :
       let kind : s.kind ≡ Log → Both m (EntryKind t) 2 = λ k.
       subst (λ x. Both m (EntryKind (token_of x)) 2) h.acting.mine.holds (dequeue_kind s m (l.begun i) h.acting.prepared h.asks k) in
       record {
-        answers = λ x marked e. absurd (h.before.loose.mark x (b.marked.kept x marked ∙ sym (result_number s.kind (token_of (marks m.kept x)) (node_of x) (values m.kept x)) ∙ ap number_of e ∙ empty_number s.kind t));
+        answers = λ x marked e. absurd (h.before.loose.mark x (b.marked.kept x marked ∙ sym (result_number s.kind (token_of (marks m.kept x)) (node_of x)) ∙ ap number_of e ∙ empty_number s.kind t));
         inserts = λ k x some e. absurd (subst IsEmptyWord (sym e) word);
         enqueues = λ k x some e. absurd (subst IsEmptyWord (sym e) word);
         dequeues = λ k x some e. absurd (subst IsEmptyWord (sym e) word);
@@ -375,30 +378,28 @@ module _ (s : Shape) (m : Memory) (l : Ledger) (claimed waiting : List ℕ) (b :
       }
 
   -- the result of a claimed node is stored
-  harmless_result : (t : Token) (n : NodeId) (v : Value) → marks m.kept n.0 ≡ t.0 → t.0 ≢ 0 → values m.kept n.0 ≡ v → Harmless s m (result_of s.kind t n v).place (result_of s.kind t n v).value
-  harmless_result t n v named some value =
-      let word : IsAnswer (result_of s.kind t n v).place = result_answer s.kind t n v in
+  harmless_result : (t : Token) (n : NodeId) → marks m.kept n.0 ≡ t.0 → t.0 ≢ 0 → Harmless s m (result_of s.kind t n).place (result_of s.kind t n).value
+  harmless_result t n named some =
+      let word : IsAnswer (result_of s.kind t n).place = result_answer s.kind t n in
       let cached : marks m.cached n.0 ≡ t.0 = b.marked.kept n.0 (λ z. some (sym named ∙ z)) ∙ named in
       record {
         answers = λ x h at.
-            let same : marks m.kept x ≡ t.0 = sym (result_number s.kind (token_of (marks m.kept x)) (node_of x) (values m.kept x)) ∙ ap number_of at ∙ result_number s.kind t n v in
+            let same : marks m.kept x ≡ t.0 = sym (result_number s.kind (token_of (marks m.kept x)) (node_of x)) ∙ ap number_of at ∙ result_number s.kind t n in
             let is_n : x ≡ n.0 = b.one_mark x n.0 (λ z. h (sym (b.marked.kept x h) ∙ z)) (b.marked.kept x h ∙ same ∙ sym cached) in
-            let is_v : values m.kept x ≡ v = ap (values m.kept) is_n ∙ value in
-            ap (λ q. (result_of s.kind (token_of q) (node_of x) (values m.kept x)).value) same
-            ∙ ap (λ q. (result_of s.kind t (node_of q) (values m.kept x)).value) is_n
-            ∙ ap (λ q. (result_of s.kind t n q).value) is_v;
+            ap (λ q. (result_of s.kind (token_of q) (node_of x)).value) same
+            ∙ ap (λ q. (result_of s.kind t (node_of q)).value) is_n;
         inserts = λ k x h e. absurd (subst IsAnswer (sym e) word);
         enqueues = λ k x h e. absurd (subst IsAnswer (sym e) word);
         dequeues = λ k x h e. absurd (subst IsAnswer (sym e) word);
         empties = λ c two e. absurd (subst IsAnswer (sym e) word);
         entries = λ k x e other at entry.
-            entry_stored m (result_of s.kind t n v).place (result_of s.kind t n v).value e (λ q. subst IsAnswer (sym q) word) (λ q. subst IsAnswer (sym q) word)
+            entry_stored m (result_of s.kind t n).place (result_of s.kind t n).value e (λ q. subst IsAnswer (sym q) word) (λ q. subst IsAnswer (sym q) word)
             (λ q one.
-            let is : e ≡ t.0 = ap number_of q ∙ result_number s.kind t n v in
+            let is : e ≡ t.0 = ap number_of q ∙ result_number s.kind t n in
             let two : Both m (EntryKind (token_of (marks m.cached n.0))) 2 = r.dequeued k n.0 (λ z. some (sym cached ∙ z)) in
             absurd (one_two (entry_kinds m.cached e) one.0 (ap (entry_kinds m.cached) (is ∙ sym cached) ∙ two.0))) entry;
-        cell = λ c e. result_cell m s.kind t n v c named some value e;
-        node = λ c e. result_node m s.kind t n v c named some e;
+        cell = λ c e. result_cell m s.kind t n c named some e;
+        node = λ c e. result_node m s.kind t n c named some e;
         kind = λ c e two. absurd (subst IsAnswer (sym e) word);
         status = λ c e. absurd (subst IsAnswer (sym e) word);
         announces = λ k x e other. absurd (subst IsAnswer (sym e) word);
@@ -420,14 +421,13 @@ module _ (s : Shape) (m : Memory) (l : Ledger) (claimed waiting : List ℕ) (b :
           (λ t e. absurd (cc))
       go false = r
 
-  head_records : (first next v : ℕ) (t : Token) → Claimed m first next v t.0 → IsWritten m.cached (result_of s.kind t (node_of next) v) → IsWritten m.kept (result_of s.kind t (node_of next) v)
+  head_records : (first next : ℕ) (v : Value) (t : Token) → Claimed m first next v t.0 → IsWritten m.cached (result_of s.kind t (node_of next)) → IsWritten m.kept (result_of s.kind t (node_of next))
       → Records s (with_access m (Cas Head first next)) l
   head_records first next v t c cached kept = go (m.cached Head == first) refl
     where
       answered : IsAnswered s m next
       answered =
-          subst (λ x. Both m (result_of s.kind (token_of (marks m.kept next)) (node_of next) x).place (result_of s.kind (token_of (marks m.kept next)) (node_of next) x).value) (sym c.value)
-          (subst (λ x. Both m (result_of s.kind (token_of x) (node_of next) v).place (result_of s.kind (token_of x) (node_of next) v).value) (sym c.marked) (cached, kept))
+          subst (λ x. Both m (result_of s.kind (token_of x) (node_of next)).place (result_of s.kind (token_of x) (node_of next)).value) (sym c.marked) (cached, kept)
 
       go : (x : Bool) → (m.cached Head == first) ≡ x → Records s (if x then with_store m Head next else m) l
       go true e =
@@ -487,14 +487,14 @@ module _ (s : Shape) (m : Memory) (l : Ledger) (claimed waiting : List ℕ) (b :
 
   -- each step keeps them
   pub row_records : (op : Op) → Knows s m l i op → Records s (with_access m (access_of s.kind op)) (ledger_after s m l i op)
-  row_records (PrepareStore p) h = own_records p.write.place p.write.value (own_write s p.begun p.index p.write (h.before.mine.own ∙ sym h.own) h.in_hand).own
-      (harmless_preparation s m l claimed waiting b i p.begun p.index p.write h)
+  row_records (PrepareStore p) h = own_records p.write.place p.write.value (own_write s p.begun p.index p.write (h.0.before.mine.own ∙ sym h.0.own) h.0.in_hand).own
+      (harmless_preparation s m l claimed waiting b i p.begun p.index p.write h.0)
       (λ t e.
-      let last : IsLastWrite s.kind p.begun.call p.begun p.index p.write t = (planned_write s p.begun p.index p.write h.so_far.begun h.in_hand).announces t (sym e) in
-      let who : t ≡ i = last.who ∙ h.own in (
-        last.token ∙ sym (ap (λ x. (l.begun x).token.0) who ∙ ap (λ x. x.token.0) h.begun),
-        subst (λ x. IsToldOf s.kind x.call) (sym (ap l.begun who ∙ h.begun)) (announces_told s.kind p.begun.call p.begun p.index p.write t h.in_hand (sym e)),
-        λ z. h.before.mine.some (sym last.token ∙ z),
+      let last : IsLastWrite s.kind p.begun.call p.begun p.index p.write t = (planned_write s p.begun p.index p.write h.0.so_far.begun h.0.in_hand).announces t (sym e) in
+      let who : t ≡ i = last.who ∙ h.0.own in (
+        last.token ∙ sym (ap (λ x. (l.begun x).token.0) who ∙ ap (λ x. x.token.0) h.0.begun),
+        subst (λ x. IsToldOf s.kind x.call) (sym (ap l.begun who ∙ h.0.begun)) (announces_told s.kind p.begun.call p.begun p.index p.write t h.0.in_hand (sym e)),
+        λ z. h.0.before.mine.some (sym last.token ∙ z),
       ))
   row_records (PrepareFlush p) h = r
   row_records (PrepareFence p) h = keep_records s m l claimed waiting b r p.write.place
@@ -513,12 +513,12 @@ module _ (s : Shape) (m : Memory) (l : Ledger) (claimed waiting : List ℕ) (b :
   row_records (DequeueStoreEmpty p) h = own_records (empty_answer_of s.kind p.token).place (empty_answer_of s.kind p.token).value (empty_own s.kind p.token) (harmless_empty p.token h.0)
       (λ t e. absurd (subst IsEmptyWord (sym e) (empty_word s.kind p.token)))
   row_records (DequeueHelpTail p) h = tail_records p.last.0 p.next.0
-  row_records (DequeueLoadValue p) h = r
+  row_records (DequeueLoadItem p) h = r
   row_records (DequeueClaim p) h = claim_records p.token p.next h.0
   row_records (DequeueStoreResult p) h =
-      own_records (result_of s.kind (winner p.claimed.claim p.claimed.token) p.claimed.next p.claimed.value).place (result_of s.kind (winner p.claimed.claim p.claimed.token) p.claimed.next p.claimed.value).value (result_own s.kind (winner p.claimed.claim p.claimed.token) p.claimed.next p.claimed.value)
-      (harmless_result (winner p.claimed.claim p.claimed.token) p.claimed.next p.claimed.value h.1.marked h.1.some h.1.value)
-      (λ t e. absurd (subst IsAnswer (sym e) (result_answer s.kind (winner p.claimed.claim p.claimed.token) p.claimed.next p.claimed.value)))
+      own_records (result_of s.kind (winner p.claimed.claim p.claimed.token) p.claimed.next).place (result_of s.kind (winner p.claimed.claim p.claimed.token) p.claimed.next).value (result_own s.kind (winner p.claimed.claim p.claimed.token) p.claimed.next)
+      (harmless_result (winner p.claimed.claim p.claimed.token) p.claimed.next h.1.marked h.1.some)
+      (λ t e. absurd (subst IsAnswer (sym e) (result_answer s.kind (winner p.claimed.claim p.claimed.token) p.claimed.next)))
   row_records (DequeueMoveHead p) h = head_records p.claimed.first.0 p.claimed.next.0 p.claimed.value (winner p.claimed.claim p.claimed.token) h.1 h.2 h.3
 
 -- a client's call begins or ends
@@ -579,7 +579,7 @@ acting_or s m l i op h = go op h
     keeper (KeepResult p) k = claimer p.claimed.token p.claimed.claim k.0
 
     go : (op : Op) → Knows s m l i op → Acting s m l i (held_token l i) ⊎ record { b : Begun; index : ℕ; w : Write; preparing : Preparing s m l i b index w }
-    go (PrepareStore p) k = inr (record { b = p.begun; index = p.index; w = p.write; preparing = k })
+    go (PrepareStore p) k = inr (record { b = p.begun; index = p.index; w = p.write; preparing = k.0 })
     go (PrepareFence p) k = inr (record { b = p.begun; index = p.index; w = p.write; preparing = k.0 })
     go (PrepareFlush p) k = inr (record { b = p.begun; index = p.index; w = p.write; preparing = k.0 })
     go (EnqueueLoadTail p) k = inl (hold p.node.0 k.acting)
@@ -594,7 +594,7 @@ acting_or s m l i op h = go op h
     go (DequeueCheckHead p) k = inl (hold p.token.0 k.0.acting)
     go (DequeueStoreEmpty p) k = inl (hold p.token.0 k.0.acting)
     go (DequeueHelpTail p) k = inl (hold p.token.0 k.0.acting)
-    go (DequeueLoadValue p) k = inl (hold p.token.0 k.0.acting)
+    go (DequeueLoadItem p) k = inl (hold p.token.0 k.0.acting)
     go (DequeueClaim p) k = inl (hold p.token.0 k.0.acting)
     go (DequeueStoreResult p) k = inl (claimer p.claimed.token p.claimed.claim k.0)
     go (DequeueMoveHead p) k = inl (claimer p.claimed.token p.claimed.claim k.0)

@@ -10,7 +10,7 @@ use Rattle.words.specs.declared.call.Reply.TheVariants.{Done, Got, Empty}
 use Rattle.arena.specs.Answers.{empty_answer_of, result_of}
 use Rattle.arena.specs.Chain.{IsAmong}
 use Rattle.arena.specs.Shape.{Shape, owner}
-use Rattle.arena.specs.Words.{links, marks, values, cells, entry_kinds, entry_nodes, statuses, announcements}
+use Rattle.arena.specs.Words.{links, marks, part_at, values, cells, entry_kinds, entry_nodes, statuses, announcements}
 use Rattle.arena.specs.declared.place.Place.{Place}
 use Rattle.arena.specs.declared.place.Place.TheVariants.{Head, Tail, Announcement, Bump, Item, Next, Mark, Cell, Insert, Number, EntryKind, Status, EntryNode}
 use Rattle.stepper.specs.declared.prepare.Begun.{Begun}
@@ -26,7 +26,7 @@ use Rattle.protocol.specs.invariants.Places.{SaysEmpty}
 use Rattle.protocol.specs.invariants.Base.{IsLinking, IsClaiming, IsAnswering, Base}
 use Rattle.protocol.specs.invariants.Grows.{Grows}
 use Rattle.protocol.specs.invariants.Ledger.Stage.{Unmoved, Seen, Took}
-use Rattle.protocol.proofs.changes.Puts.{put_cases, put_same}
+use Rattle.protocol.proofs.changes.Puts.{put_cases, put_same, values_same}
 use Rattle.protocol.proofs.changes.Keeps.{restaged, counted, noticed_ledger, kept_ledger}
 use Rattle.protocol.proofs.changes.Fences.{cell_says, status_says, keep_any}
 use Rattle.protocol.specs.invariants.Records.{Both, IsPath, answer, IsAnswered, AnsweredTo, IsEnqueued, CellRight, NodeRight, StatusRight, IsEntry, TookBy, IsAnnouncing, Records}
@@ -64,12 +64,9 @@ answered_grows a s m l n k h g stays r = record {
   at = r.at;
   claimed = λ x i z. r.claimed x i (sym (g.at_kept_mark x (r.claimed x i)) ∙ z);
   answered = λ x i.
-      let q : (p : ℕ) × (links m.kept p ≡ x) × (x ≢ 0) = path_linked (links m.kept) 0 r.passed r.path x i in
       let mark : marks n.kept x ≡ marks m.kept x = g.at_kept_mark x (r.claimed x i) in
-      let value : values n.kept x ≡ values m.kept x = subst (λ y. values n.kept y ≡ values m.kept y) q.1 (g.at_linked q.0 (λ z. q.2 (sym q.1 ∙ z))) in
-      subst (λ v. Both n (result_of s.kind (token_of (marks n.kept x)) (node_of x) v).place (result_of s.kind (token_of (marks n.kept x)) (node_of x) v).value) (sym value)
-      (subst (λ t. Both n (result_of s.kind (token_of t) (node_of x) (values m.kept x)).place (result_of s.kind (token_of t) (node_of x) (values m.kept x)).value) (sym mark)
-      (stays x (r.claimed x i) (r.answered x i)));
+      subst (λ t. Both n (result_of s.kind (token_of t) (node_of x)).place (result_of s.kind (token_of t) (node_of x)).value) (sym mark)
+      (stays x (r.claimed x i) (r.answered x i));
 }
 
 -- the head goes one node on
@@ -102,17 +99,17 @@ module _ (s : Shape) (m : Memory) (l : Ledger) (claimed waiting : List ℕ) (b :
   g : Grows 0 s m l (with_fence m p) (kept_ledger s m l p)
   g = (keep_any s m l claimed waiting b p).grows 0
 
-  -- the value of a claimed node stays
+  -- the message of a claimed node stays
   pub claimed_value : (x : ℕ) → marks m.kept x ≢ 0 → values (with_fence m p).kept x ≡ values m.kept x
   claimed_value x h =
       let q : (q : ℕ) × (links m.kept q ≡ x) × (x ≢ 0) = linked_by (links m.kept) 0 (claimed ++ waiting) b.chained.chain x (in_left x claimed waiting (b.marked.back x h)) in
-      subst (λ y. values (with_fence m p).kept y ≡ values m.kept y) q.1 (g.at_linked q.0 (λ z. q.2 (sym q.1 ∙ z)))
+      values_same (with_fence m p).kept m.kept x (λ part. subst (λ y. part_at (with_fence m p).kept y part ≡ part_at m.kept y part) q.1 (g.at_linked q.0 part (λ z. q.2 (sym q.1 ∙ z))))
 
   fenced_cell : (c v : ℕ) → CellRight m c v → CellRight (with_fence m p) c v
   fenced_cell c v h some other =
-      let q : record { at : ℕ; named : marks m.kept at ≡ c; some : c ≢ 0; value : v ≡ values m.kept at + 2 } = h some other in
+      let q : record { at : ℕ; named : marks m.kept at ≡ c; some : c ≢ 0; value : v ≡ at + 2 } = h some other in
       let marked : marks m.kept q.at ≢ 0 = λ z. q.some (sym q.named ∙ z) in
-      record { at = q.at; named = g.at_kept_mark q.at marked ∙ q.named; some = q.some; value = q.value ∙ ap (λ x. x + 2) (sym (claimed_value q.at marked)) }
+      record { at = q.at; named = g.at_kept_mark q.at marked ∙ q.named; some = q.some; value = q.value }
 
   fenced_node : (c v : ℕ) → NodeRight m c v → NodeRight (with_fence m p) c v
   fenced_node c v h kind some =
@@ -152,7 +149,7 @@ module _ (s : Shape) (m : Memory) (l : Ledger) (claimed waiting : List ℕ) (b :
   took_same : (i : ℕ) (reply : Reply) → l.stage i ≡ Took reply → TookBy s (with_fence m p).kept (l.begun i) reply
   took_same i reply h = took_old (l.begun i) reply (r.took i reply h)
 
-enq_deq : {v : ℕ} → Deq ≡ Enq v → ⊥
+enq_deq : {v : Value} → Deq ≡ Enq v → ⊥
 enq_deq e = cc
 
 seen_empty : (st : Stage) (reply : Reply) → st ≡ Seen → counted st ≡ Took reply → reply ≡ Empty

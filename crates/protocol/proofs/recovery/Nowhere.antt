@@ -52,10 +52,7 @@ module _ (s : Shape) (k : Place → ℕ) (claimed waiting : List ℕ) (queue : L
         absurd (out (subst (λ x. x < s.clients) a.owned (owner_within (announcements k t.0) a.issued)))
   ]
   nowhere (Bump t) out = elim (cases_lt t.0 s.clients) [ inl lt ↦ absurd (out lt) | inr ge ↦ b.no_bump t.0 ge ]
-  nowhere (Item n Length) out = b.absent (Item n Length) (λ h. h)
-  nowhere (Item n First) out = blank_out (Item n First) tt (node_out n.0 out)
-  nowhere (Item n Second) out = b.absent (Item n Second) (λ h. h)
-  nowhere (Item n Third) out = b.absent (Item n Third) (λ h. h)
+  nowhere (Item n part) out = blank_out (Item n part) tt (node_out n.0 out)
   nowhere (Next n) out = blank_out (Next n) tt (node_out n.0 out)
   nowhere (Mark n) out = blank_out (Mark n) tt (node_out n.0 out)
   nowhere (Cell c) out = entry_out (Cell c) tt (λ r h. out (h.0, r)) (λ z h. h.1 z)

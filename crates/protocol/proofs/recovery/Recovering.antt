@@ -16,7 +16,9 @@ use Rattle.arena.specs.Chain.{IsAmong, LeadsTo}
 use Rattle.arena.specs.Place.{number_of}
 use Rattle.arena.specs.Ranges.{Fits}
 use Rattle.arena.specs.Shape.{Shape, greatest}
-use Rattle.arena.specs.Words.{links, marks, values, bumps, announcements, cells, statuses, entry_kinds, entry_nodes, numbers}
+use Rattle.arena.specs.Words.{links, marks, part_at, values, bumps, announcements, cells, statuses, entry_kinds, entry_nodes, numbers}
+use Rattle.arena.specs.declared.place.Part.{Part}
+use Rattle.arena.specs.declared.place.Part.TheVariants.{Length, First, Second, Third}
 use Rattle.arena.specs.declared.place.Place.{Place}
 use Rattle.arena.specs.declared.place.Place.TheVariants.{Head, Tail, Next, Cell, Insert, EntryKind, Status, EntryNode}
 use Rattle.helping.specs.Table.{token_of, node_of}
@@ -29,7 +31,7 @@ use Rattle.protocol.specs.invariants.Places.{IsAnswer, IsOfRecord, IsOfKind, Say
 use Rattle.protocol.specs.invariants.Ledger.Stage.{Unmoved, Took}
 use Rattle.protocol.proofs.changes.Fences.{cell_says, status_says}
 use Rattle.protocol.proofs.changes.Stores.{result_answer}
-use Rattle.protocol.proofs.changes.Puts.{IsEmptyWord, empty_word, put_cases, put_other, put_blank, put_absent, put_fits, issued_more}
+use Rattle.protocol.proofs.changes.Puts.{IsEmptyWord, empty_word, values_same, put_cases, put_other, put_blank, put_absent, put_fits, issued_more}
 use Rattle.protocol.specs.invariants.Records.{Both, IsPath, answer, AnsweredTo, IsEnqueued, CellRight, NodeRight, StatusRight, IsEntry, Records}
 use Rattle.protocol.proofs.records.RecordStores.{Harmless, harmless_shared, entry_stored, one_two}
 use Rattle.protocol.specs.invariants.Sound.{memory_at_rest, idle_ledger, Sound}
@@ -39,7 +41,7 @@ use Rattle.protocol.specs.invariants.Recovery.{TakenTo, Position, Ahead, Claim, 
 pub record MayKeep (s : Shape) (k : Place → ℕ) (p : Place) (v : ℕ) : Type 0 where
   pub link : (x : ℕ) → links (put k p v) x ≡ links k x
   pub mark : (x : ℕ) → marks (put k p v) x ≡ marks k x
-  pub value : (x : ℕ) → values (put k p v) x ≡ values k x
+  pub part : (x : ℕ) (part : Part) → part_at (put k p v) x part ≡ part_at k x part
   pub bump : (t : ℕ) → bumps (put k p v) t ≡ bumps k t
   pub announcement : (t : ℕ) → announcements (put k p v) t ≡ announcements k t
   pub head : AnsweredTo s (memory_at_rest k) (put k p v Head)
@@ -53,6 +55,9 @@ pub record MayKeep (s : Shape) (k : Place → ℕ) (p : Place) (v : ℕ) : Type 
   pub fits : Fits s p v
   pub harmless : Harmless s (memory_at_rest k) p v
   pub status : s.kind ≡ Log → (x : ℕ) → statuses k x ≡ 1 → statuses (put k p v) x ≡ 1
+
+pub may_value : (s : Shape) (k : Place → ℕ) (p : Place) (v : ℕ) → MayKeep s k p v → (x : ℕ) → values (put k p v) x ≡ values k x
+may_value s k p v h x = values_same (put k p v) k x (h.part x)
 
 path_like : (k l : ℕ → ℕ) (from : ℕ) (ns : List ℕ) → ((x : ℕ) → l x ≡ k x) → IsPath k from ns → IsPath l from ns
 path_like k l from [] same p = tt
@@ -71,8 +76,7 @@ module _ (s : Shape) (k : Place → ℕ) (p : Place) (v : ℕ) (h : MayKeep s k 
     answered = λ n i.
         let old : Both (memory_at_rest (put k p v)) (answer s (memory_at_rest k) n).place (answer s (memory_at_rest k) n).value =
         both_put (answer s (memory_at_rest k) n).place (answer s (memory_at_rest k) n).value (λ e. h.harmless.answers n (a.claimed n i) e) (a.answered n i) in
-        subst (λ y. Both (memory_at_rest (put k p v)) (result_of s.kind (token_of (marks (put k p v) n)) (node_of n) y).place (result_of s.kind (token_of (marks (put k p v) n)) (node_of n) y).value) (sym (h.value n))
-        (subst (λ t. Both (memory_at_rest (put k p v)) (result_of s.kind (token_of t) (node_of n) (values k n)).place (result_of s.kind (token_of t) (node_of n) (values k n)).value) (sym (h.mark n)) old);
+        subst (λ t. Both (memory_at_rest (put k p v)) (result_of s.kind (token_of t) (node_of n)).place (result_of s.kind (token_of t) (node_of n)).value) (sym (h.mark n)) old;
   }
 
   put_entry : (e : ℕ) → IsEntry (with_store (memory_at_rest k) p v) e → IsEntry (memory_at_rest k) e → IsEntry (memory_at_rest (put k p v)) e
@@ -88,8 +92,8 @@ module _ (s : Shape) (k : Place → ℕ) (p : Place) (v : ℕ) (h : MayKeep s k 
   put_records queue r =
       let head : AnsweredTo s (memory_at_rest (put k p v)) (put k p v Head) = put_answered (put k p v Head) h.head in
       let cell_like : (c x : ℕ) → CellRight (memory_at_rest k) c x → CellRight (memory_at_rest (put k p v)) c x = λ c x right a b.
-      let q : record { at : ℕ; named : marks k at ≡ c; some : c ≢ 0; value : x ≡ values k at + 2 } = right a b in
-      record { at = q.at; named = h.mark q.at ∙ q.named; some = q.some; value = q.value ∙ ap (λ y. y + 2) (sym (h.value q.at)) } in
+      let q : record { at : ℕ; named : marks k at ≡ c; some : c ≢ 0; value : x ≡ at + 2 } = right a b in
+      record { at = q.at; named = h.mark q.at ∙ q.named; some = q.some; value = q.value } in
       let cell : (c : ℕ) → CellRight (memory_at_rest (put k p v)) c (cells (put k p v) c) = λ c. elim (put_cases k p v (Cell (token_of c))) [
         | inl t ↦ subst (CellRight (memory_at_rest (put k p v)) c) (sym t.1) (cell_like c v (h.harmless.cell c t.0))
         | inr t ↦ subst (CellRight (memory_at_rest (put k p v)) c) (sym t.1) (cell_like c (cells k c) (r.cell c))
@@ -157,7 +161,8 @@ module _ (s : Shape) (k : Place → ℕ) (p : Place) (v : ℕ) (h : MayKeep s k 
         on_chain = λ n some. b.on_chain n (λ z. some (h.link n ∙ z));
         back = λ n some. b.back n (λ z. some (h.mark n ∙ z));
         on = λ n i z. b.on n i (sym (h.mark n) ∙ z);
-        content = map_agree (values (put k p v)) (values k) waiting (λ x i. h.value x) ∙ b.content;
+        content = map_agree (values (put k p v)) (values k) waiting (λ x i. values_same (put k p v) k x (h.part x)) ∙ b.content;
+        item = λ n. rw (h.part n Length, h.part n First, h.part n Second, h.part n Third) (b.item n);
         tail = leads_grows (links k) (links (put k p v)) (put k p v Tail) 0 (λ n some. h.link n) h.tail;
         issued_link = λ n some. subst (IsIssued s (put k p v)) (sym (h.link n)) (more (links k n) (b.issued_link n (λ z. some (h.link n ∙ z))));
         issued_mark = λ n some. subst (IsIssued s (put k p v)) (sym (h.mark n)) (more (marks k n) (b.issued_mark n (λ z. some (h.mark n ∙ z))));
@@ -179,7 +184,7 @@ module _ (s : Shape) (k : Place → ℕ) (p : Place) (v : ℕ) (h : MayKeep s k 
   outcome_before l e (Taken Done) q = (sym (h.kind e) ∙ q.0, record { at = q.1.at; linked = sym (h.link q.1.at) ∙ q.1.linked })
   outcome_before l e (Taken Empty) q =
       (λ z. q.0 (h.kind e ∙ z), (status_says s k (token_of e) l).0 (h.silent e ((status_says s (put k p v) (token_of e) l).1 q.1)))
-  outcome_before l e (Taken (Got x)) q = (λ z. q.0 (h.kind e ∙ z), record { at = q.1.at; marked = sym (h.mark q.1.at) ∙ q.1.marked; value = sym (h.value q.1.at) ∙ q.1.value })
+  outcome_before l e (Taken (Got x)) q = (λ z. q.0 (h.kind e ∙ z), record { at = q.1.at; marked = sym (h.mark q.1.at) ∙ q.1.marked; value = sym (may_value s k p v h q.1.at) ∙ q.1.value })
   outcome_before l e NotTaken q = (
     λ one at z. q.0 (h.kind e ∙ one) at (h.link at ∙ z),
     λ ne.
@@ -188,7 +193,7 @@ module _ (s : Shape) (k : Place → ℕ) (p : Place) (v : ℕ) (h : MayKeep s k 
   )
 
   row_before : s.kind ≡ Durable → (e : ℕ) (o : Row) → RowBy (put k p v) e o → RowBy k e o
-  row_before d e (row_got x) q = record { at = q.at; marked = sym (h.mark q.at) ∙ q.marked; value = sym (h.value q.at) ∙ q.value }
+  row_before d e (row_got x) q = record { at = q.at; marked = sym (h.mark q.at) ∙ q.marked; value = sym (may_value s k p v h q.at) ∙ q.value }
   row_before d e row_empty q = (cell_says s k (token_of e) d).0 (h.silent e ((cell_says s (put k p v) (token_of e) d).1 q))
   row_before d e Open q = (λ one. q.0 ((cell_says s (put k p v) (token_of e) d).0 (h.says e ((cell_says s k (token_of e) d).1 one))), λ at z. q.1 at (h.mark at ∙ z))
   row_before d e NoCall q = q
@@ -255,7 +260,7 @@ module _ (s : Shape) (k : Place → ℕ) (claimed waiting : List ℕ) (queue : L
   status_may cur node link some log = record {
     link = λ x. refl;
     mark = λ x. refl;
-    value = λ x. refl;
+    part = λ x part. refl;
     bump = λ t. refl;
     announcement = λ t. refl;
     head = here;
@@ -282,7 +287,7 @@ module _ (s : Shape) (k : Place → ℕ) (claimed waiting : List ℕ) (queue : L
     of_kind = (log, some);
     fits = omega arith;
     harmless = record {
-      answers = λ x m e. absurd (subst IsAnswer e (result_answer s.kind (token_of (marks k x)) (node_of x) (values k x)));
+      answers = λ x m e. absurd (subst IsAnswer e (result_answer s.kind (token_of (marks k x)) (node_of x)));
       inserts = λ l x n e. absurd (cc);
       enqueues = λ l x n e. absurd (cc);
       dequeues = λ l x n e. absurd (cc);
@@ -305,7 +310,7 @@ module _ (s : Shape) (k : Place → ℕ) (claimed waiting : List ℕ) (queue : L
   head_may cur a fit = record {
     link = λ x. refl;
     mark = λ x. refl;
-    value = λ x. refl;
+    part = λ x part. refl;
     bump = λ t. refl;
     announcement = λ t. refl;
     head = a;
@@ -326,7 +331,7 @@ module _ (s : Shape) (k : Place → ℕ) (claimed waiting : List ℕ) (queue : L
   tail_may cur a fit = record {
     link = λ x. refl;
     mark = λ x. refl;
-    value = λ x. refl;
+    part = λ x part. refl;
     bump = λ t. refl;
     announcement = λ t. refl;
     head = here;

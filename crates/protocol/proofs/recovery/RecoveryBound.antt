@@ -2,7 +2,6 @@
 use Rattle.std.proofs.Common.{◌≡◌, ◌≢◌, ℕ, zero, suc, ◌+◌, ◌-◌, ◌*◌, ◌≤◌, ◌<◌, inl, inr, List, [], ◌∷◌, ◌++◌, length, Bool, true, false, not, ◌&&◌, if◌then◌else◌, ◌==◌, Option, Some, None, nat_lt, refl, sym, ◌∙◌, ap, subst, arith}
 use Rattle.std.specs.Prelude.{slice_set}
 use Rattle.std.proofs.lemmas.Bool.{eqb-false}
-use Rattle.arena.specs.declared.place.Part.TheVariants.{First}
 use Rattle.words.specs.PlainQueue.{Value}
 use Rattle.words.specs.declared.call.Kind.{Kind}
 use Rattle.words.specs.declared.call.Kind.TheVariants.{Durable, Log}
@@ -11,22 +10,27 @@ use Rattle.words.specs.declared.call.NodeId.{NodeId}
 use Rattle.words.specs.declared.call.Token.{Token}
 use Rattle.words.specs.declared.call.Reply.TheVariants.{Done, Got, Empty}
 use Rattle.words.specs.declared.told.Told.{Told}
+use Rattle.words.specs.declared.told.Row.TheVariants.{Open, Empty as row_empty, Got as row_got}
 use Rattle.words.specs.declared.told.Told.TheVariants.{Row as told_row}
 use Rattle.arena.specs.Chain.{IsChain, IsAmong, walk}
 use Rattle.arena.specs.Shape.{Shape, greatest}
 use Rattle.arena.specs.Words.{links, value_of}
+use Rattle.stepper.specs.Loading.{part_next, loaded_with, parts_left}
+use Rattle.stepper.specs.declared.loading.Loading.{Loading}
+use Rattle.stepper.specs.declared.loading.Loading.TheVariants.{Length as at_length, First as at_first, Second as at_second, Third as at_third}
+use Rattle.protocol.proofs.calls.Bound.{loading_most}
 use Rattle.arena.specs.declared.place.Place.{Place}
 use Rattle.arena.specs.declared.place.Place.TheVariants.{Head, Announcement, Item, Next, Mark, Cell, Status, EntryNode}
 use Rattle.helping.specs.Table.{node_of}
 use Rattle.stepper.specs.Step.{place_of}
-use Rattle.recover.specs.Table.{access_of, successor, boot_recovery, to_answer, to_outcome, row_of, taken_as, not_taken_as, no_call, report_of, after_report, recovery_at, recovery_after, node_at, token_at, point_at_the_end, point_past_status, to_node, to_mark, past_head}
+use Rattle.recover.specs.Table.{access_of, successor, boot_recovery, to_answer, to_outcome, to_row, got_with, removed_with, taken_as, not_taken_as, no_call, report_of, after_report, recovery_at, recovery_after, node_at, token_at, point_at_the_end, point_past_status, to_node, past_head}
 use Rattle.stepper.specs.declared.resume.After.TheVariants.{More, Done as Ready}
 use Rattle.recover.specs.declared.recovery.Recovery.{Recovery}
 use Rattle.recover.specs.declared.point.RecoveryPoint.{RecoveryPoint}
 use Rattle.recover.specs.declared.point.Report.{Report}
-use Rattle.recover.specs.declared.point.RecoveryPoint.TheVariants.{RecoveryLoadHead, RecoveryLoadNext, RecoveryLoadInsert, RecoveryStoreStatus, RecoveryLoadMark, RecoveryLoadValue, RecoveryStoreResult, RecoveryStoreHead, RecoveryStoreTail, RecoveryLoadAnnouncement, RecoveryLoadCell, RecoveryLoadNumber, RecoveryLoadKind, RecoveryLoadStatus, RecoveryLoadRemove, RecoveryLoadEntryNode, RecoveryLoadRemovedValue, Flush as FlushPoint, Fence as FencePoint}
+use Rattle.recover.specs.declared.point.RecoveryPoint.TheVariants.{RecoveryLoadHead, RecoveryLoadNext, RecoveryLoadInsert, RecoveryStoreStatus, RecoveryLoadMark, RecoveryStoreResult, RecoveryStoreHead, RecoveryStoreTail, RecoveryLoadAnnouncement, RecoveryLoadCell, RecoveryLoadGot, RecoveryLoadNumber, RecoveryLoadKind, RecoveryLoadStatus, RecoveryLoadRemove, RecoveryLoadEntryNode, RecoveryLoadRemovedItem, Flush as FlushPoint, Fence as FencePoint}
 use Rattle.words.specs.declared.limits.TheConstants.{STEPS_PER_RECORD}
-use Rattle.stepper.specs.Steps.{keep_steps}
+use Rattle.stepper.specs.Steps.{keep_steps, load_steps}
 use Rattle.recover.specs.declared.keeping.RecoveryKeeping.{RecoveryKeeping}
 use Rattle.recover.specs.declared.keeping.RecoveryKeeping.TheVariants.{Status as KeepStatus, Result as KeepResult, Head as KeepHead, Tail as KeepTail}
 use Rattle.stepper.specs.declared.resume.After.{After}
@@ -91,7 +95,7 @@ module _ (s : Shape) (m : Memory) (claimed waiting : List ℕ) (queue : List Val
           ap length all ∙ ap suc (ap length (sym later) ∙ ap (rest s (links m.cached)) (sym d.0))
 
   -- the next client is told
-  told_less : (client : Client) (told : List Told) (x : Told) (n : ℕ) → client.0 < s.clients → steps_to_tell s client.0 ≤ n + 5 → IsLessOn s m.cached told (report_of client x) n
+  told_less : (client : Client) (told : List Told) (x : Told) (n : ℕ) → client.0 < s.clients → steps_to_tell s client.0 ≤ n + 8 → IsLessOn s m.cached told (report_of client x) n
   told_less client told x n lt le = go (nat_lt (client.0 + 1) s.clients)
     where
       go : (c : Bool) → IsLess s m.cached
@@ -125,13 +129,9 @@ module _ (s : Shape) (m : Memory) (claimed waiting : List ℕ) (queue : List Val
   mark_less : (told : List Told) (cur node : NodeId) (found : ℕ) → IsLessOn s m.cached told (successor s (RecoveryLoadMark (record { cur = cur; node = node })) found) (weight s m.cached (RecoveryLoadMark (record { cur = cur; node = node })))
   mark_less told cur node found = go (found == 0)
     where
-      to : (kind : Kind) → weight s m.cached (to_mark kind node (token_at found)) < weight s m.cached (RecoveryLoadMark (record { cur = cur; node = node }))
-      to Durable = omega arith
-      to Log = omega arith
-
-      go : (c : Bool) → weight s m.cached (if c then RecoveryStoreHead (record { cur = cur; unclaimed = Some node }) else to_mark s.kind node (token_at found)) < weight s m.cached (RecoveryLoadMark (record { cur = cur; node = node }))
+      go : (c : Bool) → weight s m.cached (if c then RecoveryStoreHead (record { cur = cur; unclaimed = Some node }) else RecoveryStoreResult (record { node = node; mark = token_at found })) < weight s m.cached (RecoveryLoadMark (record { cur = cur; node = node }))
       go true = omega arith
-      go false = to s.kind
+      go false = omega arith
 
   head_less : (cur : NodeId) (unclaimed : Option NodeId) → weight s m.cached (past_head cur unclaimed) < steps_onward s (links m.cached) unclaimed + 2 + keep_steps + steps_to_tell_all s
   head_less cur None = omega arith
@@ -167,14 +167,37 @@ module _ (s : Shape) (m : Memory) (claimed waiting : List ℕ) (queue : List Val
   node_less client token told number found lt = go (found == 0)
     where
       go : (c : Bool)
-          → IsLessOn s m.cached told (if c then report_of client (not_taken_as number) else More (RecoveryLoadRemovedValue (record { client = client; number = number; node = node_at found }))) (steps_to_tell s client.0 - 4)
+          → IsLessOn s m.cached told (if c then report_of client (not_taken_as number) else More (RecoveryLoadRemovedItem (record { client = client; number = number; node = node_at found; loading = at_length }))) (steps_to_tell s client.0 - 4)
       go true = told_less client told (not_taken_as number) (steps_to_tell s client.0 - 4) lt (omega (arith, lt))
       go false = omega (arith, lt)
 
-  store_less : (node : NodeId) (mark : Token) (value : ℕ) (kind : Kind) → s.kind ≡ kind
-      → weight s (with_access m (access_of kind (RecoveryStoreResult (record { node = node; mark = mark; value = value })))).cached (FlushPoint (KeepResult (record { node = node; mark = mark; value = value }))) < weight s m.cached (RecoveryStoreResult (record { node = node; mark = mark; value = value }))
-  store_less node mark value Durable e = omega arith
-  store_less node mark value Log e = omega arith
+  cell_less : (client : Client) (told : List Told) (found : ℕ) → client.0 < s.clients → IsLessOn s m.cached told (to_row client found) (steps_to_tell s client.0 - 1)
+  cell_less client told found lt = go (found == 0) (found == 1)
+    where
+      go : (c d : Bool)
+          → IsLessOn s m.cached told (if c then report_of client (told_row Open) else (if d then report_of client (told_row row_empty) else More (RecoveryLoadGot (record { client = client; node = node_at (found - 2); loading = at_length })))) (steps_to_tell s client.0 - 1)
+      go true d = told_less client told (told_row Open) (steps_to_tell s client.0 - 1) lt (omega (arith, lt))
+      go false true = told_less client told (told_row row_empty) (steps_to_tell s client.0 - 1) lt (omega (arith, lt))
+      go false false = omega (arith, lt)
+
+  got_less : (client : Client) (node : NodeId) (loading : Loading) (told : List Told) (found : ℕ) → client.0 < s.clients
+      → IsLessOn s m.cached told (got_with (record { client = client; node = node; loading = loading }) (loaded_with loading found)) (steps_to_tell s client.0 - 2 - load_steps + parts_left loading)
+  got_less client node at_length told found lt = omega (arith, lt)
+  got_less client node (at_first len) told found lt = omega (arith, lt)
+  got_less client node (at_second len one) told found lt = omega (arith, lt)
+  got_less client node (at_third len one two) told found lt = told_less client told (told_row (row_got (value_of len one two found))) (steps_to_tell s client.0 - 2 - load_steps + 1) lt (omega (arith, lt))
+
+  removed_less : (client : Client) (number : ℕ) (node : NodeId) (loading : Loading) (told : List Told) (found : ℕ) → client.0 < s.clients
+      → IsLessOn s m.cached told (removed_with (record { client = client; number = number; node = node; loading = loading }) (loaded_with loading found)) (steps_to_tell s client.0 - 5 - load_steps + parts_left loading)
+  removed_less client number node at_length told found lt = omega (arith, lt)
+  removed_less client number node (at_first len) told found lt = omega (arith, lt)
+  removed_less client number node (at_second len one) told found lt = omega (arith, lt)
+  removed_less client number node (at_third len one two) told found lt = told_less client told (taken_as number (Got (value_of len one two found))) (steps_to_tell s client.0 - 5 - load_steps + 1) lt (omega (arith, lt))
+
+  store_less : (node : NodeId) (mark : Token) (kind : Kind) → s.kind ≡ kind
+      → weight s (with_access m (access_of kind (RecoveryStoreResult (record { node = node; mark = mark })))).cached (FlushPoint (KeepResult (record { node = node; mark = mark }))) < weight s m.cached (RecoveryStoreResult (record { node = node; mark = mark }))
+  store_less node mark Durable e = omega arith
+  store_less node mark Log e = omega arith
 
   -- each step of recovery
   falls_at : (told : List Told) (at : RecoveryPoint) → AtPoint s m claimed waiting told at
@@ -186,21 +209,21 @@ module _ (s : Shape) (m : Memory) (claimed waiting : List ℕ) (queue : List Val
   falls_at told (FlushPoint k) at = omega arith
   falls_at told (FencePoint (KeepStatus p)) at = omega (arith, past_less p.cur p.node p.moved)
   falls_at told (RecoveryLoadMark p) at = mark_less told p.cur p.node (m.cached (Mark p.node))
-  falls_at told (RecoveryLoadValue p) at = omega arith
-  falls_at told (RecoveryStoreResult p) at = store_less p.node p.mark p.value s.kind refl
+  falls_at told (RecoveryStoreResult p) at = store_less p.node p.mark s.kind refl
   falls_at told (FencePoint (KeepResult p)) at = omega arith
   falls_at told (RecoveryStoreHead p) at = omega arith
   falls_at told (FencePoint (KeepHead p)) at = omega (arith, head_less p.cur p.unclaimed)
   falls_at told (RecoveryStoreTail p) at = omega arith
   falls_at told (FencePoint (KeepTail p)) at = omega arith
   falls_at told (RecoveryLoadAnnouncement p) at = announcement_less p.client told (m.cached (Announcement p.client)) at.1.below
-  falls_at told (RecoveryLoadCell p) at = told_less p.client told (told_row (row_of (m.cached (Cell p.token)))) (steps_to_tell s p.client.0 - 1) at.1.below (omega (arith, at.1.below))
+  falls_at told (RecoveryLoadCell p) at = cell_less p.client told (m.cached (Cell p.token)) at.1.below
+  falls_at told (RecoveryLoadGot p) at = got_less p.client p.node p.loading told (m.cached (Item p.node (part_next p.loading))) at.1.below
   falls_at told (RecoveryLoadNumber p) at = let lt : p.client.0 < s.clients = at.1.below in omega (arith, lt)
   falls_at told (RecoveryLoadKind p) at = let lt : p.client.0 < s.clients = at.1.below in omega (arith, lt)
   falls_at told (RecoveryLoadStatus p) at = status_less p.client p.token told p.number p.is_enqueue (m.cached (Status p.token)) at.1.below
   falls_at told (RecoveryLoadRemove p) at = told_less p.client told (if m.cached (Mark (node_at p.token.0)) == 0 then not_taken_as p.number else taken_as p.number Done) (steps_to_tell s p.client.0 - 4) at.1.below (omega (arith, at.1.below))
   falls_at told (RecoveryLoadEntryNode p) at = node_less p.client p.token told p.number (m.cached (EntryNode p.token)) at.1.below
-  falls_at told (RecoveryLoadRemovedValue p) at = told_less p.client told (taken_as p.number (Got (value_of (m.cached (Item p.node First))))) (steps_to_tell s p.client.0 - 5) at.1.below (omega (arith, at.1.below))
+  falls_at told (RecoveryLoadRemovedItem p) at = removed_less p.client p.number p.node p.loading told (m.cached (Item p.node (part_next p.loading))) at.1.below
 
   pub falls : (r : Recovery) → At s m claimed waiting r
       → IsLess s (with_access m (access_of s.kind r.at)).cached (recovery_after s r (m.cached (place_of (access_of s.kind r.at)))) (weight s m.cached r.at)
@@ -254,9 +277,6 @@ module _ (s : Shape) (m : Memory) (claimed waiting : List ℕ) (queue : List Val
   few_at_point told (RecoveryLoadMark p) a =
       let less : suc (rest s (links m.cached) p.node.0) ≤ greatest s = ahead_less (λ x. a.0 (Next (node_of x))) false p.cur.0 p.node.0 a.1 in
       omega (arith, less)
-  few_at_point told (RecoveryLoadValue p) a =
-      let less : suc (rest s (links m.cached) p.node.0) ≤ greatest s = ahead_less (λ x. a.0 (Next (node_of x))) false a.1.cur p.node.0 a.1.ahead in
-      omega (arith, less)
   few_at_point told (RecoveryStoreResult p) a =
       let less : suc (rest s (links m.cached) p.node.0) ≤ greatest s = ahead_less (λ x. a.0 (Next (node_of x))) false a.1.cur p.node.0 a.1.ahead in
       omega (arith, less)
@@ -266,12 +286,13 @@ module _ (s : Shape) (m : Memory) (claimed waiting : List ℕ) (queue : List Val
   few_at_point told (FencePoint k) a = omega (arith, few_in_hand k a)
   few_at_point told (RecoveryLoadAnnouncement p) a = omega arith
   few_at_point told (RecoveryLoadCell p) a = omega arith
+  few_at_point told (RecoveryLoadGot p) a = omega (arith, loading_most p.loading)
   few_at_point told (RecoveryLoadNumber p) a = omega arith
   few_at_point told (RecoveryLoadKind p) a = omega arith
   few_at_point told (RecoveryLoadStatus p) a = omega arith
   few_at_point told (RecoveryLoadRemove p) a = omega arith
   few_at_point told (RecoveryLoadEntryNode p) a = omega arith
-  few_at_point told (RecoveryLoadRemovedValue p) a = omega arith
+  few_at_point told (RecoveryLoadRemovedItem p) a = omega (arith, loading_most p.loading)
 
   pub few_at : (r : Recovery) → At s m claimed waiting r → weight s m.cached r.at + 1 ≤ most_steps s
   few_at r a = few_at_point r.told r.at a.point

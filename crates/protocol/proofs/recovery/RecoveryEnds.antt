@@ -20,12 +20,12 @@ use Rattle.arena.specs.Words.{links, marks, values, cells, statuses, value_of, v
 use Rattle.arena.specs.declared.place.Place.{Place}
 use Rattle.arena.specs.declared.place.Place.TheVariants.{Head, Tail, Announcement, Bump, Item, Next, Mark, Cell, Number, EntryKind, Status}
 use Rattle.helping.specs.Table.{token_of, node_of}
-use Rattle.recover.specs.Table.{after_report, successor, node_at, token_at, point_at_the_end, point_past_status, to_node, to_mark, past_head}
+use Rattle.recover.specs.Table.{after_report, successor, node_at, token_at, point_at_the_end, point_past_status, to_node, past_head}
 use Rattle.stepper.specs.declared.resume.After.TheVariants.{More, Done as Ready}
 use Rattle.recover.specs.declared.recovery.Recovery.{Recovery}
 use Rattle.recover.specs.declared.point.RecoveryPoint.{RecoveryPoint}
 use Rattle.recover.specs.declared.point.Report.{Report}
-use Rattle.recover.specs.declared.point.RecoveryPoint.TheVariants.{RecoveryLoadHead, RecoveryLoadNext, RecoveryLoadInsert, RecoveryStoreStatus, RecoveryLoadMark, RecoveryLoadValue, RecoveryStoreResult, RecoveryStoreHead, RecoveryStoreTail, RecoveryLoadAnnouncement, RecoveryLoadCell, RecoveryLoadNumber, RecoveryLoadKind, RecoveryLoadStatus, RecoveryLoadRemove, RecoveryLoadEntryNode, RecoveryLoadRemovedValue, Flush as FlushPoint, Fence as FencePoint}
+use Rattle.recover.specs.declared.point.RecoveryPoint.TheVariants.{RecoveryLoadHead, RecoveryLoadNext, RecoveryLoadInsert, RecoveryStoreStatus, RecoveryLoadMark, RecoveryStoreResult, RecoveryStoreHead, RecoveryStoreTail, RecoveryLoadAnnouncement, RecoveryLoadCell, RecoveryLoadGot, RecoveryLoadNumber, RecoveryLoadKind, RecoveryLoadStatus, RecoveryLoadRemove, RecoveryLoadEntryNode, RecoveryLoadRemovedItem, Flush as FlushPoint, Fence as FencePoint}
 use Rattle.recover.specs.declared.keeping.RecoveryKeeping.{RecoveryKeeping}
 use Rattle.recover.specs.declared.keeping.RecoveryKeeping.TheVariants.{Status as KeepStatus, Result as KeepResult, Head as KeepHead, Tail as KeepTail}
 use Rattle.stepper.specs.declared.resume.After.{After}
@@ -47,28 +47,19 @@ use Rattle.protocol.specs.invariants.Sound.{memory_at_rest, Sound}
 use Rattle.protocol.proofs.recovery.Recovering.{put_tells, MayKeep, put_sound, put_ahead, put_claim, put_last, put_last_node, status_may, head_may, tail_may, node_fits}
 use Rattle.protocol.specs.invariants.Recovery.{Same, SameBut, TakenTo, Position, Ahead, Claim, LastClaimed, LastNode, At, AtKeeping, AtPoint, nothing_told}
 
--- where a result belongs does not depend on the value, and what it is does in a durable queue alone
-result_place : (kind : Kind) (t : Token) (n : NodeId) (v x : ℕ) → (result_of kind t n v).place ≡ (result_of kind t n x).place
-result_place Durable t n v x = refl
-result_place Log t n v x = refl
+result_kind : (kind : Kind) (t : Token) (n : NodeId) → t.0 ≢ 0 → IsOfKind kind (result_of kind t n).place
+result_kind Durable t n some = (refl, some)
+result_kind Log t n some = (refl, some)
 
-result_value : (kind : Kind) (t : Token) (n : NodeId) (v x : ℕ) → (kind ≡ Durable → v ≡ x) → (result_of kind t n v).value ≡ (result_of kind t n x).value
-result_value Durable t n v x h = ap (λ y. y + 2) (h refl)
-result_value Log t n v x h = refl
+pub result_fits : (s : Shape) (kind : Kind) (t : Token) (n : NodeId) → n.0 ≤ greatest s → Fits s (result_of kind t n).place (result_of kind t n).value
+result_fits s Durable t n node = omega (arith, node)
+result_fits s Log t n node = node
 
-result_kind : (kind : Kind) (t : Token) (n : NodeId) (v : Value) → t.0 ≢ 0 → IsOfKind kind (result_of kind t n v).place
-result_kind Durable t n v some = (refl, some)
-result_kind Log t n v some = (refl, some)
-
-pub result_fits : (s : Shape) (kind : Kind) (t : Token) (n : NodeId) (v : Value) → (kind ≡ Durable → FitsValue v) → n.0 ≤ greatest s → Fits s (result_of kind t n v).place (result_of kind t n v).value
-result_fits s Durable t n v h node = let small : FitsValue v = h refl in omega (arith, small)
-result_fits s Log t n v h node = node
-
-result_cell_right : (m : Memory) (kind : Kind) (t : Token) (n : NodeId) (v : Value) (c : ℕ) → marks m.kept n.0 ≡ t.0 → t.0 ≢ 0 → (kind ≡ Durable → v ≡ values m.kept n.0) → Cell (token_of c) ≡ (result_of kind t n v).place → CellRight m c (result_of kind t n v).value
-result_cell_right m Durable t n v c named some value e =
+result_cell_right : (m : Memory) (kind : Kind) (t : Token) (n : NodeId) (c : ℕ) → marks m.kept n.0 ≡ t.0 → t.0 ≢ 0 → Cell (token_of c) ≡ (result_of kind t n).place → CellRight m c (result_of kind t n).value
+result_cell_right m Durable t n c named some e =
     let is : t ≡ token_of c = cc in
-    λ x y. record { at = n.0; named = named ∙ ap (λ z. z.0) is; some = λ z. some (ap (λ q. q.0) is ∙ z); value = ap (λ q. q + 2) (value refl) }
-result_cell_right m Log t n v c named some value e = absurd (cc)
+    λ x y. record { at = n.0; named = named ∙ ap (λ z. z.0) is; some = λ z. some (ap (λ q. q.0) is ∙ z); value = refl }
+result_cell_right m Log t n c named some e = absurd (cc)
 
 -- the last of a chain's first part
 last_of_part : (k : ℕ → ℕ) (from : ℕ) (xs ys : List ℕ) (m : ℕ) → IsChain k from (xs ++ ys) → IsAmong m (from ∷ xs) → (IsAmong (k m) xs → ⊥) → m ≡ end_of from xs
@@ -93,56 +84,54 @@ path_chain k from (n ∷ ns) p z = (p.0, p.1, path_chain k n ns p.2 z)
 
 module _ (s : Shape) (k : Place → ℕ) (claimed waiting : List ℕ) (queue : List Value) (b : Sound s k claimed waiting queue) where
   -- a result of a claimed node
-  result_may : (node : NodeId) (mark : Token) (v : ℕ) → Claim s k claimed node.0 mark.0 → (s.kind ≡ Durable → v ≡ values k node.0) → MayKeep s k (result_of s.kind mark node v).place (result_of s.kind mark node v).value
-  result_may node mark v c value =
-      let p : Place = (result_of s.kind mark node v).place in
-      let word : IsAnswer (result_of s.kind mark node v).place = result_answer s.kind mark node v in
-      let own : IsOwnWord (result_of s.kind mark node v).place = result_own s.kind mark node v in
-      let other : (q : Place) → (IsAnswer q → ⊥) → put k (result_of s.kind mark node v).place (result_of s.kind mark node v).value q ≡ k q = λ q none.
-      put_other k (result_of s.kind mark node v).place (result_of s.kind mark node v).value q (λ e. none (subst IsAnswer (sym e) word)) in
+  result_may : (node : NodeId) (mark : Token) → Claim s k claimed node.0 mark.0 → MayKeep s k (result_of s.kind mark node).place (result_of s.kind mark node).value
+  result_may node mark c =
+      let p : Place = (result_of s.kind mark node).place in
+      let word : IsAnswer (result_of s.kind mark node).place = result_answer s.kind mark node in
+      let own : IsOwnWord (result_of s.kind mark node).place = result_own s.kind mark node in
+      let other : (q : Place) → (IsAnswer q → ⊥) → put k (result_of s.kind mark node).place (result_of s.kind mark node).value q ≡ k q = λ q none.
+      put_other k (result_of s.kind mark node).place (result_of s.kind mark node).value q (λ e. none (subst IsAnswer (sym e) word)) in
       let linked : links k c.cur ≢ 0 = λ z. c.ahead.some (sym c.ahead.link ∙ z) in
       let fit : node.0 ≤ greatest s = subst (λ x. x ≤ greatest s) c.ahead.link (b.fits (Next (node_of c.cur)) tt) in
-      let small : s.kind ≡ Durable → FitsValue v = λ d. subst FitsValue (sym (value d)) (values_fit k node.0 (b.fits (Item node First) tt)) in
       let claimed_mark : marks k node.0 ≢ 0 = λ z. c.some (sym c.marked ∙ z) in
       record {
         link = λ x. other (Next (node_of x)) (λ q. q);
         mark = λ x. other (Mark (node_of x)) (λ q. q);
-        value = λ x. ap value_of (other (Item (node_of x) First) (λ q. q));
+        part = λ x part. other (Item (node_of x) part) (λ q. q);
         bump = λ t. other (Bump (record { 0 = t })) (λ q. q);
         announcement = λ t. other (Announcement (record { 0 = t })) (λ q. q);
         head = subst (AnsweredTo s (memory_at_rest k)) (sym (other Head (λ q. q))) (b.records queue).to_head;
         tail = subst (λ x. LeadsTo (links k) x 0) (sym (other Tail (λ q. q))) b.tail;
         silent = λ x says. silent x s.kind refl says;
-        says = λ x says. elim (put_cases k (result_of s.kind mark node v).place (result_of s.kind mark node v).value (empty_answer_of s.kind (token_of x)).place) [
+        says = λ x says. elim (put_cases k (result_of s.kind mark node).place (result_of s.kind mark node).value (empty_answer_of s.kind (token_of x)).place) [
           | inl t ↦
-              let is : x ≡ mark.0 = sym (empty_number s.kind (token_of x)) ∙ ap number_of t.0 ∙ result_number s.kind mark node v in
+              let is : x ≡ mark.0 = sym (empty_number s.kind (token_of x)) ∙ ap number_of t.0 ∙ result_number s.kind mark node in
               absurd (b.silent node.0 claimed_mark (subst (SaysEmpty s k) (is ∙ sym c.marked) says))
           | inr t ↦ t.1 ∙ says
         ];
         kind = λ x. other (EntryKind (token_of x)) (λ q. q);
         number = λ x. other (Number (token_of x)) (λ q. q);
-        issued = λ of ne. subst (IsIssued s k) (c.marked ∙ sym (result_number s.kind mark node v)) (b.issued_mark node.0 claimed_mark);
-        of_kind = result_kind s.kind mark node v c.some;
-        fits = result_fits s s.kind mark node v small fit;
+        issued = λ of ne. subst (IsIssued s k) (c.marked ∙ sym (result_number s.kind mark node)) (b.issued_mark node.0 claimed_mark);
+        of_kind = result_kind s.kind mark node c.some;
+        fits = result_fits s s.kind mark node fit;
         harmless = record {
           answers = λ x h at.
-              let same : marks k x ≡ mark.0 = sym (result_number s.kind (token_of (marks k x)) (node_of x) (values k x)) ∙ ap number_of at ∙ result_number s.kind mark node v in
+              let same : marks k x ≡ mark.0 = sym (result_number s.kind (token_of (marks k x)) (node_of x)) ∙ ap number_of at ∙ result_number s.kind mark node in
               let is : x ≡ node.0 = b.one_mark x node.0 h (same ∙ sym c.marked) in
-              ap (λ q. (result_of s.kind (token_of q) (node_of x) (values k x)).value) same
-              ∙ ap (λ q. (result_of s.kind mark (node_of q) (values k q)).value) is
-              ∙ sym (result_value s.kind mark node v (values k node.0) value);
+              ap (λ q. (result_of s.kind (token_of q) (node_of x)).value) same
+              ∙ ap (λ q. (result_of s.kind mark (node_of q)).value) is;
           inserts = λ l x n e. absurd (subst IsAnswer (sym e) word);
           enqueues = λ l x n e. absurd (subst IsAnswer (sym e) word);
           dequeues = λ l x n e. absurd (subst IsAnswer (sym e) word);
           empties = λ x t e. absurd (subst IsAnswer (sym e) word);
           entries = λ l t e n at entry.
-              entry_stored (memory_at_rest k) (result_of s.kind mark node v).place (result_of s.kind mark node v).value e (λ q. subst IsAnswer (sym q) word) (λ q. subst IsAnswer (sym q) word)
+              entry_stored (memory_at_rest k) (result_of s.kind mark node).place (result_of s.kind mark node).value e (λ q. subst IsAnswer (sym q) word) (λ q. subst IsAnswer (sym q) word)
               (λ q one.
-              let is : e ≡ mark.0 = ap number_of q ∙ result_number s.kind mark node v in
+              let is : e ≡ mark.0 = ap number_of q ∙ result_number s.kind mark node in
               let two : Both (memory_at_rest k) (EntryKind (token_of (marks k node.0))) 2 = (b.records queue).dequeued l node.0 claimed_mark in
               absurd (one_two (k (EntryKind (token_of e))) one.0 (ap (λ x. k (EntryKind (token_of x))) (is ∙ sym c.marked) ∙ two.0))) entry;
-          cell = λ x e. result_cell_right (memory_at_rest k) s.kind mark node v x c.marked c.some value e;
-          node = λ x e. result_node (memory_at_rest k) s.kind mark node v x c.marked c.some e;
+          cell = λ x e. result_cell_right (memory_at_rest k) s.kind mark node x c.marked c.some e;
+          node = λ x e. result_node (memory_at_rest k) s.kind mark node x c.marked c.some e;
           kind = λ x e t. absurd (subst IsAnswer (sym e) word);
           status = λ x e. absurd (subst IsAnswer (sym e) word);
           announces = λ l t e n. absurd (subst IsAnswer (sym e) word);
@@ -150,19 +139,19 @@ module _ (s : Shape) (k : Place → ℕ) (claimed waiting : List ℕ) (queue : L
         status = λ l x one. other (Status (token_of x)) (λ q. q) ∙ one;
       }
     where
-      silent : (x : ℕ) (kind : Kind) → s.kind ≡ kind → SaysEmpty s (put k (result_of s.kind mark node v).place (result_of s.kind mark node v).value) x → SaysEmpty s k x
+      silent : (x : ℕ) (kind : Kind) → s.kind ≡ kind → SaysEmpty s (put k (result_of s.kind mark node).place (result_of s.kind mark node).value) x → SaysEmpty s k x
       silent x Durable e says =
-          let one : cells (put k (result_of s.kind mark node v).place (result_of s.kind mark node v).value) x ≡ 1 = (cell_says s (put k (result_of s.kind mark node v).place (result_of s.kind mark node v).value) (token_of x) e).0 says in
-          elim (put_cases k (result_of s.kind mark node v).place (result_of s.kind mark node v).value (Cell (token_of x))) [
+          let one : cells (put k (result_of s.kind mark node).place (result_of s.kind mark node).value) x ≡ 1 = (cell_says s (put k (result_of s.kind mark node).place (result_of s.kind mark node).value) (token_of x) e).0 says in
+          elim (put_cases k (result_of s.kind mark node).place (result_of s.kind mark node).value (Cell (token_of x))) [
             | inl t ↦
-                let two : (result_of s.kind mark node v).value ≡ v + 2 = ap (λ q. (result_of q mark node v).value) e in
+                let two : (result_of s.kind mark node).value ≡ node.0 + 2 = ap (λ q. (result_of q mark node).value) e in
                 absurd (omega (arith, sym one ∙ t.1, two))
             | inr t ↦ (cell_says s k (token_of x) e).1 (sym t.1 ∙ one)
           ]
       silent x Log e says =
-          let two : statuses (put k (result_of s.kind mark node v).place (result_of s.kind mark node v).value) x ≡ 2 = (status_says s (put k (result_of s.kind mark node v).place (result_of s.kind mark node v).value) (token_of x) e).0 says in
-          let other : statuses (put k (result_of s.kind mark node v).place (result_of s.kind mark node v).value) x ≡ statuses k x =
-          put_other k (result_of s.kind mark node v).place (result_of s.kind mark node v).value (Status (token_of x)) (λ q. subst IsAnswer (sym q) (result_answer s.kind mark node v)) in
+          let two : statuses (put k (result_of s.kind mark node).place (result_of s.kind mark node).value) x ≡ 2 = (status_says s (put k (result_of s.kind mark node).place (result_of s.kind mark node).value) (token_of x) e).0 says in
+          let other : statuses (put k (result_of s.kind mark node).place (result_of s.kind mark node).value) x ≡ statuses k x =
+          put_other k (result_of s.kind mark node).place (result_of s.kind mark node).value (Status (token_of x)) (λ q. subst IsAnswer (sym q) (result_answer s.kind mark node)) in
           (status_says s k (token_of x) e).1 (sym other ∙ two)
 
   -- an answered node is 0 or claimed
@@ -222,12 +211,12 @@ pub record Woken (s : Shape) (m : Memory) (claimed waiting : List ℕ) (queue : 
   pub sixteen : length told ≡ 16
   pub tells : (t : ℕ) (x : Told) → slice_get told t ≡ Some x → TellsOf s m.kept t x
 
-abbrev pub RecoversNext : Shape → Memory → List ℕ → List ℕ → List ℕ → After Recovery (List Told) → Type 0
+abbrev pub RecoversNext : Shape → Memory → List ℕ → List ℕ → List Value → After Recovery (List Told) → Type 0
 RecoversNext s m claimed waiting queue (More r) = Recovers s m claimed waiting queue r
 RecoversNext s m claimed waiting queue (Ready told) = Woken s m claimed waiting queue told
 
 -- the same of what comes after a point's step
-abbrev pub RecoversOn : Shape → Memory → List ℕ → List ℕ → List ℕ → List Told → After RecoveryPoint Report → Type 0
+abbrev pub RecoversOn : Shape → Memory → List ℕ → List ℕ → List Value → List Told → After RecoveryPoint Report → Type 0
 RecoversOn s m claimed waiting queue told (More at) = RecoversAt s m claimed waiting queue told at
 RecoversOn s m claimed waiting queue told (Ready report) = RecoversNext s m claimed waiting queue (after_report s told report)
 
@@ -257,17 +246,15 @@ module _ (s : Shape) (m : Memory) (claimed waiting : List ℕ) (queue : List Val
         ap (statuses (with_fence m (Status (token_of entry))).kept) (sym same) ∙ put_same m.kept (Status (token_of entry)) (m.cached (Status (token_of entry))) ∙ now,
       )
 
-  kept_result : (node : NodeId) (mark : Token) (v : ℕ) → m.cached (result_of s.kind mark node v).place ≡ (result_of s.kind mark node v).value → Claim s m.kept claimed node.0 mark.0 → (s.kind ≡ Durable → v ≡ values m.kept node.0)
-      → Sound s (with_fence m (result_of s.kind mark node v).place).kept claimed waiting queue × Claim s (with_fence m (result_of s.kind mark node v).place).kept claimed node.0 mark.0
-      × (s.kind ≡ Durable → v ≡ values (with_fence m (result_of s.kind mark node v).place).kept node.0)
-  kept_result node mark v now c value =
-      let may : MayKeep s m.kept (result_of s.kind mark node v).place (result_of s.kind mark node v).value = result_may s m.kept claimed waiting queue b node mark v c value in
-      let head : put m.kept (result_of s.kind mark node v).place (result_of s.kind mark node v).value Head ≡ m.kept Head =
-      put_other m.kept (result_of s.kind mark node v).place (result_of s.kind mark node v).value Head (λ e. subst IsAnswer (sym e) (result_answer s.kind mark node v)) in (
-        hand_sound (result_of s.kind mark node v).place (result_of s.kind mark node v).value now may,
-        subst (λ k. Claim s k claimed node.0 mark.0) (is_put (result_of s.kind mark node v).place (result_of s.kind mark node v).value now may)
-            (put_claim s m.kept (result_of s.kind mark node v).place (result_of s.kind mark node v).value may claimed node.0 mark.0 head c),
-        λ d. value d ∙ sym (ap value_of (put_other m.kept (result_of s.kind mark node v).place (m.cached (result_of s.kind mark node v).place) (Item node First) (λ e. subst IsAnswer (sym e) (result_answer s.kind mark node v)))),
+  kept_result : (node : NodeId) (mark : Token) → m.cached (result_of s.kind mark node).place ≡ (result_of s.kind mark node).value → Claim s m.kept claimed node.0 mark.0
+      → Sound s (with_fence m (result_of s.kind mark node).place).kept claimed waiting queue × Claim s (with_fence m (result_of s.kind mark node).place).kept claimed node.0 mark.0
+  kept_result node mark now c =
+      let may : MayKeep s m.kept (result_of s.kind mark node).place (result_of s.kind mark node).value = result_may s m.kept claimed waiting queue b node mark c in
+      let head : put m.kept (result_of s.kind mark node).place (result_of s.kind mark node).value Head ≡ m.kept Head =
+      put_other m.kept (result_of s.kind mark node).place (result_of s.kind mark node).value Head (λ e. subst IsAnswer (sym e) (result_answer s.kind mark node)) in (
+        hand_sound (result_of s.kind mark node).place (result_of s.kind mark node).value now may,
+        subst (λ k. Claim s k claimed node.0 mark.0) (is_put (result_of s.kind mark node).place (result_of s.kind mark node).value now may)
+            (put_claim s m.kept (result_of s.kind mark node).place (result_of s.kind mark node).value may claimed node.0 mark.0 head c),
       )
 
   kept_head : (cur : ℕ) (n : Option NodeId) → m.cached Head ≡ cur → LastClaimed s m.kept claimed cur n → Sound s (with_fence m Head).kept claimed waiting queue × LastClaimed s (with_fence m Head).kept claimed cur n
@@ -303,12 +290,11 @@ module _ (s : Shape) (m : Memory) (claimed waiting : List ℕ) (queue : List Val
           subst (λ x. KeptInHand (with_fence m x) (KeepStatus q)) (sym t.0) now
       | inr t ↦ absurd (ne (sym (a.0 p t.0)))
     ]
-    keep_in_hand p ne (KeepResult q) a = elim (put_cases m.kept (result_of s.kind q.mark q.node q.value).place 0 p) [
+    keep_in_hand p ne (KeepResult q) a = elim (put_cases m.kept (result_of s.kind q.mark q.node).place 0 p) [
       | inl t ↦
-          let r : Sound s (with_fence m (result_of s.kind q.mark q.node q.value).place).kept claimed waiting queue × Claim s (with_fence m (result_of s.kind q.mark q.node q.value).place).kept claimed q.node.0 q.mark.0
-          × (s.kind ≡ Durable → q.value ≡ values (with_fence m (result_of s.kind q.mark q.node q.value).place).kept q.node.0) = kept_result q.node q.mark q.value a.1 a.2 a.3 in
-          let now : KeptInHand (with_fence m (result_of s.kind q.mark q.node q.value).place) (KeepResult q) =
-          record { sound = r.0; at = (but_fenced (result_of s.kind q.mark q.node q.value).place a.0, a.1, r.1, r.2, a.4) } in
+          let r : Sound s (with_fence m (result_of s.kind q.mark q.node).place).kept claimed waiting queue × Claim s (with_fence m (result_of s.kind q.mark q.node).place).kept claimed q.node.0 q.mark.0 = kept_result q.node q.mark a.1 a.2 in
+          let now : KeptInHand (with_fence m (result_of s.kind q.mark q.node).place) (KeepResult q) =
+          record { sound = r.0; at = (but_fenced (result_of s.kind q.mark q.node).place a.0, a.1, r.1) } in
           subst (λ x. KeptInHand (with_fence m x) (KeepResult q)) (sym t.0) now
       | inr t ↦ absurd (ne (sym (a.0 p t.0)))
     ]
@@ -333,20 +319,20 @@ module _ (s : Shape) (m : Memory) (claimed waiting : List ℕ) (queue : List Val
     keep_new p ne (RecoveryLoadInsert q) a = absurd (ne (sym (a.0 p)))
     keep_new p ne (RecoveryStoreStatus q) a = absurd (ne (sym (a.0 p)))
     keep_new p ne (RecoveryLoadMark q) a = absurd (ne (sym (a.0 p)))
-    keep_new p ne (RecoveryLoadValue q) a = absurd (ne (sym (a.0 p)))
     keep_new p ne (RecoveryStoreResult q) a = absurd (ne (sym (a.0 p)))
     keep_new p ne (RecoveryStoreHead q) a = absurd (ne (sym (a.0 p)))
     keep_new p ne (RecoveryStoreTail q) a = absurd (ne (sym (a.0 p)))
     keep_new p ne (FlushPoint k) a = let r = keep_in_hand p ne k a in record { sound = r.sound; at = r.at }
     keep_new p ne (FencePoint k) a = let r = keep_in_hand p ne k a in record { sound = r.sound; at = r.at }
     keep_new p ne (RecoveryLoadAnnouncement q) a = absurd (ne (sym (a.0 p)))
+    keep_new p ne (RecoveryLoadGot q) a = absurd (ne (sym (a.0 p)))
     keep_new p ne (RecoveryLoadCell q) a = absurd (ne (sym (a.0 p)))
     keep_new p ne (RecoveryLoadNumber q) a = absurd (ne (sym (a.0 p)))
     keep_new p ne (RecoveryLoadKind q) a = absurd (ne (sym (a.0 p)))
     keep_new p ne (RecoveryLoadStatus q) a = absurd (ne (sym (a.0 p)))
     keep_new p ne (RecoveryLoadRemove q) a = absurd (ne (sym (a.0 p)))
     keep_new p ne (RecoveryLoadEntryNode q) a = absurd (ne (sym (a.0 p)))
-    keep_new p ne (RecoveryLoadRemovedValue q) a = absurd (ne (sym (a.0 p)))
+    keep_new p ne (RecoveryLoadRemovedItem q) a = absurd (ne (sym (a.0 p)))
 
     -- the word in hand may be kept
     hand_may_in : (p : Place) → m.kept p ≢ m.cached p → (k : RecoveryKeeping) → AtKeeping s m claimed k → MayKeep s m.kept p (m.cached p)
@@ -356,9 +342,9 @@ module _ (s : Shape) (m : Memory) (claimed waiting : List ℕ) (queue : List Val
           subst (λ x. MayKeep s m.kept x (m.cached x)) (sym t.0) (subst (MayKeep s m.kept (Status q.entry)) (sym a.1) may)
       | inr t ↦ absurd (ne (sym (a.0 p t.0)))
     ]
-    hand_may_in p ne (KeepResult q) a = elim (put_cases m.kept (result_of s.kind q.mark q.node q.value).place 0 p) [
+    hand_may_in p ne (KeepResult q) a = elim (put_cases m.kept (result_of s.kind q.mark q.node).place 0 p) [
       | inl t ↦ subst (λ x. MayKeep s m.kept x (m.cached x)) (sym t.0)
-          (subst (MayKeep s m.kept (result_of s.kind q.mark q.node q.value).place) (sym a.1) (result_may s m.kept claimed waiting queue b q.node q.mark q.value a.2 a.3))
+          (subst (MayKeep s m.kept (result_of s.kind q.mark q.node).place) (sym a.1) (result_may s m.kept claimed waiting queue b q.node q.mark a.2))
       | inr t ↦ absurd (ne (sym (a.0 p t.0)))
     ]
     hand_may_in p ne (KeepHead q) a = elim (put_cases m.kept Head 0 p) [
@@ -383,20 +369,20 @@ module _ (s : Shape) (m : Memory) (claimed waiting : List ℕ) (queue : List Val
     hand_may_at p ne (RecoveryLoadInsert q) a = absurd (ne (sym (a.0 p)))
     hand_may_at p ne (RecoveryStoreStatus q) a = absurd (ne (sym (a.0 p)))
     hand_may_at p ne (RecoveryLoadMark q) a = absurd (ne (sym (a.0 p)))
-    hand_may_at p ne (RecoveryLoadValue q) a = absurd (ne (sym (a.0 p)))
     hand_may_at p ne (RecoveryStoreResult q) a = absurd (ne (sym (a.0 p)))
     hand_may_at p ne (RecoveryStoreHead q) a = absurd (ne (sym (a.0 p)))
     hand_may_at p ne (RecoveryStoreTail q) a = absurd (ne (sym (a.0 p)))
     hand_may_at p ne (FlushPoint k) a = hand_may_in p ne k a
     hand_may_at p ne (FencePoint k) a = hand_may_in p ne k a
     hand_may_at p ne (RecoveryLoadAnnouncement q) a = absurd (ne (sym (a.0 p)))
+    hand_may_at p ne (RecoveryLoadGot q) a = absurd (ne (sym (a.0 p)))
     hand_may_at p ne (RecoveryLoadCell q) a = absurd (ne (sym (a.0 p)))
     hand_may_at p ne (RecoveryLoadNumber q) a = absurd (ne (sym (a.0 p)))
     hand_may_at p ne (RecoveryLoadKind q) a = absurd (ne (sym (a.0 p)))
     hand_may_at p ne (RecoveryLoadStatus q) a = absurd (ne (sym (a.0 p)))
     hand_may_at p ne (RecoveryLoadRemove q) a = absurd (ne (sym (a.0 p)))
     hand_may_at p ne (RecoveryLoadEntryNode q) a = absurd (ne (sym (a.0 p)))
-    hand_may_at p ne (RecoveryLoadRemovedValue q) a = absurd (ne (sym (a.0 p)))
+    hand_may_at p ne (RecoveryLoadRemovedItem q) a = absurd (ne (sym (a.0 p)))
 
   -- the word in hand may be kept
   pub hand_may : (p : Place) → m.kept p ≢ m.cached p → (r : Recovery) → At s m claimed waiting r → MayKeep s m.kept p (m.cached p)
@@ -450,11 +436,10 @@ module _ (s : Shape) (m : Memory) (claimed waiting : List ℕ) (queue : List Val
         mark : marks m.kept node.0 ≡ marks m.cached node.0
         mark = sym (same (Mark node))
 
-        onward : (t : Token) → marks m.kept node.0 ≡ t.0 → t.0 ≢ 0 → (kind : Kind) → s.kind ≡ kind → RecoversAt s m claimed waiting queue told (to_mark kind node t)
-        onward t at some Durable e = more (to_mark Durable node t) (same, record { cur = cur.0; ahead = a; marked = at; some = some }, e)
-        onward t at some Log e = more (to_mark Log node t) (same, record { cur = cur.0; ahead = a; marked = at; some = some }, λ d. let wrong : Log ≡ Durable = sym e ∙ d in absurd (cc), omega arith)
+        onward : (t : Token) → marks m.kept node.0 ≡ t.0 → t.0 ≢ 0 → RecoversAt s m claimed waiting queue told (RecoveryStoreResult (record { node = node; mark = t }))
+        onward t at some = more (RecoveryStoreResult (record { node = node; mark = t })) (same, record { cur = cur.0; ahead = a; marked = at; some = some })
 
-        go : (t : Bool) → (m.cached (Mark node) == 0) ≡ t → RecoversAt s m claimed waiting queue told (if t then RecoveryStoreHead (record { cur = cur; unclaimed = Some node }) else to_mark s.kind node (token_at (m.cached (Mark node))))
+        go : (t : Bool) → (m.cached (Mark node) == 0) ≡ t → RecoversAt s m claimed waiting queue told (if t then RecoveryStoreHead (record { cur = cur; unclaimed = Some node }) else RecoveryStoreResult (record { node = node; mark = token_at (m.cached (Mark node)) }))
         go true e = more (RecoveryStoreHead (record { cur = cur; unclaimed = Some node })) (
           same,
           record {
@@ -463,7 +448,7 @@ module _ (s : Shape) (m : Memory) (claimed waiting : List ℕ) (queue : List Val
             next = (a.link, a.some, one);
           },
         )
-        go false e = onward (token_at (m.cached (Mark node))) mark (eqb-false (m.cached (Mark node)) 0 e) s.kind refl
+        go false e = onward (token_at (m.cached (Mark node))) mark (eqb-false (m.cached (Mark node)) 0 e)
 
     pub row_KeepStatus : (cur node : NodeId) (entry : Token) (moved : Bool) → AtPoint s m claimed waiting told (FencePoint (KeepStatus (record { cur = cur; node = node; entry = entry; moved = moved })))
         → RecoversAt s (with_fence m (Status entry)) claimed waiting queue told (point_past_status cur node moved)
@@ -480,28 +465,21 @@ module _ (s : Shape) (m : Memory) (claimed waiting : List ℕ) (queue : List Val
         go true h = record { sound = now.0; at = (same_after m (Status entry) a.0, taken_next s (with_fence m (Status entry)).kept claimed waiting queue now.0 cur.0 node.0 h.position h.link h.some (λ l. now.1)) }
         go false h = record { sound = now.0; at = (same_after m (Status entry) a.0, h, λ l. now.1) }
 
-    pub row_KeepResult : (node : NodeId) (mark : Token) (v : ℕ) → AtPoint s m claimed waiting told (FencePoint (KeepResult (record { node = node; mark = mark; value = v })))
-        → RecoversAt s (with_fence m (result_of s.kind mark node v).place) claimed waiting queue told (RecoveryLoadNext (record { cur = node; moved = false }))
-    row_KeepResult node mark v a =
-        let p : Place = (result_of s.kind mark node v).place in
-        let r : Sound s (with_fence m (result_of s.kind mark node v).place).kept claimed waiting queue × Claim s (with_fence m (result_of s.kind mark node v).place).kept claimed node.0 mark.0
-        × (s.kind ≡ Durable → v ≡ values (with_fence m (result_of s.kind mark node v).place).kept node.0) = kept_result node mark v a.1 a.2 a.3 in
-        let k : Place → ℕ = (with_fence m (result_of s.kind mark node v).place).kept in
-        let x : ℕ = values (with_fence m (result_of s.kind mark node v).place).kept node.0 in
-        let at : (with_fence m (result_of s.kind mark node v).place).kept (result_of s.kind mark node v).place ≡ (result_of s.kind mark node v).value =
-        put_same m.kept (result_of s.kind mark node v).place (m.cached (result_of s.kind mark node v).place) ∙ a.1 in
-        let right : (with_fence m (result_of s.kind mark node v).place).kept (result_of s.kind mark node (values (with_fence m (result_of s.kind mark node v).place).kept node.0)).place
-        ≡ (result_of s.kind mark node (values (with_fence m (result_of s.kind mark node v).place).kept node.0)).value =
-        ap (with_fence m (result_of s.kind mark node v).place).kept (result_place s.kind mark node (values (with_fence m (result_of s.kind mark node v).place).kept node.0) v) ∙ at
-        ∙ result_value s.kind mark node v (values (with_fence m (result_of s.kind mark node v).place).kept node.0) r.2 in
-        let answered : IsAnswered s (memory_at_rest (with_fence m (result_of s.kind mark node v).place).kept) node.0 =
-        subst (λ t. Both (memory_at_rest (with_fence m (result_of s.kind mark node v).place).kept) (result_of s.kind (token_of t) node (values (with_fence m (result_of s.kind mark node v).place).kept node.0)).place
-        (result_of s.kind (token_of t) node (values (with_fence m (result_of s.kind mark node v).place).kept node.0)).value) (sym r.1.marked) (right, right) in
+    pub row_KeepResult : (node : NodeId) (mark : Token) → AtPoint s m claimed waiting told (FencePoint (KeepResult (record { node = node; mark = mark })))
+        → RecoversAt s (with_fence m (result_of s.kind mark node).place) claimed waiting queue told (RecoveryLoadNext (record { cur = node; moved = false }))
+    row_KeepResult node mark a =
+        let p : Place = (result_of s.kind mark node).place in
+        let r : Sound s (with_fence m (result_of s.kind mark node).place).kept claimed waiting queue × Claim s (with_fence m (result_of s.kind mark node).place).kept claimed node.0 mark.0 = kept_result node mark a.1 a.2 in
+        let at : (with_fence m (result_of s.kind mark node).place).kept (result_of s.kind mark node).place ≡ (result_of s.kind mark node).value =
+        put_same m.kept (result_of s.kind mark node).place (m.cached (result_of s.kind mark node).place) ∙ a.1 in
+        let answered : IsAnswered s (memory_at_rest (with_fence m (result_of s.kind mark node).place).kept) node.0 =
+        subst (λ t. Both (memory_at_rest (with_fence m (result_of s.kind mark node).place).kept) (result_of s.kind (token_of t) node).place
+        (result_of s.kind (token_of t) node).value) (sym r.1.marked) (at, at) in
         record {
           sound = r.0;
           at = (
-            same_after m (result_of s.kind mark node v).place a.0,
-            answered_next s (memory_at_rest (with_fence m (result_of s.kind mark node v).place).kept) r.1.cur node.0 r.1.ahead.position r.1.ahead.link r.1.ahead.some (λ z. r.1.some (sym r.1.marked ∙ z)) answered,
+            same_after m (result_of s.kind mark node).place a.0,
+            answered_next s (memory_at_rest (with_fence m (result_of s.kind mark node).place).kept) r.1.cur node.0 r.1.ahead.position r.1.ahead.link r.1.ahead.some (λ z. r.1.some (sym r.1.marked ∙ z)) answered,
           );
         }
 

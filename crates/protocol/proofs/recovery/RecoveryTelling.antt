@@ -6,24 +6,29 @@ use Rattle.words.specs.PlainQueue.{Value}
 use Rattle.words.specs.declared.call.Client.{Client}
 use Rattle.words.specs.declared.call.Kind.{Kind}
 use Rattle.words.specs.declared.call.Kind.TheVariants.{Durable, Log}
-use Rattle.words.specs.declared.call.Reply.TheVariants.{Done, Empty}
+use Rattle.words.specs.declared.call.Reply.TheVariants.{Done, Got, Empty}
+use Rattle.words.specs.declared.call.NodeId.{NodeId}
 use Rattle.words.specs.declared.call.Token.{Token}
 use Rattle.words.specs.declared.told.Outcome.{Outcome}
 use Rattle.words.specs.declared.told.Outcome.TheVariants.{NotTaken, Taken}
 use Rattle.words.specs.declared.told.Row.{Row}
-use Rattle.words.specs.declared.told.Row.TheVariants.{Open, Empty as row_empty, Got as row_got}
+use Rattle.words.specs.declared.told.Row.TheVariants.{NoCall, Open, Empty as row_empty, Got as row_got}
 use Rattle.words.specs.declared.told.Told.{Told}
 use Rattle.words.specs.declared.told.Told.TheVariants.{None as told_none, Verdict as told_verdict, Row as told_row}
 use Rattle.arena.specs.Answers.{result_of}
 use Rattle.arena.specs.Chain.{IsChain, IsAmong}
 use Rattle.arena.specs.Shape.{Shape}
-use Rattle.arena.specs.Words.{links, marks, values, announcements, cells, numbers, statuses, entry_kinds, entry_nodes}
-use Rattle.arena.specs.declared.place.Place.TheVariants.{Announcement, Mark, Cell, Status, EntryNode}
+use Rattle.arena.specs.Words.{links, marks, part_at, value_of, values, announcements, cells, numbers, statuses, entry_kinds, entry_nodes}
+use Rattle.arena.specs.declared.place.Part.TheVariants.{Length, First, Second, Third}
+use Rattle.arena.specs.declared.place.Place.TheVariants.{Announcement, Item, Mark, Cell, Status, EntryNode}
+use Rattle.stepper.specs.Loading.{part_next, loaded_with, IsLoaded}
+use Rattle.stepper.specs.declared.loading.Loading.{Loading}
+use Rattle.stepper.specs.declared.loading.Loading.TheVariants.{Length as at_length, First as at_first, Second as at_second, Third as at_third}
 use Rattle.helping.specs.Table.{token_of, node_of}
-use Rattle.recover.specs.Table.{successor, node_at, token_at, row_of, taken_as, not_taken_as, report_of, no_call, to_answer, to_outcome}
+use Rattle.recover.specs.Table.{successor, node_at, token_at, to_row, got_with, removed_with, taken_as, not_taken_as, report_of, no_call, to_answer, to_outcome}
 use Rattle.stepper.specs.declared.resume.After.TheVariants.{More, Done as Ready}
 use Rattle.recover.specs.declared.point.RecoveryPoint.{RecoveryPoint}
-use Rattle.recover.specs.declared.point.RecoveryPoint.TheVariants.{RecoveryLoadAnnouncement, RecoveryLoadStatus, RecoveryLoadRemove, RecoveryLoadEntryNode, RecoveryLoadRemovedValue}
+use Rattle.recover.specs.declared.point.RecoveryPoint.TheVariants.{RecoveryLoadAnnouncement, RecoveryLoadStatus, RecoveryLoadRemove, RecoveryLoadEntryNode, RecoveryLoadRemovedItem, RecoveryLoadGot}
 use Rattle.protocol.specs.Machine.{Memory}
 use Rattle.protocol.specs.Kept.{OutcomeBy, RowBy, TellsBy, TellsOf}
 use Rattle.protocol.specs.Recovered.{end_of}
@@ -151,41 +156,68 @@ module _ (s : Shape) (m : Memory) (claimed waiting : List ℕ) (queue : List Val
       go true e = tell client told (no_call s.kind) same t (none s.kind (is ∙ eqb-true (m.cached (Announcement client)) 0 e))
       go false e = onward (token_at (m.cached (Announcement client))) is (eqb-false (m.cached (Announcement client)) 0 e) s.kind refl
 
+  -- what a row says is what its client is told
+  row_right : (client : Client) (token : ℕ) (row : Row) → Announced m.kept client.0 token → s.kind ≡ Durable → (row ≢ NoCall) → RowBy m.kept token row → TellsBy s.kind m.kept client.0 (told_row row)
+  row_right client token row a k some h =
+      subst (λ q. TellsBy q m.kept client.0 (told_row row)) (sym k) (go row some (subst (λ e. RowBy m.kept e row) (sym a.names) h))
+    where
+      go : (row : Row) → (row ≢ NoCall) → RowBy m.kept (announcements m.kept client.0) row → TellsBy Durable m.kept client.0 (told_row row)
+      go NoCall some h = absurd (some refl)
+      go Open some h = (λ z. a.some (sym a.names ∙ z), h)
+      go row_empty some h = (λ z. a.some (sym a.names ∙ z), h)
+      go (row_got v) some h = (λ z. a.some (sym a.names ∙ z), h)
+
   -- what a cell says
   pub row_LoadCell : (client : Client) (token : Token) (told : List Told) → Same m → Telling s m.kept claimed waiting client.0 told → Announced m.kept client.0 token.0 → s.kind ≡ Durable
-      → RecoversOn s m claimed waiting queue told (report_of client (told_row (row_of (m.cached (Cell token)))))
-  row_LoadCell client token told same t a k = tell client told (told_row (row_of (m.cached (Cell token)))) same t (subst (λ q. TellsBy q m.kept client.0 (told_row (row_of (m.cached (Cell token))))) (sym k) (go (m.cached (Cell token) == 0) refl (m.cached (Cell token) == 1) refl))
+      → RecoversOn s m claimed waiting queue told (to_row client (m.cached (Cell token)))
+  row_LoadCell client token told same t a k = go (m.cached (Cell token) == 0) refl (m.cached (Cell token) == 1) refl
     where
-      ne : announcements m.kept client.0 ≢ 0
-      ne z = a.some (sym a.names ∙ z)
-
       is : cells m.kept token.0 ≡ m.cached (Cell token)
       is = sym (same (Cell token))
 
-      -- a claimed node's result stands in its cell
-      result : (at : ℕ) → marks m.kept at ≡ token.0 → cells m.kept token.0 ≡ values m.kept at + 2
+      -- a claimed node is named in its cell
+      result : (at : ℕ) → marks m.kept at ≡ token.0 → cells m.kept token.0 ≡ at + 2
       result at q =
           let claimed_now : IsAmong at claimed = b.back at (λ z. a.some (sym q ∙ z)) in
           let ans : IsAnswered s (memory_at_rest m.kept) at = all_answered t.all at claimed_now in
-          subst (λ x. m.kept (Cell (token_of x)) ≡ values m.kept at + 2) q (subst (λ x. m.kept (result_of x (token_of (marks m.kept at)) (node_of at) (values m.kept at)).place ≡ (result_of x (token_of (marks m.kept at)) (node_of at) (values m.kept at)).value) k ans.0)
-
-      by : (row : Row) → RowBy m.kept token.0 row → RowBy m.kept (announcements m.kept client.0) row
-      by row h = subst (λ e. RowBy m.kept e row) (sym a.names) h
-
-      got : (v : ℕ) → RowBy m.kept token.0 (row_got v) → TellsBy Durable m.kept client.0 (told_row (row_got v))
-      got v h = (ne, by (row_got v) h)
+          subst (λ x. m.kept (Cell (token_of x)) ≡ at + 2) q (subst (λ x. m.kept (result_of x (token_of (marks m.kept at)) (node_of at)).place ≡ (result_of x (token_of (marks m.kept at)) (node_of at)).value) k ans.0)
 
       go : (z : Bool) → (m.cached (Cell token) == 0) ≡ z → (o : Bool) → (m.cached (Cell token) == 1) ≡ o
-          → TellsBy Durable m.kept client.0 (told_row (if z then Open else (if o then row_empty else row_got (m.cached (Cell token) - 2))))
+          → RecoversOn s m claimed waiting queue told (if z then report_of client (told_row Open) else (if o then report_of client (told_row row_empty)
+          else More (RecoveryLoadGot (record { client = client; node = node_at (m.cached (Cell token) - 2); loading = at_length }))))
       go true e o f =
           let zero_now : cells m.kept token.0 ≡ 0 = is ∙ eqb-true (m.cached (Cell token)) 0 e in
-          (ne, by Open (λ one. absurd (omega (arith, zero_now, one)), λ at q. absurd (omega (arith, zero_now, result at q))))
-      go false e true f = (ne, by row_empty (is ∙ eqb-true (m.cached (Cell token)) 1 f))
+          tell client told (told_row Open) same t
+          (row_right client token.0 Open a k (λ q. cc) (λ one. absurd (omega (arith, zero_now, one)), λ at q. absurd (omega (arith, zero_now, result at q))))
+      go false e true f = tell client told (told_row row_empty) same t (row_right client token.0 row_empty a k (λ q. cc) (is ∙ eqb-true (m.cached (Cell token)) 1 f))
       go false e false f =
           let some : cells m.kept token.0 ≢ 0 = λ z. eqb-false (m.cached (Cell token)) 0 e (sym is ∙ z) in
           let other : cells m.kept token.0 ≢ 1 = λ z. eqb-false (m.cached (Cell token)) 1 f (sym is ∙ z) in
-          let q : record { at : ℕ; named : marks m.kept at ≡ token.0; some : token.0 ≢ 0; value : cells m.kept token.0 ≡ values m.kept at + 2 } = (b.records queue).cell token.0 some other in
-          got (m.cached (Cell token) - 2) (record { at = q.at; marked = q.named; value = omega (arith, q.value, is) })
+          let q : record { at : ℕ; named : marks m.kept at ≡ token.0; some : token.0 ≢ 0; value : cells m.kept token.0 ≡ at + 2 } = (b.records queue).cell token.0 some other in
+          let node : m.cached (Cell token) - 2 ≡ q.at = omega (arith, q.value, is) in
+          more told (RecoveryLoadGot (record { client = client; node = node_at (m.cached (Cell token) - 2); loading = at_length }))
+          (same, t, k, tt, record { token = token.0; announced = a; marked = ap (marks m.kept) node ∙ q.named })
+
+  -- a message whose parts were loaded
+  loaded_value : (node : NodeId) (len one two : ℕ) → Same m → IsLoaded m.kept node.0 (at_third len one two) → values m.kept node.0 ≡ value_of len one two (part_at m.cached node.0 Third)
+  loaded_value node len one two same h = rw (h.0, h.1, h.2, sym (same (Item node Third))) refl
+
+  pub row_LoadGot : (client : Client) (node : NodeId) (loading : Loading) (told : List Told) → AtPoint s m claimed waiting told (RecoveryLoadGot (record { client = client; node = node; loading = loading }))
+      → RecoversOn s m claimed waiting queue told (got_with (record { client = client; node = node; loading = loading }) (loaded_with loading (m.cached (Item node (part_next loading)))))
+  row_LoadGot client node at_length told h =
+      more told (RecoveryLoadGot (record { client = client; node = node; loading = at_first (part_at m.cached node.0 Length) }))
+      (h.0, h.1, h.2, sym (h.0 (Item node Length)), h.4)
+  row_LoadGot client node (at_first len) told h =
+      more told (RecoveryLoadGot (record { client = client; node = node; loading = at_second len (part_at m.cached node.0 First) }))
+      (h.0, h.1, h.2, (h.3, sym (h.0 (Item node First))), h.4)
+  row_LoadGot client node (at_second len one) told h =
+      more told (RecoveryLoadGot (record { client = client; node = node; loading = at_third len one (part_at m.cached node.0 Second) }))
+      (h.0, h.1, h.2, (h.3.0, h.3.1, sym (h.0 (Item node Second))), h.4)
+  row_LoadGot client node (at_third len one two) told h =
+      let value : Value = value_of len one two (part_at m.cached node.0 Third) in
+      tell client told (told_row (row_got (value_of len one two (part_at m.cached node.0 Third)))) h.0 h.1
+      (row_right client h.4.token (row_got (value_of len one two (part_at m.cached node.0 Third))) h.4.announced h.2 (λ q. cc)
+      (record { at = node.0; marked = h.4.marked; value = loaded_value node len one two h.0 h.3 }))
 
   -- an outcome by the entry's words is what its client is told
   pub verdict_right : (client : Client) (token : ℕ) (number : ℕ) (o : Outcome) → Announced m.kept client.0 token → s.kind ≡ Log → number ≡ numbers m.kept token → OutcomeBy m.kept token o
@@ -262,10 +294,10 @@ module _ (s : Shape) (m : Memory) (claimed waiting : List ℕ) (queue : List Val
       result at q =
           let claimed_now : IsAmong at claimed = b.back at (λ z. h.2.some (sym q ∙ z)) in
           let ans : IsAnswered s (memory_at_rest m.kept) at = all_answered h.1.all at claimed_now in
-          subst (λ x. m.kept (EntryNode (token_of x)) ≡ at) q (subst (λ x. m.kept (result_of x (token_of (marks m.kept at)) (node_of at) (values m.kept at)).place ≡ (result_of x (token_of (marks m.kept at)) (node_of at) (values m.kept at)).value) h.3 ans.0)
+          subst (λ x. m.kept (EntryNode (token_of x)) ≡ at) q (subst (λ x. m.kept (result_of x (token_of (marks m.kept at)) (node_of at)).place ≡ (result_of x (token_of (marks m.kept at)) (node_of at)).value) h.3 ans.0)
 
       go : (c : Bool) → (m.cached (EntryNode token) == 0) ≡ c → RecoversOn s m claimed waiting queue told (if c then report_of client (not_taken_as number)
-          else More (RecoveryLoadRemovedValue (record { client = client; number = number; node = node_at (m.cached (EntryNode token)) })))
+          else More (RecoveryLoadRemovedItem (record { client = client; number = number; node = node_at (m.cached (EntryNode token)); loading = at_length })))
       go true e = tell client told (not_taken_as number) h.0 h.1 (verdict_right client token.0 number NotTaken h.2 h.3 h.4 (
         λ one. absurd (h.5 one),
         λ ne. (
@@ -279,9 +311,27 @@ module _ (s : Shape) (m : Memory) (claimed waiting : List ℕ) (queue : List Val
       go false e =
           let some : entry_nodes m.kept token.0 ≢ 0 = λ z. eqb-false (m.cached (EntryNode token)) 0 e (sym is ∙ z) in
           let marked : (marks m.kept (entry_nodes m.kept token.0) ≡ token.0) × (token.0 ≢ 0) = (b.records queue).node token.0 (inl kind) some in
-          more told (RecoveryLoadRemovedValue (record { client = client; number = number; node = node_at (m.cached (EntryNode token)) })) (
+          more told (RecoveryLoadRemovedItem (record { client = client; number = number; node = node_at (m.cached (EntryNode token)); loading = at_length })) (
             h.0,
             h.1,
             h.3,
+            tt,
             record { token = token.0; announced = h.2; number = h.4; kind = h.5; marked = ap (marks m.kept) (sym is) ∙ marked.0 },
           )
+
+  pub row_LoadRemovedItem : (client : Client) (number : ℕ) (node : NodeId) (loading : Loading) (told : List Told)
+      → AtPoint s m claimed waiting told (RecoveryLoadRemovedItem (record { client = client; number = number; node = node; loading = loading }))
+      → RecoversOn s m claimed waiting queue told (removed_with (record { client = client; number = number; node = node; loading = loading }) (loaded_with loading (m.cached (Item node (part_next loading)))))
+  row_LoadRemovedItem client number node at_length told h =
+      more told (RecoveryLoadRemovedItem (record { client = client; number = number; node = node; loading = at_first (part_at m.cached node.0 Length) }))
+      (h.0, h.1, h.2, sym (h.0 (Item node Length)), h.4)
+  row_LoadRemovedItem client number node (at_first len) told h =
+      more told (RecoveryLoadRemovedItem (record { client = client; number = number; node = node; loading = at_second len (part_at m.cached node.0 First) }))
+      (h.0, h.1, h.2, (h.3, sym (h.0 (Item node First))), h.4)
+  row_LoadRemovedItem client number node (at_second len one) told h =
+      more told (RecoveryLoadRemovedItem (record { client = client; number = number; node = node; loading = at_third len one (part_at m.cached node.0 Second) }))
+      (h.0, h.1, h.2, (h.3.0, h.3.1, sym (h.0 (Item node Second))), h.4)
+  row_LoadRemovedItem client number node (at_third len one two) told h =
+      tell client told (taken_as number (Got (value_of len one two (part_at m.cached node.0 Third)))) h.0 h.1
+      (verdict_right client h.4.token number (Taken (Got (value_of len one two (part_at m.cached node.0 Third)))) h.4.announced h.2 h.4.number
+      (h.4.kind, record { at = node.0; marked = h.4.marked; value = loaded_value node len one two h.0 h.3 }))

@@ -9,6 +9,7 @@ use Rattle.arena.specs.Words.{links, marks, bumps, announcements, entry_nodes}
 use Rattle.arena.specs.declared.place.Place.{Place}
 use Rattle.arena.specs.declared.place.Place.TheVariants.{Head, Tail, Insert, Number, EntryKind, Status, EntryNode}
 use Rattle.helping.specs.Table.{token_of, node_of}
+use Rattle.protocol.proofs.changes.Puts.{kept_item}
 use Rattle.protocol.specs.Machine.{Memory}
 use Rattle.recover.specs.Sound.{IsIssued}
 use Rattle.protocol.specs.Recovered.{end_of}
@@ -81,6 +82,7 @@ crash_sound s m l claimed waiting b r = record {
   back = b.marked.back;
   on = b.marked.on;
   content = b.content;
+  item = λ n. kept_item m n (b.message n);
   tail = b.kept_tail;
   issued_link = λ n some. subst (IsIssued s m.kept) (b.chained.kept n some) (b.issued_link n (λ z. some (sym (b.chained.kept n some) ∙ z)));
   issued_mark = λ n some. subst (IsIssued s m.kept) (b.marked.kept n some) (b.issued_mark n (λ z. some (sym (b.marked.kept n some) ∙ z)));
@@ -117,7 +119,8 @@ wake_base s k claimed waiting queue b head tail =
       kept_head = among;
       kept_head_to_head = there;
       kept_tail = b.tail;
-      linked_value = λ n h. refl;
+      linked_part = λ n part h. refl;
+      message = λ n. record { item = b.item n; stays = λ part. inl refl; sized = λ part word some. refl };
       issued_link = b.issued_link;
       issued_mark = b.issued_mark;
       flying_link = λ n h z. absurd (h z);

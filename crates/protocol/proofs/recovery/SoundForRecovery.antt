@@ -1,7 +1,7 @@
 -- What every crash leaves keeps all rules by which recovery tells sound words.
 use Rattle.std.proofs.Common.{◌≡◌, ◌≢◌, ℕ, ◌+◌, ◌≤◌, inl, inr, List, [], ◌∷◌, ◌++◌, refl, sym, ◌∙◌, ap, subst, arith}
 use Rattle.std.proofs.lemmas.Bool.{cases_eq, cases_lt}
-use Rattle.arena.specs.declared.place.Part.TheVariants.{First}
+use Rattle.arena.specs.declared.place.Part.TheVariants.{Length, First, Second, Third}
 use Rattle.words.specs.PlainQueue.{Value}
 use Rattle.words.specs.declared.call.Kind.{Kind}
 use Rattle.words.specs.declared.call.Kind.TheVariants.{Durable, Log}
@@ -94,7 +94,12 @@ module _ (s : Shape) (k : Place → ℕ) (claimed waiting : List ℕ) (queue : L
     within = λ t client. b.fits (Bump (record { 0 = t })) tt;
     unused = λ n rec. record {
       blank = λ free. record {
-        value = blank_word n rec free (Item (node_of n) First) tt refl;
+        item = record {
+          len = blank_word n rec free (Item (node_of n) Length) tt refl;
+          first = blank_word n rec free (Item (node_of n) First) tt refl;
+          second = blank_word n rec free (Item (node_of n) Second) tt refl;
+          third = blank_word n rec free (Item (node_of n) Third) tt refl;
+        };
         link = blank_word n rec free (Next (node_of n)) tt refl;
         mark = blank_word n rec free (Mark (node_of n)) tt refl;
         answer = blank_answer s.kind n rec free;
@@ -118,7 +123,12 @@ module _ (s : Shape) (k : Place → ℕ) (claimed waiting : List ℕ) (queue : L
     issued = on_issued;
     loose = λ n rec. record { loose = λ off. record { link = unlinked n rec off; mark = unmarked n off } };
     sentinel = record {
-      value = b.absent (Item (node_of 0) First) (λ h. h refl);
+      item = record {
+        len = b.absent (Item (node_of 0) Length) (λ h. h refl);
+        first = b.absent (Item (node_of 0) First) (λ h. h refl);
+        second = b.absent (Item (node_of 0) Second) (λ h. h refl);
+        third = b.absent (Item (node_of 0) Third) (λ h. h refl);
+      };
       mark = unmarked 0 (λ i. (linked 0 i).2 refl);
       insert = λ log. b.absent (Insert (node_of 0)) (λ h. h.1 refl);
     };
@@ -136,7 +146,7 @@ module _ (s : Shape) (k : Place → ℕ) (claimed waiting : List ℕ) (queue : L
 
   claims_sound : ClaimsAreSound s k
   claims_sound = record {
-    in_range = λ n node. b.fits (Item (node_of n) First) tt;
+    in_range = λ n node. b.item n;
     in_turn = in_turn;
     issued = λ n c. b.issued_mark n c.marked;
     once = λ n m c d same. b.one_mark n m c.marked same;
@@ -156,22 +166,22 @@ module _ (s : Shape) (k : Place → ℕ) (claimed waiting : List ℕ) (queue : L
 
   -- once the head has passed a node its answer is kept
   answered : (kind : Kind) → s.kind ≡ kind → (n : ℕ) → IsPassed s k n
-      → k (result_of kind (token_of (marks k n)) (node_of n) (values k n)).place ≡ (result_of kind (token_of (marks k n)) (node_of n) (values k n)).value
+      → k (result_of kind (token_of (marks k n)) (node_of n)).place ≡ (result_of kind (token_of (marks k n)) (node_of n)).value
   answered kind e n p =
       let a : AnsweredTo s (memory_at_rest k) (k Head) = r.to_head in
       let i : IsAmong n a.passed =
       passed_before (links k) 0 a.passed (claimed ++ waiting) n a.path b.chain (among n p.claimed.on_chain) (subst (λ x. LeadsTo (links k) x n) a.at p.leads) in
-      subst (λ x. k (result_of x (token_of (marks k n)) (node_of n) (values k n)).place ≡ (result_of x (token_of (marks k n)) (node_of n) (values k n)).value) e (a.answered n i).0
+      subst (λ x. k (result_of x (token_of (marks k n)) (node_of n)).place ≡ (result_of x (token_of (marks k n)) (node_of n)).value) e (a.answered n i).0
 
   rows_sound : s.kind ≡ Durable → RowsAreSound s k
   rows_sound d = record {
     rows = λ t client. elim (cases_eq (announcements k t) 0) [ inl z ↦ inl z | inr some ↦ inr (b.announced t some) ];
     results = λ c rec two.
-        let q : record { at : ℕ; named : marks k at ≡ c; some : c ≢ 0; value : cells k c ≡ values k at + 2 } =
+        let q : record { at : ℕ; named : marks k at ≡ c; some : c ≢ 0; value : cells k c ≡ at + 2 } =
         r.cell c (λ z. absurd (omega (arith, z, two))) (λ z. absurd (omega (arith, z, two))) in
-        record { node = q.at; claim = claim_of c q.at q.some q.named; value = sym q.value };
+        record { node = q.at; claim = claim_of c q.at q.some q.named; named = sym q.value };
     not_empty = λ n c one. b.silent n c.marked ((cell_says s k (token_of (marks k n)) d).1 one);
-    not_open = λ n p zero_cell. let told : cells k (marks k n) ≡ values k n + 2 = answered Durable d n p in absurd (omega (arith, zero_cell, told));
+    not_open = λ n p zero_cell. let told : cells k (marks k n) ≡ n + 2 = answered Durable d n p in absurd (omega (arith, zero_cell, told));
   }
 
   log_sound : s.kind ≡ Log → (t : ℕ) → LogIsSound s k t

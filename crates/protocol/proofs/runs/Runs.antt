@@ -1,4 +1,5 @@
 -- What holds after any acts.
+use Rattle.words.proofs.Parts.{fits_told}
 use Rattle.std.proofs.Common.{if◌then◌else◌, Option, zero, suc, slice_get, inl, inr, Bool, true, false, ◌&&◌, ◌≡◌, ℕ, List, [], ◌∷◌, ◌++◌, Some, None, ◌==◌, nat_lt, nat_le, refl, sym, ◌∙◌, ap, subst}
 use Rattle.std.proofs.lemmas.Bool.{eqb-true, ltb-true, leb-true}
 use Rattle.words.specs.declared.call.Call.{Call}
@@ -43,9 +44,7 @@ number_is Log number e =
     (leb-true 1 number b.0, leb-true number 1099511627776 b.1)
 
 call_is : (call : Call) → call_fits call ≡ true → FitsCall call
-call_is (Enq value) e =
-    let z : nat_le value 4294967295 ≡ true = e in
-    leb-true value 4294967295 z
+call_is (Enq value) e = fits_told value e
 call_is Deq e = tt
 
 -- what an act leaves still holds, and it takes nothing back

@@ -30,7 +30,7 @@ use Rattle.protocol.proofs.chain.Chains.{in_chain, linked_by}
 use Rattle.protocol.specs.invariants.Places.{SaysEmpty}
 use Rattle.protocol.proofs.changes.Fences.{cell_says, status_says}
 use Rattle.protocol.specs.invariants.Sound.{Sound}
-use Rattle.protocol.proofs.recovery.Recovering.{MayKeep}
+use Rattle.protocol.proofs.recovery.Recovering.{MayKeep, may_value}
 
 -- a list with the value of each index at it
 list_is : {X : Type 0} (f : ℕ → X) (from : ℕ) (xs : List X) → ((t : ℕ) (x : X) → slice_get xs t ≡ Some x → x ≡ f (from + t))
@@ -148,11 +148,11 @@ module _ (s : Shape) (k : Place → ℕ) (p : Place) (v : ℕ) (h : MayKeep s k 
       (λ two. (status_says s (put k p v) (token_of e) l).0 (h.says e ((status_says s k (token_of e) l).1 two)))
 
   row_still : s.kind ≡ Durable → (e : ℕ) (o : Option ℕ) → row_with (put k p v) e o ≡ row_with k e o
-  row_still d e (Some n) = ap row_got (h.value n)
+  row_still d e (Some n) = ap row_got (may_value s k p v h n)
   row_still d e None = ap (λ (t : Bool). if t then row_empty else Open) (cell_still d e)
 
   dequeued_still : (o : Option ℕ) → dequeue_outcome (put k p v) o ≡ dequeue_outcome k o
-  dequeued_still (Some n) = ap (λ x. Taken (Got x)) (h.value n)
+  dequeued_still (Some n) = ap (λ x. Taken (Got x)) (may_value s k p v h n)
   dequeued_still None = refl
 
   outcome_still : s.kind ≡ Log → (e : ℕ) → outcome_by s (put k p v) e ≡ outcome_by s k e
@@ -190,6 +190,6 @@ module _ (s : Shape) (k : Place → ℕ) (p : Place) (v : ℕ) (h : MayKeep s k 
 
   pub put_content_still : kept_content s (put k p v) ≡ kept_content s k
   put_content_still =
-      ap (λ (f : ℕ → ℕ). map f (filter (λ n. marks (put k p v) n == 0) (chain_of s (put k p v)))) (fun_ext h.value)
+      ap (λ (f : ℕ → Value). map f (filter (λ n. marks (put k p v) n == 0) (chain_of s (put k p v)))) (fun_ext (may_value s k p v h))
       ∙ ap (λ (f : ℕ → ℕ). map (values k) (filter (λ n. f n == 0) (chain_of s (put k p v)))) (fun_ext h.mark)
       ∙ ap (λ (ns : List ℕ). map (values k) (filter (λ n. marks k n == 0) ns)) chain_still

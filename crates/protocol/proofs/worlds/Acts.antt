@@ -145,7 +145,7 @@ changed_call calls events base effects i x more unmoved same =
     ]) in
     ap (λ (f : ℕ → Begun). let k : Ledger = record { begun = f; stage = λ j. stage_of (with_call calls i x j) effects; queue = queue_of (events ++ more) base effects } in k) begun
     ∙ ap (λ (f : ℕ → Stage). let k : Ledger = record { begun = upd (λ j. record_of_call (calls j)) i (record_of_call x); stage = f; queue = queue_of (events ++ more) base effects } in k) stages
-    ∙ ap (λ (q : List ℕ). let k : Ledger = record { begun = upd (λ j. record_of_call (calls j)) i (record_of_call x); stage = upd (λ j. stage_of (calls j) effects) i Unmoved; queue = q } in k) same
+    ∙ ap (λ (q : List Value). let k : Ledger = record { begun = upd (λ j. record_of_call (calls j)) i (record_of_call x); stage = upd (λ j. stage_of (calls j) effects) i Unmoved; queue = q } in k) same
 
 client_is : (c d : Client) → c.0 ≡ d.0 → c ≡ d
 client_is c d e = ap (λ (x : ℕ). let k : Client = record { 0 = x } in k) e

@@ -1,4 +1,5 @@
 -- What callers of the machine may rely on.
+use Rattle.words.proofs.Parts.{parts_blank}
 use Rattle.std.proofs.Common.{Option, ◌≡◌, ◌≢◌, ℕ, ◌+◌, ◌*◌, ◌≤◌, ◌<◌, inl, inr, List, [], ◌∷◌, ◌++◌, length, map, filter, not, Some, None, ◌==◌, refl, sym, ◌∙◌, ap, subst, arith}
 use Rattle.std.specs.Prelude.{slice_get}
 use Rattle.std.specs.List.{AllByRecursion, AllPairs}
@@ -231,7 +232,7 @@ zero_fits s Head = omega arith
 zero_fits s Tail = omega arith
 zero_fits s (Announcement t) = omega arith
 zero_fits s (Bump t) = omega arith
-zero_fits s (Item n part) = omega arith
+zero_fits s (Item n part) = tt
 zero_fits s (Next n) = omega arith
 zero_fits s (Mark n) = omega arith
 zero_fits s (Cell c) = omega arith
@@ -261,7 +262,8 @@ new_works s told some few = record {
     kept_head = inl refl;
     kept_head_to_head = there;
     kept_tail = there;
-    linked_value = λ n h. refl;
+    linked_part = λ n part h. refl;
+    message = λ n. record { item = parts_blank 0 (omega arith); stays = λ part. inl refl; sized = λ part word some. refl };
     issued_link = λ n h. absurd (h refl);
     issued_mark = λ n h. absurd (h refl);
     flying_link = λ n h z. absurd (h refl);

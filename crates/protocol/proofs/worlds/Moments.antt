@@ -14,6 +14,7 @@ use Rattle.words.specs.declared.call.Token.{Token}
 use Rattle.arena.specs.Chain.{IsFirst, IsAmong}
 use Rattle.arena.specs.Shape.{owner}
 use Rattle.arena.specs.Words.{links, marks, values}
+use Rattle.protocol.proofs.changes.Puts.{values_same}
 use Rattle.arena.specs.declared.place.Place.{Place}
 use Rattle.arena.specs.declared.place.Place.TheVariants.{Head, Tail, Announcement, Bump, Item, Next, Mark, Cell, Insert, Number, EntryKind, Status, EntryNode}
 use Rattle.events.specs.Effects.{order_of, with_effect, with_pending, without_pending, with_settled}
@@ -65,7 +66,7 @@ served_deq : (queue : List Value) → served queue Deq ≡ drop 1 queue
 served_deq [] = refl
 served_deq (x ∷ xs) = refl
 
-reply_deq : (queue : List Value) (values : ℕ → ℕ) (waiting : List ℕ) (n : ℕ) → map values waiting ≡ queue → IsFirst n waiting → Got (values n) ≡ reply_of queue Deq
+reply_deq : (queue : List Value) (values : ℕ → Value) (waiting : List ℕ) (n : ℕ) → map values waiting ≡ queue → IsFirst n waiting → Got (values n) ≡ reply_of queue Deq
 reply_deq queue values [] n e h = absurd h
 reply_deq queue values (x ∷ xs) n e h = subst (λ q. Got (values n) ≡ reply_of q Deq) e (ap (λ y. Got (values y)) h)
 
@@ -97,7 +98,7 @@ module _ (w : World) (v : Working w) where
         | inr ne ↦ go j ne (w.calls j) refl ∙ sym (upd_other (λ i. stage_of (w.calls i) w.log.effects) o st j ne)
       ]) in
       ap (λ (f : ℕ → Stage). let k : Ledger = record { begun = λ i. record_of_call (w.calls i); stage = f; queue = queue_of w.log.events w.base effects } in k) stages
-      ∙ ap (λ (q : List ℕ). let k : Ledger = record { begun = λ i. record_of_call (w.calls i); stage = upd (λ j. stage_of (w.calls j) w.log.effects) o st; queue = q } in k) same
+      ∙ ap (λ (q : List Value). let k : Ledger = record { begun = λ i. record_of_call (w.calls i); stage = upd (λ j. stage_of (w.calls j) w.log.effects) o st; queue = q } in k) same
     where
       go : (j : ℕ) → j ≢ o → (c : Option UnderWay) → w.calls j ≡ c → stage_of c effects ≡ stage_of c w.log.effects
       go j ne None e = refl
@@ -194,7 +195,7 @@ module _ (w : World) (v : Working w) where
       let f : IsLinking w.shape (ledger_of w) (values w.memory.cached) (links w.memory.cached n) = b.flying_link n some none in
       let o : ℕ = owner w.shape (links w.memory.cached n) in
       let u : (u : UnderWay) × (w.calls (owner w.shape (links w.memory.cached n)) ≡ Some u) = holder (owner w.shape (links w.memory.cached n)) (links w.memory.cached n) some f.holds in
-      let call : u.0.begun.call ≡ Enq (values w.memory.kept (links w.memory.cached n)) = sym (ap (λ x. (record_of_call x).call) u.1) ∙ f.asks ∙ ap Enq (b.linked_value n some) in
+      let call : u.0.begun.call ≡ Enq (values w.memory.kept (links w.memory.cached n)) = sym (ap (λ x. (record_of_call x).call) u.1) ∙ f.asks ∙ ap Enq (values_same w.memory.cached w.memory.kept (links w.memory.cached n) (λ part. b.linked_part n part some)) in
       took_noted (owner w.shape (links w.memory.cached n)) u.0 Done ((ledger_of w).queue ++ values w.memory.kept (links w.memory.cached n) ∷ []) u.1 f.unmoved
       (sym (ap (reply_of (ledger_of w).queue) call)) (ap (served (ledger_of w).queue) call)
       (moved_acting (owner w.shape (links w.memory.cached n)) u.0 u.1 (λ loose silent. loose.link n (sym f.holds)))

@@ -1,12 +1,17 @@
 -- A world that recovers: crashes, evictions and recovery's steps.
-use Rattle.std.proofs.Common.{◌≡◌, ◌≢◌, ℕ, ◌+◌, ◌≤◌, ◌<◌, ◌⊎◌, inl, inr, List, [], ◌∷◌, ◌++◌, length, Bool, true, false, if◌then◌else◌, ◌==◌, ◌&&◌, not, Option, Some, None, refl, sym, ◌∙◌, ap, subst, arith}
+use Rattle.std.proofs.Common.{◌≡◌, ◌≢◌, ℕ, ◌+◌, ◌-◌, ◌≤◌, ◌<◌, ◌⊎◌, inl, inr, List, [], ◌∷◌, ◌++◌, length, Bool, true, false, if◌then◌else◌, ◌==◌, ◌&&◌, not, Option, Some, None, refl, sym, ◌∙◌, ap, subst, arith}
 use Rattle.std.specs.Prelude.{slice_get, IfSome}
 use Rattle.std.proofs.lemmas.Bool.{cases_eq}
 use Rattle.std.proofs.lemmas.List.{length_push}
 use Rattle.std.proofs.lemmas.Option.{slice_get_within}
 use mathlib.Core.Path.{fun_ext}
-use Rattle.arena.specs.declared.place.Part.TheVariants.{First}
-use Rattle.words.specs.PlainQueue.{Value, FitsValue}
+use Rattle.stepper.specs.Loading.{part_next, loaded_with, IsLoaded}
+use Rattle.stepper.specs.declared.loading.Loading.{Loading}
+use Rattle.stepper.specs.declared.loading.Loading.TheVariants.{Length as at_length, First as at_first, Second as at_second, Third as at_third}
+use Rattle.words.specs.declared.call.NodeId.{NodeId}
+use Rattle.words.specs.declared.told.Row.TheVariants.{Open, Empty as row_empty}
+use Rattle.words.specs.declared.told.Told.TheVariants.{Row as told_row}
+use Rattle.words.specs.PlainQueue.{Value}
 use Rattle.words.specs.declared.call.Call.{Call}
 use Rattle.words.specs.declared.call.Client.{Client}
 use Rattle.words.specs.declared.told.Told.{Told}
@@ -14,7 +19,7 @@ use Rattle.arena.specs.Place.{IsNode, IsRecord}
 use Rattle.arena.specs.Chain.{IsAmong}
 use Rattle.arena.specs.Ranges.{Fits, IsReadByCalls}
 use Rattle.arena.specs.Shape.{Shape, owner, greatest}
-use Rattle.arena.specs.Words.{links, marks, values, numbers, inserts, announcements, entry_kinds, entry_nodes, value_of, values_fit}
+use Rattle.arena.specs.Words.{links, marks, values, numbers, inserts, announcements, entry_kinds, entry_nodes}
 use Rattle.arena.specs.declared.place.Place.{Place}
 use Rattle.arena.specs.declared.place.Place.TheVariants.{Head, Tail, Announcement, Bump, Item, Next, Mark, Cell, Insert, Number, EntryKind, Status, EntryNode}
 use Rattle.stepper.specs.Step.{place_of, kept_by}
@@ -26,14 +31,14 @@ use Rattle.words.specs.declared.call.Kind.{Kind}
 use Rattle.words.specs.declared.call.Kind.TheVariants.{Durable, Log}
 use Rattle.words.specs.declared.call.Token.{Token}
 use Rattle.arena.specs.declared.codes.TheConstants.{EMPTY_STATUS, TAKEN_STATUS}
-use Rattle.recover.specs.Table.{access_of, successor, boot_recovery, taken_as, not_taken_as, no_call, report_of, recovery_at, recovery_after, point_at_the_end, point_past_status, to_node, to_mark, to_answer, to_outcome, past_head, node_at, token_at, IsPoint, kept_place, IsKeeping}
+use Rattle.recover.specs.Table.{access_of, successor, boot_recovery, taken_as, not_taken_as, no_call, report_of, recovery_at, recovery_after, point_at_the_end, point_past_status, to_node, to_row, got_with, removed_with, to_answer, to_outcome, past_head, node_at, token_at, IsPoint, kept_place, IsKeeping}
 use Rattle.words.specs.declared.call.Reply.TheVariants.{Done, Got, Empty}
 use Rattle.words.specs.declared.told.Outcome.TheVariants.{Taken}
 use Rattle.stepper.specs.declared.resume.After.TheVariants.{More, Done as Ready}
 use Rattle.recover.specs.declared.recovery.Recovery.{Recovery}
 use Rattle.recover.specs.declared.point.RecoveryPoint.{RecoveryPoint}
 use Rattle.recover.specs.declared.point.Report.{Report}
-use Rattle.recover.specs.declared.point.RecoveryPoint.TheVariants.{RecoveryLoadHead, RecoveryLoadNext, RecoveryLoadInsert, RecoveryStoreStatus, RecoveryLoadMark, RecoveryLoadValue, RecoveryStoreResult, RecoveryStoreHead, RecoveryStoreTail, RecoveryLoadAnnouncement, RecoveryLoadCell, RecoveryLoadNumber, RecoveryLoadKind, RecoveryLoadStatus, RecoveryLoadRemove, RecoveryLoadEntryNode, RecoveryLoadRemovedValue, Flush as FlushPoint, Fence as FencePoint}
+use Rattle.recover.specs.declared.point.RecoveryPoint.TheVariants.{RecoveryLoadHead, RecoveryLoadNext, RecoveryLoadInsert, RecoveryStoreStatus, RecoveryLoadMark, RecoveryStoreResult, RecoveryStoreHead, RecoveryStoreTail, RecoveryLoadAnnouncement, RecoveryLoadCell, RecoveryLoadGot, RecoveryLoadNumber, RecoveryLoadKind, RecoveryLoadStatus, RecoveryLoadRemove, RecoveryLoadEntryNode, RecoveryLoadRemovedItem, Flush as FlushPoint, Fence as FencePoint}
 use Rattle.recover.specs.declared.keeping.RecoveryKeeping.{RecoveryKeeping}
 use Rattle.recover.specs.declared.keeping.RecoveryKeeping.TheVariants.{Status as KeepStatus, Result as KeepResult, Head as KeepHead, Tail as KeepTail}
 use Rattle.events.specs.Effects.{order_of, settled_effects}
@@ -72,7 +77,7 @@ use Rattle.protocol.proofs.recovery.Sound.{crash_sound, wake_base}
 use Rattle.protocol.specs.invariants.Recovery.{Same, SameBut, TakenTo, Position, Claim, Unclaimed, Announced, At, AtKeeping, AtPoint, IsUntold, nothing_told}
 use Rattle.protocol.proofs.recovery.Recovering.{node_fits}
 use Rattle.protocol.proofs.recovery.RecoveryEnds.{answered_among, result_fits, Recovers, RecoversAt, RecoversOn, Woken, RecoversNext, but_stored, keep_at, hand_may, tells_kept, row_LoadNext, row_LoadMark, row_KeepStatus, row_KeepResult, row_KeepHead, row_KeepTail}
-use Rattle.protocol.proofs.recovery.RecoveryTelling.{tell, verdict_right, dequeue_entry, row_LoadAnnouncement, row_LoadCell, row_LoadStatus, row_LoadRemove, row_LoadEntryNode}
+use Rattle.protocol.proofs.recovery.RecoveryTelling.{dequeue_entry, row_LoadAnnouncement, row_LoadCell, row_LoadGot, row_LoadStatus, row_LoadRemove, row_LoadEntryNode, row_LoadRemovedItem}
 
 -- each step of recovery leads to what it knows next
 point_row : (s : Shape) (m : Memory) (claimed waiting : List ℕ) (queue : List Value) → Sound s m.kept claimed waiting queue → 0 < s.clients
@@ -90,20 +95,17 @@ point_row s m claimed waiting queue b some told (RecoveryStoreStatus p) u a =
 point_row s m claimed waiting queue b some told (FlushPoint k) u a = record { sound = b; at = a }
 point_row s m claimed waiting queue b some told (FencePoint (KeepStatus p)) u a = row_KeepStatus s m claimed waiting queue b told p.cur p.node p.entry p.moved a
 point_row s m claimed waiting queue b some told (RecoveryLoadMark p) u a = row_LoadMark s m claimed waiting queue b told p.cur p.node a.0 a.1 a.2
-point_row s m claimed waiting queue b some told (RecoveryLoadValue p) u a = record { sound = b; at = (a.0, a.1, λ d. ap value_of (a.0 (Item p.node First)), subst FitsValue (sym (ap value_of (a.0 (Item p.node First)))) (values_fit m.kept p.node.0 (b.fits (Item p.node First) tt))) }
 point_row s m claimed waiting queue b some told (RecoveryStoreResult p) u a =
-    let place : Place = (result_of s.kind p.mark p.node p.value).place in
+    let place : Place = (result_of s.kind p.mark p.node).place in
     record {
       sound = b;
       at = (
-        but_stored m (result_of s.kind p.mark p.node p.value).place (result_of s.kind p.mark p.node p.value).value a.0,
-        put_same m.cached (result_of s.kind p.mark p.node p.value).place (result_of s.kind p.mark p.node p.value).value,
+        but_stored m (result_of s.kind p.mark p.node).place (result_of s.kind p.mark p.node).value a.0,
+        put_same m.cached (result_of s.kind p.mark p.node).place (result_of s.kind p.mark p.node).value,
         a.1,
-        a.2,
-        a.3,
       );
     }
-point_row s m claimed waiting queue b some told (FencePoint (KeepResult p)) u a = row_KeepResult s m claimed waiting queue b told p.node p.mark p.value a
+point_row s m claimed waiting queue b some told (FencePoint (KeepResult p)) u a = row_KeepResult s m claimed waiting queue b told p.node p.mark a
 point_row s m claimed waiting queue b some told (RecoveryStoreHead p) u a = record { sound = b; at = (but_stored m Head p.cur.0 a.0, refl, a.1) }
 point_row s m claimed waiting queue b some told (FencePoint (KeepHead p)) u a = row_KeepHead s m claimed waiting queue b told p.cur p.unclaimed a
 point_row s m claimed waiting queue b some told (RecoveryStoreTail p) u a =
@@ -116,10 +118,8 @@ point_row s m claimed waiting queue b some told (RecoveryLoadKind p) u a = recor
 point_row s m claimed waiting queue b some told (RecoveryLoadStatus p) u a = row_LoadStatus s m claimed waiting queue b p.client p.token told p.number p.is_enqueue a.0 a.1 a.2 a.3 a.4 a.5
 point_row s m claimed waiting queue b some told (RecoveryLoadRemove p) u a = row_LoadRemove s m claimed waiting queue b p.client p.token told p.number a
 point_row s m claimed waiting queue b some told (RecoveryLoadEntryNode p) u a = row_LoadEntryNode s m claimed waiting queue b p.client p.token told p.number a
-point_row s m claimed waiting queue b some told (RecoveryLoadRemovedValue p) u a =
-    tell s m claimed waiting queue b p.client told (taken_as p.number (Got (value_of (m.cached (Item p.node First))))) a.0 a.1
-    (verdict_right s m claimed waiting queue b p.client a.3.token p.number (Taken (Got (value_of (m.cached (Item p.node First))))) a.3.announced a.2 a.3.number
-    (a.3.kind, record { at = p.node.0; marked = a.3.marked; value = sym (ap value_of (a.0 (Item p.node First))) }))
+point_row s m claimed waiting queue b some told (RecoveryLoadRemovedItem p) u a = row_LoadRemovedItem s m claimed waiting queue b p.client p.number p.node p.loading told a
+point_row s m claimed waiting queue b some told (RecoveryLoadGot p) u a = row_LoadGot s m claimed waiting queue b p.client p.node p.loading told a
 
 -- what comes after a point where nobody is told anything is such a point, or the first that tells
 abbrev IsUntoldOn : List Told → After RecoveryPoint Report → Type 0
@@ -138,9 +138,25 @@ untold_to_node : (told : List Told) → told ≡ nothing_told → (kind : Kind) 
 untold_to_node told u Durable cur node moved = untold_past_status told u cur node moved
 untold_to_node told u Log cur node moved = u
 
-untold_to_mark : (told : List Told) → told ≡ nothing_told → (kind : Kind) (node : NodeId) (mark : Token) → IsUntold told (to_mark kind node mark)
-untold_to_mark told u Durable node mark = u
-untold_to_mark told u Log node mark = u
+untold_to_row : (told : List Told) (client : Client) (found : ℕ) → IsUntoldOn told (to_row client found)
+untold_to_row told client found = go (found == 0) (found == 1)
+  where
+    go : (c d : Bool) → IsUntoldOn told (if c then report_of client (told_row Open) else (if d then report_of client (told_row row_empty) else More (RecoveryLoadGot (record { client = client; node = node_at (found - 2); loading = at_length }))))
+    go true d = tt
+    go false true = tt
+    go false false = tt
+
+untold_got : (told : List Told) (client : Client) (node : NodeId) (loading : Loading) (found : ℕ) → IsUntoldOn told (got_with (record { client = client; node = node; loading = loading }) (loaded_with loading found))
+untold_got told client node at_length found = tt
+untold_got told client node (at_first len) found = tt
+untold_got told client node (at_second len one) found = tt
+untold_got told client node (at_third len one two) found = tt
+
+untold_removed : (told : List Told) (client : Client) (number : ℕ) (node : NodeId) (loading : Loading) (found : ℕ) → IsUntoldOn told (removed_with (record { client = client; number = number; node = node; loading = loading }) (loaded_with loading found))
+untold_removed told client number node at_length found = tt
+untold_removed told client number node (at_first len) found = tt
+untold_removed told client number node (at_second len one) found = tt
+untold_removed told client number node (at_third len one two) found = tt
 
 untold_past_head : (told : List Told) → told ≡ nothing_told → (cur : NodeId) (unclaimed : Option NodeId) → IsUntold told (past_head cur unclaimed)
 untold_past_head told u cur None = u
@@ -167,10 +183,9 @@ untold_next s told (FlushPoint k) found u = u
 untold_next s told (FencePoint (KeepStatus p)) found u = untold_past_status told u p.cur p.node p.moved
 untold_next s told (RecoveryLoadMark p) found u = go (found == 0)
   where
-    go : (c : Bool) → IsUntold told (if c then RecoveryStoreHead (record { cur = p.cur; unclaimed = Some p.node }) else to_mark s.kind p.node (token_at found))
+    go : (c : Bool) → IsUntold told (if c then RecoveryStoreHead (record { cur = p.cur; unclaimed = Some p.node }) else RecoveryStoreResult (record { node = p.node; mark = token_at found }))
     go true = u
-    go false = untold_to_mark told u s.kind p.node (token_at found)
-untold_next s told (RecoveryLoadValue p) found u = u
+    go false = u
 untold_next s told (RecoveryStoreResult p) found u = u
 untold_next s told (FencePoint (KeepResult p)) found u = u
 untold_next s told (RecoveryStoreHead p) found u = u
@@ -182,7 +197,8 @@ untold_next s told (RecoveryLoadAnnouncement p) found u = go (found == 0)
     go : (c : Bool) → IsUntoldOn told (if c then report_of p.client (no_call s.kind) else More (to_answer s.kind p.client (token_at found)))
     go true = tt
     go false = untold_to_answer told s.kind p.client (token_at found)
-untold_next s told (RecoveryLoadCell p) found u = tt
+untold_next s told (RecoveryLoadCell p) found u = untold_to_row told p.client found
+untold_next s told (RecoveryLoadGot p) found u = untold_got told p.client p.node p.loading found
 untold_next s told (RecoveryLoadNumber p) found u = tt
 untold_next s told (RecoveryLoadKind p) found u = tt
 untold_next s told (RecoveryLoadStatus p) found u = go (p.is_enqueue && (found == TAKEN_STATUS)) ((not p.is_enqueue) && (found == EMPTY_STATUS))
@@ -196,10 +212,10 @@ untold_next s told (RecoveryLoadRemove p) found u = tt
 untold_next s told (RecoveryLoadEntryNode p) found u = go (found == 0)
   where
     go : (c : Bool) → IsUntoldOn told (if c then report_of p.client (not_taken_as p.number)
-        else More (RecoveryLoadRemovedValue (record { client = p.client; number = p.number; node = node_at found })))
+        else More (RecoveryLoadRemovedItem (record { client = p.client; number = p.number; node = node_at found; loading = at_length })))
     go true = tt
     go false = tt
-untold_next s told (RecoveryLoadRemovedValue p) found u = tt
+untold_next s told (RecoveryLoadRemovedItem p) found u = untold_removed told p.client p.number p.node p.loading found
 
 recovers_on : (s : Shape) (m : Memory) (claimed waiting : List ℕ) (queue : List Value) (told : List Told) (next : After RecoveryPoint Report)
     → IsUntoldOn told next → RecoversOn s m claimed waiting queue told next → RecoversNext s m claimed waiting queue (recovery_at s told next)
@@ -458,7 +474,7 @@ module _ (w : World) (r : Recovery) (v : Recovering w r) where
             stage = f;
             queue = queue_of (w.log.events ++ ready_event told ∷ []) w.base (after_fence w (kept_by (access_of w.shape.kind r.at)));
           } in k) (fun_ext unmoved_is)
-          ∙ ap (λ (q : List ℕ). let k : Ledger = record { begun = λ i. nobody; stage = λ i. Unmoved; queue = q } in k) e
+          ∙ ap (λ (q : List Value). let k : Ledger = record { begun = λ i. nobody; stage = λ i. Unmoved; queue = q } in k) e
 
   -- a step of recovery
   pub recovered_works : RecoveredTo (with_recovery_step w r) (next_recovery w r)
@@ -510,7 +526,7 @@ module _ (s : Shape) (m : Memory) (claimed waiting : List ℕ) (queue : List Val
   keeping_fits : (k : RecoveryKeeping) → AtKeeping s m claimed k → IsKeeping s k
   keeping_fits (KeepStatus p) a =
       (a.3, position_fits p.moved p.cur.0 a.2.position, link_fits p.cur.0 p.node.0 a.2.link, subst (IsRecord s) (sym a.4) (omega (arith, a.2.some), link_fits p.cur.0 p.node.0 a.2.link))
-  keeping_fits (KeepResult p) a = (link_fits a.2.cur p.node.0 a.2.ahead.link, mark_fits p.node.0 p.mark.0 a.2, a.4)
+  keeping_fits (KeepResult p) a = (link_fits a.2.cur p.node.0 a.2.ahead.link, mark_fits p.node.0 p.mark.0 a.2)
   keeping_fits (KeepHead p) a = (answered_fits p.cur.0 a.2.answered, unclaimed_fits p.cur.0 p.unclaimed a.2.next)
   keeping_fits (KeepTail p) a = tt
 
@@ -521,22 +537,24 @@ module _ (s : Shape) (m : Memory) (claimed waiting : List ℕ) (queue : List Val
   point_fits_at told (RecoveryStoreStatus p) a =
       (a.2, position_fits p.moved p.cur.0 a.1.position, link_fits p.cur.0 p.node.0 a.1.link, subst (IsRecord s) (sym a.3) (omega (arith, a.1.some), link_fits p.cur.0 p.node.0 a.1.link))
   point_fits_at told (RecoveryLoadMark p) a = (answered_fits p.cur.0 a.1.position, link_fits p.cur.0 p.node.0 a.1.link)
-  point_fits_at told (RecoveryLoadValue p) a = (link_fits a.1.cur p.node.0 a.1.ahead.link, mark_fits p.node.0 p.mark.0 a.1)
-  point_fits_at told (RecoveryStoreResult p) a = (link_fits a.1.cur p.node.0 a.1.ahead.link, mark_fits p.node.0 p.mark.0 a.1, a.3)
+  point_fits_at told (RecoveryStoreResult p) a = (link_fits a.1.cur p.node.0 a.1.ahead.link, mark_fits p.node.0 p.mark.0 a.1)
   point_fits_at told (RecoveryStoreHead p) a = (answered_fits p.cur.0 a.1.answered, unclaimed_fits p.cur.0 p.unclaimed a.1.next)
   point_fits_at told (RecoveryStoreTail p) a = taken_fits p.cur.0 a.1.taken
   point_fits_at told (FlushPoint k) a = keeping_fits k a
   point_fits_at told (FencePoint k) a = keeping_fits k a
   point_fits_at told (RecoveryLoadAnnouncement p) a = a.1.below
   point_fits_at told (RecoveryLoadCell p) a = (a.3, a.1.below, token_fits p.client p.token.0 a.2)
+  point_fits_at told (RecoveryLoadGot p) a =
+      let claimed_now : IsAmong p.node.0 claimed = b.back p.node.0 (λ z. a.4.announced.some (sym a.4.marked ∙ z)) in
+      (a.1.below, node_fits s m.kept claimed waiting queue b p.node.0 (inr (in_left p.node.0 claimed waiting claimed_now)))
   point_fits_at told (RecoveryLoadNumber p) a = (a.3, a.1.below, token_fits p.client p.token.0 a.2)
   point_fits_at told (RecoveryLoadKind p) a = (a.3, a.1.below, token_fits p.client p.token.0 a.2, number_fits a.3 p.client.0 p.token.0 p.number a.2 a.4)
   point_fits_at told (RecoveryLoadStatus p) a = (a.3, a.1.below, token_fits p.client p.token.0 a.2, number_fits a.3 p.client.0 p.token.0 p.number a.2 a.4)
   point_fits_at told (RecoveryLoadRemove p) a = (a.3, a.1.below, token_fits p.client p.token.0 a.2, number_fits a.3 p.client.0 p.token.0 p.number a.2 a.4)
   point_fits_at told (RecoveryLoadEntryNode p) a = (a.3, a.1.below, token_fits p.client p.token.0 a.2, number_fits a.3 p.client.0 p.token.0 p.number a.2 a.4)
-  point_fits_at told (RecoveryLoadRemovedValue p) a =
-      let claimed_now : IsAmong p.node.0 claimed = b.back p.node.0 (λ z. a.3.announced.some (sym a.3.marked ∙ z)) in
-      (a.1.below, node_fits s m.kept claimed waiting queue b p.node.0 (inr (in_left p.node.0 claimed waiting claimed_now)), number_fits a.2 p.client.0 a.3.token p.number a.3.announced a.3.number)
+  point_fits_at told (RecoveryLoadRemovedItem p) a =
+      let claimed_now : IsAmong p.node.0 claimed = b.back p.node.0 (λ z. a.4.announced.some (sym a.4.marked ∙ z)) in
+      (a.1.below, node_fits s m.kept claimed waiting queue b p.node.0 (inr (in_left p.node.0 claimed waiting claimed_now)), number_fits a.2 p.client.0 a.4.token p.number a.4.announced a.4.number)
 
   pub point_fits : (r : Recovery) → At s m claimed waiting r → IsPoint s r.at
   point_fits r a = point_fits_at r.told r.at a.point
@@ -552,10 +570,10 @@ module _ (s : Shape) (m : Memory) (claimed waiting : List ℕ) (queue : List Val
   ]
 
   -- where the result of a claimed node belongs
-  result_word_fits : (node : NodeId) (mark : Token) (v : ℕ) → Claim s m.kept claimed node.0 mark.0 → (kind : Kind) → s.kind ≡ kind
-      → Fits s (result_of kind mark node v).place (m.kept (result_of kind mark node v).place)
-  result_word_fits node mark v c Durable e = b.fits (Cell mark) tt
-  result_word_fits node mark v c Log e =
+  result_word_fits : (node : NodeId) (mark : Token) → Claim s m.kept claimed node.0 mark.0 → (kind : Kind) → s.kind ≡ kind
+      → Fits s (result_of kind mark node).place (m.kept (result_of kind mark node).place)
+  result_word_fits node mark c Durable e = b.fits (Cell mark) tt
+  result_word_fits node mark c Log e =
       let two : entry_kinds m.kept mark.0 ≡ 2 = subst (λ x. entry_kinds m.kept x ≡ 2) c.marked ((b.records queue).dequeued e node.0 (λ z. c.some (sym c.marked ∙ z))).0 in
       removed_fits mark.0 two
 
@@ -567,7 +585,7 @@ module _ (s : Shape) (m : Memory) (claimed waiting : List ℕ) (queue : List Val
   kept_fits : (k : RecoveryKeeping) → AtKeeping s m claimed k → Fits s (kept_place s.kind k) (m.cached (kept_place s.kind k))
   kept_fits (KeepStatus p) a = subst (λ x. x ≤ 2) (sym a.1) (omega arith)
   kept_fits (KeepResult p) a =
-      subst (Fits s (result_of s.kind p.mark p.node p.value).place) (sym a.1) (result_fits s s.kind p.mark p.node p.value (λ d. a.4) (link_fits a.2.cur p.node.0 a.2.ahead.link))
+      subst (Fits s (result_of s.kind p.mark p.node).place) (sym a.1) (result_fits s s.kind p.mark p.node (link_fits a.2.cur p.node.0 a.2.ahead.link))
   kept_fits (KeepHead p) a = subst (λ x. x ≤ greatest s) (sym a.1) (answered_fits p.cur.0 a.2.answered)
   kept_fits (KeepTail p) a = subst (λ x. x ≤ greatest s) (sym a.1.cached) (taken_fits a.1.cur a.1.last.taken)
 
@@ -580,9 +598,8 @@ module _ (s : Shape) (m : Memory) (claimed waiting : List ℕ) (queue : List Val
       subst (λ x. x ≤ greatest s) (sym (a.0 (Insert p.node) ∙ insert)) (link_fits p.cur.0 p.node.0 a.1.link)
   reads_fit_at told (RecoveryStoreStatus p) a = same_fits a.0 (Status p.entry) tt
   reads_fit_at told (RecoveryLoadMark p) a = same_fits a.0 (Mark p.node) tt
-  reads_fit_at told (RecoveryLoadValue p) a = same_fits a.0 (Item p.node First) tt
   reads_fit_at told (RecoveryStoreResult p) a =
-      subst (Fits s (result_of s.kind p.mark p.node p.value).place) (sym (a.0 (result_of s.kind p.mark p.node p.value).place)) (result_word_fits p.node p.mark p.value a.1 s.kind refl)
+      subst (Fits s (result_of s.kind p.mark p.node).place) (sym (a.0 (result_of s.kind p.mark p.node).place)) (result_word_fits p.node p.mark a.1 s.kind refl)
   reads_fit_at told (RecoveryStoreHead p) a = same_fits a.0 Head tt
   reads_fit_at told (RecoveryStoreTail p) a = same_fits a.0 Tail tt
   reads_fit_at told (FlushPoint k) a = kept_fits k a
@@ -595,7 +612,8 @@ module _ (s : Shape) (m : Memory) (claimed waiting : List ℕ) (queue : List Val
   reads_fit_at told (RecoveryLoadRemove p) a = same_fits a.0 (Mark (node_of p.token.0)) tt
   reads_fit_at told (RecoveryLoadEntryNode p) a =
       subst (λ x. x ≤ greatest s) (sym (a.0 (EntryNode p.token))) (removed_fits p.token.0 (dequeue_entry s m claimed waiting queue b p.client p.token a.2 a.3 a.5))
-  reads_fit_at told (RecoveryLoadRemovedValue p) a = same_fits a.0 (Item p.node First) tt
+  reads_fit_at told (RecoveryLoadGot p) a = tt
+  reads_fit_at told (RecoveryLoadRemovedItem p) a = tt
 
   pub reads_fit : (r : Recovery) → At s m claimed waiting r → Fits s (place_of (access_of s.kind r.at)) (m.cached (place_of (access_of s.kind r.at)))
   reads_fit r a = reads_fit_at r.told r.at a.point
@@ -610,7 +628,7 @@ module _ (s : Shape) (m : Memory) (claimed waiting : List ℕ) (queue : List Val
   -- each word that calls will read is in range
   all_fit_but : (k : RecoveryKeeping) → AtKeeping s m claimed k → AllFit s m.cached
   all_fit_but (KeepStatus p) a = but_fits (Status p.entry) a.0 (kept_fits (KeepStatus p) a)
-  all_fit_but (KeepResult p) a = but_fits (result_of s.kind p.mark p.node p.value).place a.0 (kept_fits (KeepResult p) a)
+  all_fit_but (KeepResult p) a = but_fits (result_of s.kind p.mark p.node).place a.0 (kept_fits (KeepResult p) a)
   all_fit_but (KeepHead p) a = but_fits Head a.0 (kept_fits (KeepHead p) a)
   all_fit_but (KeepTail p) a = but_fits Tail a.0 (kept_fits (KeepTail p) a)
 
@@ -620,7 +638,6 @@ module _ (s : Shape) (m : Memory) (claimed waiting : List ℕ) (queue : List Val
   all_fit_at told (RecoveryLoadInsert p) a = same_fits a.0
   all_fit_at told (RecoveryStoreStatus p) a = same_fits a.0
   all_fit_at told (RecoveryLoadMark p) a = same_fits a.0
-  all_fit_at told (RecoveryLoadValue p) a = same_fits a.0
   all_fit_at told (RecoveryStoreResult p) a = same_fits a.0
   all_fit_at told (RecoveryStoreHead p) a = same_fits a.0
   all_fit_at told (RecoveryStoreTail p) a = same_fits a.0
@@ -633,7 +650,8 @@ module _ (s : Shape) (m : Memory) (claimed waiting : List ℕ) (queue : List Val
   all_fit_at told (RecoveryLoadStatus p) a = same_fits a.0
   all_fit_at told (RecoveryLoadRemove p) a = same_fits a.0
   all_fit_at told (RecoveryLoadEntryNode p) a = same_fits a.0
-  all_fit_at told (RecoveryLoadRemovedValue p) a = same_fits a.0
+  all_fit_at told (RecoveryLoadGot p) a = same_fits a.0
+  all_fit_at told (RecoveryLoadRemovedItem p) a = same_fits a.0
 
   pub all_fit : (r : Recovery) → At s m claimed waiting r → AllFit s m.cached
   all_fit r a = all_fit_at r.told r.at a.point

@@ -1,4 +1,5 @@
 -- A rotation of a ready world in which nobody calls keeps what holds of the machine.
+use Rattle.words.specs.PlainQueue.{Value}
 use Rattle.std.proofs.Common.{◌≡◌, ℕ, inr, List, [], Option, Some, None, sym, ◌∙◌, ap, subst, arith}
 use mathlib.Core.Path.{fun_ext}
 use Rattle.arena.specs.Content.{kept_content}
@@ -35,7 +36,7 @@ module _ (w : World) (inv : Inv w) (ready : w.recovery ≡ None) (none : (i : �
   same_ledger : ledger_of w ≡ ledger_of (with_rotation w)
   same_ledger =
       ap (λ (f : ℕ → Stage). let l : Ledger = record (ledger_of w) { stage = f } in l) (sym (fun_ext same_stage))
-      ∙ ap (λ (q : List ℕ). let l : Ledger = record (ledger_of (with_rotation w)) { queue = q } in l)
+      ∙ ap (λ (q : List Value). let l : Ledger = record (ledger_of (with_rotation w)) { queue = q } in l)
       (sym (agrees w inv))
 
   nothing_at : {X : Type 0} {x : X} → None ≡ Some x → ⊥

@@ -1,12 +1,16 @@
 -- What holds of the words and the log at every moment of a ready queue.
-use Rattle.std.specs.Prelude.{◌≡◌, ◌≢◌, ◌≤◌, ◌∷◌, ◌++◌, List, map, ℕ}
+use Rattle.std.specs.Prelude.{◌≡◌, ◌≢◌, ◌≤◌, ◌⊎◌, ◌∷◌, ◌++◌, List, map, ℕ}
+use Rattle.words.specs.PlainQueue.{Value}
 use Rattle.words.specs.declared.call.Call.TheVariants.{Deq, Enq}
 use Rattle.words.specs.declared.call.Reply.TheVariants.{Done, Empty, Got}
 use Rattle.arena.specs.Chain.{IsAmong, LeadsTo}
 use Rattle.arena.specs.Place.{number_of}
 use Rattle.arena.specs.Ranges.{Fits, IsReadByCalls}
 use Rattle.arena.specs.Shape.{Shape, owner}
-use Rattle.arena.specs.Words.{announcements, bumps, links, marks, values}
+use Rattle.arena.specs.Words.{announcements, bumps, links, marks, part_at, values}
+use Rattle.arena.specs.declared.place.Part.{Part}
+use Rattle.arena.specs.declared.place.Part.TheVariants.{Length, First, Second, Third}
+use Rattle.words.specs.Item.{AreParts}
 use Rattle.arena.specs.declared.place.Place.{Place}
 use Rattle.arena.specs.declared.place.Place.TheVariants.{Head, Tail}
 use Rattle.recover.specs.Sound.{IsIssued, IsOwn}
@@ -20,7 +24,7 @@ use Rattle.protocol.specs.invariants.Places.{IsOfKind, IsOfRecord, Says, empties
 abbrev pub Blank : Shape → (Place → ℕ) → (Place → ℕ) → Type 0
 Blank s issued f = (p : Place) → IsOfRecord p → number_of p ≢ 0 → (IsIssued s issued (number_of p) → ⊥) → f p ≡ 0
 
--- words of the other kind of queue are 0, and the value of node 0 and the words of a record 0
+-- words of the other kind of queue are 0, and the message of node 0 and the words of a record 0
 abbrev pub Absent : Shape → (Place → ℕ) → Type 0
 Absent s f = (p : Place) → (IsOfKind s.kind p → ⊥) → f p ≡ 0
 
@@ -28,8 +32,18 @@ Absent s f = (p : Place) → (IsOfKind s.kind p → ⊥) → f p ≡ 0
 abbrev pub AllFit : Shape → (Place → ℕ) → Type 0
 AllFit s f = (p : Place) → IsReadByCalls p → Fits s p (f p)
 
+-- the words of a node's message, whether it is linked or not: they are an item's; a kept one is as it is cached, or 0;
+-- and where one of the three words after the length is cached, the length is kept
+pub record AreMessage (cached kept : Part → ℕ) : Type 0 where
+  pub item : AreParts (cached Length) (cached First) (cached Second) (cached Third)
+  pub stays : (part : Part) → (kept part ≡ cached part) ⊎ (kept part ≡ 0)
+  pub sized : (part : Part) → part ≢ Length → cached part ≢ 0 → kept Length ≡ cached Length
+
+abbrev pub IsMessage : Memory → ℕ → Type 0
+IsMessage m n = AreMessage (part_at m.cached n) (part_at m.kept n)
+
 -- an enqueue that linked its node c, which is not kept
-pub record IsLinking (s : Shape) (l : Ledger) (value : ℕ → ℕ) (c : ℕ) : Type 0 where
+pub record IsLinking (s : Shape) (l : Ledger) (value : ℕ → Value) (c : ℕ) : Type 0 where
   pub holds : held_token l (owner s c) ≡ c
   pub asks : asked_call l (owner s c) ≡ Enq (value c)
   pub unmoved : l.stage (owner s c) ≡ Unmoved
@@ -64,8 +78,9 @@ pub record Base (s : Shape) (m : Memory) (l : Ledger) (claimed waiting : List �
   pub kept_head : IsAmong (m.kept Head) (0 ∷ claimed)
   pub kept_head_to_head : LeadsTo (links m.kept) (m.cached Head) (m.kept Head)
   pub kept_tail : LeadsTo (links m.kept) (m.kept Tail) 0
-  pub linked_value : (n : ℕ) → links m.cached n ≢ 0
-      → values m.cached (links m.cached n) ≡ values m.kept (links m.cached n)
+  pub linked_part : (n : ℕ) (part : Part) → links m.cached n ≢ 0
+      → part_at m.cached (links m.cached n) part ≡ part_at m.kept (links m.cached n) part
+  pub message : (n : ℕ) → IsMessage m n
   pub issued_link : (n : ℕ) → links m.cached n ≢ 0 → IsIssued s m.kept (links m.cached n)
   pub issued_mark : (n : ℕ) → marks m.cached n ≢ 0 → IsIssued s m.kept (marks m.cached n)
   pub flying_link : (n : ℕ) → links m.cached n ≢ 0 → links m.kept n ≡ 0

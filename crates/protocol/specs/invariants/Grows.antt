@@ -4,7 +4,8 @@ use Rattle.arena.specs.Answers.{result_of}
 use Rattle.arena.specs.Chain.{LeadsTo}
 use Rattle.arena.specs.Place.{number_of}
 use Rattle.arena.specs.Shape.{Shape, owner}
-use Rattle.arena.specs.Words.{IsWritten, links, marks, values}
+use Rattle.arena.specs.Words.{IsWritten, links, marks, part_at}
+use Rattle.arena.specs.declared.place.Part.{Part}
 use Rattle.arena.specs.declared.place.Place.{Place}
 use Rattle.arena.specs.declared.place.Place.TheVariants.{Head, Tail}
 use Rattle.helping.specs.Table.{node_of, token_of}
@@ -24,10 +25,11 @@ pub record Grows (a : ℕ) (s : Shape) (m : Memory) (l : Ledger) (n : Memory) (k
   pub at_own : (p : Place) → IsOwnWord p → home s p ≢ a → (IsAnswer p → (x : ℕ) → marks m.cached x ≢ number_of p)
       → n.cached p ≡ m.cached p
   pub at_kept_own : (p : Place) → IsOwnWord p → (n.kept p ≡ m.kept p) ⊎ (n.kept p ≡ m.cached p)
-  pub at_linked : (x : ℕ) → links m.kept x ≢ 0 → values n.kept (links m.kept x) ≡ values m.kept (links m.kept x)
-  pub at_result : (x : ℕ) (v : ℕ) → marks m.kept x ≢ 0 → values m.kept x ≡ v
-      → IsWritten m.cached (result_of s.kind (token_of (marks m.kept x)) (node_of x) v)
-      → IsWritten n.cached (result_of s.kind (token_of (marks m.kept x)) (node_of x) v)
+  pub at_linked : (x : ℕ) (part : Part) → links m.kept x ≢ 0
+      → part_at n.kept (links m.kept x) part ≡ part_at m.kept (links m.kept x) part
+  pub at_result : (x : ℕ) → marks m.kept x ≢ 0
+      → IsWritten m.cached (result_of s.kind (token_of (marks m.kept x)) (node_of x))
+      → IsWritten n.cached (result_of s.kind (token_of (marks m.kept x)) (node_of x))
   pub tail : LeadsTo (links n.kept) (n.cached Tail) (m.cached Tail)
   pub head : LeadsTo (links n.kept) (n.cached Head) (m.cached Head)
   pub begun : (i : ℕ) → i ≢ a → k.begun i ≡ l.begun i

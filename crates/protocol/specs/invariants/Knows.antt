@@ -1,24 +1,28 @@
 -- What each call knows where it waits.
 use Rattle.std.specs.Prelude.{◌≡◌, ◌≢◌, ◌+◌, ◌≤◌, ◌<◌, ◌⊎◌, Some, slice_get, ℕ}
+use Rattle.words.specs.PlainQueue.{Value}
 use Rattle.words.specs.declared.call.Call.TheVariants.{Deq, Enq}
 use Rattle.words.specs.declared.call.Kind.TheVariants.{Log}
 use Rattle.words.specs.declared.call.Reply.{Reply}
+use Rattle.words.specs.declared.call.NodeId.{NodeId}
 use Rattle.words.specs.declared.call.Token.{Token}
 use Rattle.arena.specs.Answers.{result_of}
 use Rattle.arena.specs.Chain.{LeadsTo}
 use Rattle.arena.specs.Place.{number_of}
 use Rattle.arena.specs.Shape.{Shape, owner}
-use Rattle.arena.specs.Words.{IsWritten, announcements, bumps, links, marks, values}
+use Rattle.arena.specs.Words.{IsWritten, announcements, bumps, links, marks, part_at, values}
+use Rattle.arena.specs.declared.place.Part.{Part}
 use Rattle.arena.specs.declared.place.Place.{Place}
-use Rattle.arena.specs.declared.place.Place.TheVariants.{Announcement, Head, Tail}
+use Rattle.arena.specs.declared.place.Place.TheVariants.{Announcement, Head, Tail, Item}
 use Rattle.arena.specs.declared.place.Write.{Write}
+use Rattle.stepper.specs.Loading.{IsLoaded}
 use Rattle.stepper.specs.Preparation.{IsBegun, preparation_of}
 use Rattle.stepper.specs.declared.prepare.Begun.{Begun}
 use Rattle.helping.specs.Claims.{winner}
 use Rattle.helping.specs.declared.dequeue.Claim.{Claim}
 use Rattle.helping.specs.declared.dequeue.Claim.TheVariants.{LostTo, Won}
 use Rattle.helping.specs.declared.op.Op.{Op}
-use Rattle.helping.specs.declared.op.Op.TheVariants.{DequeueCheckHead, DequeueClaim, DequeueHelpTail, DequeueLoadHead, DequeueLoadNext, DequeueLoadTail, DequeueLoadValue, DequeueMoveHead, DequeueStoreEmpty, DequeueStoreResult, EnqueueCheckTail, EnqueueHelpTail, EnqueueLink, EnqueueLoadNext, EnqueueLoadTail, EnqueueMoveTail, PrepareFlush, PrepareFence, PrepareStore, Flush as FlushPoint, Fence as FencePoint}
+use Rattle.helping.specs.declared.op.Op.TheVariants.{DequeueCheckHead, DequeueClaim, DequeueHelpTail, DequeueLoadHead, DequeueLoadNext, DequeueLoadItem, DequeueLoadTail, DequeueMoveHead, DequeueStoreEmpty, DequeueStoreResult, EnqueueCheckTail, EnqueueHelpTail, EnqueueLink, EnqueueLoadNext, EnqueueLoadTail, EnqueueMoveTail, PrepareFlush, PrepareFence, PrepareStore, Flush as FlushPoint, Fence as FencePoint}
 use Rattle.helping.specs.declared.keeping.Keeping.{Keeping}
 use Rattle.helping.specs.declared.keeping.Keeping.TheVariants.{Claim as KeepClaim, Empty as KeepEmpty, DequeuePassedLink as KeepDequeuePassedLink, Result as KeepResult, Link as KeepLink, PassedLink as KeepPassedLink}
 use Rattle.protocol.specs.Machine.{Memory}
@@ -55,6 +59,9 @@ pub record Written (s : Shape) (m : Memory) (b : Begun) (index : ℕ) : Type 0 w
 abbrev pub Unwritten : Shape → Begun → ℕ → Place → Type 0
 Unwritten s b index p = (j : ℕ) (w : Write) → j ≤ index → slice_get (preparation_of s.kind b) j ≡ Some w → w.place ≢ p
 
+abbrev pub UnwrittenBelow : Shape → Begun → ℕ → Place → Type 0
+UnwrittenBelow s b index p = (j : ℕ) (w : Write) → j < index → slice_get (preparation_of s.kind b) j ≡ Some w → w.place ≢ p
+
 -- while it prepares its record
 pub record Preparing (s : Shape) (m : Memory) (l : Ledger) (i : ℕ) (b : Begun) (index : ℕ) (w : Write) : Type 0 where
   pub before : Before s m l i b.token.0
@@ -69,6 +76,10 @@ pub record Preparing (s : Shape) (m : Memory) (l : Ledger) (i : ℕ) (b : Begun)
       → (m.cached p ≡ 0) × (m.kept p ≡ 0)
   pub unannounced : Unwritten s b index (Announcement (record { 0 = i }))
       → (announcements m.cached i ≢ b.token.0) × (announcements m.kept i ≢ b.token.0)
+
+-- a word of its message that it is about to store is 0
+abbrev pub Unstored : Memory → Write → Type 0
+Unstored m w = (n : NodeId) (part : Part) → w.place ≡ Item n part → (m.cached w.place ≡ 0) × (m.kept w.place ≡ 0)
 
 -- its record is prepared: each word of it is kept
 pub record Prepared (s : Shape) (m : Memory) (b : Begun) : Type 0 where
@@ -88,7 +99,7 @@ pub record Enqueuing (s : Shape) (m : Memory) (l : Ledger) (i c : ℕ) : Type 0 
   pub acting : Acting s m l i c
   pub unmoved : l.stage i ≡ Unmoved
   pub asks : asked_call l i ≡ Enq (values m.cached c)
-  pub kept : values m.kept c ≡ values m.cached c
+  pub kept : (part : Part) → part_at m.kept c part ≡ part_at m.cached c part
 
 -- an enqueue whose node is linked
 pub record Linked (s : Shape) (m : Memory) (l : Ledger) (i c : ℕ) : Type 0 where
@@ -125,7 +136,7 @@ Claimer s m l i token Won = Acting s m l i token.0 × (asked_call l i ≡ Deq)
 Claimer s m l i token (LostTo other) = Dequeuing s m l i token.0 × (l.stage i ≡ Unmoved) × (other.0 ≢ 0)
 
 -- the node next is claimed by the winner, and holds v
-pub record Claimed (m : Memory) (first next v found : ℕ) : Type 0 where
+pub record Claimed (m : Memory) (first next : ℕ) (v : Value) (found : ℕ) : Type 0 where
   pub claims : Claims m first next
   pub value : values m.kept next ≡ v
   pub marked : marks m.kept next ≡ found
@@ -148,11 +159,11 @@ KnowsKeeping s m l i (KeepClaim p) =
 KnowsKeeping s m l i (KeepResult p) =
     Claimer s m l i p.claimed.token p.claimed.claim
     × Claimed m p.claimed.first.0 p.claimed.next.0 p.claimed.value (winner p.claimed.claim p.claimed.token).0
-    × IsWritten m.cached (result_of s.kind (winner p.claimed.claim p.claimed.token) p.claimed.next p.claimed.value)
+    × IsWritten m.cached (result_of s.kind (winner p.claimed.claim p.claimed.token) p.claimed.next)
 
 -- what client i's call knows where it waits
 abbrev pub Knows : Shape → Memory → Ledger → ℕ → Op → Type 0
-Knows s m l i (PrepareStore p) = Preparing s m l i p.begun p.index p.write
+Knows s m l i (PrepareStore p) = Preparing s m l i p.begun p.index p.write × Unstored m p.write
 Knows s m l i (PrepareFlush p) = Preparing s m l i p.begun p.index p.write × IsWritten m.cached p.write
 Knows s m l i (PrepareFence p) = Preparing s m l i p.begun p.index p.write × IsWritten m.cached p.write
 Knows s m l i (EnqueueLoadTail p) = Enqueuing s m l i p.node.0
@@ -175,7 +186,9 @@ Knows s m l i (DequeueCheckHead p) =
     × (p.next.0 ≡ 0 → l.stage i ≡ Seen) × (p.first.0 ≢ p.last.0 → p.next.0 ≢ 0)
 Knows s m l i (DequeueStoreEmpty p) = Dequeuing s m l i p.token.0 × (l.stage i ≡ Seen)
 Knows s m l i (DequeueHelpTail p) = Dequeuing s m l i p.token.0 × (p.next.0 ≢ 0) × (links m.kept p.last.0 ≡ p.next.0)
-Knows s m l i (DequeueLoadValue p) = Dequeuing s m l i p.token.0 × (l.stage i ≡ Unmoved) × Claims m p.first.0 p.next.0
+Knows s m l i (DequeueLoadItem p) =
+    Dequeuing s m l i p.token.0 × (l.stage i ≡ Unmoved) × Claims m p.first.0 p.next.0
+    × IsLoaded m.kept p.next.0 p.loading
 Knows s m l i (DequeueClaim p) =
     Dequeuing s m l i p.token.0 × (l.stage i ≡ Unmoved) × Claims m p.first.0 p.next.0
     × (values m.kept p.next.0 ≡ p.value)
@@ -185,7 +198,7 @@ Knows s m l i (DequeueStoreResult p) =
 Knows s m l i (DequeueMoveHead p) =
     Claimer s m l i p.claimed.token p.claimed.claim
     × Claimed m p.claimed.first.0 p.claimed.next.0 p.claimed.value (winner p.claimed.claim p.claimed.token).0
-    × IsWritten m.cached (result_of s.kind (winner p.claimed.claim p.claimed.token) p.claimed.next p.claimed.value)
-    × IsWritten m.kept (result_of s.kind (winner p.claimed.claim p.claimed.token) p.claimed.next p.claimed.value)
+    × IsWritten m.cached (result_of s.kind (winner p.claimed.claim p.claimed.token) p.claimed.next)
+    × IsWritten m.kept (result_of s.kind (winner p.claimed.claim p.claimed.token) p.claimed.next)
 Knows s m l i (FlushPoint k) = KnowsKeeping s m l i k
 Knows s m l i (FencePoint k) = KnowsKeeping s m l i k

@@ -1,6 +1,5 @@
 -- Whose word a place is, and of which kind of queue.
 use Rattle.std.specs.Prelude.{◌≡◌, ◌≢◌, ℕ}
-use Rattle.arena.specs.declared.place.Part.TheVariants.{First}
 use Rattle.words.specs.declared.call.Kind.{Kind}
 use Rattle.words.specs.declared.call.Kind.TheVariants.{Durable, Log}
 use Rattle.arena.specs.Answers.{empty_answer_of}
@@ -34,8 +33,7 @@ IsAnswer _ = ⊥
 
 -- a word of this kind of queue; node 0 has no message, and there is no record 0
 abbrev pub IsOfKind : Kind → Place → Type 0
-IsOfKind kind (Item n First) = n.0 ≢ 0
-IsOfKind kind (Item n _) = ⊥
+IsOfKind kind (Item n part) = n.0 ≢ 0
 IsOfKind kind (Cell c) = (kind ≡ Durable) × (c.0 ≢ 0)
 IsOfKind kind (Insert n) = (kind ≡ Log) × (n.0 ≢ 0)
 IsOfKind kind (Number e) = (kind ≡ Log) × (e.0 ≢ 0)

@@ -32,7 +32,7 @@ IsPath link from (n ∷ ns) = (link from ≡ n) × (n ≢ 0) × IsPath link n ns
 
 -- the result of a claimed node, and where it belongs
 abbrev pub answer : Shape → Memory → ℕ → Write
-answer s m n = result_of s.kind (token_of (marks m.kept n)) (node_of n) (values m.kept n)
+answer s m n = result_of s.kind (token_of (marks m.kept n)) (node_of n)
 
 -- it stands there
 abbrev pub IsAnswered : Shape → Memory → ℕ → Type 0
@@ -54,7 +54,7 @@ pub record IsEnqueued (m : Memory) (c : ℕ) : Type 0 where
 -- what a cell may have: a result is that of a node that the cell claims
 abbrev pub CellRight : Memory → ℕ → ℕ → Type 0
 CellRight m c v =
-    v ≢ 0 → v ≢ 1 → record { at : ℕ; named : marks m.kept at ≡ c; some : c ≢ 0; value : v ≡ values m.kept at + 2 }
+    v ≢ 0 → v ≢ 1 → record { at : ℕ; named : marks m.kept at ≡ c; some : c ≢ 0; value : v ≡ at + 2 }
 
 -- what the node word of a dequeue's entry may have: the node that it claims
 abbrev pub NodeRight : Memory → ℕ → ℕ → Type 0

@@ -1,6 +1,5 @@
 -- What recovery knows where it waits.
 use Rattle.std.specs.Prelude.{replicate, ◌≡◌, ◌≢◌, ◌≤◌, ◌<◌, ◌++◌, ◌==◌, Bool, List, None, Option, Some, false, length, slice_get, true, ℕ}
-use Rattle.words.specs.PlainQueue.{FitsValue}
 use Rattle.words.specs.declared.call.Kind.TheVariants.{Durable, Log}
 use Rattle.words.specs.declared.call.NodeId.{NodeId}
 use Rattle.words.specs.declared.limits.TheConstants.{MAX_CLIENTS}
@@ -9,12 +8,13 @@ use Rattle.words.specs.declared.told.Told.TheVariants.{None as told_none}
 use Rattle.arena.specs.Answers.{result_of}
 use Rattle.arena.specs.Chain.{IsAmong}
 use Rattle.arena.specs.Shape.{Shape}
-use Rattle.arena.specs.Words.{announcements, entry_kinds, links, marks, numbers, statuses, values}
+use Rattle.arena.specs.Words.{announcements, entry_kinds, links, marks, numbers, statuses}
 use Rattle.arena.specs.declared.place.Place.{Place}
 use Rattle.arena.specs.declared.place.Place.TheVariants.{Head, Status, Tail}
+use Rattle.stepper.specs.Loading.{IsLoaded}
 use Rattle.recover.specs.declared.recovery.Recovery.{Recovery}
 use Rattle.recover.specs.declared.point.RecoveryPoint.{RecoveryPoint}
-use Rattle.recover.specs.declared.point.RecoveryPoint.TheVariants.{RecoveryLoadAnnouncement, RecoveryLoadCell, RecoveryLoadEntryNode, RecoveryLoadHead, RecoveryLoadInsert, RecoveryLoadKind, RecoveryLoadMark, RecoveryLoadNext, RecoveryLoadNumber, RecoveryLoadRemove, RecoveryLoadRemovedValue, RecoveryLoadStatus, RecoveryLoadValue, RecoveryStoreHead, RecoveryStoreResult, RecoveryStoreStatus, RecoveryStoreTail, Flush as FlushPoint, Fence as FencePoint}
+use Rattle.recover.specs.declared.point.RecoveryPoint.TheVariants.{RecoveryLoadAnnouncement, RecoveryLoadCell, RecoveryLoadEntryNode, RecoveryLoadGot, RecoveryLoadHead, RecoveryLoadInsert, RecoveryLoadKind, RecoveryLoadMark, RecoveryLoadNext, RecoveryLoadNumber, RecoveryLoadRemove, RecoveryLoadRemovedItem, RecoveryLoadStatus, RecoveryStoreHead, RecoveryStoreResult, RecoveryStoreStatus, RecoveryStoreTail, Flush as FlushPoint, Fence as FencePoint}
 use Rattle.recover.specs.declared.keeping.RecoveryKeeping.{RecoveryKeeping}
 use Rattle.recover.specs.declared.keeping.RecoveryKeeping.TheVariants.{Head as KeepHead, Result as KeepResult, Status as KeepStatus, Tail as KeepTail}
 use Rattle.protocol.specs.Kept.{TellsOf}
@@ -99,18 +99,18 @@ IsUntold told (RecoveryLoadNext p) = told ≡ nothing_told
 IsUntold told (RecoveryLoadInsert p) = told ≡ nothing_told
 IsUntold told (RecoveryStoreStatus p) = told ≡ nothing_told
 IsUntold told (RecoveryLoadMark p) = told ≡ nothing_told
-IsUntold told (RecoveryLoadValue p) = told ≡ nothing_told
 IsUntold told (RecoveryStoreResult p) = told ≡ nothing_told
 IsUntold told (RecoveryStoreHead p) = told ≡ nothing_told
 IsUntold told (RecoveryStoreTail p) = told ≡ nothing_told
 IsUntold told (RecoveryLoadAnnouncement p) = Unit {0}
 IsUntold told (RecoveryLoadCell p) = Unit {0}
+IsUntold told (RecoveryLoadGot p) = Unit {0}
 IsUntold told (RecoveryLoadNumber p) = Unit {0}
 IsUntold told (RecoveryLoadKind p) = Unit {0}
 IsUntold told (RecoveryLoadStatus p) = Unit {0}
 IsUntold told (RecoveryLoadRemove p) = Unit {0}
 IsUntold told (RecoveryLoadEntryNode p) = Unit {0}
-IsUntold told (RecoveryLoadRemovedValue p) = Unit {0}
+IsUntold told (RecoveryLoadRemovedItem p) = Unit {0}
 IsUntold told (FlushPoint k) = told ≡ nothing_told
 IsUntold told (FencePoint k) = told ≡ nothing_told
 
@@ -120,10 +120,9 @@ AtKeeping s m claimed (KeepStatus p) =
     SameBut m (Status p.entry) × (m.cached (Status p.entry) ≡ 1) × Ahead s m.kept claimed p.moved p.cur.0 p.node.0
     × (s.kind ≡ Log) × (p.entry.0 ≡ p.node.0)
 AtKeeping s m claimed (KeepResult p) =
-    SameBut m (result_of s.kind p.mark p.node p.value).place
-    × (m.cached (result_of s.kind p.mark p.node p.value).place ≡ (result_of s.kind p.mark p.node p.value).value)
-    × Claim s m.kept claimed p.node.0 p.mark.0 × (s.kind ≡ Durable → p.value ≡ values m.kept p.node.0)
-    × FitsValue p.value
+    SameBut m (result_of s.kind p.mark p.node).place
+    × (m.cached (result_of s.kind p.mark p.node).place ≡ (result_of s.kind p.mark p.node).value)
+    × Claim s m.kept claimed p.node.0 p.mark.0
 AtKeeping s m claimed (KeepHead p) =
     SameBut m Head × (m.cached Head ≡ p.cur.0) × LastClaimed s m.kept claimed p.cur.0 p.unclaimed
 AtKeeping s m claimed (KeepTail p) =
@@ -139,11 +138,7 @@ AtPoint s m claimed waiting told (RecoveryStoreStatus p) =
     Same m × Ahead s m.kept claimed p.moved p.cur.0 p.node.0 × (s.kind ≡ Log) × (p.entry.0 ≡ p.node.0)
 AtPoint s m claimed waiting told (RecoveryLoadMark p) =
     Same m × Ahead s m.kept claimed false p.cur.0 p.node.0 × (s.kind ≡ Log → statuses m.kept p.node.0 ≡ 1)
-AtPoint s m claimed waiting told (RecoveryLoadValue p) =
-    Same m × Claim s m.kept claimed p.node.0 p.mark.0 × (s.kind ≡ Durable)
-AtPoint s m claimed waiting told (RecoveryStoreResult p) =
-    Same m × Claim s m.kept claimed p.node.0 p.mark.0 × (s.kind ≡ Durable → p.value ≡ values m.kept p.node.0)
-    × FitsValue p.value
+AtPoint s m claimed waiting told (RecoveryStoreResult p) = Same m × Claim s m.kept claimed p.node.0 p.mark.0
 AtPoint s m claimed waiting told (RecoveryStoreHead p) = Same m × LastClaimed s m.kept claimed p.cur.0 p.unclaimed
 AtPoint s m claimed waiting told (RecoveryStoreTail p) = Same m × LastNode s m.kept claimed p.cur.0
 AtPoint s m claimed waiting told (RecoveryLoadAnnouncement p) =
@@ -151,6 +146,14 @@ AtPoint s m claimed waiting told (RecoveryLoadAnnouncement p) =
 AtPoint s m claimed waiting told (RecoveryLoadCell p) =
     Same m × Telling s m.kept claimed waiting p.client.0 told × Announced m.kept p.client.0 p.token.0
     × (s.kind ≡ Durable)
+AtPoint s m claimed waiting told (RecoveryLoadGot p) =
+    Same m × Telling s m.kept claimed waiting p.client.0 told × (s.kind ≡ Durable)
+    × IsLoaded m.kept p.node.0 p.loading
+    × record {
+      token : ℕ;
+      announced : Announced m.kept p.client.0 token;
+      marked : marks m.kept p.node.0 ≡ token;
+    }
 AtPoint s m claimed waiting told (RecoveryLoadNumber p) =
     Same m × Telling s m.kept claimed waiting p.client.0 told × Announced m.kept p.client.0 p.token.0 × (s.kind ≡ Log)
 AtPoint s m claimed waiting told (RecoveryLoadKind p) =
@@ -168,8 +171,9 @@ AtPoint s m claimed waiting told (RecoveryLoadEntryNode p) =
     Same m × Telling s m.kept claimed waiting p.client.0 told × Announced m.kept p.client.0 p.token.0 × (s.kind ≡ Log)
     × (p.number ≡ numbers m.kept p.token.0)
     × (entry_kinds m.kept p.token.0 ≢ 1) × (statuses m.kept p.token.0 ≢ 2)
-AtPoint s m claimed waiting told (RecoveryLoadRemovedValue p) =
+AtPoint s m claimed waiting told (RecoveryLoadRemovedItem p) =
     Same m × Telling s m.kept claimed waiting p.client.0 told × (s.kind ≡ Log)
+    × IsLoaded m.kept p.node.0 p.loading
     × record {
       token : ℕ;
       announced : Announced m.kept p.client.0 token;

@@ -3,7 +3,7 @@ use Rattle.std.specs.Prelude.{◌≡◌, ◌≢◌, ◌≤◌, ◌∷◌, ◌++�
 use Rattle.words.specs.PlainQueue.{Value}
 use Rattle.arena.specs.Chain.{IsAmong, IsChain, LeadsTo}
 use Rattle.arena.specs.Shape.{Shape}
-use Rattle.arena.specs.Words.{announcements, bumps, links, marks, values}
+use Rattle.arena.specs.Words.{announcements, bumps, links, marks, values, HoldsItem}
 use Rattle.arena.specs.declared.place.Place.{Place}
 use Rattle.arena.specs.declared.place.Place.TheVariants.{Tail}
 use Rattle.recover.specs.Sound.{IsIssued, IsOwn}
@@ -19,7 +19,7 @@ abbrev pub memory_at_rest : (Place → ℕ) → Memory
 memory_at_rest k = record { cached = k; kept = k }
 
 -- the ledger of a queue where nobody calls
-abbrev pub idle_ledger : List ℕ → Ledger
+abbrev pub idle_ledger : List Value → Ledger
 idle_ledger queue = record {
   begun = λ i. nobody;
   stage = λ i. Unmoved;
@@ -33,6 +33,7 @@ pub record Sound (s : Shape) (k : Place → ℕ) (claimed waiting : List ℕ) (q
   pub back : (n : ℕ) → marks k n ≢ 0 → IsAmong n claimed
   pub on : (n : ℕ) → IsAmong n claimed → marks k n ≢ 0
   pub content : map (values k) waiting ≡ queue
+  pub item : (n : ℕ) → HoldsItem k n
   pub tail : LeadsTo (links k) (k Tail) 0
   pub issued_link : (n : ℕ) → links k n ≢ 0 → IsIssued s k (links k n)
   pub issued_mark : (n : ℕ) → marks k n ≢ 0 → IsIssued s k (marks k n)

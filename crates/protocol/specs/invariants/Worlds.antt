@@ -1,5 +1,6 @@
 -- What holds of the machine at every moment.
 use Rattle.std.specs.Prelude.{◌≡◌, ◌≤◌, List, None, Option, Some, length, ℕ}
+use Rattle.words.specs.PlainQueue.{Value}
 use Rattle.words.specs.declared.call.Client.{Client}
 use Rattle.words.specs.declared.limits.TheConstants.{MAX_CLIENTS}
 use Rattle.arena.specs.Shape.{Shape}
@@ -30,7 +31,7 @@ stage_of (Some u) effects = stage_at u.place effects
 stage_of None effects = Unmoved
 
 -- what a log says of each client's call
-abbrev pub ledger_from : (ℕ → Option UnderWay) → List Event → List ℕ → List Effect → Ledger
+abbrev pub ledger_from : (ℕ → Option UnderWay) → List Event → List Value → List Effect → Ledger
 ledger_from calls events base effects = record {
   begun = λ i. record_of_call (calls i);
   stage = λ i. stage_of (calls i) effects;

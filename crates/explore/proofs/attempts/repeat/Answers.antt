@@ -6,15 +6,15 @@ use Rattle.explore.proofs.attempts.repeat.Goals as goal
 pub returns-then-not-branch-clause-world : goal.returns-then-not-branch-clause-world
 returns-then-not-branch-clause-world g c =
     let w : State = c.loop-taken.world.now in
-    let refused : is_accepted w c.args.act ≡ false = sym c.in_ok-attempt.ensures.accepted ∙ c.if-not-branch.true in
+    let refused : is_accepted w c.args.act.now ≡ false = sym c.in_ok-attempt.ensures.accepted ∙ c.if-not-branch.true in
     c.in_ok-attempt.ensures.world ∙ c.requires w refused
-    ∙ sym (stays (c.args.most - c.loop-taken.taken) w c.args.act c.requires refused) ∙ c.loop-taken.invariant.leads
+    ∙ sym (stays (c.args.most - c.loop-taken.taken) w c.args.act.now c.requires refused) ∙ c.loop-taken.invariant.leads
 
 pub returns-then-not-branch-clause-accepted : goal.returns-then-not-branch-clause-accepted
 returns-then-not-branch-clause-accepted g c =
     let w : State = c.loop-taken.world.now in
-    let refused : is_accepted w c.args.act ≡ false = sym c.in_ok-attempt.ensures.accepted ∙ c.if-not-branch.true in
-    let none = none_taken (c.args.most - c.loop-taken.taken) w c.args.act c.requires refused in
+    let refused : is_accepted w c.args.act.now ≡ false = sym c.in_ok-attempt.ensures.accepted ∙ c.if-not-branch.true in
+    let none = none_taken (c.args.most - c.loop-taken.taken) w c.args.act.now c.requires refused in
     omega (arith, none, c.loop-taken.invariant.counts)
 
 pub loop-taken-preserved : goal.loop-taken-preserved
@@ -22,18 +22,18 @@ loop-taken-preserved g c =
     let w : State = c.loop-taken.world.now in
     let rest : ℕ = c.args.most - (c.loop-taken.taken + 1) in
     let left : c.args.most - c.loop-taken.taken ≡ suc rest = omega (arith, c.loop-taken-test.true) in
-    let taken : is_accepted w c.args.act ≡ true = sym c.in_ok-attempt.ensures.accepted ∙ c.if-not-branch.false in
-    let world : c.attempt.new.world.now ≡ after_act w c.args.act = c.in_ok-attempt.ensures.world in
-    let one : count_of (is_accepted w c.args.act) ≡ 1 = ap count_of taken in
-    let all : taken_of w (replicate (c.args.most - c.loop-taken.taken) c.args.act)
-    ≡ count_of (is_accepted w c.args.act) + taken_of (after_act w c.args.act) (replicate rest c.args.act) =
-    ap (λ n. taken_of w (replicate n c.args.act)) left in
-    let same : taken_of c.attempt.new.world.now (replicate rest c.args.act)
-    ≡ taken_of (after_act w c.args.act) (replicate rest c.args.act) =
-    ap (λ v. taken_of v (replicate rest c.args.act)) world in
+    let taken : is_accepted w c.args.act.now ≡ true = sym c.in_ok-attempt.ensures.accepted ∙ c.if-not-branch.false in
+    let world : c.attempt.new.world.now ≡ after_act w c.args.act.now = c.in_ok-attempt.ensures.world in
+    let one : count_of (is_accepted w c.args.act.now) ≡ 1 = ap count_of taken in
+    let all : taken_of w (replicate (c.args.most - c.loop-taken.taken) c.args.act.now)
+    ≡ count_of (is_accepted w c.args.act.now) + taken_of (after_act w c.args.act.now) (replicate rest c.args.act.now) =
+    ap (λ n. taken_of w (replicate n c.args.act.now)) left in
+    let same : taken_of c.attempt.new.world.now (replicate rest c.args.act.now)
+    ≡ taken_of (after_act w c.args.act.now) (replicate rest c.args.act.now) =
+    ap (λ v. taken_of v (replicate rest c.args.act.now)) world in
     record {
       leads =
-          ap (λ v. after_acts v (replicate rest c.args.act)) world
-          ∙ ap (λ n. after_acts w (replicate n c.args.act)) (sym left) ∙ c.loop-taken.invariant.leads;
+          ap (λ v. after_acts v (replicate rest c.args.act.now)) world
+          ∙ ap (λ n. after_acts w (replicate n c.args.act.now)) (sym left) ∙ c.loop-taken.invariant.leads;
       counts = omega (arith, one, all, same, c.loop-taken.invariant.counts);
     }

@@ -5,7 +5,7 @@ pub loop-preserved : goal.loop-preserved
 loop-preserved c =
     let rest : ℕ = c.args.times - (c.loop.counter + 1) in
     let left : c.args.times - c.loop.counter ≡ suc rest = omega (arith, c.loop-test.true) in
-    let pushed : c.push.new.items.items ≡ c.loop.acts.items ++ c.args.act ∷ [] = c.in_ok-push.ensures.items in
-    ap (λ l. l ++ replicate rest c.args.act) pushed
-    ∙ append_assoc c.loop.acts.items (c.args.act ∷ []) (replicate rest c.args.act)
-    ∙ ap (λ n. c.loop.acts.items ++ replicate n c.args.act) (sym left) ∙ c.loop.invariant
+    let pushed : c.add.new.acts.items ≡ c.loop.acts.items ++ c.args.act.now ∷ [] = c.in_ok-add.ensures.acts in
+    ap (λ l. l ++ replicate rest c.args.act.now) pushed
+    ∙ append_assoc c.loop.acts.items (c.args.act.now ∷ []) (replicate rest c.args.act.now)
+    ∙ ap (λ n. c.loop.acts.items ++ replicate n c.args.act.now) (sym left) ∙ c.loop.invariant

@@ -7,5 +7,5 @@ pub returns-clause-acts : goal.returns-clause-acts
 returns-clause-acts g c =
     let old = c.args.acts.now.items in
     on_ok_weaker c.push_all.result (λ added.
-    added ∙ ap (λ n. old ++ replicate n c.args.act) c.in_ok-times.ensures.accepted
-    ∙ ap (λ l. old ++ l) (sym (accepted_again c.args.most c.args.world.now.now c.args.act))) c.push_all.ensures.acts
+    added ∙ ap (λ n. old ++ replicate n c.args.act.now) c.in_ok-times.ensures.accepted
+    ∙ ap (λ l. old ++ l) (sym (accepted_again c.args.most c.args.world.now.now c.args.act.now))) c.push_all.ensures.acts

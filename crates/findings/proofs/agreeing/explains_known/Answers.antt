@@ -7,8 +7,7 @@ use Rattle.findings.proofs.agreeing.explains_known.Goals as goal
 pub returns-clause-explained : goal.returns-clause-explained
 returns-clause-explained c = λ yes.
     let explained = c.check.ensures.0 c.if-not-check.false in
-    let none : c.args.history.now.base.items ≡ [] =
-    empty_list _ (omega (arith, c.if-as_slice-gt0.false, ap length c.as_slice.ensures)) in
+    let none : c.args.history.now.base.items ≡ [] = empty_list _ (omega (arith, c.if-as_slice-gt0.false, ap length c.as_slice.ensures)) in
     record {
       is_order = explained.explains.is_order;
       answers = explained.explains.answers;

@@ -3,8 +3,8 @@ use Rattle.events.specs.History.{CallAt, ReturnAt}
 use Rattle.history.proofs.PlainAnswers.{answered_by, taken_by, answered_open}
 use Rattle.history.proofs.explaining.is_answered.Goals as goal
 
-pub returns-in-Return : goal.returns-in-Return
-returns-in-Return c =
+pub returns-then-eq : goal.returns-then-eq
+returns-then-eq c =
     let begins : CallAt c.args.events.now.items c.args.p c.in-Call.client c.in-Call.number c.in-Call.call =
     search rules in
     let returned : ReturnAt c.args.events.now.items c.loop-k.k c.in-Call.client c.in-Return.reply = search rules in (

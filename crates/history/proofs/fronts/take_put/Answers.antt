@@ -1,12 +1,15 @@
-use Rattle.std.proofs.Common.{sym, ◌∙◌, ◌≡◌, arith, ap, Some, ℕ}
+use Rattle.std.proofs.Common.{sym, ◌∙◌, ◌≡◌, ◌+◌, ◌++◌, arith, ap, List, ℕ}
+use Rattle.words.specs.PlainQueue.{Value}
+use Rattle.history.specs.Counting.{values_of_call}
 use Rattle.history.specs.Fronts.{values_between}
-use Rattle.history.proofs.FrontSteps.{values_first, values_none}
+use Rattle.history.proofs.FrontSteps.{values_more, values_none}
 use Rattle.history.proofs.fronts.take_put.Goals as goal
 
-pub returns-in-Some-Enq-clause-front : goal.returns-in-Some-Enq-clause-front
-returns-in-Some-Enq-clause-front c = sym c.loop-k.invariant
-    ∙ values_first _ _ _ _ _ _ c.loop-k-test.true c.requires.within
-    (sym c.named_call.ensures ∙ c.in-Some-Enq.is ∙ ap Some c.in-Some-Enq.field-0-is)
+pub returns-then-is_some-clause-front : goal.returns-then-is_some-clause-front
+returns-then-is_some-clause-front c = sym c.loop-k.invariant
+    ∙ values_more _ _ _ _ c.index-entries-k.result c.loop-k-test.true c.requires.within
+    ∙ ap (λ (vs : List Value). vs ++ values_between c.args.events.now.items c.args.entries.now (c.loop-k.k + 1) c.args.to)
+    (ap values_of_call (sym c.named_call.ensures) ∙ sym c.value_put-put.ensures)
 
 pub returns-clause-front : goal.returns-clause-front
 returns-clause-front c =

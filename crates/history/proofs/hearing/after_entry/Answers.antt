@@ -1,5 +1,4 @@
 use Rattle.std.proofs.Common.{get_or}
-use Rattle.words.specs.declared.call.Reply.TheVariants.{Done}
 use Rattle.history.specs.Hearing.{BeginsSomeTold}
 use Rattle.history.proofs.HearSteps.{entry_same, entry_more}
 use Rattle.history.proofs.hearing.after_entry.Goals as goal
@@ -8,7 +7,7 @@ pub returns-then-not-begins_told-clause-so_far : goal.returns-then-not-begins_to
 returns-then-not-begins_told-clause-so_far c =
     entry_same _ _ _ _ _ _ _ _ _ c.requires.within
     (λ (begins : BeginsSomeTold c.args.who.now.kind c.args.who.now.events.now.items c.args.who.now.client
-    (get_or c.args.who.now.entries.now c.args.i (record { place = 0; reply = Done })).place). cc
+    (get_or c.args.who.now.entries.now c.args.i c.index-who-i.result).place). cc
     (c.begins_told.ensures.begins.1 begins, c.if-not-begins_told.true)) c.requires.so_far
 
 pub returns-clause-so_far : goal.returns-clause-so_far

@@ -14,7 +14,7 @@ returns-then-says_of_later c = (
 pub returns-in-None : goal.returns-in-None
 returns-in-None c =
     let none : IsToldSome c.args.who.now.kind c.args.who.now.events.now.items c.args.who.now.entries.now
-    c.args.who.now.client c.args.q c.args.told
+    c.args.who.now.client c.args.q c.args.told.now
     → ⊥ = not_some _ _ _ _ _ _ _ _ _ c.requires.once c.requires.progress c.requires.later
     (λ last. cc (c.says_of_last.ensures.1 last, c.if-says_of_last.false))
     (λ later. cc (c.says_of_later.ensures.1 later, c.if-says_of_later.false)) in
@@ -28,7 +28,7 @@ returns-in-None c =
 pub returns-in-Some : goal.returns-in-Some
 returns-in-Some c =
     let none : IsToldSome c.args.who.now.kind c.args.who.now.events.now.items c.args.who.now.entries.now
-    c.args.who.now.client c.args.q c.args.told
+    c.args.who.now.client c.args.q c.args.told.now
     → ⊥ = not_some _ _ _ _ _ _ _ _ _ c.requires.once c.requires.progress c.requires.later
     (λ last. cc (c.says_of_last.ensures.1 last, c.if-says_of_last.false))
     (λ later. cc (c.says_of_later.ensures.1 later, c.if-says_of_later.false)) in

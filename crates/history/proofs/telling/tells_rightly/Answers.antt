@@ -7,7 +7,7 @@ returns c = (
   λ _. record {
     each = λ client told at.
         let within : client.0 < length c.args.tells.now = slice_get_within _ _ _ at in
-        c.loop-t.invariant client.0 (omega (arith, c.told-tells)) told at;
+        c.loop-t.invariant client.0 (omega (arith, c.type_inv.tells, within, c.loop-t-test.false)) told at;
   },
   search rules,
 )

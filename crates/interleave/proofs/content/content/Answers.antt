@@ -1,5 +1,6 @@
 use Rattle.std.proofs.Common.{◌≡◌, ℕ, ◌+◌, ◌-◌, ◌*◌, ◌≤◌, List, ◌++◌, sym, ap, subst, ◌∙◌, append_assoc, arith}
 use Rattle.std.proofs.lemmas.List.{append-nil}
+use Rattle.words.specs.PlainQueue.{Value}
 use Rattle.arena.specs.Shape.{greatest}
 use Rattle.interleave.specs.Content.{unclaimed_from}
 use Rattle.arena.specs.declared.place.Place.{Place}
@@ -20,7 +21,7 @@ pub loop-preserved : goal.loop-preserved
 loop-preserved g c =
     let word : Place → ℕ = value_of_place (g.L.Layout.shape c.args.layout.now) (g.K.KeptWords.kept_words c.args.kept.now) in
     let links : ℕ = c.clients.result * c.records.result in
-    let rest : List ℕ = content_from word (links - (c.loop.counter + 1)) c.kept_at.result in
+    let rest : List Value = content_from word (links - (c.loop.counter + 1)) c.kept_at.result in
     let fits : word (Next c.loop.node) ≤ greatest (g.L.Layout.shape c.args.layout.now) = subst (λ n. n ≤ greatest (g.L.Layout.shape c.args.layout.now)) (sym (shown_at (g.L.Layout.shape c.args.layout.now) (g.K.KeptWords.kept_words c.args.kept.now) (Next c.loop.node) c.loop.invariant.node)) (c.requires.fits (Next c.loop.node) c.loop.invariant.node tt) in
     let read : c.kept_at.result ≡ word (Next c.loop.node) = c.kept_at.ensures in
     record {

@@ -2,26 +2,27 @@ use Rattle.std.proofs.Common.{rules, ◌≡◌, ℕ, length, List, [], ◌∷◌
 use Rattle.std.specs.Option.{option_to_list}
 use Rattle.std.proofs.lemmas.List.{map-append, length-map}
 use Rattle.std.specs.Prelude.{map}
+use Rattle.words.specs.PlainQueue.{Value}
 use Rattle.named.specs.declared.slot.Slot.{Slot}
 use Rattle.named.proofs.Rotated.{AreBegunFrom, IsNext, begun_all, begun_more, next_slot}
 use Rattle.named.proofs.slots.begin_each.Goals as goal
 
-abbrev of_each : Vec ℕ Global → List ℕ
+abbrev of_each : Vec Value Global → List Value
 of_each v = v.items
 
 -- what is left, with the base that was last
-shown : (before after : List (Vec ℕ Global)) (base : Vec ℕ Global) (o : Option (Vec ℕ Global)) → before ≡ after ++ option_to_list o → o ≡ Some base
+shown : (before after : List (Vec Value Global)) (base : Vec Value Global) (o : Option (Vec Value Global)) → before ≡ after ++ option_to_list o → o ≡ Some base
     → map of_each before ≡ map of_each after ++ base.items ∷ []
 shown before after base o items is =
-    ap (map of_each) (items ∙ ap (λ (x : Option (Vec ℕ Global)). after ++ option_to_list x) is) ∙ map-append of_each after (base ∷ [])
+    ap (map of_each) (items ∙ ap (λ (x : Option (Vec Value Global)). after ++ option_to_list x) is) ∙ map-append of_each after (base ∷ [])
 
 the_next : (c : goal.After-index-slots-len)
     → IsNext c.args.slots.now c.loop-base.slots (map of_each c.args.bases.items) c.in-Some.base.items c.len.result
     (slice_index_or c.loop-base.slots c.len.result c.index-slots-len.result)
 the_next c =
     let many : c.len.result ≡ length c.pop.new.self.items = search rules in
-    let bases : List (List ℕ) = map of_each c.args.bases.items in
-    let left : List (List ℕ) = map of_each c.pop.new.self.items in
+    let bases : List (List Value) = map of_each c.args.bases.items in
+    let left : List (List Value) = map of_each c.pop.new.self.items in
     next_slot c.args.memory.now.words c.args.slots.now bases c.loop-base.slots left c.in-Some.base.items c.len.result c.index-slots-len.result
     (subst (AreBegunFrom c.args.memory.now.words c.args.slots.now bases c.loop-base.slots)
     (shown c.loop-base.bases.items c.pop.new.self.items c.in-Some.base c.pop.result c.pop.ensures.items c.in-Some.is) c.loop-base.invariant)
@@ -41,8 +42,8 @@ begin_anew-requires-clause-base c =
 pub loop-base-preserved : goal.loop-base-preserved
 loop-base-preserved c =
     let many : c.len.result ≡ length c.pop.new.self.items = search rules in
-    let bases : List (List ℕ) = map of_each c.args.bases.items in
-    let left : List (List ℕ) = map of_each c.pop.new.self.items in
+    let bases : List (List Value) = map of_each c.args.bases.items in
+    let left : List (List Value) = map of_each c.pop.new.self.items in
     let was : Slot = slice_index_or c.loop-base.slots c.len.result c.index-slots-len.result in
     let h : AreBegunFrom c.args.memory.now.words c.args.slots.now bases c.loop-base.slots (left ++ c.in-Some.base.items ∷ []) =
     subst (AreBegunFrom c.args.memory.now.words c.args.slots.now bases c.loop-base.slots)

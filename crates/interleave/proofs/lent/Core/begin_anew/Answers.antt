@@ -26,7 +26,7 @@ returns-clause-world g c = λ ws is.
     let base : c.args.base.items ≡ kept_content s (value_of_place s ws.kept) =
     c.requires.base ∙ ap (λ (k : List ℕ). kept_content s (value_of_place s k)) (sym is) in
     let queue : c.tell.new.self ≡ queue_with_told old.queue (kept_tells w) =
-    c.tell.ensures ∙ ap (λ (k : CoreState). queue_with_told k.queue c.tells-told.result) was ∙ ap (queue_with_told old.queue) told in
+    c.tell.ensures ∙ ap (λ (k : CoreState). queue_with_told k.queue c.copied.result) was ∙ ap (queue_with_told old.queue) (c.copied.ensures ∙ told) in
     let log = c.begin_anew.ensures.log in
     ap (λ (k : CoreState). state_with k.shape ws c.tell.new.self k.calls c.begin_anew.new.self) was
     ∙ ap (λ (q : Queue). state_with s ws q old.calls c.begin_anew.new.self) queue

@@ -38,7 +38,7 @@ returns-clause-booted g c = λ ws is.
     let told : c.tells-told.result ≡ tells =
     c.tells-told.ensures ∙ ap (λ (k : List ℕ). tells_by s (kept_in s k)) (sym is) ∙ booted_tells s ws counts.some_client counts.few_clients sound in
     let queue : c.at_boot-queue.result ≡ queue_at_boot s.kind tells =
-    c.at_boot-queue.ensures ∙ ap (λ (k : Kind). queue_at_boot k c.tells-told.result) c.kind.ensures ∙ ap (queue_at_boot s.kind) told in
+    c.at_boot-queue.ensures ∙ ap (λ (k : Kind). queue_at_boot k c.copied.result) c.kind.ensures ∙ ap (queue_at_boot s.kind) (c.copied.ensures ∙ told) in
     let calls : c.none-calls.result ≡ replicate s.clients None = c.none-calls.ensures ∙ ap (λ (n : ℕ). replicate n None) c.clients-clients.ensures.value in
     let base : c.in_ok-base.base.items ≡ kept_content s (value_of_place s ws.kept) =
     c.in_ok-base.ensures.content ∙ ap (λ (k : List ℕ). kept_content s (value_of_place s k)) (sym is) in

@@ -1,8 +1,7 @@
-use Rattle.std.proofs.Common.{◌≡◌, ◌+◌, ◌-◌, ◌≤◌, ℕ, List, [], ◌∷◌, ◌++◌, get_or, Bool, true, false, take, refl, sym, ap, ◌∙◌, subst, arith}
+use Rattle.std.proofs.Common.{◌≡◌, ◌+◌, ◌-◌, ◌≤◌, ℕ, List, [], ◌∷◌, ◌++◌, Some, length, slice_get, Bool, true, false, take, refl, sym, ap, ◌∙◌, subst, arith}
 use Rattle.std.proofs.lemmas.List.{take_more, take_all}
+use Rattle.std.proofs.lemmas.Option.{get_or_from_slice_get, slice_get_read}
 use Rattle.protocol.specs.declared.acts.Act.{Act}
-use Rattle.protocol.specs.declared.acts.Act.TheVariants.{Start}
-use Rattle.words.specs.declared.call.Call.TheVariants.{Enq}
 use Rattle.interleave.specs.Holds.{Holds}
 use Rattle.interleave.specs.Runs.{IsAttempt}
 use Rattle.interleave.specs.State.{State, count_of}
@@ -39,8 +38,10 @@ loop-act-preserved g c =
     let taken : ℕ = c.loop-act.ran.taken in
     let w : State = c.loop-act.self.now in
     let v : State = c.act.new.self.now in
-    let act : Act ℕ = get_or xs i (Start (record { 0 = 0 }) 0 (Enq 0)) in
-    let longer : take (i + 1) xs ≡ take i xs ++ act ∷ [] = take_more xs i (Start (record { 0 = 0 }) 0 (Enq 0)) c.loop-act-test.true in
+    let act : Act ℕ = c.act-item.result in
+    let here : slice_get xs i ≡ Some act = slice_get_read xs (length xs) i act refl c.loop-act-test.true c.act-item.is in
+    let longer : take (i + 1) xs ≡ take i xs ++ act ∷ [] =
+    take_more xs i act c.loop-act-test.true ∙ ap (λ (x : Act ℕ). take i xs ++ x ∷ []) (get_or_from_slice_get xs i act act here) in
     let byte : c.from-taken.result ≡ count_of c.act.result = c.from-taken.ensures ∙ byte_is c.act.result in
     let made : IsAttempt c.loop-act.self.room w act c.act.result v = c.act.ensures.attempt in
     let attempt : IsAttempt (room - taken) w act c.act.result v = record {

@@ -1,11 +1,7 @@
-use Rattle.std.proofs.Common.{rules, sym, ◌∙◌}
+use Rattle.std.proofs.Common.{rules}
 use Rattle.std.proofs.lemmas.Bool.{eq-eqb, eqb-true}
-use Rattle.arena.specs.Words.{value_of_word}
-use Rattle.recover.proofs.Surveys.{record_on_chain, result_if, result_some, result_only}
+use Rattle.recover.proofs.Surveys.{result_if, result_some, result_only}
 use Rattle.recover.proofs.kept.KeptQueue.is_result_sound.Goals as goal
-
-pub kept_at-requires : goal.kept_at-requires
-kept_at-requires g c = (record_on_chain _ _ c.requires.chain _ (c.requires.tokens.table.claim _ c.if-node-eq0.false).on_chain).1
 
 pub returns-then-node-eq0 : goal.returns-then-node-eq0
 returns-then-node-eq0 g c = (
@@ -15,6 +11,6 @@ returns-then-node-eq0 g c = (
 
 pub returns : goal.returns
 returns g c = (
-  λ told. result_if _ _ _ c.requires.tokens.table _ _ _ c.if-node-eq0.false c.kept_at-answer.ensures.value (c.kept_at.ensures.value ∙ sym (value_of_word _)) (eqb-true _ _ told),
-  λ told. eq-eqb _ _ (result_only _ _ _ c.requires.tokens.table _ _ _ c.requires.cell c.kept_at-answer.ensures.value c.if-answer-lt-GOT_CELL.false (c.kept_at.ensures.value ∙ sym (value_of_word _)) told),
+  λ told. result_if _ _ _ c.requires.tokens.table _ _ c.if-node-eq0.false c.kept_at-answer.ensures.value (eqb-true _ _ told),
+  λ told. eq-eqb _ _ (result_only _ _ _ c.requires.tokens.table _ _ c.requires.cell c.kept_at-answer.ensures.value c.if-answer-lt-GOT_CELL.false told),
 )
