@@ -21,7 +21,11 @@ AreBytes bytes = All (λ byte. byte < 2 ^ 8) bytes
 
 -- what every image begins with
 abbrev pub magic : List ℕ
-magic = codes "PQW1"
+magic = codes "PQW2"
+
+-- what images of the first form began with
+abbrev pub magic_v1 : List ℕ
+magic_v1 = codes "PQW1"
 
 -- the one image of words that begins so: then how many words, and each word; every number in eight bytes, the low one
 -- first
@@ -60,3 +64,6 @@ reading_by first bytes =
 
 abbrev pub reading : List ℕ → Result (List ℕ) Refusal
 reading bytes = reading_by magic bytes
+
+abbrev pub reading_v1 : List ℕ → Result (List ℕ) Refusal
+reading_v1 bytes = reading_by magic_v1 bytes

@@ -3,7 +3,7 @@
 ghost use Rattle.std.specs.Prelude.{◌≡◌, ◌⊎◌, ◌^◌, ◌<◌, ◌≤◌, length, drop, map, All, Ok, Err, IsOk, IfOk, IfErr, IfSome, IfNone};
 ghost use Rattle.std.specs.Int.{w64, from_le_bytes};
 ghost use Rattle.persist.specs.Memory.{words_at_rest, IsUnasked};
-ghost use Rattle.persist.specs.Image.{image_of, image_by, begins_with, count_in, reading, reading_by};
+ghost use Rattle.persist.specs.Image.{image_of, image_by, magic_v1, begins_with, count_in, reading, reading_by, reading_v1};
 
 use crate::memory::{MAX_WORDS, Memory};
 use std::alloc::{AllocError, Global};
@@ -11,7 +11,10 @@ use std::cmp::Ordering;
 use words::Refusal;
 
 /// What every image begins with.
-const MAGIC: [u8; MAGIC_BYTES] = *b"PQW1";
+const MAGIC: [u8; MAGIC_BYTES] = *b"PQW2";
+
+/// What images of the first form begin with.
+const MAGIC_V1: [u8; MAGIC_BYTES] = *b"PQW1";
 
 const MAGIC_BYTES: usize = 4;
 
@@ -127,6 +130,19 @@ impl Memory {
         Memory::read(alloc, &MAGIC, bytes)
     }
 
+    /// The memory of an image of the first form, which is read by the same rules, but for its first four bytes. Such
+    /// images are no longer written. What their words mean is the caller's to know.
+    pub fn from_image_v1(alloc: Global, bytes: &[u8]) -> Result<Self, Refusal>
+        ensures read { IfOk result (λ m. reading_v1 bytes.now ≡ Ok m.words.kept) }
+        ensures at_rest { IfOk result (λ m. m.words ≡ words_at_rest m.words.kept) }
+        ensures unasked { IfOk result IsUnasked }
+        ensures image { IfOk result (λ m. image_by magic_v1 m.words.kept ≡ bytes.now) }
+        ensures errors { IfErr result (λ e. (reading_v1 bytes.now ≡ Err e)
+            ⊎ (e ≡ Refusal.NoMemory) × IsOk (reading_v1 bytes.now)) }
+    {
+        Memory::read(alloc, &MAGIC_V1, bytes)
+    }
+
     /// The same of bytes that begin so.
     fn read(alloc: Global, first: &[u8; MAGIC_BYTES], bytes: &[u8]) -> Result<Self, Refusal>
         requires { length first.now ≡ MAGIC_BYTES }
@@ -141,9 +157,6 @@ impl Memory {
         let Ok(kept) = numbers(alloc, words) else {
             return Err(Refusal::NoMemory);
         };
-        match Memory::keeping(alloc, kept) {
-            Ok(memory) => Ok(memory),
-            Err(_) => Err(Refusal::NoMemory),
-        }
+        Memory::of(alloc, kept)
     }
 }

@@ -118,16 +118,22 @@ impl Memory {
         })
     }
 
-    /// A memory of these words, each cached and kept, with room for a change of each word.
-    pub(crate) fn keeping(alloc: Global, kept: Vec<u64>) -> Result<Self, AllocError>
-        requires some { 0 < vec_len kept }
-        requires few { vec_len kept ≤ MAX_WORDS }
-        ensures made { IfOk result (λ m. m.words ≡ words_at_rest kept.items) }
+    /// A memory of these words, each cached and kept, with room for a change of each word, and no port asks for any. It
+    /// is refused where there is no word, or more than [`MAX_WORDS`] (BadCount), and where memory is refused (NoMemory).
+    pub fn of(alloc: Global, words: Vec<u64>) -> Result<Self, Refusal>
+        ensures bad_count { result ≡ Err Refusal.BadCount ↔ (vec_len words ≡ 0) ⊎ (MAX_WORDS < vec_len words) }
+        ensures errors { IfErr result (λ e. (e ≡ Refusal.BadCount) ⊎ (e ≡ Refusal.NoMemory)) }
+        ensures made { IfOk result (λ m. m.words ≡ words_at_rest words.items) }
         ensures unasked { IfOk result IsUnasked }
     {
-        let changes = ChangeList::new(alloc, kept.len())?;
+        if words.is_empty() || words.len() > MAX_WORDS {
+            return Err(Refusal::BadCount);
+        }
+        let Ok(changes) = ChangeList::new(alloc, words.len()) else {
+            return Err(Refusal::NoMemory);
+        };
         Ok(Memory {
-            kept,
+            kept: words,
             changes,
             accesses: 0,
             requests: no_requests(),

@@ -56,13 +56,16 @@ fn row_told(broker: &Broker, slot: SlotId) -> [Option<Verdict>; MAX_CLIENTS]
     row
 }
 
+/// A row of a slot of which nothing is kept.
+const NOTHING: [Option<Verdict>; MAX_CLIENTS] = [None; MAX_CLIENTS];
+
 impl Kept {
     /// What each client is told in each queue of a broker: nothing, while it recovers.
     pub(crate) fn told(broker: &Broker) -> Self
         ensures heard { AreKeptAsHeard broker.now result }
         ensures promises { KeepsPromises broker.now }
     {
-        let mut rows = [[None; MAX_CLIENTS]; SLOTS];
+        let mut rows = [NOTHING; SLOTS];
         for slot in 0..SLOTS {
             rows[slot] = row_told(broker, SlotId(slot as u8));
         }

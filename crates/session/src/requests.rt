@@ -82,7 +82,8 @@ impl Session {
             return Ok(reply);
         }
         let reply = run(&mut self.broker, client, queue, number, call)?;
-        let answer = Some(reply);
+        let heard = reply;
+        let answer = Some(heard);
         self.kept.hear(queue, client, Some(number), &answer);
         Ok(reply)
     }
