@@ -10,6 +10,7 @@ ghost use Rattle.session.specs.Sessions.{kept_in};
 
 use arena::{SLOTS, SlotId};
 use named::Broker;
+use std::array;
 use std::marker::Model;
 use words::{Client, MAX_CLIENTS, Outcome, Refusal, Reply, Told, Verdict};
 
@@ -56,16 +57,13 @@ fn row_told(broker: &Broker, slot: SlotId) -> [Option<Verdict>; MAX_CLIENTS]
     row
 }
 
-/// A row of a slot of which nothing is kept.
-const NOTHING: [Option<Verdict>; MAX_CLIENTS] = [None; MAX_CLIENTS];
-
 impl Kept {
     /// What each client is told in each queue of a broker: nothing, while it recovers.
     pub(crate) fn told(broker: &Broker) -> Self
         ensures heard { AreKeptAsHeard broker.now result }
         ensures promises { KeepsPromises broker.now }
     {
-        let mut rows = [NOTHING; SLOTS];
+        let mut rows = array::from_fn(|_| [None; MAX_CLIENTS]);
         for slot in 0..SLOTS {
             rows[slot] = row_told(broker, SlotId(slot as u8));
         }

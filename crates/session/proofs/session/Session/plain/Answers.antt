@@ -1,5 +1,6 @@
-use Rattle.std.proofs.Common.{rules, ◌≡◌, ◌≤◌, ℕ, Ok, refl, ap, subst, ◌∙◌}
+use Rattle.std.proofs.Common.{rules, ◌≡◌, ℕ, Ok, refl, ap, subst, ◌∙◌}
 use Rattle.words.specs.declared.call.Kind.TheVariants.{Durable as durable_kind}
+use Rattle.words.specs.PlainQueue.{Value, FitsValue}
 use Rattle.words.specs.declared.call.Call.TheVariants.{Enq}
 use Rattle.protocol.specs.Machine.{FitsCall}
 use Rattle.interleave.proofs.HoldsKept.{call_fits}
@@ -27,7 +28,7 @@ returns-in_err-admit-clause-promises c = numbers_shown _ _ c.self.invariant c.se
 
 pub invariant_of-self : goal.invariant_of-self
 invariant_of-self c =
-    let value : (v : ℕ) → c.args.call ≡ Enq v → v ≤ 4294967295 = search rules in
+    let value : (v : Value) → c.args.call ≡ Enq v → FitsValue v = search rules in
     let fits : FitsCall c.args.call = call_fits c.args.call value in
     let admitted : request_admission durable_kind c.args.self.now.broker c.args.queue.0 c.args.client ≡ Ok tt = search rules in
     let here : request_admission durable_kind c.self.inside.broker c.args.queue.0 c.args.client ≡ Ok tt =

@@ -1,5 +1,6 @@
-use Rattle.std.proofs.Common.{rules, ◌≡◌, ◌≤◌, ◌∙◌, ℕ, inr, None, Ok, Err, Some, refl, ap, subst}
+use Rattle.std.proofs.Common.{rules, ◌≡◌, ◌∙◌, ℕ, inr, None, Ok, Err, Some, refl, ap, subst}
 use Rattle.words.specs.declared.call.Kind.TheVariants.{Log as log_kind}
+use Rattle.words.specs.PlainQueue.{Value, FitsValue}
 use Rattle.words.specs.declared.call.Call.TheVariants.{Enq}
 use Rattle.words.specs.declared.refusal.Refusal.{Refusal}
 use Rattle.words.specs.declared.refusal.Refusal.TheVariants.{StaleNumber}
@@ -73,7 +74,7 @@ returns-in_err-reply-2-clause-promises c = numbers_kept _ (invariant_of-self c)
 
 pub invariant_of-self-2 : goal.invariant_of-self-2
 invariant_of-self-2 c =
-    let value : (v : ℕ) → c.args.call ≡ Enq v → v ≤ 4294967295 = search rules in
+    let value : (v : Value) → c.args.call ≡ Enq v → FitsValue v = search rules in
     let fits : FitsCall c.args.call = call_fits c.args.call value in
     let answer : request_answer c.args.self.now c.args.queue.0 c.args.client c.args.number ≡ Ok None = search rules in
     let here : request_admission log_kind c.self.inside.broker c.args.queue.0 c.args.client ≡ Ok tt =
@@ -85,7 +86,7 @@ invariant_of-self-2 c =
 
 pub returns-clause-reply : goal.returns-clause-reply
 returns-clause-reply c =
-    let value : (v : ℕ) → c.args.call ≡ Enq v → v ≤ 4294967295 = search rules in
+    let value : (v : Value) → c.args.call ≡ Enq v → FitsValue v = search rules in
     let fits : FitsCall c.args.call = call_fits c.args.call value in
     let answer : request_answer c.args.self.now c.args.queue.0 c.args.client c.args.number ≡ Ok None = search rules in
     let here : request_admission log_kind c.self.inside.broker c.args.queue.0 c.args.client ≡ Ok tt =

@@ -15,14 +15,14 @@ invariant_of-self g c =
       with_rows g.J.Naming.clients g.J.Naming.first _ (rows_of c.with_entry.new.keeper) (ap (λ m. m.0.rows) w.keeper.1)
           (rw c.entry-entry.ensures
           (guarded_begun g.J.Naming.clients g.J.Naming.first _ c.self.invariant.1 c.begin.new.self e.promises (record { numbers = e.goes_on; queues = e.queues })
-          c.args.seat.client list w.before c.args.request c.events_in-next.result c.requires.idle
+          c.args.seat.client list w.before c.args.request.now c.events_in-next.result c.requires.idle
           c.events_in-next.ensures c.in-Ok.began e.begun e.reply)),
     )
 
 pub invariant_of-self-in-Err : goal.invariant_of-self-in-Err
 invariant_of-self-in-Err g c =
     let e = c.in-Err.ensures in
-    let r = c.args.request in (
+    let r = c.args.request.now in (
       c.self.invariant.0,
       guarded_unbegun g.J.Naming.clients g.J.Naming.first _ c.self.invariant.1 c.begin.new.self e.promises (record { numbers = e.goes_on; queues = e.queues })
           r.queue.0
@@ -32,6 +32,6 @@ invariant_of-self-in-Err g c =
 
 pub returns-in-Err-clause-errors : goal.returns-in-Err-clause-errors
 returns-in-Err-clause-errors g c =
-    let r = c.args.request in
+    let r = c.args.request.now in
     call_within c.self.inside.session c.begin.new.self r.queue.0 c.args.seat.client r.number (number_or_zero r.number) r.call
     (Err c.in-Err.refusal) c.in-Err.ensures.begun
