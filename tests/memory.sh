@@ -117,7 +117,7 @@ refuse() {
 refuse 'pqx run' examples/kept.script "$pqx" run
 refuse 'pqx points' crates/test_scenarios/data/points-log-enqueue.script "$pqx" points
 refuse 'pqx alone' crates/test_scenarios/data/points-log-enqueue.script "$pqx" alone
-printf '%s\n' '{"op":"create","queue":"a","kind":"log"}' '{"op":"put","client":0,"queue":"a","number":1,"value":9}' \
+printf '%s\n' '{"op":"create","queue":"a","kind":"log"}' '{"op":"put","client":0,"queue":"a","number":1,"value":"09000000"}' \
     '{"op":"take","client":0,"queue":"a","number":2}' '{"op":"crash"}' '{"op":"recover"}' '{"op":"stop"}' > "$work/in"
 refuse 'pqd pipe' "$work/in" "$pqd" pipe
 

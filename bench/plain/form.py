@@ -127,4 +127,4 @@ class Items:
         return (number.to_bytes(5, "little")[:4] * 7)[:length].hex()
 
 
-FORM = Values
+FORM = Items
