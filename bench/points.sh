@@ -12,7 +12,7 @@ script() {
     printf 'queue durable 4 %d\n' "$1"
     for ((round = 0; round < $2; round++)); do
         for client in 0 1 2 3; do
-            printf 'enq %d %d\nend %d\n' "$client" "$round" "$client"
+            printf 'enq %d %08x\nend %d\n' "$client" "$round" "$client"
         done
     done
 }

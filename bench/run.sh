@@ -12,7 +12,7 @@ trap 'rm -r "$work"' EXIT
 script() {
     printf 'queue durable 1 4096\n'
     for ((line = 1; line < $1; line += 4)); do
-        printf 'enq 0 %d\nstep 0 1000\ndeq 0\nstep 0 1000\n' "$line"
+        printf 'enq 0 %08x\nstep 0 1000\ndeq 0\nstep 0 1000\n' "$line"
     done | head -n $(($1 - 1))
 }
 

@@ -1,5 +1,5 @@
 #!/usr/bin/env python3
-"""A client of `pqd serve`: puts a value into a queue, and takes it out again."""
+"""A client of `pqd serve`: puts a message into a queue, and takes it out again."""
 import json, socket, sys
 
 lines = socket.create_connection(("127.0.0.1", int(sys.argv[1]))).makefile("rw")
@@ -9,5 +9,5 @@ def ask(**request):
     return lines.readline().strip()
 
 print(ask(op="create", queue="jobs", kind="log"))
-print(ask(op="put", client=0, queue="jobs", number=1, value=42))
+print(ask(op="put", client=0, queue="jobs", number=1, value=b"hello".hex()))
 print(ask(op="take", client=1, queue="jobs", number=1))

@@ -3,7 +3,7 @@
 {
     echo '{"op":"create","queue":"lines","kind":"durable"}'
     for value in 10 20 30; do
-        echo '{"op":"put","client":2,"queue":"lines","value":'$value'}'
+        echo '{"op":"put","client":2,"queue":"lines","value":"'$value'"}'
     done
     for _ in 1 2 3 4; do
         echo '{"op":"take","client":3,"queue":"lines"}'

@@ -10,7 +10,7 @@ Each client goes before it has read the answer to its last put, and asks later w
 import itertools, json, os, random, socket, subprocess, sys, tempfile, threading, time
 from record import note, written
 
-values = itertools.count()
+values = (f"{number:08x}" for number in itertools.count())
 
 class Client:
     """A client of the queue `jobs`, which numbers its calls."""

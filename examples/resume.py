@@ -48,7 +48,7 @@ def main():
     port = int(sys.argv[1])
     client = Client(port, 3, "resumed")
     print("create:", client.ask(op="create", queue="resumed", kind="log")["reply"])
-    client.send(op="put", client=3, queue="resumed", number=1, value=5)
+    client.send(op="put", client=3, queue="resumed", number=1, value="05000000")
     # The request is made, but its reply is never read.
     client.socket.shutdown(socket.SHUT_WR)
     client.socket.recv(1, socket.MSG_PEEK)
@@ -59,8 +59,8 @@ def main():
     number = 1
     if client.is_taken(number):
         number += 1
-    print("put number", number, "of 6:", client.put(number, 6)["reply"])
-    print("number", number, "sent again:", client.put(number, 6)["reply"])
+    print("put number", number, "of 6:", client.put(number, "06000000")["reply"])
+    print("number", number, "sent again:", client.put(number, "06000000")["reply"])
     print("take:", client.ask(op="take", client=0, queue="resumed", number=1))
     print("take:", client.ask(op="take", client=0, queue="resumed", number=2))
     print("take:", client.ask(op="take", client=0, queue="resumed", number=3))

@@ -79,8 +79,8 @@ class Steady:
     def go_on(self, after):
         """A put and a take. What is in the queue beside is nobody's."""
         self.count += 1
-        self.ask(b'{"reply":"done"}', op="put", client=0, queue="a", value=self.count)
-        self.ask(b'{"got":%d,"reply":"got"}' % self.count, op="take", client=0, queue="a")
+        self.ask(b'{"reply":"done"}', op="put", client=0, queue="a", value=f"{self.count:08x}")
+        self.ask(b'{"got":"%08x","reply":"got"}' % self.count, op="take", client=0, queue="a")
         self.ask(b'{"reply":"empty"}', op="take", client=0, queue="a")
         print(f"{after}: the others go on")
 
@@ -113,7 +113,7 @@ def read_all(sock):
 
 
 cuts = 0
-PUT = b'{"op":"put","client":1,"queue":"a","value":77}'
+PUT = b'{"op":"put","client":1,"queue":"a","value":"4d"}'
 LIST = b'{"op":"list"}\n'
 LISTED = b'{"queues":[{"kind":"durable","queue":"a"}]}\n'
 

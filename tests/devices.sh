@@ -131,7 +131,7 @@ fails 'an image whose name has no room for more' 1 'pqd: 27 WriteFailed' "$pqd" 
 fails 'an image whose name is too long' 1 'pqd: 26 ReadFailed' "$pqd" pipe --image "${long}000" < /dev/null
 
 # A device that is full at some byte of the image: the old image stays, and the broker begins on it again.
-for ((bytes = 40; bytes < 1820; bytes += 260)); do
+for ((bytes = 40; bytes < 2396; bytes += 340)); do
     fails "a device that is full at byte $bytes" 1 'pqd: 27 WriteFailed' \
         python3 -B tests/devices.py full "$bytes" "$pqd" pipe --image "$image" < /dev/null
     stays "$image" "a device that is full at byte $bytes"
@@ -151,7 +151,7 @@ cp "$work/first" "$work/second"
 
 # A stop of the process while it writes: at some byte of the image, and at each call of the system by which it writes.
 # Before the renaming the old image is left whole, after it the new one, which here differs from it.
-for ((bytes = 0; bytes < 1820; bytes += 364)); do
+for ((bytes = 0; bytes < 2396; bytes += 480)); do
     cp "$work/first" "$image"
     fails "killed at byte $bytes" 153 '' \
         python3 -B tests/devices.py limited "$bytes" "$pqd" pipe --image "$image" < tests/pqd/second-run.in > /dev/null

@@ -56,7 +56,7 @@ wrong() {
 }
 wrong broker.py 'if number < last:' 'if number <= last:' lines
 wrong broker.py 'self.is_down = True' 'self.is_down = False' lines
-wrong form.py 'GREATEST_VALUE = 2**32 - 1' 'GREATEST_VALUE = 2**32 - 2' lines
+wrong form.py '(?:[0-9a-f]{2})*' '(?:[0-9a-f]{2})+' lines
 wrong image.py 'require(len(data) == 12 + 8 * count, "TrailingBytes")' 'pass' image
 wrong image.py 'if not self.mark(number)]' 'if True]' '(image|lines)'
 wrong machine.py 'self.cached = list(self.kept)' 'pass' '(script|points|alone)'
@@ -75,7 +75,7 @@ wrong_byte() {
 }
 wrong_byte broker.py '[a-z0-9_-]{1,16}' '[a-z0-8_-]{1,16}' lines
 wrong_byte broker.py 'self.values.append(value)' 'self.values.insert(0, value)' lines
-wrong_byte form.py 'GREATEST_VALUE = 2**32 - 1' 'GREATEST_VALUE = 2**32' lines
+wrong_byte form.py '(?:[0-9a-f]{2})*' '(?:[0-9a-fA-F]{2})*' lines
 wrong_byte lines.py 'GREATEST_CLIENT = 2**64 - 1' 'GREATEST_CLIENT = 2**64 - 2' lines
 wrong_byte script.py '"M": (1, 1000)' '"M": (0, 1000)' scripts
 wrong_byte form.py 're.compile(rb"0|[1-9][0-9]*")' 're.compile(rb"[0-9]+")' scripts

@@ -91,6 +91,7 @@ try lines 0 pipe --clients=1 --records=1 < tests/pqd/lines.in
 try spellings 0 pipe --clients 1 --records 4 < tests/pqd/spellings.in
 try numbers 0 pipe --clients 4 --records 4 < tests/pqd/numbers.in
 try values 0 pipe --clients 1 --records 16 < tests/pqd/values.in
+try items 0 pipe --clients 1 --records 64 < tests/pqd/items.in
 try texts 0 pipe --clients 1 --records 16 < tests/pqd/texts.in
 try no-text 0 pipe --clients 1 --records 1 < tests/pqd/no-text.in
 try names 0 pipe --clients 1 --records 1 < tests/pqd/names.in
@@ -170,29 +171,37 @@ is_file() {
 }
 
 # Images: a new one, one that goes on, and the same again. Their clients and records are the file's. A new one of one
-# client with one record has 162 words, of which the first two are these numbers and the others 0.
+# client with one record has 210 words, of which the first two are these numbers and the others 0.
 image=$work/image
-{ printf 'PQW1\242\0\0\0\0\0\0\0\1\0\0\0\0\0\0\0\1\0\0\0\0\0\0\0'; head -c 1280 /dev/zero; } > "$work/new"
+{ printf 'PQW2\322\0\0\0\0\0\0\0\1\0\0\0\0\0\0\0\1\0\0\0\0\0\0\0'; head -c 1664 /dev/zero; } > "$work/new"
 try no-input 0 pipe --clients 1 --records 1 --image "$image" < /dev/null
-has_bytes 'a new image' "$image" 1308
+has_bytes 'a new image' "$image" 1692
 is_file 'a new image' "$image" "$work/new"
 try no-input 0 pipe --clients 2 --records 9 --image "$image" < /dev/null
 is_file 'a new image, again' "$image" "$work/new"
 rm "$image"
-# Every option of pipe in another order: 34 and 8 times 154 words.
+# Every option of pipe in another order: 34 and 8 times 211 words.
 try no-input 0 pipe --image "$work/a b" --records=9 --clients 2 < /dev/null
-has_bytes 'an image with every option' "$work/a b" 10140
+has_bytes 'an image with every option' "$work/a b" 13788
 try no-input 0 pipe --image "$image" < /dev/null
-has_bytes 'an image of the defaults: 34 and 8 times 8,206 words' "$image" 525468
+has_bytes 'an image of the defaults: 34 and 8 times 11,281 words' "$image" 722268
 rm "$image"
 try first-run 0 pipe --clients 1 --records 2 --image "$image" < tests/pqd/first-run.in
-has_bytes 'the image of the first run' "$image" 1820
+has_bytes 'the image of the first run' "$image" 2396
 cp "$image" "$work/first"
 try second-run 0 pipe --image "$image" < tests/pqd/second-run.in
-has_bytes 'the image of the second run' "$image" 1820
+has_bytes 'the image of the second run' "$image" 2396
+cp "$image" "$work/second"
 try third-run 0 pipe --image "$image" < tests/pqd/third-run.in
-has_bytes 'the image of the third run' "$image" 1820
+has_bytes 'the image of the third run' "$image" 2396
 [ ! -e "$image.new" ] || judge 'the image' 'a file is left beside it'
+
+# An image of numbers becomes one of items, at the second run: the same as where items had been there from the first on.
+python3 -B tests/images.py numbers "$image"
+has_bytes 'an image of numbers' "$image" 1820
+cp "$image" "$work/numbers"
+try second-run 0 pipe --image "$image" < tests/pqd/second-run.in
+is_file 'an image of numbers after a run' "$image" "$work/second"
 
 # What clients are told of a durable queue, also by the broker that begins on its image.
 rm "$image"
@@ -208,12 +217,12 @@ is_file 'stopped while it is down' "$image" "$work/ready"
 try second-run 0 pipe --image "$image" < tests/pqd/second-run.in
 
 # A call that was announced and took no effect: of each kind of queue, one empty take whose answer was not kept. The
-# words are those of two clients with one record: block 0 is at 34, block 1 at 60.
+# words are those of two clients with one record: block 0 is at 34, block 1 at 69.
 rm "$image"
 try announced 0 pipe --clients 2 --records 1 --image "$image" < tests/pqd/announced.in
 try announced-taken 0 pipe --image "$image" < tests/pqd/announced-told.in
-python3 -B tests/images.py word "$image" 50 0
-python3 -B tests/images.py word "$image" 84 0
+python3 -B tests/images.py word "$image" 59 0
+python3 -B tests/images.py word "$image" 102 0
 try announced-open 0 pipe --image "$image" < tests/pqd/announced-told.in
 
 # Files that are no image, whatever the input asks. They stay as they are.
@@ -222,7 +231,7 @@ no_image() {
     fault "$1" "$2" pipe --image "$image" < tests/pqd/third-run.in
     cmp -s "$image" "$work/kept" || judge "$1" 'the file has changed'
 }
-head -c 1819 "$work/first" > "$image"
+head -c 2395 "$work/first" > "$image"
 no_image 'an image that is cut off' '4 Truncated'
 : > "$image"
 no_image 'an empty file' '4 Truncated'
@@ -230,17 +239,27 @@ no_image 'an empty file' '4 Truncated'
 no_image 'an image with a byte more' '5 TrailingBytes'
 { printf Q; tail -c +2 "$work/first"; } > "$image"
 no_image 'another first byte' '2 BadMagic'
-printf 'PQW1\0\0\0\0\0\0\0\0' > "$image"
+printf 'PQW2\0\0\0\0\0\0\0\0' > "$image"
 no_image 'an image of no words' '3 BadCount'
 # The first word is the number of clients.
 { head -c 12 "$work/first"; printf '\021'; tail -c +14 "$work/first"; } > "$image"
 no_image 'an image that breaks a rule' '29 Damaged'
 
-# Every 52nd beginning of an image is cut off: crates/test_hostile tries each.
-for ((bytes = 0; bytes < 1820; bytes += 52)); do
+# Every 68th beginning of an image is cut off, and every 52nd of one of numbers: crates/test_hostile tries each.
+for ((bytes = 0; bytes < 2396; bytes += 68)); do
     head -c "$bytes" "$work/first" > "$image"
     no_image "an image of which $bytes bytes are there" '4 Truncated'
 done
+for ((bytes = 0; bytes < 1820; bytes += 52)); do
+    head -c "$bytes" "$work/numbers" > "$image"
+    no_image "an image of numbers of which $bytes bytes are there" '4 Truncated'
+done
+{ cat "$work/numbers"; printf x; } > "$image"
+no_image 'an image of numbers with a byte more' '5 TrailingBytes'
+# Of a queue whose client has begun one call: a head that is at no claimed node.
+cp "$work/numbers" "$image"
+python3 -B tests/images.py word "$image" 34 2
+no_image 'an image of numbers that breaks a rule' '29 Damaged'
 # The head of its own that an image has: magic and count. A memory has at most 8,388,608 words.
 other_head() {
     cp "$work/first" "$image"
@@ -248,11 +267,12 @@ other_head() {
     no_image "$2 from byte $1 on" "$3"
 }
 other_head 0 51 '2 BadMagic'
-other_head 3 32 '2 BadMagic'
-other_head 4 00 '3 BadCount'
+other_head 3 31 '29 Damaged'
+other_head 3 33 '2 BadMagic'
+other_head 4 0000 '3 BadCount'
 other_head 4 010080 '3 BadCount'
 other_head 4 000080 '4 Truncated'
-other_head 4 e1 '5 TrailingBytes'
+other_head 4 29 '5 TrailingBytes'
 # A word that breaks a rule alone, which bench/plain names: clients and records; the name, kind and gate of slot 0; a
 # word of a block without a queue; more records than the client has; a head that is at no claimed node.
 damaged() {
@@ -272,7 +292,7 @@ damaged 2 0 Directory
 damaged 3 97 Directory
 damaged 4 3 Directory
 damaged 5 2 Directory
-damaged 58 1 Directory
+damaged 67 1 Directory
 damaged 37 3 Records
 damaged 34 2 Ends
 

@@ -81,7 +81,7 @@ reports alone alone
     printf 'queue log 4 64\n'
     for ((number = 1; number <= 30; number++)); do
         for client in 0 1 2 3; do
-            printf 'enq %d %d %d\nend %d\n' "$client" "$number" "$((client + 4 * number))" "$client"
+            printf 'enq %d %d %08x\nend %d\n' "$client" "$number" "$((client + 4 * number))" "$client"
         done
     done
 } > "$work/in"

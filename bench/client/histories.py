@@ -6,7 +6,7 @@ from typing import NamedTuple
 
 
 class Put(NamedTuple):
-    value: int
+    value: str
     begin: int
     end: int
     # Whether it was answered. One that was not may have taken effect, by its end, or never.
@@ -15,7 +15,7 @@ class Put(NamedTuple):
 
 class Take(NamedTuple):
     # None: the queue was empty.
-    value: int | None
+    value: str | None
     begin: int
     end: int
 

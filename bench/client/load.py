@@ -86,7 +86,7 @@ class Player:
         request = {"op": "put" if is_put else "take", "client": self.client, "queue": queue}
         if is_put:
             self.count += 1
-            request["value"] = self.client << 28 | self.count
+            request["value"] = f"{self.client << 28 | self.count:08x}"
         if KINDS[queue] == "log":
             request["number"] = self.numbers[queue]
         return request

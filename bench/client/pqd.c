@@ -27,7 +27,7 @@ static size_t request(struct lane *lane, char *text)
     }
     if (lane->puts == lane->pairs)
         return 0;
-    return sprintf(text, "{\"op\":\"put\",\"client\":%d,\"queue\":\"q%d\",\"value\":%ld}\n", lane->client, queue,
+    return sprintf(text, "{\"op\":\"put\",\"client\":%d,\"queue\":\"q%d\",\"value\":\"%08lx\"}\n", lane->client, queue,
         lane->puts++);
 }
 
