@@ -13,22 +13,22 @@ pub const GATE_STORED: u32 = CREATED - 2;
 pub const GATE_ASKED: u32 = CREATED - 1;
 
 /// The node of a durable queue's enqueue is linked. The link is not kept yet.
-pub const DURABLE_LINKED: u32 = 10;
+pub const DURABLE_LINKED: u32 = 19;
 
 /// A durable queue's dequeue has claimed its node. The claim is not kept yet.
-pub const DURABLE_CLAIMED: u32 = 12;
+pub const DURABLE_CLAIMED: u32 = 15;
 
 /// A log queue's enqueue is announced.
-pub const LOG_ENQUEUE_ANNOUNCED: u32 = 21;
+pub const LOG_ENQUEUE_ANNOUNCED: u32 = 30;
 
 /// Its link is kept: it takes effect.
-pub const LOG_LINK_KEPT: u32 = 27;
+pub const LOG_LINK_KEPT: u32 = 36;
 
 /// A log queue's dequeue is announced.
 pub const LOG_DEQUEUE_ANNOUNCED: u32 = 12;
 
 /// It has claimed its node, and a flush has asked for the claim. It is not kept yet.
-pub const LOG_CLAIM_ASKED: u32 = 19;
+pub const LOG_CLAIM_ASKED: u32 = 22;
 
 /// Its claim is kept: it takes effect.
-pub const LOG_CLAIM_KEPT: u32 = 20;
+pub const LOG_CLAIM_KEPT: u32 = 23;

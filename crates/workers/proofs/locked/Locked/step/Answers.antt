@@ -15,10 +15,10 @@ invariant_of-self g c =
 pub invariant_of-self-in-Ok-Some : goal.invariant_of-self-in-Ok-Some
 invariant_of-self-in-Ok-Some g c =
     let e = rw c.in-Ok-Some.field-0-is at c.in-Ok-Some.ensures.advanced in
-    let w = c.with_last.ensures in
+    let w = c.with_last-seat.ensures in
     let list = c.args.seat.list.items in (
       (w.keeper.0, w.keeper.1 ∙ sym (ap (λ m. (keeper m.0.rows, [])) w.keeper.1)),
-      with_rows g.J.Naming.clients g.J.Naming.first _ (rows_of c.with_last.new.keeper) (ap (λ m. m.0.rows) w.keeper.1)
+      with_rows g.J.Naming.clients g.J.Naming.first _ (rows_of c.with_last-seat.new.keeper) (ap (λ m. m.0.rows) w.keeper.1)
           (guarded_answered g.J.Naming.clients g.J.Naming.first _ c.self.invariant.1 c.advance.new.self
           c.advance.ensures.promises (record { numbers = c.advance.ensures.goes_on; queues = c.advance.ensures.queues }) c.args.seat.client list w.before c.last_queue-queue.result.0 c.requires.open
           (rw c.as_slice.ensures.value at c.last_queue-queue.ensures) c.in-Ok-Some.reply e),
@@ -34,10 +34,10 @@ invariant_of-self-then-is_want_of_memory g c = (
 
 pub invariant_of-self-in-Err : goal.invariant_of-self-in-Err
 invariant_of-self-in-Err g c =
-    let w = c.with_last-seat.ensures in
+    let w = c.with_last-seat-in-Err.ensures in
     let list = c.args.seat.list.items in (
       (w.keeper.0, w.keeper.1 ∙ sym (ap (λ m. (keeper m.0.rows, [])) w.keeper.1)),
-      with_rows g.J.Naming.clients g.J.Naming.first _ (rows_of c.with_last-seat.new.keeper)
+      with_rows g.J.Naming.clients g.J.Naming.first _ (rows_of c.with_last-seat-in-Err.new.keeper)
           (ap (λ m. m.0.rows) w.keeper.1)
           (guarded_interrupted g.J.Naming.clients g.J.Naming.first _ c.self.invariant.1 c.advance.new.self
           c.advance.ensures.promises (record { numbers = c.advance.ensures.goes_on; queues = c.advance.ensures.queues }) c.args.seat.client list w.before c.last_queue-queue.result.0 c.requires.open
