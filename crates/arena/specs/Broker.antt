@@ -1,6 +1,8 @@
 -- The words of a broker: a head, a directory of its slots, and a block for the queue of each slot.
 use Rattle.std.specs.Prelude.{ℕ, ◌+◌, ◌*◌, ◌-◌, ◌/◌, ◌%◌, ◌<◌, Option, Some, None, ◌==◌, nat_lt, if◌then◌else◌}
 use Rattle.arena.specs.Shape.{Counts}
+use Rattle.arena.specs.declared.form.Form.{Form}
+use Rattle.arena.specs.declared.form.Form.TheVariants.{OfItems, OfValues}
 use Rattle.arena.specs.declared.broker.TheConstants.{SLOTS, HEAD_WORDS, DIRECTORY_WORDS, BLOCKS_FROM}
 use Rattle.arena.specs.declared.broker.BrokerPlace.{BrokerPlace}
 use Rattle.arena.specs.declared.broker.BrokerPlace.TheVariants.{Clients, Records, FirstName, SecondName, QueueKind, Gate, Block}
@@ -8,6 +10,11 @@ use Rattle.arena.specs.declared.broker.BrokerPlace.TheVariants.{Clients, Records
 -- a block has room for a queue of either kind: it has as many words as a log queue's layout, the longer of the two
 abbrev pub block_size_of : ℕ → ℕ → ℕ
 block_size_of clients records = 9 + 2 * clients + 11 * (clients * records)
+
+-- so it is in either form
+abbrev pub block_size_in : Form → ℕ → ℕ → ℕ
+block_size_in OfItems clients records = block_size_of clients records
+block_size_in OfValues clients records = 6 + 2 * clients + 8 * (clients * records)
 
 -- where a slot's words in the directory begin, and where its block does
 abbrev pub directory_from : ℕ → ℕ

@@ -3,7 +3,9 @@ use Rattle.std.specs.Prelude.{ℕ, List, map, filter, not, ◌==◌}
 use Rattle.words.specs.PlainQueue.{Value}
 use Rattle.arena.specs.Shape.{Shape, greatest}
 use Rattle.arena.specs.declared.place.Place.{Place}
-use Rattle.arena.specs.Words.{links, marks, values}
+use Rattle.arena.specs.Form.{running}
+use Rattle.arena.specs.declared.form.Form.{Form}
+use Rattle.arena.specs.Words.{links, marks, values_in}
 use Rattle.arena.specs.Chain.{walk}
 
 -- the nodes that kept links reach from node 0
@@ -17,6 +19,9 @@ claimed_of s kept = filter (λ n. not (marks kept n == 0)) (chain_of s kept)
 abbrev pub waiting_of : Shape → (Place → ℕ) → List ℕ
 waiting_of s kept = filter (λ n. marks kept n == 0) (chain_of s kept)
 
--- the values of the nodes without one
+-- the messages of the nodes without one
+abbrev pub content_in : Form → Shape → (Place → ℕ) → List Value
+content_in form s kept = map (values_in form kept) (waiting_of s kept)
+
 abbrev pub kept_content : Shape → (Place → ℕ) → List Value
-kept_content s kept = map (values kept) (waiting_of s kept)
+kept_content = content_in running

@@ -4,7 +4,7 @@ use Rattle.std.proofs.Common.{arith}
 use Rattle.std.proofs.lemmas.Bool.Decides.{nat_tests}
 use Rattle.words.specs.declared.call.Kind.TheVariants.{Durable}
 use Rattle.arena.specs.Shape.{Shape, greatest}
-use Rattle.arena.specs.Form.{OfItems}
+use Rattle.arena.specs.declared.form.Form.TheVariants.{OfItems}
 use Rattle.arena.specs.Place.{IsPlaceIn}
 use Rattle.arena.specs.declared.place.Part.TheVariants.{Length, First, Second, Third}
 use Rattle.arena.specs.declared.place.Place.{Place}

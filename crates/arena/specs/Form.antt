@@ -1,10 +1,6 @@
--- The two forms in which a message lies in the memory.
+-- The form that queues run in.
+use Rattle.arena.specs.declared.form.Form.{Form}
+use Rattle.arena.specs.declared.form.Form.TheVariants.{OfItems}
 
--- a value of one word, or an item of a length and three words
-pub data Form : Type 0 where
-  OfValues : Form
-  OfItems : Form
-
--- the form that queues run in
 abbrev pub running : Form
 running = OfItems

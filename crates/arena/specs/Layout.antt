@@ -3,8 +3,9 @@ use Rattle.std.specs.Prelude.{◌≡◌, ℕ, ◌<◌, ◌≤◌, Option, Some, 
 use Rattle.words.specs.declared.call.Kind.{Kind}
 use Rattle.words.specs.declared.call.Kind.TheVariants.{Durable, Log}
 use Rattle.arena.specs.Shape.{Shape}
-use Rattle.arena.specs.Form.{Form, running}
-use Rattle.arena.specs.Form.Form.{OfValues, OfItems}
+use Rattle.arena.specs.Form.{running}
+use Rattle.arena.specs.declared.form.Form.{Form}
+use Rattle.arena.specs.declared.form.Form.TheVariants.{OfValues, OfItems}
 use Rattle.arena.specs.Place.{IsPlaceIn}
 use Rattle.arena.specs.Durable.{durable_word, durable_place, durable_size, durable_below, durable_own, durable_named}
 use Rattle.arena.specs.DurableValues.{durable_values_word, durable_values_place, durable_values_size, durable_values_below, durable_values_own, durable_values_named}

@@ -4,7 +4,7 @@ use Rattle.std.proofs.Common.{arith}
 use Rattle.std.proofs.lemmas.Bool.Decides.{nat_tests}
 use Rattle.words.specs.declared.call.Kind.TheVariants.{Log}
 use Rattle.arena.specs.Shape.{Shape, greatest}
-use Rattle.arena.specs.Form.{OfValues}
+use Rattle.arena.specs.declared.form.Form.TheVariants.{OfValues}
 use Rattle.arena.specs.Log.{nodes_from, entry_place}
 use Rattle.arena.specs.Place.{IsPlaceIn}
 use Rattle.arena.specs.declared.place.Part.TheVariants.{Length, First, Second, Third}

@@ -5,8 +5,9 @@ use Rattle.std.proofs.lemmas.Bool.Decides.{nat_tests}
 use Rattle.words.specs.declared.call.Kind.TheVariants.{Durable, Log}
 use Rattle.arena.specs.Shape.{Shape, greatest}
 use Rattle.words.specs.declared.call.NodeId.{NodeId}
-use Rattle.arena.specs.Form.{Form, running}
-use Rattle.arena.specs.Form.Form.{OfValues, OfItems}
+use Rattle.arena.specs.Form.{running}
+use Rattle.arena.specs.declared.form.Form.{Form}
+use Rattle.arena.specs.declared.form.Form.TheVariants.{OfValues, OfItems}
 use Rattle.arena.specs.declared.place.Part.{Part}
 use Rattle.arena.specs.declared.place.Part.TheVariants.{Length, First, Second, Third}
 use Rattle.arena.specs.declared.place.Place.{Place}

@@ -5,8 +5,9 @@ use Rattle.words.specs.Item.{AreParts, item_of, first_word, second_word, third_w
 use Rattle.words.specs.PlainQueue.{Value, FitsValue}
 use Rattle.words.proofs.Items.{parts_again}
 use Rattle.words.proofs.Parts.{item_fits, parts_are}
-use Rattle.arena.specs.Form.{Form, running}
-use Rattle.arena.specs.Form.Form.{OfValues, OfItems}
+use Rattle.arena.specs.Form.{running}
+use Rattle.arena.specs.declared.form.Form.{Form}
+use Rattle.arena.specs.declared.form.Form.TheVariants.{OfValues, OfItems}
 use Rattle.arena.specs.declared.place.Write.{Write}
 use Rattle.arena.specs.declared.place.Part.{Part}
 use Rattle.arena.specs.declared.place.Part.TheVariants.{Length, First, Second, Third}
@@ -69,6 +70,11 @@ pub record IsBlankItem (f : Place → ℕ) (n : ℕ) : Type 0 where
   pub first : part_at f n First ≡ 0
   pub second : part_at f n Second ≡ 0
   pub third : part_at f n Third ≡ 0
+
+-- so they are in the form of items; in the form of values the one word is
+abbrev pub IsBlankItemIn : Form → (Place → ℕ) → ℕ → Type 0
+IsBlankItemIn OfItems f n = IsBlankItem f n
+IsBlankItemIn OfValues f n = part_at f n First ≡ 0
 
 -- a node's message is an item, whatever its words are
 pub values_fit : (f : Place → ℕ) (n : ℕ) → FitsValue (values f n)

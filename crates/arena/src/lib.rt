@@ -4,9 +4,11 @@
 mod broker;
 mod codes;
 mod durable;
+mod form;
 mod layout;
 mod log;
 mod place;
+mod values;
 
 pub use broker::{
     BLOCKS_FROM, BrokerLayout, BrokerPlace, DIRECTORY_WORDS, HEAD_WORDS, MAX_BROKER_WORDS, SLOTS,
@@ -17,6 +19,8 @@ pub use codes::{
     LOG_QUEUE, OPEN_GATE, TAKEN_STATUS,
 };
 pub use durable::DurableLayout;
+pub use form::Form;
 pub use layout::Layout;
 pub use log::LogLayout;
 pub use place::{Part, Place, Write, item_part, value_of};
+pub use values::{block_size_of_values, size_of_values, word_of_values};

@@ -5,9 +5,10 @@ use Rattle.arena.specs.Shape.{Shape}
 use Rattle.arena.specs.Place.{IsClient, IsRecord}
 use Rattle.arena.specs.Words.{links, marks, inserts, entry_kinds, statuses, entry_nodes}
 use Rattle.arena.specs.Chain.{LeadsTo}
+use Rattle.arena.specs.declared.form.Form.{Form}
 use Rattle.arena.specs.declared.place.Place.{Place}
 use Rattle.arena.specs.declared.place.Place.TheVariants.{Head}
-use Rattle.recover.specs.Sound.{IsOnChain, IsClaimOf, LogIsSound, StatusIsSound, RemovedIsSound, ChainIsSound, EntriesAreSound}
+use Rattle.recover.specs.Sound.{IsOnChain, IsClaimOf, LogIsSound, StatusIsSound, RemovedIsSound, ChainIsSoundIn, EntriesAreSound}
 use Rattle.recover.specs.Order.{IsOrder, IsClaimTable, IsInsertedIfOn, EntryTells, ClaimIsToldInEntry}
 use Rattle.recover.proofs.Surveys.{record_on_chain, claimed_by_mark, claim_noted, claims_only}
 
@@ -28,7 +29,7 @@ taken_only s kept e status at one (inl z) = absurd (omega (arith, at, one, z))
 taken_only s kept e status at one (inr (inl t)) = t.on_chain
 taken_only s kept e status at one (inr (inr t)) = absurd (omega (arith, at, one, t.status))
 
-pub empty_if : (s : Shape) (kept : Place → ℕ) (claimed : ℕ → ℕ) → ChainIsSound s kept → IsClaimTable s kept claimed → (e status kind : ℕ) → IsRecord s e → status ≡ statuses kept e → kind ≡ entry_kinds kept e → status ≡ kind → status ≡ 2 → claimed e ≡ 0 → StatusIsSound s kept e
+pub empty_if : {form : Form} (s : Shape) (kept : Place → ℕ) (claimed : ℕ → ℕ) → ChainIsSoundIn form s kept → IsClaimTable s kept claimed → (e status kind : ℕ) → IsRecord s e → status ≡ statuses kept e → kind ≡ entry_kinds kept e → status ≡ kind → status ≡ 2 → claimed e ≡ 0 → StatusIsSound s kept e
 empty_if s kept claimed chain t e status kind r at of_kind same two none =
     inr (inr (record {
       status = sym at ∙ two;
@@ -51,18 +52,18 @@ removed_only s kept claimed t e node r at some (inl z) = absurd (some (at ∙ z)
 removed_only s kept claimed t e node r at some (inr h) = claim_noted s kept claimed t e (entry_nodes kept e) (λ z. omega (arith, z, r.0)) h ∙ sym at
 
 -- a claimed node's entry, which tells of no node
-pub removal_kind : (s : Shape) (kept : Place → ℕ) → ChainIsSound s kept → (n m kind : ℕ) → IsRecord s n → m ≡ marks kept n → m ≢ 0 → kind ≡ entry_kinds kept m → ClaimIsToldInEntry s kept n → kind ≡ 2
+pub removal_kind : {form : Form} (s : Shape) (kept : Place → ℕ) → ChainIsSoundIn form s kept → (n m kind : ℕ) → IsRecord s n → m ≡ marks kept n → m ≢ 0 → kind ≡ entry_kinds kept m → ClaimIsToldInEntry s kept n → kind ≡ 2
 removal_kind s kept c n m kind r at ne of_kind t = of_kind ∙ ap (entry_kinds kept) at ∙ t.kind (claimed_by_mark s kept c n r (λ z. ne (at ∙ z)))
 
 pub untold_if : (s : Shape) (kept : Place → ℕ) (n m kind : ℕ) → m ≡ marks kept n → kind ≡ entry_kinds kept m → kind ≡ 2 → (LeadsTo (links kept) (kept Head) n → ⊥) → ClaimIsToldInEntry s kept n
 untold_if s kept n m kind at of_kind two ahead = record { kind = λ h. ap (entry_kinds kept) (sym at) ∙ sym of_kind ∙ two; told = λ p z. ahead p.leads }
 
-pub untold_only : (s : Shape) (kept : Place → ℕ) → ChainIsSound s kept → (n m node : ℕ) → IsRecord s n → m ≡ marks kept n → m ≢ 0 → node ≡ entry_nodes kept m → node ≡ 0 → ClaimIsToldInEntry s kept n → LeadsTo (links kept) (kept Head) n → ⊥
+pub untold_only : {form : Form} (s : Shape) (kept : Place → ℕ) → ChainIsSoundIn form s kept → (n m node : ℕ) → IsRecord s n → m ≡ marks kept n → m ≢ 0 → node ≡ entry_nodes kept m → node ≡ 0 → ClaimIsToldInEntry s kept n → LeadsTo (links kept) (kept Head) n → ⊥
 untold_only s kept c n m node r at ne word none t h =
     t.told (record { claimed = claimed_by_mark s kept c n r (λ z. ne (at ∙ z)); leads = h }) (ap (entry_nodes kept) (sym at) ∙ sym word ∙ none)
 
 -- all logs and entries
-pub entries_if : (s : Shape) (kept : Place → ℕ) → ChainIsSound s kept → ((n : ℕ) → IsRecord s n → IsInsertedIfOn s kept n) → ((t : ℕ) → IsClient s t → LogIsSound s kept t) → ((e : ℕ) → IsRecord s e → EntryTells s kept e) → ((n : ℕ) → IsRecord s n → ClaimIsToldInEntry s kept n) → EntriesAreSound s kept
+pub entries_if : {form : Form} (s : Shape) (kept : Place → ℕ) → ChainIsSoundIn form s kept → ((n : ℕ) → IsRecord s n → IsInsertedIfOn s kept n) → ((t : ℕ) → IsClient s t → LogIsSound s kept t) → ((e : ℕ) → IsRecord s e → EntryTells s kept e) → ((n : ℕ) → IsRecord s n → ClaimIsToldInEntry s kept n) → EntriesAreSound s kept
 entries_if s kept chain inserted logs right told = record {
   inserts = λ n h. (inserted n (record_on_chain s kept chain n h)).inserted h;
   logs = logs;

@@ -10,10 +10,11 @@ use Rattle.arena.specs.Place.{IsClient, IsNode, IsRecord}
 use Rattle.arena.specs.Words.{links, marks, announcements}
 use Rattle.arena.specs.Chain.{walk}
 use Rattle.arena.specs.Content.{chain_of}
+use Rattle.arena.specs.declared.form.Form.{Form}
 use Rattle.arena.specs.declared.place.Place.{Place}
 use Rattle.recover.specs.Told.{node_claimed_by}
 use Rattle.recover.specs.Seen.{node_or, IsSeen, AreSeen, IsNodeNoted, IsClaimNoted}
-use Rattle.recover.specs.Sound.{IsOwn, IsOnChain, IsClaimOf, AnswersAreSound, ChainIsSound, IsSound}
+use Rattle.recover.specs.Sound.{IsOwn, IsOnChain, IsClaimOf, AnswersAreSound, ChainIsSoundIn, IsSound}
 use Rattle.recover.proofs.Chains.{walk_end, walk_next}
 use Rattle.recover.proofs.Surveys.{in_chain, next_on_chain, record_on_chain, record_of_mark}
 use Rattle.recover.proofs.Alike.{owner_below}
@@ -116,7 +117,7 @@ pub record AreLooked (s : Shape) (kept : Place → ℕ) (on_chain : ℕ → Bool
   pub each : (t : ℕ) → IsClient s t → announcements kept t ≢ 0 → IsLookedFor s kept (announcements kept t) (on_chain t) (claimed t) (walk left (links kept) node)
 
 -- what follows a node is on the chain
-pub linked_on_chain : (s : Shape) (kept : Place → ℕ) → ChainIsSound s kept → (node next : ℕ) → IsNode s node → next ≡ links kept node → next ≢ 0 → IsOnChain s kept next
+pub linked_on_chain : {form : Form} (s : Shape) (kept : Place → ℕ) → ChainIsSoundIn form s kept → (node next : ℕ) → IsNode s node → next ≡ links kept node → next ≢ 0 → IsOnChain s kept next
 linked_on_chain s kept c node next here at ne =
     elim (cases_eq node 0) [
       | inl e ↦ subst (IsOnChain s kept) (sym at) (in_chain (links kept) 0 (chain_of s kept) node c.ends (inl e) (λ z. ne (at ∙ z)))

@@ -3,8 +3,9 @@ use Rattle.std.proofs.Common.{◌≡◌, ◌≢◌, ℕ, ◌+◌, ◌≤◌, ◌
 use Rattle.arena.specs.Shape.{Shape, greatest}
 use Rattle.arena.specs.Place.{IsRecord}
 use Rattle.arena.specs.Words.{marks}
+use Rattle.arena.specs.declared.form.Form.{Form}
 use Rattle.arena.specs.declared.place.Place.{Place}
-use Rattle.recover.specs.Sound.{IsIssued, IsClaimed, ChainIsSound}
+use Rattle.recover.specs.Sound.{IsIssued, IsClaimed, ChainIsSoundIn}
 use Rattle.recover.specs.Order.{AreClaims, IsClaimTable}
 use Rattle.recover.proofs.Surveys.{claimed_by_mark, record_on_chain}
 
@@ -22,7 +23,7 @@ pub record AreNoted (s : Shape) (kept : Place → ℕ) (claimed : ℕ → ℕ) (
   pub issued : (k : ℕ) → 1 ≤ k → k < n → marks kept k ≢ 0 → IsIssued s kept (marks kept k)
 
 -- the nodes of the chain are all noted in the end
-pub noted_claims : (s : Shape) (kept : Place → ℕ) (claimed : ℕ → ℕ) (n : ℕ) → ChainIsSound s kept → AreNoted s kept claimed n → greatest s < n → AreClaims s kept
+pub noted_claims : {form : Form} (s : Shape) (kept : Place → ℕ) (claimed : ℕ → ℕ) (n : ℕ) → ChainIsSoundIn form s kept → AreNoted s kept claimed n → greatest s < n → AreClaims s kept
 noted_claims s kept claimed n chain f past =
     let at : (k : ℕ) → IsClaimed s kept k → claimed (marks kept k) ≡ k =
     λ k h. let r : IsRecord s k = record_on_chain s kept chain k h.on_chain in f.noted k r.0 (omega (arith, r.1, past)) h.marked in
@@ -31,7 +32,7 @@ noted_claims s kept claimed n chain f past =
       once = λ k j h i e. sym (at k h) ∙ ap claimed e ∙ at j i;
     }
 
-pub noted_table : (s : Shape) (kept : Place → ℕ) (claimed : ℕ → ℕ) (n : ℕ) → ChainIsSound s kept → AreNoted s kept claimed n → greatest s < n → n ≤ greatest s + 1 → IsClaimTable s kept claimed
+pub noted_table : {form : Form} (s : Shape) (kept : Place → ℕ) (claimed : ℕ → ℕ) (n : ℕ) → ChainIsSoundIn form s kept → AreNoted s kept claimed n → greatest s < n → n ≤ greatest s + 1 → IsClaimTable s kept claimed
 noted_table s kept claimed n chain f past most = record {
   claim = λ c some.
       let b : IsNoted kept n c (claimed c) = f.back c some in
@@ -43,11 +44,11 @@ noted_table s kept claimed n chain f past most = record {
 }
 
 -- a claim that is none
-pub not_by_used : (s : Shape) (kept : Place → ℕ) (n m : ℕ) → ChainIsSound s kept → IsRecord s n → m ≡ marks kept n → m ≢ 0 → AreClaims s kept → IsIssued s kept m
+pub not_by_used : {form : Form} (s : Shape) (kept : Place → ℕ) (n m : ℕ) → ChainIsSoundIn form s kept → IsRecord s n → m ≡ marks kept n → m ≢ 0 → AreClaims s kept → IsIssued s kept m
 not_by_used s kept n m chain r at ne claims =
     subst (IsIssued s kept) (sym at) (claims.issued n (claimed_by_mark s kept chain n r (λ z. ne (at ∙ z))))
 
-pub claimed_twice : (s : Shape) (kept : Place → ℕ) (claimed : ℕ → ℕ) (n m : ℕ) → ChainIsSound s kept → AreNoted s kept claimed n → IsRecord s n → m ≡ marks kept n → m ≢ 0 → claimed m ≢ 0 → AreClaims s kept → ⊥
+pub claimed_twice : {form : Form} (s : Shape) (kept : Place → ℕ) (claimed : ℕ → ℕ) (n m : ℕ) → ChainIsSoundIn form s kept → AreNoted s kept claimed n → IsRecord s n → m ≡ marks kept n → m ≢ 0 → claimed m ≢ 0 → AreClaims s kept → ⊥
 claimed_twice s kept claimed n m chain f r at ne again claims =
     let b : IsNoted kept n m (claimed m) = f.back m again in
     let first : IsClaimed s kept (claimed m) = claimed_by_mark s kept chain (claimed m) (b.some, omega (arith, b.before, r.1)) (λ z. ne (sym b.mark ∙ z)) in

@@ -10,9 +10,10 @@ use Rattle.arena.specs.Ranges.{Fits}
 use Rattle.arena.specs.Words.{links, marks, values, values_fit, cells, inserts, numbers, entry_kinds, statuses, entry_nodes, announcements}
 use Rattle.arena.specs.Content.{chain_of}
 use Rattle.arena.specs.declared.place.Part.TheVariants.{Length, First, Second, Third}
+use Rattle.arena.specs.declared.form.Form.{Form}
 use Rattle.arena.specs.declared.place.Place.{Place}
 use Rattle.arena.specs.declared.place.Place.TheVariants.{Head, Tail, Announcement, Bump, Item, Next, Mark, Cell, Insert, Number, EntryKind, Status, EntryNode}
-use Rattle.recover.specs.Sound.{IsAnnouncedOne, IsRead, AnswersAreSound, RowsAreSound, EntriesAreSound, ChainIsSound, IsSound}
+use Rattle.recover.specs.Sound.{IsAnnouncedOne, IsRead, AnswersAreSound, RowsAreSound, EntriesAreSound, ChainIsSoundIn, IsSound}
 use Rattle.recover.proofs.Surveys.{record_on_chain, claimed_by_mark, next_on_chain, in_chain}
 
 -- the answers of a queue of this kind
@@ -28,7 +29,7 @@ announced_within Durable s kept h t c = elim (h.rows t c) [ inl z ↦ omega (ari
 announced_within Log s kept h t c = elim (h.logs t c) [ inl z ↦ omega (arith, z) | inr a ↦ a.own.issued.is_record.1 ]
 
 -- a link
-link_within : (s : Shape) (kept : Place → ℕ) → ChainIsSound s kept → (n : ℕ) → IsNode s n → links kept n ≤ greatest s
+link_within : {form : Form} (s : Shape) (kept : Place → ℕ) → ChainIsSoundIn form s kept → (n : ℕ) → IsNode s n → links kept n ≤ greatest s
 link_within s kept c n node =
     elim (cases_eq (links kept n) 0) [
       | inl z ↦ omega (arith, z)

@@ -5,8 +5,9 @@ use Rattle.arena.specs.Shape.{Shape, greatest}
 use Rattle.arena.specs.Words.{links, marks, cells, entry_kinds, entry_nodes}
 use Rattle.arena.specs.Chain.{IsChain, LeadsTo}
 use Rattle.arena.specs.Content.{chain_of}
+use Rattle.arena.specs.declared.form.Form.{Form}
 use Rattle.arena.specs.declared.place.Place.{Place}
-use Rattle.recover.specs.Sound.{IsOnChain, IsIssued, IsClaimed, IsClaimOf, IsPassed, IsResult, IsInserted, StatusIsSound, RemovedIsSound}
+use Rattle.recover.specs.Sound.{IsOnChain, IsIssued, IsClaimed, IsClaimOf, IsPassed, IsResultIn, IsInserted, StatusIsSound, RemovedIsSound}
 
 -- the chain ends, and has nodes of used records
 pub record IsRun (s : Shape) (kept : Place → ℕ) : Type 0 where
@@ -44,8 +45,8 @@ pub record IsTokenTable (s : Shape) (kept : Place → ℕ) (claimed : List ℕ) 
   pub table : IsClaimTable s kept (λ n. slice_index claimed n)
 
 -- durable queues: a cell tells only what it claims, and a claimed node's cell tells of it
-pub record CellTells (s : Shape) (kept : Place → ℕ) (c : ℕ) : Type 0 where
-  pub result : GOT_CELL ≤ cells kept c → IsResult s kept c
+pub record CellTellsIn (form : Form) (s : Shape) (kept : Place → ℕ) (c : ℕ) : Type 0 where
+  pub result : GOT_CELL ≤ cells kept c → IsResultIn form s kept c
 
 pub record ClaimIsToldInCell (s : Shape) (kept : Place → ℕ) (n : ℕ) : Type 0 where
   pub not_empty : IsClaimed s kept n → cells kept (marks kept n) ≢ 1

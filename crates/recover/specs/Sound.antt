@@ -9,26 +9,30 @@ use Rattle.words.specs.declared.refusal.Rule.{Rule}
 use Rattle.words.specs.declared.refusal.Rule.TheVariants.{Size, Records, Chain, Claims, Ends, Rows, Entries, Image, Directory}
 use Rattle.words.specs.declared.limits.TheConstants.{MAX_CALL_NUMBER}
 use Rattle.arena.specs.declared.codes.TheConstants.{DEQUEUE_KIND, EMPTY_CELL, EMPTY_STATUS, ENQUEUE_KIND, GOT_CELL, TAKEN_STATUS}
-use Rattle.arena.specs.Broker.{block_size_of}
-use Rattle.arena.specs.Layout.{size_of}
-use Rattle.recover.specs.Kept.{kept_in}
+use Rattle.arena.specs.Broker.{block_size_in}
+use Rattle.arena.specs.Form.{running}
+use Rattle.arena.specs.Layout.{size_in}
+use Rattle.recover.specs.Kept.{kept_by}
 use Rattle.arena.specs.Shape.{Shape, greatest, record_of, owner}
 use Rattle.arena.specs.Place.{IsClient, IsNode, IsRecord}
-use Rattle.arena.specs.Words.{links, marks, HoldsItem, IsBlankItem, inserts, cells, numbers, entry_kinds, statuses, entry_nodes, bumps, announcements}
+use Rattle.arena.specs.Words.{links, marks, part_at, HoldsIn, IsBlankItemIn, inserts, cells, numbers, entry_kinds, statuses, entry_nodes, bumps, announcements}
 use Rattle.arena.specs.Chain.{IsChain, IsAmong, LeadsTo}
 use Rattle.arena.specs.Content.{chain_of}
+use Rattle.arena.specs.declared.form.Form.{Form}
+use Rattle.arena.specs.declared.form.Form.TheVariants.{OfItems, OfValues}
+use Rattle.arena.specs.declared.place.Part.TheVariants.{First}
 use Rattle.arena.specs.declared.place.Place.{Place}
 use Rattle.arena.specs.declared.place.Place.TheVariants.{Head, Tail, Insert, Number, EntryNode}
 
 -- a block of a broker: past the queue's words it is all zero
-pub record IsBlock (s : Shape) (ws : List ℕ) : Type 0 where
-  pub count : length ws ≡ block_size_of s.clients s.records
-  pub room : size_of s ≤ length ws
-  pub rest : (w : ℕ) → size_of s ≤ w → w < length ws → slice_index ws w ≡ 0
+pub record IsBlockIn (form : Form) (s : Shape) (ws : List ℕ) : Type 0 where
+  pub count : length ws ≡ block_size_in form s.clients s.records
+  pub room : size_in form s ≤ length ws
+  pub rest : (w : ℕ) → size_in form s ≤ w → w < length ws → slice_index ws w ≡ 0
 
 -- there are as many words as the layout has, or they are a block
-abbrev pub SizeIsSound : Shape → List ℕ → Type 0
-SizeIsSound s ws = (length ws ≡ size_of s) ⊎ IsBlock s ws
+abbrev pub SizeIsSoundIn : Form → Shape → List ℕ → Type 0
+SizeIsSoundIn form s ws = (length ws ≡ size_in form s) ⊎ IsBlockIn form s ws
 
 -- its client used the record: it comes before the client's next one
 pub record IsIssued (s : Shape) (kept : Place → ℕ) (number : ℕ) : Type 0 where
@@ -47,19 +51,19 @@ abbrev pub IsBlankAnswer : Kind → (Place → ℕ) → ℕ → Type 0
 IsBlankAnswer Durable kept n = cells kept n ≡ 0
 IsBlankAnswer Log kept n = IsBlankEntry kept n
 
-pub record IsBlank (s : Shape) (kept : Place → ℕ) (n : ℕ) : Type 0 where
-  pub item : IsBlankItem kept n
+pub record IsBlankRecordIn (form : Form) (s : Shape) (kept : Place → ℕ) (n : ℕ) : Type 0 where
+  pub item : IsBlankItemIn form kept n
   pub link : links kept n ≡ 0
   pub mark : marks kept n ≡ 0
   pub answer : IsBlankAnswer s.kind kept n
 
-pub record IsBlankIfUnused (s : Shape) (kept : Place → ℕ) (n : ℕ) : Type 0 where
-  pub blank : (IsIssued s kept n → ⊥) → IsBlank s kept n
+pub record IsBlankIfUnusedIn (form : Form) (s : Shape) (kept : Place → ℕ) (n : ℕ) : Type 0 where
+  pub blank : (IsIssued s kept n → ⊥) → IsBlankRecordIn form s kept n
 
 -- no client used more records than it has, and those that are not used are blank
-pub record RecordsAreSound (s : Shape) (kept : Place → ℕ) : Type 0 where
+pub record RecordsAreSoundIn (form : Form) (s : Shape) (kept : Place → ℕ) : Type 0 where
   pub within : (t : ℕ) → IsClient s t → bumps kept t ≤ s.records
-  pub unused : (n : ℕ) → IsRecord s n → IsBlankIfUnused s kept n
+  pub unused : (n : ℕ) → IsRecord s n → IsBlankIfUnusedIn form s kept n
 
 -- on the chain; claimed there
 abbrev pub IsOnChain : Shape → (Place → ℕ) → ℕ → Type 0
@@ -78,21 +82,21 @@ pub record IsLooseIfOff (s : Shape) (kept : Place → ℕ) (n : ℕ) : Type 0 wh
   pub loose : (IsOnChain s kept n → ⊥) → IsLoose kept n
 
 -- the words of node 0, but for its link, are 0
-pub record IsSentinel (s : Shape) (kept : Place → ℕ) : Type 0 where
-  pub item : IsBlankItem kept 0
+pub record IsSentinelIn (form : Form) (s : Shape) (kept : Place → ℕ) : Type 0 where
+  pub item : IsBlankItemIn form kept 0
   pub mark : marks kept 0 ≡ 0
   pub insert : s.kind ≡ Log → inserts kept 0 ≡ 0
 
 -- the chain ends, so no node stands twice on it, and has nodes of used records; other nodes are loose
-pub record ChainIsSound (s : Shape) (kept : Place → ℕ) : Type 0 where
+pub record ChainIsSoundIn (form : Form) (s : Shape) (kept : Place → ℕ) : Type 0 where
   pub ends : IsChain (links kept) 0 (chain_of s kept)
   pub issued : (n : ℕ) → IsOnChain s kept n → IsIssued s kept n
   pub loose : (n : ℕ) → IsRecord s n → IsLooseIfOff s kept n
-  pub sentinel : IsSentinel s kept
+  pub sentinel : IsSentinelIn form s kept
 
 -- messages are items; no claimed node follows an unclaimed one; claims are by used records, each by its own
-pub record ClaimsAreSound (s : Shape) (kept : Place → ℕ) : Type 0 where
-  pub in_range : (n : ℕ) → IsNode s n → HoldsItem kept n
+pub record ClaimsAreSoundIn (form : Form) (s : Shape) (kept : Place → ℕ) : Type 0 where
+  pub in_range : (n : ℕ) → IsNode s n → HoldsIn form kept n
   pub in_turn : (n : ℕ) → IsOnChain s kept n → IsClaimed s kept (links kept n) → marks kept n ≢ 0
   pub issued : (n : ℕ) → IsClaimed s kept n → IsIssued s kept (marks kept n)
   pub once : (n m : ℕ) → IsClaimed s kept n → IsClaimed s kept m → marks kept n ≡ marks kept m → n ≡ m
@@ -123,20 +127,25 @@ pub record IsClaimOf (s : Shape) (kept : Place → ℕ) (token n : ℕ) : Type 0
   pub on_chain : IsOnChain s kept n
   pub mark : marks kept n ≡ token
 
+-- what a cell says past GOT_CELL of the node that it claims: its number, and in the form of values its value
+abbrev pub named_in : Form → (Place → ℕ) → ℕ → ℕ
+named_in OfItems kept n = n
+named_in OfValues kept n = part_at kept n First
+
 -- the cell names a node that it claims
-pub record IsResult (s : Shape) (kept : Place → ℕ) (cell : ℕ) : Type 0 where
+pub record IsResultIn (form : Form) (s : Shape) (kept : Place → ℕ) (cell : ℕ) : Type 0 where
   pub node : ℕ
   pub claim : IsClaimOf s kept cell node
-  pub named : node + GOT_CELL ≡ cells kept cell
+  pub named : named_in form kept node + GOT_CELL ≡ cells kept cell
 
 abbrev pub RowIsSound : Shape → (Place → ℕ) → ℕ → Type 0
 RowIsSound s kept t = (announcements kept t ≡ 0) ⊎ IsOwn s kept t (announcements kept t)
 
 -- each row names a cell of its client; a cell tells only what it claims; one that claims a node is not empty, and
 -- once the head has passed the node it is not open
-pub record RowsAreSound (s : Shape) (kept : Place → ℕ) : Type 0 where
+pub record RowsAreSoundIn (form : Form) (s : Shape) (kept : Place → ℕ) : Type 0 where
   pub rows : (t : ℕ) → IsClient s t → RowIsSound s kept t
-  pub results : (c : ℕ) → IsRecord s c → GOT_CELL ≤ cells kept c → IsResult s kept c
+  pub results : (c : ℕ) → IsRecord s c → GOT_CELL ≤ cells kept c → IsResultIn form s kept c
   pub not_empty : (n : ℕ) → IsClaimed s kept n → cells kept (marks kept n) ≢ EMPTY_CELL
   pub not_open : (n : ℕ) → IsPassed s kept n → cells kept (marks kept n) ≢ 0
 
@@ -193,22 +202,22 @@ pub record EntriesAreSound (s : Shape) (kept : Place → ℕ) : Type 0 where
   pub told : (n : ℕ) → IsPassed s kept n → entry_nodes kept (marks kept n) ≢ 0
 
 -- the answers of calls, by the kind of the queue
-abbrev pub AnswersAreSound : Kind → Shape → (Place → ℕ) → Type 0
-AnswersAreSound Durable s kept = RowsAreSound s kept
-AnswersAreSound Log s kept = EntriesAreSound s kept
+abbrev pub AnswersAreSoundIn : Form → Kind → Shape → (Place → ℕ) → Type 0
+AnswersAreSoundIn form Durable s kept = RowsAreSoundIn form s kept
+AnswersAreSoundIn form Log s kept = EntriesAreSound s kept
 
 -- all of it
-pub record IsSound (s : Shape) (kept : Place → ℕ) : Type 0 where
-  pub records : RecordsAreSound s kept
-  pub chain : ChainIsSound s kept
-  pub claims : ClaimsAreSound s kept
+pub record IsSoundIn (form : Form) (s : Shape) (kept : Place → ℕ) : Type 0 where
+  pub records : RecordsAreSoundIn form s kept
+  pub chain : ChainIsSoundIn form s kept
+  pub claims : ClaimsAreSoundIn form s kept
   pub ends : EndsAreSound s kept
-  pub answers : AnswersAreSound s.kind s kept
+  pub answers : AnswersAreSoundIn form s.kind s kept
 
 -- the words are as many as they should be, and sound
-pub record AreSoundWords (s : Shape) (ws : List ℕ) : Type 0 where
-  pub count : SizeIsSound s ws
-  pub sound : IsSound s (kept_in s ws)
+pub record AreSoundWordsIn (form : Form) (s : Shape) (ws : List ℕ) : Type 0 where
+  pub count : SizeIsSoundIn form s ws
+  pub sound : IsSoundIn form s (kept_by form s ws)
 
 -- what a rule says of the words of a queue; a rule of the other kind of queue, or of a broker, says nothing
 abbrev pub IfKind : Kind → Kind → Type 0 → Type 0
@@ -217,26 +226,66 @@ IfKind Log Log P = P
 IfKind Durable Log P = Unit {0}
 IfKind Log Durable P = Unit {0}
 
-abbrev pub Obeys : Shape → List ℕ → Rule → Type 0
-Obeys s ws Size = SizeIsSound s ws
-Obeys s ws Records = RecordsAreSound s (kept_in s ws)
-Obeys s ws Chain = ChainIsSound s (kept_in s ws)
-Obeys s ws Claims = ClaimsAreSound s (kept_in s ws)
-Obeys s ws Ends = EndsAreSound s (kept_in s ws)
-Obeys s ws Rows = IfKind Durable s.kind (RowsAreSound s (kept_in s ws))
-Obeys s ws Entries = IfKind Log s.kind (EntriesAreSound s (kept_in s ws))
-Obeys s ws Image = Unit {0}
-Obeys s ws Directory = Unit {0}
+abbrev pub ObeysIn : Form → Shape → List ℕ → Rule → Type 0
+ObeysIn form s ws Size = SizeIsSoundIn form s ws
+ObeysIn form s ws Records = RecordsAreSoundIn form s (kept_by form s ws)
+ObeysIn form s ws Chain = ChainIsSoundIn form s (kept_by form s ws)
+ObeysIn form s ws Claims = ClaimsAreSoundIn form s (kept_by form s ws)
+ObeysIn form s ws Ends = EndsAreSound s (kept_by form s ws)
+ObeysIn form s ws Rows = IfKind Durable s.kind (RowsAreSoundIn form s (kept_by form s ws))
+ObeysIn form s ws Entries = IfKind Log s.kind (EntriesAreSound s (kept_by form s ws))
+ObeysIn form s ws Image = Unit {0}
+ObeysIn form s ws Directory = Unit {0}
 
 -- the words break this rule, and none before it
-pub record IsFirstBroken (s : Shape) (ws : List ℕ) (rule : Rule) : Type 0 where
-  pub broken : Obeys s ws rule → ⊥
-  pub before : (other : Rule) → number_of other < number_of rule → Obeys s ws other
+pub record IsFirstBrokenIn (form : Form) (s : Shape) (ws : List ℕ) (rule : Rule) : Type 0 where
+  pub broken : ObeysIn form s ws rule → ⊥
+  pub before : (other : Rule) → number_of other < number_of rule → ObeysIn form s ws other
 
 -- a refusal by the first rule that is broken
+abbrev pub IsDamagedIn : Form → Shape → List ℕ → Refusal → Type 0
+IsDamagedIn form s ws (Damaged rule) = IsFirstBrokenIn form s ws rule
+IsDamagedIn form s ws _ = ⊥
+
+-- all this in the form that queues run in
+abbrev pub SizeIsSound : Shape → List ℕ → Type 0
+SizeIsSound = SizeIsSoundIn running
+
+abbrev pub IsBlank : Shape → (Place → ℕ) → ℕ → Type 0
+IsBlank = IsBlankRecordIn running
+
+abbrev pub RecordsAreSound : Shape → (Place → ℕ) → Type 0
+RecordsAreSound = RecordsAreSoundIn running
+
+abbrev pub ChainIsSound : Shape → (Place → ℕ) → Type 0
+ChainIsSound = ChainIsSoundIn running
+
+abbrev pub ClaimsAreSound : Shape → (Place → ℕ) → Type 0
+ClaimsAreSound = ClaimsAreSoundIn running
+
+abbrev pub IsResult : Shape → (Place → ℕ) → ℕ → Type 0
+IsResult = IsResultIn running
+
+abbrev pub RowsAreSound : Shape → (Place → ℕ) → Type 0
+RowsAreSound = RowsAreSoundIn running
+
+abbrev pub AnswersAreSound : Kind → Shape → (Place → ℕ) → Type 0
+AnswersAreSound = AnswersAreSoundIn running
+
+abbrev pub IsSound : Shape → (Place → ℕ) → Type 0
+IsSound = IsSoundIn running
+
+abbrev pub AreSoundWords : Shape → List ℕ → Type 0
+AreSoundWords = AreSoundWordsIn running
+
+abbrev pub Obeys : Shape → List ℕ → Rule → Type 0
+Obeys = ObeysIn running
+
+abbrev pub IsFirstBroken : Shape → List ℕ → Rule → Type 0
+IsFirstBroken = IsFirstBrokenIn running
+
 abbrev pub IsDamaged : Shape → List ℕ → Refusal → Type 0
-IsDamaged s ws (Damaged rule) = IsFirstBroken s ws rule
-IsDamaged s ws _ = ⊥
+IsDamaged = IsDamagedIn running
 
 -- a client announced the entry
 pub record IsAnnouncedOne (s : Shape) (kept : Place → ℕ) (e : ℕ) : Type 0 where

@@ -4,7 +4,7 @@ ghost use Rattle.std.specs.Prelude.{◌≡◌, ◌≢◌, ℕ, ◌≤◌, ◌<�
 ghost use Rattle.arena.specs.Place.{IsPlace, IsRecord};
 ghost use Rattle.arena.specs.Shape.{greatest};
 ghost use Rattle.recover.specs.Kept.{kept_of};
-ghost use Rattle.recover.specs.Sound.{IsLoose, IsLooseIfOff, IsSentinel, ChainIsSound};
+ghost use Rattle.recover.specs.Sound.{IsLoose, IsLooseIfOff, IsSentinelIn, ChainIsSoundIn};
 ghost use Rattle.recover.specs.Order.{IsRun, IsOrder};
 
 use crate::kept::KeptQueue;
@@ -48,7 +48,7 @@ impl<L: Layout, W: KeptWords> KeptQueue<'_, L, W> {
 
     /// Whether every word of node 0 but its link is 0.
     fn is_sentinel(&self) -> bool
-        ensures { IsTrue result ↔ IsSentinel self.now.shape (kept_of self.now) }
+        ensures { IsTrue result ↔ IsSentinelIn self.now.form self.now.shape (kept_of self.now) }
     {
         if !self.has_no_item(NodeId(0)) {
             return false;
@@ -96,7 +96,7 @@ impl<L: Layout, W: KeptWords> KeptQueue<'_, L, W> {
     pub(crate) fn is_chain_sound(&self, place: &mut [u32]) -> bool
         requires table { greatest self.now.shape < length place.old }
         requires blank { (n : ℕ) → slice_index place.old n ≡ 0 }
-        ensures sound { IsTrue result ↔ ChainIsSound self.now.shape (kept_of self.now) }
+        ensures sound { IsTrue result ↔ ChainIsSoundIn self.now.form self.now.shape (kept_of self.now) }
         ensures order { IsTrue result → IsOrder self.now.shape (kept_of self.now) (λ n. slice_index place.new n) }
     {
         if !self.follow(place) {

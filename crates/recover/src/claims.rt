@@ -3,9 +3,9 @@
 ghost use Rattle.std.specs.Prelude.{◌≡◌, ◌≢◌, ℕ, ◌≤◌, ◌<◌, ◌↔◌, ◌⊎◌, length, slice_index, IsTrue};
 ghost use Rattle.arena.specs.Place.{IsPlace, IsNode, IsRecord};
 ghost use Rattle.arena.specs.Shape.{greatest};
-ghost use Rattle.arena.specs.Words.{HoldsItem};
+ghost use Rattle.arena.specs.Words.{HoldsIn};
 ghost use Rattle.recover.specs.Kept.{kept_of};
-ghost use Rattle.recover.specs.Sound.{ChainIsSound, ClaimsAreSound, EndsAreSound, HeadIsSound, TailIsSound};
+ghost use Rattle.recover.specs.Sound.{ChainIsSoundIn, ClaimsAreSoundIn, EndsAreSound, HeadIsSound, TailIsSound};
 ghost use Rattle.recover.specs.Order.{IsOrder, AreClaims, IsClaimTable, IsInTurn};
 
 use crate::chain::has_place;
@@ -17,7 +17,8 @@ use words::NodeId;
 impl<L: Layout, W: KeptWords> KeptQueue<'_, L, W> {
     /// Whether the words of each message are an item's.
     fn are_in_range(&self) -> bool
-        ensures { IsTrue result ↔ ((n : ℕ) → IsNode self.now.shape n → HoldsItem (kept_of self.now) n) }
+        ensures { IsTrue result ↔ ((n : ℕ) → IsNode self.now.shape n
+            → HoldsIn self.now.form (kept_of self.now) n) }
     {
         let greatest = self.clients() * self.records();
         for node in 0..greatest + 1 {
@@ -30,7 +31,7 @@ impl<L: Layout, W: KeptWords> KeptQueue<'_, L, W> {
 
     /// Whether claims are of used records, each by its own. Notes what each token claims.
     fn note_claims(&self, claimed: &mut [u32]) -> bool
-        requires chain { ChainIsSound self.now.shape (kept_of self.now) }
+        requires chain { ChainIsSoundIn self.now.form self.now.shape (kept_of self.now) }
         requires table { greatest self.now.shape < length claimed.old }
         requires blank { (n : ℕ) → slice_index claimed.old n ≡ 0 }
         ensures claims { IsTrue result ↔ AreClaims self.now.shape (kept_of self.now) }
@@ -56,7 +57,7 @@ impl<L: Layout, W: KeptWords> KeptQueue<'_, L, W> {
 
     /// Whether the node is claimed, or is followed by no claimed one.
     fn is_in_turn(&self, node: u32) -> bool
-        requires chain { ChainIsSound self.now.shape (kept_of self.now) }
+        requires chain { ChainIsSoundIn self.now.form self.now.shape (kept_of self.now) }
         requires node { IsRecord self.now.shape node }
         ensures { IsTrue result ↔ IsInTurn self.now.shape (kept_of self.now) node }
     {
@@ -72,7 +73,7 @@ impl<L: Layout, W: KeptWords> KeptQueue<'_, L, W> {
 
     /// Whether so it is of each node but node 0.
     fn are_in_turn(&self) -> bool
-        requires chain { ChainIsSound self.now.shape (kept_of self.now) }
+        requires chain { ChainIsSoundIn self.now.form self.now.shape (kept_of self.now) }
         ensures { IsTrue result ↔ ((n : ℕ) → IsRecord self.now.shape n → IsInTurn self.now.shape (kept_of self.now) n) }
     {
         let greatest = self.clients() * self.records();
@@ -86,10 +87,10 @@ impl<L: Layout, W: KeptWords> KeptQueue<'_, L, W> {
 
     /// Whether claims are sound. Notes what each token claims.
     pub(crate) fn are_claims_sound(&self, claimed: &mut [u32]) -> bool
-        requires chain { ChainIsSound self.now.shape (kept_of self.now) }
+        requires chain { ChainIsSoundIn self.now.form self.now.shape (kept_of self.now) }
         requires table { greatest self.now.shape < length claimed.old }
         requires blank { (n : ℕ) → slice_index claimed.old n ≡ 0 }
-        ensures sound { IsTrue result ↔ ClaimsAreSound self.now.shape (kept_of self.now) }
+        ensures sound { IsTrue result ↔ ClaimsAreSoundIn self.now.form self.now.shape (kept_of self.now) }
         ensures noted { IsTrue result
             → IsClaimTable self.now.shape (kept_of self.now) (λ n. slice_index claimed.new n) }
     {
@@ -104,7 +105,7 @@ impl<L: Layout, W: KeptWords> KeptQueue<'_, L, W> {
 
     /// Whether the head is at the sentinel or at a claimed node.
     fn is_head_sound(&self, place: &[u32]) -> bool
-        requires chain { ChainIsSound self.now.shape (kept_of self.now) }
+        requires chain { ChainIsSoundIn self.now.form self.now.shape (kept_of self.now) }
         requires order { IsOrder self.now.shape (kept_of self.now) (λ n. slice_index place.now n) }
         ensures { IsTrue result ↔ HeadIsSound self.now.shape (kept_of self.now) }
     {
@@ -132,7 +133,7 @@ impl<L: Layout, W: KeptWords> KeptQueue<'_, L, W> {
 
     /// Whether the head and the tail are sound.
     pub(crate) fn are_ends_sound(&self, place: &[u32]) -> bool
-        requires chain { ChainIsSound self.now.shape (kept_of self.now) }
+        requires chain { ChainIsSoundIn self.now.form self.now.shape (kept_of self.now) }
         requires order { IsOrder self.now.shape (kept_of self.now) (λ n. slice_index place.now n) }
         ensures { IsTrue result ↔ EndsAreSound self.now.shape (kept_of self.now) }
     {

@@ -6,7 +6,7 @@ ghost use Rattle.arena.specs.Shape.{greatest};
 ghost use Rattle.arena.specs.Words.{entry_kinds, entry_nodes};
 ghost use Rattle.words.specs.declared.call.Kind.TheVariants.{Log};
 ghost use Rattle.recover.specs.Kept.{kept_of};
-ghost use Rattle.recover.specs.Sound.{ChainIsSound, ClaimsAreSound, EndsAreSound, EntriesAreSound, LogIsSound, IsAnnounced, IsOwn, IsOfSomeCall, StatusIsSound, RemovedIsSound};
+ghost use Rattle.recover.specs.Sound.{ChainIsSoundIn, ClaimsAreSoundIn, EndsAreSound, EntriesAreSound, LogIsSound, IsAnnounced, IsOwn, IsOfSomeCall, StatusIsSound, RemovedIsSound};
 ghost use Rattle.recover.specs.Order.{IsPlaceTable, IsTokenTable, IsInsertedIfOn, EntryTells, ClaimIsToldInEntry};
 
 use crate::chain::has_place;
@@ -108,7 +108,7 @@ impl<L: Layout, W: KeptWords> KeptQueue<'_, L, W> {
     /// Whether an entry's status is right: 1 where its node is on the chain, 2 where it claims nothing.
     fn is_status_sound(&self, place: &[u32], claimed: &[u32], entry: u32) -> bool
         requires log { self.now.shape.kind ≡ Log }
-        requires chain { ChainIsSound self.now.shape (kept_of self.now) }
+        requires chain { ChainIsSoundIn self.now.form self.now.shape (kept_of self.now) }
         requires places { IsPlaceTable self.now.shape (kept_of self.now) place.now }
         requires tokens { IsTokenTable self.now.shape (kept_of self.now) claimed.now }
         requires entry { IsRecord self.now.shape entry }
@@ -146,7 +146,7 @@ impl<L: Layout, W: KeptWords> KeptQueue<'_, L, W> {
     /// Whether an entry's kind, status and node word are right.
     fn is_entry_sound(&self, place: &[u32], claimed: &[u32], entry: u32) -> bool
         requires log { self.now.shape.kind ≡ Log }
-        requires chain { ChainIsSound self.now.shape (kept_of self.now) }
+        requires chain { ChainIsSoundIn self.now.form self.now.shape (kept_of self.now) }
         requires places { IsPlaceTable self.now.shape (kept_of self.now) place.now }
         requires tokens { IsTokenTable self.now.shape (kept_of self.now) claimed.now }
         requires entry { IsRecord self.now.shape entry }
@@ -168,7 +168,7 @@ impl<L: Layout, W: KeptWords> KeptQueue<'_, L, W> {
     /// Whether so it is of each entry.
     fn are_entries_right(&self, place: &[u32], claimed: &[u32]) -> bool
         requires log { self.now.shape.kind ≡ Log }
-        requires chain { ChainIsSound self.now.shape (kept_of self.now) }
+        requires chain { ChainIsSoundIn self.now.form self.now.shape (kept_of self.now) }
         requires places { IsPlaceTable self.now.shape (kept_of self.now) place.now }
         requires tokens { IsTokenTable self.now.shape (kept_of self.now) claimed.now }
         ensures { IsTrue result
@@ -186,8 +186,8 @@ impl<L: Layout, W: KeptWords> KeptQueue<'_, L, W> {
     /// Whether the node is unclaimed, or its claim is a dequeue's and, once the head has passed the node, tells of one.
     fn is_removal_told(&self, place: &[u32], node: u32) -> bool
         requires log { self.now.shape.kind ≡ Log }
-        requires chain { ChainIsSound self.now.shape (kept_of self.now) }
-        requires claims { ClaimsAreSound self.now.shape (kept_of self.now) }
+        requires chain { ChainIsSoundIn self.now.form self.now.shape (kept_of self.now) }
+        requires claims { ClaimsAreSoundIn self.now.form self.now.shape (kept_of self.now) }
         requires places { IsPlaceTable self.now.shape (kept_of self.now) place.now }
         requires ends { EndsAreSound self.now.shape (kept_of self.now) }
         requires node { IsRecord self.now.shape node }
@@ -210,8 +210,8 @@ impl<L: Layout, W: KeptWords> KeptQueue<'_, L, W> {
     /// Whether so it is of each node but node 0.
     fn are_removals_told(&self, place: &[u32]) -> bool
         requires log { self.now.shape.kind ≡ Log }
-        requires chain { ChainIsSound self.now.shape (kept_of self.now) }
-        requires claims { ClaimsAreSound self.now.shape (kept_of self.now) }
+        requires chain { ChainIsSoundIn self.now.form self.now.shape (kept_of self.now) }
+        requires claims { ClaimsAreSoundIn self.now.form self.now.shape (kept_of self.now) }
         requires places { IsPlaceTable self.now.shape (kept_of self.now) place.now }
         requires ends { EndsAreSound self.now.shape (kept_of self.now) }
         ensures { IsTrue result
@@ -229,8 +229,8 @@ impl<L: Layout, W: KeptWords> KeptQueue<'_, L, W> {
     /// Whether the logs and entries of a log queue are sound.
     pub(crate) fn are_entries_sound(&self, place: &[u32], claimed: &[u32]) -> bool
         requires log { self.now.shape.kind ≡ Log }
-        requires chain { ChainIsSound self.now.shape (kept_of self.now) }
-        requires claims { ClaimsAreSound self.now.shape (kept_of self.now) }
+        requires chain { ChainIsSoundIn self.now.form self.now.shape (kept_of self.now) }
+        requires claims { ClaimsAreSoundIn self.now.form self.now.shape (kept_of self.now) }
         requires places { IsPlaceTable self.now.shape (kept_of self.now) place.now }
         requires tokens { IsTokenTable self.now.shape (kept_of self.now) claimed.now }
         requires ends { EndsAreSound self.now.shape (kept_of self.now) }

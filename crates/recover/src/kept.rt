@@ -1,46 +1,75 @@
 //! A queue as its kept words have it.
 
 ghost use Rattle.std.specs.Prelude.{◌≡◌, ◌≤◌, ◌↔◌, length, slice_index, IsTrue};
-ghost use Rattle.arena.specs.Layout.{size_of};
+ghost use Rattle.arena.specs.Form.{running};
+ghost use Rattle.arena.specs.Layout.{size_in, size_of};
 ghost use Rattle.arena.specs.Limits.{AreCounts};
-ghost use Rattle.arena.specs.Place.{IsNode, IsPlace};
-ghost use Rattle.arena.specs.Words.{part_at, HoldsItem, IsBlankItem};
+ghost use Rattle.arena.specs.Place.{IsNode, IsPlaceIn};
+ghost use Rattle.arena.specs.Words.{part_at, HoldsIn, IsBlankItemIn};
+ghost use Rattle.arena.specs.declared.form.Form.TheVariants.{OfItems, OfValues};
 ghost use Rattle.arena.specs.declared.place.Part.TheVariants.{Length, First, Second, Third};
 ghost use Rattle.arena.specs.Shape.{greatest};
 ghost use Rattle.recover.specs.Kept.{kept_of};
 ghost use Rattle.recover.specs.Sound.{IsIssued};
 
-use arena::{Layout, Part, Place};
+use arena::{Form, Layout, Part, Place, word_of_values};
 use persist::KeptWords;
 use std::marker::Model;
 use words::{Client, Item, Kind, MAX_RECORD_NUMBER, NodeId};
 
-/// Kept words that have room for a queue of this layout, to look at. It borrows them, and looking is no access.
+/// Kept words that have room for a queue of this layout, to look at. It borrows them, and looking is no access. In the
+/// form of values the layout says the kind and the counts alone.
 #[derive(Drop)]
 pub struct KeptQueue<'a, L: Layout, W: KeptWords> {
+    form: Form,
     layout: &'a L,
     words: &'a W,
 }
 
 impl<'a, L: Layout, W: KeptWords> Model for KeptQueue<'a, L, W> {
     ghost use Rattle.std.specs.Prelude.{◌≤◌, length};
-    ghost use Rattle.arena.specs.Layout.{size_of};
+    ghost use Rattle.arena.specs.Layout.{size_in};
     ghost use Rattle.recover.specs.Kept.{Kept};
 
     ghost Value = { Kept };
 
-    ghost view = { λ q. record { shape = L.shape q.layout.now; words = W.kept_words q.words.now } };
+    ghost view = { λ q. record {
+        form = q.form; shape = L.shape q.layout.now; words = W.kept_words q.words.now } };
 
-    ghost invariant = { λ q. size_of (L.shape q.layout.now) ≤ length (W.kept_words q.words.now) };
+    ghost invariant = { λ q. size_in q.form (L.shape q.layout.now) ≤ length (W.kept_words q.words.now) };
 }
 
 impl<'a, L: Layout, W: KeptWords> KeptQueue<'a, L, W> {
     /// The queue that these words are of.
     pub fn new(layout: &'a L, words: &'a W) -> Self
         requires { size_of (L.shape layout.now) ≤ length (W.kept_words words.now) }
-        ensures { result ≡ record { shape = L.shape layout.now; words = W.kept_words words.now } }
+        ensures { result ≡ record {
+            form = running; shape = L.shape layout.now; words = W.kept_words words.now } }
     {
-        KeptQueue { layout, words }
+        KeptQueue {
+            form: Form::OfItems,
+            layout,
+            words,
+        }
+    }
+
+    /// The queue that these words are of in the form of values.
+    pub fn of_values(layout: &'a L, words: &'a W) -> Self
+        requires { size_in OfValues (L.shape layout.now) ≤ length (W.kept_words words.now) }
+        ensures { result ≡ record {
+            form = OfValues; shape = L.shape layout.now; words = W.kept_words words.now } }
+    {
+        KeptQueue {
+            form: Form::OfValues,
+            layout,
+            words,
+        }
+    }
+
+    pub(crate) fn form(&self) -> Form
+        ensures { result ≡ self.now.form }
+    {
+        self.form
     }
 
     pub(crate) fn kind(&self) -> Kind
@@ -65,17 +94,21 @@ impl<'a, L: Layout, W: KeptWords> KeptQueue<'a, L, W> {
 
     /// The kept word of a place.
     pub fn kept_at(&self, place: Place) -> u64
-        requires { IsPlace self.now.shape place }
+        requires { IsPlaceIn self.now.form self.now.shape place }
         ensures value { result ≡ kept_of self.now place }
         ensures few { greatest self.now.shape ≤ MAX_RECORD_NUMBER }
     {
-        let word = self.layout.word(place);
+        let word = match self.form {
+            Form::OfValues => word_of_values(self.layout, place),
+            Form::OfItems => self.layout.word(place),
+        };
         self.words.kept(word)
     }
 
     /// The kept words of a node's message: its length and three words.
-    pub fn kept_parts(&self, node: NodeId) -> [u64; 4]
-        requires { IsNode self.now.shape node.0 }
+    pub(crate) fn kept_parts(&self, node: NodeId) -> [u64; 4]
+        requires items { self.now.form ≡ OfItems }
+        requires node { IsNode self.now.shape node.0 }
         ensures len { slice_index result 0 ≡ part_at (kept_of self.now) node.0 Length }
         ensures first { slice_index result 1 ≡ part_at (kept_of self.now) node.0 First }
         ensures second { slice_index result 2 ≡ part_at (kept_of self.now) node.0 Second }
@@ -89,21 +122,34 @@ impl<'a, L: Layout, W: KeptWords> KeptQueue<'a, L, W> {
         ]
     }
 
-    /// Whether they are an item's.
+    /// The kept word of a node's value.
+    pub(crate) fn kept_value_word(&self, node: NodeId) -> u64
+        requires { IsNode self.now.shape node.0 }
+        ensures { result ≡ part_at (kept_of self.now) node.0 First }
+    {
+        self.kept_at(Place::Item(node, Part::First))
+    }
+
+    /// Whether the words of a node's message are a message's.
     pub(crate) fn holds_item(&self, node: NodeId) -> bool
         requires { IsNode self.now.shape node.0 }
-        ensures { IsTrue result ↔ HoldsItem (kept_of self.now) node.0 }
+        ensures { IsTrue result ↔ HoldsIn self.now.form (kept_of self.now) node.0 }
     {
-        Item::are_parts(self.kept_parts(node))
+        match self.form {
+            Form::OfValues => self.kept_value_word(node) <= u32::MAX as u64,
+            Form::OfItems => Item::are_parts(self.kept_parts(node)),
+        }
     }
 
     /// Whether each of them is 0.
     pub(crate) fn has_no_item(&self, node: NodeId) -> bool
         requires { IsNode self.now.shape node.0 }
-        ensures { IsTrue result ↔ IsBlankItem (kept_of self.now) node.0 }
+        ensures { IsTrue result ↔ IsBlankItemIn self.now.form (kept_of self.now) node.0 }
     {
-        let [len, first, second, third] = self.kept_parts(node);
-        len == 0 && first == 0 && second == 0 && third == 0
+        match self.form {
+            Form::OfValues => self.kept_value_word(node) == 0,
+            Form::OfItems => self.kept_parts(node) == [0; 4],
+        }
     }
 
     /// Whether a client used the record with this number.

@@ -5,7 +5,7 @@ ghost use Rattle.arena.specs.Place.{IsPlace, IsRecord, IsClient};
 ghost use Rattle.arena.specs.Words.{bumps};
 ghost use Rattle.words.specs.declared.call.Kind.TheVariants.{Durable, Log};
 ghost use Rattle.recover.specs.Kept.{kept_of};
-ghost use Rattle.recover.specs.Sound.{IsBlank, IsBlankEntry, IsBlankIfUnused, RecordsAreSound};
+ghost use Rattle.recover.specs.Sound.{IsBlankRecordIn, IsBlankEntry, IsBlankIfUnusedIn, RecordsAreSoundIn};
 
 use crate::kept::KeptQueue;
 use arena::{Layout, Place};
@@ -51,7 +51,7 @@ impl<L: Layout, W: KeptWords> KeptQueue<'_, L, W> {
     /// Whether every word of a record and of its node is 0.
     fn is_blank(&self, number: u32) -> bool
         requires record_number { IsRecord self.now.shape number }
-        ensures { IsTrue result ↔ IsBlank self.now.shape (kept_of self.now) number }
+        ensures { IsTrue result ↔ IsBlankRecordIn self.now.form self.now.shape (kept_of self.now) number }
     {
         let node = NodeId(number);
         if !self.has_no_item(node) {
@@ -72,7 +72,7 @@ impl<L: Layout, W: KeptWords> KeptQueue<'_, L, W> {
     /// Whether the record is used or blank.
     fn is_blank_if_unused(&self, number: u32) -> bool
         requires record_number { IsRecord self.now.shape number }
-        ensures { IsTrue result ↔ IsBlankIfUnused self.now.shape (kept_of self.now) number }
+        ensures { IsTrue result ↔ IsBlankIfUnusedIn self.now.form self.now.shape (kept_of self.now) number }
     {
         if self.is_issued(number as u64) {
             return true;
@@ -82,7 +82,7 @@ impl<L: Layout, W: KeptWords> KeptQueue<'_, L, W> {
 
     /// Whether no client used more records than it has, and those that are not used are blank.
     pub(crate) fn are_records_sound(&self) -> bool
-        ensures { IsTrue result ↔ RecordsAreSound self.now.shape (kept_of self.now) }
+        ensures { IsTrue result ↔ RecordsAreSoundIn self.now.form self.now.shape (kept_of self.now) }
     {
         if !self.are_within() {
             return false;

@@ -1,18 +1,18 @@
 //! Whether the rows and cells of a durable queue are sound.
 
 ghost use Rattle.std.specs.Prelude.{◌≡◌, ◌≢◌, ℕ, ◌≤◌, ◌<◌, ◌↔◌, ◌⊎◌, length, slice_index, IsTrue};
-ghost use Rattle.arena.specs.Place.{IsPlace, IsRecord, IsClient};
+ghost use Rattle.arena.specs.Place.{IsNode, IsRecord, IsClient};
 ghost use Rattle.arena.specs.Shape.{greatest};
 ghost use Rattle.arena.specs.Words.{links};
 ghost use Rattle.arena.specs.Chain.{LeadsTo};
 ghost use Rattle.arena.specs.declared.place.Place.TheVariants.{Head};
 ghost use Rattle.words.specs.declared.call.Kind.TheVariants.{Durable};
 ghost use Rattle.recover.specs.Kept.{kept_of};
-ghost use Rattle.recover.specs.Sound.{ChainIsSound, ClaimsAreSound, EndsAreSound, RowsAreSound, RowIsSound, IsOwn};
-ghost use Rattle.recover.specs.Order.{IsPlaceTable, IsTokenTable, CellTells, ClaimIsToldInCell};
+ghost use Rattle.recover.specs.Sound.{ChainIsSoundIn, ClaimsAreSoundIn, EndsAreSound, RowsAreSoundIn, RowIsSound, IsOwn, named_in};
+ghost use Rattle.recover.specs.Order.{IsPlaceTable, IsTokenTable, CellTellsIn, ClaimIsToldInCell};
 
 use crate::kept::KeptQueue;
-use arena::{EMPTY_CELL, GOT_CELL, Layout, Place};
+use arena::{EMPTY_CELL, Form, GOT_CELL, Layout, Place};
 use persist::KeptWords;
 use words::{Client, NodeId, Token};
 
@@ -29,7 +29,7 @@ impl<L: Layout, W: KeptWords> KeptQueue<'_, L, W> {
 
     /// Whether the head is at this node of the chain, or after it.
     pub(crate) fn is_passed(&self, place: &[u32], node: u32) -> bool
-        requires chain { ChainIsSound self.now.shape (kept_of self.now) }
+        requires chain { ChainIsSoundIn self.now.form self.now.shape (kept_of self.now) }
         requires places { IsPlaceTable self.now.shape (kept_of self.now) place.now }
         requires ends { EndsAreSound self.now.shape (kept_of self.now) }
         requires node { slice_index place.now node ≢ 0 }
@@ -64,13 +64,24 @@ impl<L: Layout, W: KeptWords> KeptQueue<'_, L, W> {
         true
     }
 
+    /// What a cell says past GOT_CELL of the node that it claims.
+    fn named(&self, node: NodeId) -> u64
+        requires { IsNode self.now.shape node.0 }
+        ensures { result ≡ named_in self.now.form (kept_of self.now) node.0 }
+    {
+        match self.form() {
+            Form::OfValues => self.kept_value_word(node),
+            Form::OfItems => node.0 as u64,
+        }
+    }
+
     /// Whether the cell names no node, or one that it claims.
     fn is_result_sound(&self, claimed: &[u32], cell: u32) -> bool
         requires durable { self.now.shape.kind ≡ Durable }
-        requires chain { ChainIsSound self.now.shape (kept_of self.now) }
+        requires chain { ChainIsSoundIn self.now.form self.now.shape (kept_of self.now) }
         requires tokens { IsTokenTable self.now.shape (kept_of self.now) claimed.now }
         requires cell { IsRecord self.now.shape cell }
-        ensures { IsTrue result ↔ CellTells self.now.shape (kept_of self.now) cell }
+        ensures { IsTrue result ↔ CellTellsIn self.now.form self.now.shape (kept_of self.now) cell }
     {
         let answer = self.kept_at(Place::Cell(Token(cell)));
         if answer < GOT_CELL {
@@ -80,16 +91,16 @@ impl<L: Layout, W: KeptWords> KeptQueue<'_, L, W> {
         if node == 0 {
             return false;
         }
-        node as u64 == answer - GOT_CELL
+        self.named(NodeId(node)) == answer - GOT_CELL
     }
 
     /// Whether so it is of each cell.
     fn are_results_sound(&self, claimed: &[u32]) -> bool
         requires durable { self.now.shape.kind ≡ Durable }
-        requires chain { ChainIsSound self.now.shape (kept_of self.now) }
+        requires chain { ChainIsSoundIn self.now.form self.now.shape (kept_of self.now) }
         requires tokens { IsTokenTable self.now.shape (kept_of self.now) claimed.now }
         ensures { IsTrue result
-            ↔ ((c : ℕ) → IsRecord self.now.shape c → CellTells self.now.shape (kept_of self.now) c) }
+            ↔ ((c : ℕ) → IsRecord self.now.shape c → CellTellsIn self.now.form self.now.shape (kept_of self.now) c) }
     {
         let greatest = self.clients() * self.records();
         for cell in 1..greatest + 1 {
@@ -104,8 +115,8 @@ impl<L: Layout, W: KeptWords> KeptQueue<'_, L, W> {
     /// open.
     fn is_claim_told(&self, place: &[u32], node: u32) -> bool
         requires durable { self.now.shape.kind ≡ Durable }
-        requires chain { ChainIsSound self.now.shape (kept_of self.now) }
-        requires claims { ClaimsAreSound self.now.shape (kept_of self.now) }
+        requires chain { ChainIsSoundIn self.now.form self.now.shape (kept_of self.now) }
+        requires claims { ClaimsAreSoundIn self.now.form self.now.shape (kept_of self.now) }
         requires places { IsPlaceTable self.now.shape (kept_of self.now) place.now }
         requires ends { EndsAreSound self.now.shape (kept_of self.now) }
         requires node { IsRecord self.now.shape node }
@@ -125,8 +136,8 @@ impl<L: Layout, W: KeptWords> KeptQueue<'_, L, W> {
     /// Whether so it is of each node but node 0.
     fn are_claims_told(&self, place: &[u32]) -> bool
         requires durable { self.now.shape.kind ≡ Durable }
-        requires chain { ChainIsSound self.now.shape (kept_of self.now) }
-        requires claims { ClaimsAreSound self.now.shape (kept_of self.now) }
+        requires chain { ChainIsSoundIn self.now.form self.now.shape (kept_of self.now) }
+        requires claims { ClaimsAreSoundIn self.now.form self.now.shape (kept_of self.now) }
         requires places { IsPlaceTable self.now.shape (kept_of self.now) place.now }
         requires ends { EndsAreSound self.now.shape (kept_of self.now) }
         ensures { IsTrue result
@@ -144,12 +155,12 @@ impl<L: Layout, W: KeptWords> KeptQueue<'_, L, W> {
     /// Whether the rows and cells of a durable queue are sound.
     pub(crate) fn are_rows_sound(&self, place: &[u32], claimed: &[u32]) -> bool
         requires durable { self.now.shape.kind ≡ Durable }
-        requires chain { ChainIsSound self.now.shape (kept_of self.now) }
-        requires claims { ClaimsAreSound self.now.shape (kept_of self.now) }
+        requires chain { ChainIsSoundIn self.now.form self.now.shape (kept_of self.now) }
+        requires claims { ClaimsAreSoundIn self.now.form self.now.shape (kept_of self.now) }
         requires places { IsPlaceTable self.now.shape (kept_of self.now) place.now }
         requires tokens { IsTokenTable self.now.shape (kept_of self.now) claimed.now }
         requires ends { EndsAreSound self.now.shape (kept_of self.now) }
-        ensures { IsTrue result ↔ RowsAreSound self.now.shape (kept_of self.now) }
+        ensures { IsTrue result ↔ RowsAreSoundIn self.now.form self.now.shape (kept_of self.now) }
     {
         if !self.are_rows_own() {
             return false;

@@ -1,12 +1,15 @@
 //! Whether kept words are sound.
 
 ghost use Rattle.std.specs.Prelude.{◌≡◌, ◌≢◌, ℕ, ◌≤◌, ◌<◌, ◌↔◌, length, slice_index, IsTrue, IsOk, IfErr, MatchOption};
+ghost use Rattle.arena.specs.Broker.{block_size_in};
+ghost use Rattle.arena.specs.Layout.{size_in};
 ghost use Rattle.arena.specs.Shape.{greatest};
+ghost use Rattle.arena.specs.declared.form.Form.TheVariants.{OfValues};
 ghost use Rattle.recover.specs.Kept.{kept_of};
-ghost use Rattle.recover.specs.Sound.{SizeIsSound, RecordsAreSound, AreSoundWords, IsFirstBroken, IsDamaged};
+ghost use Rattle.recover.specs.Sound.{SizeIsSoundIn, RecordsAreSoundIn, AreSoundWords, AreSoundWordsIn, IsFirstBrokenIn, IsDamaged, IsDamagedIn};
 
 use crate::kept::KeptQueue;
-use arena::{Layout, block_size};
+use arena::{Form, Layout, block_size, block_size_of_values, size_of_values};
 use persist::KeptWords;
 use words::{Kind, MAX_RECORD_NUMBER, Refusal, Rule};
 
@@ -26,13 +29,28 @@ fn is_rest_zero<W: KeptWords>(words: &W, from: usize) -> bool
     true
 }
 
-/// Whether there are as many words as the layout has, or they are a broker's block with zeros past them.
-fn is_size_sound<L: Layout, W: KeptWords>(layout: &L, words: &W) -> bool
-    ensures sound { IsTrue result ↔ SizeIsSound (L.shape layout.now) (W.kept_words words.now) }
+/// How many words a queue has in this form, and how many a broker's block.
+fn sizes<L: Layout>(form: Form, layout: &L) -> (usize, usize)
+    ensures size { result.0 ≡ size_in form (L.shape layout.now) }
+    ensures block { result.1 ≡ block_size_in form (L.shape layout.now).clients (L.shape layout.now).records }
     ensures few { greatest (L.shape layout.now) ≤ MAX_RECORD_NUMBER }
 {
-    let size = layout.size();
-    let block = block_size(layout.clients(), layout.records());
+    let (clients, records) = (layout.clients(), layout.records());
+    match form {
+        Form::OfValues => (
+            size_of_values(layout),
+            block_size_of_values(clients, records),
+        ),
+        Form::OfItems => (layout.size(), block_size(clients, records)),
+    }
+}
+
+/// Whether there are as many words as the layout has, or they are a broker's block with zeros past them.
+fn is_size_sound<L: Layout, W: KeptWords>(form: Form, layout: &L, words: &W) -> bool
+    ensures sound { IsTrue result ↔ SizeIsSoundIn form (L.shape layout.now) (W.kept_words words.now) }
+    ensures few { greatest (L.shape layout.now) ≤ MAX_RECORD_NUMBER }
+{
+    let (size, block) = sizes(form, layout);
     let count = words.size();
     if count == size {
         return true;
@@ -46,14 +64,14 @@ fn is_size_sound<L: Layout, W: KeptWords>(layout: &L, words: &W) -> bool
 impl<L: Layout, W: KeptWords> KeptQueue<'_, L, W> {
     /// The first broken rule of those on the chain and after, where those before it hold.
     fn broken_past_records(&self, place: &mut [u32], claimed: &mut [u32]) -> Option<Rule>
-        requires count { SizeIsSound self.now.shape self.now.words }
-        requires records { RecordsAreSound self.now.shape (kept_of self.now) }
+        requires count { SizeIsSoundIn self.now.form self.now.shape self.now.words }
+        requires records { RecordsAreSoundIn self.now.form self.now.shape (kept_of self.now) }
         requires places { greatest self.now.shape < length place.old }
         requires no_place { (n : ℕ) → slice_index place.old n ≡ 0 }
         requires tokens { greatest self.now.shape < length claimed.old }
         requires no_token { (n : ℕ) → slice_index claimed.old n ≡ 0 }
-        ensures { MatchOption result (AreSoundWords self.now.shape self.now.words)
-            (λ rule. IsFirstBroken self.now.shape self.now.words rule) }
+        ensures { MatchOption result (AreSoundWordsIn self.now.form self.now.shape self.now.words)
+            (λ rule. IsFirstBrokenIn self.now.form self.now.shape self.now.words rule) }
     {
         // A link back would keep recovery walking for ever, and a link to an unused record would put a value into the
         // queue before its enqueue took effect: `a_broker_with_two_queues` of test_hostile.
@@ -91,16 +109,31 @@ impl<L: Layout, W: KeptWords> KeptQueue<'_, L, W> {
     }
 }
 
+/// The queue that these words are of, in this form.
+fn queue_of<'a, L: Layout, W: KeptWords>(
+    form: Form,
+    layout: &'a L,
+    words: &'a W,
+) -> KeptQueue<'a, L, W>
+    requires { size_in form (L.shape layout.now) ≤ length (W.kept_words words.now) }
+    ensures { result ≡ record { form = form; shape = L.shape layout.now; words = W.kept_words words.now } }
+{
+    match form {
+        Form::OfValues => KeptQueue::of_values(layout, words),
+        Form::OfItems => KeptQueue::new(layout, words),
+    }
+}
+
 /// The first broken rule.
-fn first_broken<L: Layout, W: KeptWords>(layout: &L, words: &W) -> Option<Rule>
-    ensures { MatchOption result (AreSoundWords (L.shape layout.now) (W.kept_words words.now))
-        (λ rule. IsFirstBroken (L.shape layout.now) (W.kept_words words.now) rule) }
+fn first_broken<L: Layout, W: KeptWords>(form: Form, layout: &L, words: &W) -> Option<Rule>
+    ensures { MatchOption result (AreSoundWordsIn form (L.shape layout.now) (W.kept_words words.now))
+        (λ rule. IsFirstBrokenIn form (L.shape layout.now) (W.kept_words words.now) rule) }
 {
     // With words missing, a place would have no word; with a word too many that is not 0, it is another layout's.
-    if !is_size_sound(layout, words) {
+    if !is_size_sound(form, layout, words) {
         return Some(Rule::Size);
     }
-    let queue = KeptQueue::new(layout, words);
+    let queue = queue_of(form, layout, words);
     // A start trusts that its client's next record is all zero: a link or a claim that stood there would take effect
     // with the call.
     if !queue.are_records_sound() {
@@ -117,7 +150,18 @@ pub fn sound<L: Layout, W: KeptWords>(layout: &L, words: &W) -> Result<(), Refus
     ensures ok { IsOk result ↔ AreSoundWords (L.shape layout.now) (W.kept_words words.now) }
     ensures damaged { IfErr result (λ e. IsDamaged (L.shape layout.now) (W.kept_words words.now) e) }
 {
-    match first_broken(layout, words) {
+    match first_broken(Form::OfItems, layout, words) {
+        None => Ok(()),
+        Some(rule) => Err(Refusal::Damaged(rule)),
+    }
+}
+
+/// Whether they were, in the form of values. The layout says the kind and the counts alone.
+pub fn sound_values<L: Layout, W: KeptWords>(layout: &L, words: &W) -> Result<(), Refusal>
+    ensures ok { IsOk result ↔ AreSoundWordsIn OfValues (L.shape layout.now) (W.kept_words words.now) }
+    ensures damaged { IfErr result (λ e. IsDamagedIn OfValues (L.shape layout.now) (W.kept_words words.now) e) }
+{
+    match first_broken(Form::OfValues, layout, words) {
         None => Ok(()),
         Some(rule) => Err(Refusal::Damaged(rule)),
     }

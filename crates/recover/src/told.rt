@@ -4,6 +4,7 @@ ghost use Rattle.std.specs.Prelude.{◌≡◌, ℕ, ◌≤◌, Bool, false, leng
 ghost use Rattle.arena.specs.Place.{IsClient, IsNode, IsRecord};
 ghost use Rattle.arena.specs.Words.{values};
 ghost use Rattle.arena.specs.Content.{chain_of};
+ghost use Rattle.arena.specs.declared.form.Form.TheVariants.{OfItems};
 ghost use Rattle.words.specs.declared.call.Kind.TheVariants.{Durable, Log};
 ghost use Rattle.recover.specs.Kept.{kept_in, kept_of};
 ghost use Rattle.recover.specs.Sound.{IsSound, AreSoundWords};
@@ -71,6 +72,7 @@ impl<L: Layout, W: KeptWords> KeptQueue<'_, L, W> {
 
     /// The message of a node.
     fn kept_value(&self, node: NodeId) -> Value
+        requires items { self.now.form ≡ OfItems }
         requires node { IsNode self.now.shape node.0 }
         ensures { result ≡ values (kept_of self.now) node.0 }
     {
@@ -79,6 +81,7 @@ impl<L: Layout, W: KeptWords> KeptQueue<'_, L, W> {
 
     /// What the durable queue's client is told whose dequeue has this cell.
     fn row(&self, cell: Token, claimed: u32) -> Row
+        requires items { self.now.form ≡ OfItems }
         requires sound { IsSound self.now.shape (kept_of self.now) }
         requires durable { self.now.shape.kind ≡ Durable }
         requires cell { IsRecord self.now.shape cell.0 }
@@ -98,6 +101,7 @@ impl<L: Layout, W: KeptWords> KeptQueue<'_, L, W> {
 
     /// What became of the log queue's call that has this entry.
     fn outcome(&self, entry: Token, on_chain: bool, claimed: u32) -> Outcome
+        requires items { self.now.form ≡ OfItems }
         requires sound { IsSound self.now.shape (kept_of self.now) }
         requires log { self.now.shape.kind ≡ Log }
         requires entry { IsRecord self.now.shape entry.0 }
@@ -122,6 +126,7 @@ impl<L: Layout, W: KeptWords> KeptQueue<'_, L, W> {
 
     /// What the client is told.
     fn told_of(&self, client: Client, on_chain: bool, claimed: u32) -> Told
+        requires items { self.now.form ≡ OfItems }
         requires sound { IsSound self.now.shape (kept_of self.now) }
         requires client { IsClient self.now.shape client.0 }
         requires seen { IsSeenOf self.now.shape (kept_of self.now) client.0 on_chain claimed }
@@ -142,7 +147,8 @@ impl<L: Layout, W: KeptWords> KeptQueue<'_, L, W> {
 
     /// What each client is told.
     fn reports(&self) -> Reports
-        requires { IsSound self.now.shape (kept_of self.now) }
+        requires items { self.now.form ≡ OfItems }
+        requires sound { IsSound self.now.shape (kept_of self.now) }
         ensures { result ≡ tells_by self.now.shape (kept_of self.now) }
     {
         let mut on_chain = [false; MAX_CLIENTS];
