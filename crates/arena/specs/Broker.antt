@@ -1,5 +1,5 @@
 -- The words of a broker: a head, a directory of its slots, and a block for the queue of each slot.
-use Rattle.std.specs.Prelude.{ℕ, ◌+◌, ◌*◌, ◌-◌, ◌/◌, ◌%◌, ◌<◌, Option, Some, None, ◌==◌, nat_lt, if◌then◌else◌}
+use Rattle.std.specs.Prelude.{ℕ, List, take, drop, ◌+◌, ◌*◌, ◌-◌, ◌/◌, ◌%◌, ◌<◌, Option, Some, None, ◌==◌, nat_lt, if◌then◌else◌}
 use Rattle.arena.specs.Shape.{Counts}
 use Rattle.arena.specs.declared.form.Form.{Form}
 use Rattle.arena.specs.declared.form.Form.TheVariants.{OfItems, OfValues}
@@ -20,6 +20,17 @@ block_size_in OfValues clients records = 6 + 2 * clients + 8 * (clients * record
 abbrev pub directory_from : ℕ → ℕ
 directory_from slot = HEAD_WORDS + DIRECTORY_WORDS * slot
 
+abbrev pub block_from_in : Form → Counts → ℕ → ℕ
+block_from_in form c slot = BLOCKS_FROM + slot * block_size_in form c.clients c.records
+
+abbrev pub broker_size_in : Form → Counts → ℕ
+broker_size_in form c = BLOCKS_FROM + SLOTS * block_size_in form c.clients c.records
+
+-- the words of a slot's block
+abbrev pub block_in : Form → Counts → ℕ → List ℕ → List ℕ
+block_in form c slot ws = take (block_size_in form c.clients c.records) (drop (block_from_in form c slot) ws)
+
+-- in the form that queues run in
 abbrev pub block_from : Counts → ℕ → ℕ
 block_from c slot = BLOCKS_FROM + slot * block_size_of c.clients c.records
 

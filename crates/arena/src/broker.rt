@@ -5,11 +5,13 @@ ghost use Rattle.words.specs.declared.call.Kind.TheVariants.{Durable, Log};
 ghost use Rattle.arena.specs.Shape.{shape_of};
 ghost use Rattle.arena.specs.Limits.{AreCounts};
 ghost use Rattle.arena.specs.Layout.{size_of};
-ghost use Rattle.arena.specs.Broker.{block_size_of, block_from, broker_size, broker_word, broker_place, directory_from, directory_place, IsBrokerPlace};
+ghost use Rattle.arena.specs.Broker.{block_from_in, block_size_in, broker_size_in, block_size_of, block_from, broker_size, broker_word, broker_place, directory_from, directory_place, IsBrokerPlace};
 
 use crate::durable::DurableLayout;
+use crate::form::Form;
 use crate::layout::{MAX_LAYOUT_WORDS, check_counts};
 use crate::log::LogLayout;
+use crate::values::block_size_of_values;
 use std::marker::Model;
 use words::{MAX_CLIENTS, MAX_RECORDS, Refusal};
 
@@ -131,6 +133,35 @@ impl BrokerLayout {
         ensures small { result ≤ MAX_LAYOUT_WORDS }
     {
         block_size(self.clients, self.records)
+    }
+
+    /// How many words there are in this form.
+    pub fn size_in(&self, form: Form) -> usize
+        ensures value { result ≡ broker_size_in form self.now }
+        ensures small { result ≤ MAX_BROKER_WORDS }
+    {
+        BLOCKS_FROM + SLOTS * self.block_size_in(form)
+    }
+
+    /// How many words each block has in this form.
+    pub fn block_size_in(&self, form: Form) -> usize
+        ensures value { result ≡ block_size_in form self.now.clients self.now.records }
+        ensures small { result ≤ MAX_LAYOUT_WORDS }
+    {
+        match form {
+            Form::OfValues => block_size_of_values(self.clients, self.records),
+            Form::OfItems => block_size(self.clients, self.records),
+        }
+    }
+
+    /// The word at which a slot's block begins in this form.
+    #[tactic(auto, using(crate::proofs::BrokerWords::block_ends))]
+    pub fn block_in(&self, form: Form, slot: SlotId) -> usize
+        requires { slot.0 < SLOTS }
+        ensures from { result ≡ block_from_in form self.now slot.0 }
+        ensures within { result + block_size_in form self.now.clients self.now.records ≤ broker_size_in form self.now }
+    {
+        BLOCKS_FROM + slot.0 as usize * self.block_size_in(form)
     }
 
     /// The word at which a slot's block begins.

@@ -39,7 +39,8 @@ pub fn size_of_values<L: Layout>(layout: &L) -> usize
 /// How many words a broker's block has: as many as a log queue's layout, the longer of the two.
 pub fn block_size_of_values(clients: u32, records: u32) -> usize
     requires { AreCounts clients records }
-    ensures { result ≡ block_size_in OfValues clients records }
+    ensures value { result ≡ block_size_in OfValues clients records }
+    ensures small { result ≤ MAX_LAYOUT_WORDS }
 {
     let clients = clients as usize;
     6 + 2 * clients + 8 * (clients * records as usize)

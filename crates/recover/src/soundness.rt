@@ -4,7 +4,6 @@ ghost use Rattle.std.specs.Prelude.{◌≡◌, ◌≢◌, ℕ, ◌≤◌, ◌<�
 ghost use Rattle.arena.specs.Broker.{block_size_in};
 ghost use Rattle.arena.specs.Layout.{size_in};
 ghost use Rattle.arena.specs.Shape.{greatest};
-ghost use Rattle.arena.specs.declared.form.Form.TheVariants.{OfValues};
 ghost use Rattle.recover.specs.Kept.{kept_of};
 ghost use Rattle.recover.specs.Sound.{SizeIsSoundIn, RecordsAreSoundIn, AreSoundWords, AreSoundWordsIn, IsFirstBrokenIn, IsDamaged, IsDamagedIn};
 
@@ -144,25 +143,26 @@ fn first_broken<L: Layout, W: KeptWords>(form: Form, layout: &L, words: &W) -> O
     queue.broken_past_records(&mut place, &mut claimed)
 }
 
-/// Whether kept words are those of a queue that recovery can begin with. It takes no memory but for two tables on
-/// the stack, half a megabyte in all, and its cost is linear in the words.
-pub fn sound<L: Layout, W: KeptWords>(layout: &L, words: &W) -> Result<(), Refusal>
-    ensures ok { IsOk result ↔ AreSoundWords (L.shape layout.now) (W.kept_words words.now) }
-    ensures damaged { IfErr result (λ e. IsDamaged (L.shape layout.now) (W.kept_words words.now) e) }
+/// Whether kept words are those of a queue, in this form. The layout says the kind and the counts. It takes no memory
+/// but for two tables on the stack, half a megabyte in all, and its cost is linear in the words.
+pub fn sound_in<L: Layout, W: KeptWords>(
+    form: Form,
+    layout: &L,
+    words: &W,
+) -> Result<(), Refusal>
+    ensures ok { IsOk result ↔ AreSoundWordsIn form (L.shape layout.now) (W.kept_words words.now) }
+    ensures damaged { IfErr result (λ e. IsDamagedIn form (L.shape layout.now) (W.kept_words words.now) e) }
 {
-    match first_broken(Form::OfItems, layout, words) {
+    match first_broken(form, layout, words) {
         None => Ok(()),
         Some(rule) => Err(Refusal::Damaged(rule)),
     }
 }
 
-/// Whether they were, in the form of values. The layout says the kind and the counts alone.
-pub fn sound_values<L: Layout, W: KeptWords>(layout: &L, words: &W) -> Result<(), Refusal>
-    ensures ok { IsOk result ↔ AreSoundWordsIn OfValues (L.shape layout.now) (W.kept_words words.now) }
-    ensures damaged { IfErr result (λ e. IsDamagedIn OfValues (L.shape layout.now) (W.kept_words words.now) e) }
+/// Whether kept words are those of a queue that recovery can begin with.
+pub fn sound<L: Layout, W: KeptWords>(layout: &L, words: &W) -> Result<(), Refusal>
+    ensures ok { IsOk result ↔ AreSoundWords (L.shape layout.now) (W.kept_words words.now) }
+    ensures damaged { IfErr result (λ e. IsDamaged (L.shape layout.now) (W.kept_words words.now) e) }
 {
-    match first_broken(Form::OfValues, layout, words) {
-        None => Ok(()),
-        Some(rule) => Err(Refusal::Damaged(rule)),
-    }
+    sound_in(Form::OfItems, layout, words)
 }
