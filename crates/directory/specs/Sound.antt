@@ -5,7 +5,9 @@ use Rattle.words.specs.declared.refusal.Refusal.TheVariants.{Damaged}
 use Rattle.words.specs.declared.refusal.Rule.TheVariants.{Image, Directory}
 use Rattle.arena.specs.Shape.{Counts}
 use Rattle.arena.specs.Limits.{AreCounts}
-use Rattle.arena.specs.Broker.{broker_size, block_size_of, block_from}
+use Rattle.arena.specs.Broker.{block_from_in, block_size_in, broker_size_in}
+use Rattle.arena.specs.Form.{running}
+use Rattle.arena.specs.declared.form.Form.{Form}
 use Rattle.arena.specs.declared.broker.TheConstants.{SLOTS}
 use Rattle.arena.specs.declared.codes.TheConstants.{CLOSED_GATE}
 use Rattle.directory.specs.Queue.{gate_at, IsOpen, directory_of}
@@ -17,42 +19,61 @@ abbrev pub counts_in : List ℕ → Counts
 counts_in ws = record { clients = slice_index ws 0; records = slice_index ws 1 }
 
 -- they are in range, and there are as many words as their layout has
-pub record HeadIsSound (ws : List ℕ) : Type 0 where
+pub record HeadIsSoundIn (form : Form) (ws : List ℕ) : Type 0 where
   pub counts : AreCounts (slice_index ws 0) (slice_index ws 1)
-  pub size : length ws ≡ broker_size (counts_in ws)
+  pub size : length ws ≡ broker_size_in form (counts_in ws)
 
 -- each word of the block is 0
-abbrev pub IsBlockZero : Counts → List ℕ → ℕ → Type 0
-IsBlockZero c ws slot =
-    (word : ℕ) → word < block_size_of c.clients c.records → slice_index ws (block_from c slot + word) ≡ 0
+abbrev pub IsBlockZeroIn : Form → Counts → List ℕ → ℕ → Type 0
+IsBlockZeroIn form c ws slot = (word : ℕ) → word < block_size_in form c.clients c.records
+    → slice_index ws (block_from_in form c slot + word) ≡ 0
 
 -- a closed slot, with nothing in its block
-pub record IsShut (c : Counts) (ws : List ℕ) (slot : ℕ) : Type 0 where
+pub record IsShutIn (form : Form) (c : Counts) (ws : List ℕ) (slot : ℕ) : Type 0 where
   pub gate : slice_index ws (gate_at slot) ≡ CLOSED_GATE
-  pub block : IsBlockZero c ws slot
+  pub block : IsBlockZeroIn form c ws slot
 
-abbrev pub SlotIsSound : Counts → List ℕ → ℕ → Type 0
-SlotIsSound c ws slot = IsShut c ws slot ⊎ IsOpen ws slot
+abbrev pub SlotIsSoundIn : Form → Counts → List ℕ → ℕ → Type 0
+SlotIsSoundIn form c ws slot = IsShutIn form c ws slot ⊎ IsOpen ws slot
 
 -- each slot is closed, or open with a name and a kind; no two have queues of one name
-pub record DirectoryIsSound (c : Counts) (ws : List ℕ) : Type 0 where
-  pub slots : (slot : ℕ) → slot < SLOTS → SlotIsSound c ws slot
+pub record DirectoryIsSoundIn (form : Form) (c : Counts) (ws : List ℕ) : Type 0 where
+  pub slots : (slot : ℕ) → slot < SLOTS → SlotIsSoundIn form c ws slot
   pub names : IsDirectory (directory_of ws)
 
-pub record AreBrokerWords (ws : List ℕ) : Type 0 where
-  pub head : HeadIsSound ws
-  pub directory : DirectoryIsSound (counts_in ws) ws
+pub record AreBrokerWordsIn (form : Form) (ws : List ℕ) : Type 0 where
+  pub head : HeadIsSoundIn form ws
+  pub directory : DirectoryIsSoundIn form (counts_in ws) ws
 
 -- the words break the rule of the directory, and not that of the head
-pub record HasDirectoryBroken (ws : List ℕ) : Type 0 where
-  pub head : HeadIsSound ws
-  pub broken : DirectoryIsSound (counts_in ws) ws → ⊥
+pub record HasDirectoryBrokenIn (form : Form) (ws : List ℕ) : Type 0 where
+  pub head : HeadIsSoundIn form ws
+  pub broken : DirectoryIsSoundIn form (counts_in ws) ws → ⊥
 
 -- a refusal by the first rule that is broken
+abbrev pub IsBrokerDamagedIn : Form → List ℕ → Refusal → Type 0
+IsBrokerDamagedIn form ws (Damaged Image) = HeadIsSoundIn form ws → ⊥
+IsBrokerDamagedIn form ws (Damaged Directory) = HasDirectoryBrokenIn form ws
+IsBrokerDamagedIn form ws _ = ⊥
+
+-- all this in the form that queues run in
+abbrev pub HeadIsSound : List ℕ → Type 0
+HeadIsSound = HeadIsSoundIn running
+
+abbrev pub IsBlockZero : Counts → List ℕ → ℕ → Type 0
+IsBlockZero = IsBlockZeroIn running
+
+abbrev pub SlotIsSound : Counts → List ℕ → ℕ → Type 0
+SlotIsSound = SlotIsSoundIn running
+
+abbrev pub DirectoryIsSound : Counts → List ℕ → Type 0
+DirectoryIsSound = DirectoryIsSoundIn running
+
+abbrev pub AreBrokerWords : List ℕ → Type 0
+AreBrokerWords = AreBrokerWordsIn running
+
 abbrev pub IsBrokerDamaged : List ℕ → Refusal → Type 0
-IsBrokerDamaged ws (Damaged Image) = HeadIsSound ws → ⊥
-IsBrokerDamaged ws (Damaged Directory) = HasDirectoryBroken ws
-IsBrokerDamaged ws _ = ⊥
+IsBrokerDamaged = IsBrokerDamagedIn running
 
 -- the block of each slot that is free in the directory is kept all 0
 abbrev pub AreFreeBlocksZero : Counts → List ℕ → List (Option Queue) → Type 0

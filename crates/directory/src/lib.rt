@@ -23,4 +23,4 @@ pub use name::{NAME_BYTES, Name, words_spell_names};
 pub use queue::{Places, Queue};
 pub use recovery::{DirectoryPoint, DirectoryRecovery, Recovered};
 pub use slots::Directory;
-pub use soundness::{KeptBroker, sound};
+pub use soundness::{KeptBroker, sound, sound_in};

@@ -36,12 +36,12 @@ none_claimed : (kept : Place → ℕ) (e : ℕ) (ns : List ℕ) → ((at : ℕ) 
 none_claimed kept e [] never = refl
 none_claimed kept e (n ∷ ns) never = rw (ne_eqb (marks kept n) e (never n)) (none_claimed kept e ns never)
 
-among_any : (x : ℕ) (xs : List ℕ) → IsAmong x xs → list_any (nat_eq x) xs ≡ true
+pub among_any : (x : ℕ) (xs : List ℕ) → IsAmong x xs → list_any (nat_eq x) xs ≡ true
 among_any x [] h = absurd h
 among_any x (y ∷ ys) (inl e) = rw (eq-eqb x y e) refl
 among_any x (y ∷ ys) (inr h) = elim (cases_eq x y) [ inl e ↦ rw (eq-eqb x y e) refl | inr ne ↦ rw (ne_eqb x y ne) (among_any x ys h) ]
 
-among_none : (x : ℕ) (xs : List ℕ) → (IsAmong x xs → ⊥) → list_any (nat_eq x) xs ≡ false
+pub among_none : (x : ℕ) (xs : List ℕ) → (IsAmong x xs → ⊥) → list_any (nat_eq x) xs ≡ false
 among_none x [] h = refl
 among_none x (y ∷ ys) h = rw (ne_eqb x y (λ e. h (inl e))) (among_none x ys (λ t. h (inr t)))
 

@@ -1,8 +1,8 @@
 use Rattle.std.proofs.Common.{◌≡◌, ℕ, ◌<◌, ◌∙◌, sym, subst, refl, true, false}
 use Rattle.arena.specs.Shape.{Counts}
 use Rattle.directory.specs.Directory.{IsDirectory}
-use Rattle.directory.specs.Sound.{SlotIsSound}
-use Rattle.directory.proofs.soundness.sound.Goals as goal
+use Rattle.directory.specs.Sound.{SlotIsSoundIn}
+use Rattle.directory.proofs.soundness.sound_in.Goals as goal
 
 pub returns-then-not-are_slots_sound-clause-damaged :
     goal.returns-then-not-are_slots_sound-clause-damaged
@@ -11,7 +11,7 @@ returns-then-not-are_slots_sound-clause-damaged g c =
     record {
       head = c.in-Some.ensures.0;
       broken = λ h.
-          let slots = subst (λ (k : Counts). (slot : ℕ) → slot < 8 → SlotIsSound k ws slot) (sym c.in-Some.ensures.1) h.slots in
+          let slots = subst (λ (k : Counts). (slot : ℕ) → slot < 8 → SlotIsSoundIn c.args.form k ws slot) (sym c.in-Some.ensures.1) h.slots in
           let apart : false ≡ true = sym c.if-not-are_slots_sound.true ∙ c.are_slots_sound.ensures.1 slots in
           cc;
     }
@@ -22,7 +22,7 @@ returns-clause-ok g c =
       λ _. record {
         head = c.in-Some.ensures.0;
         directory = record {
-          slots = subst (λ (k : Counts). (slot : ℕ) → slot < 8 → SlotIsSound k ws slot) c.in-Some.ensures.1
+          slots = subst (λ (k : Counts). (slot : ℕ) → slot < 8 → SlotIsSoundIn c.args.form k ws slot) c.in-Some.ensures.1
               (c.are_slots_sound.ensures.0 c.if-not-are_slots_sound.false);
           names = subst IsDirectory c.in-Some-kept_directory.ensures.0 c.in-Some-kept_directory.ensures.1;
         };
