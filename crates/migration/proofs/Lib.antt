@@ -1,0 +1,3 @@
+pub mod Values
+pub mod Alike
+pub mod Sound
