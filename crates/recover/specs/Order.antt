@@ -7,6 +7,7 @@ use Rattle.arena.specs.Chain.{IsChain, LeadsTo}
 use Rattle.arena.specs.Content.{chain_of}
 use Rattle.arena.specs.declared.form.Form.{Form}
 use Rattle.arena.specs.declared.place.Place.{Place}
+use Rattle.recover.specs.Kept.{kept_by}
 use Rattle.recover.specs.Sound.{IsOnChain, IsIssued, IsClaimed, IsClaimOf, IsPassed, IsResultIn, IsInserted, StatusIsSound, RemovedIsSound}
 
 -- the chain ends, and has nodes of used records
@@ -43,6 +44,11 @@ pub record IsPlaceTable (s : Shape) (kept : Place → ℕ) (place : List ℕ) : 
 pub record IsTokenTable (s : Shape) (kept : Place → ℕ) (claimed : List ℕ) : Type 0 where
   pub long : greatest s < length claimed
   pub table : IsClaimTable s kept (λ n. slice_index claimed n)
+
+-- both tables of the words of a queue
+pub record IsSurveyOf (form : Form) (s : Shape) (ws place claimed : List ℕ) : Type 0 where
+  pub places : IsPlaceTable s (kept_by form s ws) place
+  pub tokens : IsTokenTable s (kept_by form s ws) claimed
 
 -- durable queues: a cell tells only what it claims, and a claimed node's cell tells of it
 pub record CellTellsIn (form : Form) (s : Shape) (kept : Place → ℕ) (c : ℕ) : Type 0 where

@@ -23,7 +23,7 @@ pub use keeping::{KeepHead, KeepResult, KeepStatus, KeepTail, RecoveryKeeping};
 pub use kept::KeptQueue;
 pub use point::{RecoveryPoint, Report};
 pub use recovery::{Recovery, boot};
-pub use soundness::{sound, sound_in};
+pub use soundness::{Survey, sound, sound_in, surveyed};
 pub use telling::{
     RecoveryLoadAnnouncement, RecoveryLoadCell, RecoveryLoadEntryNode, RecoveryLoadGot,
     RecoveryLoadKind, RecoveryLoadNumber, RecoveryLoadRemove, RecoveryLoadRemovedItem,

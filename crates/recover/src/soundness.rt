@@ -1,10 +1,11 @@
 //! Whether kept words are sound.
 
-ghost use Rattle.std.specs.Prelude.{◌≡◌, ◌≢◌, ℕ, ◌≤◌, ◌<◌, ◌↔◌, length, slice_index, IsTrue, IsOk, IfErr, MatchOption};
+ghost use Rattle.std.specs.Prelude.{◌≡◌, ◌≢◌, ℕ, ◌≤◌, ◌<◌, ◌↔◌, length, slice_index, IsTrue, IsOk, IfErr, IfNone, IfOk, MatchOption};
 ghost use Rattle.arena.specs.Broker.{block_size_in};
 ghost use Rattle.arena.specs.Layout.{size_in};
 ghost use Rattle.arena.specs.Shape.{greatest};
 ghost use Rattle.recover.specs.Kept.{kept_of};
+ghost use Rattle.recover.specs.Order.{IsClaimTable, IsOrder, IsSurveyOf};
 ghost use Rattle.recover.specs.Sound.{SizeIsSoundIn, RecordsAreSoundIn, AreSoundWords, AreSoundWordsIn, IsFirstBrokenIn, IsDamaged, IsDamagedIn};
 
 use crate::kept::KeptQueue;
@@ -69,8 +70,13 @@ impl<L: Layout, W: KeptWords> KeptQueue<'_, L, W> {
         requires no_place { (n : ℕ) → slice_index place.old n ≡ 0 }
         requires tokens { greatest self.now.shape < length claimed.old }
         requires no_token { (n : ℕ) → slice_index claimed.old n ≡ 0 }
-        ensures { MatchOption result (AreSoundWordsIn self.now.form self.now.shape self.now.words)
+        ensures broken { MatchOption result (AreSoundWordsIn self.now.form self.now.shape self.now.words)
             (λ rule. IsFirstBrokenIn self.now.form self.now.shape self.now.words rule) }
+        ensures places { greatest self.now.shape < length place.new }
+        ensures tokens { greatest self.now.shape < length claimed.new }
+        ensures order { IfNone result (IsOrder self.now.shape (kept_of self.now) (λ n. slice_index place.new n)) }
+        ensures claims { IfNone result
+            (IsClaimTable self.now.shape (kept_of self.now) (λ n. slice_index claimed.new n)) }
     {
         // A link back would keep recovery walking for ever, and a link to an unused record would put a value into the
         // queue before its enqueue took effect: `a_broker_with_two_queues` of test_hostile.
@@ -123,10 +129,27 @@ fn queue_of<'a, L: Layout, W: KeptWords>(
     }
 }
 
+/// Where each node stands on the chain, from 1, and which node each token claims; 0 where there is none. It is half a
+/// megabyte.
+#[derive(Drop)]
+pub struct Survey {
+    pub place: [u32; MAX_NODES],
+    pub claimed: [u32; MAX_NODES],
+}
+
 /// The first broken rule.
-fn first_broken<L: Layout, W: KeptWords>(form: Form, layout: &L, words: &W) -> Option<Rule>
-    ensures { MatchOption result (AreSoundWordsIn form (L.shape layout.now) (W.kept_words words.now))
+fn first_broken<L: Layout, W: KeptWords>(
+    form: Form,
+    layout: &L,
+    words: &W,
+    survey: &mut Survey,
+) -> Option<Rule>
+    requires no_place { (n : ℕ) → slice_index survey.old.place n ≡ 0 }
+    requires no_token { (n : ℕ) → slice_index survey.old.claimed n ≡ 0 }
+    ensures broken { MatchOption result (AreSoundWordsIn form (L.shape layout.now) (W.kept_words words.now))
         (λ rule. IsFirstBrokenIn form (L.shape layout.now) (W.kept_words words.now) rule) }
+    ensures survey { IfNone result (IsSurveyOf form (L.shape layout.now) (W.kept_words words.now)
+        survey.new.place survey.new.claimed) }
 {
     // With words missing, a place would have no word; with a word too many that is not 0, it is another layout's.
     if !is_size_sound(form, layout, words) {
@@ -138,13 +161,33 @@ fn first_broken<L: Layout, W: KeptWords>(form: Form, layout: &L, words: &W) -> O
     if !queue.are_records_sound() {
         return Some(Rule::Records);
     }
-    let mut place = [0u32; MAX_NODES];
-    let mut claimed = [0u32; MAX_NODES];
-    queue.broken_past_records(&mut place, &mut claimed)
+    queue.broken_past_records(&mut survey.place, &mut survey.claimed)
 }
 
-/// Whether kept words are those of a queue, in this form. The layout says the kind and the counts. It takes no memory
-/// but for two tables on the stack, half a megabyte in all, and its cost is linear in the words.
+/// The survey of a queue whose kept words obey the rules of this form. The layout says the kind and the counts. It
+/// takes no memory but on the stack, and its cost is linear in the words. Words that break a rule are Damaged, by the
+/// first one.
+pub fn surveyed<L: Layout, W: KeptWords>(
+    form: Form,
+    layout: &L,
+    words: &W,
+) -> Result<Survey, Refusal>
+    ensures ok { IsOk result ↔ AreSoundWordsIn form (L.shape layout.now) (W.kept_words words.now) }
+    ensures survey { IfOk result (λ found. IsSurveyOf form (L.shape layout.now) (W.kept_words words.now)
+        found.place found.claimed) }
+    ensures damaged { IfErr result (λ e. IsDamagedIn form (L.shape layout.now) (W.kept_words words.now) e) }
+{
+    let mut survey = Survey {
+        place: [0; MAX_NODES],
+        claimed: [0; MAX_NODES],
+    };
+    match first_broken(form, layout, words, &mut survey) {
+        None => Ok(survey),
+        Some(rule) => Err(Refusal::Damaged(rule)),
+    }
+}
+
+/// Whether kept words are those of a queue, in this form.
 pub fn sound_in<L: Layout, W: KeptWords>(
     form: Form,
     layout: &L,
@@ -153,9 +196,9 @@ pub fn sound_in<L: Layout, W: KeptWords>(
     ensures ok { IsOk result ↔ AreSoundWordsIn form (L.shape layout.now) (W.kept_words words.now) }
     ensures damaged { IfErr result (λ e. IsDamagedIn form (L.shape layout.now) (W.kept_words words.now) e) }
 {
-    match first_broken(form, layout, words) {
-        None => Ok(()),
-        Some(rule) => Err(Refusal::Damaged(rule)),
+    match surveyed(form, layout, words) {
+        Ok(_) => Ok(()),
+        Err(refusal) => Err(refusal),
     }
 }
 
