@@ -3,3 +3,4 @@ pub mod Alike
 pub mod Sound
 pub mod Words
 pub mod Pieces
+pub mod Brokers
