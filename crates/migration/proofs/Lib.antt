@@ -1,3 +1,6 @@
 pub mod Values
 pub mod Alike
 pub mod Sound
+pub mod Words
+pub mod Pieces
+pub mod Brokers
