@@ -4,3 +4,4 @@ pub mod Sound
 pub mod Words
 pub mod Pieces
 pub mod Brokers
+pub mod Surveys
