@@ -42,7 +42,7 @@ pub fn migrated_block_has_the_queue()
 pub fn migrated_broker_has_the_slots()
     ensures sound { (ws : List ℕ) → AreBrokerWordsIn OfValues ws → AreBrokerWords (broker_migrated ws) }
     ensures counts { (ws : List ℕ) → HeadIsSoundIn OfValues ws → counts_in (broker_migrated ws) ≡ counts_in ws }
-    ensures directory { (ws : List ℕ) → HeadIsSoundIn OfValues ws → directory_of (broker_migrated ws) ≡ directory_of ws }
+    ensures slots { (ws : List ℕ) → HeadIsSoundIn OfValues ws → directory_of (broker_migrated ws) ≡ directory_of ws }
     ensures blocks { (ws : List ℕ) (slot : ℕ) → HeadIsSoundIn OfValues ws → slot < SLOTS
         → block_in OfItems (counts_in ws) slot (broker_migrated ws)
         ≡ slot_migrated (counts_in ws) (slot_in ws slot) (block_in OfValues (counts_in ws) slot ws) }

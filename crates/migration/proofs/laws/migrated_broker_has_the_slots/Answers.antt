@@ -7,8 +7,8 @@ returns-clause-sound c = λ ws h. broker_sound ws h.head h.directory
 pub returns-clause-counts : goal.returns-clause-counts
 returns-clause-counts c = counts_same
 
-pub returns-clause-directory : goal.returns-clause-directory
-returns-clause-directory c = directory_same
+pub returns-clause-slots : goal.returns-clause-slots
+returns-clause-slots c = directory_same
 
 pub returns-clause-blocks : goal.returns-clause-blocks
 returns-clause-blocks c = λ ws slot h below. block_is ws h slot below
