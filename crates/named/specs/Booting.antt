@@ -1,19 +1,21 @@
 -- A broker that begins on kept words: which words those may be, and what it is then.
-use Rattle.std.specs.Prelude.{◌≡◌, ℕ, ◌<◌, ◌⊎◌, List, Option, Some, None, length, slice_get, take, drop}
+use Rattle.std.specs.Prelude.{◌≡◌, ℕ, ◌<◌, ◌⊎◌, List, Option, Some, None, length, slice_get}
 use Rattle.words.specs.declared.call.Kind.{Kind}
 use Rattle.words.specs.declared.refusal.Refusal.{Refusal}
 use Rattle.words.specs.declared.refusal.Refusal.TheVariants.{NoMemory}
 use Rattle.persist.specs.Memory.{Words, words_after_crash}
-use Rattle.arena.specs.Broker.{block_from, block_size_of}
+use Rattle.arena.specs.Broker.{block_in}
+use Rattle.arena.specs.Form.{running}
 use Rattle.arena.specs.Shape.{Counts, shape_of}
 use Rattle.arena.specs.declared.broker.TheConstants.{SLOTS}
+use Rattle.arena.specs.declared.form.Form.{Form}
 use Rattle.directory.specs.Directory.{Directory, HasQueue}
 use Rattle.directory.specs.Queue.{directory_of, slot_in}
-use Rattle.directory.specs.Sound.{AreBrokerWords, IsBrokerDamaged, counts_in}
+use Rattle.directory.specs.Sound.{AreBrokerWordsIn, IsBrokerDamagedIn, counts_in}
 use Rattle.directory.specs.declared.queue.Queue.{Queue}
 use Rattle.interleave.specs.Booted.{booted_world}
 use Rattle.interleave.specs.State.{State}
-use Rattle.recover.specs.Sound.{AreSoundWords, IsDamaged}
+use Rattle.recover.specs.Sound.{AreSoundWordsIn, IsDamagedIn}
 use Rattle.named.specs.Brokers.{Brokered, IsSlotAt, block_words, world_at}
 use Rattle.named.specs.Slots.{kind_in, world_in}
 use Rattle.named.specs.Stopping.{booting}
@@ -22,30 +24,45 @@ use Rattle.named.specs.declared.slot.Slot.TheVariants.{Closed}
 
 -- the kept words of a slot's block
 abbrev pub kept_block : Counts → ℕ → List ℕ → List ℕ
-kept_block c slot ws = take (block_size_of c.clients c.records) (drop (block_from c slot) ws)
+kept_block = block_in running
 
 -- the words of the block of an open slot are those that a queue of its kind may begin on
-abbrev pub IsBlockSound : List ℕ → ℕ → Queue → Type 0
-IsBlockSound ws slot queue = AreSoundWords (shape_of queue.kind (counts_in ws)) (kept_block (counts_in ws) slot ws)
+abbrev pub IsBlockSoundIn : Form → List ℕ → ℕ → Queue → Type 0
+IsBlockSoundIn form ws slot queue =
+    AreSoundWordsIn form (shape_of queue.kind (counts_in ws)) (block_in form (counts_in ws) slot ws)
 
--- words that a broker may begin on
-pub record AreBootWords (ws : List ℕ) : Type 0 where
-  pub broker : AreBrokerWords ws
-  pub blocks : (slot : ℕ) (queue : Queue) → HasQueue (directory_of ws) slot queue → IsBlockSound ws slot queue
+-- words that a broker may begin on, or that may be migrated
+pub record AreBootWordsIn (form : Form) (ws : List ℕ) : Type 0 where
+  pub broker : AreBrokerWordsIn form ws
+  pub blocks : (slot : ℕ) (queue : Queue) → HasQueue (directory_of ws) slot queue → IsBlockSoundIn form ws slot queue
 
 -- the lowest open slot whose block breaks a rule, and the first rule that it breaks
-pub record IsBlockDamaged (ws : List ℕ) (refusal : Refusal) : Type 0 where
-  pub broker : AreBrokerWords ws
+pub record IsBlockDamagedIn (form : Form) (ws : List ℕ) (refusal : Refusal) : Type 0 where
+  pub broker : AreBrokerWordsIn form ws
   pub slot : ℕ
   pub queue : Queue
   pub has : HasQueue (directory_of ws) slot queue
-  pub below : (other : ℕ) (q : Queue) → other < slot → HasQueue (directory_of ws) other q → IsBlockSound ws other q
-  pub damaged : IsDamaged (shape_of queue.kind (counts_in ws)) (kept_block (counts_in ws) slot ws) refusal
+  pub below : (other : ℕ) (q : Queue) → other < slot → HasQueue (directory_of ws) other q
+      → IsBlockSoundIn form ws other q
+  pub damaged : IsDamagedIn form (shape_of queue.kind (counts_in ws)) (block_in form (counts_in ws) slot ws) refusal
 
 -- why it may not begin: the words break a rule, the first of them this; or they are sound, and there is no memory
+abbrev pub MayRefuseIn : Form → List ℕ → Refusal → Type 0
+MayRefuseIn form ws NoMemory = AreBootWordsIn form ws
+MayRefuseIn form ws refusal = IsBrokerDamagedIn form ws refusal ⊎ IsBlockDamagedIn form ws refusal
+
+-- all this in the form that queues run in
+abbrev pub IsBlockSound : List ℕ → ℕ → Queue → Type 0
+IsBlockSound = IsBlockSoundIn running
+
+abbrev pub AreBootWords : List ℕ → Type 0
+AreBootWords = AreBootWordsIn running
+
+abbrev pub IsBlockDamaged : List ℕ → Refusal → Type 0
+IsBlockDamaged = IsBlockDamagedIn running
+
 abbrev pub MayRefuse : List ℕ → Refusal → Type 0
-MayRefuse ws NoMemory = AreBootWords ws
-MayRefuse ws refusal = IsBrokerDamaged ws refusal ⊎ IsBlockDamaged ws refusal
+MayRefuse = MayRefuseIn running
 
 -- the world of an open slot begins on the words of its block
 abbrev pub world_booted : Counts → ℕ → Words → Option Queue → Option State
@@ -53,11 +70,14 @@ world_booted c slot ws None = None
 world_booted c slot ws (Some queue) = Some (booted_world (shape_of queue.kind c) (block_words c slot ws))
 
 -- what a broker read of kept words, as a crash left them: they are a broker's, with these counts and this directory
-pub record AreRead (ws : Words) (counts : Counts) (directory : Directory) : Type 0 where
+pub record AreReadIn (form : Form) (ws : Words) (counts : Counts) (directory : Directory) : Type 0 where
   pub crashed : ws.cached ≡ ws.kept
-  pub broker : AreBrokerWords ws.kept
+  pub broker : AreBrokerWordsIn form ws.kept
   pub counts_are : counts ≡ counts_in ws.kept
   pub directory_is : directory ≡ directory_of ws.kept
+
+abbrev pub AreRead : Words → Counts → Directory → Type 0
+AreRead = AreReadIn running
 
 -- the slot has a queue of this kind that begins on the words of its block
 pub record IsQueueBooted (c : Counts) (ws : Words) (at : ℕ) (kind : Kind) (slot : Slot) : Type 0 where

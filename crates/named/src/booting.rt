@@ -1,55 +1,56 @@
 //! A broker that begins on what a memory keeps.
 
 ghost use Rattle.std.specs.Prelude.{◌≡◌, ◌≢◌, ◌↔◌, ◌⊎◌, ◌<◌, ◌≤◌, ◌+◌, ℕ, true, length, replicate, slice_set, Ok, Err, IfOk, IfErr, OnOk, OnErr, IfSome, IfNone, IsSome, None, if◌then◌else◌};
-ghost use Rattle.arena.specs.Broker.{broker_size};
+ghost use Rattle.arena.specs.Broker.{block_in, broker_size_in};
 ghost use Rattle.arena.specs.Shape.{shape_of};
-ghost use Rattle.recover.specs.Sound.{AreSoundWords, IsDamaged};
-ghost use Rattle.named.specs.Booting.{AreBootWords, AreRead, IsBlockDamaged, IsBooted, MayRefuse, kept_block};
+ghost use Rattle.recover.specs.Sound.{AreSoundWordsIn, IsDamagedIn};
+ghost use Rattle.named.specs.Booting.{AreBootWords, AreBootWordsIn, AreReadIn, IsBlockDamagedIn, IsBooted, MayRefuse};
 ghost use Rattle.named.specs.Promises.{KeepsPromises};
 
 use crate::broker::Broker;
 use crate::recovery::BrokerRecovery;
 use crate::slots::boot_each;
-use arena::{BrokerLayout, SLOTS, SlotId};
+use arena::{BrokerLayout, Form, SLOTS, SlotId};
 use directory::{DirectoryRecovery, KeptBroker, sound as sound_directory};
 use persist::Memory;
-use recover::sound as sound_queue;
+use recover::sound_in as sound_queue;
 use std::alloc::Global;
 use words::{Kind, Refusal};
 
 /// Whether a queue of this kind may begin on the kept words of a slot's block. It is refused where they break a rule
-/// (Damaged, with the first such rule).
+/// of this form (Damaged, with the first such rule).
 fn check_block(
+    form: Form,
     layout: &BrokerLayout,
     memory: &Memory,
     slot: SlotId,
     kind: Kind,
 ) -> Result<(), Refusal>
     requires slot { slot.0 < SLOTS }
-    requires room { broker_size layout.now ≤ length memory.now.words.cached }
-    requires kept { broker_size layout.now ≤ length memory.now.words.kept }
+    requires room { broker_size_in form layout.now ≤ length memory.now.words.cached }
+    requires kept { broker_size_in form layout.now ≤ length memory.now.words.kept }
     ensures sound { OnOk result
-        (AreSoundWords (shape_of kind layout.now) (kept_block layout.now slot.0 memory.now.words.kept)) }
+        (AreSoundWordsIn form (shape_of kind layout.now) (block_in form layout.now slot.0 memory.now.words.kept)) }
     ensures damaged { IfErr result
-        (IsDamaged (shape_of kind layout.now) (kept_block layout.now slot.0 memory.now.words.kept)) }
+        (IsDamagedIn form (shape_of kind layout.now) (block_in form layout.now slot.0 memory.now.words.kept)) }
 {
-    let block = memory.view(layout.block(slot), layout.block_size())?;
+    let block = memory.view(layout.block_in(form, slot), layout.block_size_in(form))?;
     match kind {
-        Kind::Durable => sound_queue(&layout.durable(), &block),
-        Kind::Log => sound_queue(&layout.log(), &block),
+        Kind::Durable => sound_queue(form, &layout.durable(), &block),
+        Kind::Log => sound_queue(form, &layout.log(), &block),
     }
 }
 
 /// Whether so it is of each open slot, in slot order.
-fn check_blocks(kept: &KeptBroker, memory: &Memory) -> Result<(), Refusal>
-    requires { AreRead memory.now.words kept.now.layout kept.now.directory }
-    ensures sound { OnOk result (AreBootWords memory.now.words.kept) }
-    ensures damaged { IfErr result (IsBlockDamaged memory.now.words.kept) }
+pub(crate) fn check_blocks(form: Form, kept: &KeptBroker, memory: &Memory) -> Result<(), Refusal>
+    requires { AreReadIn form memory.now.words kept.now.layout kept.now.directory }
+    ensures sound { OnOk result (AreBootWordsIn form memory.now.words.kept) }
+    ensures damaged { IfErr result (IsBlockDamagedIn form memory.now.words.kept) }
 {
     let places = kept.directory.queues();
     for slot in 0..SLOTS {
         if let Some(queue) = &places[slot] {
-            check_block(&kept.layout, memory, SlotId(slot as u8), queue.kind)?;
+            check_block(form, &kept.layout, memory, SlotId(slot as u8), queue.kind)?;
         }
     }
     Ok(())
@@ -68,7 +69,7 @@ impl Broker {
     {
         memory.crash();
         let kept = sound_directory(&memory)?;
-        check_blocks(&kept, &memory)?;
+        check_blocks(Form::OfItems, &kept, &memory)?;
         let slots = boot_each(alloc, &kept, &memory)?;
         Ok(Broker {
             layout: kept.layout,

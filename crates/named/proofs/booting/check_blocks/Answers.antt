@@ -1,13 +1,13 @@
 use Rattle.std.proofs.Common.{◌≡◌, ℕ, ◌<◌, Some, List, length, slice_get, slice_index_or, inl, inr, sym, subst, ◌∙◌, arith}
 use Rattle.std.proofs.lemmas.Bool.{cases_eq}
 use Rattle.std.proofs.lemmas.Option.{slice_get-get_or, slice_get_within}
+use Rattle.arena.specs.Broker.{block_in}
 use Rattle.arena.specs.Shape.{Counts, shape_of}
-use Rattle.recover.specs.Sound.{AreSoundWords}
+use Rattle.recover.specs.Sound.{AreSoundWordsIn}
 use Rattle.directory.specs.Directory.{Directory, HasQueue}
 use Rattle.directory.specs.Queue.{directory_of}
 use Rattle.directory.specs.declared.queue.Queue.{Queue}
 use Rattle.directory.specs.Sound.{counts_in}
-use Rattle.named.specs.Booting.{kept_block}
 use Rattle.named.proofs.Kept.{some_is}
 use Rattle.named.proofs.booting.check_blocks.Goals as goal
 use Rattle.named.proofs.booting.check_blocks.Goals.{in-Some+in_ok-check_block, in_default}
@@ -28,10 +28,10 @@ loop-slot-preserved c = λ slot queue below has.
           elim c.match-places-slot.branch [
             | in-Some+in_ok-check_block w ↦
                 let own : w.in-Some.queue ≡ queue = some_is _ _ _ w.in-Some.is is_it in
-                let sound : AreSoundWords (shape_of w.in-Some.queue.kind c.args.kept.now.layout) (kept_block c.args.kept.now.layout at ws) = w.in_ok-check_block.ensures.sound in
-                subst (λ (n : ℕ). AreSoundWords (shape_of queue.kind (counts_in ws)) (kept_block (counts_in ws) n ws)) (sym same)
-                (subst (λ (q : Queue). AreSoundWords (shape_of q.kind (counts_in ws)) (kept_block (counts_in ws) at ws)) own
-                (subst (λ (n : Counts). AreSoundWords (shape_of w.in-Some.queue.kind n) (kept_block n at ws)) c.requires.counts_are sound))
+                let sound : AreSoundWordsIn c.args.form (shape_of w.in-Some.queue.kind c.args.kept.now.layout) (block_in c.args.form c.args.kept.now.layout at ws) = w.in_ok-check_block.ensures.sound in
+                subst (λ (n : ℕ). AreSoundWordsIn c.args.form (shape_of queue.kind (counts_in ws)) (block_in c.args.form (counts_in ws) n ws)) (sym same)
+                (subst (λ (q : Queue). AreSoundWordsIn c.args.form (shape_of q.kind (counts_in ws)) (block_in c.args.form (counts_in ws) at ws)) own
+                (subst (λ (n : Counts). AreSoundWordsIn c.args.form (shape_of w.in-Some.queue.kind n) (block_in c.args.form n at ws)) c.requires.counts_are sound))
             | in_default w ↦ absurd (w.in_default.not-Some queue is_it)
           ]
     ]
