@@ -1,22 +1,22 @@
 -- What the words of a broker become: its head and directory as they were, and each slot's block what that becomes.
-use Rattle.std.proofs.Common.{◌≡◌, ℕ, ◌+◌, ◌*◌, ◌<◌, ◌≤◌, inl, inr, List, ◌++◌, length, take, drop, get_or, slice_index, Option, Some, None, refl, sym, ◌∙◌, ap, subst, arith}
+use Rattle.std.proofs.Common.{◌≡◌, ℕ, ◌+◌, ◌*◌, ◌<◌, inl, inr, List, ◌++◌, length, take, drop, get_or, slice_index, Option, Some, None, refl, sym, ◌∙◌, ap, subst, arith}
 use Rattle.std.specs.Prelude.{◌==◌, if◌then◌else◌, IsSome, replicate}
 use Rattle.std.specs.List.{flat_map, range_with_len}
 use Rattle.std.proofs.Math.Seq.{drop-append-add}
 use Rattle.std.proofs.lemmas.List.{get_or_append_left, get_or-drop, get_or-replicate, get_or-take, length-append, length-replicate, length-take-le}
 use Rattle.std.proofs.lemmas.List.FromFn.{get_or-range_with_len, length-map-range_with_len, length-range_with_len}
-use Rattle.arena.specs.Broker.{block_from_in, block_in, block_size_in, block_size_of, broker_size_in}
-use Rattle.arena.specs.Shape.{Counts}
+use Rattle.arena.specs.Broker.{block_from_in, block_in, block_size_of, broker_size_in}
+use Rattle.arena.specs.Shape.{Counts, shape_of}
 use Rattle.arena.specs.declared.form.Form.TheVariants.{OfItems, OfValues}
-use Rattle.directory.specs.Directory.{Directory, IsDirectory}
-use Rattle.directory.specs.Queue.{IsOpen, directory_of, first_name_at, gate_at, kind_at, queue_in, second_name_at, slot_in}
-use Rattle.directory.specs.Sound.{AreBrokerWords, AreBrokerWordsIn, DirectoryIsSoundIn, HeadIsSoundIn, IsBlockZeroIn, SlotIsSoundIn, counts_in}
+use Rattle.directory.specs.Directory.{IsDirectory}
+use Rattle.directory.specs.Queue.{directory_of, first_name_at, gate_at, kind_at, queue_in, second_name_at, slot_in}
+use Rattle.directory.specs.Sound.{AreBrokerWords, DirectoryIsSoundIn, HeadIsSoundIn, IsBlockZeroIn, SlotIsSoundIn, counts_in}
 use Rattle.directory.specs.declared.queue.Queue.{Queue}
 use Rattle.directory.proofs.Creations.{directory_is, slot_closed}
 use Rattle.directory.proofs.Kept.{directory_at, queue_of-same}
-use Rattle.migration.specs.Words.{broker_migrated, slot_block_migrated, slot_migrated}
+use Rattle.migration.specs.Words.{HasSoundQueue, HaveQueueOf, block_migrated, broker_migrated, slot_block_migrated, slot_migrated}
 use Rattle.migration.proofs.Pieces.{piece, pieces_length}
-use Rattle.migration.proofs.Words.{block_length}
+use Rattle.migration.proofs.Words.{block_length, block_same}
 
 slot_length : (c : Counts) (o : Option Queue) (old : List ℕ)
     → length (slot_migrated c o old) ≡ block_size_of c.clients c.records
@@ -129,3 +129,12 @@ module _ (ws : List ℕ) (h : HeadIsSoundIn OfValues ws) where
     head = head_sound;
     directory = subst (λ (k : Counts). DirectoryIsSoundIn OfItems k new) (sym counts_same) (directory_sound d);
   }
+
+  -- the block of each slot with a queue has that queue still
+  pub queue_kept : (slot : ℕ) (queue : Queue) → HasSoundQueue ws slot queue
+      → HaveQueueOf (shape_of queue.kind c) (block_in OfValues c slot ws) (block_in OfItems c slot new)
+  queue_kept slot queue q =
+      let old : List ℕ = block_in OfValues c slot ws in
+      let is : block_in OfItems c slot new ≡ block_migrated queue.kind c old =
+      block_is slot q.in_range ∙ ap (λ (o : Option Queue). slot_migrated c o old) q.has in
+      subst (HaveQueueOf (shape_of queue.kind c) old) (sym is) (block_same queue.kind c old q.sound.sound)

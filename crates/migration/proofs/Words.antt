@@ -17,7 +17,7 @@ use Rattle.recover.specs.Told.{tells_by, tells_in}
 use Rattle.recover.proofs.Alike.{sound_like}
 use Rattle.recover.proofs.AlikeTold.{content_like as kept_content_like, tells_like as kept_tells_like}
 use Rattle.migration.specs.Migrated.{migrated}
-use Rattle.migration.specs.Words.{block_migrated, migrated_or_zero, word_migrated}
+use Rattle.migration.specs.Words.{HaveQueueOf, block_migrated, migrated_or_zero, word_migrated}
 use Rattle.migration.proofs.Alike.{content_like, tells_like}
 use Rattle.migration.proofs.Sound.{migrated_sound}
 
@@ -74,3 +74,10 @@ module _ (kind : Kind) (c : Counts) (old : List ℕ) where
 
   pub block_tells : IsSoundIn OfValues s k → tells_by s (kept_in s new) ≡ tells_in OfValues s k
   block_tells h = kept_tells_like s (migrated s k) (kept_in s new) kept_like (migrated_sound s k h) ∙ tells_like s k
+
+  pub block_same : IsSoundIn OfValues s k → HaveQueueOf s old new
+  block_same h = record {
+    sound = block_sound h;
+    content = block_content h;
+    told = block_tells h;
+  }

@@ -1,14 +1,17 @@
 -- What the words of a queue's block, and those of a whole broker, become that have the form of values.
-use Rattle.std.specs.Prelude.{ℕ, List, ◌++◌, map, replicate, take, Option, Some, None}
+use Rattle.std.specs.Prelude.{◌≡◌, ℕ, ◌<◌, List, ◌++◌, map, replicate, take, Option, Some, None}
 use Rattle.std.specs.List.{flat_map, range_with_len}
 use Rattle.words.specs.declared.call.Kind.{Kind}
 use Rattle.arena.specs.Broker.{block_in, block_size_of}
+use Rattle.arena.specs.Content.{content_in, kept_content}
 use Rattle.arena.specs.Layout.{place_in}
 use Rattle.arena.specs.Shape.{Counts, Shape, shape_of}
 use Rattle.arena.specs.declared.broker.TheConstants.{BLOCKS_FROM, SLOTS}
 use Rattle.arena.specs.declared.form.Form.TheVariants.{OfItems, OfValues}
 use Rattle.arena.specs.declared.place.Place.{Place}
-use Rattle.recover.specs.Kept.{kept_by}
+use Rattle.recover.specs.Kept.{kept_by, kept_in}
+use Rattle.recover.specs.Sound.{AreSoundWords, AreSoundWordsIn}
+use Rattle.recover.specs.Told.{tells_by, tells_in}
 use Rattle.directory.specs.Queue.{slot_in}
 use Rattle.directory.specs.Sound.{counts_in}
 use Rattle.directory.specs.declared.queue.Queue.{Queue}
@@ -39,3 +42,16 @@ slot_block_migrated c ws slot = slot_migrated c (slot_in ws slot) (block_in OfVa
 
 unfoldable pub broker_migrated : List ℕ → List ℕ
 broker_migrated ws = take BLOCKS_FROM ws ++ flat_map (slot_block_migrated (counts_in ws) ws) (range_with_len 0 SLOTS)
+
+-- words of the form of items are sound, and have the queue that words of the form of values have: they hold the same
+-- messages, and tell each client the same
+pub record HaveQueueOf (s : Shape) (old new : List ℕ) : Type 0 where
+  pub sound : AreSoundWords s new
+  pub content : kept_content s (kept_in s new) ≡ content_in OfValues s (kept_by OfValues s old)
+  pub told : tells_by s (kept_in s new) ≡ tells_in OfValues s (kept_by OfValues s old)
+
+-- a slot of a broker's words has a queue, whose words are sound in the form of values
+pub record HasSoundQueue (ws : List ℕ) (slot : ℕ) (queue : Queue) : Type 0 where
+  pub in_range : slot < SLOTS
+  pub has : slot_in ws slot ≡ Some queue
+  pub sound : AreSoundWordsIn OfValues (shape_of queue.kind (counts_in ws)) (block_in OfValues (counts_in ws) slot ws)

@@ -1,13 +1,26 @@
 //! What holds of migrated words.
 
-ghost use Rattle.std.specs.Prelude.{◌≡◌, ℕ};
+ghost use Rattle.std.specs.Prelude.{◌≡◌, ℕ, ◌<◌, List};
+ghost use Rattle.arena.specs.Broker.{block_in};
 ghost use Rattle.arena.specs.Content.{content_in, kept_content};
-ghost use Rattle.arena.specs.Shape.{Shape};
-ghost use Rattle.arena.specs.declared.form.Form.TheVariants.{OfValues};
+ghost use Rattle.arena.specs.Shape.{Counts, Shape, shape_of};
+ghost use Rattle.arena.specs.declared.broker.TheConstants.{SLOTS};
+ghost use Rattle.arena.specs.declared.form.Form.TheVariants.{OfItems, OfValues};
 ghost use Rattle.arena.specs.declared.place.Place.{Place};
-ghost use Rattle.recover.specs.Sound.{IsSound, IsSoundIn};
+ghost use Rattle.directory.specs.Queue.{directory_of, slot_in};
+ghost use Rattle.directory.specs.Sound.{AreBrokerWords, AreBrokerWordsIn, HeadIsSoundIn, counts_in};
+ghost use Rattle.directory.specs.declared.queue.Queue.{Queue};
+ghost use Rattle.recover.specs.Sound.{AreSoundWordsIn, IsSound, IsSoundIn};
 ghost use Rattle.recover.specs.Told.{tells_by, tells_in};
 ghost use Rattle.migration.specs.Migrated.{migrated};
+ghost use Rattle.migration.specs.Words.{
+  HasSoundQueue,
+  HaveQueueOf,
+  block_migrated,
+  broker_migrated,
+  slot_migrated,
+};
+ghost use Rattle.words.specs.declared.call.Kind.{Kind};
 
 /// Migrated words obey every rule where the old ones do. What they hold, and what they tell each client, is what the
 /// old ones held and told, whether these obey the rules or not.
@@ -15,4 +28,29 @@ pub fn migrated_words_tell_the_same()
     ensures sound { (s : Shape) (k : Place → ℕ) → IsSoundIn OfValues s k → IsSound s (migrated s k) }
     ensures content { (s : Shape) (k : Place → ℕ) → kept_content s (migrated s k) ≡ content_in OfValues s k }
     ensures told { (s : Shape) (k : Place → ℕ) → tells_by s (migrated s k) ≡ tells_in OfValues s k }
+{}
+
+/// A migrated block of words has the queue that the old words have: it obeys every rule, holds what they hold, and
+/// tells each client what they tell.
+pub fn migrated_block_has_the_queue()
+    ensures same { (kind : Kind) (c : Counts) (old : List ℕ) → AreSoundWordsIn OfValues (shape_of kind c) old
+        → HaveQueueOf (shape_of kind c) old (block_migrated kind c old) }
+{}
+
+/// A migrated broker has as many clients and records, and the same names and kinds in its slots. The block of each
+/// slot is what that slot's block becomes by itself.
+pub fn migrated_broker_has_the_slots()
+    ensures sound { (ws : List ℕ) → AreBrokerWordsIn OfValues ws → AreBrokerWords (broker_migrated ws) }
+    ensures counts { (ws : List ℕ) → HeadIsSoundIn OfValues ws → counts_in (broker_migrated ws) ≡ counts_in ws }
+    ensures slots { (ws : List ℕ) → HeadIsSoundIn OfValues ws → directory_of (broker_migrated ws) ≡ directory_of ws }
+    ensures blocks { (ws : List ℕ) (slot : ℕ) → HeadIsSoundIn OfValues ws → slot < SLOTS
+        → block_in OfItems (counts_in ws) slot (broker_migrated ws)
+        ≡ slot_migrated (counts_in ws) (slot_in ws slot) (block_in OfValues (counts_in ws) slot ws) }
+{}
+
+/// Each queue of a broker whose words were sound is there in the migrated broker, with all that it holds and tells.
+pub fn migrated_broker_has_the_queues()
+    ensures same { (ws : List ℕ) (slot : ℕ) (queue : Queue) → HeadIsSoundIn OfValues ws → HasSoundQueue ws slot queue
+        → HaveQueueOf (shape_of queue.kind (counts_in ws)) (block_in OfValues (counts_in ws) slot ws)
+        (block_in OfItems (counts_in ws) slot (broker_migrated ws)) }
 {}

@@ -4,4 +4,7 @@
 mod block;
 mod laws;
 
-pub use laws::migrated_words_tell_the_same;
+pub use laws::{
+    migrated_block_has_the_queue, migrated_broker_has_the_queues, migrated_broker_has_the_slots,
+    migrated_words_tell_the_same,
+};
