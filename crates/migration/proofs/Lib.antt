@@ -5,3 +5,4 @@ pub mod Words
 pub mod Pieces
 pub mod Brokers
 pub mod Surveys
+pub mod Slots

@@ -2,6 +2,7 @@
 use Rattle.std.specs.Prelude.{◌≡◌, ℕ, ◌<◌, List, ◌++◌, map, replicate, take, Option, Some, None}
 use Rattle.std.specs.List.{flat_map, range_with_len}
 use Rattle.words.specs.declared.call.Kind.{Kind}
+use Rattle.persist.specs.Memory.{Words}
 use Rattle.arena.specs.Broker.{block_in, block_size_of}
 use Rattle.arena.specs.Content.{content_in, kept_content}
 use Rattle.arena.specs.Layout.{place_in}
@@ -12,8 +13,9 @@ use Rattle.arena.specs.declared.place.Place.{Place}
 use Rattle.recover.specs.Kept.{kept_by, kept_in}
 use Rattle.recover.specs.Sound.{AreSoundWords, AreSoundWordsIn}
 use Rattle.recover.specs.Told.{tells_by, tells_in}
-use Rattle.directory.specs.Queue.{slot_in}
-use Rattle.directory.specs.Sound.{counts_in}
+use Rattle.directory.specs.Directory.{Directory, HasQueue}
+use Rattle.directory.specs.Queue.{directory_of, slot_in}
+use Rattle.directory.specs.Sound.{AreBrokerWordsIn, counts_in}
 use Rattle.directory.specs.declared.queue.Queue.{Queue}
 use Rattle.migration.specs.Migrated.{migrated}
 
@@ -55,3 +57,14 @@ pub record HasSoundQueue (ws : List ℕ) (slot : ℕ) (queue : Queue) : Type 0 w
   pub in_range : slot < SLOTS
   pub has : slot_in ws slot ≡ Some queue
   pub sound : AreSoundWordsIn OfValues (shape_of queue.kind (counts_in ws)) (block_in OfValues (counts_in ws) slot ws)
+
+-- the words of a broker of the form of values, as a crash left them, with these counts and this directory, that obey
+-- every rule
+pub record MayBeMigrated (ws : Words) (counts : Counts) (directory : Directory) : Type 0 where
+  pub crashed : ws.cached ≡ ws.kept
+  pub broker : AreBrokerWordsIn OfValues ws.kept
+  pub counts_are : counts ≡ counts_in ws.kept
+  pub directory_is : directory ≡ directory_of ws.kept
+  pub blocks : (slot : ℕ) (queue : Queue) → HasQueue (directory_of ws.kept) slot queue
+      → AreSoundWordsIn OfValues (shape_of queue.kind (counts_in ws.kept))
+      (block_in OfValues (counts_in ws.kept) slot ws.kept)

@@ -50,7 +50,7 @@ entries_obeyed : (kind : Kind) (s : Shape) (kept : Place → ℕ) → AnswersAre
 entries_obeyed durable_kind s kept h = tt
 entries_obeyed log_kind s kept h = h
 
-obeyed : (s : Shape) (ws : List ℕ) → AreSoundWords s ws → (rule : Rule) → Obeys s ws rule
+pub obeyed : (s : Shape) (ws : List ℕ) → AreSoundWords s ws → (rule : Rule) → Obeys s ws rule
 obeyed s ws h Size = h.count
 obeyed s ws h Records = h.sound.records
 obeyed s ws h Chain = h.sound.chain

@@ -24,3 +24,4 @@ pub mod Readings
 pub mod Queues
 pub mod Lastings
 pub mod QueueKinds
+pub mod Migrated

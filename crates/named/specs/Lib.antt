@@ -12,3 +12,4 @@ pub mod Rotating
 pub mod Booting
 pub mod GoingOn
 pub mod Promises
+pub mod Migrating

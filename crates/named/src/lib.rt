@@ -8,6 +8,7 @@ mod calls;
 mod evicting;
 mod laws;
 mod looks;
+mod migrating;
 mod names;
 mod recovery;
 mod rotating;
