@@ -67,3 +67,7 @@ reading bytes = reading_by magic bytes
 
 abbrev pub reading_v1 : List ℕ → Result (List ℕ) Refusal
 reading_v1 bytes = reading_by magic_v1 bytes
+
+-- whether bytes begin as images of the first form did
+abbrev pub has_first_form : List ℕ → Bool
+has_first_form bytes = bytes_eq (take MAGIC_BYTES bytes) magic_v1

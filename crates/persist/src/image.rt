@@ -3,7 +3,7 @@
 ghost use Rattle.std.specs.Prelude.{◌≡◌, ◌⊎◌, ◌^◌, ◌<◌, ◌≤◌, length, drop, map, All, Ok, Err, IsOk, IfOk, IfErr, IfSome, IfNone};
 ghost use Rattle.std.specs.Int.{w64, from_le_bytes};
 ghost use Rattle.persist.specs.Memory.{words_at_rest, IsUnasked};
-ghost use Rattle.persist.specs.Image.{image_of, image_by, magic_v1, begins_with, count_in, reading, reading_by, reading_v1};
+ghost use Rattle.persist.specs.Image.{image_of, image_by, magic_v1, begins_with, has_first_form, count_in, reading, reading_by, reading_v1};
 
 use crate::memory::{MAX_WORDS, Memory};
 use std::alloc::{AllocError, Global};
@@ -30,6 +30,14 @@ fn begins_right(first: &[u8; MAGIC_BYTES], bytes: &[u8]) -> bool
 {
     let there = bytes.len().min(MAGIC_BYTES);
     bytes[..there] == first[..there]
+}
+
+/// Whether bytes begin as images of the first form do, whatever follows.
+pub fn is_first_form(bytes: &[u8]) -> bool
+    ensures { result ≡ has_first_form bytes.now }
+{
+    let there = bytes.len().min(MAGIC_BYTES);
+    bytes[..there] == MAGIC_V1[..]
 }
 
 /// The count, and the bytes after it, unless there are too few.

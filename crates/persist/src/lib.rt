@@ -10,7 +10,7 @@ mod port;
 mod window;
 
 pub use access::{Change, EvictableWords, KeptWords, Swap, WordMemory};
-pub use image::{HEADER_BYTES, NUMBER_BYTES};
+pub use image::{HEADER_BYTES, NUMBER_BYTES, is_first_form};
 pub use laws::words_have_one_image;
 pub use memory::{MAX_WORDS, Memory, PORTS};
 pub use port::Port;

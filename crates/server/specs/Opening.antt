@@ -1,21 +1,25 @@
 -- How a broker begins to serve on the words that an image keeps.
-use Rattle.std.specs.Prelude.{◌≡◌, ◌⊎◌, ℕ, Bool, List, [], Option, Some, None, Result, Ok, Err}
+use Rattle.std.specs.Prelude.{◌≡◌, ◌⊎◌, ℕ, Bool, true, false, List, [], Option, Some, None, Result, Ok, Err}
 use Rattle.words.specs.declared.refusal.Refusal.{Refusal}
 use Rattle.words.specs.declared.refusal.Refusal.TheVariants.{NoMemory}
-use Rattle.persist.specs.Image.{reading}
+use Rattle.persist.specs.Image.{reading, reading_v1}
 use Rattle.persist.specs.Memory.{Words, words_at_rest}
 use Rattle.arena.specs.Content.{kept_content as content_of}
 use Rattle.arena.specs.Shape.{Shape, shape_of}
+use Rattle.arena.specs.declared.form.Form.{Form}
+use Rattle.arena.specs.declared.form.Form.TheVariants.{OfItems, OfValues}
 use Rattle.directory.specs.Directory.{HasQueue}
 use Rattle.directory.specs.Queue.{directory_of}
 use Rattle.directory.specs.Sound.{counts_in}
 use Rattle.directory.specs.declared.queue.Queue.{Queue}
 use Rattle.recover.specs.Told.{tells_by}
+use Rattle.migration.specs.Words.{broker_migrated}
 use Rattle.interleave.specs.Queue.{told_in}
 use Rattle.interleave.specs.State.{State, kept_content, order_in}
 use Rattle.interleave.specs.Values.{value_of_place}
-use Rattle.named.specs.Booting.{AreBootWords, IsBooted, MayRefuse, kept_block}
+use Rattle.named.specs.Booting.{AreBootWords, AreBootWordsIn, IsBooted, MayRefuseIn, kept_block}
 use Rattle.named.specs.Brokers.{Brokered, world_at}
+use Rattle.named.specs.Migrating.{IsMigrated}
 use Rattle.named.specs.Stopping.{IsRecoveryStep}
 use Rattle.named.specs.Telling.{IsToldAtReady}
 
@@ -49,14 +53,52 @@ pub record IsOpened (ws : Words) (b : Brokered) : Type 0 where
       → IsQueueOpened (shape_of queue.kind (counts_in ws.kept)) (kept_block (counts_in ws.kept) slot ws.kept)
       (world_at b slot)
 
+-- the broker began on these words, and a broker may begin on them
+pub record HasBegunOn (ws : Words) (b : Brokered) : Type 0 where
+  pub sound : AreBootWords ws.kept
+  pub booted : IsBooted ws b
+
+-- so it did on the words of an image, by whether that has the first form
+pub record HasBegunFromItems (image : List ℕ) (b : Brokered) : Type 0 where
+  pub words : List ℕ
+  pub read : reading image ≡ Ok words
+  pub begun : HasBegunOn (words_at_rest words) b
+
+pub record HasBegunFromFirst (image : List ℕ) (b : Brokered) : Type 0 where
+  pub words : List ℕ
+  pub read : reading_v1 image ≡ Ok words
+  pub sound : AreBootWordsIn OfValues words
+  pub begun : HasBegunOn (words_at_rest (broker_migrated words)) b
+
+abbrev pub HasBegunFrom : Bool → List ℕ → Brokered → Type 0
+HasBegunFrom false image b = HasBegunFromItems image b
+HasBegunFrom true image b = HasBegunFromFirst image b
+
 -- the broker that an image keeps
 pub record IsOpenedFrom (image : List ℕ) (b : Brokered) : Type 0 where
   pub words : List ℕ
   pub read : reading image ≡ Ok words
   pub opened : IsOpened (words_at_rest words) b
 
+-- the broker that an image of the first form keeps: it began on the migrated words, with what the old words hold and
+-- tell
+pub record IsOpenedFromFirst (image : List ℕ) (b : Brokered) : Type 0 where
+  pub words : List ℕ
+  pub read : reading_v1 image ≡ Ok words
+  pub opened : IsOpened (words_at_rest (broker_migrated words)) b
+  pub migrated : IsMigrated words opened.start
+
+abbrev pub IsOpenedBy : Bool → List ℕ → Brokered → Type 0
+IsOpenedBy false image b = IsOpenedFrom image b
+IsOpenedBy true image b = IsOpenedFromFirst image b
+
 -- why an image is refused, by what it is read as: its fault; or, where it has none, want of memory, or what is wrong
 -- with its words
-abbrev pub IsWhyUnopened : Result (List ℕ) Refusal → Refusal → Type 0
-IsWhyUnopened (Err fault) refusal = refusal ≡ fault
-IsWhyUnopened (Ok words) refusal = (refusal ≡ NoMemory) ⊎ MayRefuse words refusal
+abbrev pub IsWhyUnread : Form → Result (List ℕ) Refusal → Refusal → Type 0
+IsWhyUnread form (Err fault) refusal = refusal ≡ fault
+IsWhyUnread form (Ok words) refusal = (refusal ≡ NoMemory) ⊎ MayRefuseIn form words refusal
+
+-- by whether it has the first form
+abbrev pub IsWhyUnopened : Bool → List ℕ → Refusal → Type 0
+IsWhyUnopened false image refusal = IsWhyUnread OfItems (reading image) refusal
+IsWhyUnopened true image refusal = IsWhyUnread OfValues (reading_v1 image) refusal

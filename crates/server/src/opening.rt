@@ -1,36 +1,52 @@
 //! How a broker begins to serve.
 
 ghost use Rattle.std.specs.Prelude.{◌≡◌, ◌⊎◌, ◌<◌, ◌≤◌, ◌↔◌, Err, IfErr, IfNone, IfOk, IfSome, OnOk};
-ghost use Rattle.persist.specs.Image.{reading};
+ghost use Rattle.persist.specs.Image.{has_first_form};
+ghost use Rattle.persist.specs.Memory.{Words};
 ghost use Rattle.arena.specs.Limits.{AreCounts};
-ghost use Rattle.named.specs.Booting.{MayRefuse};
 ghost use Rattle.named.specs.Brokers.{IsNew};
 ghost use Rattle.named.specs.Promises.{KeepsPromises};
 ghost use Rattle.session.specs.Sessions.{IsUncalled};
-ghost use Rattle.server.specs.Opening.{IsOpened, IsOpenedFrom, IsWhyUnopened};
+ghost use Rattle.server.specs.Opening.{HasBegunFrom, HasBegunOn, IsOpened, IsOpenedBy, IsWhyUnopened};
 
 use named::Broker;
-use persist::Memory;
+use persist::{Memory, is_first_form};
 use std::alloc::Global;
 use words::{MAX_CLIENTS, MAX_RECORDS, Refusal};
 
-/// The broker that a memory keeps, once it has recovered. It is refused as [`Broker::boot`] is, and recovery for want
-/// of memory alone (NoMemory).
-fn recovered(alloc: Global, memory: Memory) -> Result<Broker, Refusal>
-    ensures opened { IfOk result (IsOpened memory.words) }
-    ensures errors { IfErr result (MayRefuse memory.words.kept) }
+/// The broker that an image keeps, as it begins to recover. Bytes that are no image are refused as
+/// [`Memory::from_image`] says, an image as [`Broker::boot`] is. One of the first form is read by
+/// [`Memory::from_image_v1`], and refused as [`Broker::migrate`] is.
+fn begun(alloc: Global, image: &[u8]) -> Result<Broker, Refusal>
+    ensures begun { IfOk result (HasBegunFrom (has_first_form image.now) image.now) }
+    ensures errors { IfErr result (IsWhyUnopened (has_first_form image.now) image.now) }
+    ensures promises { IfOk result KeepsPromises }
+{
+    if is_first_form(image) {
+        return Broker::migrate(alloc, Memory::from_image_v1(alloc, image)?);
+    }
+    Broker::boot(alloc, Memory::from_image(alloc, image)?)
+}
+
+/// The broker once it has recovered, which began on some words. It is refused for want of memory alone (NoMemory).
+fn recovered(start: Broker) -> Result<Broker, Refusal>
+    requires begun { (ws : Words) × HasBegunOn ws start }
+    requires kept { KeepsPromises start }
+    ensures opened { IfOk result (λ broker. (ws : Words) → HasBegunOn ws start → IsOpened ws broker) }
+    ensures errors { IfErr result (λ e. e ≡ Refusal.NoMemory) }
     ensures uncalled { IfOk result IsUncalled }
     ensures promises { IfOk result KeepsPromises }
 {
-    let mut broker = Broker::boot(alloc, memory)?;
+    let mut broker = start;
     while !broker.recover_step()? {}
     Ok(broker)
 }
 
 /// A broker with so many clients, and so many records of each client in each queue; or, where there is an image, the
-/// broker that the image keeps, once it has recovered: it has as many as the image says. A new one is refused as
-/// [`Broker::make`] says. Bytes that are no image are refused as [`Memory::from_image`] says. An image is refused where
-/// its words break a rule (Damaged, with the first such rule), and for want of memory (NoMemory), which may come first.
+/// broker that the image keeps, once it has recovered: it has as many as the image says. An image of the first form is
+/// migrated. A new one is refused as [`Broker::make`] says. Bytes that are no image are refused as
+/// [`Memory::from_image`] says. An image is refused where its words break a rule (Damaged, with the first such rule),
+/// and for want of memory (NoMemory), which may come first.
 pub fn opened(
     alloc: Global,
     clients: u32,
@@ -45,14 +61,14 @@ pub fn opened(
         ((1 ≤ clients) × (clients ≤ MAX_CLIENTS) × ((records ≡ 0) ⊎ (MAX_RECORDS < records)))) }
     ensures unmade { IfNone image.entry (IfErr result (λ e.
         (e ≡ Refusal.BadClients) ⊎ (e ≡ Refusal.BadRecords) ⊎ (e ≡ Refusal.NoMemory))) }
-    ensures opened { IfSome image.entry (λ bytes. IfOk result (IsOpenedFrom bytes.now)) }
-    ensures unopened { IfSome image.entry (λ bytes. IfErr result (IsWhyUnopened (reading bytes.now))) }
+    ensures opened { IfSome image.entry (λ bytes. IfOk result (IsOpenedBy (has_first_form bytes.now) bytes.now)) }
+    ensures unopened { IfSome image.entry (λ bytes.
+        IfErr result (IsWhyUnopened (has_first_form bytes.now) bytes.now)) }
     ensures uncalled { IfOk result IsUncalled }
     ensures promises { IfOk result KeepsPromises }
 {
     let Some(bytes) = image else {
         return Broker::make(alloc, clients, records);
     };
-    let memory = Memory::from_image(alloc, bytes)?;
-    recovered(alloc, memory)
+    recovered(begun(alloc, bytes)?)
 }

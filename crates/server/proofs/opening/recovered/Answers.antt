@@ -1,6 +1,6 @@
 use Rattle.std.proofs.Common.{rules, ◌≡◌, true, false, is_some, Option, Err, IfErr, sym, ap, subst, ◌∙◌}
+use Rattle.words.specs.declared.refusal.Refusal.{Refusal}
 use Rattle.words.specs.declared.refusal.Refusal.TheVariants.{NoMemory}
-use Rattle.named.specs.Booting.{MayRefuse}
 use Rattle.named.specs.declared.recovery.BrokerRecovery.{BrokerRecovery}
 use Rattle.server.proofs.Recoveries.{IsRecovering, answers_ready, none_left, opened_by, recovering_begins, recovering_goes_on, some_left}
 use Rattle.server.proofs.Refused.{refused_for_memory}
@@ -8,10 +8,8 @@ use Rattle.server.proofs.opening.recovered.Goals as goal
 
 pub loop-broker-init : goal.loop-broker-init
 loop-broker-init c = record {
-  so_far =
-      recovering_begins c.args.memory.words c.in_ok-broker.broker c.in_ok-broker.ensures.promises
-      c.in_ok-broker.ensures.booted;
-  down = ap (λ (r : Option BrokerRecovery). is_some r) c.in_ok-broker.ensures.booted.recovery;
+  so_far = recovering_begins c.requires.begun.0 c.args.start c.requires.kept c.requires.begun.1.booted;
+  down = ap (λ (r : Option BrokerRecovery). is_some r) c.requires.begun.1.booted.recovery;
 }
 
 pub returns-in_err-recover_step-clause-errors : goal.returns-in_err-recover_step-clause-errors
@@ -20,8 +18,7 @@ returns-in_err-recover_step-clause-errors c =
     refused_for_memory c.loop-broker.broker c.recover_step.new.self c.in_err-recover_step.field-0.0
     c.loop-broker.invariant.so_far.promises.well c.loop-broker.invariant.down c.in_err-recover_step.ensures.step in
     let answer : c.from_residual-in_err-recover_step.result ≡ Err c.in_err-recover_step.field-0.0 = search rules in
-    subst (λ r. IfErr r (MayRefuse c.args.memory.words.kept)) (sym answer)
-    (subst (MayRefuse c.args.memory.words.kept) (sym refused) c.in_ok-broker.ensures.sound)
+    subst (λ r. IfErr r (λ (e : Refusal). e ≡ NoMemory)) (sym answer) refused
 
 pub loop-broker-preserved : goal.loop-broker-preserved
 loop-broker-preserved c =
@@ -29,7 +26,7 @@ loop-broker-preserved c =
     let going : now.field-0 ≡ false = search rules in
     record {
       so_far =
-          recovering_goes_on c.in_ok-broker.broker c.loop-broker.broker c.recover_step.new.self now.field-0
+          recovering_goes_on c.args.start c.loop-broker.broker c.recover_step.new.self now.field-0
           c.loop-broker.invariant.so_far now.ensures.step now.ensures.told now.ensures.promises;
       down =
           some_left c.recover_step.new.self.recovery
@@ -37,21 +34,20 @@ loop-broker-preserved c =
     }
 
 pub returns-clause-opened : goal.returns-clause-opened
-returns-clause-opened c =
+returns-clause-opened c = λ ws begun.
     let now = c.in_ok-recover_step in
     let over : now.field-0 ≡ true = search rules in
-    let so_far : IsRecovering c.in_ok-broker.broker c.recover_step.new.self =
-    recovering_goes_on c.in_ok-broker.broker c.loop-broker.broker c.recover_step.new.self now.field-0
+    let so_far : IsRecovering c.args.start c.recover_step.new.self =
+    recovering_goes_on c.args.start c.loop-broker.broker c.recover_step.new.self now.field-0
     c.loop-broker.invariant.so_far now.ensures.step now.ensures.told now.ensures.promises in
-    opened_by c.args.memory.words c.in_ok-broker.broker c.recover_step.new.self c.in_ok-broker.ensures.sound
-    c.in_ok-broker.ensures.promises c.in_ok-broker.ensures.booted so_far
+    opened_by ws c.args.start c.recover_step.new.self begun.sound c.requires.kept begun.booted so_far
     (none_left c.recover_step.new.self.recovery
     (answers_ready c.loop-broker.broker c.recover_step.new.self now.field-0 now.ensures.step ∙ over))
 
 pub returns-clause-uncalled : goal.returns-clause-uncalled
 returns-clause-uncalled c =
     let now = c.in_ok-recover_step in
-    let so_far : IsRecovering c.in_ok-broker.broker c.recover_step.new.self =
-    recovering_goes_on c.in_ok-broker.broker c.loop-broker.broker c.recover_step.new.self now.field-0
+    let so_far : IsRecovering c.args.start c.recover_step.new.self =
+    recovering_goes_on c.args.start c.loop-broker.broker c.recover_step.new.self now.field-0
     c.loop-broker.invariant.so_far now.ensures.step now.ensures.told now.ensures.promises in
     so_far.uncalled
