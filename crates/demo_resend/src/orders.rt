@@ -83,6 +83,14 @@ pub(crate) fn send(rt: &HostRuntime, session: &mut Session, number: u64, call: C
     Ok(())
 }
 
+/// The same of the client by now.
+fn told(alloc: Global, session: &Session) -> Result<String> {
+    match session.broker().told(ORDERS, CLIENT) {
+        Ok(told) => heard(alloc, &told),
+        Err(refusal) => Err(refusal.into()),
+    }
+}
+
 /// The client sends a number, whose call makes so many steps.
 pub(crate) fn begin(
     rt: &HostRuntime,
@@ -106,7 +114,7 @@ pub(crate) fn restart(rt: &HostRuntime, session: &mut Session) -> Result<()> {
     println!(rt; "  everything stops, and the reply is lost")?;
     for steps in 1..=MOST_STEPS {
         if session.recover_step()? {
-            let told = heard(rt.alloc(), &session.broker().told(ORDERS, CLIENT)?)?;
+            let told = told(rt.alloc(), session)?;
             println!(rt; "  recovery, in {steps} steps, tells the client: {told}")?;
             return Ok(());
         }

@@ -74,7 +74,10 @@ pub(crate) fn is_told(
     client: u8,
     wanted: &Told,
 ) -> Result<bool, Refusal> {
-    Ok(is_same_told(&told(broker, slot, client)?, wanted))
+    match broker.told(SlotId(slot), Client(client)) {
+        Ok(told) => Ok(is_same_told(&told, wanted)),
+        Err(refusal) => Err(refusal),
+    }
 }
 
 /// Whether the queue of a slot holds these values.
