@@ -6,8 +6,8 @@ lines = socket.create_connection(("127.0.0.1", int(sys.argv[1]))).makefile("rw")
 
 def ask(**request):
     print(json.dumps(request), file=lines, flush=True)
-    return lines.readline().strip()
+    return json.loads(lines.readline())
 
 print(ask(op="create", queue="jobs", kind="log"))
 print(ask(op="put", client=0, queue="jobs", number=1, value=b"hello".hex()))
-print(ask(op="take", client=1, queue="jobs", number=1))
+print(bytes.fromhex(ask(op="take", client=1, queue="jobs", number=1)["got"]).decode())

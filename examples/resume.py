@@ -27,8 +27,14 @@ class Client:
         self.send(**request)
         return json.loads(self.lines.readline())
 
-    def put(self, number, value):
-        return self.ask(op="put", client=self.client, queue=self.queue, number=number, value=value)
+    def put(self, number, message):
+        value = message.encode().hex()
+        return self.ask(op="put", client=self.client, queue=self.queue, number=number, value=value)["reply"]
+
+    def take(self, number):
+        """The next message, or why there is none."""
+        taken = self.ask(op="take", client=self.client, queue=self.queue, number=number)
+        return bytes.fromhex(taken["got"]).decode() if "got" in taken else taken["reply"]
 
     def is_taken(self, number):
         """Whether the call with this number took effect, by what the client was told when the broker recovered."""
@@ -48,7 +54,7 @@ def main():
     port = int(sys.argv[1])
     client = Client(port, 3, "resumed")
     print("create:", client.ask(op="create", queue="resumed", kind="log")["reply"])
-    client.send(op="put", client=3, queue="resumed", number=1, value="05000000")
+    client.send(op="put", client=3, queue="resumed", number=1, value=b"hello".hex())
     # The request is made, but its reply is never read.
     client.socket.shutdown(socket.SHUT_WR)
     client.socket.recv(1, socket.MSG_PEEK)
@@ -59,11 +65,11 @@ def main():
     number = 1
     if client.is_taken(number):
         number += 1
-    print("put number", number, "of 6:", client.put(number, "06000000")["reply"])
-    print("number", number, "sent again:", client.put(number, "06000000")["reply"])
-    print("take:", client.ask(op="take", client=0, queue="resumed", number=1))
-    print("take:", client.ask(op="take", client=0, queue="resumed", number=2))
-    print("take:", client.ask(op="take", client=0, queue="resumed", number=3))
+    print("put number", number, "of world:", client.put(number, "world"))
+    print("number", number, "sent again:", client.put(number, "world"))
+    reader = Client(port, 0, "resumed")
+    for number in 1, 2, 3:
+        print("take:", reader.take(number))
 
 
 main()

@@ -56,9 +56,8 @@ impl Making {
     /// Everything stops, and each client is told of its last dequeue.
     fn stop(&mut self) -> Result<(), AllocError> {
         self.add(Event::Crash)?;
-        self.add(Event::Ready {
-            told: copied(&self.told),
-        })?;
+        let told = copied(&self.told);
+        self.add(Event::Ready { told })?;
         Ok(())
     }
 }

@@ -8,12 +8,11 @@ use crate::orders::{begin, open, restart, send, show};
 use anyhow::Result;
 use words::{Call, Item};
 
-/// Number 1 puts 9 in, as four bytes. Number 2 is to take it out, and after so many steps of that everything stops. The
-/// client does not know what became of it, and sends it again.
+/// Number 1 puts a text in. Number 2 is to take it out, and after so many steps of that everything stops. The client does
+/// not know what became of it, and sends it again.
 fn play(rt: &HostRuntime, steps: u32) -> Result<()> {
     let mut session = open(rt.alloc())?;
-    let nine = Item::make(&9u32.to_le_bytes())?;
-    send(rt, &mut session, 1, Call::Enq(nine))?;
+    send(rt, &mut session, 1, Call::Enq(Item::make(b"hello")?))?;
     begin(rt, &mut session, 2, Call::Deq, steps)?;
     restart(rt, &mut session)?;
     send(rt, &mut session, 2, Call::Deq)?;
@@ -25,7 +24,7 @@ fn play(rt: &HostRuntime, steps: u32) -> Result<()> {
 
 fn main(rt: HostRuntime) -> Result<()> {
     println!(rt; "A crash when number 2 has taken effect, but is not answered")?;
-    play(&rt, 20)?;
+    play(&rt, 23)?;
     println!(rt; "\nA crash when it has only been announced")?;
     play(&rt, 12)
 }

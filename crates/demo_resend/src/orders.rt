@@ -6,7 +6,7 @@ use directory::CREATION_STEPS;
 use named::Broker;
 use session::Session;
 use std::alloc::Global;
-use words::{Call, Client, Kind, Refusal};
+use words::{Call, Client, Item, Kind, Outcome, Refusal, Reply, Told};
 
 /// The queue is the broker's first one.
 const ORDERS: SlotId = SlotId(0);
@@ -26,12 +26,37 @@ pub(crate) fn open(alloc: Global) -> Result<Session, Refusal> {
     Ok(session)
 }
 
+/// The text that a message is.
+fn text(message: &Item) -> &str {
+    str::from_utf8(message.bytes()).unwrap_or("no text")
+}
+
 /// A call and its number, as it is asked for.
 fn asked(alloc: Global, number: u64, call: &Call) -> Result<String> {
     Ok(match call {
-        Call::Enq(value) => format!(in alloc; "{number}, enqueue {value}")?,
+        Call::Enq(message) => format!(in alloc; "{number}, enqueue {}", text(message))?,
         Call::Deq => format!(in alloc; "{number}, dequeue")?,
     })
+}
+
+/// A reply.
+fn replied(alloc: Global, reply: &Reply) -> Result<String> {
+    Ok(match reply {
+        Reply::Got(message) => format!(in alloc; "got {}", text(message))?,
+        _ => format!(in alloc; "{reply}")?,
+    })
+}
+
+/// What a client is told.
+fn heard(alloc: Global, told: &Told) -> Result<String> {
+    let Told::Verdict(verdict) = told else {
+        return Ok(format!(in alloc; "{told}")?);
+    };
+    let outcome = match &verdict.outcome {
+        Outcome::Taken(reply) => replied(alloc, reply)?,
+        Outcome::NotTaken => format!(in alloc; "nottaken")?,
+    };
+    Ok(format!(in alloc; "{} {outcome}", verdict.number)?)
 }
 
 /// How many calls took effect.
@@ -45,6 +70,7 @@ pub(crate) fn send(rt: &HostRuntime, session: &mut Session, number: u64, call: C
     let asked = asked(rt.alloc(), number, &call)?;
     match session.request(CLIENT, ORDERS, number, call) {
         Ok(reply) => {
+            let reply = replied(rt.alloc(), &reply)?;
             let kept = if effects(session)? == before {
                 " (the kept reply: nothing ran)"
             } else {
@@ -55,6 +81,14 @@ pub(crate) fn send(rt: &HostRuntime, session: &mut Session, number: u64, call: C
         Err(refusal) => println!(rt; "  the client sends {asked}: refused, {}", refusal.name())?,
     }
     Ok(())
+}
+
+/// The same of the client by now.
+fn told(alloc: Global, session: &Session) -> Result<String> {
+    match session.broker().told(ORDERS, CLIENT) {
+        Ok(told) => heard(alloc, &told),
+        Err(refusal) => Err(refusal.into()),
+    }
 }
 
 /// The client sends a number, whose call makes so many steps.
@@ -80,7 +114,7 @@ pub(crate) fn restart(rt: &HostRuntime, session: &mut Session) -> Result<()> {
     println!(rt; "  everything stops, and the reply is lost")?;
     for steps in 1..=MOST_STEPS {
         if session.recover_step()? {
-            let told = session.broker().told(ORDERS, CLIENT)?;
+            let told = told(rt.alloc(), session)?;
             println!(rt; "  recovery, in {steps} steps, tells the client: {told}")?;
             return Ok(());
         }
@@ -88,10 +122,10 @@ pub(crate) fn restart(rt: &HostRuntime, session: &mut Session) -> Result<()> {
     Err(Refusal::NotReady.into())
 }
 
-/// How many calls took effect, and how many values are left.
+/// How many calls took effect, and how many messages are left.
 pub(crate) fn show(rt: &HostRuntime, session: &Session) -> Result<()> {
     let effects = effects(session)?;
-    let values = session.broker().content(ORDERS)?.len();
-    println!(rt; "  orders: {effects} calls took effect, {values} values are left")?;
+    let messages = session.broker().content(ORDERS)?.len();
+    println!(rt; "  orders: {effects} calls took effect, {messages} messages are left")?;
     Ok(())
 }

@@ -59,17 +59,17 @@ const COLUMN_WIDTH: u64 = 24;
 
 const MIDDLE: u64 = 12;
 
-/// How far down the parts of a column end: its number, the act, the evictions, the steps of recovery. The clients come
-/// next.
+/// How far down the number of a column ends.
 const NUMBER_END: u64 = 18;
 
-const ACT_END: u64 = 150;
+/// How high the next parts are: the act, at least, the evictions, the steps of recovery, and for each client what it is
+/// told, at least.
+const ACT_HEIGHT: u64 = 132;
 
-const EVICTIONS_END: u64 = 172;
+const EVICTIONS_HEIGHT: u64 = 22;
 
-const STEPS_END: u64 = 290;
+const STEPS_HEIGHT: u64 = 118;
 
-/// How high what a client is told is.
 const CLIENT_HEIGHT: u64 = 100;
 
 /// The most that a bar is high.
@@ -131,6 +131,12 @@ struct Sizes {
     clients: usize,
     /// The most steps that a recovery had, or 1.
     most_steps: u64,
+    /// How far down the acts end, the evictions, and the steps of recovery.
+    acts: u64,
+    evictions: u64,
+    steps: u64,
+    /// How high what a client is told is.
+    told: u64,
     /// How far down the contents begin, and end.
     contents: u64,
     end: u64,
@@ -162,18 +168,60 @@ fn values(alloc: Global, content: &[Value]) -> Result<String, AllocError> {
     Ok(text)
 }
 
+/// How high a part is that holds upright texts, the longest of which has so many characters.
+fn height_of(longest: u64, least: u64) -> u64 {
+    longest
+        .saturating_mul(CHARACTER_WIDTH)
+        .saturating_add(2 * TEXT_GAP)
+        .max(least)
+}
+
+/// How high the part of the acts is.
+fn acts_height(alloc: Global, acts: &[Act]) -> Result<u64, AllocError> {
+    let mut longest = 0usize;
+    for act in acts {
+        longest = longest.max(format!(in alloc; "{}", Spelt(*act))?.len());
+    }
+    Ok(height_of(longest as u64, ACT_HEIGHT))
+}
+
+/// What the clients of a queue are told.
+fn tellings(point: &Point, clients: usize) -> &[Told] {
+    &point.told[..clients.min(point.told.len())]
+}
+
+/// The length of the longest of these tellings.
+fn longest_of(alloc: Global, told: &[Told]) -> Result<u64, AllocError> {
+    let mut longest = 0usize;
+    for told in told {
+        longest = longest.max(format!(in alloc; "{told}")?.len());
+    }
+    Ok(longest as u64)
+}
+
 /// How large the picture of a report is.
-fn sizes_of(alloc: Global, clients: usize, points: &[Point]) -> Result<Sizes, AllocError> {
+fn sizes_of(alloc: Global, setting: &Setting, points: &[Point]) -> Result<Sizes, AllocError> {
+    let clients = setting.queue.clients as usize;
     let mut most_steps = 1;
+    let mut longest_told = 0;
     let mut longest = 8u64;
     for point in points {
         most_steps = most_steps.max(point.steps);
+        longest_told = longest_told.max(longest_of(alloc, tellings(point, clients))?);
         longest = longest.max(values(alloc, &point.content)?.len() as u64);
     }
-    let contents = STEPS_END.saturating_add(CLIENT_HEIGHT.saturating_mul(clients as u64));
+    let acts = acts_height(alloc, &setting.acts)?.saturating_add(NUMBER_END);
+    let evictions = acts.saturating_add(EVICTIONS_HEIGHT);
+    let steps = evictions.saturating_add(STEPS_HEIGHT);
+    let told = height_of(longest_told, CLIENT_HEIGHT);
+    let contents = steps.saturating_add(told.saturating_mul(clients as u64));
     Ok(Sizes {
         clients,
         most_steps,
+        acts,
+        evictions,
+        steps,
+        told,
         contents,
         end: contents
             .saturating_add(longest.saturating_mul(CHARACTER_WIDTH))
@@ -191,9 +239,9 @@ fn upright(text: &mut String, end: u64, what: &str) -> Result<(), AllocError> {
 }
 
 /// The steps of a point's recovery, as a bar with their number above it.
-fn bar(text: &mut String, steps: u64, most_steps: u64) -> Result<(), AllocError> {
-    let height = steps.saturating_mul(BAR_HEIGHT) / most_steps.max(1);
-    let top = (STEPS_END - TEXT_GAP).saturating_sub(height);
+fn bar(text: &mut String, sizes: Sizes, steps: u64) -> Result<(), AllocError> {
+    let height = steps.saturating_mul(BAR_HEIGHT) / sizes.most_steps.max(1);
+    let top = sizes.steps.saturating_sub(TEXT_GAP).saturating_sub(height);
     writeln!(
         text,
         "<rect class=\"bar\" x=\"4\" y=\"{top}\" width=\"16\" height=\"{height}\"/>"
@@ -206,16 +254,21 @@ fn bar(text: &mut String, steps: u64, most_steps: u64) -> Result<(), AllocError>
 }
 
 /// What each client is told, in a box of its colour.
-fn told_boxes(alloc: Global, text: &mut String, told: &[Told]) -> Result<(), AllocError> {
-    let mut end = STEPS_END;
+fn told_boxes(
+    alloc: Global,
+    text: &mut String,
+    sizes: Sizes,
+    told: &[Told],
+) -> Result<(), AllocError> {
+    let mut end = sizes.steps;
     for told in told {
         let top = end.saturating_add(2);
-        end = end.saturating_add(CLIENT_HEIGHT);
+        end = end.saturating_add(sizes.told);
         writeln!(
             text,
             "<rect class=\"{}\" x=\"1\" y=\"{top}\" width=\"22\" height=\"{}\" rx=\"4\"/>",
             colour(*told),
-            CLIENT_HEIGHT - 4
+            sizes.told.saturating_sub(4)
         )?;
         let words = format!(in alloc; "{told}")?;
         upright(text, end, words.as_str())?;
@@ -232,18 +285,14 @@ fn column(
     act: &str,
     evicted: usize,
 ) -> Result<(), AllocError> {
-    upright(text, ACT_END, act)?;
+    upright(text, sizes.acts, act)?;
     writeln!(
         text,
         "<text class=\"number faint\" x=\"{MIDDLE}\" y=\"{}\">{evicted}</text>",
-        EVICTIONS_END - NUMBER_GAP
+        sizes.evictions.saturating_sub(NUMBER_GAP)
     )?;
-    bar(text, point.steps, sizes.most_steps)?;
-    told_boxes(
-        alloc,
-        text,
-        &point.told[..sizes.clients.min(point.told.len())],
-    )?;
+    bar(text, sizes, point.steps)?;
+    told_boxes(alloc, text, sizes, tellings(point, sizes.clients))?;
     let content = values(alloc, &point.content)?;
     upright(
         text,
@@ -278,24 +327,15 @@ fn label(
 
 /// The labels of all parts.
 fn labels(alloc: Global, text: &mut String, sizes: Sizes, width: u64) -> Result<(), AllocError> {
-    label(text, width, NUMBER_END, ACT_END - TEXT_GAP, "crash after")?;
-    label(
-        text,
-        width,
-        ACT_END,
-        EVICTIONS_END - NUMBER_GAP,
-        "words kept",
-    )?;
-    label(
-        text,
-        width,
-        EVICTIONS_END,
-        STEPS_END - TEXT_GAP,
-        "recovery steps",
-    )?;
-    let mut from = STEPS_END;
+    let base = sizes.acts.saturating_sub(TEXT_GAP);
+    label(text, width, NUMBER_END, base, "crash after")?;
+    let base = sizes.evictions.saturating_sub(NUMBER_GAP);
+    label(text, width, sizes.acts, base, "words kept")?;
+    let base = sizes.steps.saturating_sub(TEXT_GAP);
+    label(text, width, sizes.evictions, base, "recovery steps")?;
+    let mut from = sizes.steps;
     for client in 0..sizes.clients {
-        let end = from.saturating_add(CLIENT_HEIGHT);
+        let end = from.saturating_add(sizes.told);
         let what = format!(in alloc; "client {client} is told")?;
         label(
             text,
@@ -374,8 +414,7 @@ fn write_page(
     setting: &Setting,
     report: &Report,
 ) -> Result<(), AllocError> {
-    let clients = setting.queue.clients as usize;
-    let sizes = sizes_of(alloc, clients, &report.points)?;
+    let sizes = sizes_of(alloc, setting, &report.points)?;
     let width = COLUMN_WIDTH
         .saturating_mul(report.points.len() as u64)
         .saturating_add(LABELS_WIDTH);

@@ -245,7 +245,7 @@ impl<L: Layout + Drop> Player<L> {
 
     /// Follows a command, and adds its lines.
     pub(crate) fn follow(&mut self, lines: &mut Vec<Line>, command: &Command) -> Result<(), Refusal>
-        ensures play { OnOk result (self.new ≡ after_command self.old command) }
+        ensures play { OnOk result (self.new ≡ after_command self.old command.now) }
         ensures lines { OnOk result (lines.new.items ≡ lines.old.items ++ command_lines self.old command.now) }
         ensures errors { IfErr result (λ e. e ≡ Refusal.NoMemory) }
     {

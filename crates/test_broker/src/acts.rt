@@ -2,6 +2,7 @@
 
 use arena::SlotId;
 use directory::Name;
+use events::is_same_told;
 use named::Broker;
 use persist::{KeptWords, Memory};
 use std::alloc::Global;
@@ -64,6 +65,19 @@ pub(crate) fn recover_on(broker: &mut Broker, steps: u32) -> Result<(), Refusal>
 /// What a client is told in the queue of a slot.
 pub(crate) fn told(broker: &Broker, slot: u8, client: u8) -> Result<Told, Refusal> {
     broker.told(SlotId(slot), Client(client))
+}
+
+/// Whether the client was told just this.
+pub(crate) fn is_told(
+    broker: &Broker,
+    slot: u8,
+    client: u8,
+    wanted: &Told,
+) -> Result<bool, Refusal> {
+    match broker.told(SlotId(slot), Client(client)) {
+        Ok(told) => Ok(is_same_told(&told, wanted)),
+        Err(refusal) => Err(refusal),
+    }
 }
 
 /// Whether the queue of a slot holds these values.

@@ -1,7 +1,7 @@
 //! Crashes of brokers at each step of their recovery, and again on the way of the next: what is told, and what queues
 //! hold.
 
-use crate::acts::{begin, create_on, effects, has, holds, queues, recover_on, told};
+use crate::acts::{begin, create_on, effects, has, holds, is_told, queues, recover_on};
 use arena::SlotId;
 use named::Broker;
 use std::alloc::Global;
@@ -38,8 +38,8 @@ fn tells(alloc: Global, broker: &Broker, steps: u32) -> Result<bool, Refusal> {
     } else {
         (not_taken(2), &nine)
     };
-    let mut right = told(broker, 0, 0)? == Told::Row(Row::Got(item(3)));
-    right &= told(broker, 1, 0)? == Told::Verdict(verdict);
+    let mut right = is_told(broker, 0, 0, &Told::Row(Row::Got(item(3))))?;
+    right &= is_told(broker, 1, 0, &Told::Verdict(verdict))?;
     right &= holds(broker, 0, &[])? && holds(broker, 1, left)?;
     right &= has(broker, 0, b"d", Kind::Durable)? && has(broker, 1, b"l", Kind::Log)?;
     Ok(right && are_explained(alloc, broker)?)
@@ -87,11 +87,11 @@ fn to_be_found(alloc: Global) -> Result<Broker, Refusal> {
 /// Whether a queue that was found serves, and no creation is under way.
 fn serves_as_found(alloc: Global, broker: &mut Broker) -> Result<bool, Refusal> {
     let mut right = broker.create_step() == Err(Refusal::Idle);
-    right &= told(broker, 1, 0)? == Told::None;
+    right &= is_told(broker, 1, 0, &Told::None)?;
     right &= finish(broker, 1, 0, 1, Call::Enq(item(5)))? == Reply::Done;
     right &= create(broker, b"next", Kind::Durable)? == SlotId(2);
     restart(broker)?;
-    right &= told(broker, 1, 0)? == Told::Verdict(taken(1, Reply::Done));
+    right &= is_told(broker, 1, 0, &Told::Verdict(taken(1, Reply::Done)))?;
     right &= holds(broker, 1, &[item(5)])? && effects(broker, 1) == 1 && queues(broker)? == 3;
     Ok(right && are_explained(alloc, broker)?)
 }

@@ -37,7 +37,7 @@ fn act(broker: &mut Broker, rng: &mut Pcg32, number: u64) -> Result<(), Refusal>
     let down = broker.list().is_err();
     match below(rng, 64) {
         0 => broker.crash(),
-        1..=3 => pass_over(broker.evict(below(rng, 200) as usize)),
+        1..=3 => pass_over(broker.evict(below(rng, 250) as usize)),
         _ if down => pass_over(broker.recover_step()),
         4..=9 => pass_over(broker.start(slot, client, number, Call::Enq(item(rng.next_u32())))),
         10..=15 => pass_over(broker.start(slot, client, number, Call::Deq)),
@@ -74,7 +74,7 @@ fn word(rng: &mut Pcg32, count: usize) -> usize {
         0 => below(rng, 2) as usize,
         1 => below(rng, 34) as usize,
         2 => below(rng, u32::try_from(count).unwrap_or(u32::MAX)) as usize,
-        _ => below(rng, 150) as usize,
+        _ => below(rng, 192) as usize,
     }
 }
 

@@ -168,7 +168,7 @@ fn number(bytes: &[u8]) -> u64 {
 pub(crate) fn words_in(alloc: Global, image: &[u8]) -> Result<Vec<u64>, Refusal> {
     if image
         .iter()
-        .zip(b"PQW1")
+        .zip(b"PQW2")
         .any(|(byte, magic)| *byte != *magic)
     {
         return Err(Refusal::BadMagic);
@@ -208,7 +208,7 @@ pub(crate) fn refusal_of(alloc: Global, image: &[u8]) -> Result<(), Refusal> {
 
 /// The image of words.
 pub(crate) fn image_of(alloc: Global, words: &[u64]) -> Result<Vec<u8>, Refusal> {
-    let mut image = Vec::from_slice(alloc, b"PQW1").map_err(|_| Refusal::NoMemory)?;
+    let mut image = Vec::from_slice(alloc, b"PQW2").map_err(|_| Refusal::NoMemory)?;
     let count = (words.len() as u64).to_le_bytes();
     image
         .extend_from_slice(&count)

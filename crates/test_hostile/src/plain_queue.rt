@@ -2,7 +2,7 @@
 //! tables, and each rule by itself.
 
 use std::alloc::Global;
-use words::{ITEM_BYTES, Kind, MAX_CALL_NUMBER, Refusal, Reply, Rule};
+use words::{ITEM_BYTES, Item, Kind, MAX_CALL_NUMBER, Refusal, Reply, Rule};
 
 /// A queue's words, and how many clients and records it has.
 #[derive(Clone, Copy)]
@@ -96,6 +96,16 @@ impl PlainQueue<'_> {
     fn byte(&self, node: u64, place: u64) -> u8 {
         let word = self.node(node, (place / 8).saturating_add(1));
         word.to_le_bytes()[(place % 8) as usize]
+    }
+
+    /// The message, if its length is that of one.
+    fn item(&self, node: u64) -> Option<Item> {
+        let mut bytes = [0u8; ITEM_BYTES];
+        for place in 0..ITEM_BYTES {
+            bytes[place] = self.byte(node, place as u64);
+        }
+        let bytes = bytes.get(..self.length(node) as usize)?;
+        Item::make(bytes).ok()
     }
 
     fn next(&self, node: u64) -> u64 {
@@ -333,7 +343,10 @@ impl PlainQueue<'_> {
         let first = chain.iter().find(|node| self.mark(**node) == 0);
         match first {
             None => Ok(Some(Reply::Empty)),
-            Some(node) => Ok(u32::try_from(self.value(*node)).ok().map(Reply::Got)),
+            Some(node) => match self.item(*node) {
+                None => Ok(None),
+                Some(item) => Ok(Some(Reply::Got(item))),
+            },
         }
     }
 

@@ -49,7 +49,7 @@ static STORY: [(u32, Act); 46] = [
     (1, Act::Start(1, 1, 2, Wish::Deq)),
     (6, Act::Step(1, 1)),
     (1, Act::Evict(2)),
-    (1, Act::Evict(111)),
+    (1, Act::Evict(138)),
     (1, Act::Crash),
     (80, Act::Recover),
     (1, Act::Rotate),

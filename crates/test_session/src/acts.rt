@@ -1,6 +1,7 @@
 //! What the tests do with a session, many acts at a time, and what they see of it.
 
 use arena::SlotId;
+use events::is_same_told;
 use named::Broker;
 use persist::Memory;
 use session::Session;
@@ -93,11 +94,12 @@ pub(crate) fn events(session: &Session, slot: SlotId) -> Result<usize, Refusal> 
 
 /// Whether what is kept of a client is the verdict that recovery told it.
 pub(crate) fn is_as_told(session: &Session, client: u8) -> Result<bool, Refusal> {
-    Ok(match session.broker().told(A, Client(client))? {
-        Told::Verdict(verdict) => last(session, client) == Some(verdict),
-        Told::None => last(session, client).is_none(),
-        Told::Row(_) => false,
-    })
+    let told = session.broker().told(A, Client(client))?;
+    let kept = match last(session, client) {
+        Some(verdict) => Told::Verdict(verdict),
+        None => Told::None,
+    };
+    Ok(is_same_told(&told, &kept))
 }
 
 /// Whether the order has at most one entry for each number of a client: each client's entries have rising numbers.

@@ -27,8 +27,10 @@ struct Drawn {
 }
 
 /// The reply to this number, where the verdict says that it was taken.
-fn reply_to(last: Option<Verdict>, number: u64) -> Option<Reply> {
-    let verdict = last?;
+fn reply_to(last: &Option<Verdict>, number: u64) -> Option<Reply> {
+    let Some(verdict) = last else {
+        return None;
+    };
     if verdict.number != number {
         return None;
     }
@@ -42,7 +44,7 @@ fn reply_to(last: Option<Verdict>, number: u64) -> Option<Reply> {
 /// answered the account knows nothing: what recovery told says whether it is to run.
 fn wanted(
     plain: &Plain,
-    last: Option<Verdict>,
+    last: &Option<Verdict>,
     client: u8,
     number: u64,
 ) -> Result<Option<Reply>, Refusal> {
@@ -102,7 +104,7 @@ impl Drawn {
         let last = self.session.last(Client(client), A);
         let wanted = match self.refusal(client) {
             Some(refusal) => Err(refusal),
-            None => wanted(&self.plain, last, client, number),
+            None => wanted(&self.plain, &last, client, number),
         };
         let (before, call) = (events(&self.session, A)?, call_of(client, number));
         let answer = if whole {

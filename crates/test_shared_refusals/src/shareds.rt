@@ -14,6 +14,7 @@ use std::sync::Wait;
 use test_growths::sessions::Act;
 use test_growths::{MOST_TRIES, play, say_again, seen};
 use test_support::item;
+use test_support::steps::LOG_CLAIM_KEPT;
 use words::{Call, Client, Kind, Refusal};
 use workers::{Gate, Naming, OpenGate, Opened, Seat, Shared};
 
@@ -133,7 +134,10 @@ fn first_calls<J: Naming, R: Wait + Print + AllocGlobal>(
     let seat = call(rt, shared, seat, plain(Call::Enq(item(5))), &OpenGate)?;
     crash(rt, shared)?;
     recover(rt, shared)?;
-    let gate = Stopping { shared, steps: 20 };
+    let gate = Stopping {
+        shared,
+        steps: u64::from(LOG_CLAIM_KEPT),
+    };
     let seat = call(rt, shared, seat, numbered(3, Call::Deq), &gate)?;
     recover(rt, shared)?;
     let seat = call(rt, shared, seat, numbered(3, Call::Deq), &OpenGate)?;

@@ -1,6 +1,7 @@
 -- What a broker shows of an open slot is explained.
 use Rattle.std.proofs.Common.{◌≡◌, refl, ℕ, Bool, true, List, Option, None, Some, Result, Ok, Err}
 use Rattle.std.specs.Prelude.{◌↔◌, IfOk, IsSome, IsTrue}
+use Rattle.words.specs.PlainQueue.{Value}
 use Rattle.words.specs.declared.refusal.Refusal.{Refusal}
 use Rattle.events.specs.Explains.{IsExplained}
 use Rattle.events.specs.Replay.{queue_after}
@@ -10,7 +11,7 @@ use Rattle.interleave.specs.Holds.{IsExplained as IsWorldExplained}
 use Rattle.interleave.specs.State.{State, order_in, kept_content}
 use Rattle.named.specs.Slots.{IfWorld}
 
-module _ (h : History) (o : Order) (content : List ℕ) where
+module _ (h : History) (o : Order) (content : List Value) where
   abbrev IsRight : Type 0
   IsRight = IsExplained h o × (content ≡ queue_after h.events.items h.base.items o.entries.items)
 

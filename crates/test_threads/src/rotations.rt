@@ -16,7 +16,7 @@ use std::test::*;
 use std::thread::Threads;
 use std::time::Clock;
 use test_support::brokers::taken;
-use test_support::item;
+use test_support::{are_items, item};
 use test_support::sessions::{A, with_queue};
 use words::{Call, Client, Kind, Refusal, Reply, Told};
 use workers::{Answer, Naming, Opened, Seat, Shared};
@@ -107,6 +107,6 @@ fn places_begin_anew_after_a_rotation(rt: HostRuntime) -> Result<(), Fail> {
     let left = whole::<Brand, _>(&rt, alloc, opened, &since)?;
     let broker = left.session.broker();
     assert_eq!(rt; broker.history(A)?.events.len(), 4, "calls and returns");
-    assert!(rt; broker.content(A)?.as_slice() == [8u32].as_slice());
+    assert!(rt; are_items(broker.content(A)?.as_slice(), &[8]));
     Ok(())
 }

@@ -1,4 +1,5 @@
 use Rattle.std.proofs.Common.{◌≡◌, ℕ, List, sym, subst}
+use Rattle.words.specs.PlainQueue.{Value}
 use Rattle.interleave.specs.State.{kept_content}
 use Rattle.named.specs.Brokers.{world_at}
 use Rattle.named.specs.Slots.{IfWorld}
@@ -9,7 +10,7 @@ pub returns-clause-right : goal.returns-clause-right
 returns-clause-right c =
     let at = world_at c.args.broker.now c.args.slot.0 in
     let shown = c.in_ok-history.ensures in
-    let holds = subst (λ (l : List ℕ). IfWorld at (λ w. l ≡ kept_content w)) (sym c.deref.ensures.value)
+    let holds = subst (λ (l : List Value). IfWorld at (λ w. l ≡ kept_content w)) (sym c.deref.ensures.value)
     c.in_ok-content.ensures.content in
     passed _
     (explained c.in_ok-history.field-0.now c.in_ok-order.order c.deref.result.now at
