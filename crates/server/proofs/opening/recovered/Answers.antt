@@ -17,7 +17,7 @@ returns-in_err-recover_step-clause-errors c =
     let refused : c.in_err-recover_step.field-0.0 ≡ NoMemory =
     refused_for_memory c.loop-broker.broker c.recover_step.new.self c.in_err-recover_step.field-0.0
     c.loop-broker.invariant.so_far.promises.well c.loop-broker.invariant.down c.in_err-recover_step.ensures.step in
-    let answer : c.from_residual-in_err-recover_step.result ≡ Err c.in_err-recover_step.field-0.0 = search rules in
+    let answer : c.from_residual.result ≡ Err c.in_err-recover_step.field-0.0 = search rules in
     subst (λ r. IfErr r (λ (e : Refusal). e ≡ NoMemory)) (sym answer) refused
 
 pub loop-broker-preserved : goal.loop-broker-preserved
