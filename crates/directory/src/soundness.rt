@@ -9,8 +9,7 @@ ghost use Rattle.directory.specs.Sound.{counts_in, HeadIsSoundIn, IsBlockZeroIn,
 use crate::queue::{Queue, queue_of};
 use crate::slots::Directory;
 use arena::{
-    BLOCKS_FROM, BrokerLayout, BrokerPlace, CLOSED_GATE, Form, HEAD_WORDS, OPEN_GATE, SLOTS,
-    SlotId,
+    BLOCKS_FROM, BrokerLayout, BrokerPlace, CLOSED_GATE, Form, HEAD_WORDS, OPEN_GATE, SLOTS, SlotId,
 };
 use persist::KeptWords;
 use words::{MAX_CLIENTS, MAX_RECORDS, Refusal, Rule};

@@ -1,5 +1,5 @@
 -- What migrated words hold and tell is what the old ones did.
-use Rattle.std.proofs.Common.{◌≡◌, ◌≢◌, ℕ, ◌+◌, ◌<◌, ◌≤◌, ◌⊎◌, inl, inr, List, [], ◌∷◌, map, filter, Option, Some, None, Bool, true, false, if◌then◌else◌, ◌==◌, refl, sym, ◌∙◌, ap, arith}
+use Rattle.std.proofs.Common.{◌≡◌, ◌≢◌, ℕ, ◌+◌, ◌<◌, ◌≤◌, ◌⊎◌, inl, inr, List, [], ◌∷◌, map, filter, Some, None, if◌then◌else◌, ◌==◌, refl, sym, ◌∙◌, ap, arith}
 use Rattle.std.specs.Prelude.{nat_eq, nat_lt}
 use Rattle.std.specs.List.{list_any, range_with_len}
 use Rattle.std.proofs.lemmas.Bool.{cases_eq, cases_lt, eq-eqb, ne_eqb, lt-ltb, le-ltb}
@@ -17,7 +17,7 @@ use Rattle.words.specs.declared.told.Verdict.{Verdict}
 use Rattle.arena.specs.Chain.{IsAmong}
 use Rattle.arena.specs.Content.{chain_of, content_in}
 use Rattle.arena.specs.Shape.{Shape}
-use Rattle.arena.specs.Words.{announcements, cells, entry_kinds, item_again, item_part, marks, numbers, statuses, value_of, values_in}
+use Rattle.arena.specs.Words.{announcements, cells, entry_kinds, item_again, marks, numbers, statuses, value_of, values_in}
 use Rattle.arena.specs.declared.form.Form.TheVariants.{OfItems, OfValues}
 use Rattle.arena.specs.declared.place.Part.TheVariants.{Length, First, Second, Third}
 use Rattle.arena.specs.declared.place.Place.{Place}

@@ -1,26 +1,23 @@
 -- Migrated words obey the rules where the old ones do.
-use Rattle.std.proofs.Common.{◌≡◌, ◌≢◌, ℕ, ◌+◌, ◌<◌, ◌≤◌, ◌⊎◌, inl, inr, List, [], ◌∷◌, Option, Some, None, true, false, refl, sym, ◌∙◌, ap, subst, arith}
+use Rattle.std.proofs.Common.{◌≡◌, ℕ, ◌+◌, ◌<◌, ◌≤◌, inl, inr, List, [], ◌∷◌, Some, refl, sym, ◌∙◌, ap, arith}
 use Rattle.std.specs.Prelude.{nat_eq}
 use Rattle.std.specs.List.{list_any}
-use Rattle.std.proofs.lemmas.Bool.{cases_eq, cases_lt, eq-eqb, ne_eqb, lt-ltb, le-ltb}
-use Rattle.words.specs.Item.{AreParts}
+use Rattle.std.proofs.lemmas.Bool.{cases_eq, cases_lt, eq-eqb, ne_eqb, lt-ltb}
 use Rattle.words.specs.PlainQueue.{Value}
 use Rattle.words.specs.declared.call.Kind.{Kind}
 use Rattle.words.specs.declared.call.Kind.TheVariants.{Durable, Log}
 use Rattle.words.proofs.Parts.{parts_blank}
 use Rattle.arena.specs.Chain.{IsAmong, IsChain}
 use Rattle.arena.specs.Content.{chain_of}
-use Rattle.arena.specs.Place.{IsNode, IsRecord}
 use Rattle.arena.specs.Shape.{Shape}
-use Rattle.arena.specs.Words.{HoldsIn, IsBlankItem, cells, item_part, item_parts, links, marks, values_in}
+use Rattle.arena.specs.Words.{HoldsIn, IsBlankItem, cells, item_parts, links, marks, values_in}
 use Rattle.arena.specs.declared.form.Form.TheVariants.{OfItems, OfValues}
 use Rattle.arena.specs.declared.place.Part.{Part}
 use Rattle.arena.specs.declared.place.Part.TheVariants.{Length, First, Second, Third}
 use Rattle.arena.specs.declared.place.Place.{Place}
-use Rattle.recover.specs.Sound.{AnswersAreSoundIn, ChainIsSoundIn, ClaimsAreSoundIn, EndsAreSound, EntriesAreSound, HeadIsSound, IsAnnounced, IsBlankAnswer, IsBlankRecordIn, IsClaimOf, IsClaimed, IsEmpty, IsInserted, IsIssued, IsOfSomeCall, IsOnChain, IsOwn, IsPassed, IsResultIn, IsSoundIn, IsTaken, LogIsSound, RecordsAreSoundIn, RemovedIsSound, RowIsSound, RowsAreSoundIn, StatusIsSound, TailIsSound}
+use Rattle.recover.specs.Sound.{AnswersAreSoundIn, ChainIsSoundIn, ClaimsAreSoundIn, EndsAreSound, EntriesAreSound, IsAnnounced, IsBlankAnswer, IsBlankRecordIn, IsClaimOf, IsClaimed, IsIssued, IsOfSomeCall, IsOnChain, IsOwn, IsPassed, IsResultIn, IsSoundIn, RecordsAreSoundIn, RemovedIsSound, RowsAreSoundIn, StatusIsSound}
 use Rattle.recover.specs.Told.{node_claimed_by}
 use Rattle.recover.proofs.Chains.{is_among_or_not}
-use Rattle.recover.proofs.Surveys.{record_on_chain}
 use Rattle.recover.proofs.ToldBy.{among_any, among_none}
 use Rattle.migration.specs.Migrated.{cell_migrated, claimed_node, migrated, node_or_none, part_migrated}
 use Rattle.migration.proofs.Alike.{cell_named}

@@ -1,6 +1,6 @@
 -- The tables of a survey say which nodes are on the chain, and which node a token claims.
-use Rattle.std.proofs.Common.{◌≡◌, ◌≢◌, ℕ, ◌⊎◌, inl, inr, List, [], ◌∷◌, Option, Some, None, true, false, not, refl, sym, ◌∙◌, ap, arith}
-use Rattle.std.specs.Prelude.{nat_eq, ◌==◌}
+use Rattle.std.proofs.Common.{◌≡◌, ◌≢◌, ℕ, inl, inr, List, [], ◌∷◌, Some, None, true, false, refl, sym, ◌∙◌, ap}
+use Rattle.std.specs.Prelude.{nat_eq}
 use Rattle.std.specs.List.{list_any}
 use Rattle.std.proofs.lemmas.Bool.{cases_eq, eq-eqb, ne_eqb}
 use Rattle.arena.specs.Chain.{IsAmong}
@@ -10,7 +10,6 @@ use Rattle.arena.specs.Words.{marks}
 use Rattle.arena.specs.declared.place.Place.{Place}
 use Rattle.recover.specs.Order.{IsClaimTable, IsOrder}
 use Rattle.recover.specs.Told.{node_claimed_by}
-use Rattle.recover.proofs.Chains.{is_among_or_not}
 use Rattle.recover.proofs.ToldBy.{among_any, among_none}
 use Rattle.migration.specs.Migrated.{claimed_node, node_or_none}
 

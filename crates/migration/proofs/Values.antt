@@ -1,5 +1,5 @@
 -- The item of a value's four bytes.
-use Rattle.std.proofs.Common.{◌≡◌, ℕ, zero, suc, ◌<◌, ◌≤◌, slice_index, length, refl, arith}
+use Rattle.std.proofs.Common.{ℕ, zero, suc, ◌<◌, slice_index, arith}
 use Rattle.std.specs.Int.{w32, to_le_bytes}
 use Rattle.words.specs.PlainQueue.{FitsValue}
 

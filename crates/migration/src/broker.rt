@@ -45,7 +45,10 @@ fn add_slot(
     let Some(queue) = queue else {
         return add_zeros(layout.block_size(), words);
     };
-    let (from, len) = (layout.block_in(Form::OfValues, slot), layout.block_size_in(Form::OfValues));
+    let (from, len) = (
+        layout.block_in(Form::OfValues, slot),
+        layout.block_size_in(Form::OfValues),
+    );
     let Ok(block) = memory.view(from, len) else {
         // The memory has as many words as the layout.
         unreachable!();
@@ -68,11 +71,7 @@ fn add_front(memory: &Memory, words: &mut Vec<u64>) -> Result<(), AllocError>
 }
 
 /// Adds the words of all blocks, in the order of the slots.
-fn add_blocks(
-    kept: &KeptBroker,
-    memory: &Memory,
-    words: &mut Vec<u64>,
-) -> Result<(), AllocError>
+fn add_blocks(kept: &KeptBroker, memory: &Memory, words: &mut Vec<u64>) -> Result<(), AllocError>
     requires sound { MayBeMigrated memory.now.words kept.now.layout kept.now.directory }
     ensures { OnOk result (words.new.items ≡ words.old.items
         ++ flat_map (slot_block_migrated (counts_in memory.now.words.kept) memory.now.words.kept)

@@ -34,7 +34,10 @@ impl<'a, L: Layout, W: KeptWords> Model for KeptQueue<'a, L, W> {
     ghost Value = { Kept };
 
     ghost view = { λ q. record {
-        form = q.form; shape = L.shape q.layout.now; words = W.kept_words q.words.now } };
+      form = q.form;
+      shape = L.shape q.layout.now;
+      words = W.kept_words q.words.now;
+    } };
 
     ghost invariant = { λ q. size_in q.form (L.shape q.layout.now) ≤ length (W.kept_words q.words.now) };
 }
@@ -44,7 +47,10 @@ impl<'a, L: Layout, W: KeptWords> KeptQueue<'a, L, W> {
     pub fn new(layout: &'a L, words: &'a W) -> Self
         requires { size_of (L.shape layout.now) ≤ length (W.kept_words words.now) }
         ensures { result ≡ record {
-            form = running; shape = L.shape layout.now; words = W.kept_words words.now } }
+          form = running;
+          shape = L.shape layout.now;
+          words = W.kept_words words.now;
+        } }
     {
         KeptQueue {
             form: Form::OfItems,
@@ -57,7 +63,10 @@ impl<'a, L: Layout, W: KeptWords> KeptQueue<'a, L, W> {
     pub fn of_values(layout: &'a L, words: &'a W) -> Self
         requires { size_in OfValues (L.shape layout.now) ≤ length (W.kept_words words.now) }
         ensures { result ≡ record {
-            form = OfValues; shape = L.shape layout.now; words = W.kept_words words.now } }
+          form = OfValues;
+          shape = L.shape layout.now;
+          words = W.kept_words words.now;
+        } }
     {
         KeptQueue {
             form: Form::OfValues,

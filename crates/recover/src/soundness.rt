@@ -188,11 +188,7 @@ pub fn surveyed<L: Layout, W: KeptWords>(
 }
 
 /// Whether kept words are those of a queue, in this form.
-pub fn sound_in<L: Layout, W: KeptWords>(
-    form: Form,
-    layout: &L,
-    words: &W,
-) -> Result<(), Refusal>
+pub fn sound_in<L: Layout, W: KeptWords>(form: Form, layout: &L, words: &W) -> Result<(), Refusal>
     ensures ok { IsOk result ↔ AreSoundWordsIn form (L.shape layout.now) (W.kept_words words.now) }
     ensures damaged { IfErr result (λ e. IsDamagedIn form (L.shape layout.now) (W.kept_words words.now) e) }
 {

@@ -1,9 +1,9 @@
-use Rattle.std.proofs.Common.{◌≡◌, ◌++◌, ℕ, ◌+◌, ◌≤◌, List, [], ◌∷◌, map, refl, sym, ap, subst, ◌∙◌, arith}
+use Rattle.std.proofs.Common.{◌≡◌, ◌++◌, ℕ, ◌+◌, List, [], ◌∷◌, map, sym, ap, subst, ◌∙◌, arith}
 use Rattle.std.specs.List.{range_with_len}
 use Rattle.std.proofs.lemmas.List.{append-nil, append_assoc}
 use Rattle.std.proofs.lemmas.List.FromFn.{map-range_with_len_more}
 use Rattle.arena.specs.Broker.{block_size_of}
-use Rattle.arena.specs.Shape.{Counts, Shape, shape_of}
+use Rattle.arena.specs.Shape.{Shape}
 use Rattle.arena.specs.declared.form.Form.TheVariants.{OfValues}
 use Rattle.recover.specs.Kept.{Kept, kept_by, kept_of}
 use Rattle.migration.specs.Words.{block_migrated, word_migrated}

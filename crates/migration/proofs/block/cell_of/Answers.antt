@@ -1,4 +1,4 @@
-use Rattle.std.proofs.Common.{◌≡◌, ◌≢◌, ◌≤◌, ◌+◌, ℕ, sym, ap, ◌∙◌, arith}
+use Rattle.std.proofs.Common.{◌≢◌, ◌≤◌, ◌+◌, ℕ, sym, ap, ◌∙◌, arith}
 use Rattle.arena.specs.declared.place.Place.TheVariants.{Cell}
 use Rattle.recover.specs.Kept.{kept_of}
 use Rattle.migration.specs.Migrated.{claimed_node}

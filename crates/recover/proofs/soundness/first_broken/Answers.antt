@@ -19,7 +19,7 @@ surveyed (Some rule) queue place claimed places tokens order table = tt
 pub returns-clause-survey : goal.returns-clause-survey
 returns-clause-survey g c =
     subst (λ (queue : Kept). IfNone c.broken_past_records.result
-        (IsSurveyOf queue.form queue.shape queue.words c.broken_past_records.new.place c.broken_past_records.new.claimed))
+    (IsSurveyOf queue.form queue.shape queue.words c.broken_past_records.new.place c.broken_past_records.new.claimed))
     c.queue_of-queue.ensures
     (surveyed c.broken_past_records.result c.queue_of-queue.result c.broken_past_records.new.place c.broken_past_records.new.claimed
     c.broken_past_records.ensures.places c.broken_past_records.ensures.tokens c.broken_past_records.ensures.order c.broken_past_records.ensures.claims)
