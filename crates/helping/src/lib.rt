@@ -9,7 +9,7 @@ mod op;
 
 pub use dequeue::{
     Claim, Claimed, DequeueCheckHead, DequeueClaim, DequeueHelpTail, DequeueLoadHead,
-    DequeueLoadNext, DequeueLoadItem, DequeueLoadTail, DequeueMoveHead, DequeueStoreEmpty,
+    DequeueLoadItem, DequeueLoadNext, DequeueLoadTail, DequeueMoveHead, DequeueStoreEmpty,
     DequeueStoreResult,
 };
 pub use enqueue::{

@@ -78,10 +78,20 @@ parts_fit s b value h rest all =
 preparation_fits : (s : Shape) (kind : Kind) (call : Call) (b : Begun) → s.kind ≡ kind → b.call ≡ call → IsBegun s b → AllWritesFit s (preparation_from kind call b)
 preparation_fits s Durable (Enq value) b k c h = (record { is_place = h.client; fits = grind (arith, h.unused) }, parts_fit s b value h [] tt)
 preparation_fits s Durable Deq b k c h = (record { is_place = h.client; fits = grind (arith, h.unused) }, (record { is_place = h.client; fits = grind (arith, h.is_record) }, tt))
-preparation_fits s Log (Enq value) b k c h =
-    (record { is_place = h.client; fits = grind (arith, h.unused) }, (record { is_place = (k, h.is_record); fits = h.number }, (record { is_place = (k, h.is_record); fits = grind arith }, (record { is_place = (k, h.is_record); fits = grind (arith, h.is_record) },
-    parts_fit s b value h (write (Insert (record { 0 = b.token.0 })) b.token.0 ∷ announcement b ∷ [])
-    (record { is_place = (k, grind (arith, h.is_record)); fits = grind (arith, h.is_record) }, (record { is_place = h.client; fits = grind (arith, h.is_record) }, tt))))))
+preparation_fits s Log (Enq value) b k c h = (
+  record { is_place = h.client; fits = grind (arith, h.unused) },
+  (
+    record { is_place = (k, h.is_record); fits = h.number },
+    (
+      record { is_place = (k, h.is_record); fits = grind arith },
+      (
+        record { is_place = (k, h.is_record); fits = grind (arith, h.is_record) },
+        parts_fit s b value h (write (Insert (record { 0 = b.token.0 })) b.token.0 ∷ announcement b ∷ [])
+            (record { is_place = (k, grind (arith, h.is_record)); fits = grind (arith, h.is_record) }, (record { is_place = h.client; fits = grind (arith, h.is_record) }, tt)),
+      ),
+    ),
+  ),
+)
 preparation_fits s Log Deq b k c h = (record { is_place = h.client; fits = grind (arith, h.unused) }, (record { is_place = (k, h.is_record); fits = h.number }, (record { is_place = (k, h.is_record); fits = grind arith }, (record { is_place = h.client; fits = grind (arith, h.is_record) }, tt))))
 
 in_hand_fits : (s : Shape) (b : Begun) (i : ℕ) (w : Write) → IsPreparing s b i w → WriteFits s w

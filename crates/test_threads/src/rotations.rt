@@ -16,8 +16,8 @@ use std::test::*;
 use std::thread::Threads;
 use std::time::Clock;
 use test_support::brokers::taken;
-use test_support::{are_items, item};
 use test_support::sessions::{A, with_queue};
+use test_support::{are_items, item};
 use words::{Call, Client, Kind, Refusal, Reply, Told};
 use workers::{Answer, Naming, Opened, Seat, Shared};
 
