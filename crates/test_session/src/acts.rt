@@ -94,12 +94,14 @@ pub(crate) fn events(session: &Session, slot: SlotId) -> Result<usize, Refusal> 
 
 /// Whether what is kept of a client is the verdict that recovery told it.
 pub(crate) fn is_as_told(session: &Session, client: u8) -> Result<bool, Refusal> {
-    let told = session.broker().told(A, Client(client))?;
     let kept = match last(session, client) {
         Some(verdict) => Told::Verdict(verdict),
         None => Told::None,
     };
-    Ok(is_same_told(&told, &kept))
+    match session.broker().told(A, Client(client)) {
+        Ok(told) => Ok(is_same_told(&told, &kept)),
+        Err(refusal) => Err(refusal),
+    }
 }
 
 /// Whether the order has at most one entry for each number of a client: each client's entries have rising numbers.
