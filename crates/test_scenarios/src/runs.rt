@@ -7,7 +7,7 @@ use words::Refusal;
 
 const SCRIPT: &[u8] = b"queue durable 1 1\ncontent\n";
 
-const TRANSCRIPT: &[u8] = b"size 11\ncontent -\n";
+const TRANSCRIPT: &[u8] = b"size 17\ncontent -\n";
 
 #[test]
 fn prints_nothing_of_an_unread_script(rt: HostRuntime) -> Result<(), Fail> {
