@@ -5,10 +5,19 @@ use Rattle.std.proofs.Math.Nat.{mul-le-mul_right, mod-lt, div-lt_iff_lt-mul}
 use Rattle.std.proofs.lemmas.Nat.{div-mul-add, mod-mul-add, div-add-mod'}
 use Rattle.std.proofs.lemmas.Bool.{cases_lt}
 use Rattle.std.proofs.lemmas.Bool.Decides.{nat_tests}
-use Rattle.arena.specs.Shape.{Counts}
+use Rattle.words.specs.declared.call.Kind.{Kind}
+use Rattle.words.specs.declared.call.Kind.TheVariants.{Durable, Log}
+use Rattle.arena.specs.Shape.{Counts, shape_of}
+use Rattle.arena.specs.Layout.{size_in, size_of}
 use Rattle.arena.specs.Broker.{block_size_of, block_place, broker_size, broker_word, broker_place, IsBrokerPlace}
 use Rattle.arena.specs.declared.broker.BrokerPlace.{BrokerPlace}
 use Rattle.arena.specs.declared.broker.BrokerPlace.TheVariants.{Clients, Records, FirstName, SecondName, QueueKind, Gate, Block}
+
+-- a block has room for a queue of either kind
+pub queue_fits : (kind : Kind) (c : Counts) → size_of (shape_of kind c) ≤ block_size_of c.clients c.records
+unfolding size_in
+queue_fits Durable c = omega arith
+queue_fits Log c = omega arith
 
 -- blocks of so many words in a row
 module _ (size : ℕ) where

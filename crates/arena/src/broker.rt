@@ -1,19 +1,16 @@
 //! The words of a broker: a head, a directory of its slots, and a block of words for the queue of each slot.
 
 ghost use Rattle.std.specs.Prelude.{◌≡◌, ◌↔◌, ◌⊎◌, ℕ, ◌+◌, ◌<◌, ◌≤◌, IfOk, IfErr, IsOk, MatchOption, Err, Ok, Some};
-ghost use Rattle.words.specs.declared.call.Kind.TheVariants.{Durable, Log};
 ghost use Rattle.arena.specs.Shape.{shape_of};
 ghost use Rattle.arena.specs.Limits.{AreCounts};
 ghost use Rattle.arena.specs.Layout.{size_of};
 ghost use Rattle.arena.specs.Broker.{block_from_in, block_size_in, broker_size_in, block_size_of, block_from, broker_size, broker_word, broker_place, directory_from, directory_place, IsBrokerPlace};
 
-use crate::durable::DurableLayout;
 use crate::form::Form;
-use crate::layout::{MAX_LAYOUT_WORDS, check_counts};
-use crate::log::LogLayout;
+use crate::layout::{Layout, MAX_LAYOUT_WORDS, check_counts};
 use crate::values::block_size_of_values;
 use std::marker::Model;
-use words::{MAX_CLIENTS, MAX_RECORDS, Refusal};
+use words::{Kind, MAX_CLIENTS, MAX_RECORDS, Refusal};
 
 /// How many slots a broker has, each for one queue.
 pub const SLOTS: usize = 8;
@@ -177,30 +174,25 @@ impl BrokerLayout {
         BLOCKS_FROM + slot.0 as usize * self.block_size()
     }
 
-    /// The layout of a durable queue in a block. It has room there.
-    #[tactic(auto, unfolding(crate::specs::Layout::size_in))]
-    pub fn durable(&self) -> DurableLayout
-        ensures counts { result ≡ self.now }
-        ensures fits { size_of (shape_of Durable self.now) ≤ block_size_of self.now.clients self.now.records }
+    /// How many clients each queue has, from 1 to [`MAX_CLIENTS`].
+    pub fn clients(&self) -> u32
+        ensures value { result ≡ self.now.clients }
+        ensures counts { AreCounts self.now.clients self.now.records }
     {
-        let Ok(layout) = DurableLayout::make(self.clients, self.records) else {
-            // The counts are those of this layout, which were tested.
-            unreachable!();
-        };
-        layout
+        self.clients
     }
 
-    /// The layout of a log queue in a block. It has room there.
-    #[tactic(auto, unfolding(crate::specs::Layout::size_in))]
-    pub fn log(&self) -> LogLayout
-        ensures counts { result ≡ self.now }
-        ensures fits { size_of (shape_of Log self.now) ≤ block_size_of self.now.clients self.now.records }
+    /// The layout of a queue of this kind in a block. It has room there.
+    #[tactic(auto, using(crate::proofs::BrokerWords::queue_fits))]
+    pub fn queue(&self, kind: Kind) -> Layout
+        ensures layout { result ≡ shape_of kind self.now }
+        ensures fits { size_of (shape_of kind self.now) ≤ block_size_of self.now.clients self.now.records }
     {
-        let Ok(layout) = LogLayout::make(self.clients, self.records) else {
-            // The counts are those of this layout, which were tested.
-            unreachable!();
-        };
-        layout
+        Layout {
+            kind,
+            clients: self.clients,
+            records: self.records,
+        }
     }
 
     /// The word of a place.

@@ -1,63 +1,41 @@
-//! What a layout promises.
+//! The layout of a queue: which word is whose.
 
-ghost use Rattle.std.specs.Prelude.{◌≡◌, ◌↔◌, ◌⊎◌, ◌<◌, ◌≤◌, IfErr, IsOk, Err};
+ghost use Rattle.std.specs.Prelude.{◌≡◌, ◌↔◌, ◌⊎◌, ◌<◌, ◌≤◌, IfOk, IfErr, IsOk, Err};
+ghost use Rattle.arena.specs.Answers.{empty_answer_of, result_of};
+ghost use Rattle.arena.specs.Layout.{word_at, place_at, size_of};
 ghost use Rattle.arena.specs.Limits.{AreCounts};
+ghost use Rattle.arena.specs.Place.{IsPlace};
+ghost use Rattle.arena.specs.Shape.{greatest};
 
+use crate::codes::{EMPTY_CELL, EMPTY_STATUS, GOT_CELL};
 use crate::place::{Place, Write};
+use crate::{durable, log};
+use std::marker::Model;
 use words::{Kind, MAX_CLIENTS, MAX_RECORD_NUMBER, MAX_RECORDS, NodeId, Refusal, Token};
 
 /// The most words of a queue's layout: those of a log queue with the most clients and the most records.
 pub const MAX_LAYOUT_WORDS: usize = 720_937;
 
-/// Which word is whose. Each place of the layout has a word of its own below the size, and each word
-/// below the size is some place's.
-pub trait Layout {
-    ghost use Rattle.std.specs.Prelude.{◌≡◌, ◌<◌, ◌≤◌};
-    ghost use Rattle.arena.specs.Shape.{Shape, greatest};
+/// Which word of a queue's memory is whose, by its kind, its clients and the records of each. Each place has a word of
+/// its own below the size, and each word below the size is some place's.
+#[derive(Clone, Copy, Debug)]
+pub struct Layout {
+    pub(crate) kind: Kind,
+    pub(crate) clients: u32,
+    pub(crate) records: u32,
+}
+
+impl Model for Layout {
+    ghost use Rattle.arena.specs.Shape.{Shape};
     ghost use Rattle.arena.specs.Limits.{AreCounts};
-    ghost use Rattle.arena.specs.Layout.{word_at, place_at, size_of};
-    ghost use Rattle.arena.specs.Place.{IsPlace};
-    ghost use Rattle.arena.specs.Answers.{empty_answer_of, result_of};
 
-    ghost shape: { Self → Shape };
+    ghost Value = { Shape };
 
-    /// How many words there are.
-    fn size(&self) -> usize
-        ensures value { result ≡ size_of (shape self.now) }
-        ensures some { 0 < result }
-        ensures small { result ≤ MAX_LAYOUT_WORDS };
+    ghost view = { λ l. record { kind = l.kind; clients = l.clients; records = l.records } };
 
-    fn kind(&self) -> Kind
-        ensures { result ≡ (shape self.now).kind };
+    ghost invariant = { λ l. AreCounts l.clients l.records };
 
-    /// How many clients there are, from 1 to [`MAX_CLIENTS`].
-    fn clients(&self) -> u32
-        ensures value { result ≡ (shape self.now).clients }
-        ensures counts { AreCounts (shape self.now).clients (shape self.now).records };
-
-    /// How many records each client has, from 1 to [`MAX_RECORDS`].
-    fn records(&self) -> u32
-        ensures value { result ≡ (shape self.now).records }
-        ensures counts { AreCounts (shape self.now).clients (shape self.now).records };
-
-    /// The word of a place.
-    fn word(&self, place: Place) -> usize
-        requires { IsPlace (shape self.now) place }
-        ensures word { result ≡ word_at (shape self.now) place }
-        ensures below { result < size_of (shape self.now) }
-        ensures few { greatest (shape self.now) ≤ MAX_RECORD_NUMBER };
-
-    /// The place of a word, where the word is below the size.
-    fn what_is(&self, word: usize) -> Option<Place>
-        ensures { result ≡ place_at (shape self.now) word };
-
-    /// Where a dequeue that found the queue empty says so.
-    fn empty_answer(&self, token: Token) -> Write
-        ensures { result ≡ empty_answer_of (shape self.now).kind token };
-
-    /// Where the result of a dequeue is written that claimed a node.
-    fn result(&self, token: Token, node: NodeId) -> Write
-        ensures { result ≡ result_of (shape self.now).kind token node };
+    ghost inverse = { λ s. record { kind = s.kind; clients = s.clients; records = s.records } };
 }
 
 /// Whether a queue may have so many clients and records.
@@ -75,4 +53,126 @@ pub(crate) fn check_counts(clients: u32, records: u32) -> Result<(), Refusal>
         return Err(Refusal::BadRecords);
     }
     Ok(())
+}
+
+impl Layout {
+    /// A layout of a queue of this kind for 1 to [`MAX_CLIENTS`] clients with 1 to [`MAX_RECORDS`] records each. It is
+    /// refused, in this order, where the clients are none or more (BadClients), and where the records are (BadRecords).
+    pub fn make(kind: Kind, clients: u32, records: u32) -> Result<Self, Refusal>
+        ensures ok { IsOk result ↔ AreCounts clients records }
+        ensures made { IfOk result (λ l. l ≡ record { kind = kind; clients = clients; records = records }) }
+        ensures bad_clients { result ≡ Err Refusal.BadClients ↔ ((clients ≡ 0) ⊎ (MAX_CLIENTS < clients)) }
+        ensures bad_records { result ≡ Err Refusal.BadRecords ↔
+            ((1 ≤ clients) × (clients ≤ MAX_CLIENTS) × ((records ≡ 0) ⊎ (MAX_RECORDS < records))) }
+        ensures errors { IfErr result (λ e. (e ≡ Refusal.BadClients) ⊎ (e ≡ Refusal.BadRecords)) }
+    {
+        check_counts(clients, records)?;
+        Ok(Layout {
+            kind,
+            clients,
+            records,
+        })
+    }
+
+    pub fn kind(&self) -> Kind
+        ensures { result ≡ self.now.kind }
+    {
+        self.kind
+    }
+
+    /// How many clients there are, from 1 to [`MAX_CLIENTS`].
+    pub fn clients(&self) -> u32
+        ensures value { result ≡ self.now.clients }
+        ensures counts { AreCounts self.now.clients self.now.records }
+    {
+        self.clients
+    }
+
+    /// How many records each client has, from 1 to [`MAX_RECORDS`].
+    pub fn records(&self) -> u32
+        ensures value { result ≡ self.now.records }
+        ensures counts { AreCounts self.now.clients self.now.records }
+    {
+        self.records
+    }
+
+    /// The greatest number of a node, and of a record.
+    pub(crate) fn greatest(&self) -> usize
+        ensures value { result ≡ greatest self.now }
+        ensures small { result ≤ MAX_RECORD_NUMBER }
+        ensures counts { AreCounts self.now.clients self.now.records }
+    {
+        self.clients as usize * self.records as usize
+    }
+
+    /// How many words there are.
+    #[tactic(auto, unfolding(crate::specs::Layout::size_in))]
+    pub fn size(&self) -> usize
+        ensures value { result ≡ size_of self.now }
+        ensures some { 0 < result }
+        ensures small { result ≤ MAX_LAYOUT_WORDS }
+    {
+        let clients = self.clients as usize;
+        match self.kind {
+            Kind::Durable => 8 + 2 * clients + 7 * self.greatest(),
+            Kind::Log => 9 + 2 * clients + 11 * self.greatest(),
+        }
+    }
+
+    /// The word of a place.
+    #[tactic(auto, unfolding(crate::specs::Layout::word_in, crate::specs::Layout::size_in))]
+    pub fn word(&self, place: Place) -> usize
+        requires { IsPlace self.now place }
+        ensures word { result ≡ word_at self.now place }
+        ensures below { result < size_of self.now }
+        ensures few { greatest self.now ≤ MAX_RECORD_NUMBER }
+    {
+        match self.kind {
+            Kind::Durable => durable::word(self, place),
+            Kind::Log => log::word(self, place),
+        }
+    }
+
+    /// The place of a word, where the word is below the size.
+    #[tactic(auto, unfolding(crate::specs::Layout::place_in))]
+    pub fn what_is(&self, word: usize) -> Option<Place>
+        ensures { result ≡ place_at self.now word }
+    {
+        match self.kind {
+            Kind::Durable => durable::what_is(self, word),
+            Kind::Log => log::what_is(self, word),
+        }
+    }
+
+    /// Where a dequeue that found the queue empty says so.
+    pub fn empty_answer(&self, token: Token) -> Write
+        ensures { result ≡ empty_answer_of self.now.kind token }
+    {
+        match self.kind {
+            Kind::Durable => Write {
+                place: Place::Cell(token),
+                value: EMPTY_CELL,
+            },
+            Kind::Log => Write {
+                place: Place::Status(token),
+                value: EMPTY_STATUS,
+            },
+        }
+    }
+
+    /// Where the result of a dequeue is written that claimed a node.
+    pub fn result(&self, token: Token, node: NodeId) -> Write
+        ensures { result ≡ result_of self.now.kind token node }
+    {
+        match self.kind {
+            Kind::Durable => Write {
+                place: Place::Cell(token),
+                value: node.0 as u64 + GOT_CELL,
+            },
+            Kind::Log => Write {
+                place: Place::EntryNode(token),
+                value: node.0 as u64,
+            },
+        }
+    }
 }

@@ -18,9 +18,7 @@ pub use codes::{
     CLOSED_GATE, DEQUEUE_KIND, DURABLE_QUEUE, EMPTY_CELL, EMPTY_STATUS, ENQUEUE_KIND, GOT_CELL,
     LOG_QUEUE, OPEN_GATE, TAKEN_STATUS,
 };
-pub use durable::DurableLayout;
 pub use form::Form;
 pub use layout::Layout;
-pub use log::LogLayout;
 pub use place::{Part, Place, Write, item_part, value_of};
 pub use values::{block_size_of_values, size_of_values, word_of_values};

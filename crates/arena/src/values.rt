@@ -16,8 +16,8 @@ use crate::place::{Part, Place};
 use words::{Kind, MAX_RECORD_NUMBER};
 
 /// The greatest number of a node.
-fn greatest<L: Layout>(layout: &L) -> usize
-    ensures value { result ≡ greatest (L.shape layout.now) }
+fn greatest(layout: &Layout) -> usize
+    ensures value { result ≡ greatest layout.now }
     ensures small { result ≤ MAX_RECORD_NUMBER }
 {
     layout.clients() as usize * layout.records() as usize
@@ -25,8 +25,8 @@ fn greatest<L: Layout>(layout: &L) -> usize
 
 /// How many words there are.
 #[tactic(auto, unfolding(crate::specs::Layout::size_in))]
-pub fn size_of_values<L: Layout>(layout: &L) -> usize
-    ensures value { result ≡ size_in OfValues (L.shape layout.now) }
+pub fn size_of_values(layout: &Layout) -> usize
+    ensures value { result ≡ size_in OfValues layout.now }
     ensures few { result ≤ MAX_LAYOUT_WORDS }
 {
     let clients = layout.clients() as usize;
@@ -47,12 +47,12 @@ pub fn block_size_of_values(clients: u32, records: u32) -> usize
 }
 
 /// The word of a place of a durable queue.
-fn durable_word<L: Layout>(layout: &L, place: Place) -> usize
-    requires durable { (L.shape layout.now).kind ≡ Durable }
-    requires place { IsPlaceIn OfValues (L.shape layout.now) place }
-    ensures word { result ≡ durable_values_word (L.shape layout.now) place }
-    ensures below { result < durable_values_size (L.shape layout.now) }
-    ensures few { greatest (L.shape layout.now) ≤ MAX_RECORD_NUMBER }
+fn durable_word(layout: &Layout, place: Place) -> usize
+    requires durable { layout.now.kind ≡ Durable }
+    requires place { IsPlaceIn OfValues layout.now place }
+    ensures word { result ≡ durable_values_word layout.now place }
+    ensures below { result < durable_values_size layout.now }
+    ensures few { greatest layout.now ≤ MAX_RECORD_NUMBER }
 {
     let greatest = greatest(layout);
     let clients = layout.clients() as usize;
@@ -72,12 +72,12 @@ fn durable_word<L: Layout>(layout: &L, place: Place) -> usize
 }
 
 /// The word of a place of a log queue.
-fn log_word<L: Layout>(layout: &L, place: Place) -> usize
-    requires log { (L.shape layout.now).kind ≡ Log }
-    requires place { IsPlaceIn OfValues (L.shape layout.now) place }
-    ensures word { result ≡ log_values_word (L.shape layout.now) place }
-    ensures below { result < log_values_size (L.shape layout.now) }
-    ensures few { greatest (L.shape layout.now) ≤ MAX_RECORD_NUMBER }
+fn log_word(layout: &Layout, place: Place) -> usize
+    requires log { layout.now.kind ≡ Log }
+    requires place { IsPlaceIn OfValues layout.now place }
+    ensures word { result ≡ log_values_word layout.now place }
+    ensures below { result < log_values_size layout.now }
+    ensures few { greatest layout.now ≤ MAX_RECORD_NUMBER }
 {
     let greatest = greatest(layout);
     let clients = layout.clients() as usize;
@@ -103,11 +103,11 @@ fn log_word<L: Layout>(layout: &L, place: Place) -> usize
 
 /// The word of a place.
 #[tactic(auto, unfolding(crate::specs::Layout::word_in, crate::specs::Layout::size_in))]
-pub fn word_of_values<L: Layout>(layout: &L, place: Place) -> usize
-    requires { IsPlaceIn OfValues (L.shape layout.now) place }
-    ensures word { result ≡ word_in OfValues (L.shape layout.now) place }
-    ensures below { result < size_in OfValues (L.shape layout.now) }
-    ensures few { greatest (L.shape layout.now) ≤ MAX_RECORD_NUMBER }
+pub fn word_of_values(layout: &Layout, place: Place) -> usize
+    requires { IsPlaceIn OfValues layout.now place }
+    ensures word { result ≡ word_in OfValues layout.now place }
+    ensures below { result < size_in OfValues layout.now }
+    ensures few { greatest layout.now ≤ MAX_RECORD_NUMBER }
 {
     match layout.kind() {
         Kind::Durable => durable_word(layout, place),

@@ -35,7 +35,7 @@ trait Acting {
     fn step(&mut self, client: Client) -> Result<Option<Reply>, Refusal>;
 }
 
-impl<L: Layout + Drop> Acting for World<L> {
+impl Acting for World {
     fn start(&mut self, client: Client, number: u64, call: Call) -> Result<(), Refusal> {
         World::start(self, client, number, call)
     }
@@ -82,7 +82,7 @@ fn unplayed<Q: Acting + Drop>(queue: Q, clients: u32) -> Played<Q> {
 }
 
 /// The one queue of a new broker: the last of its eight slots, so that seven lie before it.
-fn last_of_eight<L: Layout>(alloc: Global, layout: &L) -> Result<Named, Refusal> {
+fn last_of_eight(alloc: Global, layout: &Layout) -> Result<Named, Refusal> {
     let mut broker = Broker::make(alloc, layout.clients(), layout.records())?;
     let names: [&[u8]; 8] = [b"a", b"b", b"c", b"d", b"e", b"f", b"g", b"h"];
     let mut slot = SlotId(0);
@@ -164,7 +164,7 @@ impl Acts {
 impl Load for Acts {
     type Figures = ActsFigures;
 
-    fn turn<L: Layout + Drop>(&self, rt: &HostRuntime, layout: L) -> Result<ActsFigures> {
+    fn turn(&self, rt: &HostRuntime, layout: Layout) -> Result<ActsFigures> {
         let clients = layout.clients();
         if self.in_broker {
             self.play(rt, unplayed(last_of_eight(rt.alloc(), &layout)?, clients))

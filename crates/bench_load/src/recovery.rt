@@ -24,7 +24,7 @@ pub(crate) struct RecoveryFigures {
 }
 
 /// A world of one client whose queue holds so many values.
-fn filled<L: Layout + Drop>(alloc: Global, layout: L, nodes: u32) -> Result<World<L>, Refusal> {
+fn filled(alloc: Global, layout: Layout, nodes: u32) -> Result<World, Refusal> {
     let mut world = World::make(alloc, layout)?;
     for node in 0..nodes {
         let number = u64::from(node) + 1;
@@ -35,7 +35,7 @@ fn filled<L: Layout + Drop>(alloc: Global, layout: L, nodes: u32) -> Result<Worl
 }
 
 /// Recovery's steps to its end, and how many they are.
-fn recover<L: Layout + Drop>(world: &mut World<L>) -> Result<u64, Refusal> {
+fn recover(world: &mut World) -> Result<u64, Refusal> {
     for before in 0..u64::MAX {
         if world.recover_step()? {
             return Ok(before + 1);
@@ -47,7 +47,7 @@ fn recover<L: Layout + Drop>(world: &mut World<L>) -> Result<u64, Refusal> {
 impl Load for Recovery {
     type Figures = RecoveryFigures;
 
-    fn turn<L: Layout + Drop>(&self, rt: &HostRuntime, layout: L) -> Result<RecoveryFigures> {
+    fn turn(&self, rt: &HostRuntime, layout: Layout) -> Result<RecoveryFigures> {
         let mut world = filled(rt.alloc(), layout, self.nodes)?;
         let begun = Instant::now(rt)?;
         world.crash()?;

@@ -1,7 +1,7 @@
 //! Loads on worlds, measured in turns.
 
 use anyhow::Result;
-use arena::{DurableLayout, Layout, LogLayout};
+use arena::Layout;
 use words::Kind;
 
 /// A load on a world, measured in turns.
@@ -10,7 +10,7 @@ pub(crate) trait Load {
     type Figures: Copy;
 
     /// One turn on a new world.
-    fn turn<L: Layout + Drop>(&self, rt: &HostRuntime, layout: L) -> Result<Self::Figures>;
+    fn turn(&self, rt: &HostRuntime, layout: Layout) -> Result<Self::Figures>;
 
     /// The better figures of two turns.
     fn better(&self, one: Self::Figures, other: Self::Figures) -> Self::Figures;
@@ -30,36 +30,18 @@ pub(crate) struct Queue {
     pub(crate) records: u32,
 }
 
-/// The best of so many turns, and of one at least.
-fn best<L: Layout + Drop + Copy, M: Load>(
-    rt: &HostRuntime,
-    layout: L,
-    load: &M,
-    turns: u32,
-) -> Result<M::Figures> {
-    let mut best = load.turn(rt, layout)?;
-    for _ in 1..turns {
-        let figures = load.turn(rt, layout)?;
-        best = load.better(best, figures);
-    }
-    Ok(best)
-}
-
-/// The best of so many turns on new worlds of such a queue.
+/// The best of so many turns on new worlds of such a queue, and of one at least.
 pub(crate) fn best_on<M: Load>(
     rt: &HostRuntime,
     queue: Queue,
     load: &M,
     turns: u32,
 ) -> Result<M::Figures> {
-    match queue.kind {
-        Kind::Durable => {
-            let layout = DurableLayout::make(queue.clients, queue.records)?;
-            best(rt, layout, load, turns)
-        }
-        Kind::Log => {
-            let layout = LogLayout::make(queue.clients, queue.records)?;
-            best(rt, layout, load, turns)
-        }
+    let layout = Layout::make(queue.kind, queue.clients, queue.records)?;
+    let mut best = load.turn(rt, layout)?;
+    for _ in 1..turns {
+        let figures = load.turn(rt, layout)?;
+        best = load.better(best, figures);
     }
+    Ok(best)
 }

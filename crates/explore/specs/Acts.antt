@@ -2,7 +2,6 @@
 use Rattle.std.specs.Prelude.{◌≡◌, ℕ, false, List, [], ◌∷◌, replicate, if◌then◌else◌}
 use Rattle.std.specs.List.{flat_map}
 use Rattle.words.specs.declared.call.Call.TheVariants.{Enq as enq_call, Deq as deq_call}
-use Rattle.words.specs.declared.call.Kind.TheVariants.{Durable as durable_kind, Log as log_kind}
 use Rattle.arena.specs.Shape.{Shape, shape_of}
 use Rattle.protocol.specs.declared.acts.Act.{Act}
 use Rattle.protocol.specs.declared.acts.Act.TheVariants.{Start, Step as step_act, Evict as evict_act, Crash as crash_act, Recover as recover_act}
@@ -11,16 +10,10 @@ use Rattle.explore.specs.Play.{most_alone}
 use Rattle.explore.specs.declared.command.Command.{Command}
 use Rattle.explore.specs.declared.command.Command.TheVariants.{Enq, NumberedEnq, Deq, NumberedDeq, Step, End, Evict, Crash, Recover, RecoverBy, Content, Order}
 use Rattle.explore.specs.declared.command.QueueLine.{QueueLine}
-use Rattle.explore.specs.declared.laid.Laid.{Laid}
-use Rattle.explore.specs.declared.laid.Laid.TheVariants.{Durable, Log}
 
--- the shape that a queue line asks for, and that of a layout
+-- the shape that a queue line asks for
 abbrev pub shape_by : QueueLine → Shape
 shape_by queue = shape_of queue.kind (record { clients = queue.clients; records = queue.records })
-
-abbrev pub shape_in : Laid → Shape
-shape_in (Durable counts) = shape_of durable_kind counts
-shape_in (Log counts) = shape_of log_kind counts
 
 -- what a command attempts. A step past the answer is refused, and so is one of recovery once the queue is ready
 abbrev pub attempts_of : Shape → Command → List (Act ℕ)

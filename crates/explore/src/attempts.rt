@@ -34,7 +34,7 @@ pub(crate) fn pass_over(refusal: Refusal) -> Result<(), Refusal>
 }
 
 /// Attempts an act, and answers whether it was accepted.
-pub(crate) fn attempt<L: Layout + Drop>(world: &mut World<L>, act: Act) -> Result<bool, Refusal>
+pub(crate) fn attempt(world: &mut World, act: Act) -> Result<bool, Refusal>
     ensures world { OnOk result (world.new.now ≡ after_act world.old.now act) }
     ensures accepted { IfOk result (λ taken. taken ≡ is_accepted world.old.now act) }
     ensures errors { IfErr result (λ e. e ≡ Refusal.NoMemory) }
@@ -53,8 +53,8 @@ pub(crate) fn attempt<L: Layout + Drop>(world: &mut World<L>, act: Act) -> Resul
 }
 
 /// Attempts acts, in order. One that is refused is passed over.
-pub(crate) fn attempt_all<L: Layout + Drop>(
-    world: &mut World<L>,
+pub(crate) fn attempt_all(
+    world: &mut World,
     acts: &[Act],
 ) -> Result<(), Refusal>
     ensures world { OnOk result (world.new.now ≡ after_acts world.old.now acts.now) }
@@ -68,8 +68,8 @@ pub(crate) fn attempt_all<L: Layout + Drop>(
 
 /// Attempts an act again and again, at most so many times and until it is refused, and answers how often it was
 /// accepted. It has to be one that changes nothing where it is refused.
-pub(crate) fn repeat<L: Layout + Drop>(
-    world: &mut World<L>,
+pub(crate) fn repeat(
+    world: &mut World,
     act: &Act,
     most: u32,
 ) -> Result<u32, Refusal>
@@ -88,8 +88,8 @@ pub(crate) fn repeat<L: Layout + Drop>(
 }
 
 /// No recovery has more steps than these.
-pub(crate) fn most_to_ready<L: Layout>(layout: &L) -> u32
-    ensures { result ≡ most_to_ready (L.shape layout.now) }
+pub(crate) fn most_to_ready(layout: &Layout) -> u32
+    ensures { result ≡ most_to_ready layout.now }
 {
     STEPS_PER_RECORD * (layout.clients() * layout.records())
         + STEPS_PER_CLIENT * layout.clients()

@@ -1,7 +1,12 @@
 //! What the lines of a script say.
 
+ghost use Rattle.std.specs.Prelude.{◌≡◌, Ok};
+ghost use Rattle.explore.specs.Grammar.{IsServedQueue};
+ghost use Rattle.explore.specs.Acts.{shape_by};
+
+use arena::Layout;
 use std::fmt;
-use words::{Client, Kind, Value};
+use words::{Client, Kind, Refusal, Value};
 
 /// The first line of a script: the queue that it is about.
 #[derive(Clone, Copy, Debug, PartialEq, Eq)]
@@ -9,6 +14,16 @@ pub struct QueueLine {
     pub kind: Kind,
     pub clients: u32,
     pub records: u32,
+}
+
+impl QueueLine {
+    /// The layout that it asks for.
+    pub(crate) fn layout(&self) -> Result<Layout, Refusal>
+        requires { IsServedQueue self.now }
+        ensures { result ≡ Ok (shape_by self.now) }
+    {
+        Layout::make(self.kind, self.clients, self.records)
+    }
 }
 
 /// Any later line of a script.

@@ -3,12 +3,10 @@
 ghost use Rattle.std.specs.Prelude.{◌≡◌, IfOk, IfErr, length, map};
 ghost use Rattle.std.specs.List.{range_with_len};
 ghost use Rattle.explore.specs.Points.{found_of, found_in, found_after};
-ghost use Rattle.explore.specs.Acts.{shape_in};
 ghost use Rattle.explore.specs.Transcript.{told_at};
 
 use crate::attempts::{attempt_all, most_to_ready, repeat};
 use crate::evictions::{Evictions, evict_words};
-use crate::laid::Laid;
 use crate::spare::Spare;
 use arena::Layout;
 use history::check_content;
@@ -30,7 +28,7 @@ pub struct Point {
 }
 
 /// What each client was told.
-fn reports<L: Layout + Drop>(world: &World<L>) -> Reports
+fn reports(world: &World) -> Reports
     ensures { result ≡ map (told_at world.now.now) (range_with_len 0 MAX_CLIENTS) }
 {
     let mut told = [Told::None; MAX_CLIENTS];
@@ -41,7 +39,7 @@ fn reports<L: Layout + Drop>(world: &World<L>) -> Reports
 }
 
 /// What is found in a world, after so many steps of recovery.
-fn found<L: Layout + Drop>(alloc: Global, world: &World<L>, steps: u32) -> Result<Point, Refusal>
+fn found(alloc: Global, world: &World, steps: u32) -> Result<Point, Refusal>
     ensures found { IfOk result (λ point. found_of point ≡ found_in world.now.now steps) }
     ensures errors { IfErr result (λ e. e ≡ Refusal.NoMemory) }
 {
@@ -57,18 +55,18 @@ fn found<L: Layout + Drop>(alloc: Global, world: &World<L>, steps: u32) -> Resul
 
 /// A new world makes these acts, then the environment evicts what it is to evict at this point, everything stops, and
 /// recovery goes on to its end.
-fn crash_on<L: Layout + Drop>(
+pub(crate) fn crash(
     alloc: Global,
     spare: &mut Spare,
-    layout: L,
+    layout: Layout,
     acts: &[Act],
     evictions: Evictions,
-    point: u64,
 ) -> Result<Point, Refusal>
     ensures found { IfOk result (λ found. found_of found
-        ≡ found_after (L.shape layout) acts.now evictions point) }
+        ≡ found_after layout acts.now evictions (length acts.now)) }
     ensures errors { IfErr result (λ e. e ≡ Refusal.NoMemory) }
 {
+    let point = acts.len() as u64;
     let mut world = spare.world(alloc, layout)?;
     attempt_all(&mut world, acts)?;
     evict_words(&mut world, evictions, point);
@@ -78,23 +76,4 @@ fn crash_on<L: Layout + Drop>(
     let found = found(alloc, &world, steps);
     spare.keep(world);
     found
-}
-
-/// What a crash after these acts comes to.
-pub(crate) fn crash(
-    alloc: Global,
-    spare: &mut Spare,
-    laid: &Laid,
-    acts: &[Act],
-    evictions: Evictions,
-) -> Result<Point, Refusal>
-    ensures found { IfOk result (λ found. found_of found
-        ≡ found_after (shape_in laid.now) acts.now evictions (length acts.now)) }
-    ensures errors { IfErr result (λ e. e ≡ Refusal.NoMemory) }
-{
-    let point = acts.len() as u64;
-    match laid {
-        Laid::Durable(layout) => crash_on(alloc, spare, *layout, acts, evictions, point),
-        Laid::Log(layout) => crash_on(alloc, spare, *layout, acts, evictions, point),
-    }
 }

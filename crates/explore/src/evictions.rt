@@ -9,7 +9,6 @@ ghost use Rattle.rand_pcg.specs.Lcg.{started, increment_of};
 ghost use Rattle.rand_pcg.specs.Pcg.{multiplier_64};
 ghost use Rattle.explore.specs.Points.{drawn_words, evicted_words};
 
-use arena::Layout;
 use interleave::World;
 use rand_core::utils::NextWord;
 use rand_pcg::Pcg32;
@@ -34,7 +33,7 @@ fn draws_at(state: u64, point: u64) -> Pcg32
 }
 
 /// Evicts every word.
-fn evict_all<L: Layout + Drop>(world: &mut World<L>, words: usize)
+fn evict_all(world: &mut World, words: usize)
     ensures { world.new.now ≡ after_acts world.old.now (map Evict (range_with_len 0 words)) }
 {
     for word in 0..words {
@@ -43,7 +42,7 @@ fn evict_all<L: Layout + Drop>(world: &mut World<L>, words: usize)
 }
 
 /// Evicts the words that are drawn.
-fn evict_drawn<L: Layout + Drop>(world: &mut World<L>, words: usize, mut draws: Pcg32)
+fn evict_drawn(world: &mut World, words: usize, mut draws: Pcg32)
     ensures { world.new.now ≡ after_acts world.old.now (map Evict (drawn_words words 0 draws)) }
 {
     for word in 0..words {
@@ -54,7 +53,7 @@ fn evict_drawn<L: Layout + Drop>(world: &mut World<L>, words: usize, mut draws: 
 }
 
 /// Evicts what is to be evicted before the crash at a point.
-pub(crate) fn evict_words<L: Layout + Drop>(world: &mut World<L>, evictions: Evictions, point: u64)
+pub(crate) fn evict_words(world: &mut World, evictions: Evictions, point: u64)
     ensures { world.new.now
         ≡ after_acts world.old.now (map Evict (evicted_words evictions (size_of world.old.now.shape) point)) }
 {

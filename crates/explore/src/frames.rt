@@ -5,7 +5,6 @@ ghost use Rattle.explore.specs.Grammar.{IsServedQueue};
 
 use crate::attempts::attempt;
 use crate::command::{Command, QueueLine};
-use crate::laid::{Laid, layout_of};
 use crate::lists::push;
 use crate::recording::accepted_acts;
 use arena::Layout;
@@ -31,7 +30,7 @@ pub(crate) struct Frame {
 }
 
 /// Makes an act, and answers with which reply a call returned by it.
-fn make<L: Layout + Drop>(world: &mut World<L>, act: &Act) -> Result<Option<Reply>, Refusal>
+fn make(world: &mut World, act: &Act) -> Result<Option<Reply>, Refusal>
     ensures errors { IfErr result (λ e. e ≡ Refusal.NoMemory) }
 {
     let Act::Step { client } = act else {
@@ -46,7 +45,7 @@ fn make<L: Layout + Drop>(world: &mut World<L>, act: &Act) -> Result<Option<Repl
 }
 
 /// The words of a world that differ.
-fn differing<L: Layout + Drop>(alloc: Global, world: &World<L>) -> Result<Vec<Differs>, Refusal>
+fn differing(alloc: Global, world: &World) -> Result<Vec<Differs>, Refusal>
     ensures errors { IfErr result (λ e. e ≡ Refusal.NoMemory) }
 {
     let memory = world.memory();
@@ -71,9 +70,9 @@ fn differing<L: Layout + Drop>(alloc: Global, world: &World<L>) -> Result<Vec<Di
 }
 
 /// The frames of acts on a new world.
-fn frames_on<L: Layout + Drop>(
+fn frames_on(
     alloc: Global,
-    layout: L,
+    layout: Layout,
     acts: &[Act],
 ) -> Result<Vec<Frame>, Refusal>
     ensures errors { IfErr result (λ e. e ≡ Refusal.NoMemory) }
@@ -104,10 +103,7 @@ pub(crate) fn frames(
     requires { IsServedQueue queue }
     ensures errors { IfErr result (λ e. e ≡ Refusal.NoMemory) }
 {
-    let laid = layout_of(queue)?;
-    let acts = accepted_acts(alloc, &laid, commands)?;
-    match laid {
-        Laid::Durable(layout) => frames_on(alloc, layout, &acts),
-        Laid::Log(layout) => frames_on(alloc, layout, &acts),
-    }
+    let layout = queue.layout()?;
+    let acts = accepted_acts(alloc, layout, commands)?;
+    frames_on(alloc, layout, &acts)
 }

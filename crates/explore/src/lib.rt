@@ -8,7 +8,6 @@ mod crashing;
 mod evictions;
 mod frames;
 mod grammar;
-mod laid;
 mod laws;
 mod limits;
 mod line;

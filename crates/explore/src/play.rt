@@ -8,18 +8,18 @@ use crate::command::Command;
 use crate::player::Player;
 use crate::printed::{Line, add};
 use crate::script::Script;
-use arena::{DurableLayout, Layout, LogLayout};
+use arena::Layout;
 use std::alloc::Global;
 use std::fmt::Write;
-use words::{Kind, Refusal};
+use words::Refusal;
 
 /// Follows all commands on a new world.
-fn play<L: Layout + Drop>(
+fn play(
     alloc: Global,
-    layout: L,
+    layout: Layout,
     commands: &[Command],
 ) -> Result<Vec<Line>, Refusal>
-    ensures lines { IfOk result (λ lines. lines.items ≡ queue_lines (L.shape layout) commands.now) }
+    ensures lines { IfOk result (λ lines. lines.items ≡ queue_lines layout commands.now) }
     ensures errors { IfErr result (λ e. e ≡ Refusal.NoMemory) }
 {
     let mut lines = Vec::new(alloc);
@@ -51,15 +51,5 @@ pub fn transcript(alloc: Global, script: &Script) -> Result<Vec<u8>, Refusal>
     let Some(queue) = script.queue else {
         return Ok(Vec::new(alloc));
     };
-    let lines = match queue.kind {
-        Kind::Durable => {
-            let layout = DurableLayout::make(queue.clients, queue.records)?;
-            play(alloc, layout, &script.commands)?
-        }
-        Kind::Log => {
-            let layout = LogLayout::make(queue.clients, queue.records)?;
-            play(alloc, layout, &script.commands)?
-        }
-    };
-    text(alloc, &lines)
+    text(alloc, &play(alloc, queue.layout()?, &script.commands)?)
 }

@@ -17,12 +17,12 @@ use words::{Call, Client, Refusal};
 
 /// A world that follows commands, and how many steps its calls and its recovery have made.
 #[derive(Drop)]
-pub(crate) struct Player<L: Layout + Drop> {
-    world: World<L>,
+pub(crate) struct Player {
+    world: World,
     steps: Steps,
 }
 
-impl<L: Layout + Drop> Model for Player<L> {
+impl Model for Player {
     ghost use Rattle.explore.specs.Play.{Play};
 
     ghost Value = { Play };
@@ -30,10 +30,10 @@ impl<L: Layout + Drop> Model for Player<L> {
     ghost view = { λ p. record { world = p.world.now; steps = p.steps } };
 }
 
-impl<L: Layout + Drop> Player<L> {
+impl Player {
     /// A new world, in which no step was made.
-    pub(crate) fn new(alloc: Global, layout: L) -> Result<Self, Refusal>
-        ensures made { IfOk result (λ player. player ≡ new_play (L.shape layout)) }
+    pub(crate) fn new(alloc: Global, layout: Layout) -> Result<Self, Refusal>
+        ensures made { IfOk result (λ player. player ≡ new_play layout) }
         ensures errors { IfErr result (λ e. e ≡ Refusal.NoMemory) }
     {
         let world = World::make(alloc, layout)?;

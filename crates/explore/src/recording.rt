@@ -3,11 +3,10 @@
 ghost use Rattle.std.specs.Prelude.{◌≡◌, ◌++◌, ◌∷◌, [], OnOk, IfOk, IfErr, replicate};
 ghost use Rattle.interleave.specs.State.{after_acts};
 ghost use Rattle.protocol.specs.declared.acts.Act.TheVariants.{Start};
-ghost use Rattle.explore.specs.Acts.{accepted_of, acts_of, attempts_of, shape_in, IsSteady};
+ghost use Rattle.explore.specs.Acts.{accepted_of, acts_of, attempts_of, IsSteady};
 
 use crate::attempts::{attempt, most_to_ready, repeat};
 use crate::command::Command;
-use crate::laid::Laid;
 use crate::lists::push;
 use arena::Layout;
 use interleave::{Act, World};
@@ -44,8 +43,8 @@ fn push_all(acts: &mut Vec<Act>, act: &Act, times: u32) -> Result<(), Refusal>
 }
 
 /// Attempts an act once, and adds it where it was accepted.
-fn once<L: Layout + Drop>(
-    world: &mut World<L>,
+fn once(
+    world: &mut World,
     acts: &mut Vec<Act>,
     act: &Act,
 ) -> Result<(), Refusal>
@@ -60,8 +59,8 @@ fn once<L: Layout + Drop>(
 }
 
 /// Attempts an act at most so many times and until it is refused, and adds it as often as it was accepted.
-fn some<L: Layout + Drop>(
-    world: &mut World<L>,
+fn some(
+    world: &mut World,
     acts: &mut Vec<Act>,
     act: &Act,
     most: u32,
@@ -87,8 +86,8 @@ fn start(client: Client, number: u64, call: Call) -> Act
 }
 
 /// Attempts what a command asks for, and adds the acts that were accepted.
-fn follow<L: Layout + Drop>(
-    world: &mut World<L>,
+fn follow(
+    world: &mut World,
     acts: &mut Vec<Act>,
     command: Command,
 ) -> Result<(), Refusal>
@@ -122,12 +121,12 @@ fn follow<L: Layout + Drop>(
 }
 
 /// The acts of commands on a new world that are accepted, in order.
-fn acts_on<L: Layout + Drop>(
+pub(crate) fn accepted_acts(
     alloc: Global,
-    layout: L,
+    layout: Layout,
     commands: &[Command],
 ) -> Result<Vec<Act>, Refusal>
-    ensures acts { IfOk result (λ acts. acts.items ≡ acts_of (L.shape layout) commands.now) }
+    ensures acts { IfOk result (λ acts. acts.items ≡ acts_of layout commands.now) }
     ensures errors { IfErr result (λ e. e ≡ Refusal.NoMemory) }
 {
     let mut world = World::make(alloc, layout)?;
@@ -136,19 +135,4 @@ fn acts_on<L: Layout + Drop>(
         follow(&mut world, &mut acts, *command)?;
     }
     Ok(acts)
-}
-
-/// The acts of commands on a new world that are accepted, in order.
-pub(crate) fn accepted_acts(
-    alloc: Global,
-    laid: &Laid,
-    commands: &[Command],
-) -> Result<Vec<Act>, Refusal>
-    ensures acts { IfOk result (λ acts. acts.items ≡ acts_of (shape_in laid.now) commands.now) }
-    ensures errors { IfErr result (λ e. e ≡ Refusal.NoMemory) }
-{
-    match laid {
-        Laid::Durable(layout) => acts_on(alloc, *layout, commands),
-        Laid::Log(layout) => acts_on(alloc, *layout, commands),
-    }
 }

@@ -9,7 +9,6 @@ ghost use Rattle.explore.specs.Reports.{calls_text, content_text, end_text, step
 use crate::answered::Alone;
 use crate::crashing::Point;
 use crate::evictions::Evictions;
-use crate::laid::{layout_of, size_of_layout};
 use crate::page::{Setting, page};
 use crate::recording::accepted_acts;
 use crate::script::Script;
@@ -156,12 +155,12 @@ pub(crate) fn pictured_points<R: Threads + Sync, W: Watch>(
     };
     let report = watched_points(rt, alloc, script, evictions, watch)?;
     let text = report_text(alloc, queue.clients as usize, &report)?;
-    let laid = layout_of(queue)?;
+    let layout = queue.layout()?;
     let setting = Setting {
         queue,
-        acts: accepted_acts(alloc, &laid, &script.commands)?,
+        acts: accepted_acts(alloc, layout, &script.commands)?,
         evictions,
-        words: size_of_layout(&laid),
+        words: layout.size(),
     };
     let page = page(alloc, &setting, &report)?;
     Ok(Pictured { text, page })

@@ -39,12 +39,12 @@ impl Spare {
     }
 
     /// A new world, on the spare memory where it has as many words.
-    pub(crate) fn world<L: Layout + Drop>(
+    pub(crate) fn world(
         &mut self,
         alloc: Global,
-        layout: L,
-    ) -> Result<World<L>, Refusal>
-        ensures made { IfOk result (λ w. w.now ≡ new_world (L.shape layout)) }
+        layout: Layout,
+    ) -> Result<World, Refusal>
+        ensures made { IfOk result (λ w. w.now ≡ new_world layout) }
         ensures errors { IfErr result (λ e. e ≡ Refusal.NoMemory) }
     {
         let memory = self.zero_memory(alloc, layout.size())?;
@@ -52,7 +52,7 @@ impl Spare {
     }
 
     /// The world's memory may be had again.
-    pub(crate) fn keep<L: Layout + Drop>(&mut self, world: World<L>) {
+    pub(crate) fn keep(&mut self, world: World) {
         self.memory = Some(world.into_memory());
     }
 }

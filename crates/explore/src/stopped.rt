@@ -4,13 +4,11 @@ ghost use Rattle.std.specs.Prelude.{◌≡◌, ◌≤◌, ◌+◌, ◌++◌, Ok,
 ghost use Rattle.std.specs.List.{flat_map, range_with_len};
 ghost use Rattle.words.specs.declared.limits.TheConstants.{MAX_STEPS_ALONE};
 ghost use Rattle.interleave.specs.State.{after_acts, new_world};
-ghost use Rattle.explore.specs.Acts.{shape_in};
 ghost use Rattle.explore.specs.Play.{most_alone};
 ghost use Rattle.explore.specs.Stopped.{alone_after, alone_at, alone_of, answer_alone};
 
 use crate::answered::Alone;
 use crate::attempts::{attempt_all, pass_over};
-use crate::laid::{Laid, layout_of};
 use crate::lists::push;
 use crate::recording::accepted_acts;
 use crate::script::Script;
@@ -20,12 +18,12 @@ use std::alloc::Global;
 use words::{Client, Refusal};
 
 /// A new world that has made these acts.
-fn world_after<L: Layout + Drop>(
+fn world_after(
     alloc: Global,
-    layout: L,
+    layout: Layout,
     acts: &[Act],
-) -> Result<World<L>, Refusal>
-    ensures world { IfOk result (λ world. world.now ≡ after_acts (new_world (L.shape layout)) acts.now) }
+) -> Result<World, Refusal>
+    ensures world { IfOk result (λ world. world.now ≡ after_acts (new_world layout) acts.now) }
     ensures errors { IfErr result (λ e. e ≡ Refusal.NoMemory) }
 {
     let mut world = World::make(alloc, layout)?;
@@ -35,9 +33,9 @@ fn world_after<L: Layout + Drop>(
 
 /// A client's call goes on alone to its answer, which is added. It answers whether there was such a call: where the
 /// client has none, or recovery is under way, nothing happens.
-fn go_alone<L: Layout + Drop>(
+fn go_alone(
     found: &mut Vec<Alone>,
-    world: &mut World<L>,
+    world: &mut World,
     point: u64,
     client: Client,
 ) -> Result<bool, Refusal>
@@ -65,14 +63,14 @@ fn go_alone<L: Layout + Drop>(
 }
 
 /// Adds what becomes of each client's call after these acts, where it goes on alone.
-fn add_clients<L: Layout + Drop + Copy>(
+fn add_clients(
     found: &mut Vec<Alone>,
     alloc: Global,
-    layout: L,
+    layout: Layout,
     acts: &[Act],
 ) -> Result<(), Refusal>
     ensures found { OnOk result (found.new.items
-        ≡ found.old.items ++ alone_after (L.shape layout) acts.now (length acts.now)) }
+        ≡ found.old.items ++ alone_after layout acts.now (length acts.now)) }
     ensures errors { IfErr result (λ e. e ≡ Refusal.NoMemory) }
 {
     let point = acts.len() as u64;
@@ -86,13 +84,13 @@ fn add_clients<L: Layout + Drop + Copy>(
 }
 
 /// What becomes of each call that stopped, at each point.
-fn alone_on<L: Layout + Drop + Copy>(
+fn alone_on(
     alloc: Global,
-    layout: L,
+    layout: Layout,
     acts: &[Act],
 ) -> Result<Vec<Alone>, Refusal>
     ensures found { IfOk result (λ found. found.items
-        ≡ flat_map (alone_at (L.shape layout) acts.now) (range_with_len 0 (length acts.now + 1))) }
+        ≡ flat_map (alone_at layout acts.now) (range_with_len 0 (length acts.now + 1))) }
     ensures errors { IfErr result (λ e. e ≡ Refusal.NoMemory) }
 {
     let mut found = Vec::new(alloc);
@@ -100,18 +98,6 @@ fn alone_on<L: Layout + Drop + Copy>(
         add_clients(&mut found, alloc, layout, &acts[..point])?;
     }
     Ok(found)
-}
-
-/// What becomes of each call that stopped, at each point, on a layout of either kind.
-fn alone_in(alloc: Global, laid: &Laid, acts: &[Act]) -> Result<Vec<Alone>, Refusal>
-    ensures found { IfOk result (λ found. found.items
-        ≡ flat_map (alone_at (shape_in laid.now) acts.now) (range_with_len 0 (length acts.now + 1))) }
-    ensures errors { IfErr result (λ e. e ≡ Refusal.NoMemory) }
-{
-    match laid {
-        Laid::Durable(layout) => alone_on(alloc, *layout, acts),
-        Laid::Log(layout) => alone_on(alloc, *layout, acts),
-    }
 }
 
 /// Each call that is under way at a point of a script, with the queue ready, goes on alone to its answer: by the order
@@ -125,7 +111,7 @@ pub fn alone(alloc: Global, script: &Script) -> Result<Vec<Alone>, Refusal>
     let Some(queue) = script.queue else {
         return Ok(Vec::new(alloc));
     };
-    let laid = layout_of(queue)?;
-    let acts = accepted_acts(alloc, &laid, &script.commands)?;
-    alone_in(alloc, &laid, &acts)
+    let layout = queue.layout()?;
+    let acts = accepted_acts(alloc, layout, &script.commands)?;
+    alone_on(alloc, layout, &acts)
 }

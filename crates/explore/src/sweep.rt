@@ -2,17 +2,16 @@
 
 ghost use Rattle.std.specs.Prelude.{◌≡◌, ◌+◌, ◌-◌, ◌<◌, ◌≤◌, IfOk, IfErr, length, map, not, count_by};
 ghost use Rattle.std.specs.List.{range_with_len};
-ghost use Rattle.explore.specs.Acts.{shape_in};
 ghost use Rattle.explore.specs.Points.{found_of, found_at, points_of};
 
 use crate::crashing::{Point, crash};
 use crate::evictions::Evictions;
-use crate::laid::{Laid, layout_of};
 use crate::lists::append;
 use crate::recording::accepted_acts;
 use crate::script::Script;
 use crate::spare::Spare;
 use crate::watch::{Unwatched, Watch};
+use arena::Layout;
 use interleave::Act;
 use rayon::prelude::*;
 use std::alloc::Global;
@@ -30,7 +29,7 @@ pub struct Report {
 /// What is done before each crash.
 #[derive(Drop)]
 struct Schedule {
-    laid: Laid,
+    layout: Layout,
     acts: Vec<Act>,
     evictions: Evictions,
 }
@@ -62,7 +61,7 @@ fn some_points<R: Threads + Sync>(
     requires ordered { from ≤ to }
     requires within { to ≤ length schedule.now.acts.items + 1 }
     ensures points { IfOk result (λ points. map found_of points.items
-        ≡ map (found_at (shape_in schedule.now.laid) schedule.now.acts.items schedule.now.evictions)
+        ≡ map (found_at schedule.now.layout schedule.now.acts.items schedule.now.evictions)
         (range_with_len from (to - from))) }
     ensures errors { IfErr result (λ e. e ≡ Refusal.NoMemory) }
 {
@@ -73,14 +72,14 @@ fn some_points<R: Threads + Sync>(
             || Spare::none(),
             |spare: &mut Spare, point: usize| -> Result<Point, Refusal>
                 requires { point ≤ length schedule.now.acts.items }
-                ensures found { IfOk result (λ found. found_of found ≡ found_at (shape_in schedule.entry.now.laid)
+                ensures found { IfOk result (λ found. found_of found ≡ found_at schedule.entry.now.layout
                     schedule.entry.now.acts.items schedule.entry.now.evictions point) }
                 ensures errors { IfErr result (λ e. e ≡ Refusal.NoMemory) }
             {
                 crash(
                     alloc,
                     spare,
-                    &schedule.laid,
+                    schedule.layout,
                     &schedule.acts[..point],
                     schedule.evictions,
                 )
@@ -101,7 +100,7 @@ fn all_points<R: Threads + Sync, W: Watch>(
     watch: &mut W,
 ) -> Result<Vec<Point>, Refusal>
     ensures points { IfOk result (λ points. map found_of points.items
-        ≡ map (found_at (shape_in schedule.now.laid) schedule.now.acts.items schedule.now.evictions)
+        ≡ map (found_at schedule.now.layout schedule.now.acts.items schedule.now.evictions)
         (range_with_len 0 (length schedule.now.acts.items + 1))) }
     ensures errors { IfErr result (λ e. e ≡ Refusal.NoMemory) }
 {
@@ -160,10 +159,10 @@ pub fn watched_points<R: Threads + Sync, W: Watch>(
     let Some(queue) = script.queue else {
         return Ok(report_of(Vec::new(alloc)));
     };
-    let laid = layout_of(queue)?;
-    let acts = accepted_acts(alloc, &laid, &script.commands)?;
+    let layout = queue.layout()?;
+    let acts = accepted_acts(alloc, layout, &script.commands)?;
     let schedule = Schedule {
-        laid,
+        layout,
         acts,
         evictions,
     };

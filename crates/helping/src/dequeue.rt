@@ -46,9 +46,9 @@ pub struct Claimed {
 
 impl Claimed {
     /// Where the winner's result is written, and what.
-    pub(crate) fn result<L: Layout>(&self, layout: &L) -> Write
+    pub(crate) fn result(&self, layout: &Layout) -> Write
         ensures { result
-            ≡ result_of (L.shape layout.now).kind (winner self.now.claim self.now.token) self.now.next }
+            ≡ result_of layout.now.kind (winner self.now.claim self.now.token) self.now.next }
     {
         layout.result(self.claim.winner(self.token), self.next)
     }
@@ -68,7 +68,7 @@ impl Resume for DequeueLoadHead {
 
     ghost point = { DequeueLoadHead };
 
-    fn step<L: Layout, M: WordMemory>(self, layout: &L, memory: &mut M) -> Stepped<Op, Reply> {
+    fn step<M: WordMemory>(self, layout: &Layout, memory: &mut M) -> Stepped<Op, Reply> {
         let first = NodeId(load_at(layout, memory, Place::Head) as u32);
         Stepped::quiet(After::More(Op::DequeueLoadTail(DequeueLoadTail {
             token: self.token,
@@ -93,7 +93,7 @@ impl Resume for DequeueLoadTail {
 
     ghost point = { DequeueLoadTail };
 
-    fn step<L: Layout, M: WordMemory>(self, layout: &L, memory: &mut M) -> Stepped<Op, Reply> {
+    fn step<M: WordMemory>(self, layout: &Layout, memory: &mut M) -> Stepped<Op, Reply> {
         let last = NodeId(load_at(layout, memory, Place::Tail) as u32);
         Stepped::quiet(After::More(Op::DequeueLoadNext(DequeueLoadNext {
             token: self.token,
@@ -121,7 +121,7 @@ impl Resume for DequeueLoadNext {
 
     ghost point = { DequeueLoadNext };
 
-    fn step<L: Layout, M: WordMemory>(self, layout: &L, memory: &mut M) -> Stepped<Op, Reply> {
+    fn step<M: WordMemory>(self, layout: &Layout, memory: &mut M) -> Stepped<Op, Reply> {
         let DequeueLoadNext { token, first, last } = self;
         let next = NodeId(load_at(layout, memory, Place::Next(first)) as u32);
         Stepped::quiet(After::More(Op::DequeueCheckHead(DequeueCheckHead {
@@ -151,7 +151,7 @@ impl Resume for DequeueCheckHead {
 
     ghost point = { DequeueCheckHead };
 
-    fn step<L: Layout, M: WordMemory>(self, layout: &L, memory: &mut M) -> Stepped<Op, Reply> {
+    fn step<M: WordMemory>(self, layout: &Layout, memory: &mut M) -> Stepped<Op, Reply> {
         let DequeueCheckHead {
             token,
             first,
@@ -191,7 +191,7 @@ impl Resume for DequeueStoreEmpty {
 
     ghost point = { DequeueStoreEmpty };
 
-    fn step<L: Layout, M: WordMemory>(self, layout: &L, memory: &mut M) -> Stepped<Op, Reply> {
+    fn step<M: WordMemory>(self, layout: &Layout, memory: &mut M) -> Stepped<Op, Reply> {
         let token = self.token;
         store_at(layout, memory, layout.empty_answer(token));
         Stepped::quiet(After::More(Op::Flush(Keeping::Empty(KeepEmpty { token }))))
@@ -214,7 +214,7 @@ impl Resume for DequeueHelpTail {
 
     ghost point = { DequeueHelpTail };
 
-    fn step<L: Layout, M: WordMemory>(self, layout: &L, memory: &mut M) -> Stepped<Op, Reply> {
+    fn step<M: WordMemory>(self, layout: &Layout, memory: &mut M) -> Stepped<Op, Reply> {
         let DequeueHelpTail { token, last, next } = self;
         let tail = Write {
             place: Place::Tail,
@@ -243,7 +243,7 @@ impl Resume for DequeueLoadItem {
 
     ghost point = { DequeueLoadItem };
 
-    fn step<L: Layout, M: WordMemory>(self, layout: &L, memory: &mut M) -> Stepped<Op, Reply> {
+    fn step<M: WordMemory>(self, layout: &Layout, memory: &mut M) -> Stepped<Op, Reply> {
         let DequeueLoadItem {
             token,
             first,
@@ -285,7 +285,7 @@ impl Resume for DequeueClaim {
 
     ghost point = { DequeueClaim };
 
-    fn step<L: Layout, M: WordMemory>(self, layout: &L, memory: &mut M) -> Stepped<Op, Reply> {
+    fn step<M: WordMemory>(self, layout: &Layout, memory: &mut M) -> Stepped<Op, Reply> {
         let DequeueClaim {
             token,
             first,
@@ -326,7 +326,7 @@ impl Resume for DequeueStoreResult {
 
     ghost point = { DequeueStoreResult };
 
-    fn step<L: Layout, M: WordMemory>(self, layout: &L, memory: &mut M) -> Stepped<Op, Reply> {
+    fn step<M: WordMemory>(self, layout: &Layout, memory: &mut M) -> Stepped<Op, Reply> {
         let claimed = self.claimed;
         store_at(layout, memory, claimed.result(layout));
         Stepped::quiet(After::More(Op::Flush(Keeping::Result(KeepResult { claimed }))))
@@ -347,7 +347,7 @@ impl Resume for DequeueMoveHead {
 
     ghost point = { DequeueMoveHead };
 
-    fn step<L: Layout, M: WordMemory>(self, layout: &L, memory: &mut M) -> Stepped<Op, Reply> {
+    fn step<M: WordMemory>(self, layout: &Layout, memory: &mut M) -> Stepped<Op, Reply> {
         let Claimed {
             token,
             first,

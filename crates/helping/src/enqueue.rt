@@ -24,7 +24,7 @@ impl Resume for EnqueueLoadTail {
 
     ghost point = { EnqueueLoadTail };
 
-    fn step<L: Layout, M: WordMemory>(self, layout: &L, memory: &mut M) -> Stepped<Op, Reply> {
+    fn step<M: WordMemory>(self, layout: &Layout, memory: &mut M) -> Stepped<Op, Reply> {
         let last = NodeId(load_at(layout, memory, Place::Tail) as u32);
         Stepped::quiet(After::More(Op::EnqueueLoadNext(EnqueueLoadNext {
             node: self.node,
@@ -49,7 +49,7 @@ impl Resume for EnqueueLoadNext {
 
     ghost point = { EnqueueLoadNext };
 
-    fn step<L: Layout, M: WordMemory>(self, layout: &L, memory: &mut M) -> Stepped<Op, Reply> {
+    fn step<M: WordMemory>(self, layout: &Layout, memory: &mut M) -> Stepped<Op, Reply> {
         let next = NodeId(load_at(layout, memory, Place::Next(self.last)) as u32);
         Stepped::quiet(After::More(Op::EnqueueCheckTail(EnqueueCheckTail {
             node: self.node,
@@ -76,7 +76,7 @@ impl Resume for EnqueueCheckTail {
 
     ghost point = { EnqueueCheckTail };
 
-    fn step<L: Layout, M: WordMemory>(self, layout: &L, memory: &mut M) -> Stepped<Op, Reply> {
+    fn step<M: WordMemory>(self, layout: &Layout, memory: &mut M) -> Stepped<Op, Reply> {
         let EnqueueCheckTail { node, last, next } = self;
         let tail = load_at(layout, memory, Place::Tail);
         Stepped::quiet(After::More(if tail != last.0 as u64 {
@@ -105,7 +105,7 @@ impl Resume for EnqueueLink {
 
     ghost point = { EnqueueLink };
 
-    fn step<L: Layout, M: WordMemory>(self, layout: &L, memory: &mut M) -> Stepped<Op, Reply> {
+    fn step<M: WordMemory>(self, layout: &Layout, memory: &mut M) -> Stepped<Op, Reply> {
         let EnqueueLink { node, last } = self;
         let link = Write {
             place: Place::Next(last),
@@ -133,7 +133,7 @@ impl Resume for EnqueueMoveTail {
 
     ghost point = { EnqueueMoveTail };
 
-    fn step<L: Layout, M: WordMemory>(self, layout: &L, memory: &mut M) -> Stepped<Op, Reply> {
+    fn step<M: WordMemory>(self, layout: &Layout, memory: &mut M) -> Stepped<Op, Reply> {
         let tail = Write {
             place: Place::Tail,
             value: self.node.0 as u64,
@@ -159,7 +159,7 @@ impl Resume for EnqueueHelpTail {
 
     ghost point = { EnqueueHelpTail };
 
-    fn step<L: Layout, M: WordMemory>(self, layout: &L, memory: &mut M) -> Stepped<Op, Reply> {
+    fn step<M: WordMemory>(self, layout: &Layout, memory: &mut M) -> Stepped<Op, Reply> {
         let EnqueueHelpTail { node, last, next } = self;
         let tail = Write {
             place: Place::Tail,

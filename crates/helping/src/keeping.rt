@@ -87,10 +87,10 @@ pub struct KeepResult {
 impl Keeping {
     /// The place whose word is kept.
     #[inline(always)]
-    fn place<L: Layout>(&self, layout: &L) -> Place
-        requires point { IsKeeping (L.shape layout.now) self.now }
-        ensures kept { result ≡ kept_place (L.shape layout.now).kind self.now }
-        ensures place { IsPlace (L.shape layout.now) result }
+    fn place(&self, layout: &Layout) -> Place
+        requires point { IsKeeping layout.now self.now }
+        ensures kept { result ≡ kept_place layout.now.kind self.now }
+        ensures place { IsPlace layout.now result }
     {
         match self {
             Keeping::Link(KeepLink { last, .. })
@@ -129,16 +129,16 @@ impl Keeping {
 
     /// Asks that the word be kept. What waits then is the fence.
     #[inline(always)]
-    pub(crate) fn ask<L: Layout, M: WordMemory>(
+    pub(crate) fn ask<M: WordMemory>(
         self,
-        layout: &L,
+        layout: &Layout,
         memory: &mut M,
     ) -> Stepped<Op, Reply>
-        requires room { size_of (L.shape layout.now) ≤ length (M.words memory.old).cached }
-        requires point { IsKeeping (L.shape layout.now) self }
-        ensures one_access { let s = L.shape layout.now in
+        requires room { size_of layout.now ≤ length (M.words memory.old).cached }
+        requires point { IsKeeping layout.now self }
+        ensures one_access { let s = layout.now in
             M.words memory.new ≡ after_one s (Flush (kept_place s.kind self)) (M.words memory.old) }
-        ensures lent { let s = L.shape layout.now in
+        ensures lent { let s = layout.now in
             M.lent memory.new ≡ lent_after_one s (Flush (kept_place s.kind self)) (M.lent memory.old) }
         ensures next { result.after ≡ More (FencePoint self) }
         ensures change { result.change ≡ None }
@@ -149,20 +149,20 @@ impl Keeping {
 
     /// Keeps the word, which was asked for.
     #[inline(always)]
-    pub(crate) fn complete<L: Layout, M: WordMemory>(
+    pub(crate) fn complete<M: WordMemory>(
         self,
-        layout: &L,
+        layout: &Layout,
         memory: &mut M,
     ) -> Stepped<Op, Reply>
-        requires point { IsKeeping (L.shape layout.now) self }
-        requires asked { let s = L.shape layout.now in
+        requires point { IsKeeping layout.now self }
+        requires asked { let s = layout.now in
             IsAskedFor s (Fence (kept_place s.kind self)) (M.lent memory.old).request }
-        ensures one_access { let s = L.shape layout.now in
+        ensures one_access { let s = layout.now in
             M.words memory.new ≡ after_one s (Fence (kept_place s.kind self)) (M.words memory.old) }
-        ensures lent { let s = L.shape layout.now in
+        ensures lent { let s = layout.now in
             M.lent memory.new ≡ lent_after_one s (Fence (kept_place s.kind self)) (M.lent memory.old) }
         ensures next { result.after ≡ after_keeping self }
-        ensures change { let s = L.shape layout.now in
+        ensures change { let s = layout.now in
             result.change ≡ change_by s (Fence (kept_place s.kind self)) (M.words memory.old) }
     {
         let change = fence_at(layout, memory, self.place(layout));

@@ -128,7 +128,7 @@ impl Resume for Op {
 
     ghost point = { λ op. op };
 
-    fn step<L: Layout, M: WordMemory>(self, layout: &L, memory: &mut M) -> Stepped<Op, Reply> {
+    fn step<M: WordMemory>(self, layout: &Layout, memory: &mut M) -> Stepped<Op, Reply> {
         match self {
             Op::PrepareStore(point) => go_on(point.step(layout, memory)),
             Op::PrepareFlush(point) => go_on(point.step(layout, memory)),

@@ -9,11 +9,10 @@ ghost use Rattle.interleave.specs.Holds.{Holds};
 ghost use Rattle.interleave.specs.State.{after_alone, IsAnsweredAlone};
 
 use crate::lent::Core;
-use arena::Layout;
 use persist::EvictableWords;
 use words::{Client, MAX_STEPS_ALONE, Refusal, Reply};
 
-impl<L: Layout + Drop> Core<L> {
+impl Core {
     /// A client's call goes on alone until it answers: its reply, and how many steps that took, at most
     /// [`MAX_STEPS_ALONE`] from wherever it waits. The words are lent through the client's port, as to
     /// [`Core::step`]. It is refused, in this order, where there is no such client (NoClient), where recovery is under

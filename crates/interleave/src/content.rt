@@ -14,16 +14,16 @@ use std::alloc::Global;
 use words::{NodeId, Refusal, Value};
 
 /// Adds the value of a node, if it is not claimed.
-fn add_unclaimed<L: Layout, K: KeptWords>(
+fn add_unclaimed<K: KeptWords>(
     values: &mut Vec<Value>,
-    layout: &L,
+    layout: &Layout,
     kept: &K,
     node: NodeId,
 ) -> Result<(), Refusal>
-    requires node { IsNode (L.shape layout.now) node.0 }
-    requires fit { KeptFit (L.shape layout.now) (K.kept_words kept.now) }
+    requires node { IsNode layout.now node.0 }
+    requires fit { KeptFit layout.now (K.kept_words kept.now) }
     ensures added { OnOk result (values.new.items
-        ≡ values.old.items ++ unclaimed_from (value_of_place (L.shape layout.now) (K.kept_words kept.now)) node.0) }
+        ≡ values.old.items ++ unclaimed_from (value_of_place layout.now (K.kept_words kept.now)) node.0) }
     ensures errors { IfErr result (λ e. e ≡ Refusal.NoMemory) }
 {
     if kept_at(layout, kept, Place::Mark(node)) != 0 {
@@ -37,14 +37,14 @@ fn add_unclaimed<L: Layout, K: KeptWords>(
 }
 
 /// The values of the nodes that kept links reach from the sentinel, the claimed ones left out.
-pub(crate) fn content<L: Layout, K: KeptWords>(
+pub(crate) fn content<K: KeptWords>(
     alloc: Global,
-    layout: &L,
+    layout: &Layout,
     kept: &K,
 ) -> Result<Vec<Value>, Refusal>
-    requires { KeptFit (L.shape layout.now) (K.kept_words kept.now) }
+    requires { KeptFit layout.now (K.kept_words kept.now) }
     ensures content { IfOk result (λ values. values.items
-        ≡ kept_content (L.shape layout.now) (value_of_place (L.shape layout.now) (K.kept_words kept.now))) }
+        ≡ kept_content layout.now (value_of_place layout.now (K.kept_words kept.now))) }
     ensures errors { IfErr result (λ e. e ≡ Refusal.NoMemory) }
 {
     let mut values = Vec::new(alloc);

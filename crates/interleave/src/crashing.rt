@@ -16,11 +16,10 @@ ghost use Rattle.interleave.specs.Recoveries.{MayRecover};
 ghost use Rattle.interleave.specs.State.{after_stop, crash_result, after_recover, recover_result, queue_at_ready, is_ready};
 
 use crate::lent::Core;
-use arena::Layout;
 use persist::WordMemory;
 use words::Refusal;
 
-impl<L: Layout + Drop> Core<L> {
+impl Core {
     /// The whole system stops, as in [`Core::crash`], where there is room for one event. So it is not refused: whoever
     /// has several cores makes room in each ([`Core::reserve`]) before any of them stops.
     pub fn stop(&mut self)

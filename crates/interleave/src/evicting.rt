@@ -6,11 +6,10 @@ ghost use Rattle.interleave.specs.Holds.{Holds};
 ghost use Rattle.interleave.specs.State.{after_evict, evict_result};
 
 use crate::lent::Core;
-use arena::Layout;
 use persist::{Change, EvictableWords};
 use words::Refusal;
 
-impl<L: Layout + Drop> Core<L> {
+impl Core {
     /// The environment keeps a word, by its number in the words that are lent. It is no access, takes no memory, and
     /// may make a call take effect. It is refused where there is no such word (NoWord).
     pub fn evict<M: EvictableWords>(

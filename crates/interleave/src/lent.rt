@@ -32,26 +32,26 @@ use words::{Client, Refusal, Told, Value};
 /// words; the caller lends the same words each time. Each client has a port of its own, and recovery another, through
 /// which the words are lent to it: so each completes the flushes that it asked for, and no other ones.
 #[derive(Drop)]
-pub struct Core<L: Layout + Drop> {
-    pub(crate) layout: L,
+pub struct Core {
+    pub(crate) layout: Layout,
     pub(crate) queue: Queue,
     pub(crate) calls: Calls,
     pub(crate) trace: Trace,
 }
 
-impl<L: Layout + Drop> Model for Core<L> {
+impl Model for Core {
     ghost use Rattle.interleave.specs.Core.{CoreState};
 
     ghost Value = { CoreState };
 
-    ghost view = { λ c. record { shape = L.shape c.layout; queue = c.queue; calls = c.calls; trace = c.trace } };
+    ghost view = { λ c. record { shape = c.layout; queue = c.queue; calls = c.calls; trace = c.trace } };
 }
 
-impl<L: Layout + Drop> Core<L> {
+impl Core {
     /// A core of a new queue, for words that are all zero: no client has called. It takes no memory.
-    pub fn new(alloc: Global, layout: L) -> Self
-        ensures world { (ws : Words) → state_of result ws ≡ world_over (L.shape layout) ws }
-        ensures holds { (ws : Words) → AreUnused (L.shape layout) ws → Holds (state_of result ws) }
+    pub fn new(alloc: Global, layout: Layout) -> Self
+        ensures world { (ws : Words) → state_of result ws ≡ world_over layout ws }
+        ensures holds { (ws : Words) → AreUnused layout ws → Holds (state_of result ws) }
     {
         let queue = Queue::new(layout.kind(), layout.clients());
         let calls = Calls::none(layout.clients());
@@ -67,13 +67,13 @@ impl<L: Layout + Drop> Core<L> {
     /// A core that begins on kept words, as a crash left them: recovery begins, and the history begins with what they
     /// hold and tell. The caller makes every cached value the kept one, as a crash does. It is refused, in this order,
     /// where the words break a rule (Damaged, with the first such rule), and for want of memory (NoMemory).
-    pub fn boot<K: KeptWords>(alloc: Global, layout: L, kept: &K) -> Result<Self, Refusal>
+    pub fn boot<K: KeptWords>(alloc: Global, layout: Layout, kept: &K) -> Result<Self, Refusal>
         ensures booted { IfOk result (λ c. (ws : Words) → ws.kept ≡ K.kept_words kept.now
-            → state_of c (words_after_crash ws) ≡ booted_world (L.shape layout) ws) }
+            → state_of c (words_after_crash ws) ≡ booted_world layout ws) }
         ensures holds { IfOk result (λ c. (ws : Words) → ws.kept ≡ K.kept_words kept.now
             → Holds (state_of c (words_after_crash ws))) }
-        ensures sound { IfOk result (λ c. AreSoundWords (L.shape layout) (K.kept_words kept.now)) }
-        ensures errors { IfErr result (λ e. MayRefuse (L.shape layout) (K.kept_words kept.now) e) }
+        ensures sound { IfOk result (λ c. AreSoundWords layout (K.kept_words kept.now)) }
+        ensures errors { IfErr result (λ e. MayRefuse layout (K.kept_words kept.now) e) }
     {
         let clients = layout.clients();
         sound(&layout, kept)?;
@@ -93,12 +93,12 @@ impl<L: Layout + Drop> Core<L> {
     /// A core that begins on words that are all zero, as [`Core::boot`] does on such words, but without reading them:
     /// so it takes no memory, and is not refused. It is for a queue whose creation was kept when a crash cut it off, so
     /// that recovery is the first to find it: nobody has called yet.
-    pub fn boot_unused(alloc: Global, layout: L) -> Self
+    pub fn boot_unused(alloc: Global, layout: Layout) -> Self
         ensures new { (ws : Words)
-            → state_of result ws ≡ record (world_over (L.shape layout) ws) { recovery = Some boot_recovery } }
-        ensures booted { (ws : Words) → AreUnused (L.shape layout) ws
-            → state_of result ws ≡ booted_world (L.shape layout) ws }
-        ensures holds { (ws : Words) → AreUnused (L.shape layout) ws → Holds (state_of result ws) }
+            → state_of result ws ≡ record (world_over layout ws) { recovery = Some boot_recovery } }
+        ensures booted { (ws : Words) → AreUnused layout ws
+            → state_of result ws ≡ booted_world layout ws }
+        ensures holds { (ws : Words) → AreUnused layout ws → Holds (state_of result ws) }
     {
         let queue = Queue::new(layout.kind(), layout.clients());
         let calls = Calls::none(layout.clients());
@@ -112,8 +112,8 @@ impl<L: Layout + Drop> Core<L> {
     }
 
     /// The layout of its words.
-    pub fn layout(&self) -> &L
-        ensures { L.shape result.now ≡ self.now.shape }
+    pub fn layout(&self) -> &Layout
+        ensures { result.now ≡ self.now.shape }
     {
         &self.layout
     }

@@ -19,20 +19,20 @@ use protocol::UnderWay;
 use words::{NodeId, Reply, Value};
 
 /// The kept value of a place. Looking at it is no access.
-pub(crate) fn kept_at<L: Layout, K: KeptWords>(layout: &L, kept: &K, place: Place) -> u64
-    requires place { IsPlace (L.shape layout.now) place }
-    requires room { size_of (L.shape layout.now) ≤ length (K.kept_words kept.now) }
-    ensures { result ≡ value_of_place (L.shape layout.now) (K.kept_words kept.now) place }
+pub(crate) fn kept_at<K: KeptWords>(layout: &Layout, kept: &K, place: Place) -> u64
+    requires place { IsPlace layout.now place }
+    requires room { size_of layout.now ≤ length (K.kept_words kept.now) }
+    ensures { result ≡ value_of_place layout.now (K.kept_words kept.now) place }
 {
     let word = layout.word(place);
     kept.kept(word)
 }
 
 /// The kept message of a node.
-pub(crate) fn kept_value<L: Layout, K: KeptWords>(layout: &L, kept: &K, node: NodeId) -> Value
-    requires node { IsNode (L.shape layout.now) node.0 }
-    requires room { size_of (L.shape layout.now) ≤ length (K.kept_words kept.now) }
-    ensures { result ≡ values (value_of_place (L.shape layout.now) (K.kept_words kept.now)) node.0 }
+pub(crate) fn kept_value<K: KeptWords>(layout: &Layout, kept: &K, node: NodeId) -> Value
+    requires node { IsNode layout.now node.0 }
+    requires room { size_of layout.now ≤ length (K.kept_words kept.now) }
+    ensures { result ≡ values (value_of_place layout.now (K.kept_words kept.now)) node.0 }
 {
     value_of([
         kept_at(layout, kept, Place::Item(node, Part::Length)),
@@ -42,7 +42,7 @@ pub(crate) fn kept_value<L: Layout, K: KeptWords>(layout: &L, kept: &K, node: No
     ])
 }
 
-impl<L: Layout + Drop> Core<L> {
+impl Core {
     /// The call whose record has this number, if it is under way.
     fn call_with(&self, number: u64) -> Option<UnderWay>
         ensures { result ≡ slice_index_or self.now.calls (owner self.now.shape number) None }

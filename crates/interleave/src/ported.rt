@@ -9,11 +9,10 @@ ghost use Rattle.interleave.specs.Core.{state_of};
 ghost use Rattle.interleave.specs.State.{after_alone, after_evict, after_recover, after_start, after_step, evict_result, recover_result, start_result, step_result, IsAnsweredAlone};
 
 use crate::lent::Core;
-use arena::Layout;
 use persist::{Change, Memory};
 use words::{Call, Client, MAX_STEPS_ALONE, RECOVERY_PORT, Refusal, Reply};
 
-impl<L: Layout + Drop> Core<L> {
+impl Core {
     /// As [`Core::start`]. It asks for nothing, so that the port does not matter.
     pub(crate) fn start_in(
         &mut self,

@@ -14,13 +14,12 @@ ghost use Rattle.interleave.specs.Rotation.{after_rotate, after_rotation, rotate
 
 use crate::content::content;
 use crate::lent::Core;
-use arena::Layout;
 use events::copied;
 use persist::KeptWords;
 use recover::tells;
 use words::{Refusal, Reports, Value};
 
-impl<L: Layout + Drop> Core<L> {
+impl Core {
     /// What the kept words tell the clients.
     fn tells<K: KeptWords>(&self, kept: &K) -> Reports
         requires { AreSoundWords self.now.shape (K.kept_words kept.now) }

@@ -15,14 +15,14 @@ ghost use Rattle.interleave.specs.State.{after_start, start_result, start_with, 
 
 use crate::calls::record_number;
 use crate::lent::Core;
-use arena::{Layout, Place};
+use arena::Place;
 use helping::Op;
 use persist::WordMemory;
 use protocol::UnderWay;
 use stepper::{Begun, load_at};
 use words::{Call, Client, Refusal};
 
-impl<L: Layout + Drop> Core<L> {
+impl Core {
     /// Loads the client's bump word: how many records it used.
     fn load_bump<M: WordMemory>(&self, memory: &mut M, client: Client) -> u64
         requires place { IsPlace self.now.shape (Bump client) }

@@ -16,7 +16,6 @@ ghost use Rattle.interleave.specs.Ranges.{WordsFit, IsSafe};
 ghost use Rattle.interleave.specs.State.{after_step, step_result};
 
 use crate::lent::Core;
-use arena::Layout;
 use helping::Op;
 use persist::{EvictableWords, WordMemory};
 use protocol::UnderWay;
@@ -33,7 +32,7 @@ fn found_nothing(after: &After<Op, Reply>) -> bool
     }
 }
 
-impl<L: Layout + Drop> Core<L> {
+impl Core {
     /// The call that a client has under way.
     pub(crate) fn waiting(&self, client: Client) -> Result<UnderWay, Refusal>
         ensures { result ≡ waiting_result (is_some self.now.trace.recovery) (slice_get self.now.calls client.0) }

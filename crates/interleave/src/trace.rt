@@ -202,14 +202,14 @@ impl Trace {
     }
 
     /// Recovery makes a step. It answers whether it has now told every client.
-    pub(crate) fn recover<L: Layout, M: WordMemory>(&mut self, layout: &L, memory: &mut M) -> bool
+    pub(crate) fn recover<M: WordMemory>(&mut self, layout: &Layout, memory: &mut M) -> bool
         requires down { is_some self.old.recovery ≡ true }
-        requires may { IfSome self.old.recovery (λ r. MayRecover (L.shape layout.now) (M.words memory.old) r) }
-        requires asked { IfRecoveryAsked (L.shape layout.now) self.old.recovery (M.lent memory.old).request }
+        requires may { IfSome self.old.recovery (λ r. MayRecover layout.now (M.words memory.old) r) }
+        requires asked { IfRecoveryAsked layout.now self.old.recovery (M.lent memory.old).request }
         ensures base { self.new.base ≡ self.old.base }
         ensures told { self.new.told ≡ self.old.told }
         ensures log { self.new.log ≡ self.old.log }
-        ensures step { (r : AnyRecovery) → self.old.recovery ≡ Some r → let s = L.shape layout.now in
+        ensures step { (r : AnyRecovery) → self.old.recovery ≡ Some r → let s = layout.now in
             let access = access_of s.kind r.at in (M.words memory.new ≡ after_one s access (M.words memory.old))
             × (M.lent memory.new ≡ lent_after_one s access (M.lent memory.old))
             × HasReached result self.new.recovery (recovery_after s r (value_found s access (M.words memory.old))) }

@@ -33,12 +33,12 @@ use words::{Call, Client, MAX_STEPS_ALONE, Refusal, Reply, Told, Value};
 /// moment the environment may keep a word, or the whole system may stop, and then recover by single steps. Each client
 /// acts through the memory's port of its number, and recovery through [`RECOVERY_PORT`](words::RECOVERY_PORT).
 #[derive(Drop)]
-pub struct World<L: Layout + Drop> {
-    core: Core<L>,
+pub struct World {
+    core: Core,
     memory: Memory,
 }
 
-impl<L: Layout + Drop> Model for World<L> {
+impl Model for World {
     ghost use Rattle.interleave.specs.Asked.{HoldsOver};
     ghost use Rattle.interleave.specs.Core.{state_of};
     ghost use Rattle.interleave.specs.Trace.{Roomy};
@@ -50,10 +50,10 @@ impl<L: Layout + Drop> Model for World<L> {
     ghost invariant = { λ w. HoldsOver w.core w.memory };
 }
 
-impl<L: Layout + Drop> World<L> {
+impl World {
     /// A world on zero memory, in which no client has called: an empty queue.
-    pub fn make(alloc: Global, layout: L) -> Result<Self, Refusal>
-        ensures made { IfOk result (λ w. w.now ≡ new_world (L.shape layout)) }
+    pub fn make(alloc: Global, layout: Layout) -> Result<Self, Refusal>
+        ensures made { IfOk result (λ w. w.now ≡ new_world layout) }
         ensures errors { IfErr result (λ e. e ≡ Refusal.NoMemory) }
     {
         let memory = Memory::new(alloc, layout.size())?;
@@ -62,9 +62,9 @@ impl<L: Layout + Drop> World<L> {
 
     /// A world of a new queue on a given memory, in which no client has called. It takes no memory. The caller's
     /// condition is that all words are zero, cached and kept, and as many as the layout has, or a broker's block.
-    pub fn over(alloc: Global, layout: L, memory: Memory) -> Self
-        requires { AreUnused (L.shape layout) memory.words }
-        ensures { result.now ≡ world_over (L.shape layout) memory.words }
+    pub fn over(alloc: Global, layout: Layout, memory: Memory) -> Self
+        requires { AreUnused layout memory.words }
+        ensures { result.now ≡ world_over layout memory.words }
     {
         World {
             core: Core::new(alloc, layout),
@@ -75,10 +75,10 @@ impl<L: Layout + Drop> World<L> {
     /// A world that begins on what a memory keeps, as a crash left it: what is not kept is lost, and recovery begins.
     /// Its history begins with what the kept words hold and tell. It is refused, in this order, where the words break a
     /// rule (Damaged, with the first such rule), and for want of memory (NoMemory).
-    pub fn boot(alloc: Global, layout: L, memory: Memory) -> Result<Self, Refusal>
-        ensures booted { IfOk result (λ w. w.now ≡ booted_world (L.shape layout) memory.words) }
-        ensures sound { IfOk result (λ w. AreSoundWords (L.shape layout) memory.words.kept) }
-        ensures errors { IfErr result (λ e. MayRefuse (L.shape layout) memory.words.kept e) }
+    pub fn boot(alloc: Global, layout: Layout, memory: Memory) -> Result<Self, Refusal>
+        ensures booted { IfOk result (λ w. w.now ≡ booted_world layout memory.words) }
+        ensures sound { IfOk result (λ w. AreSoundWords layout memory.words.kept) }
+        ensures errors { IfErr result (λ e. MayRefuse layout memory.words.kept e) }
     {
         let core = Core::boot(alloc, layout, &memory)?;
         let mut memory = memory;
@@ -208,8 +208,8 @@ impl<L: Layout + Drop> World<L> {
     }
 
     /// The layout of its memory.
-    pub fn layout(&self) -> &L
-        ensures { L.shape result.now ≡ self.now.now.shape }
+    pub fn layout(&self) -> &Layout
+        ensures { result.now ≡ self.now.now.shape }
     {
         self.core.layout()
     }

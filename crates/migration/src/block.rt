@@ -32,8 +32,8 @@ fn item_of(value: u32) -> Value
 }
 
 /// What a part of a node's message becomes.
-fn part_of<L: Layout, W: KeptWords>(
-    queue: &KeptQueue<'_, L, W>,
+fn part_of<W: KeptWords>(
+    queue: &KeptQueue<'_, W>,
     survey: &Survey,
     node: NodeId,
     part: Part,
@@ -52,8 +52,8 @@ fn part_of<L: Layout, W: KeptWords>(
 }
 
 /// What a cell becomes.
-fn cell_of<L: Layout, W: KeptWords>(
-    queue: &KeptQueue<'_, L, W>,
+fn cell_of<W: KeptWords>(
+    queue: &KeptQueue<'_, W>,
     survey: &Survey,
     cell: Token,
 ) -> u64
@@ -71,8 +71,8 @@ fn cell_of<L: Layout, W: KeptWords>(
 }
 
 /// What the word of a place becomes.
-fn word_of<L: Layout, W: KeptWords>(
-    queue: &KeptQueue<'_, L, W>,
+fn word_of<W: KeptWords>(
+    queue: &KeptQueue<'_, W>,
     survey: &Survey,
     place: Place,
 ) -> u64
@@ -90,17 +90,17 @@ fn word_of<L: Layout, W: KeptWords>(
 }
 
 /// What a word of the block becomes, or 0 past the queue's.
-fn word_at<L: Layout, W: KeptWords>(
-    layout: &L,
-    queue: &KeptQueue<'_, L, W>,
+fn word_at<W: KeptWords>(
+    layout: &Layout,
+    queue: &KeptQueue<'_, W>,
     survey: &Survey,
     word: usize,
 ) -> u64
     requires values { queue.now.form ≡ OfValues }
-    requires shape { queue.now.shape ≡ L.shape layout.now }
+    requires shape { queue.now.shape ≡ layout.now }
     requires sound { IsSoundIn OfValues queue.now.shape (kept_of queue.now) }
     requires survey { IsSurveyOf queue.now.form queue.now.shape queue.now.words survey.now.place survey.now.claimed }
-    ensures { result ≡ word_migrated (L.shape layout.now) (kept_of queue.now) word }
+    ensures { result ≡ word_migrated layout.now (kept_of queue.now) word }
 {
     match layout.what_is(word) {
         Some(place) => word_of(queue, survey, place),
@@ -109,14 +109,14 @@ fn word_at<L: Layout, W: KeptWords>(
 }
 
 /// Adds the words of a queue's block. They are as many as a block of the form of items has.
-pub(crate) fn add_block<L: Layout, W: KeptWords>(
-    layout: &L,
+pub(crate) fn add_block<W: KeptWords>(
+    layout: &Layout,
     block: &W,
     words: &mut Vec<u64>,
 ) -> Result<(), AllocError>
-    requires sound { AreSoundWordsIn OfValues (L.shape layout.now) (W.kept_words block.now) }
-    ensures { OnOk result (words.new.items ≡ words.old.items ++ block_migrated (L.shape layout.now).kind
-        (record { clients = (L.shape layout.now).clients; records = (L.shape layout.now).records })
+    requires sound { AreSoundWordsIn OfValues layout.now (W.kept_words block.now) }
+    ensures { OnOk result (words.new.items ≡ words.old.items ++ block_migrated layout.now.kind
+        (record { clients = layout.now.clients; records = layout.now.records })
         (W.kept_words block.now)) }
 {
     let Ok(survey) = surveyed(Form::OfValues, layout, block) else {

@@ -53,10 +53,7 @@ fn add_slot(
         // The memory has as many words as the layout.
         unreachable!();
     };
-    match queue.kind {
-        Kind::Durable => add_block(&layout.durable(), &block, words),
-        Kind::Log => add_block(&layout.log(), &block, words),
-    }
+    add_block(&layout.queue(queue.kind), &block, words)
 }
 
 /// Adds the words of the head and the directory, which both forms have.

@@ -38,7 +38,7 @@ use Rattle.named.specs.Brokers.{Brokered, IsInBlock, IsSlotAt, IsWell, admission
 use Rattle.named.specs.Slots.{AskAlikeBesideSlot, IfWorld, IsSlotAsked, acted, world_in}
 use Rattle.named.specs.declared.broker.TheConstants.{CREATION_PORT}
 use Rattle.named.specs.declared.slot.Slot.{Slot}
-use Rattle.named.specs.declared.slot.Slot.TheVariants.{Closed, Durable, Log}
+use Rattle.named.specs.declared.slot.Slot.TheVariants.{Closed, Open}
 use Rattle.named.proofs.Kept.{get_set_other, some_is}
 use Rattle.named.proofs.GoingOn.{world_holds}
 use Rattle.named.proofs.Made.{get_replicate}
@@ -53,19 +53,13 @@ block_requests c m at block from len port t =
 
 pub slot_asked : (c : Counts) (ws : Words) (m : MemoryState) (at : ℕ) (slot : Slot) → IsSlotAt c ws at slot → IfWorld (world_in ws slot) (IsWorldAsked c m at) → IsSlotAsked m slot
 slot_asked c ws m at Closed here asked = tt
-slot_asked c ws m at (Durable block) here asked =
-    asked_same block.core.shape block.core.calls block.core.trace.recovery (requests_at c m at) (requests_in m block)
-    (block_requests c m at block here.from here.len here.port) asked
-slot_asked c ws m at (Log block) here asked =
+slot_asked c ws m at (Open block) here asked =
     asked_same block.core.shape block.core.calls block.core.trace.recovery (requests_at c m at) (requests_in m block)
     (block_requests c m at block here.from here.len here.port) asked
 
 pub world_asked : (c : Counts) (ws : Words) (m : MemoryState) (at : ℕ) (slot : Slot) → IsSlotAt c ws at slot → IsSlotAsked m slot → IfWorld (world_in ws slot) (IsWorldAsked c m at)
 world_asked c ws m at Closed here asked = tt
-world_asked c ws m at (Durable block) here asked =
-    asked_same block.core.shape block.core.calls block.core.trace.recovery (requests_in m block) (requests_at c m at)
-    (λ t. sym (block_requests c m at block here.from here.len here.port t)) asked
-world_asked c ws m at (Log block) here asked =
+world_asked c ws m at (Open block) here asked =
     asked_same block.core.shape block.core.calls block.core.trace.recovery (requests_in m block) (requests_at c m at)
     (λ t. sym (block_requests c m at block here.from here.len here.port t)) asked
 
@@ -73,8 +67,7 @@ world_asked c ws m at (Log block) here asked =
 beside_slot : (c : Counts) (ws : Words) (at : ℕ) (slot : Slot) (old new : MemoryState) → IsSlotAt c ws at slot → AskAlikeBesideSlot slot old new
     → (p : ℕ) → IsBeside (QUEUE_PORTS * at) p → asked_through new p ≡ asked_through old p
 beside_slot c ws at Closed old new here same p beside = ap (λ (l : List (Option ℕ)). slice_index_or l p None) same
-beside_slot c ws at (Durable block) old new here same p beside = same p (subst (λ (n : ℕ). IsBeside n p) (sym here.port) beside)
-beside_slot c ws at (Log block) old new here same p beside = same p (subst (λ (n : ℕ). IsBeside n p) (sym here.port) beside)
+beside_slot c ws at (Open block) old new here same p beside = same p (subst (λ (n : ℕ). IsBeside n p) (sym here.port) beside)
 
 -- the ports of two slots' queues are apart
 ports_apart : (i j t : ℕ) → j ≢ i → t < QUEUE_PORTS → IsBeside (QUEUE_PORTS * i) (QUEUE_PORTS * j + t)

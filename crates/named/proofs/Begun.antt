@@ -16,7 +16,7 @@ use Rattle.named.specs.Brokers.{Brokered, IsDirectoryAt, IsDirectoryIn, IsWell, 
 use Rattle.named.specs.declared.recovery.BrokerRecovery.{BrokerRecovery}
 use Rattle.named.specs.Slots.{kind_in, world_in}
 use Rattle.named.specs.declared.slot.Slot.{Slot}
-use Rattle.named.specs.declared.slot.Slot.TheVariants.{Closed, Durable, Log}
+use Rattle.named.specs.declared.slot.Slot.TheVariants.{Closed, Open}
 
 abbrev pub begun : Brokered → SlotId → Queue → Brokered
 begun b slot queue = record b { creation = Some (new_creation slot queue) }
@@ -46,8 +46,7 @@ get_there (x ∷ xs) (suc i) h e = get_there xs i (omega (arith, h)) e
 
 some_world : (ws : Words) (slot : Slot) (kind : Kind) → kind_in slot ≡ Some kind → IsSome (world_in ws slot)
 some_world ws Closed kind e = absurd (cc)
-some_world ws (Durable block) kind e = refl
-some_world ws (Log block) kind e = refl
+some_world ws (Open block) kind e = refl
 
 -- a slot with a queue in the directory is open
 pub listed_open : (b : Brokered) (slot : ℕ) (queue : Queue) → IsWell b → slice_get b.directory slot ≡ Some (Some queue) → IsSome (world_at b slot)

@@ -38,7 +38,7 @@ use Rattle.named.specs.Brokers.{IsSlotAt, IsUnusedBlock, IsWell, block_words, wo
 use Rattle.named.specs.Slots.{IsReadyIn, kind_in, world_in}
 use Rattle.named.specs.Stopping.{booting}
 use Rattle.named.specs.declared.slot.Slot.{Slot}
-use Rattle.named.specs.declared.slot.Slot.TheVariants.{Closed, Durable, Log}
+use Rattle.named.specs.declared.slot.Slot.TheVariants.{Closed, Open}
 use Rattle.named.proofs.Kept.{get_set_other, some_is}
 
 -- sound words obey each rule
@@ -169,8 +169,7 @@ module _ (ws : Words) (counts : Counts) (directory : Directory) (slots : List Sl
   -- no queue is ready
   down_in : (slot : Slot) (s : Shape) (part v : Words) → world_in v slot ≡ Some (booted_world s part) → IsReadyIn false slot
   down_in Closed s part v is = tt
-  down_in (Durable block) s part v is = down_of (state_in v block) s part is
-  down_in (Log block) s part v is = down_of (state_in v block) s part is
+  down_in (Open block) s part v is = down_of (state_in v block) s part is
 
   down_at : (at : ℕ) (slot : Slot) (place : Option Queue) → IsSlotBooted counts ws at place slot → IsReadyIn false slot
   down_at at slot None is = subst (IsReadyIn false) (sym is) tt

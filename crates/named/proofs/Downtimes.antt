@@ -24,15 +24,14 @@ use Rattle.named.specs.Stopping.{IsDirectoryRead, IsFound, IsFoundFirst, IsFound
 use Rattle.named.specs.declared.recovery.BrokerRecovery.{BrokerRecovery}
 use Rattle.named.specs.declared.recovery.BrokerRecovery.TheVariants.{ReadDirectory}
 use Rattle.named.specs.declared.slot.Slot.{Slot}
-use Rattle.named.specs.declared.slot.Slot.TheVariants.{Closed, Durable, Log}
+use Rattle.named.specs.declared.slot.Slot.TheVariants.{Closed, Open}
 use Rattle.named.proofs.GoingOn.{crash_goes_on, creation_stays, each_goes_on, more_directory, on_by_act, on_if_quiet, only_more, same_downtime, slot_goes_on, world_holds}
 use Rattle.named.proofs.Begun.{get_there}
 use Rattle.named.proofs.Opened.{is_free}
 
 no_world : (ws : Words) (slot : Slot) → kind_in slot ≡ None → world_in ws slot ≡ None
 no_world ws Closed e = refl
-no_world ws (Durable block) e = absurd (cc)
-no_world ws (Log block) e = absurd (cc)
+no_world ws (Open block) e = absurd (cc)
 
 -- a slot that is free in the directory has no world
 free_no_world : (b : Brokered) (slot : ℕ) (w : State) → IsWell b → IsFree b.directory slot → world_at b slot ≡ Some w → ⊥
@@ -95,8 +94,7 @@ first_free old slot holds none below = go (slice_get old.slots slot) refl (slice
   where
     closed : (s : Slot) → world_in old.words s ≡ None → kind_in s ≡ None
     closed Closed e = refl
-    closed (Durable block) e = absurd (cc)
-    closed (Log block) e = absurd (cc)
+    closed (Open block) e = absurd (cc)
 
     go : (o : Option Slot) → slice_get old.slots slot ≡ o → (d : Option (Option Queue)) → slice_get old.directory slot ≡ d → IsFree old.directory slot
     go (Some s) is (Some None) there = there

@@ -7,7 +7,7 @@ use Rattle.named.specs.Each.{EachBecame, HasMoreRoom}
 use Rattle.named.specs.Slots.{IsAsReady, IsSameSlot, room_in}
 use Rattle.named.specs.Brokers.{room_of}
 use Rattle.named.specs.declared.slot.Slot.{Slot}
-use Rattle.named.specs.declared.slot.Slot.TheVariants.{Closed, Durable, Log}
+use Rattle.named.specs.declared.slot.Slot.TheVariants.{Closed, Open}
 use Rattle.named.proofs.Kept.{get_set_other, length_set, some_is}
 
 -- the slots below this place became so, and the others are as they were
@@ -63,13 +63,11 @@ module _ (become : Slot → Slot → Type 0) where
 
 same_slot : (s : Slot) → IsSameSlot s s
 same_slot Closed = tt
-same_slot (Durable block) = (refl, refl, refl, refl)
-same_slot (Log block) = (refl, refl, refl, refl)
+same_slot (Open block) = (refl, refl, refl, refl)
 
 as_ready : (s : Slot) → IsAsReady s s
 as_ready Closed = tt
-as_ready (Durable block) = refl
-as_ready (Log block) = refl
+as_ready (Open block) = refl
 
 pub as_it_was : (s : Slot) → HasMoreRoom s s
 as_it_was s = record { world = λ ws. refl; room = omega arith; same = same_slot s; as_ready = as_ready s }

@@ -24,7 +24,7 @@ use Rattle.named.specs.Brokers.{Brokered, IsDirectoryAt, IsDirectoryDown, IsDire
 use Rattle.named.specs.declared.recovery.BrokerRecovery.{BrokerRecovery}
 use Rattle.named.specs.declared.recovery.BrokerRecovery.TheVariants.{ReadDirectory, RecoverQueue}
 use Rattle.named.specs.declared.slot.Slot.{Slot}
-use Rattle.named.specs.declared.slot.Slot.TheVariants.{Closed, Durable, Log}
+use Rattle.named.specs.declared.slot.Slot.TheVariants.{Closed, Open}
 use Rattle.named.proofs.Kept.{blocks_apart, get_set_other, has_directory, slot_stays}
 
 creating_evicted : (ws : Words) (word : ℕ) (creation : Option Creation) (directory : Directory) → IsDirectoryIn ws creation directory
@@ -65,10 +65,7 @@ same_part from len old new cached kept accesses =
 world_exact : (c : Counts) (i : ℕ) (slot : Slot) (old new : Words) → IsSlotAt c old i slot → (block_words c i new).cached ≡ (block_words c i old).cached
     → (block_words c i new).kept ≡ (block_words c i old).kept → new.accesses ≡ old.accesses → world_in new slot ≡ world_in old slot
 world_exact c i Closed old new here cached kept accesses = refl
-world_exact c i (Durable block) old new here cached kept accesses =
-    let same : words_in block.from block.len new ≡ words_in block.from block.len old = rw (here.from, here.len) (same_part (block_from c i) (block_size_of c.clients c.records) old new cached kept accesses) in
-    ap (λ (ws : Words). let r : Option State = Some (state_of block.core ws) in r) same
-world_exact c i (Log block) old new here cached kept accesses =
+world_exact c i (Open block) old new here cached kept accesses =
     let same : words_in block.from block.len new ≡ words_in block.from block.len old = rw (here.from, here.len) (same_part (block_from c i) (block_size_of c.clients c.records) old new cached kept accesses) in
     ap (λ (ws : Words). let r : Option State = Some (state_of block.core ws) in r) same
 
@@ -97,10 +94,7 @@ acted_outside c i word (Some w) e = ap (λ (x : Bool). let r : Option State = So
 evicted_inside : (c : Counts) (i word : ℕ) (ws : Words) (slot : Slot) → IsSlotAt c ws i slot → is_in_block c i word ≡ true
     → world_evicted_in slot word ws ≡ acted (world_evicted c i word) (world_in ws slot)
 evicted_inside c i word ws Closed here e = refl
-evicted_inside c i word ws (Durable block) here e =
-    ap (λ n. let r : Option State = Some (after_evict (state_in ws block) (word - n)) in r) here.from
-    ∙ sym (ap (λ (x : Bool). let r : Option State = Some (if x then after_evict (state_in ws block) (word - block_from c i) else state_in ws block) in r) e)
-evicted_inside c i word ws (Log block) here e =
+evicted_inside c i word ws (Open block) here e =
     ap (λ n. let r : Option State = Some (after_evict (state_in ws block) (word - n)) in r) here.from
     ∙ sym (ap (λ (x : Bool). let r : Option State = Some (if x then after_evict (state_in ws block) (word - block_from c i) else state_in ws block) in r) e)
 
@@ -108,8 +102,7 @@ evicted_inside c i word ws (Log block) here e =
 pub word_of_block : (c : Counts) (i word : ℕ) (ws : Words) (slot : Slot) → IsSlotAt c ws i slot → block_from c i ≤ word
     → word < block_from c i + block_size_of c.clients c.records → IsWordOf slot word
 word_of_block c i word ws Closed here low high = tt
-word_of_block c i word ws (Durable block) here low high = (omega (arith, here.from, low), omega (arith, here.from, here.len, high))
-word_of_block c i word ws (Log block) here low high = (omega (arith, here.from, low), omega (arith, here.from, here.len, high))
+word_of_block c i word ws (Open block) here low high = (omega (arith, here.from, low), omega (arith, here.from, here.len, high))
 
 -- that of a closed one is 0, cached and kept: its eviction changes nothing
 unused_evicted : (c : Counts) (i word : ℕ) (ws : Words) → IsUnusedBlock c ws i → block_from c i ≤ word
@@ -128,8 +121,7 @@ unused_evicted c i word ws unused low high =
 pub outside_evicted : (c : Counts) (i word : ℕ) (old new : Words) (slot : Slot) → IsSlotAt c old i slot → block_from c i ≤ word
     → word < block_from c i + block_size_of c.clients c.records → IsEvictedOutside slot word old new → IsSameOutsideSlot slot old new
 outside_evicted c i word old new Closed here low high outside = outside ∙ unused_evicted c i word old here low high
-outside_evicted c i word old new (Durable block) here low high outside = outside
-outside_evicted c i word old new (Log block) here low high outside = outside
+outside_evicted c i word old new (Open block) here low high outside = outside
 
 -- a word of the head or of the directory
 module _ (b : Brokered) (word : ℕ) (holds : IsWell b) (low : word < 34) where

@@ -21,7 +21,7 @@ use Rattle.named.specs.Stopping.{IsFound, IsFoundFirst, IsFoundIn, IsReadingDire
 use Rattle.named.specs.declared.recovery.BrokerRecovery.{BrokerRecovery}
 use Rattle.named.specs.declared.recovery.BrokerRecovery.TheVariants.{ReadDirectory, RecoverQueue}
 use Rattle.named.specs.declared.slot.Slot.{Slot}
-use Rattle.named.specs.declared.slot.Slot.TheVariants.{Closed, Durable, Log}
+use Rattle.named.specs.declared.slot.Slot.TheVariants.{Closed, Open}
 use Rattle.named.proofs.Begun.{get_there}
 use Rattle.named.proofs.Kept.{get_set_other, length_set, some_is}
 use Rattle.named.proofs.Opened.{closed_where_free}
@@ -89,8 +89,7 @@ some_queue None some = absurd (cc)
 -- a queue that begins with recovery to come is not ready
 pub found_waits : (ws : Words) (slot : Slot) (w : State) → world_in ws slot ≡ Some w → is_some w.recovery ≡ true → IsReadyIn false slot
 found_waits ws Closed w e down = tt
-found_waits ws (Durable block) w e down = ap (λ (v : State). is_some v.recovery) (some_is (world_in ws (Durable block)) _ w refl e) ∙ down
-found_waits ws (Log block) w e down = ap (λ (v : State). is_some v.recovery) (some_is (world_in ws (Log block)) _ w refl e) ∙ down
+found_waits ws (Open block) w e down = ap (λ (v : State). is_some v.recovery) (some_is (world_in ws (Open block)) _ w refl e) ∙ down
 
 module _ (b : Brokered) (holds : IsWell b) (down : IsReadingDirectory b.recovery) (slot : SlotId) (gate : IsOpenSlot b.words.kept slot.0)
     (s : Slot) (here : slice_get b.slots slot.0 ≡ Some s) where
@@ -253,5 +252,4 @@ found_known b slot s here is_open = subst (IsFoundIn b b slot) (sym (ap (world_o
   where
     alike : (x : Slot) → is_none (kind_in x) ≡ false → IsFoundIn b b slot (world_in b.words x)
     alike Closed e = absurd (cc)
-    alike (Durable block) e = record { directory = refl; worlds = λ j. refl }
-    alike (Log block) e = record { directory = refl; worlds = λ j. refl }
+    alike (Open block) e = record { directory = refl; worlds = λ j. refl }

@@ -26,7 +26,7 @@ use Rattle.named.specs.Slots.{IfWorld, IsSlotWell, acted, world_in}
 use Rattle.named.specs.Stopping.{IsStopped, creation_after}
 use Rattle.named.specs.declared.recovery.BrokerRecovery.{BrokerRecovery}
 use Rattle.named.specs.declared.slot.Slot.{Slot}
-use Rattle.named.specs.declared.slot.Slot.TheVariants.{Closed, Durable, Log}
+use Rattle.named.specs.declared.slot.Slot.TheVariants.{Closed, Open}
 use Rattle.named.proofs.Kept.{get_set_other, slot_is_well}
 use Rattle.named.specs.GoingOn.{BrokerGoesOn, IsDowntime, IsGoneOn}
 
@@ -78,8 +78,7 @@ downtime_goes_further old now new one same other = record {
 -- the world of an open slot holds
 slot_holds : (ws : Words) (slot : Slot) (w : State) → IsSlotWell ws slot → world_in ws slot ≡ Some w → Holds w
 slot_holds ws Closed w well e = absurd (cc)
-slot_holds ws (Durable block) w well e = subst Holds (cc) well.holds
-slot_holds ws (Log block) w well e = subst Holds (cc) well.holds
+slot_holds ws (Open block) w well e = subst Holds (cc) well.holds
 
 pub world_holds : (b : Brokered) (slot : ℕ) (w : State) → IsWell b → world_at b slot ≡ Some w → Holds w
 world_holds b slot w holds e = go (slice_get b.slots slot) refl e

@@ -21,7 +21,6 @@ use Rattle.interleave.proofs.PartLaws.{holds_alike}
 use Rattle.named.specs.Blocks.{BlockState, IsWellIn, state_in}
 use Rattle.words.specs.declared.call.Client.{Client}
 use Rattle.words.specs.declared.call.Kind.{Kind}
-use Rattle.words.specs.declared.call.Kind.TheVariants.{Durable as durable_kind, Log as log_kind}
 use Rattle.words.specs.declared.refusal.Refusal.{Refusal}
 use Rattle.words.specs.declared.refusal.Refusal.TheVariants.{NoQueue, NotReady}
 use Rattle.named.specs.Slots.{acted, answered, IsAsReady, IsReadyIn, IsSameOutsideSlot, IsSameSlot, IsSlotWell, LieInOnePlace, kind_in, world_in}
@@ -29,7 +28,7 @@ use Rattle.named.specs.Brokers.{Brokered, HasRoom, IsDirectoryAt, IsDirectoryDow
 use Rattle.named.specs.declared.recovery.BrokerRecovery.{BrokerRecovery}
 use Rattle.named.specs.declared.recovery.BrokerRecovery.TheVariants.{ReadDirectory, RecoverQueue}
 use Rattle.named.specs.declared.slot.Slot.{Slot}
-use Rattle.named.specs.declared.slot.Slot.TheVariants.{Closed, Durable, Log}
+use Rattle.named.specs.declared.slot.Slot.TheVariants.{Closed, Open}
 
 pub get_set_other : {X : Type 0} (xs : List X) (i : ℕ) (v : X) (t : ℕ) → t ≢ i → slice_get (slice_set xs i v) t ≡ slice_get xs t
 get_set_other [] i v t ne = refl
@@ -63,9 +62,9 @@ HaveSameBlock c j old new =
     ((block_words c j new).cached ≡ (block_words c j old).cached) × ((block_words c j new).kept ≡ (block_words c j old).kept)
 
 -- a queue whose block is as it was stays in it
-pub block_stays : (c : Counts) (j : ℕ) (kind : Kind) (block : BlockState) (old new : Words) → HaveSameBlock c j old new → length new.cached ≡ length old.cached
-    → IsInBlock c old j kind block → IsInBlock c new j kind block
-block_stays c j kind block old new same long here = record {
+pub block_stays : (c : Counts) (j : ℕ) (block : BlockState) (old new : Words) → HaveSameBlock c j old new → length new.cached ≡ length old.cached
+    → IsInBlock c old j block → IsInBlock c new j block
+block_stays c j block old new same long here = record {
   shape = here.shape;
   from = here.from;
   len = here.len;
@@ -82,13 +81,12 @@ block_stays c j kind block old new same long here = record {
 pub slot_stays : (c : Counts) (j : ℕ) (slot : Slot) (old new : Words) → HaveSameBlock c j old new → length new.cached ≡ length old.cached
     → IsSlotAt c old j slot → IsSlotAt c new j slot
 slot_stays c j Closed old new same long here = record { cached = same.0 ∙ here.cached; kept = same.1 ∙ here.kept }
-slot_stays c j (Durable block) old new same long here = block_stays c j durable_kind block old new same long here
-slot_stays c j (Log block) old new same long here = block_stays c j log_kind block old new same long here
+slot_stays c j (Open block) old new same long here = block_stays c j block old new same long here
 
 -- and its world is the same, but for the count of accesses
-block_quiet : (c : Counts) (j : ℕ) (kind : Kind) (block : BlockState) (old new : Words) → HaveSameBlock c j old new → IsInBlock c old j kind block
+block_quiet : (c : Counts) (j : ℕ) (block : BlockState) (old new : Words) → HaveSameBlock c j old new → IsInBlock c old j block
     → quiet (Some (state_in new block)) ≡ quiet (Some (state_in old block))
-block_quiet c j kind block old new same here =
+block_quiet c j block old new same here =
     let cached : (words_in block.from block.len new).cached ≡ (words_in block.from block.len old).cached = rw (here.from, here.len) same.0 in
     let kept : (words_in block.from block.len new).kept ≡ (words_in block.from block.len old).kept = rw (here.from, here.len) same.1 in
     cc
@@ -96,13 +94,12 @@ block_quiet c j kind block old new same here =
 pub world_stays : (c : Counts) (j : ℕ) (slot : Slot) (old new : Words) → HaveSameBlock c j old new → IsSlotAt c old j slot
     → quiet (world_in new slot) ≡ quiet (world_in old slot)
 world_stays c j Closed old new same here = refl
-world_stays c j (Durable block) old new same here = block_quiet c j durable_kind block old new same here
-world_stays c j (Log block) old new same here = block_quiet c j log_kind block old new same here
+world_stays c j (Open block) old new same here = block_quiet c j block old new same here
 
 -- what lies outside a block of the broker's
-outside_room : (c : Counts) (old new : Words) (i : ℕ) (kind : Kind) (was is : BlockState) → HasRoom c old → IsInBlock c old i kind was → IsWellIn new is
+outside_room : (c : Counts) (old new : Words) (i : ℕ) (was is : BlockState) → HasRoom c old → IsInBlock c old i was → IsWellIn new is
     → LieInOnePlace was is → IsSameOutside was.from was.len old new → HasRoom c new
-outside_room c old new i kind was is room here well place outside =
+outside_room c old new i was is room here well place outside =
     let inside : was.from + was.len ≤ length new.cached = omega (arith, well.inside, place.0, place.1) in
     let part : length (take is.len (drop is.from new.kept)) ≡ length (take is.len (drop is.from new.cached)) = well.holds.safe.words.same in
     let part_len : length (take is.len (drop is.from new.cached)) ≡ is.len = omega (arith, length-take is.len (drop is.from new.cached), length-drop is.from new.cached, well.inside) in
@@ -115,25 +112,20 @@ outside_room c old new i kind was is room here well place outside =
 slot_room : (c : Counts) (old new : Words) (i : ℕ) (was is : Slot) → HasRoom c old → IsSlotAt c old i was → IsSlotWell new is
     → IsSameSlot was is → IsSameOutsideSlot was old new → HasRoom c new
 slot_room c old new i Closed is room here well place outside = subst (HasRoom c) (sym outside) room
-slot_room c old new i (Durable was) (Durable is) room here well place outside = outside_room c old new i durable_kind was is room here well place outside
-slot_room c old new i (Log was) (Log is) room here well place outside = outside_room c old new i log_kind was is room here well place outside
-slot_room c old new i (Durable was) Closed room here well place outside = absurd place
-slot_room c old new i (Durable was) (Log is) room here well place outside = absurd place
-slot_room c old new i (Log was) Closed room here well place outside = absurd place
-slot_room c old new i (Log was) (Durable is) room here well place outside = absurd place
+slot_room c old new i (Open was) (Open is) room here well place outside = outside_room c old new i was is room here well place outside
+slot_room c old new i (Open was) Closed room here well place outside = absurd place
 
 -- the blocks of other slots
-block_elsewhere : (c : Counts) (old new : Words) (i j : ℕ) (kind : Kind) (was : BlockState) → j ≢ i → IsInBlock c old i kind was
+block_elsewhere : (c : Counts) (old new : Words) (i j : ℕ) (was : BlockState) → j ≢ i → IsInBlock c old i was
     → IsSameOutside was.from was.len old new → HaveSameBlock c j old new
-block_elsewhere c old new i j kind was ne here outside =
+block_elsewhere c old new i j was ne here outside =
     elsewhere was.from was.len (block_from c j) (block_size_of c.clients c.records) old new outside
     (rw (here.from, here.len) (blocks_apart c i j ne))
 
 slot_elsewhere : (c : Counts) (old new : Words) (i j : ℕ) (was : Slot) → j ≢ i → IsSlotAt c old i was
     → IsSameOutsideSlot was old new → HaveSameBlock c j old new
 slot_elsewhere c old new i j Closed ne here outside = (ap (λ (ws : Words). (block_words c j ws).cached) outside, ap (λ (ws : Words). (block_words c j ws).kept) outside)
-slot_elsewhere c old new i j (Durable was) ne here outside = block_elsewhere c old new i j durable_kind was ne here outside
-slot_elsewhere c old new i j (Log was) ne here outside = block_elsewhere c old new i j log_kind was ne here outside
+slot_elsewhere c old new i j (Open was) ne here outside = block_elsewhere c old new i j was ne here outside
 
 -- the directory's words
 pub has_directory : (c : Counts) (ws : Words) → HasRoom c ws → HasDirectory ws
@@ -145,9 +137,9 @@ directory_as_it_was b x holds e =
     subst (λ (y : Brokered). HaveSameDirectory y.words y.words) e
     (record { room = has_directory b.counts b.words holds.room; cached = λ word below. refl; kept = λ word below. refl })
 
-block_past : (c : Counts) (old new : Words) (i : ℕ) (kind : Kind) (was : BlockState) → HasRoom c new → IsInBlock c old i kind was
+block_past : (c : Counts) (old new : Words) (i : ℕ) (was : BlockState) → HasRoom c new → IsInBlock c old i was
     → IsSameOutside was.from was.len old new → HaveSameDirectory old new
-block_past c old new i kind was room here outside =
+block_past c old new i was room here outside =
     outside_same old new was.from was.len (omega (arith, here.from)) (has_directory c new room) outside
 
 slot_past : (c : Counts) (old new : Words) (i : ℕ) (was : Slot) → HasRoom c new → IsSlotAt c old i was
@@ -157,8 +149,7 @@ slot_past c old new i Closed room here outside = record {
   cached = λ word below. rw outside refl;
   kept = λ word below. rw outside refl;
 }
-slot_past c old new i (Durable was) room here outside = block_past c old new i durable_kind was room here outside
-slot_past c old new i (Log was) room here outside = block_past c old new i log_kind was room here outside
+slot_past c old new i (Open was) room here outside = block_past c old new i was room here outside
 
 creating_stays : (old new : Words) (creation : Option Creation) (directory : Directory) → HaveSameDirectory old new
     → IsDirectoryIn old creation directory → IsDirectoryIn new creation directory
@@ -191,25 +182,15 @@ directory_stays old new (Some recovery) creation directory same here = down_stay
 pub slot_now : (c : Counts) (old new : Words) (i : ℕ) (was is : Slot) → IsSlotAt c old i was → IsSlotWell new is → IsSameSlot was is
     → IsSameOutsideSlot was old new → IsSlotAt c new i is
 slot_now c old new i Closed Closed here well place outside = subst (λ (ws : Words). IsUnusedBlock c ws i) (sym outside) here
-slot_now c old new i (Durable was) (Durable is) here well place outside = record { shape = place.3 ∙ here.shape; from = place.0 ∙ here.from; len = place.1 ∙ here.len; port = place.2 ∙ here.port; well = well }
-slot_now c old new i (Log was) (Log is) here well place outside = record { shape = place.3 ∙ here.shape; from = place.0 ∙ here.from; len = place.1 ∙ here.len; port = place.2 ∙ here.port; well = well }
-slot_now c old new i Closed (Durable is) here well place outside = absurd place
-slot_now c old new i Closed (Log is) here well place outside = absurd place
-slot_now c old new i (Durable was) Closed here well place outside = absurd place
-slot_now c old new i (Durable was) (Log is) here well place outside = absurd place
-slot_now c old new i (Log was) Closed here well place outside = absurd place
-slot_now c old new i (Log was) (Durable is) here well place outside = absurd place
+slot_now c old new i (Open was) (Open is) here well place outside = record { shape = place.3 ∙ here.shape; from = place.0 ∙ here.from; len = place.1 ∙ here.len; port = place.2 ∙ here.port; well = well }
+slot_now c old new i Closed (Open is) here well place outside = absurd place
+slot_now c old new i (Open was) Closed here well place outside = absurd place
 
 pub kind_stays : (was is : Slot) → IsSameSlot was is → kind_in is ≡ kind_in was
 kind_stays Closed Closed place = refl
-kind_stays (Durable was) (Durable is) place = refl
-kind_stays (Log was) (Log is) place = refl
-kind_stays Closed (Durable is) place = absurd place
-kind_stays Closed (Log is) place = absurd place
-kind_stays (Durable was) Closed place = absurd place
-kind_stays (Durable was) (Log is) place = absurd place
-kind_stays (Log was) Closed place = absurd place
-kind_stays (Log was) (Durable is) place = absurd place
+kind_stays (Open was) (Open is) place = refl
+kind_stays Closed (Open is) place = absurd place
+kind_stays (Open was) Closed place = absurd place
 
 pub length_set : {X : Type 0} (xs : List X) (i : ℕ) (x : X) → length (slice_set xs i x) ≡ length xs
 length_set [] i x = refl
@@ -234,20 +215,14 @@ no_queue g b i client holds past admitted =
 -- a queue is as ready as it was
 pub ready_stays : (ready : Bool) (was is : Slot) → IsSameSlot was is → IsAsReady was is → IsReadyIn ready was → IsReadyIn ready is
 ready_stays ready Closed Closed place alike here = tt
-ready_stays ready (Durable was) (Durable is) place alike here = ap is_some alike ∙ here
-ready_stays ready (Log was) (Log is) place alike here = ap is_some alike ∙ here
-ready_stays ready Closed (Durable is) place alike here = absurd place
-ready_stays ready Closed (Log is) place alike here = absurd place
-ready_stays ready (Durable was) Closed place alike here = absurd place
-ready_stays ready (Durable was) (Log is) place alike here = absurd place
-ready_stays ready (Log was) Closed place alike here = absurd place
-ready_stays ready (Log was) (Durable is) place alike here = absurd place
+ready_stays ready (Open was) (Open is) place alike here = ap is_some alike ∙ here
+ready_stays ready Closed (Open is) place alike here = absurd place
+ready_stays ready (Open was) Closed place alike here = absurd place
 
 -- an open slot's world holds
 pub slot_is_well : (c : Counts) (ws : Words) (i : ℕ) (slot : Slot) → IsSlotAt c ws i slot → IsSlotWell ws slot
 slot_is_well c ws i Closed here = tt
-slot_is_well c ws i (Durable block) here = here.well
-slot_is_well c ws i (Log block) here = here.well
+slot_is_well c ws i (Open block) here = here.well
 
 module _ (b : Brokered) (i : ℕ) (was is : Slot) (ws : Words) (holds : IsWell b) (here : slice_get b.slots i ≡ Some was)
     (well : IsSlotWell ws is) (outside : IsSameOutsideSlot was b.words ws) (place : IsSameSlot was is) where

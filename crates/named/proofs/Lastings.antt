@@ -6,7 +6,6 @@ use Rattle.std.proofs.lemmas.List.{drop-drop}
 use Rattle.std.proofs.lemmas.List.Sums.{sum_by-drop_more, sum_by-take-drop}
 use Rattle.std.proofs.lemmas.Option.{get_or_from_slice_get, slice_get_within}
 use Rattle.words.specs.declared.call.Kind.{Kind}
-use Rattle.words.specs.declared.call.Kind.TheVariants.{Durable as durable_kind, Log as log_kind}
 use Rattle.words.specs.declared.refusal.Refusal.{Refusal}
 use Rattle.arena.specs.Shape.{Counts, Shape, shape_of}
 use Rattle.persist.specs.Memory.{Words, words_after_eviction}
@@ -35,7 +34,7 @@ use Rattle.named.specs.Stopping.{IsNext}
 use Rattle.named.specs.declared.recovery.BrokerRecovery.{BrokerRecovery}
 use Rattle.named.specs.declared.recovery.BrokerRecovery.TheVariants.{ReadDirectory, RecoverQueue}
 use Rattle.named.specs.declared.slot.Slot.{Slot}
-use Rattle.named.specs.declared.slot.Slot.TheVariants.{Closed, Durable, Log}
+use Rattle.named.specs.declared.slot.Slot.TheVariants.{Closed, Open}
 
 -- the steps of the queues from a slot on
 most_further : (c : Counts) (directory : Directory) (i j : ℕ) → i ≤ j → most_from c directory j ≤ most_from c directory i
@@ -51,19 +50,16 @@ most_here c directory i queue has =
     ∙ ap (λ (o : Option Queue). most_of c o + most_from c directory (i + 1)) (get_or_from_slice_get directory i (Some queue) None has)
 
 -- a queue's recovery has no more steps left than it takes at most
-block_few : (c : Counts) (ws : Words) (at : ℕ) (kind : Kind) (block : BlockState) → IsInBlock c ws at kind block
-    → steps_to_ready (state_in ws block) ≤ most_to_ready (shape_of kind c)
-block_few c ws at kind block here = subst (λ (s : Shape). steps_to_ready (state_in ws block) ≤ most_to_ready s) here.shape (few_to_ready (state_in ws block) here.well.holds)
+block_few : (c : Counts) (ws : Words) (at : ℕ) (block : BlockState) → IsInBlock c ws at block
+    → steps_to_ready (state_in ws block) ≤ most_to_ready (shape_of block.core.shape.kind c)
+block_few c ws at block here = subst (λ (s : Shape). steps_to_ready (state_in ws block) ≤ most_to_ready s) here.shape (few_to_ready (state_in ws block) here.well.holds)
 
 slot_few : (c : Counts) (ws : Words) (at : ℕ) (slot : Slot) (queue : Queue) → IsSlotAt c ws at slot → kind_in slot ≡ Some queue.kind
     → left_in (world_in ws slot) ≤ most_of c (Some queue)
 slot_few c ws at Closed queue here kind = absurd (cc)
-slot_few c ws at (Durable block) queue here kind =
-    let same : durable_kind ≡ queue.kind = cc in
-    subst (λ (k : Kind). steps_to_ready (state_in ws block) ≤ most_to_ready (shape_of k c)) same (block_few c ws at durable_kind block here)
-slot_few c ws at (Log block) queue here kind =
-    let same : log_kind ≡ queue.kind = cc in
-    subst (λ (k : Kind). steps_to_ready (state_in ws block) ≤ most_to_ready (shape_of k c)) same (block_few c ws at log_kind block here)
+slot_few c ws at (Open block) queue here kind =
+    let same : block.core.shape.kind ≡ queue.kind = cc in
+    subst (λ (k : Kind). steps_to_ready (state_in ws block) ≤ most_to_ready (shape_of k c)) same (block_few c ws at block here)
 
 module _ (b : Brokered) (holds : IsWell b) where
   queue_few : (at : ℕ) (queue : Queue) → HasQueue b.directory at queue → left_in (world_at b at) ≤ most_of b.counts (Some queue)
@@ -125,9 +121,7 @@ pub slot_falls : (full : Bool) (ws : Words) (slot : Slot) (kind : Kind) (r : Res
     → r ≡ answered (recover_result full) (world_in ws slot) → r ≡ Ok ready
     → left_in (acted (after_recover full) (world_in ws slot)) < left_in (world_in ws slot)
 slot_falls full ws Closed kind r ready well some is ok = absurd (cc)
-slot_falls full ws (Durable block) kind r ready well some is ok =
-    block_falls full (state_in ws block) r ready is ok (falls_on full (state_in ws block) well.holds r is)
-slot_falls full ws (Log block) kind r ready well some is ok =
+slot_falls full ws (Open block) kind r ready well some is ok =
     block_falls full (state_in ws block) r ready is ok (falls_on full (state_in ws block) well.holds r is)
 
 -- an eviction leaves the recovery as many steps as it had: it changes nothing of a directory that is being read

@@ -20,7 +20,7 @@ use Rattle.named.specs.Brokers.{Brokered, HasRoom, IsCreating, IsDirectoryAt, Is
 use Rattle.named.specs.Slots.{kind_in, room_in, world_in, IsReadyIn}
 use Rattle.named.specs.declared.recovery.BrokerRecovery.{BrokerRecovery}
 use Rattle.named.specs.declared.slot.Slot.{Slot}
-use Rattle.named.specs.declared.slot.Slot.TheVariants.{Closed, Durable, Log}
+use Rattle.named.specs.declared.slot.Slot.TheVariants.{Closed, Open}
 use Rattle.named.proofs.Begun.{get_there}
 use Rattle.named.proofs.Eaches.{rooms_kept}
 use Rattle.named.proofs.Kept.{get_set_other, length_set, size_same, slot_stays, some_is, world_stays}
@@ -43,8 +43,7 @@ done_slot slot queue None done e = cc
 
 pub closed_where_free : (slot : Slot) → kind_in slot ≡ None → slot ≡ Closed
 closed_where_free Closed e = refl
-closed_where_free (Durable block) e = absurd (cc)
-closed_where_free (Log block) e = absurd (cc)
+closed_where_free (Open block) e = absurd (cc)
 
 module _ (b : Brokered) (creation : Creation) (holds : IsWell b) (ready : b.recovery ≡ None) (is : b.creation ≡ Some creation) where
   at_ready : IsDirectoryIn b.words b.creation b.directory

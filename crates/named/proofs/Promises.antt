@@ -5,7 +5,7 @@ use Rattle.std.proofs.lemmas.Bool.{cases_eq}
 use Rattle.std.proofs.lemmas.List.{length-replicate}
 use Rattle.std.proofs.lemmas.Option.{slice_get-get_or, slice_get_within}
 use Rattle.words.specs.declared.call.Kind.{Kind}
-use Rattle.words.specs.declared.call.Kind.TheVariants.{Durable as durable_kind, Log as log_kind}
+use Rattle.arena.proofs.BrokerWords.{queue_fits}
 use Rattle.persist.specs.Memory.{Words, words_after_crash}
 use Rattle.persist.proofs.Parts.{index_within}
 use Rattle.arena.specs.Broker.{block_from, block_size_of, broker_size}
@@ -36,16 +36,13 @@ use Rattle.named.specs.Slots.{kind_in, world_in}
 use Rattle.named.specs.declared.recovery.BrokerRecovery.{BrokerRecovery}
 use Rattle.named.specs.declared.recovery.BrokerRecovery.TheVariants.{ReadDirectory, RecoverQueue}
 use Rattle.named.specs.declared.slot.Slot.{Slot}
-use Rattle.named.specs.declared.slot.Slot.TheVariants.{Closed, Durable, Log}
+use Rattle.named.specs.declared.slot.Slot.TheVariants.{Closed, Open}
 use Rattle.named.proofs.Kept.{get_set_other}
 
 -- each queue's world holds
 explained_in : (c : Counts) (ws : Words) (at : ℕ) (slot : Slot) (w : State) → IsSlotAt c ws at slot → world_in ws slot ≡ Some w → IsExplained w
 explained_in c ws at Closed w here is = absurd (cc)
-explained_in c ws at (Durable block) w here is =
-    let same : state_in ws block ≡ w = cc in
-    subst IsExplained same (explained_world (state_in ws block) here.well.holds)
-explained_in c ws at (Log block) w here is =
+explained_in c ws at (Open block) w here is =
     let same : state_in ws block ≡ w = cc in
     subst IsExplained same (explained_world (state_in ws block) here.well.holds)
 
@@ -55,12 +52,6 @@ explained_well b holds slot w is = go (slice_get b.slots slot) refl is
     go : (o : Option Slot) → slice_get b.slots slot ≡ o → world_of b.words o ≡ Some w → IsExplained w
     go (Some s) here is = explained_in b.counts b.words slot s w (holds.slots slot s here) is
     go None here is = absurd (cc)
-
--- a block has room for a queue of either kind
-block_fits : (kind : Kind) (c : Counts) → size_of (shape_of kind c) ≤ block_size_of c.clients c.records
-unfolding size_in
-block_fits durable_kind c = omega arith
-block_fits log_kind c = omega arith
 
 module _ (c : Counts) (ws : Words) (slot : ℕ) (unused : IsUnusedBlock c ws slot) where
   long : length (kept_block c slot ws.kept) ≡ block_size_of c.clients c.records
@@ -75,7 +66,7 @@ module _ (c : Counts) (ws : Words) (slot : ℕ) (unused : IsUnusedBlock c ws slo
   -- a queue of either kind may begin in a block that is all 0
   unused_are : (kind : Kind) → AreUnused (shape_of kind c) (block_words c slot ws)
   unused_are kind = record {
-    count = inr (record { count = long; room = omega (arith, block_fits kind c, long); rest = λ word past below. zero_in word });
+    count = inr (record { count = long; room = omega (arith, queue_fits kind c, long); rest = λ word past below. zero_in word });
     cached = unused.cached ∙ ap (λ (n : ℕ). replicate n 0) (sym long);
     kept = unused.kept ∙ ap (λ (n : ℕ). replicate n 0) (sym long);
   }
@@ -86,24 +77,21 @@ module _ (c : Counts) (ws : Words) (slot : ℕ) (unused : IsUnusedBlock c ws slo
       (holds_over (shape_of kind c) (block_words c slot ws) (unused_are kind) (omega (arith, counts)) (omega (arith, counts)))
 
 -- an open slot's queue may begin again on its block
-queue_sound : (c : Counts) (ws : Words) (at : ℕ) (kind : Kind) (block : BlockState) → IsInBlock c ws at kind block → AreSoundWords (shape_of kind c) (kept_block c at ws.kept)
-queue_sound c ws at kind block here =
+queue_sound : (c : Counts) (ws : Words) (at : ℕ) (block : BlockState) → IsInBlock c ws at block
+    → AreSoundWords (shape_of block.core.shape.kind c) (kept_block c at ws.kept)
+queue_sound c ws at block here =
     subst (λ (s : Shape). AreSoundWords s (kept_block c at ws.kept)) here.shape
     (rw (sym here.from, sym here.len) (kept_sound (state_in ws block) here.well.holds))
 
 open_sound : (c : Counts) (ws : Words) (at : ℕ) (slot : Slot) (kind : Kind) → IsSlotAt c ws at slot → kind_in slot ≡ Some kind → AreSoundWords (shape_of kind c) (kept_block c at ws.kept)
 open_sound c ws at Closed kind here is = absurd (cc)
-open_sound c ws at (Durable block) kind here is =
-    let same : durable_kind ≡ kind = cc in
-    subst (λ (k : Kind). AreSoundWords (shape_of k c) (kept_block c at ws.kept)) same (queue_sound c ws at durable_kind block here)
-open_sound c ws at (Log block) kind here is =
-    let same : log_kind ≡ kind = cc in
-    subst (λ (k : Kind). AreSoundWords (shape_of k c) (kept_block c at ws.kept)) same (queue_sound c ws at log_kind block here)
+open_sound c ws at (Open block) kind here is =
+    let same : block.core.shape.kind ≡ kind = cc in
+    subst (λ (k : Kind). AreSoundWords (shape_of k c) (kept_block c at ws.kept)) same (queue_sound c ws at block here)
 
 closed_unused : (c : Counts) (ws : Words) (at : ℕ) (slot : Slot) → IsSlotAt c ws at slot → kind_in slot ≡ None → IsUnusedBlock c ws at
 closed_unused c ws at Closed here is = here
-closed_unused c ws at (Durable block) here is = absurd (cc)
-closed_unused c ws at (Log block) here is = absurd (cc)
+closed_unused c ws at (Open block) here is = absurd (cc)
 
 -- a directory has what is known, and maybe a queue where nothing is known of one
 pub record IsMore (known whole : Directory) : Type 0 where

@@ -23,7 +23,7 @@ use Rattle.named.specs.Stopping.{HasFullQueue, IsNext, IsQueueOn, IsQueueRecover
 use Rattle.named.specs.declared.recovery.BrokerRecovery.{BrokerRecovery}
 use Rattle.named.specs.declared.recovery.BrokerRecovery.TheVariants.{RecoverQueue}
 use Rattle.named.specs.declared.slot.Slot.{Slot}
-use Rattle.named.specs.declared.slot.Slot.TheVariants.{Closed, Durable, Log}
+use Rattle.named.specs.declared.slot.Slot.TheVariants.{Closed, Open}
 use Rattle.named.proofs.Kept.{directory_stays, get_set_other, kinds_now, length_set, others_stay, readiness_now, room_now, same_directory, slot_is_well, slots_now, some_is, world_now, world_was}
 use Rattle.named.specs.Telling.{IsToldAtReady, TellAtReady}
 use Rattle.interleave.specs.Holds.{Holds}
@@ -61,14 +61,9 @@ slot_recovers : (full : Bool) (old new : Words) (was is : Slot) → IsSameSlot w
     → world_in new is ≡ acted (after_recover full) (world_in old was) → (r : Result Bool Refusal) → r ≡ answered (recover_result full) (world_in old was)
     → IsReadyIn (ready_by r) is
 slot_recovers full old new Closed Closed place down world r result = tt
-slot_recovers full old new (Durable was) (Durable is) place down world r result = block_recovers full old new was is down world r result
-slot_recovers full old new (Log was) (Log is) place down world r result = block_recovers full old new was is down world r result
-slot_recovers full old new Closed (Durable is) place down world r result = absurd place
-slot_recovers full old new Closed (Log is) place down world r result = absurd place
-slot_recovers full old new (Durable was) Closed place down world r result = absurd place
-slot_recovers full old new (Durable was) (Log is) place down world r result = absurd place
-slot_recovers full old new (Log was) Closed place down world r result = absurd place
-slot_recovers full old new (Log was) (Durable is) place down world r result = absurd place
+slot_recovers full old new (Open was) (Open is) place down world r result = block_recovers full old new was is down world r result
+slot_recovers full old new Closed (Open is) place down world r result = absurd place
+slot_recovers full old new (Open was) Closed place down world r result = absurd place
 
 told_of : (full : Bool) (w : State) → Holds w → recover_result full w ≡ Ok true → IsToldAtReady (after_recover full w)
 told_of full w holds ready =
@@ -263,8 +258,7 @@ module _ (b : Brokered) (slot : SlotId) (was is : Slot) (ws : Words) (holds : Is
     tells_slot : (s : Slot) → IsSlotWell b.words s → r ≡ answered (recover_result (is_no_memory r)) (world_in b.words s)
         → IfWorld (acted (after_recover (is_no_memory r)) (world_in b.words s)) IsToldAtReady
     tells_slot Closed holding e = tt
-    tells_slot (Durable block) holding e = told_of (is_no_memory r) (state_in b.words block) holding.holds (sym e ∙ ready)
-    tells_slot (Log block) holding e = told_of (is_no_memory r) (state_in b.words block) holding.holds (sym e ∙ ready)
+    tells_slot (Open block) holding e = told_of (is_no_memory r) (state_in b.words block) holding.holds (sym e ∙ ready)
 
     pub tells_ready : TellAtReady b after
     tells_ready at before now = go (cases_eq at slot.0)

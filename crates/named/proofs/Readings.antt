@@ -27,7 +27,7 @@ use Rattle.named.specs.Stopping.{IsFound, IsFoundFirst, IsFoundIn, IsKnownAlike,
 use Rattle.named.specs.declared.recovery.BrokerRecovery.{BrokerRecovery}
 use Rattle.named.specs.declared.recovery.BrokerRecovery.TheVariants.{ReadDirectory}
 use Rattle.named.specs.declared.slot.Slot.{Slot}
-use Rattle.named.specs.declared.slot.Slot.TheVariants.{Closed, Durable, Log}
+use Rattle.named.specs.declared.slot.Slot.TheVariants.{Closed, Open}
 use Rattle.named.proofs.Founds.{known_free}
 use Rattle.named.proofs.Kept.{directory_stays, slot_stays, world_stays}
 
@@ -219,8 +219,7 @@ module _ (old now new : Brokered) (ws : Words) (loaded : (j : ℕ) → quiet (wo
   in_slot : (slot : SlotId) (o : Option Slot) → IsFoundIn between now slot (world_of ws o) → IsFoundIn old new slot (world_of old.words o)
   in_slot slot None found = first slot found
   in_slot slot (Some Closed) found = first slot found
-  in_slot slot (Some (Durable block)) found = alike found
-  in_slot slot (Some (Log block)) found = alike found
+  in_slot slot (Some (Open block)) found = alike found
 
   pub found_over : (o : Option SlotId) → IsFound between now o → IsFound old new o
   found_over None found = alike found

@@ -10,19 +10,17 @@ use Rattle.named.specs.Blocks.{BlockState, IsWellIn, state_in}
 use Rattle.named.specs.Slots.{AreEffectsFew, IsSameOutsideSlot, IsSameSlot, IsSlotWell, LieInOnePlace, room_in, world_in}
 use Rattle.named.specs.Brokers.{Brokered, room_of, world_of}
 use Rattle.named.specs.declared.slot.Slot.{Slot}
-use Rattle.named.specs.declared.slot.Slot.TheVariants.{Closed, Durable, Log}
+use Rattle.named.specs.declared.slot.Slot.TheVariants.{Closed, Open}
 use Rattle.named.proofs.Kept.{get_set_other, some_is}
 
 pub few : (ws : Words) (slot : Slot) → IsSlotWell ws slot → AreEffectsFew slot
 few ws Closed well = tt
-few ws (Durable block) well = room_held well.holds
-few ws (Log block) well = room_held well.holds
+few ws (Open block) well = room_held well.holds
 
 -- a memory that stays is the same outside any block
 pub same_outside : (ws : Words) (slot : Slot) → IsSameOutsideSlot slot ws ws
 same_outside ws Closed = refl
-same_outside ws (Durable block) = record { cached_before = refl; cached_after = refl; kept_before = refl; kept_after = refl }
-same_outside ws (Log block) = record { cached_before = refl; cached_after = refl; kept_before = refl; kept_after = refl }
+same_outside ws (Open block) = record { cached_before = refl; cached_after = refl; kept_before = refl; kept_after = refl }
 
 block_reserved : (ws : Words) (was is : BlockState) → IsWellIn ws was → LieInOnePlace was is → Some (state_in ws is) ≡ Some (state_in ws was) → IsWellIn ws is
 block_reserved ws was is here place same = record {
@@ -34,14 +32,9 @@ block_reserved ws was is here place same = record {
 
 pub slot_reserved : (ws : Words) (was is : Slot) → IsSlotWell ws was → IsSameSlot was is → world_in ws is ≡ world_in ws was → IsSlotWell ws is
 slot_reserved ws Closed Closed here place same = tt
-slot_reserved ws (Durable was) (Durable is) here place same = block_reserved ws was is here place same
-slot_reserved ws (Log was) (Log is) here place same = block_reserved ws was is here place same
-slot_reserved ws Closed (Durable is) here place same = absurd place
-slot_reserved ws Closed (Log is) here place same = absurd place
-slot_reserved ws (Durable was) Closed here place same = absurd place
-slot_reserved ws (Durable was) (Log is) here place same = absurd place
-slot_reserved ws (Log was) Closed here place same = absurd place
-slot_reserved ws (Log was) (Durable is) here place same = absurd place
+slot_reserved ws (Open was) (Open is) here place same = block_reserved ws was is here place same
+slot_reserved ws Closed (Open is) here place same = absurd place
+slot_reserved ws (Open was) Closed here place same = absurd place
 
 module _ (b : Brokered) (i : ℕ) (was is : Slot) (here : slice_get b.slots i ≡ Some was) where
   at_is : slice_get (slice_set b.slots i is) i ≡ Some is

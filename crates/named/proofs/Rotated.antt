@@ -18,7 +18,7 @@ use Rattle.named.specs.Rotating.{AreBegunAnew, AreQuiet, IsBaseIn, IsBegunAnew, 
 use Rattle.named.specs.Slots.{IsReadyIn, IsSameSlot, IsSlotWell, acted}
 use Rattle.named.specs.declared.recovery.BrokerRecovery.{BrokerRecovery}
 use Rattle.named.specs.declared.slot.Slot.{Slot}
-use Rattle.named.specs.declared.slot.Slot.TheVariants.{Closed, Durable, Log}
+use Rattle.named.specs.declared.slot.Slot.TheVariants.{Closed, Open}
 use Rattle.named.proofs.Kept.{get_set_other, kind_stays, ready_stays, slot_is_well, some_is}
 
 -- a queue that is ready, and that nobody calls, may end its history
@@ -146,14 +146,9 @@ all_quiet b holds ready nobody at slot here = (
 
 anew_at : (c : Counts) (ws : Words) (at : ℕ) (was is : Slot) → IsSlotAt c ws at was → IsSlotWell ws is → IsSameSlot was is → IsSlotAt c ws at is
 anew_at c ws at Closed Closed here well place = here
-anew_at c ws at (Durable was) (Durable is) here well place = record { shape = place.3 ∙ here.shape; from = place.0 ∙ here.from; len = place.1 ∙ here.len; port = place.2 ∙ here.port; well = well }
-anew_at c ws at (Log was) (Log is) here well place = record { shape = place.3 ∙ here.shape; from = place.0 ∙ here.from; len = place.1 ∙ here.len; port = place.2 ∙ here.port; well = well }
-anew_at c ws at Closed (Durable is) here well place = absurd place
-anew_at c ws at Closed (Log is) here well place = absurd place
-anew_at c ws at (Durable was) Closed here well place = absurd place
-anew_at c ws at (Durable was) (Log is) here well place = absurd place
-anew_at c ws at (Log was) Closed here well place = absurd place
-anew_at c ws at (Log was) (Durable is) here well place = absurd place
+anew_at c ws at (Open was) (Open is) here well place = record { shape = place.3 ∙ here.shape; from = place.0 ∙ here.from; len = place.1 ∙ here.len; port = place.2 ∙ here.port; well = well }
+anew_at c ws at Closed (Open is) here well place = absurd place
+anew_at c ws at (Open was) Closed here well place = absurd place
 
 module _ (b : Brokered) (slots : List Slot) (holds : IsWell b) (begun : AreBegunAnew b.words b.slots slots) where
   -- the slot as it was

@@ -22,7 +22,7 @@ use Rattle.named.specs.Stopping.{booting}
 use Rattle.named.specs.declared.recovery.BrokerRecovery.{BrokerRecovery}
 use Rattle.named.specs.declared.recovery.BrokerRecovery.TheVariants.{ReadDirectory, RecoverQueue}
 use Rattle.named.specs.declared.slot.Slot.{Slot}
-use Rattle.named.specs.declared.slot.Slot.TheVariants.{Closed, Durable, Log}
+use Rattle.named.specs.declared.slot.Slot.TheVariants.{Closed, Open}
 use Rattle.named.proofs.Begun.{get_there}
 use Rattle.named.proofs.Kept.{kind_stays, ready_stays, slot_is_well, slot_now, some_is}
 use Rattle.named.proofs.Reserved.{few, same_outside, slot_reserved}
@@ -108,14 +108,9 @@ few_in_each b holds at slot e = few b.words slot (slot_is_well b.counts b.words 
 block_stopped : (c : Counts) (old new : Words) (at : ℕ) (was is : Slot) → (IsUnusedBlock c old at → IsUnusedBlock c new at) → IsSlotAt c old at was
     → IsSlotWell new is → IsSameSlot was is → IsSlotAt c new at is
 block_stopped c old new at Closed Closed unused here well place = unused here
-block_stopped c old new at (Durable was) (Durable is) unused here well place = record { shape = place.3 ∙ here.shape; from = place.0 ∙ here.from; len = place.1 ∙ here.len; port = place.2 ∙ here.port; well = well }
-block_stopped c old new at (Log was) (Log is) unused here well place = record { shape = place.3 ∙ here.shape; from = place.0 ∙ here.from; len = place.1 ∙ here.len; port = place.2 ∙ here.port; well = well }
-block_stopped c old new at Closed (Durable is) unused here well place = absurd place
-block_stopped c old new at Closed (Log is) unused here well place = absurd place
-block_stopped c old new at (Durable was) Closed unused here well place = absurd place
-block_stopped c old new at (Durable was) (Log is) unused here well place = absurd place
-block_stopped c old new at (Log was) Closed unused here well place = absurd place
-block_stopped c old new at (Log was) (Durable is) unused here well place = absurd place
+block_stopped c old new at (Open was) (Open is) unused here well place = record { shape = place.3 ∙ here.shape; from = place.0 ∙ here.from; len = place.1 ∙ here.len; port = place.2 ∙ here.port; well = well }
+block_stopped c old new at Closed (Open is) unused here well place = absurd place
+block_stopped c old new at (Open was) Closed unused here well place = absurd place
 
 -- and its recovery is to come
 recovers : (ws : Words) (w : State) (is : BlockState) → Some (state_in ws is) ≡ Some (after_stop w) → is_some is.core.trace.recovery ≡ true
@@ -123,14 +118,9 @@ recovers ws w is e = ap (λ (v : State). is_some v.recovery) (some_is (Some (sta
 
 not_ready : (old new : Words) (was is : Slot) → IsSameSlot was is → world_in new is ≡ acted after_stop (world_in old was) → IsReadyIn false is
 not_ready old new Closed Closed place e = tt
-not_ready old new (Durable was) (Durable is) place e = recovers new (state_in old was) is e
-not_ready old new (Log was) (Log is) place e = recovers new (state_in old was) is e
-not_ready old new Closed (Durable is) place e = absurd place
-not_ready old new Closed (Log is) place e = absurd place
-not_ready old new (Durable was) Closed place e = absurd place
-not_ready old new (Durable was) (Log is) place e = absurd place
-not_ready old new (Log was) Closed place e = absurd place
-not_ready old new (Log was) (Durable is) place e = absurd place
+not_ready old new (Open was) (Open is) place e = recovers new (state_in old was) is e
+not_ready old new Closed (Open is) place e = absurd place
+not_ready old new (Open was) Closed place e = absurd place
 
 -- the directory is to be read
 reading : (ws : Words) (creation : Option Creation) (known whole : Directory) → IsAtRest ws whole → IsMaybeWith known whole creation

@@ -4,7 +4,6 @@ use Rattle.std.specs.Option.{option_map}
 use Rattle.words.specs.declared.call.Client.{Client}
 use Rattle.words.specs.declared.call.Kind.{Kind}
 use Rattle.words.specs.declared.limits.TheConstants.{QUEUE_PORTS}
-use Rattle.words.specs.declared.call.Kind.TheVariants.{Durable as durable_kind, Log as log_kind}
 use Rattle.words.specs.declared.refusal.Refusal.{Refusal}
 use Rattle.words.specs.declared.refusal.Refusal.TheVariants.{NoClient, NotReady, BadName, Busy, Exists, DirectoryFull}
 use Rattle.persist.specs.Memory.{Words, words_in}
@@ -32,7 +31,7 @@ use Rattle.named.specs.Slots.{kind_in, room_in, world_in, acted, answered, IsRea
 use Rattle.named.specs.declared.recovery.BrokerRecovery.{BrokerRecovery}
 use Rattle.named.specs.declared.recovery.BrokerRecovery.TheVariants.{ReadDirectory, RecoverQueue}
 use Rattle.named.specs.declared.slot.Slot.{Slot}
-use Rattle.named.specs.declared.slot.Slot.TheVariants.{Closed, Durable, Log}
+use Rattle.named.specs.declared.slot.Slot.TheVariants.{Closed, Open}
 
 -- how many clients and records each queue has, the memory, what each slot has, by its worlds and by the directory, the
 -- creation that is under way, or that a crash dropped, and the recovery that is under way
@@ -102,8 +101,8 @@ pub record IsUnusedBlock (c : Counts) (ws : Words) (slot : ℕ) : Type 0 where
 
 -- the queue lies in the slot's block, acts through the slot's ports, is laid out as the broker's counts say, and its
 -- world holds there
-pub record IsInBlock (c : Counts) (ws : Words) (slot : ℕ) (kind : Kind) (block : BlockState) : Type 0 where
-  pub shape : block.core.shape ≡ shape_of kind c
+pub record IsInBlock (c : Counts) (ws : Words) (slot : ℕ) (block : BlockState) : Type 0 where
+  pub shape : block.core.shape ≡ shape_of block.core.shape.kind c
   pub from : block.from ≡ block_from c slot
   pub len : block.len ≡ block_size_of c.clients c.records
   pub port : block.port ≡ QUEUE_PORTS * slot
@@ -112,8 +111,7 @@ pub record IsInBlock (c : Counts) (ws : Words) (slot : ℕ) (kind : Kind) (block
 -- a closed slot has nothing in its block
 abbrev pub IsSlotAt : Counts → Words → ℕ → Slot → Type 0
 IsSlotAt c ws at Closed = IsUnusedBlock c ws at
-IsSlotAt c ws at (Durable block) = IsInBlock c ws at durable_kind block
-IsSlotAt c ws at (Log block) = IsInBlock c ws at log_kind block
+IsSlotAt c ws at (Open block) = IsInBlock c ws at block
 
 -- the memory's directory is this one, or a creation is under way that will bring a queue of a new name into it
 pub record IsCreating (ws : Words) (creation : Creation) (directory : Directory) : Type 0 where

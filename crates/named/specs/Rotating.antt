@@ -10,13 +10,12 @@ use Rattle.interleave.specs.State.{kept_content}
 use Rattle.named.specs.Slots.{acted, room_in, world_in, IfWorld, IsAsReady, IsReadyIn, IsSameSlot, IsSlotWell}
 use Rattle.named.specs.Brokers.{Brokered, is_down, world_at}
 use Rattle.named.specs.declared.slot.Slot.{Slot}
-use Rattle.named.specs.declared.slot.Slot.TheVariants.{Closed, Durable, Log}
+use Rattle.named.specs.declared.slot.Slot.TheVariants.{Closed, Open}
 
 -- a client of the slot's queue has a call under way
 abbrev pub has_calls_in : Slot → Bool
 has_calls_in Closed = false
-has_calls_in (Durable block) = some_client_calls block.core.calls
-has_calls_in (Log block) = some_client_calls block.core.calls
+has_calls_in (Open block) = some_client_calls block.core.calls
 
 -- the slot's queue is ready, and no client of it has a call under way; a closed slot has none
 abbrev pub IsQuietIn : Slot → Type 0

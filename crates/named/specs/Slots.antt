@@ -1,38 +1,33 @@
 -- The slots of a broker: each closed, or open with a queue of either kind in its block.
 use Rattle.std.specs.Prelude.{◌≡◌, ℕ, ◌+◌, ◌-◌, ◌<◌, ◌≤◌, Bool, not, is_some, length, Option, Some, None, Result, Err}
 use Rattle.words.specs.declared.call.Kind.{Kind}
-use Rattle.words.specs.declared.call.Kind.TheVariants.{Durable as durable_kind, Log as log_kind}
 use Rattle.words.specs.declared.refusal.Refusal.{Refusal}
 use Rattle.words.specs.declared.refusal.Refusal.TheVariants.{NoMemory, NoQueue}
 use Rattle.persist.specs.Memory.{MemoryState, Words, IsSameOutside, words_after_eviction}
 use Rattle.interleave.specs.State.{State, after_evict}
 use Rattle.named.specs.Blocks.{AskAlikeBeside, BlockState, IsAskedIn, state_in, IsWellIn}
 use Rattle.named.specs.declared.slot.Slot.{Slot}
-use Rattle.named.specs.declared.slot.Slot.TheVariants.{Closed, Durable, Log}
+use Rattle.named.specs.declared.slot.Slot.TheVariants.{Closed, Open}
 
 -- the kind of a slot's queue, where it is open
 abbrev pub kind_in : Slot → Option Kind
 kind_in Closed = None
-kind_in (Durable block) = Some durable_kind
-kind_in (Log block) = Some log_kind
+kind_in (Open block) = Some block.core.shape.kind
 
 -- the world in a slot, where it is open
 abbrev pub world_in : Words → Slot → Option State
 world_in ws Closed = None
-world_in ws (Durable block) = Some (state_in ws block)
-world_in ws (Log block) = Some (state_in ws block)
+world_in ws (Open block) = Some (state_in ws block)
 
 -- the room in the history of a slot's queue: how many further acts it has memory for
 abbrev pub room_in : Slot → ℕ
 room_in Closed = 0
-room_in (Durable block) = block.core.trace.room
-room_in (Log block) = block.core.trace.room
+room_in (Open block) = block.core.trace.room
 
 -- no more calls of the queue took effect than there are events
 abbrev pub AreEffectsFew : Slot → Type 0
 AreEffectsFew Closed = Unit {0}
-AreEffectsFew (Durable block) = length block.core.trace.log.effects ≤ length block.core.trace.log.events
-AreEffectsFew (Log block) = length block.core.trace.log.effects ≤ length block.core.trace.log.events
+AreEffectsFew (Open block) = length block.core.trace.log.effects ≤ length block.core.trace.log.events
 
 -- an act makes this of the world, where there is one
 abbrev pub acted : (State → State) → Option State → Option State
@@ -57,26 +52,22 @@ IsWhyUnread None refusal = refusal ≡ NoQueue
 -- the block of an open slot is inside the memory, and its world holds there
 abbrev pub IsSlotWell : Words → Slot → Type 0
 IsSlotWell ws Closed = Unit {0}
-IsSlotWell ws (Durable block) = IsWellIn ws block
-IsSlotWell ws (Log block) = IsWellIn ws block
+IsSlotWell ws (Open block) = IsWellIn ws block
 
 -- what waits in the slot's queue to complete a flush has asked for it
 abbrev pub IsSlotAsked : MemoryState → Slot → Type 0
 IsSlotAsked m Closed = Unit {0}
-IsSlotAsked m (Durable block) = IsAskedIn m block
-IsSlotAsked m (Log block) = IsAskedIn m block
+IsSlotAsked m (Open block) = IsAskedIn m block
 
 -- through every port that is not the slot's queue's the same was asked for
 abbrev pub AskAlikeBesideSlot : Slot → MemoryState → MemoryState → Type 0
 AskAlikeBesideSlot Closed old new = new.asked ≡ old.asked
-AskAlikeBesideSlot (Durable block) old new = AskAlikeBeside block.port old new
-AskAlikeBesideSlot (Log block) old new = AskAlikeBeside block.port old new
+AskAlikeBesideSlot (Open block) old new = AskAlikeBeside block.port old new
 
 -- two memories differ within the slot's block at most
 abbrev pub IsSameOutsideSlot : Slot → Words → Words → Type 0
 IsSameOutsideSlot Closed old new = new ≡ old
-IsSameOutsideSlot (Durable block) old new = IsSameOutside block.from block.len old new
-IsSameOutsideSlot (Log block) old new = IsSameOutside block.from block.len old new
+IsSameOutsideSlot (Open block) old new = IsSameOutside block.from block.len old new
 
 -- two blocks lie in the same place, have the same ports, and are laid out in the same way
 abbrev pub LieInOnePlace : BlockState → BlockState → Type 0
@@ -86,21 +77,18 @@ LieInOnePlace old new =
 -- the slot is closed, or open with a queue of the same kind in the same place
 abbrev pub IsSameSlot : Slot → Slot → Type 0
 IsSameSlot Closed Closed = Unit {0}
-IsSameSlot (Durable old) (Durable new) = LieInOnePlace old new
-IsSameSlot (Log old) (Log new) = LieInOnePlace old new
+IsSameSlot (Open old) (Open new) = LieInOnePlace old new
 IsSameSlot _ _ = ⊥
 
 -- the recovery of the slot's queue is as far as it was
 abbrev pub IsAsReady : Slot → Slot → Type 0
-IsAsReady (Durable old) (Durable new) = new.core.trace.recovery ≡ old.core.trace.recovery
-IsAsReady (Log old) (Log new) = new.core.trace.recovery ≡ old.core.trace.recovery
+IsAsReady (Open old) (Open new) = new.core.trace.recovery ≡ old.core.trace.recovery
 IsAsReady _ _ = Unit {0}
 
 -- the slot's queue is ready, or recovers; a closed slot has none
 abbrev pub IsReadyIn : Bool → Slot → Type 0
 IsReadyIn ready Closed = Unit {0}
-IsReadyIn ready (Durable block) = is_some block.core.trace.recovery ≡ not ready
-IsReadyIn ready (Log block) = is_some block.core.trace.recovery ≡ not ready
+IsReadyIn ready (Open block) = is_some block.core.trace.recovery ≡ not ready
 
 -- the word is one of the queue's block
 abbrev pub IsWordIn : BlockState → ℕ → Type 0
@@ -108,23 +96,19 @@ IsWordIn block word = (block.from ≤ word) × (word < block.from + block.len)
 
 abbrev pub IsWordOf : Slot → ℕ → Type 0
 IsWordOf Closed word = Unit {0}
-IsWordOf (Durable block) word = IsWordIn block word
-IsWordOf (Log block) word = IsWordIn block word
+IsWordOf (Open block) word = IsWordIn block word
 
 -- what an eviction of a word of its block makes of the slot's world
 abbrev pub world_evicted_in : Slot → ℕ → Words → Option State
 world_evicted_in Closed word ws = None
-world_evicted_in (Durable block) word ws = Some (after_evict (state_in ws block) (word - block.from))
-world_evicted_in (Log block) word ws = Some (after_evict (state_in ws block) (word - block.from))
+world_evicted_in (Open block) word ws = Some (after_evict (state_in ws block) (word - block.from))
 
 -- what an eviction of a word of the slot's block leaves of the words outside it: a closed slot is evicted from itself
 abbrev pub IsEvictedOutside : Slot → ℕ → Words → Words → Type 0
 IsEvictedOutside Closed word old new = new ≡ words_after_eviction word old
-IsEvictedOutside (Durable block) word old new = IsSameOutside block.from block.len old new
-IsEvictedOutside (Log block) word old new = IsSameOutside block.from block.len old new
+IsEvictedOutside (Open block) word old new = IsSameOutside block.from block.len old new
 
 -- the history of the slot's queue, if it has one, has room for so many acts
 abbrev pub HasRoomFor : ℕ → Slot → Type 0
 HasRoomFor acts Closed = Unit {0}
-HasRoomFor acts (Durable block) = acts ≤ block.core.trace.room
-HasRoomFor acts (Log block) = acts ≤ block.core.trace.room
+HasRoomFor acts (Open block) = acts ≤ block.core.trace.room

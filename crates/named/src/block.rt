@@ -24,14 +24,14 @@ use persist::{Change, Memory};
 use std::alloc::Global;
 use std::marker::Model;
 use words::{
-    Call, Client, MAX_STEPS_ALONE, QUEUE_PORTS, RECOVERY_PORT, Refusal, Reply, Told, Value,
+    Call, Client, Kind, MAX_STEPS_ALONE, QUEUE_PORTS, RECOVERY_PORT, Refusal, Reply, Told, Value,
 };
 
 /// A queue's core, where its words lie, in the block of a slot, and the first of its ports: each client has one, and
 /// recovery the one behind them.
 #[derive(Drop)]
-pub(crate) struct Block<L: Layout + Drop> {
-    core: Core<L>,
+pub(crate) struct Block {
+    core: Core,
     from: usize,
     len: usize,
     port: usize,
@@ -44,7 +44,7 @@ fn renumbered(change: Option<Change>, word: usize) -> Option<Change>
     change.map(|change| Change { word, ..change })
 }
 
-impl<L: Layout + Drop> Model for Block<L> {
+impl Model for Block {
     ghost use Rattle.named.specs.Blocks.{BlockState};
 
     ghost Value = { BlockState };
@@ -52,12 +52,12 @@ impl<L: Layout + Drop> Model for Block<L> {
     ghost view = { λ s. record { core = s.core; from = s.from; len = s.len; port = s.port } };
 }
 
-impl<L: Layout + Drop> Block<L> {
+impl Block {
     /// A new queue in a block that is all zero. It takes no memory.
-    pub(crate) fn new(alloc: Global, layout: L, from: usize, len: usize, port: usize) -> Self
-        ensures state { (ws : Words) → state_in ws result ≡ world_over (L.shape layout) (words_in from len ws) }
+    pub(crate) fn new(alloc: Global, layout: Layout, from: usize, len: usize, port: usize) -> Self
+        ensures state { (ws : Words) → state_in ws result ≡ world_over layout (words_in from len ws) }
         ensures well { (ws : Words) → 1 ≤ len → from + len ≤ length ws.cached
-            → port + QUEUE_PORTS ≤ PORTS → AreUnused (L.shape layout) (words_in from len ws) → IsWellIn ws result }
+            → port + QUEUE_PORTS ≤ PORTS → AreUnused layout (words_in from len ws) → IsWellIn ws result }
         ensures from { result.from ≡ from }
         ensures len { result.len ≡ len }
         ensures port { result.port ≡ port }
@@ -73,7 +73,7 @@ impl<L: Layout + Drop> Block<L> {
     /// A queue that begins on the kept words of its block, as a crash left them: recovery is to come.
     pub(crate) fn boot(
         alloc: Global,
-        layout: L,
+        layout: Layout,
         memory: &Memory,
         from: usize,
         len: usize,
@@ -84,12 +84,12 @@ impl<L: Layout + Drop> Block<L> {
         requires kept { from + len ≤ length memory.now.words.kept }
         requires ports { port + QUEUE_PORTS ≤ PORTS }
         ensures booted { IfOk result (λ b. state_in (words_after_crash memory.now.words) b
-            ≡ booted_world (L.shape layout) (words_in from len memory.now.words)) }
+            ≡ booted_world layout (words_in from len memory.now.words)) }
         ensures well { IfOk result (IsWellIn (words_after_crash memory.now.words)) }
         ensures from { IfOk result (λ b. b.from ≡ from) }
         ensures len { IfOk result (λ b. b.len ≡ len) }
         ensures port { IfOk result (λ b. b.port ≡ port) }
-        ensures errors { IfErr result (MayRefuse (L.shape layout) (words_in from len memory.now.words).kept) }
+        ensures errors { IfErr result (MayRefuse layout (words_in from len memory.now.words).kept) }
     {
         let view = memory.view(from, len)?;
         let core = Core::boot(alloc, layout, &view)?;
@@ -105,15 +105,15 @@ impl<L: Layout + Drop> Block<L> {
     /// memory.
     pub(crate) fn boot_unused(
         alloc: Global,
-        layout: L,
+        layout: Layout,
         from: usize,
         len: usize,
         port: usize,
     ) -> Self
         ensures state { (ws : Words) → state_in ws result
-            ≡ record (world_over (L.shape layout) (words_in from len ws)) { recovery = Some boot_recovery } }
+            ≡ record (world_over layout (words_in from len ws)) { recovery = Some boot_recovery } }
         ensures well { (ws : Words) → 1 ≤ len → from + len ≤ length ws.cached
-            → port + QUEUE_PORTS ≤ PORTS → AreUnused (L.shape layout) (words_in from len ws) → IsWellIn ws result }
+            → port + QUEUE_PORTS ≤ PORTS → AreUnused layout (words_in from len ws) → IsWellIn ws result }
         ensures from { result.from ≡ from }
         ensures len { result.len ≡ len }
         ensures port { result.port ≡ port }
@@ -211,6 +211,13 @@ impl<L: Layout + Drop> Block<L> {
     {
         let mut window = memory.window(self.from, self.len, self.port + client.0 as usize)?;
         self.core.run_alone(&mut window, client)
+    }
+
+    /// Which kind of queue it is.
+    pub(crate) fn kind(&self) -> Kind
+        ensures { result ≡ self.now.core.shape.kind }
+    {
+        self.core.layout().kind()
     }
 
     /// What the client was last told.

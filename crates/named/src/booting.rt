@@ -35,10 +35,7 @@ fn check_block(
         (IsDamagedIn form (shape_of kind layout.now) (block_in form layout.now slot.0 memory.now.words.kept)) }
 {
     let block = memory.view(layout.block_in(form, slot), layout.block_size_in(form))?;
-    match kind {
-        Kind::Durable => sound_queue(form, &layout.durable(), &block),
-        Kind::Log => sound_queue(form, &layout.log(), &block),
-    }
+    sound_queue(form, &layout.queue(kind), &block)
 }
 
 /// Whether so it is of each open slot, in slot order.

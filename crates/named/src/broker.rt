@@ -18,7 +18,7 @@ ghost use Rattle.named.specs.Promises.{KeepsPromises};
 use crate::recovery::BrokerRecovery;
 use crate::slot::Slot;
 use crate::slots::closed_slots;
-use arena::{BrokerLayout, Layout, SLOTS, SlotId};
+use arena::{BrokerLayout, SLOTS, SlotId};
 use directory::{Creation, Directory, Name, Places, Queue};
 use events::{History, Order};
 use persist::{Memory, WordMemory};

@@ -12,7 +12,7 @@ ghost use Rattle.named.specs.GoingOn.{BrokerGoesOn};
 ghost use Rattle.named.specs.Promises.{KeepsPromises};
 
 use crate::broker::Broker;
-use arena::{Layout, SLOTS, SlotId};
+use arena::{SLOTS, SlotId};
 use words::{Call, Client, MAX_STEPS_ALONE, Refusal, Reply};
 
 impl Broker {
@@ -20,7 +20,7 @@ impl Broker {
     pub(crate) fn admit(&self, client: Client) -> Result<(), Refusal>
         ensures { result ≡ admission self.now client }
     {
-        if client.0 as usize >= self.layout.durable().clients() as usize {
+        if client.0 as usize >= self.layout.clients() as usize {
             return Err(Refusal::NoClient);
         }
         self.check_ready()

@@ -13,7 +13,7 @@ ghost use Rattle.named.specs.Brokers.{world_at, room_at, answer_at, IsWell};
 
 use crate::broker::Broker;
 use crate::slot::Slot;
-use arena::{Layout, SlotId};
+use arena::SlotId;
 use events::{History, Order};
 use words::{Client, Kind, Refusal, Told, Value};
 
@@ -36,7 +36,7 @@ impl Broker {
     pub fn clients(&self) -> u32
         ensures { result ≡ self.now.counts.clients }
     {
-        self.layout.durable().clients()
+        self.layout.clients()
     }
 
     /// What the client was last told in the queue of a slot: what the last recovery read, and at first what the base

@@ -21,18 +21,17 @@ ghost use Rattle.arena.specs.Shape.{shape_of};
 ghost use Rattle.persist.specs.Memory.{Words, words_after_crash, words_after_eviction};
 
 use crate::block::Block;
-use arena::{BrokerLayout, DurableLayout, LogLayout, SLOTS, SlotId};
+use arena::{BrokerLayout, SLOTS, SlotId};
 use events::{History, Order};
 use persist::{Change, EvictableWords, Memory};
 use std::alloc::Global;
 use words::{Call, Client, Kind, MAX_STEPS_ALONE, QUEUE_PORTS, Refusal, Reply, Told, Value};
 
-/// A slot: nobody has created a queue in it, or it has one of either kind.
+/// A slot: nobody has created a queue in it, or it has one.
 #[derive(Drop)]
 pub(crate) enum Slot {
     Closed,
-    Durable(Block<DurableLayout>),
-    Log(Block<LogLayout>),
+    Open(Block),
 }
 
 /// The first of the ports of a slot's queue: each slot has a port for each client that there may be, and one for
@@ -72,8 +71,7 @@ impl Slot {
     {
         match self {
             Slot::Closed => Err(Refusal::NoQueue),
-            Slot::Durable(block) => block.start(memory, client, number, call),
-            Slot::Log(block) => block.start(memory, client, number, call),
+            Slot::Open(block) => block.start(memory, client, number, call),
         }
     }
 
@@ -103,8 +101,7 @@ impl Slot {
     {
         match self {
             Slot::Closed => Err(Refusal::NoQueue),
-            Slot::Durable(block) => block.step(memory, client),
-            Slot::Log(block) => block.step(memory, client),
+            Slot::Open(block) => block.step(memory, client),
         }
     }
 
@@ -139,8 +136,7 @@ impl Slot {
     {
         match self {
             Slot::Closed => Err(Refusal::NoQueue),
-            Slot::Durable(block) => block.run_alone(memory, client),
-            Slot::Log(block) => block.run_alone(memory, client),
+            Slot::Open(block) => block.run_alone(memory, client),
         }
     }
 
@@ -151,8 +147,7 @@ impl Slot {
     {
         match self {
             Slot::Closed => Err(Refusal::NoQueue),
-            Slot::Durable(block) => Ok(block.told(client)),
-            Slot::Log(block) => Ok(block.told(client)),
+            Slot::Open(block) => Ok(block.told(client)),
         }
     }
 
@@ -163,8 +158,7 @@ impl Slot {
     {
         match self {
             Slot::Closed => Err(Refusal::NoQueue),
-            Slot::Durable(_) => Ok(Kind::Durable),
-            Slot::Log(_) => Ok(Kind::Log),
+            Slot::Open(block) => Ok(block.kind()),
         }
     }
 
@@ -174,8 +168,7 @@ impl Slot {
     {
         match self {
             Slot::Closed => Err(Refusal::NoQueue),
-            Slot::Durable(block) => Ok(block.calling(client)),
-            Slot::Log(block) => Ok(block.calling(client)),
+            Slot::Open(block) => Ok(block.calling(client)),
         }
     }
 
@@ -191,8 +184,7 @@ impl Slot {
     {
         match self {
             Slot::Closed => Err(Refusal::NoQueue),
-            Slot::Durable(block) => Ok(block.history()),
-            Slot::Log(block) => Ok(block.history()),
+            Slot::Open(block) => Ok(block.history()),
         }
     }
 
@@ -205,8 +197,7 @@ impl Slot {
     {
         match self {
             Slot::Closed => Err(Refusal::NoQueue),
-            Slot::Durable(block) => block.order(),
-            Slot::Log(block) => block.order(),
+            Slot::Open(block) => block.order(),
         }
     }
 
@@ -220,8 +211,7 @@ impl Slot {
     {
         match self {
             Slot::Closed => Err(Refusal::NoQueue),
-            Slot::Durable(block) => block.content(memory),
-            Slot::Log(block) => block.content(memory),
+            Slot::Open(block) => block.content(memory),
         }
     }
 
@@ -239,8 +229,7 @@ impl Slot {
     {
         match self {
             Slot::Closed => Err(Refusal::NoQueue),
-            Slot::Durable(block) => block.reserve(acts),
-            Slot::Log(block) => block.reserve(acts),
+            Slot::Open(block) => block.reserve(acts),
         }
     }
 
@@ -257,10 +246,7 @@ impl Slot {
         let from = layout.block(slot);
         let len = layout.block_size();
         let port = first_port(slot);
-        match kind {
-            Kind::Durable => Slot::Durable(Block::new(alloc, layout.durable(), from, len, port)),
-            Kind::Log => Slot::Log(Block::new(alloc, layout.log(), from, len, port)),
-        }
+        Slot::Open(Block::new(alloc, layout.queue(kind), from, len, port))
     }
 
     /// A queue of this kind in the slot's block, which is all zero: recovery is the first to find it. It takes no
@@ -277,16 +263,13 @@ impl Slot {
         let from = layout.block(slot);
         let len = layout.block_size();
         let port = first_port(slot);
-        match kind {
-            Kind::Durable => Slot::Durable(Block::boot_unused(
-                alloc,
-                layout.durable(),
-                from,
-                len,
-                port,
-            )),
-            Kind::Log => Slot::Log(Block::boot_unused(alloc, layout.log(), from, len, port)),
-        }
+        Slot::Open(Block::boot_unused(
+            alloc,
+            layout.queue(kind),
+            from,
+            len,
+            port,
+        ))
     }
 
     /// A queue of this kind that begins on the kept words of the slot's block, as a crash left them.
@@ -310,17 +293,8 @@ impl Slot {
         let from = layout.block(slot);
         let len = layout.block_size();
         let port = first_port(slot);
-        match kind {
-            Kind::Durable => Ok(Slot::Durable(Block::boot(
-                alloc,
-                layout.durable(),
-                memory,
-                from,
-                len,
-                port,
-            )?)),
-            Kind::Log => Ok(Slot::Log(Block::boot(alloc, layout.log(), memory, from, len, port)?)),
-        }
+        let block = Block::boot(alloc, layout.queue(kind), memory, from, len, port)?;
+        Ok(Slot::Open(block))
     }
 
     /// The environment keeps a word of the slot's block, by its number in the whole memory.
@@ -346,8 +320,7 @@ impl Slot {
     {
         match self {
             Slot::Closed => memory.evict(word),
-            Slot::Durable(block) => block.evict(memory, word),
-            Slot::Log(block) => block.evict(memory, word),
+            Slot::Open(block) => block.evict(memory, word),
         }
     }
 
@@ -362,8 +335,7 @@ impl Slot {
     {
         match self {
             Slot::Closed => {}
-            Slot::Durable(block) => block.stop(),
-            Slot::Log(block) => block.stop(),
+            Slot::Open(block) => block.stop(),
         }
     }
 
@@ -387,8 +359,7 @@ impl Slot {
     {
         match self {
             Slot::Closed => Err(Refusal::NoQueue),
-            Slot::Durable(block) => block.recover_step(memory),
-            Slot::Log(block) => block.recover_step(memory),
+            Slot::Open(block) => block.recover_step(memory),
         }
     }
 
@@ -398,8 +369,7 @@ impl Slot {
     {
         match self {
             Slot::Closed => false,
-            Slot::Durable(block) => block.has_calls(),
-            Slot::Log(block) => block.has_calls(),
+            Slot::Open(block) => block.has_calls(),
         }
     }
 
@@ -409,7 +379,7 @@ impl Slot {
     {
         match self {
             Slot::Closed => true,
-            Slot::Durable(_) | Slot::Log(_) => false,
+            Slot::Open(_) => false,
         }
     }
 
@@ -424,8 +394,7 @@ impl Slot {
     {
         match self {
             Slot::Closed => Ok(()),
-            Slot::Durable(block) => block.reserve(acts),
-            Slot::Log(block) => block.reserve(acts),
+            Slot::Open(block) => block.reserve(acts),
         }
     }
 
@@ -442,8 +411,7 @@ impl Slot {
     {
         match self {
             Slot::Closed => Ok(Vec::new(alloc)),
-            Slot::Durable(block) => block.prepare_rotation(memory),
-            Slot::Log(block) => block.prepare_rotation(memory),
+            Slot::Open(block) => block.prepare_rotation(memory),
         }
     }
 
@@ -456,8 +424,7 @@ impl Slot {
     {
         match self {
             Slot::Closed => {}
-            Slot::Durable(block) => block.begin_anew(memory, base),
-            Slot::Log(block) => block.begin_anew(memory, base),
+            Slot::Open(block) => block.begin_anew(memory, base),
         }
     }
 }

@@ -8,7 +8,7 @@ ghost use Rattle.recover.specs.Sound.{IsLoose, IsLooseIfOff, IsSentinelIn, Chain
 ghost use Rattle.recover.specs.Order.{IsRun, IsOrder};
 
 use crate::kept::KeptQueue;
-use arena::{Layout, Place};
+use arena::Place;
 use persist::KeptWords;
 use words::{Kind, NodeId};
 
@@ -19,7 +19,7 @@ pub(crate) fn has_place(place: &[u32], node: u64) -> bool
     node < place.len() as u64 && place[node as usize] != 0
 }
 
-impl<L: Layout, W: KeptWords> KeptQueue<'_, L, W> {
+impl<W: KeptWords> KeptQueue<'_, W> {
     /// Whether the chain ends and has nodes of used records. Notes where each node stands on it, from 1.
     fn follow(&self, place: &mut [u32]) -> bool
         requires table { greatest self.now.shape < length place.old }

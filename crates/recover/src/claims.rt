@@ -10,11 +10,11 @@ ghost use Rattle.recover.specs.Order.{IsOrder, AreClaims, IsClaimTable, IsInTurn
 
 use crate::chain::has_place;
 use crate::kept::KeptQueue;
-use arena::{Layout, Place};
+use arena::Place;
 use persist::KeptWords;
 use words::NodeId;
 
-impl<L: Layout, W: KeptWords> KeptQueue<'_, L, W> {
+impl<W: KeptWords> KeptQueue<'_, W> {
     /// Whether the words of each message are an item's.
     fn are_in_range(&self) -> bool
         ensures { IsTrue result ↔ ((n : ℕ) → IsNode self.now.shape n

@@ -49,9 +49,9 @@ impl Resume for RecoveryLoadHead {
 
     ghost point = { RecoveryLoadHead };
 
-    fn step<L: Layout, M: WordMemory>(
+    fn step<M: WordMemory>(
         self,
-        layout: &L,
+        layout: &Layout,
         memory: &mut M,
     ) -> Stepped<RecoveryPoint, Report> {
         let cur = NodeId(load_at(layout, memory, Place::Head) as u32);
@@ -78,9 +78,9 @@ impl Resume for RecoveryLoadNext {
 
     ghost point = { RecoveryLoadNext };
 
-    fn step<L: Layout, M: WordMemory>(
+    fn step<M: WordMemory>(
         self,
-        layout: &L,
+        layout: &Layout,
         memory: &mut M,
     ) -> Stepped<RecoveryPoint, Report> {
         let RecoveryLoadNext { cur, moved } = self;
@@ -116,9 +116,9 @@ impl Resume for RecoveryLoadInsert {
 
     ghost point = { RecoveryLoadInsert };
 
-    fn step<L: Layout, M: WordMemory>(
+    fn step<M: WordMemory>(
         self,
-        layout: &L,
+        layout: &Layout,
         memory: &mut M,
     ) -> Stepped<RecoveryPoint, Report> {
         let RecoveryLoadInsert { cur, node, moved } = self;
@@ -149,9 +149,9 @@ impl Resume for RecoveryStoreStatus {
 
     ghost point = { RecoveryStoreStatus };
 
-    fn step<L: Layout, M: WordMemory>(
+    fn step<M: WordMemory>(
         self,
-        layout: &L,
+        layout: &Layout,
         memory: &mut M,
     ) -> Stepped<RecoveryPoint, Report> {
         let RecoveryStoreStatus {
@@ -189,9 +189,9 @@ impl Resume for RecoveryLoadMark {
 
     ghost point = { RecoveryLoadMark };
 
-    fn step<L: Layout, M: WordMemory>(
+    fn step<M: WordMemory>(
         self,
-        layout: &L,
+        layout: &Layout,
         memory: &mut M,
     ) -> Stepped<RecoveryPoint, Report> {
         let RecoveryLoadMark { cur, node } = self;
@@ -223,9 +223,9 @@ impl Resume for RecoveryStoreResult {
 
     ghost point = { RecoveryStoreResult };
 
-    fn step<L: Layout, M: WordMemory>(
+    fn step<M: WordMemory>(
         self,
-        layout: &L,
+        layout: &Layout,
         memory: &mut M,
     ) -> Stepped<RecoveryPoint, Report> {
         let RecoveryStoreResult { node, mark } = self;
@@ -253,9 +253,9 @@ impl Resume for RecoveryStoreHead {
 
     ghost point = { RecoveryStoreHead };
 
-    fn step<L: Layout, M: WordMemory>(
+    fn step<M: WordMemory>(
         self,
-        layout: &L,
+        layout: &Layout,
         memory: &mut M,
     ) -> Stepped<RecoveryPoint, Report> {
         let RecoveryStoreHead { cur, unclaimed } = self;
@@ -286,9 +286,9 @@ impl Resume for RecoveryStoreTail {
 
     ghost point = { RecoveryStoreTail };
 
-    fn step<L: Layout, M: WordMemory>(
+    fn step<M: WordMemory>(
         self,
-        layout: &L,
+        layout: &Layout,
         memory: &mut M,
     ) -> Stepped<RecoveryPoint, Report> {
         let RecoveryStoreTail { cur } = self;

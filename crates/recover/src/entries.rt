@@ -11,11 +11,11 @@ ghost use Rattle.recover.specs.Order.{IsPlaceTable, IsTokenTable, IsInsertedIfOn
 
 use crate::chain::has_place;
 use crate::kept::KeptQueue;
-use arena::{DEQUEUE_KIND, EMPTY_STATUS, ENQUEUE_KIND, Layout, Place, TAKEN_STATUS};
+use arena::{DEQUEUE_KIND, EMPTY_STATUS, ENQUEUE_KIND, Place, TAKEN_STATUS};
 use persist::KeptWords;
 use words::{Client, MAX_CALL_NUMBER, NodeId, Token};
 
-impl<L: Layout, W: KeptWords> KeptQueue<'_, L, W> {
+impl<W: KeptWords> KeptQueue<'_, W> {
     /// Whether the node is off the chain or inserted by its entry.
     fn is_inserted_if_on(&self, place: &[u32], node: u32) -> bool
         requires log { self.now.shape.kind ≡ Log }

@@ -20,13 +20,13 @@ use words::{Client, Item, Kind, MAX_RECORD_NUMBER, NodeId};
 /// Kept words that have room for a queue of this layout, to look at. It borrows them, and looking is no access. In the
 /// form of values the layout says the kind and the counts alone.
 #[derive(Drop)]
-pub struct KeptQueue<'a, L: Layout, W: KeptWords> {
+pub struct KeptQueue<'a, W: KeptWords> {
     form: Form,
-    layout: &'a L,
+    layout: &'a Layout,
     words: &'a W,
 }
 
-impl<'a, L: Layout, W: KeptWords> Model for KeptQueue<'a, L, W> {
+impl<'a, W: KeptWords> Model for KeptQueue<'a, W> {
     ghost use Rattle.std.specs.Prelude.{◌≤◌, length};
     ghost use Rattle.arena.specs.Layout.{size_in};
     ghost use Rattle.recover.specs.Kept.{Kept};
@@ -35,20 +35,20 @@ impl<'a, L: Layout, W: KeptWords> Model for KeptQueue<'a, L, W> {
 
     ghost view = { λ q. record {
       form = q.form;
-      shape = L.shape q.layout.now;
+      shape = q.layout.now;
       words = W.kept_words q.words.now;
     } };
 
-    ghost invariant = { λ q. size_in q.form (L.shape q.layout.now) ≤ length (W.kept_words q.words.now) };
+    ghost invariant = { λ q. size_in q.form q.layout.now ≤ length (W.kept_words q.words.now) };
 }
 
-impl<'a, L: Layout, W: KeptWords> KeptQueue<'a, L, W> {
+impl<'a, W: KeptWords> KeptQueue<'a, W> {
     /// The queue that these words are of.
-    pub fn new(layout: &'a L, words: &'a W) -> Self
-        requires { size_of (L.shape layout.now) ≤ length (W.kept_words words.now) }
+    pub fn new(layout: &'a Layout, words: &'a W) -> Self
+        requires { size_of layout.now ≤ length (W.kept_words words.now) }
         ensures { result ≡ record {
           form = running;
-          shape = L.shape layout.now;
+          shape = layout.now;
           words = W.kept_words words.now;
         } }
     {
@@ -60,11 +60,11 @@ impl<'a, L: Layout, W: KeptWords> KeptQueue<'a, L, W> {
     }
 
     /// The queue that these words are of in the form of values.
-    pub fn of_values(layout: &'a L, words: &'a W) -> Self
-        requires { size_in OfValues (L.shape layout.now) ≤ length (W.kept_words words.now) }
+    pub fn of_values(layout: &'a Layout, words: &'a W) -> Self
+        requires { size_in OfValues layout.now ≤ length (W.kept_words words.now) }
         ensures { result ≡ record {
           form = OfValues;
-          shape = L.shape layout.now;
+          shape = layout.now;
           words = W.kept_words words.now;
         } }
     {

@@ -67,9 +67,9 @@ impl Resume for RecoveryPoint {
 
     ghost point = { λ at. at };
 
-    fn step<L: Layout, M: WordMemory>(
+    fn step<M: WordMemory>(
         self,
-        layout: &L,
+        layout: &Layout,
         memory: &mut M,
     ) -> Stepped<RecoveryPoint, Report> {
         match self {

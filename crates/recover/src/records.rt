@@ -8,11 +8,11 @@ ghost use Rattle.recover.specs.Kept.{kept_of};
 ghost use Rattle.recover.specs.Sound.{IsBlankRecordIn, IsBlankEntry, IsBlankIfUnusedIn, RecordsAreSoundIn};
 
 use crate::kept::KeptQueue;
-use arena::{Layout, Place};
+use arena::Place;
 use persist::KeptWords;
 use words::{Client, Kind, NodeId, Token};
 
-impl<L: Layout, W: KeptWords> KeptQueue<'_, L, W> {
+impl<W: KeptWords> KeptQueue<'_, W> {
     /// Whether each client used no more records than it has.
     fn are_within(&self) -> bool
         ensures { IsTrue result

@@ -33,18 +33,18 @@ pub fn boot() -> Recovery
 
 impl Recovery {
     /// One step: exactly one access. It answers whether the queue is ready now, and each client was told.
-    pub fn step<L: Layout, M: WordMemory>(&mut self, layout: &L, memory: &mut M) -> bool
-        requires room { size_of (L.shape layout.now) ≤ length (M.words memory.old).cached }
-        requires point { IsPoint (L.shape layout.now) self.old.at }
-        requires read { let s = L.shape layout.now in let access = access_of s.kind self.old.at in
+    pub fn step<M: WordMemory>(&mut self, layout: &Layout, memory: &mut M) -> bool
+        requires room { size_of layout.now ≤ length (M.words memory.old).cached }
+        requires point { IsPoint layout.now self.old.at }
+        requires read { let s = layout.now in let access = access_of s.kind self.old.at in
             IsReadInRange s access (value_found s access (M.words memory.old)) }
-        requires asked { let s = L.shape layout.now in
+        requires asked { let s = layout.now in
             IsAskedFor s (access_of s.kind self.old.at) (M.lent memory.old).request }
-        ensures one_access { let s = L.shape layout.now in
+        ensures one_access { let s = layout.now in
             M.words memory.new ≡ after_one s (access_of s.kind self.old.at) (M.words memory.old) }
-        ensures lent { let s = L.shape layout.now in
+        ensures lent { let s = layout.now in
             M.lent memory.new ≡ lent_after_one s (access_of s.kind self.old.at) (M.lent memory.old) }
-        ensures next { let s = L.shape layout.now in let access = access_of s.kind self.old.at in
+        ensures next { let s = layout.now in let access = access_of s.kind self.old.at in
             recovery_reached result self.new ≡ recovery_after s self.old (value_found s access (M.words memory.old)) }
     {
         match self.at.step(layout, memory).after {
@@ -57,9 +57,9 @@ impl Recovery {
     }
 
     /// Notes what a client is told, and goes on with the next one, if there is one. It answers whether there is none.
-    fn tell<L: Layout>(&mut self, layout: &L, report: Report) -> bool
-        requires { report.client.0 < (L.shape layout.now).clients }
-        ensures { recovery_reached result self.new ≡ after_report (L.shape layout.now) self.old.told report }
+    fn tell(&mut self, layout: &Layout, report: Report) -> bool
+        requires { report.client.0 < layout.now.clients }
+        ensures { recovery_reached result self.new ≡ after_report layout.now self.old.told report }
     {
         let Report { client, told } = report;
         let clients = layout.clients();

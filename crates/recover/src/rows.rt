@@ -12,11 +12,11 @@ ghost use Rattle.recover.specs.Sound.{ChainIsSoundIn, ClaimsAreSoundIn, EndsAreS
 ghost use Rattle.recover.specs.Order.{IsPlaceTable, IsTokenTable, CellTellsIn, ClaimIsToldInCell};
 
 use crate::kept::KeptQueue;
-use arena::{EMPTY_CELL, Form, GOT_CELL, Layout, Place};
+use arena::{EMPTY_CELL, Form, GOT_CELL, Place};
 use persist::KeptWords;
 use words::{Client, NodeId, Token};
 
-impl<L: Layout, W: KeptWords> KeptQueue<'_, L, W> {
+impl<W: KeptWords> KeptQueue<'_, W> {
     /// Whether the client used the record with this number.
     pub(crate) fn is_own(&self, client: Client, number: u64) -> bool
         ensures { IsTrue result ↔ IsOwn self.now.shape (kept_of self.now) client.0 number }

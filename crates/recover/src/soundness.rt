@@ -30,10 +30,10 @@ fn is_rest_zero<W: KeptWords>(words: &W, from: usize) -> bool
 }
 
 /// How many words a queue has in this form, and how many a broker's block.
-fn sizes<L: Layout>(form: Form, layout: &L) -> (usize, usize)
-    ensures size { result.0 ≡ size_in form (L.shape layout.now) }
-    ensures block { result.1 ≡ block_size_in form (L.shape layout.now).clients (L.shape layout.now).records }
-    ensures few { greatest (L.shape layout.now) ≤ MAX_RECORD_NUMBER }
+fn sizes(form: Form, layout: &Layout) -> (usize, usize)
+    ensures size { result.0 ≡ size_in form layout.now }
+    ensures block { result.1 ≡ block_size_in form layout.now.clients layout.now.records }
+    ensures few { greatest layout.now ≤ MAX_RECORD_NUMBER }
 {
     let (clients, records) = (layout.clients(), layout.records());
     match form {
@@ -46,9 +46,9 @@ fn sizes<L: Layout>(form: Form, layout: &L) -> (usize, usize)
 }
 
 /// Whether there are as many words as the layout has, or they are a broker's block with zeros past them.
-fn is_size_sound<L: Layout, W: KeptWords>(form: Form, layout: &L, words: &W) -> bool
-    ensures sound { IsTrue result ↔ SizeIsSoundIn form (L.shape layout.now) (W.kept_words words.now) }
-    ensures few { greatest (L.shape layout.now) ≤ MAX_RECORD_NUMBER }
+fn is_size_sound<W: KeptWords>(form: Form, layout: &Layout, words: &W) -> bool
+    ensures sound { IsTrue result ↔ SizeIsSoundIn form layout.now (W.kept_words words.now) }
+    ensures few { greatest layout.now ≤ MAX_RECORD_NUMBER }
 {
     let (size, block) = sizes(form, layout);
     let count = words.size();
@@ -61,7 +61,7 @@ fn is_size_sound<L: Layout, W: KeptWords>(form: Form, layout: &L, words: &W) -> 
     is_rest_zero(words, size)
 }
 
-impl<L: Layout, W: KeptWords> KeptQueue<'_, L, W> {
+impl<W: KeptWords> KeptQueue<'_, W> {
     /// The first broken rule of those on the chain and after, where those before it hold.
     fn broken_past_records(&self, place: &mut [u32], claimed: &mut [u32]) -> Option<Rule>
         requires count { SizeIsSoundIn self.now.form self.now.shape self.now.words }
@@ -115,13 +115,13 @@ impl<L: Layout, W: KeptWords> KeptQueue<'_, L, W> {
 }
 
 /// The queue that these words are of, in this form.
-fn queue_of<'a, L: Layout, W: KeptWords>(
+fn queue_of<'a, W: KeptWords>(
     form: Form,
-    layout: &'a L,
+    layout: &'a Layout,
     words: &'a W,
-) -> KeptQueue<'a, L, W>
-    requires { size_in form (L.shape layout.now) ≤ length (W.kept_words words.now) }
-    ensures { result ≡ record { form = form; shape = L.shape layout.now; words = W.kept_words words.now } }
+) -> KeptQueue<'a, W>
+    requires { size_in form layout.now ≤ length (W.kept_words words.now) }
+    ensures { result ≡ record { form = form; shape = layout.now; words = W.kept_words words.now } }
 {
     match form {
         Form::OfValues => KeptQueue::of_values(layout, words),
@@ -138,17 +138,17 @@ pub struct Survey {
 }
 
 /// The first broken rule.
-fn first_broken<L: Layout, W: KeptWords>(
+fn first_broken<W: KeptWords>(
     form: Form,
-    layout: &L,
+    layout: &Layout,
     words: &W,
     survey: &mut Survey,
 ) -> Option<Rule>
     requires no_place { (n : ℕ) → slice_index survey.old.place n ≡ 0 }
     requires no_token { (n : ℕ) → slice_index survey.old.claimed n ≡ 0 }
-    ensures broken { MatchOption result (AreSoundWordsIn form (L.shape layout.now) (W.kept_words words.now))
-        (λ rule. IsFirstBrokenIn form (L.shape layout.now) (W.kept_words words.now) rule) }
-    ensures survey { IfNone result (IsSurveyOf form (L.shape layout.now) (W.kept_words words.now)
+    ensures broken { MatchOption result (AreSoundWordsIn form layout.now (W.kept_words words.now))
+        (λ rule. IsFirstBrokenIn form layout.now (W.kept_words words.now) rule) }
+    ensures survey { IfNone result (IsSurveyOf form layout.now (W.kept_words words.now)
         survey.new.place survey.new.claimed) }
 {
     // With words missing, a place would have no word; with a word too many that is not 0, it is another layout's.
@@ -167,15 +167,15 @@ fn first_broken<L: Layout, W: KeptWords>(
 /// The survey of a queue whose kept words obey the rules of this form. The layout says the kind and the counts. It
 /// takes no memory but on the stack, and its cost is linear in the words. Words that break a rule are Damaged, by the
 /// first one.
-pub fn surveyed<L: Layout, W: KeptWords>(
+pub fn surveyed<W: KeptWords>(
     form: Form,
-    layout: &L,
+    layout: &Layout,
     words: &W,
 ) -> Result<Survey, Refusal>
-    ensures ok { IsOk result ↔ AreSoundWordsIn form (L.shape layout.now) (W.kept_words words.now) }
-    ensures survey { IfOk result (λ found. IsSurveyOf form (L.shape layout.now) (W.kept_words words.now)
+    ensures ok { IsOk result ↔ AreSoundWordsIn form layout.now (W.kept_words words.now) }
+    ensures survey { IfOk result (λ found. IsSurveyOf form layout.now (W.kept_words words.now)
         found.place found.claimed) }
-    ensures damaged { IfErr result (λ e. IsDamagedIn form (L.shape layout.now) (W.kept_words words.now) e) }
+    ensures damaged { IfErr result (λ e. IsDamagedIn form layout.now (W.kept_words words.now) e) }
 {
     let mut survey = Survey {
         place: [0; MAX_NODES],
@@ -188,9 +188,9 @@ pub fn surveyed<L: Layout, W: KeptWords>(
 }
 
 /// Whether kept words are those of a queue, in this form.
-pub fn sound_in<L: Layout, W: KeptWords>(form: Form, layout: &L, words: &W) -> Result<(), Refusal>
-    ensures ok { IsOk result ↔ AreSoundWordsIn form (L.shape layout.now) (W.kept_words words.now) }
-    ensures damaged { IfErr result (λ e. IsDamagedIn form (L.shape layout.now) (W.kept_words words.now) e) }
+pub fn sound_in<W: KeptWords>(form: Form, layout: &Layout, words: &W) -> Result<(), Refusal>
+    ensures ok { IsOk result ↔ AreSoundWordsIn form layout.now (W.kept_words words.now) }
+    ensures damaged { IfErr result (λ e. IsDamagedIn form layout.now (W.kept_words words.now) e) }
 {
     match surveyed(form, layout, words) {
         Ok(_) => Ok(()),
@@ -199,9 +199,9 @@ pub fn sound_in<L: Layout, W: KeptWords>(form: Form, layout: &L, words: &W) -> R
 }
 
 /// Whether kept words are those of a queue that recovery can begin with.
-pub fn sound<L: Layout, W: KeptWords>(layout: &L, words: &W) -> Result<(), Refusal>
-    ensures ok { IsOk result ↔ AreSoundWords (L.shape layout.now) (W.kept_words words.now) }
-    ensures damaged { IfErr result (λ e. IsDamaged (L.shape layout.now) (W.kept_words words.now) e) }
+pub fn sound<W: KeptWords>(layout: &Layout, words: &W) -> Result<(), Refusal>
+    ensures ok { IsOk result ↔ AreSoundWords layout.now (W.kept_words words.now) }
+    ensures damaged { IfErr result (λ e. IsDamaged layout.now (W.kept_words words.now) e) }
 {
     sound_in(Form::OfItems, layout, words)
 }

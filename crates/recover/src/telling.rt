@@ -67,9 +67,9 @@ impl Resume for RecoveryLoadAnnouncement {
 
     ghost point = { RecoveryLoadAnnouncement };
 
-    fn step<L: Layout, M: WordMemory>(
+    fn step<M: WordMemory>(
         self,
-        layout: &L,
+        layout: &Layout,
         memory: &mut M,
     ) -> Stepped<RecoveryPoint, Report> {
         let client = self.client;
@@ -104,9 +104,9 @@ impl Resume for RecoveryLoadCell {
 
     ghost point = { RecoveryLoadCell };
 
-    fn step<L: Layout, M: WordMemory>(
+    fn step<M: WordMemory>(
         self,
-        layout: &L,
+        layout: &Layout,
         memory: &mut M,
     ) -> Stepped<RecoveryPoint, Report> {
         let RecoveryLoadCell { client, token } = self;
@@ -131,9 +131,9 @@ impl Resume for RecoveryLoadGot {
 
     ghost point = { RecoveryLoadGot };
 
-    fn step<L: Layout, M: WordMemory>(
+    fn step<M: WordMemory>(
         self,
-        layout: &L,
+        layout: &Layout,
         memory: &mut M,
     ) -> Stepped<RecoveryPoint, Report> {
         let RecoveryLoadGot {
@@ -168,9 +168,9 @@ impl Resume for RecoveryLoadNumber {
 
     ghost point = { RecoveryLoadNumber };
 
-    fn step<L: Layout, M: WordMemory>(
+    fn step<M: WordMemory>(
         self,
-        layout: &L,
+        layout: &Layout,
         memory: &mut M,
     ) -> Stepped<RecoveryPoint, Report> {
         let RecoveryLoadNumber { client, token } = self;
@@ -199,9 +199,9 @@ impl Resume for RecoveryLoadKind {
 
     ghost point = { RecoveryLoadKind };
 
-    fn step<L: Layout, M: WordMemory>(
+    fn step<M: WordMemory>(
         self,
-        layout: &L,
+        layout: &Layout,
         memory: &mut M,
     ) -> Stepped<RecoveryPoint, Report> {
         let RecoveryLoadKind {
@@ -236,9 +236,9 @@ impl Resume for RecoveryLoadStatus {
 
     ghost point = { RecoveryLoadStatus };
 
-    fn step<L: Layout, M: WordMemory>(
+    fn step<M: WordMemory>(
         self,
-        layout: &L,
+        layout: &Layout,
         memory: &mut M,
     ) -> Stepped<RecoveryPoint, Report> {
         let RecoveryLoadStatus {
@@ -286,9 +286,9 @@ impl Resume for RecoveryLoadRemove {
 
     ghost point = { RecoveryLoadRemove };
 
-    fn step<L: Layout, M: WordMemory>(
+    fn step<M: WordMemory>(
         self,
-        layout: &L,
+        layout: &Layout,
         memory: &mut M,
     ) -> Stepped<RecoveryPoint, Report> {
         let RecoveryLoadRemove {
@@ -322,9 +322,9 @@ impl Resume for RecoveryLoadEntryNode {
 
     ghost point = { RecoveryLoadEntryNode };
 
-    fn step<L: Layout, M: WordMemory>(
+    fn step<M: WordMemory>(
         self,
-        layout: &L,
+        layout: &Layout,
         memory: &mut M,
     ) -> Stepped<RecoveryPoint, Report> {
         let RecoveryLoadEntryNode {
@@ -364,9 +364,9 @@ impl Resume for RecoveryLoadRemovedItem {
 
     ghost point = { RecoveryLoadRemovedItem };
 
-    fn step<L: Layout, M: WordMemory>(
+    fn step<M: WordMemory>(
         self,
-        layout: &L,
+        layout: &Layout,
         memory: &mut M,
     ) -> Stepped<RecoveryPoint, Report> {
         let RecoveryLoadRemovedItem {

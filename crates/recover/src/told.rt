@@ -18,7 +18,7 @@ use words::{
     Client, Kind, MAX_CLIENTS, NodeId, Outcome, Reply, Reports, Row, Token, Told, Value, Verdict,
 };
 
-impl<L: Layout, W: KeptWords> KeptQueue<'_, L, W> {
+impl<W: KeptWords> KeptQueue<'_, W> {
     /// Notes the node for the client that announced its record last, if one did.
     fn note_node(&self, node: u32, on_chain: &mut [bool; MAX_CLIENTS])
         requires sound { IsSound self.now.shape (kept_of self.now) }
@@ -165,9 +165,9 @@ impl<L: Layout, W: KeptWords> KeptQueue<'_, L, W> {
 
 /// What kept words tell each client, as recovery would. It walks the chain once for all clients, so its cost is
 /// linear in the chain and the clients; it takes no memory but for two short rows on the stack.
-pub fn tells<L: Layout, W: KeptWords>(layout: &L, words: &W) -> Reports
-    requires { AreSoundWords (L.shape layout.now) (W.kept_words words.now) }
-    ensures { result ≡ tells_by (L.shape layout.now) (kept_in (L.shape layout.now) (W.kept_words words.now)) }
+pub fn tells<W: KeptWords>(layout: &Layout, words: &W) -> Reports
+    requires { AreSoundWords layout.now (W.kept_words words.now) }
+    ensures { result ≡ tells_by layout.now (kept_in layout.now (W.kept_words words.now)) }
 {
     KeptQueue::new(layout, words).reports()
 }

@@ -17,7 +17,7 @@ use Rattle.named.specs.Stopping.{IsQueueOn, IsRecoveryStep}
 use Rattle.named.specs.declared.recovery.BrokerRecovery.{BrokerRecovery}
 use Rattle.named.specs.declared.recovery.BrokerRecovery.TheVariants.{ReadDirectory, RecoverQueue}
 use Rattle.named.specs.declared.slot.Slot.{Slot}
-use Rattle.named.specs.declared.slot.Slot.TheVariants.{Closed, Durable, Log}
+use Rattle.named.specs.declared.slot.Slot.TheVariants.{Closed, Open}
 use Rattle.named.proofs.Begun.{listed_open}
 use Rattle.named.proofs.Queues.{its_queue}
 use Rattle.session.proofs.Worlds.{none_some}
@@ -26,10 +26,7 @@ use Rattle.session.proofs.Worlds.{none_some}
 recovers_in : (ws : Words) (slot : Slot) (w : State) → IsReadyIn false slot → world_in ws slot ≡ Some w
     → is_some w.recovery ≡ true
 recovers_in ws Closed w down e = absurd (none_some e)
-recovers_in ws (Durable block) w down e =
-    let same : state_in ws block ≡ w = cc (e) in
-    ap (λ (x : State). is_some x.recovery) (sym same) ∙ down
-recovers_in ws (Log block) w down e =
+recovers_in ws (Open block) w down e =
     let same : state_in ws block ≡ w = cc (e) in
     ap (λ (x : State). is_some x.recovery) (sym same) ∙ down
 

@@ -25,7 +25,7 @@ use Rattle.named.specs.Rotating.{IsQuietIn, IsRotated, has_calls_in, rotate_resu
 use Rattle.named.specs.Slots.{acted, world_in}
 use Rattle.named.specs.declared.recovery.BrokerRecovery.{BrokerRecovery}
 use Rattle.named.specs.declared.slot.Slot.{Slot}
-use Rattle.named.specs.declared.slot.Slot.TheVariants.{Closed, Durable, Log}
+use Rattle.named.specs.declared.slot.Slot.TheVariants.{Closed, Open}
 use Rattle.named.proofs.Opened.{closed_where_free, is_free}
 use Rattle.named.proofs.Rotated.{all_quiet, may_rotate}
 use Rattle.session.specs.Sessions.{IsRight, IsSlotRight, Sessioned, is_up, kept_in}
@@ -52,10 +52,7 @@ up_rotates b rotates =
 quiet_world : (ws : Words) (slot : Slot) (w : State) → IsQuietIn slot → world_in ws slot ≡ Some w
     → rotate_world false w ≡ Ok tt
 quiet_world ws Closed w is e = absurd (none_some e)
-quiet_world ws (Durable block) w is e =
-    let same : state_in ws block ≡ w = cc (e) in
-    subst (λ (v : State). rotate_world false v ≡ Ok tt) same (may_rotate false ws block is.0 is.1)
-quiet_world ws (Log block) w is e =
+quiet_world ws (Open block) w is e =
     let same : state_in ws block ≡ w = cc (e) in
     subst (λ (v : State). rotate_world false v ≡ Ok tt) same (may_rotate false ws block is.0 is.1)
 

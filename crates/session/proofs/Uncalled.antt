@@ -30,7 +30,7 @@ use Rattle.named.specs.Stopping.{IsFound, IsFoundFirst, IsFoundIn, IsQueueRecove
 use Rattle.named.specs.declared.recovery.BrokerRecovery.{BrokerRecovery}
 use Rattle.named.specs.declared.recovery.BrokerRecovery.TheVariants.{ReadDirectory, RecoverQueue}
 use Rattle.named.specs.declared.slot.Slot.{Slot}
-use Rattle.named.specs.declared.slot.Slot.TheVariants.{Closed, Durable, Log}
+use Rattle.named.specs.declared.slot.Slot.TheVariants.{Closed, Open}
 use Rattle.named.proofs.Stays.{evict_alike}
 use Rattle.session.specs.Sessions.{HasDurableQueue, IsUncalled}
 use Rattle.session.proofs.Queueing.{world_at_rest}
@@ -193,11 +193,10 @@ not_log b slot well durable w here log = go (slice_get b.slots slot) refl here
   where
     by_slot : (s : Slot) → IsSlotAt b.counts b.words slot s → kind_in s ≡ Some durable_kind → world_in b.words s ≡ Some w → ⊥
     by_slot Closed at kind there = none_some there
-    by_slot (Durable block) at kind there =
+    by_slot (Open block) at kind there =
         let same : w.shape ≡ block.core.shape = cc (there) in
-        let kinds : log_kind ≡ durable_kind = sym log ∙ ap (λ (x : Shape). x.kind) (same ∙ at.shape) in
-        absurd (cc (kinds))
-    by_slot (Log block) at kind there = absurd (cc (kind))
+        let kinds : log_kind ≡ block.core.shape.kind = sym log ∙ ap (λ (x : Shape). x.kind) same in
+        absurd (cc (kinds, kind))
 
     go : (o : Option Slot) → slice_get b.slots slot ≡ o → world_of b.words o ≡ Some w → ⊥
     go None e there = none_some there

@@ -15,7 +15,7 @@ use Rattle.named.specs.Brokers.{Brokered, IsSlotAt, IsWell, is_ready_at, quiet, 
 use Rattle.named.specs.Slots.{IsReadyIn, world_in}
 use Rattle.named.specs.declared.recovery.BrokerRecovery.{BrokerRecovery}
 use Rattle.named.specs.declared.slot.Slot.{Slot}
-use Rattle.named.specs.declared.slot.Slot.TheVariants.{Closed, Durable, Log}
+use Rattle.named.specs.declared.slot.Slot.TheVariants.{Closed, Open}
 use Rattle.named.proofs.GoingOn.{world_holds}
 use Rattle.session.specs.Sessions.{IsLogClient}
 
@@ -25,9 +25,7 @@ none_some e = cc
 -- a ready slot's world is ready
 up_in : (ws : Words) (slot : Slot) (w : State) → IsReadyIn true slot → world_in ws slot ≡ Some w → w.recovery ≡ None
 up_in ws Closed w ready e = absurd (cc)
-up_in ws (Durable block) w ready e =
-    let same : w.recovery ≡ block.core.trace.recovery = cc in same ∙ is_none block.core.trace.recovery ready
-up_in ws (Log block) w ready e =
+up_in ws (Open block) w ready e =
     let same : w.recovery ≡ block.core.trace.recovery = cc in same ∙ is_none block.core.trace.recovery ready
 
 module _ (b : Brokered) (well : IsWell b) (slot : ℕ) (w : State) (here : world_at b slot ≡ Some w) where
@@ -61,10 +59,7 @@ module _ (b : Brokered) (well : IsWell b) (slot : ℕ) (w : State) (here : world
       by_slot : (s : Slot) → IsSlotAt b.counts b.words slot s → world_in b.words s ≡ Some w
           → w.shape.clients ≡ b.counts.clients
       by_slot Closed at there = absurd (none_some there)
-      by_slot (Durable block) at there =
-          let same : w.shape ≡ block.core.shape = cc (there) in
-          ap (λ (x : Shape). x.clients) (same ∙ at.shape)
-      by_slot (Log block) at there =
+      by_slot (Open block) at there =
           let same : w.shape ≡ block.core.shape = cc (there) in
           ap (λ (x : Shape). x.clients) (same ∙ at.shape)
 

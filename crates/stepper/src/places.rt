@@ -16,13 +16,13 @@ use words::MAX_RECORD_NUMBER;
 
 /// Loads the word of a place.
 #[inline(always)]
-pub fn load_at<L: Layout, M: WordMemory>(layout: &L, memory: &mut M, place: Place) -> u64
-    requires place { IsPlace (L.shape layout.now) place }
-    requires room { size_of (L.shape layout.now) ≤ length (M.words memory.old).cached }
-    ensures value { result ≡ slice_index (M.words memory.old).cached (word_at (L.shape layout.now) place) }
-    ensures one_access { M.words memory.new ≡ after_one (L.shape layout.now) (Load place) (M.words memory.old) }
+pub fn load_at<M: WordMemory>(layout: &Layout, memory: &mut M, place: Place) -> u64
+    requires place { IsPlace layout.now place }
+    requires room { size_of layout.now ≤ length (M.words memory.old).cached }
+    ensures value { result ≡ slice_index (M.words memory.old).cached (word_at layout.now place) }
+    ensures one_access { M.words memory.new ≡ after_one layout.now (Load place) (M.words memory.old) }
     ensures lent { M.lent memory.new ≡ M.lent memory.old }
-    ensures few { greatest (L.shape layout.now) ≤ MAX_RECORD_NUMBER }
+    ensures few { greatest layout.now ≤ MAX_RECORD_NUMBER }
 {
     let word = layout.word(place);
     memory.load(word).unwrap()
@@ -30,11 +30,11 @@ pub fn load_at<L: Layout, M: WordMemory>(layout: &L, memory: &mut M, place: Plac
 
 /// Makes a write.
 #[inline(always)]
-pub fn store_at<L: Layout, M: WordMemory>(layout: &L, memory: &mut M, write: Write)
-    requires place { IsPlace (L.shape layout.now) write.place }
-    requires room { size_of (L.shape layout.now) ≤ length (M.words memory.old).cached }
+pub fn store_at<M: WordMemory>(layout: &Layout, memory: &mut M, write: Write)
+    requires place { IsPlace layout.now write.place }
+    requires room { size_of layout.now ≤ length (M.words memory.old).cached }
     ensures one_access { M.words memory.new
-        ≡ after_one (L.shape layout.now) (Store write.place write.value) (M.words memory.old) }
+        ≡ after_one layout.now (Store write.place write.value) (M.words memory.old) }
     ensures lent { M.lent memory.new ≡ M.lent memory.old }
 {
     let word = layout.word(write.place);
@@ -43,14 +43,14 @@ pub fn store_at<L: Layout, M: WordMemory>(layout: &L, memory: &mut M, write: Wri
 
 /// Makes a write where the place has this old value.
 #[inline(always)]
-pub fn cas_at<L: Layout, M: WordMemory>(layout: &L, memory: &mut M, old: u64, write: Write) -> Swap
-    requires place { IsPlace (L.shape layout.now) write.place }
-    requires room { size_of (L.shape layout.now) ≤ length (M.words memory.old).cached }
-    ensures swap { result ≡ swap_of (M.words memory.old) (word_at (L.shape layout.now) write.place) old }
+pub fn cas_at<M: WordMemory>(layout: &Layout, memory: &mut M, old: u64, write: Write) -> Swap
+    requires place { IsPlace layout.now write.place }
+    requires room { size_of layout.now ≤ length (M.words memory.old).cached }
+    ensures swap { result ≡ swap_of (M.words memory.old) (word_at layout.now write.place) old }
     ensures one_access { M.words memory.new
-        ≡ after_one (L.shape layout.now) (Cas write.place old write.value) (M.words memory.old) }
+        ≡ after_one layout.now (Cas write.place old write.value) (M.words memory.old) }
     ensures lent { M.lent memory.new ≡ M.lent memory.old }
-    ensures few { greatest (L.shape layout.now) ≤ MAX_RECORD_NUMBER }
+    ensures few { greatest layout.now ≤ MAX_RECORD_NUMBER }
 {
     let word = layout.word(write.place);
     memory.cas(word, old, write.value).unwrap()
@@ -58,11 +58,11 @@ pub fn cas_at<L: Layout, M: WordMemory>(layout: &L, memory: &mut M, old: u64, wr
 
 /// Asks that a place's word be kept.
 #[inline(always)]
-pub fn flush_at<L: Layout, M: WordMemory>(layout: &L, memory: &mut M, place: Place)
-    requires place { IsPlace (L.shape layout.now) place }
-    requires room { size_of (L.shape layout.now) ≤ length (M.words memory.old).cached }
-    ensures one_access { M.words memory.new ≡ after_one (L.shape layout.now) (Flush place) (M.words memory.old) }
-    ensures lent { M.lent memory.new ≡ lent_after_one (L.shape layout.now) (Flush place) (M.lent memory.old) }
+pub fn flush_at<M: WordMemory>(layout: &Layout, memory: &mut M, place: Place)
+    requires place { IsPlace layout.now place }
+    requires room { size_of layout.now ≤ length (M.words memory.old).cached }
+    ensures one_access { M.words memory.new ≡ after_one layout.now (Flush place) (M.words memory.old) }
+    ensures lent { M.lent memory.new ≡ lent_after_one layout.now (Flush place) (M.lent memory.old) }
 {
     let word = layout.word(place);
     memory.flush(word).unwrap()
@@ -70,15 +70,15 @@ pub fn flush_at<L: Layout, M: WordMemory>(layout: &L, memory: &mut M, place: Pla
 
 /// Keeps the cached value of a place's word, which was asked for. It answers the change, where the kept value changed.
 #[inline(always)]
-pub fn fence_at<L: Layout, M: WordMemory>(
-    layout: &L,
+pub fn fence_at<M: WordMemory>(
+    layout: &Layout,
     memory: &mut M,
     place: Place,
 ) -> Option<Change>
-    requires asked { (M.lent memory.old).request ≡ Word (word_at (L.shape layout.now) place) }
-    ensures change { result ≡ change_of (M.words memory.old) (word_at (L.shape layout.now) place) }
-    ensures one_access { M.words memory.new ≡ after_one (L.shape layout.now) (Fence place) (M.words memory.old) }
-    ensures lent { M.lent memory.new ≡ lent_after_one (L.shape layout.now) (Fence place) (M.lent memory.old) }
+    requires asked { (M.lent memory.old).request ≡ Word (word_at layout.now place) }
+    ensures change { result ≡ change_of (M.words memory.old) (word_at layout.now place) }
+    ensures one_access { M.words memory.new ≡ after_one layout.now (Fence place) (M.words memory.old) }
+    ensures lent { M.lent memory.new ≡ lent_after_one layout.now (Fence place) (M.lent memory.old) }
 {
     memory.fence().unwrap()
 }

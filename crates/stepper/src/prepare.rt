@@ -208,9 +208,9 @@ impl Resume for PrepareStore {
 
     ghost point = { Store };
 
-    fn step<L: Layout, M: WordMemory>(
+    fn step<M: WordMemory>(
         self,
-        layout: &L,
+        layout: &Layout,
         memory: &mut M,
     ) -> Stepped<Prepare, Prepared> {
         let PrepareStore {
@@ -234,9 +234,9 @@ impl Resume for PrepareFlush {
 
     ghost point = { Flush };
 
-    fn step<L: Layout, M: WordMemory>(
+    fn step<M: WordMemory>(
         self,
-        layout: &L,
+        layout: &Layout,
         memory: &mut M,
     ) -> Stepped<Prepare, Prepared> {
         let PrepareFlush {
@@ -260,9 +260,9 @@ impl Resume for PrepareFence {
 
     ghost point = { Fence };
 
-    fn step<L: Layout, M: WordMemory>(
+    fn step<M: WordMemory>(
         self,
-        layout: &L,
+        layout: &Layout,
         memory: &mut M,
     ) -> Stepped<Prepare, Prepared> {
         let PrepareFence {

@@ -69,23 +69,23 @@ pub trait Resume {
     ghost point: { Self → Self.Point };
 
     /// Makes exactly one access, and answers what comes next.
-    fn step<L: Layout, M: WordMemory>(
+    fn step<M: WordMemory>(
         self,
-        layout: &L,
+        layout: &Layout,
         memory: &mut M,
     ) -> Stepped<Self::Point, <Self::Point as Points>::Answer>
-        requires room { size_of (L.shape layout.now) ≤ length (M.words memory.old).cached }
-        requires point { Self.Point.in_range (L.shape layout.now) (point self) }
-        requires read { let s = L.shape layout.now in let access = Self.Point.access s.kind (point self) in
+        requires room { size_of layout.now ≤ length (M.words memory.old).cached }
+        requires point { Self.Point.in_range layout.now (point self) }
+        requires read { let s = layout.now in let access = Self.Point.access s.kind (point self) in
             IsReadInRange s access (value_found s access (M.words memory.old)) }
-        requires asked { let s = L.shape layout.now in
+        requires asked { let s = layout.now in
             IsAskedFor s (Self.Point.access s.kind (point self)) (M.lent memory.old).request }
-        ensures one_access { let s = L.shape layout.now in
+        ensures one_access { let s = layout.now in
             M.words memory.new ≡ after_one s (Self.Point.access s.kind (point self)) (M.words memory.old) }
-        ensures lent { let s = L.shape layout.now in
+        ensures lent { let s = layout.now in
             M.lent memory.new ≡ lent_after_one s (Self.Point.access s.kind (point self)) (M.lent memory.old) }
-        ensures next { let s = L.shape layout.now in let access = Self.Point.access s.kind (point self) in
+        ensures next { let s = layout.now in let access = Self.Point.access s.kind (point self) in
             result.after ≡ Self.Point.successor s (point self) (value_found s access (M.words memory.old)) }
-        ensures change { let s = L.shape layout.now in
+        ensures change { let s = layout.now in
             result.change ≡ change_by s (Self.Point.access s.kind (point self)) (M.words memory.old) };
 }

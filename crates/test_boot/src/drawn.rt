@@ -1,6 +1,6 @@
 //! Drawn acts with crashes and recovery: the order explains what happened, and the queue holds what its replay leaves.
 
-use arena::{DurableLayout, Layout, LogLayout};
+use arena::Layout;
 use history::{Event, check_content};
 use interleave::{Act, World};
 use persist::Memory;
@@ -9,7 +9,7 @@ use rand_pcg::Pcg32;
 use std::alloc::Global;
 use std::test::Fail;
 use test_support::{index_below, item};
-use words::{Call, Client, Refusal};
+use words::{Call, Client, Kind, Refusal};
 
 /// How many acts a world is drawn.
 const ACTS: usize = 600;
@@ -45,9 +45,9 @@ fn act(rng: &mut Pcg32, clients: usize, words: usize, number: u64, down: bool) -
 }
 
 /// Whether the order explains the history, and the queue holds what its replay leaves.
-pub(crate) fn is_explained<L: Layout + Drop>(
+pub(crate) fn is_explained(
     alloc: Global,
-    world: &World<L>,
+    world: &World,
 ) -> Result<bool, Refusal> {
     check_content(alloc, world.history(), &world.order()?, &world.content()?)
 }
@@ -58,14 +58,14 @@ fn copy(alloc: Global, memory: &Memory) -> Result<Memory, Refusal> {
 }
 
 /// Whether a world begins with what a stopped one holds.
-fn begins_with<L: Layout + Drop>(old: &World<L>, new: &World<L>) -> Result<bool, Refusal> {
+fn begins_with(old: &World, new: &World) -> Result<bool, Refusal> {
     let held = old.content()?;
     let same = new.content()?.as_slice() == held.as_slice();
     Ok(same && new.history().base.as_slice() == held.as_slice())
 }
 
 /// How often the queue became ready again.
-fn recoveries<L: Layout + Drop>(world: &World<L>) -> usize {
+fn recoveries(world: &World) -> usize {
     let mut count = 0usize;
     let events = &world.history().events;
     for place in 0..events.len() {
@@ -78,9 +78,9 @@ fn recoveries<L: Layout + Drop>(world: &World<L>) -> usize {
 
 /// So many drawn acts happen, whose calls have greater numbers than this, and it answers whether all is explained
 /// after every hundredth of them.
-pub(crate) fn happen<L: Layout + Drop>(
+pub(crate) fn happen(
     alloc: Global,
-    world: &mut World<L>,
+    world: &mut World,
     rng: &mut Pcg32,
     above: usize,
 ) -> Result<bool, Refusal> {
@@ -100,16 +100,11 @@ pub(crate) fn happen<L: Layout + Drop>(
 
 /// Drawn acts in a new world, and then in one that begins on what that one keeps: how often both recovered, if all is
 /// explained, and the second begins with what the first one holds.
-fn drawn<L: Layout + Drop>(
-    alloc: Global,
-    first: L,
-    second: L,
-    draw: u64,
-) -> Result<Option<usize>, Refusal> {
+fn drawn(alloc: Global, layout: Layout, draw: u64) -> Result<Option<usize>, Refusal> {
     let mut rng = Pcg32::new(draw, 11);
-    let mut old = World::make(alloc, first)?;
+    let mut old = World::make(alloc, layout)?;
     let mut right = happen(alloc, &mut old, &mut rng, 0)?;
-    let mut new = World::boot(alloc, second, copy(alloc, old.memory())?)?;
+    let mut new = World::boot(alloc, layout, copy(alloc, old.memory())?)?;
     right &= begins_with(&old, &new)?;
     right &= happen(alloc, &mut new, &mut rng, ACTS)?;
     if !right {
@@ -121,10 +116,8 @@ fn drawn<L: Layout + Drop>(
 /// How often the worlds of both kinds of this draw recovered.
 fn drawn_on_both(alloc: Global, draw: u64) -> Result<Option<usize>, Refusal> {
     let clients = (draw % 4) as u32 + 1;
-    let layout = DurableLayout::make(clients, 20)?;
-    let durable = drawn(alloc, layout, layout, draw)?;
-    let layout = LogLayout::make(clients, 20)?;
-    let log = drawn(alloc, layout, layout, draw)?;
+    let durable = drawn(alloc, Layout::make(Kind::Durable, clients, 20)?, draw)?;
+    let log = drawn(alloc, Layout::make(Kind::Log, clients, 20)?, draw)?;
     Ok(match (durable, log) {
         (Some(one), Some(other)) => Some(one.saturating_add(other)),
         _ => None,

@@ -1,18 +1,18 @@
 //! Drawn acts with rotations between: each history begins with what the one before left, and its order explains it.
 
 use crate::drawn::{happen, is_explained};
-use arena::{DurableLayout, Layout, LogLayout};
+use arena::Layout;
 use interleave::World;
 use rand_pcg::Pcg32;
 use std::alloc::Global;
 use std::test::Fail;
-use words::{Client, Refusal};
+use words::{Client, Kind, Refusal};
 
 /// How many histories a world has.
 const HISTORIES: usize = 3;
 
 /// Recovery goes on to its end, if it is under way.
-fn recover<L: Layout + Drop>(world: &mut World<L>) -> Result<(), Refusal> {
+fn recover(world: &mut World) -> Result<(), Refusal> {
     for _ in 0..1_000 {
         match world.recover_step() {
             Ok(_) => {}
@@ -24,7 +24,7 @@ fn recover<L: Layout + Drop>(world: &mut World<L>) -> Result<(), Refusal> {
 }
 
 /// Each call that is under way is answered.
-fn answer_all<L: Layout + Drop>(world: &mut World<L>) -> Result<(), Refusal> {
+fn answer_all(world: &mut World) -> Result<(), Refusal> {
     for client in 0..16 {
         match world.run_alone(Client(client)) {
             Ok(_) | Err(Refusal::Idle) => {}
@@ -36,7 +36,7 @@ fn answer_all<L: Layout + Drop>(world: &mut World<L>) -> Result<(), Refusal> {
 }
 
 /// The world comes to rest, and its history begins anew: whether the next begins with what the queue holds.
-fn rotate<L: Layout + Drop>(alloc: Global, world: &mut World<L>) -> Result<bool, Refusal> {
+fn rotate(alloc: Global, world: &mut World) -> Result<bool, Refusal> {
     recover(world)?;
     answer_all(world)?;
     let explained = is_explained(alloc, world)?;
@@ -48,7 +48,7 @@ fn rotate<L: Layout + Drop>(alloc: Global, world: &mut World<L>) -> Result<bool,
 }
 
 /// Whether all is explained in each of a world's histories.
-fn goes_right<L: Layout + Drop>(alloc: Global, layout: L, draw: u64) -> Result<bool, Refusal> {
+fn goes_right(alloc: Global, layout: Layout, draw: u64) -> Result<bool, Refusal> {
     let mut rng = Pcg32::new(draw, 12);
     let mut world = World::make(alloc, layout)?;
     let mut right = true;
@@ -63,12 +63,11 @@ fn goes_right<L: Layout + Drop>(alloc: Global, layout: L, draw: u64) -> Result<b
 fn histories_follow_one_another(rt: HostRuntime) -> Result<(), Fail> {
     for draw in 0..8 {
         let clients = (draw % 4) as u32 + 1;
-        let layout = DurableLayout::make(clients, 30);
-        let durable = layout.and_then(|layout| goes_right(rt.alloc(), layout, draw));
-        assert!(rt; durable == Ok(true));
-        let layout = LogLayout::make(clients, 30);
-        let log = layout.and_then(|layout| goes_right(rt.alloc(), layout, draw));
-        assert!(rt; log == Ok(true));
+        for kind in [Kind::Durable, Kind::Log] {
+            let layout = Layout::make(kind, clients, 30);
+            let right = layout.and_then(|layout| goes_right(rt.alloc(), layout, draw));
+            assert!(rt; right == Ok(true));
+        }
     }
     Ok(())
 }

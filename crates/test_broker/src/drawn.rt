@@ -2,7 +2,7 @@
 //! of that leaves.
 
 use crate::acts::{effects, has_open_gate, kept};
-use arena::{BrokerLayout, Layout, SLOTS, SlotId};
+use arena::{BrokerLayout, SLOTS, SlotId};
 use directory::Places;
 use named::Broker;
 use rand_core::Rng;
@@ -85,7 +85,7 @@ fn act(
     layout: &BrokerLayout,
     number: u64,
 ) -> Result<(), Refusal> {
-    let client = Client(below(rng, layout.durable().clients()).min(15) as u8);
+    let client = Client(below(rng, layout.clients()).min(15) as u8);
     let down = broker.list().is_err();
     match below(rng, 128) {
         0 => broker.crash(),

@@ -2,7 +2,6 @@
 
 use crate::again::{Answer, Subject};
 use crate::memories::write_words;
-use arena::Layout;
 use history::History;
 use interleave::World;
 use std::fmt::Write;
@@ -77,14 +76,14 @@ pub(crate) fn write_history(history: &History, text: &mut String) -> Result<(), 
 }
 
 /// Makes the act by a list of it alone. A list's act that is refused memory is passed over.
-fn run<L: Layout + Drop>(world: &mut World<L>, act: interleave::Act) -> Result<Answer, Refusal> {
+fn run(world: &mut World, act: interleave::Act) -> Result<Answer, Refusal> {
     if world.run(&[act]).taken == 0 {
         return Err(Refusal::NoMemory);
     }
     Ok(Answer::Done)
 }
 
-impl<L: Layout + Drop> Subject for World<L> {
+impl Subject for World {
     type Act = Act;
 
     fn call(act: Act) -> &'static str {

@@ -100,10 +100,7 @@ fn is_sound_block(
     requires { slot < SLOTS }
 {
     let block = memory.view(layout.block(SlotId(slot)), layout.block_size())?;
-    match kind {
-        Kind::Durable => sound(&layout.durable(), &block),
-        Kind::Log => sound(&layout.log(), &block),
-    }
+    sound(&layout.queue(kind), &block)
 }
 
 /// What the words are refused with by those who look at the directory and at each block.

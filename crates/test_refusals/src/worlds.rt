@@ -1,13 +1,13 @@
 //! Worlds of both kinds of queue.
 
 use anyhow::Result;
-use arena::{DurableLayout, Layout, LogLayout};
+use arena::Layout;
 use interleave::World;
 use persist::Memory;
 use test_growths::worlds::{Act, Listed};
 use test_growths::{MOST_TRIES, made, play, say_again};
 use test_support::Wish;
-use words::{Client, Refusal};
+use words::{Client, Kind, Refusal};
 
 static STORY: [(u32, Act); 42] = [
     (1, Act::Start(0, 1, Wish::Enq(7))),
@@ -84,11 +84,11 @@ static BOOTED_STORY: [(u32, Act); 4] = [
 ];
 
 /// A world that begins on what an image keeps.
-fn booted<L: Layout + Drop + Copy, R: Print + AllocGlobal>(
+fn booted<R: Print + AllocGlobal>(
     rt: &R,
-    layout: L,
+    layout: Layout,
     image: &[u8],
-) -> Result<World<L>> {
+) -> Result<World> {
     let alloc = rt.alloc();
     for _ in 0..MOST_TRIES {
         let memory = made(
@@ -106,7 +106,7 @@ fn booted<L: Layout + Drop + Copy, R: Print + AllocGlobal>(
 }
 
 /// A world with this layout, one that begins on what it keeps, and another one.
-fn tell_of<L: Layout + Drop + Copy, R: Print + AllocGlobal>(rt: &R, layout: L) -> Result<()> {
+fn tell_of<R: Print + AllocGlobal>(rt: &R, layout: Layout) -> Result<()> {
     let alloc = rt.alloc();
     let mut world = made(rt, "World::make", || World::make(alloc, layout))?;
     play(rt, &mut world, &STORY)?;
@@ -122,7 +122,7 @@ fn tell_of<L: Layout + Drop + Copy, R: Print + AllocGlobal>(rt: &R, layout: L) -
 /// Worlds of both kinds.
 pub(crate) fn tell<R: Print + AllocGlobal>(rt: &R) -> Result<()> {
     println!(rt; "# A world of a durable queue")?;
-    tell_of(rt, DurableLayout::make(2, 6)?)?;
+    tell_of(rt, Layout::make(Kind::Durable, 2, 6)?)?;
     println!(rt; "# A world of a log queue")?;
-    tell_of(rt, LogLayout::make(2, 6)?)
+    tell_of(rt, Layout::make(Kind::Log, 2, 6)?)
 }

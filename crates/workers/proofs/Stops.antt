@@ -35,7 +35,7 @@ use Rattle.named.specs.Stopping.{found_by}
 use Rattle.named.specs.declared.recovery.BrokerRecovery.{BrokerRecovery}
 use Rattle.named.specs.declared.recovery.BrokerRecovery.TheVariants.{ReadDirectory, RecoverQueue}
 use Rattle.named.specs.declared.slot.Slot.{Slot}
-use Rattle.named.specs.declared.slot.Slot.TheVariants.{Closed, Durable, Log}
+use Rattle.named.specs.declared.slot.Slot.TheVariants.{Closed, Open}
 use Rattle.named.proofs.GoingOn.{world_holds}
 use Rattle.named.proofs.Opened.{is_free}
 use Rattle.session.specs.Promises.{KeepsNumbers}
@@ -56,8 +56,7 @@ created_carried old new others =
 -- a slot that is free in the directory has no world
 none_in : (ws : Words) (slot : Slot) → kind_in slot ≡ None → world_in ws slot ≡ None
 none_in ws Closed e = refl
-none_in ws (Durable block) e = absurd (cc (e))
-none_in ws (Log block) e = absurd (cc (e))
+none_in ws (Open block) e = absurd (cc (e))
 
 none_there : (b : Brokered) (slot : ℕ) → IsWell b → IsFree b.directory slot → world_at b slot ≡ None
 none_there b slot well free = go (slice_get b.slots slot) refl

@@ -4,21 +4,21 @@ use Rattle.explore.proofs.InOrder.{stays, none_taken}
 use Rattle.explore.proofs.attempts.repeat.Goals as goal
 
 pub returns-then-not-branch-clause-world : goal.returns-then-not-branch-clause-world
-returns-then-not-branch-clause-world g c =
+returns-then-not-branch-clause-world c =
     let w : State = c.loop-taken.world.now in
     let refused : is_accepted w c.args.act.now ≡ false = sym c.in_ok-attempt.ensures.accepted ∙ c.if-not-branch.true in
     c.in_ok-attempt.ensures.world ∙ c.requires w refused
     ∙ sym (stays (c.args.most - c.loop-taken.taken) w c.args.act.now c.requires refused) ∙ c.loop-taken.invariant.leads
 
 pub returns-then-not-branch-clause-accepted : goal.returns-then-not-branch-clause-accepted
-returns-then-not-branch-clause-accepted g c =
+returns-then-not-branch-clause-accepted c =
     let w : State = c.loop-taken.world.now in
     let refused : is_accepted w c.args.act.now ≡ false = sym c.in_ok-attempt.ensures.accepted ∙ c.if-not-branch.true in
     let none = none_taken (c.args.most - c.loop-taken.taken) w c.args.act.now c.requires refused in
     omega (arith, none, c.loop-taken.invariant.counts)
 
 pub loop-taken-preserved : goal.loop-taken-preserved
-loop-taken-preserved g c =
+loop-taken-preserved c =
     let w : State = c.loop-taken.world.now in
     let rest : ℕ = c.args.most - (c.loop-taken.taken + 1) in
     let left : c.args.most - c.loop-taken.taken ≡ suc rest = omega (arith, c.loop-taken-test.true) in

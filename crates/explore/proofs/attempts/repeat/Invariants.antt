@@ -4,7 +4,7 @@ use Rattle.explore.proofs.attempts.repeat.Given as goal
 
 -- the attempts that are left lead where all of them do, and as many of them are accepted
 abbrev pub invariant-loop-taken : goal.invariant-loop-taken
-invariant-loop-taken g l =
+invariant-loop-taken l =
     record {
       leads :
           after_acts l.world.now (replicate (l.most - l.taken) l.act)

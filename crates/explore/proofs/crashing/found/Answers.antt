@@ -5,7 +5,7 @@ use Rattle.explore.proofs.Explained.{AreOf, explained, left, found_is}
 use Rattle.explore.proofs.crashing.found.Goals as goal
 
 pub returns-clause-found : goal.returns-clause-found
-returns-clause-found g c =
+returns-clause-found c =
     let w : State = c.args.world.now.now in
     let h = c.history.result.now in
     let o = c.in_ok-order.field-0 in

@@ -6,7 +6,7 @@ use Rattle.explore.specs.Transcript.{told_at}
 use Rattle.explore.proofs.crashing.reports.Goals as goal
 
 pub loop-number-preserved : goal.loop-number-preserved
-loop-number-preserved g c =
+loop-number-preserved c =
     let told = c.loop-number.told in
     let n = c.loop-number.number in
     let w = c.args.world.now.now in

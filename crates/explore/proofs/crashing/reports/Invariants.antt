@@ -6,7 +6,7 @@ use Rattle.explore.proofs.crashing.reports.Given as goal
 
 -- the clients so far are told
 abbrev pub invariant-loop-number : goal.invariant-loop-number
-invariant-loop-number g l =
+invariant-loop-number l =
     record {
       all : length l.told ≡ MAX_CLIENTS;
       told : take l.number l.told ≡ map (told_at l.world.now) (range_with_len 0 l.number);

@@ -8,7 +8,7 @@ use Rattle.explore.proofs.evictions.evict_drawn.Goals as goal
 use Rattle.explore.proofs.evictions.evict_drawn.Goals.{then-next_word-eq1, else-next_word-eq1}
 
 pub loop-word-preserved : goal.loop-word-preserved
-loop-word-preserved g c =
+loop-word-preserved c =
     let w : State = c.loop-word.world.now in
     let v : State = c.if-next_word-eq1.world.now in
     let word : ℕ = c.loop-word.word in

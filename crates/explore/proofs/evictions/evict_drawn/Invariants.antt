@@ -6,6 +6,6 @@ use Rattle.explore.proofs.evictions.evict_drawn.Given as goal
 
 -- the draws that are left lead where all of them do
 abbrev pub invariant-loop-word : goal.invariant-loop-word
-invariant-loop-word g l =
+invariant-loop-word l =
     after_acts l.world.now (map Evict (drawn_words (l.words - l.word) l.word l.draws))
     ≡ after_acts l.fn.world.now (map Evict (drawn_words l.words 0 l.fn.draws))

@@ -7,14 +7,14 @@ use Rattle.explore.proofs.recording.follow.Goals as goal
 
 pub returns-in-End-clause-world : goal.returns-in-End-clause-world
 unfolding most_alone
-returns-in-End-clause-world g c =
+returns-in-End-clause-world c =
     let w = c.args.world.now.now in
     on_ok_weaker c.some-in-End.result (λ leads.
     leads ∙ ap (λ command. after_acts w (attempts_of w.shape command)) (sym c.in-End.is)) c.some-in-End.ensures.world
 
 pub returns-in-End-clause-acts : goal.returns-in-End-clause-acts
 unfolding most_alone
-returns-in-End-clause-acts g c =
+returns-in-End-clause-acts c =
     let w = c.args.world.now.now in
     on_ok_weaker c.some-in-End.result (λ gives.
     gives ∙ ap (λ command. c.args.acts.now.items ++ accepted_of w (attempts_of w.shape command)) (sym c.in-End.is))

@@ -4,7 +4,7 @@ use Rattle.explore.proofs.InOrder.{accepted_again}
 use Rattle.explore.proofs.recording.some.Goals as goal
 
 pub returns-clause-acts : goal.returns-clause-acts
-returns-clause-acts g c =
+returns-clause-acts c =
     let old = c.args.acts.now.items in
     on_ok_weaker c.push_all.result (λ added.
     added ∙ ap (λ n. old ++ replicate n c.args.act.now) c.in_ok-times.ensures.accepted

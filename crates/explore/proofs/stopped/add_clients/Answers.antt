@@ -10,9 +10,9 @@ use Rattle.explore.proofs.stopped.add_clients.Goals as goal
 use Rattle.explore.proofs.stopped.add_clients.Goals.{then-branch+in_ok-world-2, else-branch}
 
 pub loop-number-preserved : goal.loop-number-preserved
-loop-number-preserved g c =
+loop-number-preserved c =
     let acts = c.args.acts.now in
-    let w : State = after_acts (new_world (g.L.Layout.shape c.args.layout)) acts in
+    let w : State = after_acts (new_world c.args.layout) acts in
     let f : ℕ → List Alone = λ number. answer_alone (length acts) 0 most_alone w (record { 0 = number }) in
     let old = c.loop-number.found.items in
     let number : ℕ = c.loop-number.number in
@@ -30,9 +30,9 @@ loop-number-preserved g c =
     }
 
 pub returns-clause-found : goal.returns-clause-found
-returns-clause-found g c =
+returns-clause-found c =
     let acts = c.args.acts.now in
-    let w : State = after_acts (new_world (g.L.Layout.shape c.args.layout)) acts in
+    let w : State = after_acts (new_world c.args.layout) acts in
     let f : ℕ → List Alone = λ number. answer_alone (length acts) 0 most_alone w (record { 0 = number }) in
     all_found f c.loop-number.found.items c.loop-number.number c.clients-number-end.result (omega (arith, c.loop-number-test.false))
     ∙ c.loop-number.invariant.found

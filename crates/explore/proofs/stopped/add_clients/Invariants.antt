@@ -7,13 +7,13 @@ use Rattle.explore.proofs.stopped.add_clients.Given as goal
 
 -- the world has made the acts, and what was found so far, and what comes of the clients that are left, are all
 abbrev pub invariant-loop-number : goal.invariant-loop-number
-invariant-loop-number g l =
-    let w = after_acts (new_world (g.L.Layout.shape l.layout)) l.acts in
+invariant-loop-number l =
+    let w = after_acts (new_world l.layout) l.acts in
     record {
       world : l.world.now ≡ w;
       found :
           l.found.items
           ++ flat_map (λ number. answer_alone (length l.acts) 0 most_alone w (record { 0 = number }))
           (range_with_len l.number (l.number-end - l.number))
-          ≡ l.fn.found.items ++ alone_after (g.L.Layout.shape l.layout) l.acts (length l.acts);
+          ≡ l.fn.found.items ++ alone_after l.layout l.acts (length l.acts);
     }

@@ -3,7 +3,6 @@ use Rattle.std.proofs.lemmas.Result.{IfOk-weaker}
 use Rattle.std.specs.Prelude.{All}
 use Rattle.std.specs.List.{flat_map, range_with_len}
 use Rattle.words.specs.declared.limits.TheConstants.{MAX_STEPS_ALONE}
-use Rattle.explore.specs.Acts.{shape_in}
 use Rattle.explore.specs.Stopped.{alone_at}
 use Rattle.explore.specs.declared.answered.Alone.{Alone}
 use Rattle.explore.proofs.StoppedCalls.{few_at}
@@ -11,10 +10,10 @@ use Rattle.explore.proofs.stopped.alone.Goals as goal
 
 pub returns-clause-few : goal.returns-clause-few
 returns-clause-few c =
-    let s = shape_in c.in_ok-laid.laid in
+    let s = c.in_ok-layout.layout in
     let acts = c.deref-2.result.now in
-    IfOk-weaker c.alone_in.result
+    IfOk-weaker c.alone_on.result
     (λ found. found.items ≡ flat_map (alone_at s acts) (range_with_len 0 (length acts + 1)))
     (λ found. All (λ (alone : Alone). alone.steps ≤ MAX_STEPS_ALONE) found.items) (λ found is.
     subst (All (λ (alone : Alone). alone.steps ≤ MAX_STEPS_ALONE)) (sym is) (few_at s acts (range_with_len 0 (length acts + 1))))
-    c.alone_in.ensures.found
+    c.alone_on.ensures.found

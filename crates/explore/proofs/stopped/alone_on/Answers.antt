@@ -4,8 +4,8 @@ use Rattle.explore.proofs.StoppedCalls.{next_found, up_to}
 use Rattle.explore.proofs.stopped.alone_on.Goals as goal
 
 pub loop-point-preserved : goal.loop-point-preserved
-loop-point-preserved g c =
-    let s = g.L.Layout.shape c.args.layout in
+loop-point-preserved c =
+    let s = c.args.layout in
     let acts = c.args.acts.now in
     let point : ℕ = c.loop-point.point in
     let old = c.loop-point.found.items in

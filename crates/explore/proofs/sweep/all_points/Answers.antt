@@ -1,6 +1,5 @@
 use Rattle.std.proofs.Common.{◌≤◌, ◌-◌, ℕ, length, map, ap, ◌∙◌, arith}
 use Rattle.std.specs.List.{range_with_len}
-use Rattle.explore.specs.Acts.{shape_in}
 use Rattle.explore.specs.Points.{Found, found_at}
 use Rattle.explore.proofs.Sweeps.{more_made}
 use Rattle.explore.proofs.sweep.all_points.Goals as goal
@@ -8,7 +7,7 @@ use Rattle.explore.proofs.sweep.all_points.Goals as goal
 pub made-preserved : goal.made-preserved
 made-preserved g c =
     let schedule = c.args.schedule.now in
-    let f : ℕ → Found = found_at (shape_in schedule.laid) schedule.acts.items schedule.evictions in
+    let f : ℕ → Found = found_at schedule.layout schedule.acts.items schedule.evictions in
     let old = c.made.points.items in
     let up : length old ≤ c.end_of_batch-to.result = omega (arith, c.end_of_batch-to.ensures.later) in
     let more = c.in_ok-more.ensures.points

@@ -1,6 +1,5 @@
 use Rattle.std.proofs.Common.{◌≡◌, ◌≤◌, ◌+◌, ◌-◌, length, map}
 use Rattle.std.specs.List.{range_with_len}
-use Rattle.explore.specs.Acts.{shape_in}
 use Rattle.explore.specs.Points.{found_of, found_at}
 use Rattle.explore.proofs.sweep.all_points.Given as goal
 
@@ -11,7 +10,7 @@ invariant-made g l =
       few : length l.points.items ≤ length l.schedule.acts.items + 1;
       made :
           map found_of l.points.items
-          ≡ map (found_at (shape_in l.schedule.laid) l.schedule.acts.items l.schedule.evictions)
+          ≡ map (found_at l.schedule.layout l.schedule.acts.items l.schedule.evictions)
           (range_with_len 0 (length l.points.items));
     }
 

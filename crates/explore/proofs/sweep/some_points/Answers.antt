@@ -1,7 +1,6 @@
 use Rattle.std.proofs.Common.{◌≤◌, ℕ, length, ◌∙◌, arith}
 use Rattle.rayon.specs.Numbers.{nat_range}
 use Rattle.rayon.proofs.ToStd.{nat_range-All}
-use Rattle.explore.specs.Acts.{shape_in}
 use Rattle.explore.specs.Points.{Found, found_at}
 use Rattle.explore.proofs.Sweeps.{made_at_any, batch_made, batch_refused}
 use Rattle.explore.proofs.sweep.some_points.Goals as goal
@@ -16,7 +15,7 @@ collect-made-requires-clause-ready g c κs within =
 pub returns-in-Ok-clause-points : goal.returns-in-Ok-clause-points
 returns-in-Ok-clause-points g c =
     let schedule = c.args.schedule.now in
-    let f : ℕ → Found = found_at (shape_in schedule.laid) schedule.acts.items schedule.evictions in
+    let f : ℕ → Found = found_at schedule.layout schedule.acts.items schedule.evictions in
     let ends = c.into_par_iter.ensures in
     let h = c.in-Ok.ensures in
     let chain = rw (c.map_init.ensures.base, c.map_init.ensures.f, c.with_min_len.ensures.base) at h.1 in
@@ -26,7 +25,7 @@ returns-in-Ok-clause-points g c =
 pub returns-in-Ok-clause-errors : goal.returns-in-Ok-clause-errors
 returns-in-Ok-clause-errors g c =
     let schedule = c.args.schedule.now in
-    let f : ℕ → Found = found_at (shape_in schedule.laid) schedule.acts.items schedule.evictions in
+    let f : ℕ → Found = found_at schedule.layout schedule.acts.items schedule.evictions in
     let h = c.in-Ok.ensures in
     let chain = rw (c.map_init.ensures.base, c.map_init.ensures.f, c.with_min_len.ensures.base) at h.1 in
     batch_refused f chain.0 h.0 c.in-Ok.points (made_at_any _ f chain.0 h.0 chain.2) h.2

@@ -1,5 +1,5 @@
 use Rattle.std.proofs.Common.{map, sym, ap, ◌∙◌}
-use Rattle.explore.specs.Acts.{acts_of, shape_in}
+use Rattle.explore.specs.Acts.{acts_of}
 use Rattle.explore.specs.Points.{found_of}
 use Rattle.explore.specs.Scripted.{Scripted}
 use Rattle.explore.proofs.Sweeps.{points_are, all_ok}
@@ -10,14 +10,14 @@ returns-clause-points g c =
     let script : Scripted = c.args.script.now in
     let is = ap (λ (s : Scripted). s.queue) c.script.view_is in
     let acts = c.in_ok-acts.ensures.acts
-    ∙ ap (acts_of (shape_in c.in_ok-laid.laid)) (c.deref.ensures.value ∙ ap (λ (s : Scripted). s.commands) c.script.view_is) in
+    ∙ ap (acts_of c.in_ok-layout.layout) (c.deref.ensures.value ∙ ap (λ (s : Scripted). s.commands) c.script.view_is) in
     ap (map found_of) c.report_of-2.ensures.points
-    ∙ points_are (shape_in c.in_ok-laid.laid) c.in_ok-acts.acts.items c.args.evictions script.commands script.queue
+    ∙ points_are c.in_ok-layout.layout c.in_ok-acts.acts.items c.args.evictions script.commands script.queue
     c.in-Some.queue (map found_of c.in_ok-all_points.field-0.items) c.in_ok-all_points.ensures.points acts
-    c.in_ok-laid.ensures.made (sym is ∙ c.in-Some.is)
+    c.in_ok-layout.ensures.made (sym is ∙ c.in-Some.is)
 
 pub returns-clause-bad : goal.returns-clause-bad
 returns-clause-bad g c =
     c.report_of-2.ensures.bad
-    ∙ all_ok (shape_in c.in_ok-laid.laid) c.in_ok-acts.acts.items c.args.evictions c.in_ok-all_points.field-0.items
+    ∙ all_ok c.in_ok-layout.layout c.in_ok-acts.acts.items c.args.evictions c.in_ok-all_points.field-0.items
     c.in_ok-all_points.ensures.points

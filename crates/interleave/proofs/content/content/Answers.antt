@@ -12,17 +12,17 @@ use Rattle.interleave.proofs.content.content.Goals as goal
 
 pub returns-then-next-eq0-clause-content : goal.returns-then-next-eq0-clause-content
 returns-then-next-eq0-clause-content g c =
-    let word : Place → ℕ = value_of_place (g.L.Layout.shape c.args.layout.now) (g.K.KeptWords.kept_words c.args.kept.now) in
+    let word : Place → ℕ = value_of_place c.args.layout.now (g.K.KeptWords.kept_words c.args.kept.now) in
     sym (append-nil c.loop.values.items)
     ∙ ap (λ xs. c.loop.values.items ++ xs) (sym (content_end word _ c.loop.node.0 (sym c.kept_at.ensures ∙ c.if-next-eq0.true)))
     ∙ c.loop.invariant.content
 
 pub loop-preserved : goal.loop-preserved
 loop-preserved g c =
-    let word : Place → ℕ = value_of_place (g.L.Layout.shape c.args.layout.now) (g.K.KeptWords.kept_words c.args.kept.now) in
+    let word : Place → ℕ = value_of_place c.args.layout.now (g.K.KeptWords.kept_words c.args.kept.now) in
     let links : ℕ = c.clients.result * c.records.result in
     let rest : List Value = content_from word (links - (c.loop.counter + 1)) c.kept_at.result in
-    let fits : word (Next c.loop.node) ≤ greatest (g.L.Layout.shape c.args.layout.now) = subst (λ n. n ≤ greatest (g.L.Layout.shape c.args.layout.now)) (sym (shown_at (g.L.Layout.shape c.args.layout.now) (g.K.KeptWords.kept_words c.args.kept.now) (Next c.loop.node) c.loop.invariant.node)) (c.requires.fits (Next c.loop.node) c.loop.invariant.node tt) in
+    let fits : word (Next c.loop.node) ≤ greatest c.args.layout.now = subst (λ n. n ≤ greatest c.args.layout.now) (sym (shown_at c.args.layout.now (g.K.KeptWords.kept_words c.args.kept.now) (Next c.loop.node) c.loop.invariant.node)) (c.requires.fits (Next c.loop.node) c.loop.invariant.node tt) in
     let read : c.kept_at.result ≡ word (Next c.loop.node) = c.kept_at.ensures in
     record {
       links = c.loop.invariant.links;

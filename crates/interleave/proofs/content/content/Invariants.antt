@@ -10,7 +10,7 @@ use Rattle.interleave.proofs.content.content.Given as goal
 -- what was found and what the links that are left reach is all that there is
 abbrev pub invariant-loop : goal.invariant-loop
 invariant-loop g l =
-    let s = g.L.Layout.shape l.layout in
+    let s = l.layout in
     let word : Place → ℕ = value_of_place s (g.K.KeptWords.kept_words l.kept) in
     record {
       links : l.links ≡ greatest s;

@@ -34,14 +34,14 @@ loop-word-init g c = record { added = sym (append-nil _) }
 pub loop-word-preserved : goal.loop-word-preserved
 loop-word-preserved g c =
     let queue : Kept = c.of_values-queue.result in
-    let shape : queue.shape ≡ g.L.Layout.shape c.args.layout.now = ap (λ (q : Kept). q.shape) c.of_values-queue.ensures in
+    let shape : queue.shape ≡ c.args.layout.now = ap (λ (q : Kept). q.shape) c.of_values-queue.ensures in
     subst (λ (l : List ℕ). IsAddedUpTo queue c.args.words.now.items l (c.loop-word.word + 1)) (sym c.in_ok-push.ensures.items)
     (one_more queue c.args.words.now.items c.loop-word.words.items c.loop-word.word c.word_at.result c.loop-word.invariant
     (c.word_at.ensures ∙ sym (ap (λ (s : Shape). word_migrated s (kept_of queue) c.loop-word.word) shape)))
 
 pub returns : goal.returns
 returns g c =
-    let s : Shape = g.L.Layout.shape c.args.layout.now in
+    let s : Shape = c.args.layout.now in
     let last : c.loop-word.word ≡ c.block_size-word-end.result = omega (arith, c.loop-word-test.false, c.loop-word.auto.word-end) in
     let many : c.block_size-word-end.result ≡ block_size_of s.clients s.records =
     c.block_size-word-end.ensures.value ∙ ap (λ (n : ℕ). block_size_of n c.records.result) c.clients.ensures.value

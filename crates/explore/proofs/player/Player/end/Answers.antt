@@ -14,7 +14,7 @@ use Rattle.explore.proofs.GoingAlone.{goes_alone, few_alone, refused_leads, refu
 use Rattle.explore.proofs.player.Player.end.Goals as goal
 
 pub returns-in-Ok-clause-play : goal.returns-in-Ok-clause-play
-returns-in-Ok-clause-play g c =
+returns-in-Ok-clause-play c =
     let play : Play = record { world = c.self.inside.world.now; steps = c.self.inside.steps } in
     let there : c.args.client.0 < length play.steps.calls = c.go_on-steps.ensures.kept in
     let few = few_alone c.in-Ok.alone c.in-Ok.ensures.steps in
@@ -28,7 +28,7 @@ returns-in-Ok-clause-play g c =
     ∙ ap (after_steps c.args.client most_alone) c.self.view_is)
 
 pub returns-in-Ok-clause-lines : goal.returns-in-Ok-clause-lines
-returns-in-Ok-clause-lines g c =
+returns-in-Ok-clause-lines c =
     let play : Play = record { world = c.self.inside.world.now; steps = c.self.inside.steps } in
     let before : List Line = c.args.lines.now.items in
     let there : c.args.client.0 < length play.steps.calls = c.go_on-steps.ensures.kept in
@@ -43,7 +43,7 @@ returns-in-Ok-clause-lines g c =
     (sym same.gives ∙ ap (step_lines c.args.client most_alone) c.self.view_is)) c.add.ensures.lines
 
 pub returns-in-Err-clause-play : goal.returns-in-Err-clause-play
-returns-in-Err-clause-play g c =
+returns-in-Err-clause-play c =
     let play : Play = record { world = c.self.inside.world.now; steps = c.self.inside.steps } in
     on_ok_weaker c.add_refused.result (λ other.
     let call = slice_get play.world.calls c.args.client.0 in
@@ -56,7 +56,7 @@ returns-in-Err-clause-play g c =
     ∙ ap (after_steps c.args.client most_alone) c.self.view_is) c.add_refused.ensures.another
 
 pub returns-in-Err-clause-lines : goal.returns-in-Err-clause-lines
-returns-in-Err-clause-lines g c =
+returns-in-Err-clause-lines c =
     let play : Play = record { world = c.self.inside.world.now; steps = c.self.inside.steps } in
     let before : List Line = c.args.lines.now.items in
     where_both c.add_refused.result c.add_refused.ensures.another c.add_refused.ensures.lines (λ other lines.

@@ -13,7 +13,7 @@ use Rattle.explore.proofs.Plays.{is_another, where_both, always_ok, refused_same
 use Rattle.explore.proofs.player.Player.go_on.Goals as goal
 
 pub returns-in-Err-clause-play : goal.returns-in-Err-clause-play
-returns-in-Err-clause-play g c =
+returns-in-Err-clause-play c =
     let play : Play = record { world = c.loop.self-inside.world.now; steps = c.loop.self-inside.steps } in
     let client = c.args.client in
     on_ok_weaker c.add_refused.result (λ other.
@@ -31,7 +31,7 @@ returns-in-Err-clause-play g c =
     ∙ c.loop.invariant.leads) c.add_refused.ensures.another
 
 pub returns-in-Err-clause-lines : goal.returns-in-Err-clause-lines
-returns-in-Err-clause-lines g c =
+returns-in-Err-clause-lines c =
     let play : Play = record { world = c.loop.self-inside.world.now; steps = c.loop.self-inside.steps } in
     let client = c.args.client in
     where_both c.add_refused.result c.add_refused.ensures.another c.add_refused.ensures.lines (λ other lines.
@@ -46,7 +46,7 @@ returns-in-Err-clause-lines g c =
     ∙ c.loop.invariant.gives)
 
 pub returns-in-Some-clause-play : goal.returns-in-Some-clause-play
-returns-in-Some-clause-play g c =
+returns-in-Some-clause-play c =
     let play : Play = record { world = c.loop.self-inside.world.now; steps = c.loop.self-inside.steps } in
     let client = c.args.client in
     let is : c.step.result ≡ Ok (Some c.in-Some.reply) = c.in-Ok.is ∙ ap Ok c.in-Some.is in
@@ -62,7 +62,7 @@ returns-in-Some-clause-play g c =
     ∙ c.loop.invariant.leads)
 
 pub returns-in-Some-clause-lines : goal.returns-in-Some-clause-lines
-returns-in-Some-clause-lines g c =
+returns-in-Some-clause-lines c =
     let play : Play = record { world = c.loop.self-inside.world.now; steps = c.loop.self-inside.steps } in
     let client = c.args.client in
     let before : List Line = c.loop.lines.items in
@@ -80,7 +80,7 @@ returns-in-Some-clause-lines g c =
     ∙ c.loop.invariant.gives) c.add.ensures.lines
 
 pub loop-preserved : goal.loop-preserved
-loop-preserved g c =
+loop-preserved c =
     let play : Play = record { world = c.loop.self-inside.world.now; steps = c.loop.self-inside.steps } in
     let next : Play = record { world = c.step.new.self.now; steps = c.go_on-steps.new.self } in
     let client = c.args.client in

@@ -5,7 +5,7 @@ use Rattle.explore.proofs.player.Player.go_on.Given as goal
 
 -- the steps that are left lead where all of them do, and give the rest of the lines
 abbrev pub invariant-loop : goal.invariant-loop
-invariant-loop g l =
+invariant-loop l =
     let play : Play = record { world = l.self-inside.world.now; steps = l.self-inside.steps } in
     record {
       leads : after_steps l.client (l.most - l.counter) play ≡ after_steps l.client l.most l.fn.self;

@@ -13,14 +13,14 @@ some_left w left (inl all) = omega (arith, all, some_most w)
 some_left w left (inr more) = omega (arith, more.0, more.1)
 
 pub loop-init : goal.loop-init
-loop-init g c =
+loop-init c =
     record { left = most_recovery c.args.self.now.world; enough = inl refl; leads = refl; gives = refl }
 
 pub loop-smaller : goal.loop-smaller
-loop-smaller g c = c.recover_step.ensures.falls (c.in_ok-recover_step.was ∙ ap Ok c.if-not-branch.true)
+loop-smaller c = c.recover_step.ensures.falls (c.in_ok-recover_step.was ∙ ap Ok c.if-not-branch.true)
 
 pub loop-preserved : goal.loop-preserved
-loop-preserved g c =
+loop-preserved c =
     let play : Play = c.loop.self in
     let next : Play = c.recover_step.new.self in
     let is : c.recover_step.result ≡ Ok false = c.in_ok-recover_step.was ∙ ap Ok c.if-not-branch.true in
@@ -45,7 +45,7 @@ loop-preserved g c =
     }
 
 pub returns-clause-play : goal.returns-clause-play
-returns-clause-play g c =
+returns-clause-play c =
     let play : Play = c.loop.self in
     let some : 0 < c.loop.invariant.left = some_left play.world c.loop.invariant.left c.loop.invariant.enough in
     let rest : ℕ = c.loop.invariant.left - 1 in
@@ -54,7 +54,7 @@ returns-clause-play g c =
     c.recover_step.ensures.play is rest ∙ ap (λ n. after_recovery n play) left ∙ c.loop.invariant.leads
 
 pub returns-clause-lines : goal.returns-clause-lines
-returns-clause-lines g c =
+returns-clause-lines c =
     let play : Play = c.loop.self in
     let some : 0 < c.loop.invariant.left = some_left play.world c.loop.invariant.left c.loop.invariant.enough in
     let rest : ℕ = c.loop.invariant.left - 1 in

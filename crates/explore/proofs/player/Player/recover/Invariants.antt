@@ -7,7 +7,7 @@ use Rattle.explore.proofs.player.Player.recover.Given as goal
 -- so many steps are left: all of them, or as many as recovery needs, and it needs some; they lead where all of them do,
 -- and give the rest of the lines
 abbrev pub invariant-loop : goal.invariant-loop
-invariant-loop g l =
+invariant-loop l =
     record {
       left : ℕ;
       enough :
@@ -20,5 +20,5 @@ invariant-loop g l =
     }
 
 abbrev pub decreases-loop : goal.decreases-loop
-decreases-loop g l =
+decreases-loop l =
     steps_to_ready l.self.world

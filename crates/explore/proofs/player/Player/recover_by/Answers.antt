@@ -7,7 +7,7 @@ use Rattle.explore.proofs.Recoveries.{leads_on, gives_on}
 use Rattle.explore.proofs.player.Player.recover_by.Goals as goal
 
 pub loop-preserved : goal.loop-preserved
-loop-preserved g c =
+loop-preserved c =
     let play : Play = c.loop.self in
     let next : Play = c.recover_step.new.self in
     let rest : ℕ = c.args.most - (c.loop.counter + 1) in
@@ -25,14 +25,14 @@ loop-preserved g c =
     }
 
 pub returns-then-branch-clause-play : goal.returns-then-branch-clause-play
-returns-then-branch-clause-play g c =
+returns-then-branch-clause-play c =
     let rest : ℕ = c.args.most - (c.loop.counter + 1) in
     let left : suc rest ≡ c.args.most - c.loop.counter = omega arith in
     let is : c.recover_step.result ≡ Ok true = c.in_ok-recover_step.was ∙ ap Ok c.if-branch.true in
     c.recover_step.ensures.play is rest ∙ ap (λ n. after_recovery n c.loop.self) left ∙ c.loop.invariant.leads
 
 pub returns-then-branch-clause-lines : goal.returns-then-branch-clause-lines
-returns-then-branch-clause-lines g c =
+returns-then-branch-clause-lines c =
     let rest : ℕ = c.args.most - (c.loop.counter + 1) in
     let left : suc rest ≡ c.args.most - c.loop.counter = omega arith in
     let is : c.recover_step.result ≡ Ok true = c.in_ok-recover_step.was ∙ ap Ok c.if-branch.true in

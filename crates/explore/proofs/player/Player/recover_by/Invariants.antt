@@ -5,7 +5,7 @@ use Rattle.explore.proofs.player.Player.recover_by.Given as goal
 
 -- the steps that are left lead where all of them do, and give the rest of the lines
 abbrev pub invariant-loop : goal.invariant-loop
-invariant-loop g l =
+invariant-loop l =
     record {
       leads : after_recovery (l.most - l.counter) l.self ≡ after_recovery l.most l.fn.self;
       gives :

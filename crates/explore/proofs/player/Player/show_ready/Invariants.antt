@@ -5,5 +5,5 @@ use Rattle.explore.proofs.player.Player.show_ready.Given as goal
 
 -- the clients so far are told
 abbrev pub invariant-loop-number : goal.invariant-loop-number
-invariant-loop-number g l =
+invariant-loop-number l =
     l.lines.items ≡ l.fn.lines.items ++ Ready l.fn.self.steps.recovery ∷ told_lines (told_at l.fn.self.world) l.number

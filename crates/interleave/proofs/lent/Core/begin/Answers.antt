@@ -12,7 +12,7 @@ pub overflow_cast-used : goal.overflow_cast-used
 overflow_cast-used g c =
     let old : CoreState = c.args.self.now in
     let few = used_few old.shape (g.M.WordMemory.words c.args.memory.now) old.queue old.calls old.trace c.args.client c.requires.holds c.requires.idle in
-    let shape : g.L.Layout.shape c.self.inside.layout ≡ old.shape = ap (λ (k : CoreState). k.shape) c.self.view_is in
+    let shape : c.self.inside.layout ≡ old.shape = ap (λ (k : CoreState). k.shape) c.self.view_is in
     let records : c.records-records.result ≡ old.shape.records = c.records-records.ensures.value ∙ ap (λ (s : Shape). s.records) shape in
     omega (arith, few, c.load_bump-used.ensures.value, records, c.records-records.ensures.value, c.records-records.ensures.counts.few_records)
 
@@ -20,7 +20,7 @@ pub record_number-requires-clause-client : goal.record_number-requires-clause-cl
 record_number-requires-clause-client g c =
     let old : CoreState = c.args.self.now in
     let lt = client_in old.shape (g.M.WordMemory.words c.args.memory.now) old.queue old.calls old.trace c.args.client c.requires.holds c.requires.idle in
-    let shape : g.L.Layout.shape c.self.inside.layout ≡ old.shape = ap (λ (k : CoreState). k.shape) c.self.view_is in
+    let shape : c.self.inside.layout ≡ old.shape = ap (λ (k : CoreState). k.shape) c.self.view_is in
     let clients : c.clients-clients.result ≡ old.shape.clients = c.clients-clients.ensures.value ∙ ap (λ (s : Shape). s.clients) shape in
     omega (arith, lt, clients)
 
@@ -28,6 +28,6 @@ pub record_number-requires-clause-used : goal.record_number-requires-clause-used
 record_number-requires-clause-used g c =
     let old : CoreState = c.args.self.now in
     let few = used_few old.shape (g.M.WordMemory.words c.args.memory.now) old.queue old.calls old.trace c.args.client c.requires.holds c.requires.idle in
-    let shape : g.L.Layout.shape c.self.inside.layout ≡ old.shape = ap (λ (k : CoreState). k.shape) c.self.view_is in
+    let shape : c.self.inside.layout ≡ old.shape = ap (λ (k : CoreState). k.shape) c.self.view_is in
     let records : c.records-records.result ≡ old.shape.records = c.records-records.ensures.value ∙ ap (λ (s : Shape). s.records) shape in
     omega (arith, few, c.load_bump-used.ensures.value, records, c.if-used-records.false)

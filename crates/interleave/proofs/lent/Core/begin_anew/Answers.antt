@@ -18,7 +18,7 @@ use Rattle.interleave.proofs.lent.Core.begin_anew.Goals as goal
 pub returns-clause-world : goal.returns-clause-world
 returns-clause-world g c = λ ws is.
     let old : CoreState = c.args.self.now in
-    let inside : CoreState = record { shape = g.L.Layout.shape c.self.inside.layout; queue = c.self.inside.queue; calls = c.self.inside.calls; trace = c.self.inside.trace } in
+    let inside : CoreState = record { shape = c.self.inside.layout; queue = c.self.inside.queue; calls = c.self.inside.calls; trace = c.self.inside.trace } in
     let was : inside ≡ old = c.self.view_is in
     let w : State = state_of old ws in
     let s : Shape = old.shape in

@@ -22,7 +22,7 @@ use Rattle.interleave.proofs.lent.Core.boot.Goals as goal
 
 pub content-requires : goal.content-requires
 content-requires g c =
-    let s : Shape = g.L.Layout.shape c.args.layout in
+    let s : Shape = c.args.layout in
     let kept : List ℕ = g.K.KeptWords.kept_words c.args.kept.now in
     let ws : Words = record { cached = kept; kept = kept; accesses = 0 } in
     let counts = c.clients-clients.ensures.counts in
@@ -31,7 +31,7 @@ content-requires g c =
 
 pub returns-clause-booted : goal.returns-clause-booted
 returns-clause-booted g c = λ ws is.
-    let s : Shape = g.L.Layout.shape c.args.layout in
+    let s : Shape = c.args.layout in
     let counts = c.clients-clients.ensures.counts in
     let sound : AreSoundWords s ws.kept = subst (AreSoundWords s) (sym is) (c.in_ok-sound.ensures.ok.0 refl) in
     let tells : List Told = tells_by s (value_of_place s ws.kept) in
@@ -50,7 +50,7 @@ returns-clause-booted g c = λ ws is.
 
 pub returns-clause-holds : goal.returns-clause-holds
 returns-clause-holds g c = λ ws is.
-    let s : Shape = g.L.Layout.shape c.args.layout in
+    let s : Shape = c.args.layout in
     let counts = c.clients-clients.ensures.counts in
     let sound : AreSoundWords s ws.kept = subst (AreSoundWords s) (sym is) (c.in_ok-sound.ensures.ok.0 refl) in
     subst Holds (sym (returns-clause-booted g c ws is)) (holds_booted s ws counts.some_client counts.few_clients sound)

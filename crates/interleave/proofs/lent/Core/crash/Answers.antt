@@ -4,5 +4,5 @@ use Rattle.interleave.specs.State.{after_stop}
 use Rattle.interleave.proofs.lent.Core.crash.Goals as goal
 
 pub returns-clause-stopped : goal.returns-clause-stopped
-returns-clause-stopped g c = λ made ws.
+returns-clause-stopped c = λ made ws.
     c.stop.ensures.stopped ws ∙ ap (λ (k : CoreState). after_stop (state_of k ws)) c.reserve.ensures.same

@@ -10,7 +10,7 @@ use Rattle.interleave.proofs.AskedKept.{asked_evicted, unasked_for}
 use Rattle.interleave.proofs.lent.Core.evict_in.Goals as goal
 
 pub returns-clause-holds : goal.returns-clause-holds
-returns-clause-holds g c =
+returns-clause-holds c =
     let old : MemoryState = c.args.memory.now in
     let new : MemoryState = c.evict.new.memory in
     let was : State = state_of c.args.self.now old.words in

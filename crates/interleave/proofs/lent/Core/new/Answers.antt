@@ -7,8 +7,8 @@ use Rattle.interleave.proofs.OverLaws.{holds_over}
 use Rattle.interleave.proofs.lent.Core.new.Goals as goal
 
 pub returns-clause-holds : goal.returns-clause-holds
-returns-clause-holds g c = λ ws unused.
-    let s : Shape = g.L.Layout.shape c.args.layout in
+returns-clause-holds c = λ ws unused.
+    let s : Shape = c.args.layout in
     let left : CoreState = record { shape = s; queue = c.new-queue.result; calls = c.none-calls.result; trace = c.new-trace.result } in
     let world : state_of left ws ≡ world_over s ws = search rules in
     subst Holds (sym world) (holds_over s ws unused c.clients.ensures.counts.some_client c.clients.ensures.counts.few_clients)

@@ -11,7 +11,7 @@ use Rattle.interleave.proofs.AskedKept.{Returned, around_recovered, asked_recove
 use Rattle.interleave.proofs.lent.Core.recover_step_in.Goals as goal
 
 pub returns-clause-holds : goal.returns-clause-holds
-returns-clause-holds g c =
+returns-clause-holds c =
     let p = c.in_ok-memory.field-0 in
     let v = c.recover_step.new.memory in
     let core : CoreState = c.args.self.now in

@@ -41,7 +41,7 @@ lender_stays w client name2 port2 left first (Ok answer) same on =
     ap (λ (l : Lent). l.around.lender) on ∙ ap (λ (a : Around). a.lender) (around_alone answer.1 w client first)
 
 pub returns-clause-world : goal.returns-clause-world
-returns-clause-world g c =
+returns-clause-world c =
     let p = c.in_ok-memory.field-0 in
     let v = c.run_alone.new.memory in
     let core : CoreState = c.args.self.now in
@@ -52,7 +52,7 @@ returns-clause-world g c =
     search rules
 
 pub returns-clause-holds : goal.returns-clause-holds
-returns-clause-holds g c =
+returns-clause-holds c =
     let p = c.in_ok-memory.field-0 in
     let v = c.run_alone.new.memory in
     let core : CoreState = c.args.self.now in

@@ -66,7 +66,7 @@ pub returns-clause-holds : goal.returns-clause-holds
 returns-clause-holds g c =
     let old : State = state_of c.args.self.now (g.M.WordMemory.words c.args.memory.now) in
     let u : UnderWay = c.in_ok-under_way.under_way in
-    let left : CoreState = record { shape = g.L.Layout.shape c.self.inside.layout; queue = c.returned.new.self; calls = c.self.inside.calls; trace = c.self.inside.trace } in
+    let left : CoreState = record { shape = c.self.inside.layout; queue = c.returned.new.self; calls = c.self.inside.calls; trace = c.self.inside.trace } in
     let asked : waiting_result (is_down old) (slice_get old.calls c.args.client.0) ≡ Ok u = sym c.waiting.ensures ∙ c.in_ok-under_way.was in
     let next : answer_of (next_of (machine_over c.args.self.now (g.M.WordMemory.words c.args.memory.now)) u) ≡ Some c.in-Some.reply =
     ap (λ (k : CoreState). answer_of (next_of (machine_over k (g.M.WordMemory.words c.args.memory.now)) u)) (sym c.reserve.ensures.same) ∙ sym c.advance.ensures.answer ∙ c.in-Some.is in

@@ -10,7 +10,7 @@ use Rattle.interleave.proofs.AskedKept.{Returned, around_stepped, asked_stepped,
 use Rattle.interleave.proofs.lent.Core.step_in.Goals as goal
 
 pub returns-clause-world : goal.returns-clause-world
-returns-clause-world g c =
+returns-clause-world c =
     let p = c.in_ok-memory.field-0 in
     let v = c.step.new.memory in
     let core : CoreState = c.args.self.now in
@@ -22,7 +22,7 @@ returns-clause-world g c =
     search rules
 
 pub returns-clause-holds : goal.returns-clause-holds
-returns-clause-holds g c =
+returns-clause-holds c =
     let p = c.in_ok-memory.field-0 in
     let v = c.step.new.memory in
     let core : CoreState = c.args.self.now in

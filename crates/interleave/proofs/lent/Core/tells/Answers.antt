@@ -12,6 +12,6 @@ pub returns : goal.returns
 returns g c =
     let s : Shape = c.args.self.now.shape in
     let kept : List ℕ = g.K.KeptWords.kept_words c.args.kept.now in
-    let shape : g.L.Layout.shape c.self.inside.layout ≡ s = ap (λ (k : CoreState). k.shape) c.self.view_is in
+    let shape : c.self.inside.layout ≡ s = ap (λ (k : CoreState). k.shape) c.self.view_is in
     c.tells.ensures ∙ ap (λ (x : Shape). tells_by x (kept_in x kept)) shape
     ∙ sym (tells_like s (kept_in s kept) (value_of_place s kept) (λ p at. shown_at s kept p at) c.requires.sound)

@@ -11,7 +11,7 @@ use Rattle.interleave.proofs.HoldsKept.{call_fits, holds_after_start, holds_afte
 use Rattle.interleave.proofs.world.World.act.Goals as goal
 
 pub returns-in-Start-clause-attempt : goal.returns-in-Start-clause-attempt
-returns-in-Start-clause-attempt g c =
+returns-in-Start-clause-attempt c =
     let full = is_no_memory c.start.result in
     record {
       full = full;
@@ -21,7 +21,7 @@ returns-in-Start-clause-attempt g c =
     }
 
 pub returns-in-Step-clause-attempt : goal.returns-in-Step-clause-attempt
-returns-in-Step-clause-attempt g c =
+returns-in-Step-clause-attempt c =
     let full = is_no_memory c.step.result in
     record {
       full = full;
@@ -31,7 +31,7 @@ returns-in-Step-clause-attempt g c =
     }
 
 pub returns-in-Recover-clause-attempt : goal.returns-in-Recover-clause-attempt
-returns-in-Recover-clause-attempt g c =
+returns-in-Recover-clause-attempt c =
     let full = is_no_memory c.recover_step.result in
     record {
       full = full;
@@ -41,7 +41,7 @@ returns-in-Recover-clause-attempt g c =
     }
 
 pub returns-in-Start-clause-holds : goal.returns-in-Start-clause-holds
-returns-in-Start-clause-holds g c =
+returns-in-Start-clause-holds c =
     let holds : Holds c.args.self.now.now = subst Holds (ap (λ (r : Roomy). r.now) c.self.view_is) c.self.invariant.world in
     let value : (v : Value) → c.in-Start.call ≡ Enq v → FitsValue v = search rules in
     let fits : FitsCall c.in-Start.call = call_fits c.in-Start.call value in
@@ -49,21 +49,21 @@ returns-in-Start-clause-holds g c =
     (holds_after_start (is_no_memory c.start.result) c.args.self.now.now c.in-Start.client c.in-Start.number c.in-Start.call holds fits)
 
 pub returns-in-Step-clause-holds : goal.returns-in-Step-clause-holds
-returns-in-Step-clause-holds g c =
+returns-in-Step-clause-holds c =
     let holds : Holds c.args.self.now.now = subst Holds (ap (λ (r : Roomy). r.now) c.self.view_is) c.self.invariant.world in
     subst Holds (sym c.step.ensures.world) (holds_after_step (is_no_memory c.step.result) c.args.self.now.now c.in-Step.client holds)
 
 pub returns-in-Evict-clause-holds : goal.returns-in-Evict-clause-holds
-returns-in-Evict-clause-holds g c =
+returns-in-Evict-clause-holds c =
     let holds : Holds c.args.self.now.now = subst Holds (ap (λ (r : Roomy). r.now) c.self.view_is) c.self.invariant.world in
     subst Holds (sym c.evict.ensures.world) (holds_after_evict c.args.self.now.now c.in-Evict.at holds)
 
 pub returns-in-Crash-clause-holds : goal.returns-in-Crash-clause-holds
-returns-in-Crash-clause-holds g c =
+returns-in-Crash-clause-holds c =
     let holds : Holds c.args.self.now.now = subst Holds (ap (λ (r : Roomy). r.now) c.self.view_is) c.self.invariant.world in
     subst Holds (sym c.crash.ensures.world) (holds_after_crash (is_no_memory c.crash.result) c.args.self.now.now holds)
 
 pub returns-in-Recover-clause-holds : goal.returns-in-Recover-clause-holds
-returns-in-Recover-clause-holds g c =
+returns-in-Recover-clause-holds c =
     let holds : Holds c.args.self.now.now = subst Holds (ap (λ (r : Roomy). r.now) c.self.view_is) c.self.invariant.world in
     subst Holds (sym c.recover_step.ensures.world) (holds_after_recover (is_no_memory c.recover_step.result) c.args.self.now.now holds)

@@ -9,8 +9,8 @@ use Rattle.interleave.proofs.AskedKept.{asked_at_boot}
 use Rattle.interleave.proofs.world.World.boot.Goals as goal
 
 pub invariant_of-result : goal.invariant_of-result
-invariant_of-result g c =
-    let s = g.L.Layout.shape c.args.layout in
+invariant_of-result c =
+    let s = c.args.layout in
     let booted : state_of c.in_ok-core.core (words_after_crash c.args.memory.words) ≡ booted_world s c.args.memory.words = c.in_ok-core.ensures.booted c.args.memory.words refl in
     record {
       world = subst (λ (ws : Words). Holds (state_of c.in_ok-core.core ws)) (sym c.crash.ensures.words) (c.in_ok-core.ensures.holds c.args.memory.words refl);

@@ -12,20 +12,20 @@ use Rattle.interleave.proofs.MachineFacts.{room_held}
 use Rattle.interleave.proofs.world.World.crash.Goals as goal
 
 pub crash-requires : goal.crash-requires
-crash-requires g c = room_held c.self.invariant.world
+crash-requires c = room_held c.self.invariant.world
 
 pub returns-in_err-crash-clause-explained : goal.returns-in_err-crash-clause-explained
-returns-in_err-crash-clause-explained g c =
+returns-in_err-crash-clause-explained c =
     subst (λ (k : CoreState). IsExplained (state_of k c.self.inside.memory.words)) (sym c.in_err-crash.ensures.same)
     (explained_world (state_of c.self.inside.core c.self.inside.memory.words) c.self.invariant.world)
 
 pub returns-in_err-crash-clause-sound : goal.returns-in_err-crash-clause-sound
-returns-in_err-crash-clause-sound g c =
+returns-in_err-crash-clause-sound c =
     subst (λ (k : CoreState). IsKeptSound (state_of k c.self.inside.memory.words)) (sym c.in_err-crash.ensures.same)
     (kept_sound (state_of c.self.inside.core c.self.inside.memory.words) c.self.invariant.world)
 
 pub invariant_of-self-2 : goal.invariant_of-self-2
-invariant_of-self-2 g c =
+invariant_of-self-2 c =
     let old : State = state_of c.self.inside.core c.self.inside.memory.words in
     let was : old ≡ c.args.self.now.now = ap (λ (r : Roomy). r.now) c.self.view_is in
     let left : state_of c.crash.new.self c.crash-2.new.self.words ≡ after_stop old =
@@ -37,7 +37,7 @@ invariant_of-self-2 g c =
     }
 
 pub returns-clause-world : goal.returns-clause-world
-returns-clause-world g c =
+returns-clause-world c =
     let old : State = state_of c.self.inside.core c.self.inside.memory.words in
     let was : old ≡ c.args.self.now.now = ap (λ (r : Roomy). r.now) c.self.view_is in
     let left : state_of c.crash.new.self c.crash-2.new.self.words ≡ after_stop old =
@@ -45,7 +45,7 @@ returns-clause-world g c =
     left ∙ ap after_stop was
 
 pub returns-clause-explained : goal.returns-clause-explained
-returns-clause-explained g c =
+returns-clause-explained c =
     let old : State = state_of c.self.inside.core c.self.inside.memory.words in
     let was : old ≡ c.args.self.now.now = ap (λ (r : Roomy). r.now) c.self.view_is in
     let left : state_of c.crash.new.self c.crash-2.new.self.words ≡ after_stop old =
@@ -53,7 +53,7 @@ returns-clause-explained g c =
     subst IsExplained (sym left) (explained_world _ (holds_after_crash false old c.self.invariant.world))
 
 pub returns-clause-sound : goal.returns-clause-sound
-returns-clause-sound g c =
+returns-clause-sound c =
     let old : State = state_of c.self.inside.core c.self.inside.memory.words in
     let was : old ≡ c.args.self.now.now = ap (λ (r : Roomy). r.now) c.self.view_is in
     let left : state_of c.crash.new.self c.crash-2.new.self.words ≡ after_stop old =
@@ -61,7 +61,7 @@ returns-clause-sound g c =
     subst IsKeptSound (sym left) (kept_sound _ (holds_after_crash false old c.self.invariant.world))
 
 pub returns-clause-order : goal.returns-clause-order
-returns-clause-order g c =
+returns-clause-order c =
     let old : State = state_of c.self.inside.core c.self.inside.memory.words in
     let was : old ≡ c.args.self.now.now = ap (λ (r : Roomy). r.now) c.self.view_is in
     let left : state_of c.crash.new.self c.crash-2.new.self.words ≡ after_stop old =
@@ -69,7 +69,7 @@ returns-clause-order g c =
     ap order_in left ∙ part_after_crash false old ∙ ap order_in was
 
 pub returns-clause-tells : goal.returns-clause-tells
-returns-clause-tells g c =
+returns-clause-tells c =
     let old : State = state_of c.self.inside.core c.self.inside.memory.words in
     let was : old ≡ c.args.self.now.now = ap (λ (r : Roomy). r.now) c.self.view_is in
     let left : state_of c.crash.new.self c.crash-2.new.self.words ≡ after_stop old =
@@ -77,7 +77,7 @@ returns-clause-tells g c =
     ap kept_tells left ∙ (tells_crashed false old).0 ∙ ap kept_tells was
 
 pub returns-clause-holds : goal.returns-clause-holds
-returns-clause-holds g c =
+returns-clause-holds c =
     let old : State = state_of c.self.inside.core c.self.inside.memory.words in
     let was : old ≡ c.args.self.now.now = ap (λ (r : Roomy). r.now) c.self.view_is in
     let left : state_of c.crash.new.self c.crash-2.new.self.words ≡ after_stop old =

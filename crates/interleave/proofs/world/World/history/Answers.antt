@@ -7,10 +7,10 @@ use Rattle.interleave.proofs.HoldsKept.{explained_world}
 use Rattle.interleave.proofs.world.World.history.Goals as goal
 
 pub returns-clause-explained : goal.returns-clause-explained
-returns-clause-explained g c =
+returns-clause-explained c =
     let old : State = state_of c.self.inside.core c.self.inside.memory.words in
     subst IsExplained (ap (λ (r : Roomy). r.now) c.self.view_is) (explained_world old c.self.invariant.world)
 
 pub returns-clause-holds : goal.returns-clause-holds
-returns-clause-holds g c =
+returns-clause-holds c =
     subst Holds (ap (λ (r : Roomy). r.now) c.self.view_is) c.self.invariant.world

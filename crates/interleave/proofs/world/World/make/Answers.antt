@@ -8,13 +8,13 @@ use Rattle.interleave.proofs.Unused.{zero_words_are_unused}
 use Rattle.interleave.proofs.world.World.make.Goals as goal
 
 pub over-requires : goal.over-requires
-over-requires g c =
-    let s : Shape = g.L.Layout.shape c.args.layout in
+over-requires c =
+    let s : Shape = c.args.layout in
     let memory : c.in_ok-memory.memory.words ≡ zero_words (size_of s) = search rules in
     subst (AreUnused s) (sym memory) (zero_words_are_unused s)
 
 pub returns-clause-made : goal.returns-clause-made
-returns-clause-made g c =
-    let s : Shape = g.L.Layout.shape c.args.layout in
+returns-clause-made c =
+    let s : Shape = c.args.layout in
     let memory : c.in_ok-memory.memory.words ≡ zero_words (size_of s) = search rules in
     c.over.ensures ∙ ap (world_over s) memory

@@ -6,8 +6,8 @@ use Rattle.interleave.proofs.AskedKept.{asked_at_first}
 use Rattle.interleave.proofs.world.World.over.Goals as goal
 
 pub invariant_of-result : goal.invariant_of-result
-invariant_of-result g c =
-    let s = g.L.Layout.shape c.args.layout in
+invariant_of-result c =
+    let s = c.args.layout in
     let over : state_of c.new.result c.args.memory.words ≡ world_over s c.args.memory.words = c.new.ensures.world c.args.memory.words in
     record {
       world = c.new.ensures.holds c.args.memory.words c.requires;
@@ -15,4 +15,4 @@ invariant_of-result g c =
     }
 
 pub returns : goal.returns
-returns g c = c.new.ensures.world c.args.memory.words
+returns c = c.new.ensures.world c.args.memory.words

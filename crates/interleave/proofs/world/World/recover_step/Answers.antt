@@ -16,81 +16,81 @@ use Rattle.interleave.proofs.KeptTells.{falls_on, few_to_ready, tells_on}
 use Rattle.interleave.proofs.world.World.recover_step.Goals as goal
 
 pub returns-clause-explained : goal.returns-clause-explained
-returns-clause-explained g c =
+returns-clause-explained c =
     explained_world _ c.recover_step_in.ensures.holds.world
 
 pub returns-clause-sound : goal.returns-clause-sound
-returns-clause-sound g c =
+returns-clause-sound c =
     kept_sound _ c.recover_step_in.ensures.holds.world
 
 pub returns-clause-order : goal.returns-clause-order
-returns-clause-order g c =
+returns-clause-order c =
     let old : State = state_of c.self.inside.core c.self.inside.memory.words in
     let was : old ≡ c.args.self.now.now = ap (λ (r : Roomy). r.now) c.self.view_is in
     ap order_in c.recover_step_in.ensures.world ∙ part_after_recover (is_no_memory c.recover_step_in.result) old ∙ ap order_in was
 
 pub returns-clause-tells : goal.returns-clause-tells
-returns-clause-tells g c =
+returns-clause-tells c =
     let old : State = state_of c.self.inside.core c.self.inside.memory.words in
     let was : old ≡ c.args.self.now.now = ap (λ (r : Roomy). r.now) c.self.view_is in
     ap kept_tells c.recover_step_in.ensures.world ∙ (tells_on (is_no_memory c.recover_step_in.result) old c.self.invariant.world).0 ∙ ap kept_tells was
 
 pub returns-clause-holds : goal.returns-clause-holds
-returns-clause-holds g c =
+returns-clause-holds c =
     let old : State = state_of c.self.inside.core c.self.inside.memory.words in
     let was : old ≡ c.args.self.now.now = ap (λ (r : Roomy). r.now) c.self.view_is in
     ap kept_content c.recover_step_in.ensures.world ∙ (tells_on (is_no_memory c.recover_step_in.result) old c.self.invariant.world).1 ∙ ap kept_content was
 
 pub returns-clause-told : goal.returns-clause-told
-returns-clause-told g c = λ ready.
+returns-clause-told c = λ ready.
     let old : State = state_of c.self.inside.core c.self.inside.memory.words in
     let at_ready = told_at_ready (is_no_memory c.recover_step_in.result) old c.self.invariant.world (sym c.recover_step_in.ensures.result ∙ ready) in
     subst (λ (w : State). told_in w.queue ≡ kept_tells w) (sym c.recover_step_in.ensures.world) at_ready.told
 
 pub returns-clause-announced : goal.returns-clause-announced
-returns-clause-announced g c = λ ready.
+returns-clause-announced c = λ ready.
     let old : State = state_of c.self.inside.core c.self.inside.memory.words in
     let at_ready = told_at_ready (is_no_memory c.recover_step_in.result) old c.self.invariant.world (sym c.recover_step_in.ensures.result ∙ ready) in
     subst AreToldOfAnnounced (sym c.recover_step_in.ensures.world) at_ready.announced
 
 pub returns-clause-unannounced : goal.returns-clause-unannounced
-returns-clause-unannounced g c = λ ready.
+returns-clause-unannounced c = λ ready.
     let old : State = state_of c.self.inside.core c.self.inside.memory.words in
     let at_ready = told_at_ready (is_no_memory c.recover_step_in.result) old c.self.invariant.world (sym c.recover_step_in.ensures.result ∙ ready) in
     subst (λ (w : State). UnannouncedAreOut (order_in w) w) (sym c.recover_step_in.ensures.world) at_ready.unannounced
 
 pub returns-clause-stands : goal.returns-clause-stands
-returns-clause-stands g c = λ ready.
+returns-clause-stands c = λ ready.
     let old : State = state_of c.self.inside.core c.self.inside.memory.words in
     let at_ready = told_at_ready (is_no_memory c.recover_step_in.result) old c.self.invariant.world (sym c.recover_step_in.ensures.result ∙ ready) in
     subst IsToldForGood (sym c.recover_step_in.ensures.world) at_ready.stands
 
 pub returns-clause-nobody : goal.returns-clause-nobody
-returns-clause-nobody g c = λ ready.
+returns-clause-nobody c = λ ready.
     let old : State = state_of c.self.inside.core c.self.inside.memory.words in
     let at_ready = told_at_ready (is_no_memory c.recover_step_in.result) old c.self.invariant.world (sym c.recover_step_in.ensures.result ∙ ready) in
     subst NobodyCalls (sym c.recover_step_in.ensures.world) at_ready.nobody
 
 pub returns-clause-floors : goal.returns-clause-floors
-returns-clause-floors g c = λ ready.
+returns-clause-floors c = λ ready.
     let old : State = state_of c.self.inside.core c.self.inside.memory.words in
     let at_ready = told_at_ready (is_no_memory c.recover_step_in.result) old c.self.invariant.world (sym c.recover_step_in.ensures.result ∙ ready) in
     subst AreWithinFloors (sym c.recover_step_in.ensures.world) at_ready.floors
 
 pub returns-clause-mended : goal.returns-clause-mended
-returns-clause-mended g c = λ ready.
+returns-clause-mended c = λ ready.
     let old : State = state_of c.self.inside.core c.self.inside.memory.words in
     let at_ready = told_at_ready (is_no_memory c.recover_step_in.result) old c.self.invariant.world (sym c.recover_step_in.ensures.result ∙ ready) in
     subst IsMended (sym c.recover_step_in.ensures.world) at_ready.mended
 
 pub returns-clause-few : goal.returns-clause-few
-returns-clause-few g c =
+returns-clause-few c =
     let old : State = state_of c.self.inside.core c.self.inside.memory.words in
     let was : old ≡ c.args.self.now.now = ap (λ (r : Roomy). r.now) c.self.view_is in
     subst (λ (w : State). steps_to_ready w ≤ most_to_ready w.shape) was (few_to_ready old c.self.invariant.world)
 
 pub returns-clause-falls : goal.returns-clause-falls
-returns-clause-falls g c =
+returns-clause-falls c =
     let old : State = state_of c.self.inside.core c.self.inside.memory.words in
     let was : old ≡ c.args.self.now.now = ap (λ (r : Roomy). r.now) c.self.view_is in
     let full = is_no_memory c.recover_step_in.result in

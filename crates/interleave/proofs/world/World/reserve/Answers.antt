@@ -2,4 +2,4 @@ use Rattle.interleave.proofs.MachineFacts.{room_held}
 use Rattle.interleave.proofs.world.World.reserve.Goals as goal
 
 pub reserve-requires : goal.reserve-requires
-reserve-requires g c = room_held c.self.invariant.world
+reserve-requires c = room_held c.self.invariant.world

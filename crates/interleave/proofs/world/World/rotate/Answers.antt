@@ -16,15 +16,15 @@ use Rattle.interleave.proofs.Rotated.{holds_after_rotate, tells_rotated}
 use Rattle.interleave.proofs.world.World.rotate.Goals as goal
 
 pub rotate-requires-clause-fit : goal.rotate-requires-clause-fit
-rotate-requires-clause-fit g c =
+rotate-requires-clause-fit c =
     let words = c.self.invariant.world.safe.words in
     record { room = omega (arith, words.room, words.same); fits = words.kept }
 
 pub rotate-requires-clause-sound : goal.rotate-requires-clause-sound
-rotate-requires-clause-sound g c = kept_sound _ c.self.invariant.world
+rotate-requires-clause-sound c = kept_sound _ c.self.invariant.world
 
 pub invariant_of-self : goal.invariant_of-self
-invariant_of-self g c =
+invariant_of-self c =
     let old : State = state_of c.self.inside.core c.self.inside.memory.words in
     let was : old ≡ c.args.self.now.now = ap (λ (r : Roomy). r.now) c.self.view_is in
     let left : state_of c.rotate.new.self c.self.inside.memory.words ≡ after_rotate (is_no_memory c.rotate.result) old = c.rotate.ensures.world c.self.inside.memory.words refl in
@@ -36,7 +36,7 @@ invariant_of-self g c =
     }
 
 pub returns-clause-world : goal.returns-clause-world
-returns-clause-world g c =
+returns-clause-world c =
     let old : State = state_of c.self.inside.core c.self.inside.memory.words in
     let was : old ≡ c.args.self.now.now = ap (λ (r : Roomy). r.now) c.self.view_is in
     let left : state_of c.rotate.new.self c.self.inside.memory.words ≡ after_rotate (is_no_memory c.rotate.result) old = c.rotate.ensures.world c.self.inside.memory.words refl in
@@ -44,7 +44,7 @@ returns-clause-world g c =
     left ∙ ap (after_rotate (is_no_memory c.rotate.result)) was
 
 pub returns-clause-result : goal.returns-clause-result
-returns-clause-result g c =
+returns-clause-result c =
     let old : State = state_of c.self.inside.core c.self.inside.memory.words in
     let was : old ≡ c.args.self.now.now = ap (λ (r : Roomy). r.now) c.self.view_is in
     let left : state_of c.rotate.new.self c.self.inside.memory.words ≡ after_rotate (is_no_memory c.rotate.result) old = c.rotate.ensures.world c.self.inside.memory.words refl in
@@ -52,7 +52,7 @@ returns-clause-result g c =
     sym answer ∙ ap (rotate_result (is_no_memory c.rotate.result)) was
 
 pub returns-clause-explained : goal.returns-clause-explained
-returns-clause-explained g c =
+returns-clause-explained c =
     let old : State = state_of c.self.inside.core c.self.inside.memory.words in
     let was : old ≡ c.args.self.now.now = ap (λ (r : Roomy). r.now) c.self.view_is in
     let left : state_of c.rotate.new.self c.self.inside.memory.words ≡ after_rotate (is_no_memory c.rotate.result) old = c.rotate.ensures.world c.self.inside.memory.words refl in
@@ -60,7 +60,7 @@ returns-clause-explained g c =
     subst IsExplained (sym left) (explained_world _ (holds_after_rotate (is_no_memory c.rotate.result) old c.self.invariant.world))
 
 pub returns-clause-sound : goal.returns-clause-sound
-returns-clause-sound g c =
+returns-clause-sound c =
     let old : State = state_of c.self.inside.core c.self.inside.memory.words in
     let was : old ≡ c.args.self.now.now = ap (λ (r : Roomy). r.now) c.self.view_is in
     let left : state_of c.rotate.new.self c.self.inside.memory.words ≡ after_rotate (is_no_memory c.rotate.result) old = c.rotate.ensures.world c.self.inside.memory.words refl in
@@ -68,7 +68,7 @@ returns-clause-sound g c =
     subst IsKeptSound (sym left) (kept_sound _ (holds_after_rotate (is_no_memory c.rotate.result) old c.self.invariant.world))
 
 pub returns-clause-tells : goal.returns-clause-tells
-returns-clause-tells g c =
+returns-clause-tells c =
     let old : State = state_of c.self.inside.core c.self.inside.memory.words in
     let was : old ≡ c.args.self.now.now = ap (λ (r : Roomy). r.now) c.self.view_is in
     let left : state_of c.rotate.new.self c.self.inside.memory.words ≡ after_rotate (is_no_memory c.rotate.result) old = c.rotate.ensures.world c.self.inside.memory.words refl in
@@ -76,7 +76,7 @@ returns-clause-tells g c =
     ap kept_tells left ∙ (tells_rotated (is_no_memory c.rotate.result) old).0 ∙ ap kept_tells was
 
 pub returns-clause-holds : goal.returns-clause-holds
-returns-clause-holds g c =
+returns-clause-holds c =
     let old : State = state_of c.self.inside.core c.self.inside.memory.words in
     let was : old ≡ c.args.self.now.now = ap (λ (r : Roomy). r.now) c.self.view_is in
     let left : state_of c.rotate.new.self c.self.inside.memory.words ≡ after_rotate (is_no_memory c.rotate.result) old = c.rotate.ensures.world c.self.inside.memory.words refl in
@@ -84,7 +84,7 @@ returns-clause-holds g c =
     ap kept_content left ∙ (tells_rotated (is_no_memory c.rotate.result) old).1 ∙ ap kept_content was
 
 pub returns-clause-told : goal.returns-clause-told
-returns-clause-told g c = λ ok.
+returns-clause-told c = λ ok.
     let old : State = state_of c.self.inside.core c.self.inside.memory.words in
     let was : old ≡ c.args.self.now.now = ap (λ (r : Roomy). r.now) c.self.view_is in
     let full = is_no_memory c.rotate.result in
@@ -93,7 +93,7 @@ returns-clause-told g c = λ ok.
     ap (λ (w : State). told_in w.queue) left ∙ made.told ∙ ap kept_tells was
 
 pub returns-clause-announced : goal.returns-clause-announced
-returns-clause-announced g c = λ ok.
+returns-clause-announced c = λ ok.
     let old : State = state_of c.self.inside.core c.self.inside.memory.words in
     let was : old ≡ c.args.self.now.now = ap (λ (r : Roomy). r.now) c.self.view_is in
     let full = is_no_memory c.rotate.result in
@@ -101,7 +101,7 @@ returns-clause-announced g c = λ ok.
     subst IsBaseToldRightly was made.announced
 
 pub returns-clause-numbers : goal.returns-clause-numbers
-returns-clause-numbers g c = λ ok.
+returns-clause-numbers c = λ ok.
     let old : State = state_of c.self.inside.core c.self.inside.memory.words in
     let was : old ≡ c.args.self.now.now = ap (λ (r : Roomy). r.now) c.self.view_is in
     let full = is_no_memory c.rotate.result in
@@ -109,7 +109,7 @@ returns-clause-numbers g c = λ ok.
     subst AreNumbersTold was made.numbers
 
 pub returns-clause-nobody : goal.returns-clause-nobody
-returns-clause-nobody g c = λ ok.
+returns-clause-nobody c = λ ok.
     let old : State = state_of c.self.inside.core c.self.inside.memory.words in
     let full = is_no_memory c.rotate.result in
     let left : state_of c.rotate.new.self c.self.inside.memory.words ≡ after_rotate full old = c.rotate.ensures.world c.self.inside.memory.words refl in

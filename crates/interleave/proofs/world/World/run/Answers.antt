@@ -21,7 +21,7 @@ count_few true = omega arith
 count_few false = omega arith
 
 pub loop-act-init : goal.loop-act-init
-loop-act-init g c =
+loop-act-init c =
     record {
       so_far = none_so_far c.args.self.now.room c.args.self.now.now;
       room = omega arith;
@@ -30,7 +30,7 @@ loop-act-init g c =
     }
 
 pub loop-act-preserved : goal.loop-act-preserved
-loop-act-preserved g c =
+loop-act-preserved c =
     let xs : List (Act ℕ) = c.args.acts.now in
     let i = c.loop-act.act-index in
     let old : State = c.args.self.now.now in
@@ -62,7 +62,7 @@ loop-act-preserved g c =
     }
 
 pub returns-clause-run : goal.returns-clause-run
-returns-clause-run g c =
+returns-clause-run c =
     let xs : List (Act ℕ) = c.args.acts.now in
     let whole : take c.loop-act.act-index xs ≡ xs = take_all c.loop-act.act-index xs (omega (arith, c.loop-act-test.false)) in
     let run = subst (λ (ys : List (Act ℕ)). SoFar c.args.self.now.room c.args.self.now.now ys c.loop-act.ran.taken c.loop-act.self.now) whole c.loop-act.invariant.so_far in
@@ -78,13 +78,13 @@ returns-clause-run g c =
     }
 
 pub returns-clause-explained : goal.returns-clause-explained
-returns-clause-explained g c = explained_world _ c.loop-act.invariant.holds
+returns-clause-explained c = explained_world _ c.loop-act.invariant.holds
 
 pub returns-clause-sound : goal.returns-clause-sound
-returns-clause-sound g c = kept_sound _ c.loop-act.invariant.holds
+returns-clause-sound c = kept_sound _ c.loop-act.invariant.holds
 
 pub returns-clause-order : goal.returns-clause-order
-returns-clause-order g c = c.loop-act.invariant.so_far.on.part
+returns-clause-order c = c.loop-act.invariant.so_far.on.part
 
 pub returns-clause-ended : goal.returns-clause-ended
-returns-clause-ended g c = c.loop-act.invariant.so_far.on.ended
+returns-clause-ended c = c.loop-act.invariant.so_far.on.ended

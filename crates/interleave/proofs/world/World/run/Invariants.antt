@@ -5,7 +5,7 @@ use Rattle.interleave.proofs.world.World.run.Given as goal
 
 -- how the acts so far went
 abbrev pub invariant-loop-act : goal.invariant-loop-act
-invariant-loop-act g l =
+invariant-loop-act l =
     record {
       so_far : SoFar l.fn.self.room l.fn.self.now (take l.act-index l.acts) l.ran.taken l.self.now;
       room : l.fn.self.room ≤ l.self.room + l.ran.taken;

@@ -13,13 +13,13 @@ use Rattle.interleave.proofs.KeptTells.{kept_sound}
 use Rattle.interleave.proofs.world.World.run_alone.Goals as goal
 
 pub returns-clause-explained : goal.returns-clause-explained
-returns-clause-explained g c = explained_world _ c.run_alone_in.ensures.holds.world
+returns-clause-explained c = explained_world _ c.run_alone_in.ensures.holds.world
 
 pub returns-clause-sound : goal.returns-clause-sound
-returns-clause-sound g c = kept_sound _ c.run_alone_in.ensures.holds.world
+returns-clause-sound c = kept_sound _ c.run_alone_in.ensures.holds.world
 
 pub returns-clause-order : goal.returns-clause-order
-returns-clause-order g c =
+returns-clause-order c =
     let old : State = state_of c.self.inside.core c.self.inside.memory.words in
     let new : State = state_of c.run_alone_in.new.self c.run_alone_in.new.memory.words in
     let was : old ≡ c.args.self.now.now = ap (λ (r : Roomy). r.now) c.self.view_is in
@@ -27,7 +27,7 @@ returns-clause-order g c =
     subst (λ (w : State). IsPartOf (order_in w) (order_in new)) was on.part
 
 pub returns-clause-ended : goal.returns-clause-ended
-returns-clause-ended g c =
+returns-clause-ended c =
     let old : State = state_of c.self.inside.core c.self.inside.memory.words in
     let new : State = state_of c.run_alone_in.new.self c.run_alone_in.new.memory.words in
     let was : old ≡ c.args.self.now.now = ap (λ (r : Roomy). r.now) c.self.view_is in
@@ -35,7 +35,7 @@ returns-clause-ended g c =
     subst (λ (w : State). EndedCallsStay w new) was on.ended
 
 pub returns-clause-turn : goal.returns-clause-turn
-returns-clause-turn g c =
+returns-clause-turn c =
     let old : State = state_of c.self.inside.core c.self.inside.memory.words in
     let new : State = state_of c.run_alone_in.new.self c.run_alone_in.new.memory.words in
     let was : old ≡ c.args.self.now.now = ap (λ (r : Roomy). r.now) c.self.view_is in

@@ -15,21 +15,21 @@ use Rattle.interleave.proofs.TurnLaws.{started_in_turn}
 use Rattle.interleave.proofs.world.World.start.Goals as goal
 
 pub returns-clause-explained : goal.returns-clause-explained
-returns-clause-explained g c =
+returns-clause-explained c =
     explained_world _ c.start_in.ensures.holds.world
 
 pub returns-clause-sound : goal.returns-clause-sound
-returns-clause-sound g c =
+returns-clause-sound c =
     kept_sound _ c.start_in.ensures.holds.world
 
 pub returns-clause-order : goal.returns-clause-order
-returns-clause-order g c =
+returns-clause-order c =
     let old : State = state_of c.self.inside.core c.self.inside.memory.words in
     let was : old ≡ c.args.self.now.now = ap (λ (r : Roomy). r.now) c.self.view_is in
     ap order_in c.start_in.ensures.world ∙ part_after_start (is_no_memory c.start_in.result) old c.args.client c.args.number c.args.call ∙ ap order_in was
 
 pub returns-clause-reused : goal.returns-clause-reused
-returns-clause-reused g c = λ accepted.
+returns-clause-reused c = λ accepted.
     let old : State = state_of c.self.inside.core c.self.inside.memory.words in
     let was : old ≡ c.args.self.now.now = ap (λ (r : Roomy). r.now) c.self.view_is in
     let value : (v : Value) → c.args.call ≡ Enq v → FitsValue v = search rules in
@@ -39,7 +39,7 @@ returns-clause-reused g c = λ accepted.
     c.self.invariant.world fits (sym c.start_in.ensures.result ∙ accepted))
 
 pub returns-clause-turn : goal.returns-clause-turn
-returns-clause-turn g c = λ accepted nobody.
+returns-clause-turn c = λ accepted nobody.
     let old : State = state_of c.self.inside.core c.self.inside.memory.words in
     let was : old ≡ c.args.self.now.now = ap (λ (r : Roomy). r.now) c.self.view_is in
     subst (λ (w : State). IsInTurn w c.args.client c.args.call) (sym c.start_in.ensures.world)

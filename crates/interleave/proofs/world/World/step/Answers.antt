@@ -12,22 +12,22 @@ use Rattle.interleave.proofs.StandingLaws.{ended_after_step}
 use Rattle.interleave.proofs.world.World.step.Goals as goal
 
 pub returns-clause-explained : goal.returns-clause-explained
-returns-clause-explained g c =
+returns-clause-explained c =
     explained_world _ c.step_in.ensures.holds.world
 
 pub returns-clause-sound : goal.returns-clause-sound
-returns-clause-sound g c =
+returns-clause-sound c =
     kept_sound _ c.step_in.ensures.holds.world
 
 pub returns-clause-order : goal.returns-clause-order
-returns-clause-order g c =
+returns-clause-order c =
     let old : State = state_of c.self.inside.core c.self.inside.memory.words in
     let was : old ≡ c.args.self.now.now = ap (λ (r : Roomy). r.now) c.self.view_is in
     subst (λ (w : State). IsPartOf (order_in w) (order_in (state_of c.step_in.new.self c.step_in.new.memory.words))) was
     (subst (λ (w : State). IsPartOf (order_in old) (order_in w)) (sym c.step_in.ensures.world) (part_after_step (is_no_memory c.step_in.result) old c.args.client c.self.invariant.world))
 
 pub returns-clause-ended : goal.returns-clause-ended
-returns-clause-ended g c =
+returns-clause-ended c =
     let old : State = state_of c.self.inside.core c.self.inside.memory.words in
     let was : old ≡ c.args.self.now.now = ap (λ (r : Roomy). r.now) c.self.view_is in
     subst (λ (w : State). EndedCallsStay w (state_of c.step_in.new.self c.step_in.new.memory.words)) was

@@ -19,7 +19,7 @@ use Rattle.named.proofs.Windows.{ActedIn, Window, alone_in, alone_lender, evicte
 use Rattle.named.proofs.block.Block.evict.Goals as goal
 
 pub evict-requires : goal.evict-requires
-evict-requires g c =
+evict-requires c =
     let old : MemoryState = c.args.memory.now in
     let was : BlockState = record { core = c.self.inside.core; from = c.self.inside.from; len = c.self.inside.len; port = c.self.inside.port } in
     record {
@@ -28,7 +28,7 @@ evict-requires g c =
     }
 
 pub returns-clause-state : goal.returns-clause-state
-returns-clause-state g c =
+returns-clause-state c =
     let w = c.in_ok-window.window in
     let v = c.evict.new.memory in
     let old : MemoryState = c.args.memory.now in
@@ -52,7 +52,7 @@ returns-clause-state g c =
     search rules
 
 pub returns-clause-well : goal.returns-clause-well
-returns-clause-well g c =
+returns-clause-well c =
     let w = c.in_ok-window.window in
     let v = c.evict.new.memory in
     let old : MemoryState = c.args.memory.now in
@@ -76,7 +76,7 @@ returns-clause-well g c =
     search rules
 
 pub returns-clause-asked : goal.returns-clause-asked
-returns-clause-asked g c =
+returns-clause-asked c =
     let w = c.in_ok-window.window in
     let v = c.evict.new.memory in
     let old : MemoryState = c.args.memory.now in
@@ -100,7 +100,7 @@ returns-clause-asked g c =
     search rules
 
 pub returns-clause-beside : goal.returns-clause-beside
-returns-clause-beside g c =
+returns-clause-beside c =
     let w = c.in_ok-window.window in
     let v = c.evict.new.memory in
     let old : MemoryState = c.args.memory.now in
@@ -124,7 +124,7 @@ returns-clause-beside g c =
     search rules
 
 pub returns-clause-outside : goal.returns-clause-outside
-returns-clause-outside g c =
+returns-clause-outside c =
     let w = c.in_ok-window.window in
     let v = c.evict.new.memory in
     let old : MemoryState = c.args.memory.now in
@@ -148,7 +148,7 @@ returns-clause-outside g c =
     search rules
 
 pub returns-clause-words : goal.returns-clause-words
-returns-clause-words g c =
+returns-clause-words c =
     let w = c.in_ok-window.window in
     let v = c.evict.new.memory in
     let old : MemoryState = c.args.memory.now in
@@ -176,7 +176,7 @@ returns-clause-words g c =
     search rules
 
 pub returns-clause-result : goal.returns-clause-result
-returns-clause-result g c =
+returns-clause-result c =
     let old : Words = c.args.memory.now.words in
     let was : BlockState = record { core = c.self.inside.core; from = c.self.inside.from; len = c.self.inside.len; port = c.self.inside.port } in
     let shown : Words = words_in was.from was.len old in
@@ -192,7 +192,7 @@ returns-clause-result g c =
     ap Ok (c.renumbered.ensures ∙ ap (change_at c.args.word) is ∙ change_there c.self.inside.from c.self.inside.len c.args.word old from len)
 
 pub returns-in_err-change-clause-asked : goal.returns-in_err-change-clause-asked
-returns-in_err-change-clause-asked g c =
+returns-in_err-change-clause-asked c =
     let w = c.in_ok-window.window in
     let v = c.evict.new.memory in
     let old : MemoryState = c.args.memory.now in
@@ -216,7 +216,7 @@ returns-in_err-change-clause-asked g c =
     search rules
 
 pub returns-in_err-change-clause-beside : goal.returns-in_err-change-clause-beside
-returns-in_err-change-clause-beside g c =
+returns-in_err-change-clause-beside c =
     let w = c.in_ok-window.window in
     let v = c.evict.new.memory in
     let old : MemoryState = c.args.memory.now in

@@ -19,21 +19,21 @@ use Rattle.named.proofs.Windows.{ActedIn, Window, alone_in, alone_lender, evicte
 use Rattle.named.proofs.block.Block.recover_step.Goals as goal
 
 pub recover_step-requires-clause-holds : goal.recover_step-requires-clause-holds
-recover_step-requires-clause-holds g c =
+recover_step-requires-clause-holds c =
     let old : MemoryState = c.args.memory.now in
     let was : BlockState = record { core = c.self.inside.core; from = c.self.inside.from; len = c.self.inside.len; port = c.self.inside.port } in
     subst (λ (ws : Words). Holds (state_of was.core ws)) (sym c.in_ok-window.ensures.words)
     (subst (λ (s : BlockState). Holds (state_in old.words s)) (sym c.self.view_is) c.requires.well.holds)
 
 pub recover_step-requires-clause-asked : goal.recover_step-requires-clause-asked
-recover_step-requires-clause-asked g c =
+recover_step-requires-clause-asked c =
     let old : MemoryState = c.args.memory.now in
     let was : BlockState = record { core = c.self.inside.core; from = c.self.inside.from; len = c.self.inside.len; port = c.self.inside.port } in
     let asked : IsAskedIn old was = subst (λ (s : BlockState). IsAskedIn old s) (sym c.self.view_is) c.requires.asked in
     subst (IfRecoveryAsked was.core.shape was.core.trace.recovery) (sym (ap (λ (l : Lent). l.request) c.in_ok-window.ensures.lent)) asked.of_recovery
 
 pub returns-clause-state : goal.returns-clause-state
-returns-clause-state g c =
+returns-clause-state c =
     let w = c.in_ok-window.window in
     let v = c.recover_step.new.memory in
     let old : MemoryState = c.args.memory.now in
@@ -59,7 +59,7 @@ returns-clause-state g c =
     search rules
 
 pub returns-clause-well : goal.returns-clause-well
-returns-clause-well g c =
+returns-clause-well c =
     let w = c.in_ok-window.window in
     let v = c.recover_step.new.memory in
     let old : MemoryState = c.args.memory.now in
@@ -85,7 +85,7 @@ returns-clause-well g c =
     search rules
 
 pub returns-clause-asked : goal.returns-clause-asked
-returns-clause-asked g c =
+returns-clause-asked c =
     let w = c.in_ok-window.window in
     let v = c.recover_step.new.memory in
     let old : MemoryState = c.args.memory.now in
@@ -111,7 +111,7 @@ returns-clause-asked g c =
     search rules
 
 pub returns-clause-beside : goal.returns-clause-beside
-returns-clause-beside g c =
+returns-clause-beside c =
     let w = c.in_ok-window.window in
     let v = c.recover_step.new.memory in
     let old : MemoryState = c.args.memory.now in
@@ -137,7 +137,7 @@ returns-clause-beside g c =
     search rules
 
 pub returns-clause-outside : goal.returns-clause-outside
-returns-clause-outside g c =
+returns-clause-outside c =
     let w = c.in_ok-window.window in
     let v = c.recover_step.new.memory in
     let old : MemoryState = c.args.memory.now in

@@ -19,21 +19,21 @@ use Rattle.named.proofs.Windows.{ActedIn, Window, alone_asked, alone_beside, alo
 use Rattle.named.proofs.block.Block.run_alone.Goals as goal
 
 pub run_alone-requires-clause-holds : goal.run_alone-requires-clause-holds
-run_alone-requires-clause-holds g c =
+run_alone-requires-clause-holds c =
     let old : MemoryState = c.args.memory.now in
     let was : BlockState = record { core = c.self.inside.core; from = c.self.inside.from; len = c.self.inside.len; port = c.self.inside.port } in
     subst (λ (ws : Words). Holds (state_of was.core ws)) (sym c.in_ok-window.ensures.words)
     (subst (λ (s : BlockState). Holds (state_in old.words s)) (sym c.self.view_is) c.requires.well.holds)
 
 pub run_alone-requires-clause-asked : goal.run_alone-requires-clause-asked
-run_alone-requires-clause-asked g c =
+run_alone-requires-clause-asked c =
     let old : MemoryState = c.args.memory.now in
     let was : BlockState = record { core = c.self.inside.core; from = c.self.inside.from; len = c.self.inside.len; port = c.self.inside.port } in
     let asked : IsAskedIn old was = subst (λ (s : BlockState). IsAskedIn old s) (sym c.self.view_is) c.requires.asked in
     subst (IfCallAsked was.core.shape _) (sym (ap (λ (l : Lent). l.request) c.in_ok-window.ensures.lent)) (asked.of_calls c.args.client.0)
 
 pub returns-clause-well : goal.returns-clause-well
-returns-clause-well g c =
+returns-clause-well c =
     let w = c.in_ok-window.window in
     let v = c.run_alone.new.memory in
     let old : MemoryState = c.args.memory.now in
@@ -57,7 +57,7 @@ returns-clause-well g c =
     search rules
 
 pub returns-clause-asked : goal.returns-clause-asked
-returns-clause-asked g c =
+returns-clause-asked c =
     let w = c.in_ok-window.window in
     let v = c.run_alone.new.memory in
     let old : MemoryState = c.args.memory.now in
@@ -81,7 +81,7 @@ returns-clause-asked g c =
     search rules
 
 pub returns-clause-beside : goal.returns-clause-beside
-returns-clause-beside g c =
+returns-clause-beside c =
     let w = c.in_ok-window.window in
     let v = c.run_alone.new.memory in
     let old : MemoryState = c.args.memory.now in
@@ -105,7 +105,7 @@ returns-clause-beside g c =
     search rules
 
 pub returns-clause-outside : goal.returns-clause-outside
-returns-clause-outside g c =
+returns-clause-outside c =
     let w = c.in_ok-window.window in
     let v = c.run_alone.new.memory in
     let old : MemoryState = c.args.memory.now in
@@ -129,7 +129,7 @@ returns-clause-outside g c =
     search rules
 
 pub returns-clause-same : goal.returns-clause-same
-returns-clause-same g c =
+returns-clause-same c =
     let w = c.in_ok-window.window in
     let v = c.run_alone.new.memory in
     let old : MemoryState = c.args.memory.now in
@@ -153,7 +153,7 @@ returns-clause-same g c =
     search rules
 
 pub returns-clause-world : goal.returns-clause-world
-returns-clause-world g c =
+returns-clause-world c =
     let w = c.in_ok-window.window in
     let v = c.run_alone.new.memory in
     let old : MemoryState = c.args.memory.now in
@@ -177,7 +177,7 @@ returns-clause-world g c =
     search rules
 
 pub returns-clause-answer : goal.returns-clause-answer
-returns-clause-answer g c =
+returns-clause-answer c =
     let old : MemoryState = c.args.memory.now in
     let was : BlockState = record { core = c.self.inside.core; from = c.self.inside.from; len = c.self.inside.len; port = c.self.inside.port } in
     subst (λ (s : BlockState). IfOk c.run_alone.result (λ answer. IsAnsweredAlone (state_in old.words s) c.args.client answer.1 answer.0)) c.self.view_is
@@ -185,7 +185,7 @@ returns-clause-answer g c =
     c.run_alone.ensures.answer)
 
 pub returns-clause-place : goal.returns-clause-place
-returns-clause-place g c =
+returns-clause-place c =
     let before : Words = window_words c.in_ok-window.window in
     let left : Words = window_words c.run_alone.new.memory in
     let alike = alone_alike_by (state_of c.self.inside.core before) (state_of c.run_alone.new.self left) c.args.client c.run_alone.result c.run_alone.ensures.same c.run_alone.ensures.world in (

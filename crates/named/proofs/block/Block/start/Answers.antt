@@ -19,7 +19,7 @@ use Rattle.named.proofs.Windows.{ActedIn, Window, alone_in, alone_lender, evicte
 use Rattle.named.proofs.block.Block.start.Goals as goal
 
 pub start-requires : goal.start-requires
-start-requires g c =
+start-requires c =
     let old : MemoryState = c.args.memory.now in
     let was : BlockState = record { core = c.self.inside.core; from = c.self.inside.from; len = c.self.inside.len; port = c.self.inside.port } in
     record {
@@ -28,7 +28,7 @@ start-requires g c =
     }
 
 pub returns-clause-state : goal.returns-clause-state
-returns-clause-state g c =
+returns-clause-state c =
     let w = c.in_ok-window.window in
     let v = c.start.new.memory in
     let old : MemoryState = c.args.memory.now in
@@ -53,7 +53,7 @@ returns-clause-state g c =
     search rules
 
 pub returns-clause-well : goal.returns-clause-well
-returns-clause-well g c =
+returns-clause-well c =
     let w = c.in_ok-window.window in
     let v = c.start.new.memory in
     let old : MemoryState = c.args.memory.now in
@@ -78,7 +78,7 @@ returns-clause-well g c =
     search rules
 
 pub returns-clause-asked : goal.returns-clause-asked
-returns-clause-asked g c =
+returns-clause-asked c =
     let w = c.in_ok-window.window in
     let v = c.start.new.memory in
     let old : MemoryState = c.args.memory.now in
@@ -103,7 +103,7 @@ returns-clause-asked g c =
     search rules
 
 pub returns-clause-beside : goal.returns-clause-beside
-returns-clause-beside g c =
+returns-clause-beside c =
     let w = c.in_ok-window.window in
     let v = c.start.new.memory in
     let old : MemoryState = c.args.memory.now in
@@ -128,7 +128,7 @@ returns-clause-beside g c =
     search rules
 
 pub returns-clause-outside : goal.returns-clause-outside
-returns-clause-outside g c =
+returns-clause-outside c =
     let w = c.in_ok-window.window in
     let v = c.start.new.memory in
     let old : MemoryState = c.args.memory.now in
@@ -153,12 +153,12 @@ returns-clause-outside g c =
     search rules
 
 pub returns-clause-recovery : goal.returns-clause-recovery
-returns-clause-recovery g c =
+returns-clause-recovery c =
     let alike = start_alike (is_no_memory c.start.result) (state_of c.self.inside.core (window_words c.in_ok-window.window)) c.args.client c.args.number c.args.call in
     ap (λ (x : State). x.recovery) c.start.ensures.world ∙ alike.1 ∙ ap (λ (s : BlockState). s.core.trace.recovery) c.self.view_is
 
 pub returns-clause-place : goal.returns-clause-place
-returns-clause-place g c =
+returns-clause-place c =
     let alike = start_alike (is_no_memory c.start.result) (state_of c.self.inside.core (window_words c.in_ok-window.window)) c.args.client c.args.number c.args.call in (
       ap (λ (s : BlockState). s.from) c.self.view_is,
       ap (λ (s : BlockState). s.len) c.self.view_is,

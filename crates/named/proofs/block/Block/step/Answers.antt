@@ -19,21 +19,21 @@ use Rattle.named.proofs.Windows.{ActedIn, Window, alone_in, alone_lender, evicte
 use Rattle.named.proofs.block.Block.step.Goals as goal
 
 pub step-requires-clause-holds : goal.step-requires-clause-holds
-step-requires-clause-holds g c =
+step-requires-clause-holds c =
     let old : MemoryState = c.args.memory.now in
     let was : BlockState = record { core = c.self.inside.core; from = c.self.inside.from; len = c.self.inside.len; port = c.self.inside.port } in
     subst (λ (ws : Words). Holds (state_of was.core ws)) (sym c.in_ok-window.ensures.words)
     (subst (λ (s : BlockState). Holds (state_in old.words s)) (sym c.self.view_is) c.requires.well.holds)
 
 pub step-requires-clause-asked : goal.step-requires-clause-asked
-step-requires-clause-asked g c =
+step-requires-clause-asked c =
     let old : MemoryState = c.args.memory.now in
     let was : BlockState = record { core = c.self.inside.core; from = c.self.inside.from; len = c.self.inside.len; port = c.self.inside.port } in
     let asked : IsAskedIn old was = subst (λ (s : BlockState). IsAskedIn old s) (sym c.self.view_is) c.requires.asked in
     subst (IfCallAsked was.core.shape _) (sym (ap (λ (l : Lent). l.request) c.in_ok-window.ensures.lent)) (asked.of_calls c.args.client.0)
 
 pub returns-clause-state : goal.returns-clause-state
-returns-clause-state g c =
+returns-clause-state c =
     let w = c.in_ok-window.window in
     let v = c.step.new.memory in
     let old : MemoryState = c.args.memory.now in
@@ -59,7 +59,7 @@ returns-clause-state g c =
     search rules
 
 pub returns-clause-well : goal.returns-clause-well
-returns-clause-well g c =
+returns-clause-well c =
     let w = c.in_ok-window.window in
     let v = c.step.new.memory in
     let old : MemoryState = c.args.memory.now in
@@ -85,7 +85,7 @@ returns-clause-well g c =
     search rules
 
 pub returns-clause-asked : goal.returns-clause-asked
-returns-clause-asked g c =
+returns-clause-asked c =
     let w = c.in_ok-window.window in
     let v = c.step.new.memory in
     let old : MemoryState = c.args.memory.now in
@@ -111,7 +111,7 @@ returns-clause-asked g c =
     search rules
 
 pub returns-clause-beside : goal.returns-clause-beside
-returns-clause-beside g c =
+returns-clause-beside c =
     let w = c.in_ok-window.window in
     let v = c.step.new.memory in
     let old : MemoryState = c.args.memory.now in
@@ -137,7 +137,7 @@ returns-clause-beside g c =
     search rules
 
 pub returns-clause-outside : goal.returns-clause-outside
-returns-clause-outside g c =
+returns-clause-outside c =
     let w = c.in_ok-window.window in
     let v = c.step.new.memory in
     let old : MemoryState = c.args.memory.now in
@@ -163,12 +163,12 @@ returns-clause-outside g c =
     search rules
 
 pub returns-clause-recovery : goal.returns-clause-recovery
-returns-clause-recovery g c =
+returns-clause-recovery c =
     let alike = step_alike (is_no_memory c.step.result) (state_of c.self.inside.core (window_words c.in_ok-window.window)) c.args.client in
     ap (λ (x : State). x.recovery) c.step.ensures.world ∙ alike.1 ∙ ap (λ (s : BlockState). s.core.trace.recovery) c.self.view_is
 
 pub returns-clause-place : goal.returns-clause-place
-returns-clause-place g c =
+returns-clause-place c =
     let alike = step_alike (is_no_memory c.step.result) (state_of c.self.inside.core (window_words c.in_ok-window.window)) c.args.client in (
       ap (λ (s : BlockState). s.from) c.self.view_is,
       ap (λ (s : BlockState). s.len) c.self.view_is,

@@ -7,14 +7,14 @@ use Rattle.named.proofs.Crashed.{inside_kept}
 use Rattle.named.proofs.block.Block.stop.Goals as goal
 
 pub returns-clause-state : goal.returns-clause-state
-returns-clause-state g c = λ ws.
+returns-clause-state c = λ ws.
     let old : BlockState = record { core = c.self.inside.core; from = c.self.inside.from; len = c.self.inside.len; port = c.self.inside.port } in
     let new : BlockState = record { core = c.stop.new.self; from = c.self.inside.from; len = c.self.inside.len; port = c.self.inside.port } in
     subst (λ (s : BlockState). state_in (words_after_crash ws) new ≡ after_stop (state_in ws s)) c.self.view_is
     (c.stop.ensures.stopped (words_in old.from old.len ws))
 
 pub returns-clause-well : goal.returns-clause-well
-returns-clause-well g c = λ ws well.
+returns-clause-well c = λ ws well.
     let old : BlockState = record { core = c.self.inside.core; from = c.self.inside.from; len = c.self.inside.len; port = c.self.inside.port } in
     let was : IsWellIn ws old = subst (IsWellIn ws) (sym c.self.view_is) well in
     record {
@@ -25,7 +25,7 @@ returns-clause-well g c = λ ws well.
     }
 
 pub returns-clause-place : goal.returns-clause-place
-returns-clause-place g c =
+returns-clause-place c =
     let old : BlockState = record { core = c.self.inside.core; from = c.self.inside.from; len = c.self.inside.len; port = c.self.inside.port } in
     let new : BlockState = record { core = c.stop.new.self; from = c.self.inside.from; len = c.self.inside.len; port = c.self.inside.port } in
     let ws : Words = record { cached = []; kept = []; accesses = 0 } in

@@ -50,7 +50,7 @@ returns-then-slot-ge-SLOTS-clause-refused c = λ refusal e.
     let b : Brokered = record { counts = c.self.inside.layout; words = c.self.inside.memory.words; slots = c.self.inside.slots.items; directory = c.self.inside.directory; creation = c.self.inside.creation; recovery = c.self.inside.recovery } in
     let there : admission b c.args.client ≡ Ok tt = ap (λ (x : Brokered). admission x c.args.client) c.self.view_is ∙ sym c.admit.ensures ∙ c.in_ok-admit.was in
     let g = λ (w : State). waiting_in w c.args.client in
-    let none : answer_at g c.args.self.now c.args.slot.0 c.args.client ≡ Err NoQueue = sym (ap (λ (x : Brokered). answer_at g x c.args.slot.0 c.args.client) c.self.view_is) ∙ no_queue g b c.args.slot.0 c.args.client c.self.invariant.well (omega (arith, c.if-slot-ge-SLOTS.true)) there in
+    let none : answer_at c.args.self.now c.args.slot.0 c.args.client ≡ Err NoQueue = sym (ap (λ (x : Brokered). answer_at g x c.args.slot.0 c.args.client) c.self.view_is) ∙ no_queue g b c.args.slot.0 c.args.client c.self.invariant.well (omega (arith, c.if-slot-ge-SLOTS.true)) there in
     let h = sym none ∙ e in
     let is : NoQueue ≡ refusal = cc (h) in
     ap Err is
@@ -60,7 +60,7 @@ returns-then-slot-ge-SLOTS-clause-errors c =
     let b : Brokered = record { counts = c.self.inside.layout; words = c.self.inside.memory.words; slots = c.self.inside.slots.items; directory = c.self.inside.directory; creation = c.self.inside.creation; recovery = c.self.inside.recovery } in
     let there : admission b c.args.client ≡ Ok tt = ap (λ (x : Brokered). admission x c.args.client) c.self.view_is ∙ sym c.admit.ensures ∙ c.in_ok-admit.was in
     let g = λ (w : State). waiting_in w c.args.client in
-    let none : answer_at g c.args.self.now c.args.slot.0 c.args.client ≡ Err NoQueue = sym (ap (λ (x : Brokered). answer_at g x c.args.slot.0 c.args.client) c.self.view_is) ∙ no_queue g b c.args.slot.0 c.args.client c.self.invariant.well (omega (arith, c.if-slot-ge-SLOTS.true)) there in
+    let none : answer_at c.args.self.now c.args.slot.0 c.args.client ≡ Err NoQueue = sym (ap (λ (x : Brokered). answer_at g x c.args.slot.0 c.args.client) c.self.view_is) ∙ no_queue g b c.args.slot.0 c.args.client c.self.invariant.well (omega (arith, c.if-slot-ge-SLOTS.true)) there in
     inr none
 
 pub returns-clause-refused : goal.returns-clause-refused
@@ -69,7 +69,7 @@ returns-clause-refused c = λ refusal e.
     let b : Brokered = record { counts = c.self.inside.layout; words = c.self.inside.memory.words; slots = c.self.inside.slots.items; directory = c.self.inside.directory; creation = c.self.inside.creation; recovery = c.self.inside.recovery } in
     let there : admission b c.args.client ≡ Ok tt = ap (λ (x : Brokered). admission x c.args.client) c.self.view_is ∙ sym c.admit.ensures ∙ c.in_ok-admit.was in
     let g = λ (w : State). waiting_in w c.args.client in
-    let link = answer_done b c.args.slot.0 c.index_mut.result.now c.run_alone.new.self c.run_alone.new.memory.words c.self.invariant.well here c.run_alone.ensures.well c.run_alone.ensures.outside c.run_alone.ensures.same g c.args.client _ there refl ∙ ap (λ (x : Brokered). answer_at g x c.args.slot.0 c.args.client) c.self.view_is in
+    let link = answer_done b c.args.slot.0 c.index_mut.result.now c.run_alone.new.self c.run_alone.new.memory.words c.self.invariant.well here c.run_alone.ensures.well c.run_alone.ensures.outside c.run_alone.ensures.same c.args.client _ there refl ∙ ap (λ (x : Brokered). answer_at g x c.args.slot.0 c.args.client) c.self.view_is in
     c.run_alone.ensures.refused refusal (link ∙ e)
 
 pub returns-clause-errors : goal.returns-clause-errors
@@ -78,7 +78,7 @@ returns-clause-errors c =
     let b : Brokered = record { counts = c.self.inside.layout; words = c.self.inside.memory.words; slots = c.self.inside.slots.items; directory = c.self.inside.directory; creation = c.self.inside.creation; recovery = c.self.inside.recovery } in
     let there : admission b c.args.client ≡ Ok tt = ap (λ (x : Brokered). admission x c.args.client) c.self.view_is ∙ sym c.admit.ensures ∙ c.in_ok-admit.was in
     let g = λ (w : State). waiting_in w c.args.client in
-    let link = answer_done b c.args.slot.0 c.index_mut.result.now c.run_alone.new.self c.run_alone.new.memory.words c.self.invariant.well here c.run_alone.ensures.well c.run_alone.ensures.outside c.run_alone.ensures.same g c.args.client _ there refl ∙ ap (λ (x : Brokered). answer_at g x c.args.slot.0 c.args.client) c.self.view_is in
+    let link = answer_done b c.args.slot.0 c.index_mut.result.now c.run_alone.new.self c.run_alone.new.memory.words c.self.invariant.well here c.run_alone.ensures.well c.run_alone.ensures.outside c.run_alone.ensures.same c.args.client _ there refl ∙ ap (λ (x : Brokered). answer_at g x c.args.slot.0 c.args.client) c.self.view_is in
     subst (λ (r : Result UnderWay Refusal). IfErr c.run_alone.result (λ e. (e ≡ NoMemory) ⊎ (r ≡ Err e))) link c.run_alone.ensures.errors
 
 pub returns-clause-same : goal.returns-clause-same

@@ -58,7 +58,7 @@ returns-clause-result c =
     let b : Brokered = record { counts = c.self.inside.layout; words = c.self.inside.memory.words; slots = c.self.inside.slots.items; directory = c.self.inside.directory; creation = c.self.inside.creation; recovery = c.self.inside.recovery } in
     let there : admission b c.args.client ≡ Ok tt = ap (λ (x : Brokered). admission x c.args.client) c.self.view_is ∙ sym c.admit.ensures ∙ c.in_ok-admit.was in
     let g = λ (w : State). start_result (is_no_memory c.start.result) w c.args.client c.args.number in
-    answer_done b c.args.slot.0 c.index_mut.result.now c.start.new.self c.start.new.memory.words c.self.invariant.well here c.start.ensures.well c.start.ensures.outside c.start.ensures.same g c.args.client c.start.result there c.start.ensures.result ∙ ap (λ (x : Brokered). answer_at g x c.args.slot.0 c.args.client) c.self.view_is
+    answer_done b c.args.slot.0 c.index_mut.result.now c.start.new.self c.start.new.memory.words c.self.invariant.well here c.start.ensures.well c.start.ensures.outside c.start.ensures.same c.args.client c.start.result there c.start.ensures.result ∙ ap (λ (x : Brokered). answer_at g x c.args.slot.0 c.args.client) c.self.view_is
 
 pub returns-clause-full : goal.returns-clause-full
 returns-clause-full c = λ e.

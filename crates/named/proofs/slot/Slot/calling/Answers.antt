@@ -8,12 +8,7 @@ use Rattle.named.proofs.slot.Slot.calling.Goals as goal
 abbrev found : Option ℕ → Result (Option ℕ) Refusal
 found number = Ok number
 
-pub returns-in-Durable : goal.returns-in-Durable
-returns-in-Durable c = λ ws.
+pub returns-in-Open : goal.returns-in-Open
+returns-in-Open c = λ ws.
     subst (λ (s : Slot). found c.calling.result ≡ answered (λ w. found (number_under_way w c.args.client)) (world_in ws s))
-    (sym c.in-Durable.is) (ap found (c.calling.ensures ws))
-
-pub returns-in-Log : goal.returns-in-Log
-returns-in-Log c = λ ws.
-    subst (λ (s : Slot). found c.calling-in-Log.result ≡ answered (λ w. found (number_under_way w c.args.client)) (world_in ws s))
-    (sym c.in-Log.is) (ap found (c.calling-in-Log.ensures ws))
+    (sym c.in-Open.is) (ap found (c.calling.ensures ws))

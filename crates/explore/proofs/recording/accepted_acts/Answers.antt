@@ -2,12 +2,12 @@ use Rattle.std.proofs.Common.{◌≡◌, ◌++◌, [], drop, refl, sym, ap, ◌�
 use Rattle.std.proofs.lemmas.List.{append-nil, drop_all}
 use Rattle.interleave.specs.State.{new_world}
 use Rattle.explore.proofs.InOrder.{acts_along, acts_are}
-use Rattle.explore.proofs.recording.acts_on.Goals as goal
+use Rattle.explore.proofs.recording.accepted_acts.Goals as goal
 
 pub returns-clause-acts : goal.returns-clause-acts
-returns-clause-acts g c =
+returns-clause-acts c =
     let w = c.loop-command.world.now in
-    let s = g.L.Layout.shape c.args.layout in
+    let s = c.args.layout in
     let acts = c.loop-command.acts.items in
     let none : drop c.loop-command.command-index c.args.commands.now ≡ [] =
     drop_all c.loop-command.command-index c.args.commands.now (omega (arith, c.loop-command-test.false)) in

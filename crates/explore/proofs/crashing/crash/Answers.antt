@@ -7,15 +7,15 @@ use Rattle.interleave.specs.State.{after_crash, most_to_ready}
 use Rattle.arena.specs.Shape.{Shape}
 use Rattle.explore.specs.Points.{found_of, found_in, found_after}
 use Rattle.explore.proofs.Crashes.{comes_to}
-use Rattle.explore.proofs.crashing.crash_on.Goals as goal
+use Rattle.explore.proofs.crashing.crash.Goals as goal
 
 pub returns-clause-found : goal.returns-clause-found
-returns-clause-found g c =
+returns-clause-found c =
     let memory : is_no_memory c.crash.result ≡ false =
     ap (λ (r : Result (Unit {0}) Refusal). is_no_memory r) c.in_ok-crash.was in
     let crashed = c.crash.ensures.world ∙ ap (λ (full : Bool). after_crash full c.evict_words.new.world.now) memory in
     let many = c.most_to_ready-most.ensures ∙ ap most_to_ready c.layout.ensures in
-    let s : Shape = g.L.Layout.shape c.args.layout in
+    let s : Shape = c.args.layout in
     let comes : found_in c.repeat.new.world.now c.in_ok-steps.steps
     ≡ found_after s c.args.acts.now c.args.evictions c.args.point =
     comes_to s c.args.acts.now c.args.evictions c.args.point c.in_ok-world.world.now

@@ -1,10 +1,10 @@
 use Rattle.std.proofs.Common.{◌≡◌, ◌++◌, drop}
 use Rattle.interleave.specs.State.{new_world}
 use Rattle.explore.proofs.InOrder.{acts_along}
-use Rattle.explore.proofs.recording.acts_on.Given as goal
+use Rattle.explore.proofs.recording.accepted_acts.Given as goal
 
 -- the acts so far, and those of the commands that are left, are all
 abbrev pub invariant-loop-command : goal.invariant-loop-command
-invariant-loop-command g l =
+invariant-loop-command l =
     l.acts.items ++ acts_along l.world.now (drop l.command-index l.commands)
-    ≡ acts_along (new_world (g.L.Layout.shape l.fn.layout)) l.commands
+    ≡ acts_along (new_world l.fn.layout) l.commands
