@@ -53,10 +53,7 @@ pub(crate) fn attempt(world: &mut World, act: Act) -> Result<bool, Refusal>
 }
 
 /// Attempts acts, in order. One that is refused is passed over.
-pub(crate) fn attempt_all(
-    world: &mut World,
-    acts: &[Act],
-) -> Result<(), Refusal>
+pub(crate) fn attempt_all(world: &mut World, acts: &[Act]) -> Result<(), Refusal>
     ensures world { OnOk result (world.new.now ≡ after_acts world.old.now acts.now) }
     ensures errors { IfErr result (λ e. e ≡ Refusal.NoMemory) }
 {
@@ -68,11 +65,7 @@ pub(crate) fn attempt_all(
 
 /// Attempts an act again and again, at most so many times and until it is refused, and answers how often it was
 /// accepted. It has to be one that changes nothing where it is refused.
-pub(crate) fn repeat(
-    world: &mut World,
-    act: &Act,
-    most: u32,
-) -> Result<u32, Refusal>
+pub(crate) fn repeat(world: &mut World, act: &Act, most: u32) -> Result<u32, Refusal>
     requires { IsSteady act.now }
     ensures world { OnOk result (world.new.now ≡ after_acts world.old.now (replicate most act.now)) }
     ensures accepted { IfOk result (λ taken. taken ≡ taken_of world.old.now (replicate most act.now)) }

@@ -70,11 +70,7 @@ fn differing(alloc: Global, world: &World) -> Result<Vec<Differs>, Refusal>
 }
 
 /// The frames of acts on a new world.
-fn frames_on(
-    alloc: Global,
-    layout: Layout,
-    acts: &[Act],
-) -> Result<Vec<Frame>, Refusal>
+fn frames_on(alloc: Global, layout: Layout, acts: &[Act]) -> Result<Vec<Frame>, Refusal>
     ensures errors { IfErr result (λ e. e ≡ Refusal.NoMemory) }
 {
     let mut world = World::make(alloc, layout)?;

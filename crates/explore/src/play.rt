@@ -14,11 +14,7 @@ use std::fmt::Write;
 use words::Refusal;
 
 /// Follows all commands on a new world.
-fn play(
-    alloc: Global,
-    layout: Layout,
-    commands: &[Command],
-) -> Result<Vec<Line>, Refusal>
+fn play(alloc: Global, layout: Layout, commands: &[Command]) -> Result<Vec<Line>, Refusal>
     ensures lines { IfOk result (λ lines. lines.items ≡ queue_lines layout commands.now) }
     ensures errors { IfErr result (λ e. e ≡ Refusal.NoMemory) }
 {

@@ -43,11 +43,7 @@ fn push_all(acts: &mut Vec<Act>, act: &Act, times: u32) -> Result<(), Refusal>
 }
 
 /// Attempts an act once, and adds it where it was accepted.
-fn once(
-    world: &mut World,
-    acts: &mut Vec<Act>,
-    act: &Act,
-) -> Result<(), Refusal>
+fn once(world: &mut World, acts: &mut Vec<Act>, act: &Act) -> Result<(), Refusal>
     ensures world { OnOk result (world.new.now ≡ after_acts world.old.now (act.now ∷ [])) }
     ensures acts { OnOk result (acts.new.items ≡ acts.old.items ++ accepted_of world.old.now (act.now ∷ [])) }
     ensures errors { IfErr result (λ e. e ≡ Refusal.NoMemory) }
@@ -59,12 +55,7 @@ fn once(
 }
 
 /// Attempts an act at most so many times and until it is refused, and adds it as often as it was accepted.
-fn some(
-    world: &mut World,
-    acts: &mut Vec<Act>,
-    act: &Act,
-    most: u32,
-) -> Result<(), Refusal>
+fn some(world: &mut World, acts: &mut Vec<Act>, act: &Act, most: u32) -> Result<(), Refusal>
     requires { IsSteady act.now }
     ensures world { OnOk result (world.new.now ≡ after_acts world.old.now (replicate most act.now)) }
     ensures acts { OnOk result (acts.new.items ≡ acts.old.items ++ accepted_of world.old.now (replicate most act.now)) }
@@ -86,11 +77,7 @@ fn start(client: Client, number: u64, call: Call) -> Act
 }
 
 /// Attempts what a command asks for, and adds the acts that were accepted.
-fn follow(
-    world: &mut World,
-    acts: &mut Vec<Act>,
-    command: Command,
-) -> Result<(), Refusal>
+fn follow(world: &mut World, acts: &mut Vec<Act>, command: Command) -> Result<(), Refusal>
     ensures world { OnOk result (world.new.now ≡ after_acts world.old.now (attempts_of world.old.now.shape command)) }
     ensures acts { OnOk result (acts.new.items
         ≡ acts.old.items ++ accepted_of world.old.now (attempts_of world.old.now.shape command)) }

@@ -39,11 +39,7 @@ impl Spare {
     }
 
     /// A new world, on the spare memory where it has as many words.
-    pub(crate) fn world(
-        &mut self,
-        alloc: Global,
-        layout: Layout,
-    ) -> Result<World, Refusal>
+    pub(crate) fn world(&mut self, alloc: Global, layout: Layout) -> Result<World, Refusal>
         ensures made { IfOk result (λ w. w.now ≡ new_world layout) }
         ensures errors { IfErr result (λ e. e ≡ Refusal.NoMemory) }
     {

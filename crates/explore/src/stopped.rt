@@ -18,11 +18,7 @@ use std::alloc::Global;
 use words::{Client, Refusal};
 
 /// A new world that has made these acts.
-fn world_after(
-    alloc: Global,
-    layout: Layout,
-    acts: &[Act],
-) -> Result<World, Refusal>
+fn world_after(alloc: Global, layout: Layout, acts: &[Act]) -> Result<World, Refusal>
     ensures world { IfOk result (λ world. world.now ≡ after_acts (new_world layout) acts.now) }
     ensures errors { IfErr result (λ e. e ≡ Refusal.NoMemory) }
 {
@@ -84,11 +80,7 @@ fn add_clients(
 }
 
 /// What becomes of each call that stopped, at each point.
-fn alone_on(
-    alloc: Global,
-    layout: Layout,
-    acts: &[Act],
-) -> Result<Vec<Alone>, Refusal>
+fn alone_on(alloc: Global, layout: Layout, acts: &[Act]) -> Result<Vec<Alone>, Refusal>
     ensures found { IfOk result (λ found. found.items
         ≡ flat_map (alone_at layout acts.now) (range_with_len 0 (length acts.now + 1))) }
     ensures errors { IfErr result (λ e. e ≡ Refusal.NoMemory) }

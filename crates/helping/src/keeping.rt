@@ -129,11 +129,7 @@ impl Keeping {
 
     /// Asks that the word be kept. What waits then is the fence.
     #[inline(always)]
-    pub(crate) fn ask<M: WordMemory>(
-        self,
-        layout: &Layout,
-        memory: &mut M,
-    ) -> Stepped<Op, Reply>
+    pub(crate) fn ask<M: WordMemory>(self, layout: &Layout, memory: &mut M) -> Stepped<Op, Reply>
         requires room { size_of layout.now ≤ length (M.words memory.old).cached }
         requires point { IsKeeping layout.now self }
         ensures one_access { let s = layout.now in

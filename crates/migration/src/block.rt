@@ -32,12 +32,7 @@ fn item_of(value: u32) -> Value
 }
 
 /// What a part of a node's message becomes.
-fn part_of<W: KeptWords>(
-    queue: &KeptQueue<'_, W>,
-    survey: &Survey,
-    node: NodeId,
-    part: Part,
-) -> u64
+fn part_of<W: KeptWords>(queue: &KeptQueue<'_, W>, survey: &Survey, node: NodeId, part: Part) -> u64
     requires values { queue.now.form ≡ OfValues }
     requires sound { IsSoundIn OfValues queue.now.shape (kept_of queue.now) }
     requires survey { IsSurveyOf queue.now.form queue.now.shape queue.now.words survey.now.place survey.now.claimed }
@@ -52,11 +47,7 @@ fn part_of<W: KeptWords>(
 }
 
 /// What a cell becomes.
-fn cell_of<W: KeptWords>(
-    queue: &KeptQueue<'_, W>,
-    survey: &Survey,
-    cell: Token,
-) -> u64
+fn cell_of<W: KeptWords>(queue: &KeptQueue<'_, W>, survey: &Survey, cell: Token) -> u64
     requires values { queue.now.form ≡ OfValues }
     requires survey { IsSurveyOf queue.now.form queue.now.shape queue.now.words survey.now.place survey.now.claimed }
     requires durable { queue.now.shape.kind ≡ Durable }
@@ -71,11 +62,7 @@ fn cell_of<W: KeptWords>(
 }
 
 /// What the word of a place becomes.
-fn word_of<W: KeptWords>(
-    queue: &KeptQueue<'_, W>,
-    survey: &Survey,
-    place: Place,
-) -> u64
+fn word_of<W: KeptWords>(queue: &KeptQueue<'_, W>, survey: &Survey, place: Place) -> u64
     requires values { queue.now.form ≡ OfValues }
     requires sound { IsSoundIn OfValues queue.now.shape (kept_of queue.now) }
     requires survey { IsSurveyOf queue.now.form queue.now.shape queue.now.words survey.now.place survey.now.claimed }

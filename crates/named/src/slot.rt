@@ -263,13 +263,7 @@ impl Slot {
         let from = layout.block(slot);
         let len = layout.block_size();
         let port = first_port(slot);
-        Slot::Open(Block::boot_unused(
-            alloc,
-            layout.queue(kind),
-            from,
-            len,
-            port,
-        ))
+        Slot::Open(Block::boot_unused(alloc, layout.queue(kind), from, len, port))
     }
 
     /// A queue of this kind that begins on the kept words of the slot's block, as a crash left them.

@@ -115,11 +115,7 @@ impl<W: KeptWords> KeptQueue<'_, W> {
 }
 
 /// The queue that these words are of, in this form.
-fn queue_of<'a, W: KeptWords>(
-    form: Form,
-    layout: &'a Layout,
-    words: &'a W,
-) -> KeptQueue<'a, W>
+fn queue_of<'a, W: KeptWords>(form: Form, layout: &'a Layout, words: &'a W) -> KeptQueue<'a, W>
     requires { size_in form layout.now ≤ length (W.kept_words words.now) }
     ensures { result ≡ record { form = form; shape = layout.now; words = W.kept_words words.now } }
 {
@@ -167,11 +163,7 @@ fn first_broken<W: KeptWords>(
 /// The survey of a queue whose kept words obey the rules of this form. The layout says the kind and the counts. It
 /// takes no memory but on the stack, and its cost is linear in the words. Words that break a rule are Damaged, by the
 /// first one.
-pub fn surveyed<W: KeptWords>(
-    form: Form,
-    layout: &Layout,
-    words: &W,
-) -> Result<Survey, Refusal>
+pub fn surveyed<W: KeptWords>(form: Form, layout: &Layout, words: &W) -> Result<Survey, Refusal>
     ensures ok { IsOk result ↔ AreSoundWordsIn form layout.now (W.kept_words words.now) }
     ensures survey { IfOk result (λ found. IsSurveyOf form layout.now (W.kept_words words.now)
         found.place found.claimed) }

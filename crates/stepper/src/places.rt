@@ -70,11 +70,7 @@ pub fn flush_at<M: WordMemory>(layout: &Layout, memory: &mut M, place: Place)
 
 /// Keeps the cached value of a place's word, which was asked for. It answers the change, where the kept value changed.
 #[inline(always)]
-pub fn fence_at<M: WordMemory>(
-    layout: &Layout,
-    memory: &mut M,
-    place: Place,
-) -> Option<Change>
+pub fn fence_at<M: WordMemory>(layout: &Layout, memory: &mut M, place: Place) -> Option<Change>
     requires asked { (M.lent memory.old).request ≡ Word (word_at layout.now place) }
     ensures change { result ≡ change_of (M.words memory.old) (word_at layout.now place) }
     ensures one_access { M.words memory.new ≡ after_one layout.now (Fence place) (M.words memory.old) }

@@ -208,11 +208,7 @@ impl Resume for PrepareStore {
 
     ghost point = { Store };
 
-    fn step<M: WordMemory>(
-        self,
-        layout: &Layout,
-        memory: &mut M,
-    ) -> Stepped<Prepare, Prepared> {
+    fn step<M: WordMemory>(self, layout: &Layout, memory: &mut M) -> Stepped<Prepare, Prepared> {
         let PrepareStore {
             begun,
             index,
@@ -234,11 +230,7 @@ impl Resume for PrepareFlush {
 
     ghost point = { Flush };
 
-    fn step<M: WordMemory>(
-        self,
-        layout: &Layout,
-        memory: &mut M,
-    ) -> Stepped<Prepare, Prepared> {
+    fn step<M: WordMemory>(self, layout: &Layout, memory: &mut M) -> Stepped<Prepare, Prepared> {
         let PrepareFlush {
             begun,
             index,
@@ -260,11 +252,7 @@ impl Resume for PrepareFence {
 
     ghost point = { Fence };
 
-    fn step<M: WordMemory>(
-        self,
-        layout: &Layout,
-        memory: &mut M,
-    ) -> Stepped<Prepare, Prepared> {
+    fn step<M: WordMemory>(self, layout: &Layout, memory: &mut M) -> Stepped<Prepare, Prepared> {
         let PrepareFence {
             begun,
             index,

@@ -45,10 +45,7 @@ fn act(rng: &mut Pcg32, clients: usize, words: usize, number: u64, down: bool) -
 }
 
 /// Whether the order explains the history, and the queue holds what its replay leaves.
-pub(crate) fn is_explained(
-    alloc: Global,
-    world: &World,
-) -> Result<bool, Refusal> {
+pub(crate) fn is_explained(alloc: Global, world: &World) -> Result<bool, Refusal> {
     check_content(alloc, world.history(), &world.order()?, &world.content()?)
 }
 

@@ -84,11 +84,7 @@ static BOOTED_STORY: [(u32, Act); 4] = [
 ];
 
 /// A world that begins on what an image keeps.
-fn booted<R: Print + AllocGlobal>(
-    rt: &R,
-    layout: Layout,
-    image: &[u8],
-) -> Result<World> {
+fn booted<R: Print + AllocGlobal>(rt: &R, layout: Layout, image: &[u8]) -> Result<World> {
     let alloc = rt.alloc();
     for _ in 0..MOST_TRIES {
         let memory = made(
