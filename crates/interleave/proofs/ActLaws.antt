@@ -3,11 +3,10 @@ use Rattle.std.proofs.Common.{◌≡◌, ℕ, Bool, true, Result, Ok, is_ok, if�
 use Rattle.words.specs.declared.refusal.Refusal.{Refusal}
 use Rattle.protocol.specs.declared.acts.Act.{Act}
 use Rattle.interleave.specs.Holds.{Holds}
-use Rattle.interleave.specs.Numbers.{AreWithinFloors}
-use Rattle.interleave.specs.Queue.{told_in}
-use Rattle.interleave.specs.Rotation.{AreNumbersTold, IsBaseToldRightly, IsQuiet, after_rotate, after_rotation, rotate_result}
-use Rattle.interleave.specs.Standing.{GoesOn, IsToldForGood, UnannouncedAreOut}
-use Rattle.interleave.specs.State.{State, AreToldOfAnnounced, IsMended, after_attempt, after_recover, kept_tells, order_in, recover_result}
+use Rattle.interleave.specs.Rotation.{IsHandedOn, IsQuiet, after_rotate, after_rotation, rotate_result}
+use Rattle.interleave.specs.Standing.{GoesOn}
+use Rattle.interleave.specs.State.{State, after_attempt, after_recover, recover_result}
+use Rattle.interleave.specs.Telling.{IsToldAtReady}
 use Rattle.interleave.specs.Turn.{NobodyCalls}
 use Rattle.interleave.proofs.HoldsKept.{holds_after_recover}
 use Rattle.interleave.proofs.KeptTells.{mended, tells_on, told_by_kept, told_of_announced}
@@ -25,15 +24,6 @@ goes_on_after full w act holds = record {
 }
 
 -- recovery has just ended
-pub record IsToldAtReady (w : State) : Type 0 where
-  pub told : told_in w.queue ≡ kept_tells w
-  pub announced : AreToldOfAnnounced w
-  pub unannounced : UnannouncedAreOut (order_in w) w
-  pub stands : IsToldForGood w
-  pub nobody : NobodyCalls w
-  pub floors : AreWithinFloors w
-  pub mended : IsMended w
-
 pub told_at_ready : (full : Bool) (w : State) → Holds w → recover_result full w ≡ Ok true
     → IsToldAtReady (after_recover full w)
 told_at_ready full w holds ready = record {
@@ -47,13 +37,7 @@ told_at_ready full w holds ready = record {
 }
 
 -- a history has ended, and the next begins
-pub record IsRotated (old new : State) : Type 0 where
-  pub told : told_in new.queue ≡ kept_tells old
-  pub announced : IsBaseToldRightly old
-  pub numbers : AreNumbersTold old
-  pub nobody : NobodyCalls new
-
-pub rotated : (full : Bool) (w : State) → Holds w → rotate_result full w ≡ Ok tt → IsRotated w (after_rotate full w)
+pub rotated : (full : Bool) (w : State) → Holds w → rotate_result full w ≡ Ok tt → IsHandedOn w (after_rotate full w)
 rotated full w holds is =
     let quiet : IsQuiet w = quiet_at full w is in
     let made : after_rotate full w ≡ after_rotation w = ap (λ (r : Result Unit Refusal). if is_ok r then after_rotation w else w) is in

@@ -24,6 +24,7 @@ pub mod EveryAct
 pub mod HoldsKept
 pub mod AskedKept
 pub mod KeptTells
+pub mod ByRule
 pub mod BootLaws
 pub mod UnusedLaws
 pub mod DownLaws

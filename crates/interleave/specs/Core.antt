@@ -6,7 +6,7 @@ use Rattle.events.specs.declared.event.Effect.{Effect}
 use Rattle.protocol.specs.Machine.{World}
 use Rattle.protocol.specs.declared.UnderWay.{UnderWay}
 use Rattle.interleave.specs.State.{State}
-use Rattle.interleave.specs.Trace.{Traced, machine_with, state_with, with_effects}
+use Rattle.interleave.specs.Trace.{Roomy, Traced, machine_with, state_with, with_effects}
 use Rattle.interleave.specs.declared.queue.Queue.{Queue}
 
 -- what a queue keeps for its clients, the call that each has under way, and what happened
@@ -19,6 +19,10 @@ pub record CoreState : Type 0 where
 -- the world that it is over these words
 abbrev pub state_of : CoreState → Words → State
 state_of c ws = state_with c.shape ws c.queue c.calls c.trace
+
+-- and for how many acts more there is room
+abbrev pub roomy_over : CoreState → Words → Roomy
+roomy_over c ws = record { now = state_of c ws; room = c.trace.room }
 
 -- the machine that it is over these words, if it is ready
 abbrev pub machine_over : CoreState → Words → World

@@ -20,6 +20,8 @@ pub mod OneEvent
 pub mod Booted
 pub mod Standing
 pub mod Turn
+pub mod Telling
+pub mod Rules
 pub mod Runs
 pub mod Premises
 pub mod Rotation

@@ -9,7 +9,9 @@ use Rattle.words.specs.declared.told.Told.{Told}
 use Rattle.protocol.specs.Rotated.{empty_trace}
 use Rattle.protocol.specs.declared.UnderWay.{UnderWay}
 use Rattle.interleave.specs.Numbers.{IsEntryOf, told_floor}
+use Rattle.interleave.specs.Queue.{told_in}
 use Rattle.interleave.specs.State.{State, is_down, kept_content, kept_tells, order_in, AreToldOfAnnounced}
+use Rattle.interleave.specs.Turn.{NobodyCalls}
 use Rattle.interleave.specs.declared.queue.Queue.{Queue}
 use Rattle.interleave.specs.declared.queue.Queue.TheVariants.{Durable, Log}
 
@@ -61,3 +63,11 @@ abbrev pub ShareNoNumber : State → State → Type 0
 ShareNoNumber old new =
     (i j number : ℕ) (client : Client) → IsEntryOf old.log.events (order_in old) i client number
     → IsEntryOf new.log.events (order_in new) j client number → ⊥
+
+-- the history of the one world has ended, and that of the other begins: its clients were told what the one's kept words
+-- tell, which is right of their announced calls, and nobody calls
+pub record IsHandedOn (old new : State) : Type 0 where
+  pub told : told_in new.queue ≡ kept_tells old
+  pub announced : IsBaseToldRightly old
+  pub numbers : AreNumbersTold old
+  pub nobody : NobodyCalls new

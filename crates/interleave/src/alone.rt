@@ -1,12 +1,10 @@
 //! A call that goes on alone.
 
 ghost use Rattle.std.specs.Prelude.{◌≡◌, ◌≤◌, ◌+◌, ◌⊎◌, is_some, slice_get, slice_index_or, true, Err, None, IfOk, IfErr};
-ghost use Rattle.words.specs.declared.refusal.Refusal.{Refusal as AnyRefusal};
 ghost use Rattle.interleave.specs.Asked.{lent_after_alone, IfCallAsked};
-ghost use Rattle.interleave.specs.Calls.{is_no_memory, waiting_result};
-ghost use Rattle.interleave.specs.Core.{state_of};
+ghost use Rattle.interleave.specs.Core.{roomy_over, state_of};
 ghost use Rattle.interleave.specs.Holds.{Holds};
-ghost use Rattle.interleave.specs.State.{after_alone, IsAnsweredAlone};
+ghost use Rattle.interleave.specs.Rules.{IsByAlone};
 
 use crate::lent::Core;
 use persist::EvictableWords;
@@ -25,20 +23,8 @@ impl Core {
         requires holds { Holds (state_of self.old (M.words memory.old)) }
         requires asked { IfCallAsked self.old.shape (slice_index_or self.old.calls client.0 None)
             (M.lent memory.old).request }
-        ensures refused { (refusal : AnyRefusal) → waiting_result (is_some self.old.trace.recovery)
-            (slice_get self.old.calls client.0) ≡ Err refusal → result ≡ Err refusal }
-        ensures errors { IfErr result (λ e. (e ≡ Refusal.NoMemory)
-            ⊎ (waiting_result (is_some self.old.trace.recovery) (slice_get self.old.calls client.0) ≡ Err e)) }
-        ensures full { is_no_memory result ≡ true → self.old.trace.room ≡ 0 }
-        ensures same { IfErr result (λ e. state_of self.new (M.words memory.new)
-            ≡ state_of self.old (M.words memory.old)) }
-        ensures steps { IfOk result (λ answer. answer.1 ≤ MAX_STEPS_ALONE) }
-        ensures answer { IfOk result (λ answer.
-            IsAnsweredAlone (state_of self.old (M.words memory.old)) client answer.1 answer.0) }
-        ensures world { IfOk result (λ answer. state_of self.new (M.words memory.new)
-            ≡ after_alone answer.1 (state_of self.old (M.words memory.old)) client) }
-        ensures room { self.old.trace.room ≤ self.new.trace.room + 1 }
-        ensures spare { IfErr result (λ e. self.old.trace.room ≤ self.new.trace.room) }
+        ensures alone { IsByAlone client (roomy_over self.old (M.words memory.old)) result
+            (roomy_over self.new (M.words memory.new)) }
         ensures holds { Holds (state_of self.new (M.words memory.new)) }
         ensures lent { IfOk result (λ answer. M.lent memory.new
             ≡ lent_after_alone answer.1 (state_of self.old (M.words memory.old)) client (M.lent memory.old)) }

@@ -9,11 +9,12 @@ ghost use Rattle.recover.specs.declared.recovery.Recovery.{Recovery as AnyRecove
 ghost use Rattle.protocol.specs.Machine.{recovery_left, recovery_events};
 ghost use Rattle.interleave.specs.Asked.{lent_after_recover, IfRecoveryAsked};
 ghost use Rattle.interleave.specs.Calls.{is_no_memory};
-ghost use Rattle.interleave.specs.Core.{core_with_room, state_of};
+ghost use Rattle.interleave.specs.Core.{core_with_room, roomy_over, state_of};
 ghost use Rattle.interleave.specs.Holds.{Holds};
 ghost use Rattle.interleave.specs.Queue.{queue_with_reports};
 ghost use Rattle.interleave.specs.Recoveries.{MayRecover};
-ghost use Rattle.interleave.specs.State.{after_stop, crash_result, after_recover, recover_result, queue_at_ready, is_ready};
+ghost use Rattle.interleave.specs.Rules.{recovering, IsByRule};
+ghost use Rattle.interleave.specs.State.{after_stop, crash_result, queue_at_ready, is_ready};
 
 use crate::lent::Core;
 use persist::WordMemory;
@@ -110,12 +111,8 @@ impl Core {
     pub fn recover_step<M: WordMemory>(&mut self, memory: &mut M) -> Result<bool, Refusal>
         requires holds { Holds (state_of self.old (M.words memory.old)) }
         requires asked { IfRecoveryAsked self.old.shape self.old.trace.recovery (M.lent memory.old).request }
-        ensures world { state_of self.new (M.words memory.new)
-            ≡ after_recover (is_no_memory result) (state_of self.old (M.words memory.old)) }
-        ensures result { result ≡ recover_result (is_no_memory result) (state_of self.old (M.words memory.old)) }
-        ensures full { is_no_memory result ≡ true → self.old.trace.room ≡ 0 }
-        ensures room { self.old.trace.room ≤ self.new.trace.room + 1 }
-        ensures spare { IfErr result (λ e. self.old.trace.room ≤ self.new.trace.room) }
+        ensures by_rule { IsByRule recovering (roomy_over self.old (M.words memory.old)) result
+            (roomy_over self.new (M.words memory.new)) }
         ensures stays { result ≡ Ok false → self.old.trace.room ≤ self.new.trace.room }
         ensures holds { Holds (state_of self.new (M.words memory.new)) }
         ensures lent { M.lent memory.new ≡ lent_after_recover (is_no_memory result)

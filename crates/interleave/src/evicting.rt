@@ -1,9 +1,9 @@
 //! An eviction.
 
 ghost use Rattle.std.specs.Prelude.{◌≡◌, ◌≤◌, ◌<◌, length};
-ghost use Rattle.interleave.specs.Core.{state_of};
+ghost use Rattle.interleave.specs.Core.{roomy_over, state_of};
 ghost use Rattle.interleave.specs.Holds.{Holds};
-ghost use Rattle.interleave.specs.State.{after_evict, evict_result};
+ghost use Rattle.interleave.specs.Rules.{evicting, IsByRule};
 
 use crate::lent::Core;
 use persist::{Change, EvictableWords};
@@ -18,9 +18,8 @@ impl Core {
         word: usize,
     ) -> Result<Option<Change>, Refusal>
         requires holds { Holds (state_of self.old (M.words memory.old)) }
-        ensures world { state_of self.new (M.words memory.new)
-            ≡ after_evict (state_of self.old (M.words memory.old)) word }
-        ensures result { result ≡ evict_result (state_of self.old (M.words memory.old)) word }
+        ensures by_rule { IsByRule (evicting word) (roomy_over self.old (M.words memory.old)) result
+            (roomy_over self.new (M.words memory.new)) }
         ensures room { self.new.trace.room ≡ self.old.trace.room }
         ensures holds { Holds (state_of self.new (M.words memory.new)) }
         ensures lent { M.lent memory.new ≡ M.lent memory.old }

@@ -9,9 +9,10 @@ ghost use Rattle.stepper.specs.Step.{after_one};
 ghost use Rattle.helping.specs.Table.{begun_at};
 ghost use Rattle.events.specs.declared.event.Event.TheVariants.{Call as call_event};
 ghost use Rattle.interleave.specs.Calls.{is_no_memory};
-ghost use Rattle.interleave.specs.Core.{state_of};
+ghost use Rattle.interleave.specs.Core.{roomy_over, state_of};
 ghost use Rattle.interleave.specs.Holds.{Holds};
-ghost use Rattle.interleave.specs.State.{after_start, start_result, start_with, start_result_with};
+ghost use Rattle.interleave.specs.Rules.{starting, IsByRule};
+ghost use Rattle.interleave.specs.State.{start_with, start_result_with};
 
 use crate::calls::record_number;
 use crate::lent::Core;
@@ -113,14 +114,9 @@ impl Core {
         call: Call,
     ) -> Result<(), Refusal>
         requires holds { Holds (state_of self.old (M.words memory.old)) }
-        ensures world { state_of self.new (M.words memory.new)
-            ≡ after_start (is_no_memory result) (state_of self.old (M.words memory.old)) client number call }
-        ensures result { result
-            ≡ start_result (is_no_memory result) (state_of self.old (M.words memory.old)) client number }
+        ensures by_rule { IsByRule (starting client number call) (roomy_over self.old (M.words memory.old)) result
+            (roomy_over self.new (M.words memory.new)) }
         ensures lent { M.lent memory.new ≡ M.lent memory.old }
-        ensures full { is_no_memory result ≡ true → self.old.trace.room ≡ 0 }
-        ensures room { self.old.trace.room ≤ self.new.trace.room + 1 }
-        ensures spare { IfErr result (λ e. self.old.trace.room ≤ self.new.trace.room) }
         ensures holds { Holds (state_of self.new (M.words memory.new)) }
     {
         self.calls.check_idle(self.trace.is_down(), client)?;

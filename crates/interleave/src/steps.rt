@@ -8,12 +8,12 @@ ghost use Rattle.protocol.specs.declared.UnderWay.{UnderWay as AnyUnderWay};
 ghost use Rattle.protocol.specs.Machine.{effects_after, events_after, next_of, with_step, with_next};
 ghost use Rattle.interleave.specs.Asked.{lent_after_step, IfCallAsked};
 ghost use Rattle.interleave.specs.Calls.{answer_of, is_no_memory, waiting_result, went_on_to_nothing};
-ghost use Rattle.interleave.specs.Core.{core_with_effects, machine_over, state_of};
+ghost use Rattle.interleave.specs.Core.{core_with_effects, machine_over, roomy_over, state_of};
 ghost use Rattle.interleave.specs.Effects.{AreInSequence};
 ghost use Rattle.interleave.specs.Holds.{Holds};
 ghost use Rattle.interleave.specs.Changes.{effects_on_step};
 ghost use Rattle.interleave.specs.Ranges.{WordsFit, IsSafe};
-ghost use Rattle.interleave.specs.State.{after_step, step_result};
+ghost use Rattle.interleave.specs.Rules.{stepping, IsByRule};
 
 use crate::lent::Core;
 use helping::Op;
@@ -164,12 +164,8 @@ impl Core {
         requires holds { Holds (state_of self.old (M.words memory.old)) }
         requires asked { IfCallAsked self.old.shape (slice_index_or self.old.calls client.0 None)
             (M.lent memory.old).request }
-        ensures world { state_of self.new (M.words memory.new)
-            ≡ after_step (is_no_memory result) (state_of self.old (M.words memory.old)) client }
-        ensures result { result ≡ step_result (is_no_memory result) (state_of self.old (M.words memory.old)) client }
-        ensures full { is_no_memory result ≡ true → self.old.trace.room ≡ 0 }
-        ensures room { self.old.trace.room ≤ self.new.trace.room + 1 }
-        ensures spare { IfErr result (λ e. self.old.trace.room ≤ self.new.trace.room) }
+        ensures by_rule { IsByRule (stepping client) (roomy_over self.old (M.words memory.old)) result
+            (roomy_over self.new (M.words memory.new)) }
         ensures stays { result ≡ Ok None → self.old.trace.room ≤ self.new.trace.room }
         ensures holds { Holds (state_of self.new (M.words memory.new)) }
         ensures lent { M.lent memory.new ≡ lent_after_step (is_no_memory result)

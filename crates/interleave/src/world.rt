@@ -1,23 +1,21 @@
 //! The world of one queue.
 
-ghost use Rattle.std.specs.Prelude.{◌≡◌, ◌≢◌, ◌≤◌, ◌<◌, ◌+◌, ◌==◌, ◌⊎◌, length, slice_get, true, false, Ok, Err, None, IfOk, IfErr, OnOk, OnErr};
-ghost use Rattle.events.specs.Parts.{IsPartOf};
-ghost use Rattle.recover.specs.Sound.{AreSoundWords};
-ghost use Rattle.interleave.specs.Booted.{booted_world, MayRefuse};
-ghost use Rattle.interleave.specs.Calls.{is_no_memory, waiting_result};
-ghost use Rattle.interleave.specs.Holds.{Holds, IsExplained};
-ghost use Rattle.interleave.specs.Reuse.{EarlierLeftNothing};
-ghost use Rattle.interleave.specs.Standing.{EndedCallsStay, IsToldForGood, UnannouncedAreOut};
-ghost use Rattle.interleave.specs.Turn.{IsInTurn, IsServedAlone, NobodyCalls};
+ghost use Rattle.std.specs.Prelude.{◌≡◌, ◌≤◌, ◌<◌, ◌+◌, length, true, false, Ok, IfOk, IfErr, OnOk, OnErr};
 ghost use Rattle.words.specs.declared.call.Call.{Call as AnyCall};
 ghost use Rattle.protocol.specs.declared.acts.Act.{Act};
-ghost use Rattle.words.specs.declared.refusal.Refusal.{Refusal as AnyRefusal};
-ghost use Rattle.interleave.specs.Numbers.{AreWithinFloors};
+ghost use Rattle.recover.specs.Sound.{AreSoundWords};
+ghost use Rattle.interleave.specs.Booted.{booted_world, MayRefuse};
+ghost use Rattle.interleave.specs.Calls.{is_no_memory};
+ghost use Rattle.interleave.specs.Holds.{Holds, IsExplained};
 ghost use Rattle.interleave.specs.Queue.{told_in, told_to};
 ghost use Rattle.interleave.specs.Ranges.{AreUnused};
-ghost use Rattle.interleave.specs.Rotation.{after_rotate, rotate_result, AreNumbersTold, IsBaseToldRightly};
+ghost use Rattle.interleave.specs.Reuse.{EarlierLeftNothing};
+ghost use Rattle.interleave.specs.Rotation.{after_rotate, rotate_result, IsHandedOn};
+ghost use Rattle.interleave.specs.Rules.{crashing, evicting, recovering, starting, stepping, GoesOnExplained, IsByAlone, IsByRule};
 ghost use Rattle.interleave.specs.Runs.{IsAttempt, IsRun};
-ghost use Rattle.interleave.specs.State.{new_world, world_over, after_start, start_result, after_step, step_result, after_evict, evict_result, after_crash, crash_result, after_recover, recover_result, is_down, after_alone, count_of, IsAnsweredAlone, order_in, kept_content, kept_tells, IsKeptSound, AreToldOfAnnounced, IsMended, steps_to_ready, most_to_ready};
+ghost use Rattle.interleave.specs.State.{new_world, world_over, count_of, is_down, kept_content, kept_tells, most_to_ready, order_in, steps_to_ready, IsKeptSound};
+ghost use Rattle.interleave.specs.Telling.{IsToldAtReady};
+ghost use Rattle.interleave.specs.Turn.{IsInTurn, IsServedAlone, NobodyCalls};
 
 use crate::acts::{Act, Ran};
 use crate::lent::Core;
@@ -91,13 +89,8 @@ impl World {
     /// (StaleNumber), where the client's records are used up (NoRoom), and for want of memory (NoMemory); the last two
     /// alone make an access. A durable queue ignores the number.
     pub fn start(&mut self, client: Client, number: u64, call: Call) -> Result<(), Refusal>
-        ensures world { self.new.now ≡ after_start (is_no_memory result) self.old.now client number call }
-        ensures result { result ≡ start_result (is_no_memory result) self.old.now client number }
-        ensures full { is_no_memory result ≡ true → self.old.room ≡ 0 }
-        ensures room { self.old.room ≤ self.new.room + 1 }
-        ensures spare { IfErr result (λ e. self.old.room ≤ self.new.room) }
-        ensures explained { IsExplained self.new.now }
-        ensures sound { IsKeptSound self.new.now }
+        ensures by_rule { IsByRule (starting client number call) self.old result self.new }
+        ensures goes_on { GoesOnExplained self.old.now self.new.now }
         ensures order { order_in self.new.now ≡ order_in self.old.now }
         ensures reused { result ≡ Ok tt → EarlierLeftNothing self.old.now client }
         ensures turn { result ≡ Ok tt → NobodyCalls self.old.now → IsInTurn self.new.now client call }
@@ -109,16 +102,9 @@ impl World {
     /// refused, in this order, where there is no such client (NoClient), where recovery is under way (NotReady), where
     /// it has no call (Idle), and for want of memory (NoMemory).
     pub fn step(&mut self, client: Client) -> Result<Option<Reply>, Refusal>
-        ensures world { self.new.now ≡ after_step (is_no_memory result) self.old.now client }
-        ensures result { result ≡ step_result (is_no_memory result) self.old.now client }
-        ensures full { is_no_memory result ≡ true → self.old.room ≡ 0 }
-        ensures room { self.old.room ≤ self.new.room + 1 }
-        ensures spare { IfErr result (λ e. self.old.room ≤ self.new.room) }
+        ensures by_rule { IsByRule (stepping client) self.old result self.new }
+        ensures goes_on { GoesOnExplained self.old.now self.new.now }
         ensures stays { result ≡ Ok None → self.old.room ≤ self.new.room }
-        ensures explained { IsExplained self.new.now }
-        ensures sound { IsKeptSound self.new.now }
-        ensures order { IsPartOf (order_in self.old.now) (order_in self.new.now) }
-        ensures ended { EndedCallsStay self.old.now self.new.now }
     {
         self.core.step_in(&mut self.memory, client)
     }
@@ -126,13 +112,9 @@ impl World {
     /// The environment keeps a word. It is no access, takes no memory, and may make a call take effect. It is refused
     /// where there is no such word (NoWord).
     pub fn evict(&mut self, word: usize) -> Result<Option<Change>, Refusal>
-        ensures world { self.new.now ≡ after_evict self.old.now word }
-        ensures result { result ≡ evict_result self.old.now word }
+        ensures by_rule { IsByRule (evicting word) self.old result self.new }
+        ensures goes_on { GoesOnExplained self.old.now self.new.now }
         ensures room { self.new.room ≡ self.old.room }
-        ensures explained { IsExplained self.new.now }
-        ensures sound { IsKeptSound self.new.now }
-        ensures order { IsPartOf (order_in self.old.now) (order_in self.new.now) }
-        ensures ended { EndedCallsStay self.old.now self.new.now }
         ensures tells { is_down self.old.now ≡ true → kept_tells self.new.now ≡ kept_tells self.old.now }
         ensures holds { is_down self.old.now ≡ true → kept_content self.new.now ≡ kept_content self.old.now }
         ensures left { steps_to_ready self.new.now ≡ steps_to_ready self.old.now }
@@ -143,13 +125,8 @@ impl World {
     /// The whole system stops: what is not kept is lost, calls under way end without an answer, and recovery begins
     /// anew, also where it was under way. It is refused for want of memory alone (NoMemory), and then nothing changed.
     pub fn crash(&mut self) -> Result<(), Refusal>
-        ensures world { self.new.now ≡ after_crash (is_no_memory result) self.old.now }
-        ensures result { result ≡ crash_result (is_no_memory result) }
-        ensures full { is_no_memory result ≡ true → self.old.room ≡ 0 }
-        ensures room { self.old.room ≤ self.new.room + 1 }
-        ensures spare { IfErr result (λ e. self.old.room ≤ self.new.room) }
-        ensures explained { IsExplained self.new.now }
-        ensures sound { IsKeptSound self.new.now }
+        ensures by_rule { IsByRule crashing self.old result self.new }
+        ensures goes_on { GoesOnExplained self.old.now self.new.now }
         ensures order { order_in self.new.now ≡ order_in self.old.now }
         ensures tells { kept_tells self.new.now ≡ kept_tells self.old.now }
         ensures holds { kept_content self.new.now ≡ kept_content self.old.now }
@@ -163,25 +140,14 @@ impl World {
     /// told what became of its last call. It is refused, in this order, where no recovery is under way (AlreadyReady),
     /// and for want of memory (NoMemory).
     pub fn recover_step(&mut self) -> Result<bool, Refusal>
-        ensures world { self.new.now ≡ after_recover (is_no_memory result) self.old.now }
-        ensures result { result ≡ recover_result (is_no_memory result) self.old.now }
-        ensures full { is_no_memory result ≡ true → self.old.room ≡ 0 }
-        ensures room { self.old.room ≤ self.new.room + 1 }
-        ensures spare { IfErr result (λ e. self.old.room ≤ self.new.room) }
+        ensures by_rule { IsByRule recovering self.old result self.new }
+        ensures goes_on { GoesOnExplained self.old.now self.new.now }
         ensures stays { result ≡ Ok false → self.old.room ≤ self.new.room }
-        ensures explained { IsExplained self.new.now }
-        ensures sound { IsKeptSound self.new.now }
         ensures order { order_in self.new.now ≡ order_in self.old.now }
         ensures tells { kept_tells self.new.now ≡ kept_tells self.old.now }
         ensures holds { kept_content self.new.now ≡ kept_content self.old.now }
-        ensures told { result ≡ Ok true → told_in self.new.now.queue ≡ kept_tells self.new.now }
-        ensures announced { result ≡ Ok true → AreToldOfAnnounced self.new.now }
-        ensures unannounced { result ≡ Ok true → UnannouncedAreOut (order_in self.new.now) self.new.now }
-        ensures stands { result ≡ Ok true → IsToldForGood self.new.now }
-        ensures nobody { result ≡ Ok true → NobodyCalls self.new.now }
-        ensures floors { result ≡ Ok true → AreWithinFloors self.new.now }
-        ensures mended { result ≡ Ok true → IsMended self.new.now }
-        ensures few { steps_to_ready self.old.now ≤ most_to_ready (self.old.now.shape) }
+        ensures told { result ≡ Ok true → IsToldAtReady self.new.now }
+        ensures few { steps_to_ready self.old.now ≤ most_to_ready self.old.now.shape }
         ensures falls { IfOk result (λ ready. steps_to_ready self.new.now < steps_to_ready self.old.now) }
     {
         self.core.recover_step_in(&mut self.memory)
@@ -199,10 +165,7 @@ impl World {
         ensures sound { IsKeptSound self.new.now }
         ensures tells { kept_tells self.new.now ≡ kept_tells self.old.now }
         ensures holds { kept_content self.new.now ≡ kept_content self.old.now }
-        ensures told { result ≡ Ok tt → told_in self.new.now.queue ≡ kept_tells self.old.now }
-        ensures announced { result ≡ Ok tt → IsBaseToldRightly self.old.now }
-        ensures numbers { result ≡ Ok tt → AreNumbersTold self.old.now }
-        ensures nobody { result ≡ Ok tt → NobodyCalls self.new.now }
+        ensures handed_on { result ≡ Ok tt → IsHandedOn self.old.now self.new.now }
     {
         self.core.rotate(&self.memory)
     }
@@ -242,8 +205,6 @@ impl World {
         ensures all { result.taken + result.refused ≡ length acts.now }
         ensures explained { IsExplained self.new.now }
         ensures sound { IsKeptSound self.new.now }
-        ensures order { IsPartOf (order_in self.old.now) (order_in self.new.now) }
-        ensures ended { EndedCallsStay self.old.now self.new.now }
     {
         let mut ran = Ran {
             taken: 0,
@@ -285,21 +246,8 @@ impl World {
     /// (NoClient), where recovery is under way (NotReady), where it has no call (Idle), and, before its first step, for
     /// want of memory (NoMemory).
     pub fn run_alone(&mut self, client: Client) -> Result<(Reply, u32), Refusal>
-        ensures refused { (refusal : AnyRefusal) → waiting_result (is_down self.old.now)
-            (slice_get self.old.now.calls client.0) ≡ Err refusal → result ≡ Err refusal }
-        ensures errors { IfErr result (λ e. (e ≡ Refusal.NoMemory)
-            ⊎ (waiting_result (is_down self.old.now) (slice_get self.old.now.calls client.0) ≡ Err e)) }
-        ensures full { is_no_memory result ≡ true → self.old.room ≡ 0 }
-        ensures same { IfErr result (λ e. self.new.now ≡ self.old.now) }
-        ensures steps { IfOk result (λ answer. answer.1 ≤ MAX_STEPS_ALONE) }
-        ensures answer { IfOk result (λ answer. IsAnsweredAlone self.old.now client answer.1 answer.0) }
-        ensures world { IfOk result (λ answer. self.new.now ≡ after_alone answer.1 self.old.now client) }
-        ensures room { self.old.room ≤ self.new.room + 1 }
-        ensures spare { IfErr result (λ e. self.old.room ≤ self.new.room) }
-        ensures explained { IsExplained self.new.now }
-        ensures sound { IsKeptSound self.new.now }
-        ensures order { IsPartOf (order_in self.old.now) (order_in self.new.now) }
-        ensures ended { EndedCallsStay self.old.now self.new.now }
+        ensures alone { IsByAlone client self.old result self.new }
+        ensures goes_on { GoesOnExplained self.old.now self.new.now }
         ensures turn { IfOk result (λ answer. (call : AnyCall) → IsInTurn self.old.now client call
             → IsServedAlone self.old.now call answer.0 self.new.now) }
     {

@@ -25,7 +25,8 @@ use Rattle.named.specs.declared.recovery.BrokerRecovery.TheVariants.{RecoverQueu
 use Rattle.named.specs.declared.slot.Slot.{Slot}
 use Rattle.named.specs.declared.slot.Slot.TheVariants.{Closed, Open}
 use Rattle.named.proofs.Kept.{directory_stays, get_set_other, kinds_now, length_set, others_stay, readiness_now, room_now, same_directory, slot_is_well, slots_now, some_is, world_now, world_was}
-use Rattle.named.specs.Telling.{IsToldAtReady, TellAtReady}
+use Rattle.interleave.specs.Telling.{IsToldAtReady}
+use Rattle.named.specs.Telling.{TellAtReady}
 use Rattle.interleave.specs.Holds.{Holds}
 use Rattle.interleave.proofs.ActLaws.{told_at_ready}
 use Rattle.named.specs.Lasting.{left_at, left_in, most_from, steps_left}
@@ -64,19 +65,6 @@ slot_recovers full old new Closed Closed place down world r result = tt
 slot_recovers full old new (Open was) (Open is) place down world r result = block_recovers full old new was is down world r result
 slot_recovers full old new Closed (Open is) place down world r result = absurd place
 slot_recovers full old new (Open was) Closed place down world r result = absurd place
-
-told_of : (full : Bool) (w : State) → Holds w → recover_result full w ≡ Ok true → IsToldAtReady (after_recover full w)
-told_of full w holds ready =
-    let it = told_at_ready full w holds ready in
-    record {
-      told = it.told;
-      announced = it.announced;
-      unannounced = it.unannounced;
-      stands = it.stands;
-      nobody = it.nobody;
-      floors = it.floors;
-      mended = it.mended;
-    }
 
 -- what a step of the queue's recovery uses up of the room in its history: a place at most, and none where it is refused
 -- or the queue is not ready yet
@@ -258,7 +246,7 @@ module _ (b : Brokered) (slot : SlotId) (was is : Slot) (ws : Words) (holds : Is
     tells_slot : (s : Slot) → IsSlotWell b.words s → r ≡ answered (recover_result (is_no_memory r)) (world_in b.words s)
         → IfWorld (acted (after_recover (is_no_memory r)) (world_in b.words s)) IsToldAtReady
     tells_slot Closed holding e = tt
-    tells_slot (Open block) holding e = told_of (is_no_memory r) (state_in b.words block) holding.holds (sym e ∙ ready)
+    tells_slot (Open block) holding e = told_at_ready (is_no_memory r) (state_in b.words block) holding.holds (sym e ∙ ready)
 
     pub tells_ready : TellAtReady b after
     tells_ready at before now = go (cases_eq at slot.0)

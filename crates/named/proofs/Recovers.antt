@@ -8,7 +8,8 @@ use Rattle.named.specs.Stopping.{IsNext, IsReadingDirectory, creation_after}
 use Rattle.named.specs.declared.recovery.BrokerRecovery.{BrokerRecovery}
 use Rattle.named.specs.declared.recovery.BrokerRecovery.TheVariants.{ReadDirectory, RecoverQueue}
 use Rattle.named.specs.declared.slot.Slot.{Slot}
-use Rattle.named.specs.Telling.{IsToldAtReady, TellAtReady}
+use Rattle.interleave.specs.Telling.{IsToldAtReady}
+use Rattle.named.specs.Telling.{TellAtReady}
 use Rattle.interleave.specs.State.{State}
 use Rattle.named.proofs.Nexts.{no_world, ready_next, rest_next}
 

@@ -17,7 +17,8 @@ use Rattle.named.specs.Brokers.{Brokered, IsWell, block_words, is_ready_at, worl
 use Rattle.named.specs.Promises.{KeepsPromises}
 use Rattle.named.specs.Slots.{IfWorld, answered}
 use Rattle.named.specs.Stopping.{IsQueueOn, IsRecoveryStep}
-use Rattle.named.specs.Telling.{IsToldAtReady, TellAtReady}
+use Rattle.interleave.specs.Telling.{IsToldAtReady}
+use Rattle.named.specs.Telling.{TellAtReady}
 use Rattle.named.specs.declared.recovery.BrokerRecovery.{BrokerRecovery}
 use Rattle.named.specs.declared.recovery.BrokerRecovery.TheVariants.{ReadDirectory, RecoverQueue}
 use Rattle.named.proofs.Begun.{listed_open}

@@ -15,7 +15,7 @@ use Rattle.interleave.proofs.KeptTells.{tells_on}
 use Rattle.named.specs.Brokers.{Brokered, IsWell, is_ready_at, quiet, world_at}
 use Rattle.named.specs.Slots.{IfWorld, acted, answered}
 use Rattle.named.specs.Stopping.{IsFound, IsFoundIn, IsKnownAlike, IsQueueOn, IsReadOn, IsRecoveryStep, creation_after, found_by}
-use Rattle.named.specs.Telling.{IsToldAtReady}
+use Rattle.interleave.specs.Telling.{IsToldAtReady}
 use Rattle.named.specs.declared.recovery.BrokerRecovery.{BrokerRecovery}
 use Rattle.named.specs.declared.recovery.BrokerRecovery.TheVariants.{ReadDirectory, RecoverQueue}
 use Rattle.named.proofs.GoingOn.{world_holds}

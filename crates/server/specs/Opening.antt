@@ -21,7 +21,7 @@ use Rattle.named.specs.Booting.{AreBootWords, AreBootWordsIn, IsBooted, MayRefus
 use Rattle.named.specs.Brokers.{Brokered, world_at}
 use Rattle.named.specs.Migrating.{IsMigrated}
 use Rattle.named.specs.Stopping.{IsRecoveryStep}
-use Rattle.named.specs.Telling.{IsToldAtReady}
+use Rattle.interleave.specs.Telling.{IsToldAtReady}
 
 -- steps of recovery alone, none of them refused, lead from the one broker to the other
 pub data Recovers (old : Brokered) : Brokered → Type 0 where

@@ -1,4 +1,4 @@
-use Rattle.std.proofs.Common.{◌≡◌, ℕ, ◌<◌, ◌≤◌, inl, inr, length, List, Option, Result, Ok, Err, refl, sym, ap, ◌∙◌, subst, rules}
+use Rattle.std.proofs.Common.{◌≡◌, ℕ, ◌<◌, ◌≤◌, inl, inr, length, arith, List, Option, Result, Ok, Err, refl, sym, ap, ◌∙◌, subst, rules}
 use Rattle.std.proofs.lemmas.Bool.{cases_lt}
 use Rattle.words.specs.declared.refusal.Refusal.{Refusal}
 use Rattle.words.specs.declared.refusal.Refusal.TheVariants.{NoWord}
@@ -13,6 +13,7 @@ use Rattle.interleave.specs.State.{machine_of, evict_with}
 use Rattle.interleave.specs.Core.{CoreState, machine_over, state_of}
 use Rattle.interleave.specs.Holds.{Holds}
 use Rattle.interleave.specs.Trace.{Traced, state_with, with_effects}
+use Rattle.interleave.proofs.ByRule.{if_refused}
 use Rattle.interleave.proofs.EvictLaws.{no_word, refused_word, evicted_fit, noted_room, evicted_world, evicted_change}
 use Rattle.interleave.proofs.HoldsKept.{holds_after_evict}
 use Rattle.interleave.proofs.MachineFacts.{sequence_held}
@@ -34,21 +35,23 @@ within_accepted ws word change r past was = elim (cases_lt word (length ws.cache
   | inr le ↦ absurd (cc (past le, was))
 ]
 
-pub returns-in_err-change-clause-world : goal.returns-in_err-change-clause-world
-returns-in_err-change-clause-world g c =
-    let s = c.args.self.now.shape in
-    let past = past_refused (g.M.WordMemory.words c.args.memory.now) c.args.word _ c.evict.result c.evict.ensures.change c.in_err-change.was in
-    let none = no_word s (g.M.WordMemory.words c.args.memory.now) c.args.self.now.queue c.args.self.now.calls c.args.self.now.trace c.args.word c.requires.holds past in
-    ap (λ (m : Words). state_with s m c.args.self.now.queue c.args.self.now.calls c.args.self.now.trace) (c.evict.ensures.same past)
-    ∙ sym (ap (evict_with (state_with s (g.M.WordMemory.words c.args.memory.now) c.args.self.now.queue c.args.self.now.calls c.args.self.now.trace) c.args.word) none)
-
-pub returns-in_err-change-clause-result : goal.returns-in_err-change-clause-result
-returns-in_err-change-clause-result g c =
-    let s = c.args.self.now.shape in
-    let past = past_refused (g.M.WordMemory.words c.args.memory.now) c.args.word _ c.evict.result c.evict.ensures.change c.in_err-change.was in
-    let refused = refused_word s (g.M.WordMemory.words c.args.memory.now) c.args.self.now.queue c.args.self.now.calls c.args.self.now.trace c.args.word c.requires.holds past in
+-- what a refused eviction leaves, and what it answers
+pub returns-in_err-change-clause-by_rule : goal.returns-in_err-change-clause-by_rule
+returns-in_err-change-clause-by_rule g c =
+    let k : CoreState = c.args.self.now in
+    let ws : Words = g.M.WordMemory.words c.args.memory.now in
+    let past = past_refused ws c.args.word _ c.evict.result c.evict.ensures.change c.in_err-change.was in
+    let none = no_word k.shape ws k.queue k.calls k.trace c.args.word c.requires.holds past in
+    let refused = refused_word k.shape ws k.queue k.calls k.trace c.args.word c.requires.holds past in
     let err : c.from_residual.result ≡ Err c.in_err-change.field-0.0 = search rules in
-    err ∙ sym c.in_err-change.was ∙ c.evict.ensures.refused past ∙ sym refused
+    let no_word_there : c.from_residual.result ≡ Err NoWord = err ∙ sym c.in_err-change.was ∙ c.evict.ensures.refused past in
+    record {
+      leaves = ap (state_of k) (c.evict.ensures.same past) ∙ sym (ap (evict_with (state_of k ws) c.args.word) none);
+      answers = no_word_there ∙ sym refused;
+      full = λ full. absurd (cc (no_word_there, full));
+      room = omega arith;
+      spare = if_refused c.from_residual.result (omega arith);
+    }
 
 pub note_change-requires-clause-fit : goal.note_change-requires-clause-fit
 note_change-requires-clause-fit g c =
@@ -71,8 +74,8 @@ note_change-requires-clause-room g c =
     (subst (λ (m : Words). length (effects_on_change (machine_of s m c.args.self.now.calls t.base t.told t.log) (change_of (g.M.WordMemory.words c.args.memory.now) c.args.word)) ≤ length t.log.events)
     (sym (c.evict.ensures.done lt)) room)
 
-pub returns-clause-world : goal.returns-clause-world
-returns-clause-world g c =
+pub returns-clause-by_rule : goal.returns-clause-by_rule
+returns-clause-by_rule g c =
     let old : CoreState = c.args.self.now in
     let ws : Words = g.M.WordMemory.words c.args.memory.now in
     let kept : Words = g.M.WordMemory.words c.evict.new.self in
@@ -82,25 +85,26 @@ returns-clause-world g c =
     let effects : now ≡ effects_on_change (machine_over old (words_after_eviction c.args.word ws)) (change_of ws c.args.word) =
     ap (λ (o : Option Change). effects_on_change (machine_over old kept) o) change
     ∙ ap (λ (m : Words). effects_on_change (machine_over old m) (change_of ws c.args.word)) (c.evict.ensures.done lt) in
-    ap (λ (k : CoreState). state_of k kept) c.note_change.ensures
-    ∙ evicted_world old.shape ws old.queue old.calls old.trace c.args.word c.requires.holds lt kept (with_effects old.trace now)
-    (c.evict.ensures.done lt) refl refl (ap (λ e. let l : Trace = record old.trace.log { effects = e } in l) effects) refl
-
-pub returns-clause-result : goal.returns-clause-result
-returns-clause-result g c =
-    let s = c.args.self.now.shape in
-    let t : Traced = c.args.self.now.trace in
-    let lt = within_accepted (g.M.WordMemory.words c.args.memory.now) c.args.word _ c.evict.result c.evict.ensures.refused c.in_ok-change.was in
-    let change : c.in_ok-change.change ≡ change_of (g.M.WordMemory.words c.args.memory.now) c.args.word = cc (c.evict.ensures.change lt, c.in_ok-change.was) in
-    ap (λ (o : Option Change). let r : Result (Option Change) Refusal = Ok o in r) change
-    ∙ sym (evicted_change s (g.M.WordMemory.words c.args.memory.now) c.args.self.now.queue c.args.self.now.calls t c.args.word c.requires.holds lt)
+    let same : c.note_change.new.self.trace.room ≡ old.trace.room = ap (λ (k : CoreState). k.trace.room) c.note_change.ensures in
+    record {
+      leaves =
+          ap (λ (k : CoreState). state_of k kept) c.note_change.ensures
+          ∙ evicted_world old.shape ws old.queue old.calls old.trace c.args.word c.requires.holds lt kept (with_effects old.trace now)
+          (c.evict.ensures.done lt) refl refl (ap (λ e. let l : Trace = record old.trace.log { effects = e } in l) effects) refl;
+      answers =
+          ap (λ (o : Option Change). let r : Result (Option Change) Refusal = Ok o in r) change
+          ∙ sym (evicted_change old.shape ws old.queue old.calls old.trace c.args.word c.requires.holds lt);
+      full = λ full. absurd (cc (full));
+      room = omega (arith, same);
+      spare = tt;
+    }
 
 pub returns-in_err-change-clause-holds : goal.returns-in_err-change-clause-holds
 returns-in_err-change-clause-holds g c =
-    subst Holds (sym (returns-in_err-change-clause-world g c))
+    subst Holds (sym (returns-in_err-change-clause-by_rule g c).leaves)
     (holds_after_evict (state_of c.args.self.now (g.M.WordMemory.words c.args.memory.now)) c.args.word c.requires.holds)
 
 pub returns-clause-holds : goal.returns-clause-holds
 returns-clause-holds g c =
-    subst Holds (sym (returns-clause-world g c))
+    subst Holds (sym (returns-clause-by_rule g c).leaves)
     (holds_after_evict (state_of c.args.self.now (g.M.WordMemory.words c.args.memory.now)) c.args.word c.requires.holds)

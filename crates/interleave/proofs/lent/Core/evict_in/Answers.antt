@@ -17,5 +17,5 @@ returns-clause-holds c =
     let asked = asked_evicted was c.args.word (requests_of old) (requests_of new) (unasked_for 0 0 old new c.evict.ensures.lent) c.requires.asked in
     record {
       world = c.evict.ensures.holds;
-      asked = subst (λ (w : State). AreAsked w.shape w.calls w.recovery (requests_of new)) (sym c.evict.ensures.world) asked;
+      asked = subst (λ (w : State). AreAsked w.shape w.calls w.recovery (requests_of new)) (sym c.evict.ensures.by_rule.leaves) asked;
     }

@@ -1,4 +1,4 @@
-use Rattle.std.proofs.Common.{◌≡◌, refl, false, Bool, List, Option, Some, Result, Ok, subst, sym, ap, ◌∙◌}
+use Rattle.std.proofs.Common.{◌≡◌, ◌≤◌, ◌+◌, arith, refl, false, Bool, List, Option, Some, Result, Ok, subst, sym, ap, ◌∙◌}
 use Rattle.std.specs.Prelude.{IfSome}
 use Rattle.words.specs.declared.refusal.Refusal.{Refusal}
 use Rattle.persist.specs.Memory.{Lent, Words}
@@ -44,8 +44,8 @@ IsRecoveredFrom k ws new left ready lent lent_new = (r : Recovery) → k.trace.r
     × (new.queue ≡ queue_at_ready k.queue next) × (ready ≡ is_ready next)
     × (lent_new ≡ lent_after_one k.shape access lent)
 
-pub returns-clause-world : goal.returns-clause-world
-returns-clause-world g c =
+pub returns-clause-by_rule : goal.returns-clause-by_rule
+returns-clause-by_rule g c =
     let old : CoreState = c.args.self.now in
     let new : CoreState = c.recover_once.new.self in
     let ws : Words = g.M.WordMemory.words c.args.memory.now in
@@ -59,34 +59,26 @@ returns-clause-world g c =
     let step = steps r e in
     let is = recovery_next w r c.requires.holds e in
     let ms : Words = after_one w.shape (recovery_access w.shape.kind r.at) ws in
-    ap (λ (s : Shape). state_with s left new.queue new.calls new.trace) (c.recover_once.ensures.shape ∙ ap (λ (k : CoreState). k.shape) same)
-    ∙ ap (λ (cs : List (Option UnderWay)). state_with w.shape left new.queue cs new.trace) (c.recover_once.ensures.calls ∙ ap (λ (k : CoreState). k.calls) same)
-    ∙ ap (λ (m : Words). state_with w.shape m new.queue old.calls new.trace) step.0
-    ∙ ap (λ (q : Queue). state_with w.shape ms q old.calls new.trace) (step.3 ∙ ap (queue_at_ready old.queue) is)
-    ∙ left_by_recovery w.shape ws old.queue old.calls old.trace r (next_recovery (machine w) r) new.trace refl
-    (c.recover_once.ensures.base ∙ ap (λ (k : CoreState). k.trace.base) same) (c.recover_once.ensures.told ∙ ap (λ (k : CoreState). k.trace.told) same)
-    (step.2 ∙ ap (recovery_events old.trace.log.events) is)
-    (c.recover_once.ensures.issued ∙ ap (λ (k : CoreState). k.trace.log.issued) same) (c.recover_once.ensures.effects ∙ ap (λ (k : CoreState). k.trace.log.effects) same)
-    (step.1 ∙ ap recovery_left is)
-    ∙ ap (recover_with false w) (sym e)
-
-pub returns-clause-result : goal.returns-clause-result
-returns-clause-result g c =
-    let old : CoreState = c.args.self.now in
-    let new : CoreState = c.recover_once.new.self in
-    let ws : Words = g.M.WordMemory.words c.args.memory.now in
-    let left : Words = g.M.WordMemory.words c.recover_once.new.memory in
-    let w : State = state_of old ws in
-    let same : c.reserve.new.self ≡ core_with_room old c.reserve.new.self.trace.room = c.reserve.ensures.same in
-    let some = recovery_some w.recovery (sym c.is_down.ensures ∙ c.if-not-is_down.false) in
-    let r : Recovery = some.0 in
-    let e : w.recovery ≡ Some r = some.1 in
-    let steps : IsRecoveredFrom old ws new left c.recover_once.result (g.M.WordMemory.lent c.args.memory.now) (g.M.WordMemory.lent c.recover_once.new.memory) = subst (λ (k : CoreState). IsRecoveredFrom k ws new left c.recover_once.result (g.M.WordMemory.lent c.args.memory.now) (g.M.WordMemory.lent c.recover_once.new.memory)) same c.recover_once.ensures.step in
-    let step = steps r e in
-    let is = recovery_next w r c.requires.holds e in
-    ap (λ (b : Bool). let x : Result Bool Refusal = Ok b in x) (step.4 ∙ ap is_ready is) ∙ ap (recover_result_with false w) (sym e)
+    let room : old.trace.room ≤ new.trace.room + 1 = omega (arith, c.reserve.ensures.kept, c.recover_once.ensures.room) in
+    record {
+      leaves =
+          ap (λ (s : Shape). state_with s left new.queue new.calls new.trace) (c.recover_once.ensures.shape ∙ ap (λ (k : CoreState). k.shape) same)
+          ∙ ap (λ (cs : List (Option UnderWay)). state_with w.shape left new.queue cs new.trace) (c.recover_once.ensures.calls ∙ ap (λ (k : CoreState). k.calls) same)
+          ∙ ap (λ (m : Words). state_with w.shape m new.queue old.calls new.trace) step.0
+          ∙ ap (λ (q : Queue). state_with w.shape ms q old.calls new.trace) (step.3 ∙ ap (queue_at_ready old.queue) is)
+          ∙ left_by_recovery w.shape ws old.queue old.calls old.trace r (next_recovery (machine w) r) new.trace refl
+          (c.recover_once.ensures.base ∙ ap (λ (k : CoreState). k.trace.base) same) (c.recover_once.ensures.told ∙ ap (λ (k : CoreState). k.trace.told) same)
+          (step.2 ∙ ap (recovery_events old.trace.log.events) is)
+          (c.recover_once.ensures.issued ∙ ap (λ (k : CoreState). k.trace.log.issued) same) (c.recover_once.ensures.effects ∙ ap (λ (k : CoreState). k.trace.log.effects) same)
+          (step.1 ∙ ap recovery_left is)
+          ∙ ap (recover_with false w) (sym e);
+      answers = ap (λ (b : Bool). let x : Result Bool Refusal = Ok b in x) (step.4 ∙ ap is_ready is) ∙ ap (recover_result_with false w) (sym e);
+      full = λ full. absurd (cc (full));
+      room = room;
+      spare = tt;
+    }
 
 pub returns-clause-holds : goal.returns-clause-holds
 returns-clause-holds g c =
     let old : State = state_of c.args.self.now (g.M.WordMemory.words c.args.memory.now) in
-    subst Holds (sym (returns-clause-world g c)) (holds_after_recover false old c.requires.holds)
+    subst Holds (sym (returns-clause-by_rule g c).leaves) (holds_after_recover false old c.requires.holds)

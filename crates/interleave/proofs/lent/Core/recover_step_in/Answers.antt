@@ -26,7 +26,7 @@ returns-clause-holds c =
     (around_recovered full was lent ∙ ap (λ (l : Lent). l.around) c.in_ok-memory.ensures.lent) in
     let asked = asked_recovered full was lent (requests_of old) (requests_of v.memory.now) c.requires.world (ap (λ (l : Lent). l.request) c.in_ok-memory.ensures.lent) back.here back.there c.requires.asked in
     let world : state_of c.recover_step.new.self v.memory.now.words ≡ after_recover full was =
-    c.recover_step.ensures.world ∙ ap (λ (ws : Words). after_recover full (state_of core ws)) c.in_ok-memory.ensures.words in
+    c.recover_step.ensures.by_rule.leaves ∙ ap (λ (ws : Words). after_recover full (state_of core ws)) c.in_ok-memory.ensures.words in
     let over : HoldsOver c.recover_step.new.self v.memory.now = record {
       world = c.recover_step.ensures.holds;
       asked = subst (λ (w : State). AreAsked w.shape w.calls w.recovery (requests_of v.memory.now)) (sym world) asked;

@@ -6,6 +6,7 @@ use Rattle.interleave.specs.Asked.{IfCallAsked, lent_after_alone, lent_after_ste
 use Rattle.interleave.specs.Calls.{answer_of, is_no_memory}
 use Rattle.interleave.specs.Core.{CoreState, state_of}
 use Rattle.interleave.specs.Holds.{Holds}
+use Rattle.interleave.specs.Rules.{waiting_in}
 use Rattle.interleave.specs.State.{State, machine, after_one_access, after_step, after_alone, IsAnsweredAlone, step_result}
 use Rattle.interleave.proofs.AskedKept.{own_stepped}
 use Rattle.interleave.proofs.AloneLaws.{left_in, left_few, step_is, answer_is, goes_on}
@@ -44,28 +45,20 @@ not_true true h = absurd (h refl)
 not_true false h = refl
 
 -- a step of a call that has room is not refused
-pub returns-in_err-answer-clause-errors : goal.returns-in_err-answer-clause-errors
-returns-in_err-answer-clause-errors g c =
+pub returns-in_err-answer-clause-alone : goal.returns-in_err-answer-clause-alone
+returns-in_err-answer-clause-alone g c =
     let w : State = state_of c.loop-answer.self (g.M.WordMemory.words c.loop-answer.memory) in
     let u : UnderWay = c.loop-answer.invariant.waits.call in
-    let paid : is_no_memory c.step.result ≡ false = not_true (is_no_memory c.step.result) (λ e. omega (arith, c.step.ensures.full e, c.loop-answer.invariant.room)) in
-    let answered : c.step.result ≡ Ok (answer_of (next_of (machine w) u)) = c.step.ensures.result ∙ ap (λ (b : Bool). step_result b w c.args.client) paid ∙ answer_is w c.args.client u c.loop-answer.invariant.waits.is c.loop-answer.invariant.holds in
-    absurd (cc (answered, c.in_err-answer.was))
-
-pub returns-in_err-answer-clause-same : goal.returns-in_err-answer-clause-same
-returns-in_err-answer-clause-same g c =
-    let w : State = state_of c.loop-answer.self (g.M.WordMemory.words c.loop-answer.memory) in
-    let u : UnderWay = c.loop-answer.invariant.waits.call in
-    let paid : is_no_memory c.step.result ≡ false = not_true (is_no_memory c.step.result) (λ e. omega (arith, c.step.ensures.full e, c.loop-answer.invariant.room)) in
-    let answered : c.step.result ≡ Ok (answer_of (next_of (machine w) u)) = c.step.ensures.result ∙ ap (λ (b : Bool). step_result b w c.args.client) paid ∙ answer_is w c.args.client u c.loop-answer.invariant.waits.is c.loop-answer.invariant.holds in
+    let paid : is_no_memory c.step.result ≡ false = not_true (is_no_memory c.step.result) (λ e. omega (arith, c.step.ensures.by_rule.full e, c.loop-answer.invariant.room)) in
+    let answered : c.step.result ≡ Ok (answer_of (next_of (machine w) u)) = c.step.ensures.by_rule.answers ∙ ap (λ (b : Bool). step_result b w c.args.client) paid ∙ answer_is w c.args.client u c.loop-answer.invariant.waits.is c.loop-answer.invariant.holds in
     absurd (cc (answered, c.in_err-answer.was))
 
 pub returns-in_err-answer-clause-left : goal.returns-in_err-answer-clause-left
 returns-in_err-answer-clause-left g c =
     let w : State = state_of c.loop-answer.self (g.M.WordMemory.words c.loop-answer.memory) in
     let u : UnderWay = c.loop-answer.invariant.waits.call in
-    let paid : is_no_memory c.step.result ≡ false = not_true (is_no_memory c.step.result) (λ e. omega (arith, c.step.ensures.full e, c.loop-answer.invariant.room)) in
-    let answered : c.step.result ≡ Ok (answer_of (next_of (machine w) u)) = c.step.ensures.result ∙ ap (λ (b : Bool). step_result b w c.args.client) paid ∙ answer_is w c.args.client u c.loop-answer.invariant.waits.is c.loop-answer.invariant.holds in
+    let paid : is_no_memory c.step.result ≡ false = not_true (is_no_memory c.step.result) (λ e. omega (arith, c.step.ensures.by_rule.full e, c.loop-answer.invariant.room)) in
+    let answered : c.step.result ≡ Ok (answer_of (next_of (machine w) u)) = c.step.ensures.by_rule.answers ∙ ap (λ (b : Bool). step_result b w c.args.client) paid ∙ answer_is w c.args.client u c.loop-answer.invariant.waits.is c.loop-answer.invariant.holds in
     absurd (cc (answered, c.in_err-answer.was))
 
 pub loop-answer-smaller : goal.loop-answer-smaller
@@ -75,8 +68,8 @@ loop-answer-smaller g c =
     let u : UnderWay = c.loop-answer.invariant.waits.call in
     let here : slice_get w.calls c.args.client.0 ≡ Some (Some u) = c.loop-answer.invariant.waits.is in
     let paid : is_no_memory c.step.result ≡ false = ap is_no_memory c.in_ok-answer.was in
-    let stepped : v ≡ after_one_access w c.args.client u = c.step.ensures.world ∙ ap (λ (b : Bool). after_step b w c.args.client) paid ∙ step_is w c.args.client u here c.loop-answer.invariant.holds in
-    let answered : Ok c.in_ok-answer.answer ≡ Ok (answer_of (next_of (machine w) u)) = sym c.in_ok-answer.was ∙ c.step.ensures.result ∙ ap (λ (b : Bool). step_result b w c.args.client) paid ∙ answer_is w c.args.client u here c.loop-answer.invariant.holds in
+    let stepped : v ≡ after_one_access w c.args.client u = c.step.ensures.by_rule.leaves ∙ ap (λ (b : Bool). after_step b w c.args.client) paid ∙ step_is w c.args.client u here c.loop-answer.invariant.holds in
+    let answered : Ok c.in_ok-answer.answer ≡ Ok (answer_of (next_of (machine w) u)) = sym c.in_ok-answer.was ∙ c.step.ensures.by_rule.answers ∙ ap (λ (b : Bool). step_result b w c.args.client) paid ∙ answer_is w c.args.client u here c.loop-answer.invariant.holds in
     let none : answer_of (next_of (machine w) u) ≡ None = cc (answered, c.in_default.is) in
     let on = goes_on w c.args.client u here c.loop-answer.invariant.holds none in
     subst (λ (x : State). left_in x c.args.client < left_in w c.args.client) (sym stepped) on.fewer
@@ -89,8 +82,8 @@ loop-answer-preserved g c =
     let u : UnderWay = c.loop-answer.invariant.waits.call in
     let here : slice_get w.calls c.args.client.0 ≡ Some (Some u) = c.loop-answer.invariant.waits.is in
     let paid : is_no_memory c.step.result ≡ false = ap is_no_memory c.in_ok-answer.was in
-    let stepped : v ≡ after_one_access w c.args.client u = c.step.ensures.world ∙ ap (λ (b : Bool). after_step b w c.args.client) paid ∙ step_is w c.args.client u here c.loop-answer.invariant.holds in
-    let answered : Ok c.in_ok-answer.answer ≡ Ok (answer_of (next_of (machine w) u)) = sym c.in_ok-answer.was ∙ c.step.ensures.result ∙ ap (λ (b : Bool). step_result b w c.args.client) paid ∙ answer_is w c.args.client u here c.loop-answer.invariant.holds in
+    let stepped : v ≡ after_one_access w c.args.client u = c.step.ensures.by_rule.leaves ∙ ap (λ (b : Bool). after_step b w c.args.client) paid ∙ step_is w c.args.client u here c.loop-answer.invariant.holds in
+    let answered : Ok c.in_ok-answer.answer ≡ Ok (answer_of (next_of (machine w) u)) = sym c.in_ok-answer.was ∙ c.step.ensures.by_rule.answers ∙ ap (λ (b : Bool). step_result b w c.args.client) paid ∙ answer_is w c.args.client u here c.loop-answer.invariant.holds in
     let none : answer_of (next_of (machine w) u) ≡ None = cc (answered, c.in_default.is) in
     let on = goes_on w c.args.client u here c.loop-answer.invariant.holds none in
     let fewer : left_in v c.args.client < left_in w c.args.client = subst (λ (x : State). left_in x c.args.client < left_in w c.args.client) (sym stepped) on.fewer in
@@ -98,7 +91,7 @@ loop-answer-preserved g c =
     record {
       world =
           let more : suc c.loop-answer.steps ≡ c.loop-answer.steps + 1 = omega arith in
-          c.step.ensures.world ∙ ap (λ (b : Bool). after_step b w c.args.client) paid
+          c.step.ensures.by_rule.leaves ∙ ap (λ (b : Bool). after_step b w c.args.client) paid
           ∙ ap (λ (x : State). after_step false x c.args.client) c.loop-answer.invariant.world
           ∙ ap (λ (n : ℕ). after_alone n old c.args.client) more;
       client = refl;
@@ -107,7 +100,7 @@ loop-answer-preserved g c =
           let now = own_stepped w c.args.client (g.M.WordMemory.lent c.loop-answer.memory) c.loop-answer.invariant.holds c.loop-answer.invariant.asked in
           let left : g.M.WordMemory.lent c.step.new.memory ≡ lent_after_step false w c.args.client (g.M.WordMemory.lent c.loop-answer.memory) =
           c.step.ensures.lent ∙ ap (λ (b : Bool). lent_after_step b w c.args.client (g.M.WordMemory.lent c.loop-answer.memory)) paid in
-          let v_is : v ≡ after_step false w c.args.client = c.step.ensures.world ∙ ap (λ (b : Bool). after_step b w c.args.client) paid in
+          let v_is : v ≡ after_step false w c.args.client = c.step.ensures.by_rule.leaves ∙ ap (λ (b : Bool). after_step b w c.args.client) paid in
           subst (λ (x : State). IfCallAsked x.shape (slice_index_or x.calls c.args.client.0 None) (g.M.WordMemory.lent c.step.new.memory).request) (sym v_is)
           (subst (λ (l : Lent). IfCallAsked (after_step false w c.args.client).shape (slice_index_or (after_step false w c.args.client).calls c.args.client.0 None) l.request) (sym left) now);
       lent =
@@ -122,14 +115,29 @@ loop-answer-preserved g c =
       at_first = omega (arith, stays, c.loop-answer.invariant.at_first);
     }
 
-pub returns-in-Some-clause-answer : goal.returns-in-Some-clause-answer
-returns-in-Some-clause-answer g c =
+pub returns-in-Some-clause-alone : goal.returns-in-Some-clause-alone
+returns-in-Some-clause-alone g c =
     let old : State = state_of c.args.self.now (g.M.WordMemory.words c.args.memory.now) in
     let w : State = state_of c.loop-answer.self (g.M.WordMemory.words c.loop-answer.memory) in
+    let u : UnderWay = c.in_ok-waiting.field-0 in
     let paid : is_no_memory c.step.result ≡ false = ap is_no_memory c.in_ok-answer.was in
     let more : suc c.loop-answer.steps ≡ c.loop-answer.steps + 1 = omega arith in
     let result : step_result false (after_alone c.loop-answer.steps old c.args.client) c.args.client ≡ Ok (Some c.in-Some.reply) =
     ap (λ (x : State). step_result false x c.args.client) (sym c.loop-answer.invariant.world)
     ∙ ap (λ (b : Bool). step_result b w c.args.client) (sym paid)
-    ∙ sym c.step.ensures.result ∙ c.in_ok-answer.was ∙ ap Ok c.in-Some.is in
-    subst (λ (n : ℕ). IsAnsweredAlone old c.args.client n c.in-Some.reply) more result
+    ∙ sym c.step.ensures.by_rule.answers ∙ c.in_ok-answer.was ∙ ap Ok c.in-Some.is in
+    let waits : waiting_in old c.args.client ≡ Ok u = sym c.waiting.ensures ∙ c.in_ok-waiting.was in
+    record {
+      refused = λ refusal e. absurd (cc (waits, e));
+      errors = tt;
+      full = λ full. absurd (cc (full));
+      same = tt;
+      steps = omega (arith, c.loop-answer.invariant.left, more);
+      answer = subst (λ (n : ℕ). IsAnsweredAlone old c.args.client n c.in-Some.reply) more result;
+      world =
+          c.step.ensures.by_rule.leaves ∙ ap (λ (b : Bool). after_step b w c.args.client) paid
+          ∙ ap (λ (x : State). after_step false x c.args.client) c.loop-answer.invariant.world
+          ∙ ap (λ (n : ℕ). after_alone n old c.args.client) more;
+      room = omega (arith, c.step.ensures.by_rule.room, c.loop-answer.invariant.at_first);
+      spare = tt;
+    }

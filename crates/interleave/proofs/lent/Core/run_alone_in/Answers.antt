@@ -3,12 +3,13 @@ use Rattle.persist.specs.Memory.{Around, Lent, MemoryState, Words, lent_whole}
 use Rattle.persist.specs.Lent.{port_lent}
 use Rattle.interleave.specs.Asked.{AreAsked, HoldsOver, lent_after_alone, requests_of}
 use Rattle.interleave.specs.Calls.{is_no_memory}
-use Rattle.interleave.specs.Core.{CoreState, state_of}
+use Rattle.interleave.specs.Core.{CoreState, roomy_over, state_of}
 use Rattle.interleave.specs.Holds.{Holds}
 use Rattle.std.specs.Prelude.{IfErr, IfOk}
 use Rattle.words.specs.declared.call.Client.{Client}
 use Rattle.words.specs.declared.call.Reply.{Reply}
 use Rattle.words.specs.declared.refusal.Refusal.{Refusal}
+use Rattle.interleave.specs.Rules.{IsByAlone}
 use Rattle.interleave.specs.State.{State, after_alone}
 use Rattle.interleave.proofs.AskedKept.{Returned, around_alone, asked_alone, asked_same, returned, all_same}
 use Rattle.interleave.proofs.lent.Core.run_alone_in.Goals as goal
@@ -40,13 +41,13 @@ lender_stays w client name2 port2 left first (Err refusal) same on = ap (λ (l :
 lender_stays w client name2 port2 left first (Ok answer) same on =
     ap (λ (l : Lent). l.around.lender) on ∙ ap (λ (a : Around). a.lender) (around_alone answer.1 w client first)
 
-pub returns-clause-world : goal.returns-clause-world
-returns-clause-world c =
+pub returns-clause-alone : goal.returns-clause-alone
+returns-clause-alone c =
     let p = c.in_ok-memory.field-0 in
     let v = c.run_alone.new.memory in
     let core : CoreState = c.args.self.now in
-    let world : IfOk c.run_alone.result (λ answer. state_of c.run_alone.new.self v.memory.now.words ≡ after_alone answer.1 (state_of core c.args.memory.now.words) c.args.client) =
-    subst (λ (ws : Words). IfOk c.run_alone.result (λ answer. state_of c.run_alone.new.self v.memory.now.words ≡ after_alone answer.1 (state_of core ws) c.args.client)) c.in_ok-memory.ensures.words c.run_alone.ensures.world in
+    let made : IsByAlone c.args.client (roomy_over core c.args.memory.now.words) c.run_alone.result (roomy_over c.run_alone.new.self v.memory.now.words) =
+    subst (λ (ws : Words). IsByAlone c.args.client (roomy_over core ws) c.run_alone.result (roomy_over c.run_alone.new.self v.memory.now.words)) c.in_ok-memory.ensures.words c.run_alone.ensures.alone in
     let name : v.memory.ghost_name ≡ p.memory.ghost_name =
     lender_stays (state_of core p.memory.now.words) c.args.client v.memory.ghost_name v.port v.memory.now (port_lent p) c.run_alone.result c.run_alone.ensures.left c.run_alone.ensures.lent in
     search rules
@@ -61,9 +62,9 @@ returns-clause-holds c =
     let new : CoreState = c.run_alone.new.self in
     let first : Lent = port_lent p in
     let same : IfErr result (λ e. state_of new v.memory.now.words ≡ state_of core old.words) =
-    subst (λ (ws : Words). IfErr result (λ e. state_of new v.memory.now.words ≡ state_of core ws)) c.in_ok-memory.ensures.words c.run_alone.ensures.same in
+    subst (λ (ws : Words). IfErr result (λ e. state_of new v.memory.now.words ≡ state_of core ws)) c.in_ok-memory.ensures.words c.run_alone.ensures.alone.same in
     let world : IfOk result (λ answer. state_of new v.memory.now.words ≡ after_alone answer.1 (state_of core old.words) c.args.client) =
-    subst (λ (ws : Words). IfOk result (λ answer. state_of new v.memory.now.words ≡ after_alone answer.1 (state_of core ws) c.args.client)) c.in_ok-memory.ensures.words c.run_alone.ensures.world in
+    subst (λ (ws : Words). IfOk result (λ answer. state_of new v.memory.now.words ≡ after_alone answer.1 (state_of core ws) c.args.client)) c.in_ok-memory.ensures.words c.run_alone.ensures.alone.world in
     let on : IfOk result (λ answer. port_lent v ≡ lent_after_alone answer.1 (state_of core old.words) c.args.client first) =
     subst (λ (ws : Words). IfOk result (λ answer. port_lent v ≡ lent_after_alone answer.1 (state_of core ws) c.args.client first)) c.in_ok-memory.ensures.words c.run_alone.ensures.lent in
     let asked = asked_after core new c.args.client _ v.memory.ghost_name v.port old v.memory.now first result c.requires.world c.requires.asked c.in_ok-memory.ensures.lent same c.run_alone.ensures.left world on in

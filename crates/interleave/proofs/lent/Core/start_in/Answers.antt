@@ -18,5 +18,5 @@ returns-clause-holds c =
     (unasked_for 0 0 old new c.start.ensures.lent) c.requires.asked in
     record {
       world = c.start.ensures.holds;
-      asked = subst (λ (w : State). AreAsked w.shape w.calls w.recovery (requests_of new)) (sym c.start.ensures.world) asked;
+      asked = subst (λ (w : State). AreAsked w.shape w.calls w.recovery (requests_of new)) (sym c.start.ensures.by_rule.leaves) asked;
     }

@@ -3,15 +3,13 @@ use Rattle.interleave.specs.Calls.{is_no_memory}
 use Rattle.interleave.specs.Core.{state_of}
 use Rattle.interleave.specs.Asked.{AreAsked, requests_of}
 use Rattle.interleave.specs.Holds.{Holds, IsExplained}
-use Rattle.interleave.specs.Queue.{told_in}
-use Rattle.interleave.specs.Rotation.{after_rotate, rotate_result, AreNumbersTold, IsBaseToldRightly}
+use Rattle.interleave.specs.Rotation.{after_rotate, rotate_result, IsHandedOn}
 use Rattle.interleave.specs.State.{IsKeptSound, State, kept_content, kept_tells}
 use Rattle.interleave.specs.Trace.{Roomy}
-use Rattle.interleave.specs.Turn.{NobodyCalls}
 use Rattle.interleave.proofs.AskedKept.{asked_rotated}
 use Rattle.interleave.proofs.HoldsKept.{explained_world}
 use Rattle.interleave.proofs.KeptTells.{kept_sound}
-use Rattle.interleave.proofs.ActLaws.{IsRotated, rotated}
+use Rattle.interleave.proofs.ActLaws.{rotated}
 use Rattle.interleave.proofs.Rotated.{holds_after_rotate, tells_rotated}
 use Rattle.interleave.proofs.world.World.rotate.Goals as goal
 
@@ -83,35 +81,11 @@ returns-clause-holds c =
     let answer : rotate_result (is_no_memory c.rotate.result) old ≡ c.rotate.result = sym (c.rotate.ensures.result c.self.inside.memory.words) in
     ap kept_content left ∙ (tells_rotated (is_no_memory c.rotate.result) old).1 ∙ ap kept_content was
 
-pub returns-clause-told : goal.returns-clause-told
-returns-clause-told c = λ ok.
+pub returns-clause-handed_on : goal.returns-clause-handed_on
+returns-clause-handed_on c = λ ok.
     let old : State = state_of c.self.inside.core c.self.inside.memory.words in
-    let was : old ≡ c.args.self.now.now = ap (λ (r : Roomy). r.now) c.self.view_is in
+    let new : State = state_of c.rotate.new.self c.self.inside.memory.words in
     let full = is_no_memory c.rotate.result in
-    let left : state_of c.rotate.new.self c.self.inside.memory.words ≡ after_rotate full old = c.rotate.ensures.world c.self.inside.memory.words refl in
-    let made : IsRotated old (after_rotate full old) = rotated full old c.self.invariant.world (sym (c.rotate.ensures.result c.self.inside.memory.words) ∙ ok) in
-    ap (λ (w : State). told_in w.queue) left ∙ made.told ∙ ap kept_tells was
-
-pub returns-clause-announced : goal.returns-clause-announced
-returns-clause-announced c = λ ok.
-    let old : State = state_of c.self.inside.core c.self.inside.memory.words in
-    let was : old ≡ c.args.self.now.now = ap (λ (r : Roomy). r.now) c.self.view_is in
-    let full = is_no_memory c.rotate.result in
-    let made : IsRotated old (after_rotate full old) = rotated full old c.self.invariant.world (sym (c.rotate.ensures.result c.self.inside.memory.words) ∙ ok) in
-    subst IsBaseToldRightly was made.announced
-
-pub returns-clause-numbers : goal.returns-clause-numbers
-returns-clause-numbers c = λ ok.
-    let old : State = state_of c.self.inside.core c.self.inside.memory.words in
-    let was : old ≡ c.args.self.now.now = ap (λ (r : Roomy). r.now) c.self.view_is in
-    let full = is_no_memory c.rotate.result in
-    let made : IsRotated old (after_rotate full old) = rotated full old c.self.invariant.world (sym (c.rotate.ensures.result c.self.inside.memory.words) ∙ ok) in
-    subst AreNumbersTold was made.numbers
-
-pub returns-clause-nobody : goal.returns-clause-nobody
-returns-clause-nobody c = λ ok.
-    let old : State = state_of c.self.inside.core c.self.inside.memory.words in
-    let full = is_no_memory c.rotate.result in
-    let left : state_of c.rotate.new.self c.self.inside.memory.words ≡ after_rotate full old = c.rotate.ensures.world c.self.inside.memory.words refl in
-    let made : IsRotated old (after_rotate full old) = rotated full old c.self.invariant.world (sym (c.rotate.ensures.result c.self.inside.memory.words) ∙ ok) in
-    subst NobodyCalls (sym left) made.nobody
+    let left : new ≡ after_rotate full old = c.rotate.ensures.world c.self.inside.memory.words refl in
+    subst (λ (r : Roomy). IsHandedOn r.now new) c.self.view_is
+    (subst (IsHandedOn old) (sym left) (rotated full old c.self.invariant.world (sym (c.rotate.ensures.result c.self.inside.memory.words) ∙ ok)))

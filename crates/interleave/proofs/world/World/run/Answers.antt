@@ -82,9 +82,3 @@ returns-clause-explained c = explained_world _ c.loop-act.invariant.holds
 
 pub returns-clause-sound : goal.returns-clause-sound
 returns-clause-sound c = kept_sound _ c.loop-act.invariant.holds
-
-pub returns-clause-order : goal.returns-clause-order
-returns-clause-order c = c.loop-act.invariant.so_far.on.part
-
-pub returns-clause-ended : goal.returns-clause-ended
-returns-clause-ended c = c.loop-act.invariant.so_far.on.ended

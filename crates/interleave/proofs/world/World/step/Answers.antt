@@ -1,34 +1,20 @@
-use Rattle.interleave.specs.Core.{state_of}
-use Rattle.interleave.specs.Trace.{Roomy}
-use Rattle.interleave.proofs.HoldsKept.{explained_world}
-use Rattle.interleave.proofs.KeptTells.{kept_sound}
-use Rattle.std.proofs.Common.{◌≡◌, sym, subst, ap}
-use Rattle.events.specs.Parts.{IsPartOf}
+use Rattle.std.proofs.Common.{subst}
+use Rattle.protocol.specs.declared.acts.Act.TheVariants.{Step}
 use Rattle.interleave.specs.Calls.{is_no_memory}
-use Rattle.interleave.specs.Standing.{EndedCallsStay}
-use Rattle.interleave.specs.State.{State, order_in}
-use Rattle.interleave.proofs.HoldsKept.{part_after_step}
-use Rattle.interleave.proofs.StandingLaws.{ended_after_step}
+use Rattle.interleave.specs.Core.{roomy_over}
+use Rattle.interleave.specs.Rules.{GoesOnExplained, IsByRule, stepping}
+use Rattle.interleave.specs.Trace.{Roomy}
+use Rattle.interleave.proofs.ByRule.{goes_on_explained}
 use Rattle.interleave.proofs.world.World.step.Goals as goal
 
-pub returns-clause-explained : goal.returns-clause-explained
-returns-clause-explained c =
-    explained_world _ c.step_in.ensures.holds.world
+pub returns-clause-by_rule : goal.returns-clause-by_rule
+returns-clause-by_rule c =
+    subst (λ (r : Roomy). IsByRule (stepping c.args.client) r c.step_in.result (roomy_over c.step_in.new.self c.step_in.new.memory.words)) c.self.view_is c.step_in.ensures.by_rule
 
-pub returns-clause-sound : goal.returns-clause-sound
-returns-clause-sound c =
-    kept_sound _ c.step_in.ensures.holds.world
-
-pub returns-clause-order : goal.returns-clause-order
-returns-clause-order c =
-    let old : State = state_of c.self.inside.core c.self.inside.memory.words in
-    let was : old ≡ c.args.self.now.now = ap (λ (r : Roomy). r.now) c.self.view_is in
-    subst (λ (w : State). IsPartOf (order_in w) (order_in (state_of c.step_in.new.self c.step_in.new.memory.words))) was
-    (subst (λ (w : State). IsPartOf (order_in old) (order_in w)) (sym c.step_in.ensures.world) (part_after_step (is_no_memory c.step_in.result) old c.args.client c.self.invariant.world))
-
-pub returns-clause-ended : goal.returns-clause-ended
-returns-clause-ended c =
-    let old : State = state_of c.self.inside.core c.self.inside.memory.words in
-    let was : old ≡ c.args.self.now.now = ap (λ (r : Roomy). r.now) c.self.view_is in
-    subst (λ (w : State). EndedCallsStay w (state_of c.step_in.new.self c.step_in.new.memory.words)) was
-    (subst (λ (w : State). EndedCallsStay old w) (sym c.step_in.ensures.world) (ended_after_step (is_no_memory c.step_in.result) old c.args.client c.self.invariant.world))
+pub returns-clause-goes_on : goal.returns-clause-goes_on
+returns-clause-goes_on c =
+    let old : Roomy = roomy_over c.self.inside.core c.self.inside.memory.words in
+    let new : Roomy = roomy_over c.step_in.new.self c.step_in.new.memory.words in
+    subst (λ (r : Roomy). GoesOnExplained r.now new.now) c.self.view_is
+    (goes_on_explained old.now new.now (is_no_memory c.step_in.result) (Step c.args.client) c.self.invariant.world
+    c.step_in.ensures.holds.world c.step_in.ensures.by_rule.leaves)
