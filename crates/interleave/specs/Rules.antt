@@ -1,5 +1,5 @@
 -- The rules of acts: what an act makes of a world and what it answers, and what it is to be made or refused by a rule.
-use Rattle.std.specs.Prelude.{◌≡◌, ◌≤◌, ◌+◌, ◌×◌, ◌⊎◌, ℕ, Bool, true, Option, Result, Err, IfOk, IfErr, slice_get}
+use Rattle.std.specs.Prelude.{◌≡◌, ◌≤◌, ◌+◌, ◌⊎◌, ℕ, Bool, true, Option, Result, Err, IfOk, IfErr, slice_get}
 use Rattle.words.specs.declared.call.Call.{Call}
 use Rattle.words.specs.declared.call.Client.{Client}
 use Rattle.words.specs.declared.call.Reply.{Reply}

@@ -25,3 +25,4 @@ pub mod Queues
 pub mod Lastings
 pub mod QueueKinds
 pub mod Migrated
+pub mod Acting

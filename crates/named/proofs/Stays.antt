@@ -7,9 +7,10 @@ use Rattle.words.specs.declared.call.Reply.{Reply}
 use Rattle.words.specs.declared.refusal.Refusal.{Refusal}
 use Rattle.arena.specs.Layout.{place_at}
 use Rattle.arena.specs.declared.place.Place.{Place}
+use Rattle.recover.specs.declared.recovery.Recovery.{Recovery}
 use Rattle.protocol.specs.declared.UnderWay.{UnderWay}
 use Rattle.interleave.specs.Calls.{waiting_result}
-use Rattle.interleave.specs.State.{State, after_alone, after_bump_load, after_call_began, after_evict, after_one_access, after_start, after_step, evict_with, is_down, number_to_start, start_with, step_with, used_by}
+use Rattle.interleave.specs.State.{State, after_alone, after_bump_load, after_call_began, after_evict, after_one_access, after_recover, after_start, after_step, evict_with, recover_with, is_down, number_to_start, start_with, step_with, used_by}
 
 -- the same shape, and the same recovery
 abbrev pub IsShapedAlike : State → State → Type 0
@@ -60,3 +61,12 @@ alone_alike_by old new client (Ok answer) refused world =
     let alike = alone_alike answer.1 old client in
     (ap (λ (x : State). x.shape) world ∙ alike.0, ap (λ (x : State). x.recovery) world ∙ alike.1)
 alone_alike_by old new client (Err refusal) refused world = (ap (λ (x : State). x.shape) refused, ap (λ (x : State). x.recovery) refused)
+
+-- a step of a queue's recovery leaves its layout
+pub recovered_shape : (full : Bool) (w : State) → (after_recover full w).shape ≡ w.shape
+recovered_shape full w = go w.recovery full
+  where
+    go : (o : Option Recovery) (f : Bool) → (recover_with f w o).shape ≡ w.shape
+    go None f = refl
+    go (Some r) true = refl
+    go (Some r) false = refl

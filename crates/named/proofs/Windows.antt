@@ -6,16 +6,20 @@ use Rattle.words.specs.declared.call.Client.{Client}
 use Rattle.words.specs.declared.call.Reply.{Reply}
 use Rattle.words.specs.declared.limits.TheConstants.{QUEUE_PORTS, RECOVERY_PORT}
 use Rattle.words.specs.declared.refusal.Refusal.{Refusal}
+use Rattle.words.specs.declared.refusal.Refusal.TheVariants.{NoMemory}
 use Rattle.persist.specs.Memory.{Around, IsSameOutside, Lent, MemoryState, Request, Words, asked_through, lent_part, seen_in, words_in}
 use Rattle.persist.proofs.Parts.{bare_part, outside_left}
 use Rattle.persist.proofs.Requests.{asked_elsewhere}
 use Rattle.interleave.specs.Asked.{AreAsked, lent_after_alone, lent_after_recover, lent_after_step}
-use Rattle.interleave.specs.Core.{CoreState, state_of}
+use Rattle.interleave.specs.Calls.{is_no_memory}
+use Rattle.interleave.specs.Core.{CoreState, roomy_over, state_of}
 use Rattle.interleave.specs.Holds.{Holds}
-use Rattle.interleave.specs.State.{State, after_alone, after_evict, after_recover, after_start, after_step}
+use Rattle.interleave.specs.Rules.{IsByAlone, IsByRule, Rule, waiting_in}
+use Rattle.interleave.specs.State.{State, IsAnsweredAlone, after_alone, after_evict, after_recover, after_start, after_step}
 use Rattle.interleave.proofs.AskedKept.{AskElsewhere, all_same, around_alone, around_recovered, around_stepped, asked_alone, asked_evicted, asked_recovered, asked_same, asked_started, asked_stepped}
 use Rattle.interleave.proofs.PartLaws.{holds_alike}
-use Rattle.named.specs.Blocks.{AskAlikeBeside, BlockState, IsAskedIn, IsBeside, IsWellIn, requests_in, state_in}
+use Rattle.named.proofs.Stays.{alone_alike}
+use Rattle.named.specs.Blocks.{AskAlikeBeside, BlockState, IsActIn, IsAloneIn, IsAskedIn, IsBeside, IsWithinBlock, IsWellIn, requests_in, state_in}
 
 -- the first of a queue's ports is one of them
 pub through_first : (lent : Lent) (name : ℕ) (was : BlockState) (m : MemoryState) → lent ≡ lent_part name was.port was.from was.len m
@@ -34,6 +38,17 @@ pub record ActedIn (old new : MemoryState) (was : BlockState) (core : CoreState)
   pub beside : AskAlikeBeside was.port old new
   pub outside : IsSameOutside was.from was.len old.words new.words
 
+-- what such an act leaves, by the shape of what it leaves
+pub left_within : (old new : MemoryState) (was : BlockState) (core : CoreState) (after : State) → ActedIn old new was core after
+    → after.shape ≡ was.core.shape → IsWithinBlock old was new (with_core was core)
+left_within old new was core after acted shape = record {
+  well = acted.well;
+  asked = acted.asked;
+  beside = acted.beside;
+  outside = acted.outside;
+  place = (refl, refl, refl, ap (λ (w : State). w.shape) acted.state ∙ shape);
+}
+
 -- the window as it was lent, and as it came back
 pub record Window (old new : MemoryState) (was : BlockState) (core : CoreState) (name port name2 port2 from2 len2 : ℕ) (first : Lent) (ws : Words) : Type 0 where
   pub well : IsWellIn old.words was
@@ -50,22 +65,6 @@ AloneIn old new was core client (Err refusal) = ActedIn old new was core (state_
 AloneIn old new was core client (Ok answer) = ActedIn old new was core (after_alone answer.1 (state_in old.words was) client)
 
 module _ (old new : MemoryState) (was : BlockState) (core : CoreState) (client : Client) where
-  pub alone_well : (result : Result (Reply × ℕ) Refusal) → AloneIn old new was core client result → IsWellIn new.words (with_core was core)
-  alone_well (Err refusal) acted = acted.well
-  alone_well (Ok answer) acted = acted.well
-
-  pub alone_asked : (result : Result (Reply × ℕ) Refusal) → AloneIn old new was core client result → IsAskedIn new (with_core was core)
-  alone_asked (Err refusal) acted = acted.asked
-  alone_asked (Ok answer) acted = acted.asked
-
-  pub alone_beside : (result : Result (Reply × ℕ) Refusal) → AloneIn old new was core client result → AskAlikeBeside was.port old new
-  alone_beside (Err refusal) acted = acted.beside
-  alone_beside (Ok answer) acted = acted.beside
-
-  pub alone_outside : (result : Result (Reply × ℕ) Refusal) → AloneIn old new was core client result → IsSameOutside was.from was.len old.words new.words
-  alone_outside (Err refusal) acted = acted.outside
-  alone_outside (Ok answer) acted = acted.outside
-
   pub alone_same : (result : Result (Reply × ℕ) Refusal) → AloneIn old new was core client result
       → IfErr result (λ e. state_in new.words (with_core was core) ≡ state_in old.words was)
   alone_same (Err refusal) acted = acted.state
@@ -190,6 +189,47 @@ module _ (old new : MemoryState) (was : BlockState) (core : CoreState) (name por
       (came_to (after_alone answer.1 world client) (lent_after_alone answer.1 world client first) came lent (around_alone answer.1 world client first)
       (λ requests here there. (asked_alone answer.1 world client first (requests_in old was) held (own_request ∙ ap (requests_in old was) (sym its)) asked_before
       requests (ap requests its ∙ here) (λ t ne. there t (λ e. ne (e ∙ sym its)))).0))
+
+  -- an act by a rule
+  pub act_in : {A : Type 0} (rule : Rule A) (result : Result A Refusal)
+      → IsByRule rule (roomy_over was.core ws) result (roomy_over core (words_in from2 len2 new.words))
+      → ActedIn old new was core (rule.leaves (is_no_memory result) (state_in old.words was))
+      → (rule.leaves (is_no_memory result) (state_in old.words was)).shape ≡ was.core.shape
+      → IsActIn rule old was result new (with_core was core)
+  act_in rule result made acted shape = record {
+    by_rule = record {
+      leaves = acted.state;
+      answers = subst (λ (xs : Words). result ≡ rule.answers (is_no_memory result) (state_of was.core xs)) window.words made.answers;
+      full = made.full;
+      room = made.room;
+      spare = made.spare;
+    };
+    within = left_within old new was core (rule.leaves (is_no_memory result) (state_in old.words was)) acted shape;
+  }
+
+  -- a call alone
+  pub alone_act : (client : Client) (result : Result (Reply × ℕ) Refusal)
+      → IsByAlone client (roomy_over was.core ws) result (roomy_over core (words_in from2 len2 new.words))
+      → AloneIn old new was core client result → IsAloneIn client old was result new (with_core was core)
+  alone_act client result made acted = record {
+    alone = record {
+      refused = λ refusal e. made.refused refusal (ap (λ (w : State). waiting_in w client) (sym before) ∙ e);
+      errors = subst (λ (w : State). IfErr result (λ e. (e ≡ NoMemory) ⊎ (waiting_in w client ≡ Err e))) (sym before) made.errors;
+      full = made.full;
+      same = alone_same old new was core client result acted;
+      steps = made.steps;
+      answer = subst (λ (w : State). IfOk result (λ answer. IsAnsweredAlone w client answer.1 answer.0)) (sym before) made.answer;
+      world = alone_world old new was core client result acted;
+      room = made.room;
+      spare = made.spare;
+    };
+    within = alone_within result acted;
+  }
+    where
+      alone_within : (r : Result (Reply × ℕ) Refusal) → AloneIn old new was core client r → IsWithinBlock old was new (with_core was core)
+      alone_within (Err refusal) it = left_within old new was core (state_in old.words was) it refl
+      alone_within (Ok answer) it =
+          left_within old new was core (after_alone answer.1 (state_in old.words was) client) it (alone_alike answer.1 (state_in old.words was) client).0
 
 -- the memory that lent the words of a call alone has them back
 pub alone_lender : (w : State) (client : Client) (first : Lent) (left : Lent) (result : Result (Reply × ℕ) Refusal) → IfErr result (λ e. left ≡ first)

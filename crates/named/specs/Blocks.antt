@@ -1,16 +1,17 @@
 -- A queue in its block: a core, where its words lie in the memory of a broker, and which ports it acts through.
-use Rattle.std.specs.Prelude.{◌≡◌, ℕ, ◌+◌, ◌<◌, ◌≤◌, ◌⊎◌, Result, length, slice_get}
+use Rattle.std.specs.Prelude.{◌≡◌, ℕ, ◌+◌, ◌<◌, ◌≤◌, ◌⊎◌, Result, length}
 use Rattle.words.specs.declared.call.Client.{Client}
+use Rattle.words.specs.declared.call.Reply.{Reply}
 use Rattle.words.specs.declared.limits.TheConstants.{QUEUE_PORTS}
 use Rattle.words.specs.declared.refusal.Refusal.{Refusal}
-use Rattle.persist.specs.Memory.{MemoryState, Request, Words, asked_through, seen_in, words_in}
+use Rattle.persist.specs.Memory.{MemoryState, Request, Words, IsSameOutside, asked_through, seen_in, words_in}
 use Rattle.persist.specs.declared.memory.TheConstants.{PORTS}
 use Rattle.interleave.specs.Asked.{AreAsked}
-use Rattle.interleave.specs.Core.{CoreState, state_of}
+use Rattle.interleave.specs.Core.{CoreState, roomy_over, state_of}
 use Rattle.interleave.specs.Holds.{Holds}
-use Rattle.interleave.specs.Calls.{waiting_result}
-use Rattle.interleave.specs.State.{State, is_down}
-use Rattle.protocol.specs.declared.UnderWay.{UnderWay}
+use Rattle.interleave.specs.Rules.{Rule, IsByAlone, IsByRule}
+use Rattle.interleave.specs.State.{State}
+use Rattle.interleave.specs.Trace.{Roomy}
 
 pub record BlockState : Type 0 where
   pub core : CoreState
@@ -22,16 +23,16 @@ pub record BlockState : Type 0 where
 abbrev pub state_in : Words → BlockState → State
 state_in ws block = state_of block.core (words_in block.from block.len ws)
 
+-- and for how many acts more there is room
+abbrev pub roomy_in : Words → BlockState → Roomy
+roomy_in ws block = roomy_over block.core (words_in block.from block.len ws)
+
 -- the block is inside the memory, which has the queue's ports, and its world holds there
 pub record IsWellIn (ws : Words) (block : BlockState) : Type 0 where
   pub some : 1 ≤ block.len
   pub inside : block.from + block.len ≤ length ws.cached
   pub ports : block.port + QUEUE_PORTS ≤ PORTS
   pub holds : Holds (state_in ws block)
-
--- the call that the client has under way, or why it cannot go on
-abbrev pub waiting_in : State → Client → Result UnderWay Refusal
-waiting_in w client = waiting_result (is_down w) (slice_get w.calls client.0)
 
 -- two memories have the same values, after as many accesses
 pub record IsSameWords (old new : Words) : Type 0 where
@@ -52,3 +53,29 @@ IsBeside first port = (port < first) ⊎ (first + QUEUE_PORTS ≤ port)
 
 abbrev pub AskAlikeBeside : ℕ → MemoryState → MemoryState → Type 0
 AskAlikeBeside first old new = (port : ℕ) → IsBeside first port → asked_through new port ≡ asked_through old port
+
+-- two blocks lie in the same place, have the same ports, and are laid out in the same way
+abbrev pub LieInOnePlace : BlockState → BlockState → Type 0
+LieInOnePlace old new =
+    (new.from ≡ old.from) × (new.len ≡ old.len) × (new.port ≡ old.port) × (new.core.shape ≡ old.core.shape)
+
+-- an act on the queue went through its block and its ports alone, and all is well with it again
+pub record IsWithinBlock (old_memory : MemoryState) (old : BlockState) (new_memory : MemoryState) (new : BlockState)
+    : Type 0 where
+  pub well : IsWellIn new_memory.words new
+  pub asked : IsAskedIn new_memory new
+  pub beside : AskAlikeBeside old.port old_memory new_memory
+  pub outside : IsSameOutside old.from old.len old_memory.words new_memory.words
+  pub place : LieInOnePlace old new
+
+-- such an act by a rule
+pub record IsActIn {A : Type 0} (rule : Rule A) (old_memory : MemoryState) (old : BlockState) (result : Result A Refusal)
+    (new_memory : MemoryState) (new : BlockState) : Type 0 where
+  pub by_rule : IsByRule rule (roomy_in old_memory.words old) result (roomy_in new_memory.words new)
+  pub within : IsWithinBlock old_memory old new_memory new
+
+-- and a call that goes on alone
+pub record IsAloneIn (client : Client) (old_memory : MemoryState) (old : BlockState) (result : Result (Reply × ℕ) Refusal)
+    (new_memory : MemoryState) (new : BlockState) : Type 0 where
+  pub alone : IsByAlone client (roomy_in old_memory.words old) result (roomy_in new_memory.words new)
+  pub within : IsWithinBlock old_memory old new_memory new

@@ -5,7 +5,7 @@ use Rattle.words.specs.declared.refusal.Refusal.{Refusal}
 use Rattle.words.specs.declared.refusal.Refusal.TheVariants.{NoMemory, NoQueue}
 use Rattle.persist.specs.Memory.{MemoryState, Words, IsSameOutside, words_after_eviction}
 use Rattle.interleave.specs.State.{State, after_evict}
-use Rattle.named.specs.Blocks.{AskAlikeBeside, BlockState, IsAskedIn, state_in, IsWellIn}
+use Rattle.named.specs.Blocks.{AskAlikeBeside, BlockState, IsAskedIn, LieInOnePlace, state_in, IsWellIn}
 use Rattle.named.specs.declared.slot.Slot.{Slot}
 use Rattle.named.specs.declared.slot.Slot.TheVariants.{Closed, Open}
 
@@ -68,11 +68,6 @@ AskAlikeBesideSlot (Open block) old new = AskAlikeBeside block.port old new
 abbrev pub IsSameOutsideSlot : Slot → Words → Words → Type 0
 IsSameOutsideSlot Closed old new = new ≡ old
 IsSameOutsideSlot (Open block) old new = IsSameOutside block.from block.len old new
-
--- two blocks lie in the same place, have the same ports, and are laid out in the same way
-abbrev pub LieInOnePlace : BlockState → BlockState → Type 0
-LieInOnePlace old new =
-    (new.from ≡ old.from) × (new.len ≡ old.len) × (new.port ≡ old.port) × (new.core.shape ≡ old.core.shape)
 
 -- the slot is closed, or open with a queue of the same kind in the same place
 abbrev pub IsSameSlot : Slot → Slot → Type 0

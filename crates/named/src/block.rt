@@ -1,21 +1,19 @@
 //! A queue in its block of the memory of a broker.
 
-ghost use Rattle.std.specs.Prelude.{◌≡◌, ◌+◌, ◌-◌, ◌≤◌, ◌⊎◌, ◌<◌, length, IfOk, IfErr, OnOk, OnErr, Ok, Err, Some, None, true, false};
+ghost use Rattle.std.specs.Prelude.{◌≡◌, ◌+◌, ◌-◌, ◌≤◌, ◌<◌, length, IfOk, IfErr, OnOk, OnErr, Ok, Err, None, false, true};
 ghost use Rattle.events.specs.Effects.{order_of};
-ghost use Rattle.interleave.specs.Queue.{told_in, told_to};
-ghost use Rattle.words.specs.declared.refusal.Refusal.{Refusal as AnyRefusal};
 ghost use Rattle.persist.specs.Changes.{change_at, change_of};
 ghost use Rattle.persist.specs.declared.memory.TheConstants.{PORTS};
-ghost use Rattle.persist.specs.Memory.{IsSameOutside, Words, words_in, words_after_crash, words_after_eviction};
+ghost use Rattle.persist.specs.Memory.{Words, words_in, words_after_crash, words_after_eviction};
 ghost use Rattle.recover.specs.Table.{boot_recovery};
 ghost use Rattle.interleave.specs.Booted.{booted_world, MayRefuse};
-ghost use Rattle.interleave.specs.Rotation.{after_rotation, rotate_result, some_client_calls};
+ghost use Rattle.interleave.specs.Queue.{told_in, told_to};
 ghost use Rattle.interleave.specs.Ranges.{AreUnused};
-ghost use Rattle.interleave.specs.Calls.{is_no_memory};
-ghost use Rattle.interleave.specs.State.{world_over, after_step, step_result, after_start, start_result, after_alone, after_evict, after_stop, after_recover, recover_result, kept_content, IsAnsweredAlone};
+ghost use Rattle.interleave.specs.Rotation.{after_rotation, rotate_result, some_client_calls};
+ghost use Rattle.interleave.specs.Rules.{recovering, starting, stepping};
+ghost use Rattle.interleave.specs.State.{world_over, after_evict, after_stop, kept_content};
 ghost use Rattle.interleave.specs.Verdicts.{number_under_way};
-ghost use Rattle.named.specs.Blocks.{state_in, waiting_in, AskAlikeBeside, IsAskedIn, IsSameWords, IsWellIn};
-ghost use Rattle.named.specs.Slots.{LieInOnePlace};
+ghost use Rattle.named.specs.Blocks.{state_in, IsActIn, IsAloneIn, IsAskedIn, IsSameWords, IsWellIn, IsWithinBlock, LieInOnePlace};
 
 use arena::Layout;
 use events::{History, Order};
@@ -24,7 +22,7 @@ use persist::{Change, Memory};
 use std::alloc::Global;
 use std::marker::Model;
 use words::{
-    Call, Client, Kind, MAX_STEPS_ALONE, QUEUE_PORTS, RECOVERY_PORT, Refusal, Reply, Told, Value,
+    Call, Client, Kind, QUEUE_PORTS, RECOVERY_PORT, Refusal, Reply, Told, Value,
 };
 
 /// A queue's core, where its words lie, in the block of a slot, and the first of its ports: each client has one, and
@@ -135,19 +133,9 @@ impl Block {
         requires well { IsWellIn memory.old.words self.old }
         requires asked { IsAskedIn memory.old self.old }
         requires client { client.0 < QUEUE_PORTS }
-        ensures state { state_in memory.new.words self.new
-            ≡ after_step (is_no_memory result) (state_in memory.old.words self.old) client }
-        ensures result { result ≡ step_result (is_no_memory result) (state_in memory.old.words self.old) client }
-        ensures full { is_no_memory result ≡ true → self.old.core.trace.room ≡ 0 }
-        ensures room { self.old.core.trace.room ≤ self.new.core.trace.room + 1 }
-        ensures spare { IfErr result (λ e. self.old.core.trace.room ≤ self.new.core.trace.room) }
+        ensures act { IsActIn (stepping client) memory.old self.old result memory.new self.new }
         ensures stays { result ≡ Ok None → self.old.core.trace.room ≤ self.new.core.trace.room }
-        ensures well { IsWellIn memory.new.words self.new }
-        ensures asked { IsAskedIn memory.new self.new }
-        ensures beside { AskAlikeBeside self.old.port memory.old memory.new }
-        ensures outside { IsSameOutside self.old.from self.old.len memory.old.words memory.new.words }
         ensures recovery { self.new.core.trace.recovery ≡ self.old.core.trace.recovery }
-        ensures place { LieInOnePlace self.old self.new }
     {
         let mut window = memory.window(self.from, self.len, self.port + client.0 as usize)?;
         self.core.step(&mut window, client)
@@ -163,18 +151,8 @@ impl Block {
     ) -> Result<(), Refusal>
         requires well { IsWellIn memory.old.words self.old }
         requires asked { IsAskedIn memory.old self.old }
-        ensures state { state_in memory.new.words self.new
-            ≡ after_start (is_no_memory result) (state_in memory.old.words self.old) client number call }
-        ensures result { result ≡ start_result (is_no_memory result) (state_in memory.old.words self.old) client number }
-        ensures full { is_no_memory result ≡ true → self.old.core.trace.room ≡ 0 }
-        ensures room { self.old.core.trace.room ≤ self.new.core.trace.room + 1 }
-        ensures spare { IfErr result (λ e. self.old.core.trace.room ≤ self.new.core.trace.room) }
-        ensures well { IsWellIn memory.new.words self.new }
-        ensures asked { IsAskedIn memory.new self.new }
-        ensures beside { AskAlikeBeside self.old.port memory.old memory.new }
-        ensures outside { IsSameOutside self.old.from self.old.len memory.old.words memory.new.words }
+        ensures act { IsActIn (starting client number call) memory.old self.old result memory.new self.new }
         ensures recovery { self.new.core.trace.recovery ≡ self.old.core.trace.recovery }
-        ensures place { LieInOnePlace self.old self.new }
     {
         let mut window = memory.window(self.from, self.len, self.port)?;
         self.core.start(&mut window, client, number, call)
@@ -189,25 +167,8 @@ impl Block {
         requires well { IsWellIn memory.old.words self.old }
         requires asked { IsAskedIn memory.old self.old }
         requires client { client.0 < QUEUE_PORTS }
-        ensures refused { (refusal : AnyRefusal) → waiting_in (state_in memory.old.words self.old) client ≡ Err refusal
-            → result ≡ Err refusal }
-        ensures errors { IfErr result (λ e. (e ≡ Refusal.NoMemory)
-            ⊎ (waiting_in (state_in memory.old.words self.old) client ≡ Err e)) }
-        ensures same { IfErr result (λ e. state_in memory.new.words self.new ≡ state_in memory.old.words self.old) }
-        ensures full { is_no_memory result ≡ true → self.old.core.trace.room ≡ 0 }
-        ensures room { self.old.core.trace.room ≤ self.new.core.trace.room + 1 }
-        ensures spare { IfErr result (λ e. self.old.core.trace.room ≤ self.new.core.trace.room) }
-        ensures steps { IfOk result (λ answer. answer.1 ≤ MAX_STEPS_ALONE) }
-        ensures answer { IfOk result (λ answer.
-            IsAnsweredAlone (state_in memory.old.words self.old) client answer.1 answer.0) }
-        ensures world { IfOk result (λ answer. state_in memory.new.words self.new
-            ≡ after_alone answer.1 (state_in memory.old.words self.old) client) }
-        ensures well { IsWellIn memory.new.words self.new }
-        ensures asked { IsAskedIn memory.new self.new }
-        ensures beside { AskAlikeBeside self.old.port memory.old memory.new }
-        ensures outside { IsSameOutside self.old.from self.old.len memory.old.words memory.new.words }
+        ensures alone { IsAloneIn client memory.old self.old result memory.new self.new }
         ensures recovery { self.new.core.trace.recovery ≡ self.old.core.trace.recovery }
-        ensures place { LieInOnePlace self.old self.new }
     {
         let mut window = memory.window(self.from, self.len, self.port + client.0 as usize)?;
         self.core.run_alone(&mut window, client)
@@ -289,13 +250,9 @@ impl Block {
             ≡ after_evict (state_in memory.old.words self.old) (word - self.old.from) }
         ensures words { IsSameWords (words_after_eviction word memory.old.words) memory.new.words }
         ensures result { result ≡ Ok (change_of memory.old.words word) }
-        ensures well { IsWellIn memory.new.words self.new }
-        ensures asked { IsAskedIn memory.new self.new }
-        ensures beside { AskAlikeBeside self.old.port memory.old memory.new }
-        ensures outside { IsSameOutside self.old.from self.old.len memory.old.words memory.new.words }
+        ensures within { IsWithinBlock memory.old self.old memory.new self.new }
         ensures room { self.new.core.trace.room ≡ self.old.core.trace.room }
         ensures recovery { self.new.core.trace.recovery ≡ self.old.core.trace.recovery }
-        ensures place { LieInOnePlace self.old self.new }
     {
         let mut window = memory.window(self.from, self.len, self.port)?;
         let change = self.core.evict(&mut window, word - self.from)?;
@@ -317,18 +274,8 @@ impl Block {
     pub(crate) fn recover_step(&mut self, memory: &mut Memory) -> Result<bool, Refusal>
         requires well { IsWellIn memory.old.words self.old }
         requires asked { IsAskedIn memory.old self.old }
-        ensures state { state_in memory.new.words self.new
-            ≡ after_recover (is_no_memory result) (state_in memory.old.words self.old) }
-        ensures result { result ≡ recover_result (is_no_memory result) (state_in memory.old.words self.old) }
-        ensures full { is_no_memory result ≡ true → self.old.core.trace.room ≡ 0 }
-        ensures room { self.old.core.trace.room ≤ self.new.core.trace.room + 1 }
-        ensures spare { IfErr result (λ e. self.old.core.trace.room ≤ self.new.core.trace.room) }
+        ensures act { IsActIn recovering memory.old self.old result memory.new self.new }
         ensures stays { result ≡ Ok false → self.old.core.trace.room ≤ self.new.core.trace.room }
-        ensures well { IsWellIn memory.new.words self.new }
-        ensures asked { IsAskedIn memory.new self.new }
-        ensures beside { AskAlikeBeside self.old.port memory.old memory.new }
-        ensures outside { IsSameOutside self.old.from self.old.len memory.old.words memory.new.words }
-        ensures place { LieInOnePlace self.old self.new }
     {
         let mut window = memory.window(self.from, self.len, self.port + RECOVERY_PORT)?;
         self.core.recover_step(&mut window)

@@ -1,17 +1,8 @@
 //! A broker of named queues.
 
-ghost use Rattle.std.specs.Prelude.{◌≡◌, ◌≢◌, ◌↔◌, ◌⊎◌, ◌<◌, ◌≤◌, ◌+◌, ℕ, true, length, replicate, slice_set, Ok, Err, IfOk, IfErr, OnOk, OnErr, IfSome, IfNone, IsSome, None, if◌then◌else◌};
+ghost use Rattle.std.specs.Prelude.{◌≡◌, ◌↔◌, ◌⊎◌, ◌<◌, ◌≤◌, length, replicate, slice_set, Err, IfOk, IfErr, OnOk};
 ghost use Rattle.arena.specs.Limits.{AreCounts};
-ghost use Rattle.persist.specs.Image.{image_of, reading};
-ghost use Rattle.directory.specs.Directory.{IsDirectory, IsNamed, HasName};
-ghost use Rattle.interleave.specs.Calls.{is_no_memory};
-ghost use Rattle.interleave.specs.State.{after_step, step_result, after_start, start_result, after_alone, kept_content, order_in, IsAnsweredAlone};
-ghost use Rattle.words.specs.declared.refusal.Refusal.{Refusal as AnyRefusal};
-ghost use Rattle.directory.specs.Creation.{successor};
-ghost use Rattle.named.specs.Blocks.{waiting_in};
-ghost use Rattle.named.specs.Slots.{acted, world_in, IfWorld, IsSlotWell, IsWhyUnread};
-ghost use Rattle.interleave.specs.Queue.{told_in, told_to};
-ghost use Rattle.named.specs.Brokers.{has_client, world_at, room_at, quiet, world_after, answer_at, new_words, IsNew, IsBegun, IsNotCreated, MayCreate, IsStepCreated};
+ghost use Rattle.named.specs.Brokers.{new_words, IsNew};
 ghost use Rattle.named.specs.declared.slot.Slot.TheVariants.{Closed};
 ghost use Rattle.named.specs.Promises.{KeepsPromises};
 
@@ -19,13 +10,11 @@ use crate::recovery::BrokerRecovery;
 use crate::slot::Slot;
 use crate::slots::closed_slots;
 use arena::{BrokerLayout, SLOTS, SlotId};
-use directory::{Creation, Directory, Name, Places, Queue};
-use events::{History, Order};
+use directory::{Creation, Directory};
 use persist::{Memory, WordMemory};
 use std::alloc::Global;
 use std::marker::Model;
-use stepper::After;
-use words::{Call, Client, Kind, MAX_CLIENTS, MAX_RECORDS, QUEUE_PORTS, Refusal, Reply, Told};
+use words::{MAX_CLIENTS, MAX_RECORDS, QUEUE_PORTS, Refusal};
 
 /// The port through which a creation acts: the one behind those of the slots' queues.
 pub(crate) const CREATION_PORT: usize = SLOTS * QUEUE_PORTS;

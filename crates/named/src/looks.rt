@@ -1,16 +1,18 @@
 //! What the queues of a broker have: what happened, what they hold, and what their clients were told.
 
-ghost use Rattle.std.specs.Prelude.{◌≡◌, ◌≢◌, ◌↔◌, ◌⊎◌, ◌<◌, ◌≤◌, ◌+◌, ℕ, true, length, replicate, slice_get, slice_set, Ok, Err, IfOk, IfErr, OnOk, OnErr, IfSome, IfNone, IsSome, Some, None, if◌then◌else◌};
+ghost use Rattle.std.specs.Prelude.{◌≡◌, ◌≢◌, ◌<◌, ◌≤◌, ℕ, Ok, Err, IfOk, IfErr, OnOk, OnErr, IsSome, Some, None};
 ghost use Rattle.persist.specs.Image.{image_of, reading};
 ghost use Rattle.interleave.specs.Queue.{told_in, told_to};
 ghost use Rattle.interleave.specs.State.{kept_content, order_in};
 ghost use Rattle.interleave.specs.Verdicts.{number_under_way};
+ghost use Rattle.named.specs.Blocks.{state_in, IsWellIn};
 ghost use Rattle.named.specs.Booting.{AreBootWords};
-ghost use Rattle.named.specs.Slots.{answered, world_in, IfWorld, IsSlotWell, IsWhyUnread};
+ghost use Rattle.named.specs.Slots.{answered, IfWorld, IsWhyUnread};
 ghost use Rattle.named.specs.GoingOn.{BrokerGoesOn};
 ghost use Rattle.named.specs.Promises.{KeepsPromises};
 ghost use Rattle.named.specs.Brokers.{world_at, room_at, answer_at, IsWell};
 
+use crate::block::Block;
 use crate::broker::Broker;
 use crate::slot::Slot;
 use arena::SlotId;
@@ -18,17 +20,16 @@ use events::{History, Order};
 use words::{Client, Kind, Refusal, Told, Value};
 
 impl Broker {
-    /// A slot, where there is one.
-    fn slot(&self, slot: SlotId) -> Result<&Slot, Refusal>
-        ensures world { IfOk result (λ s. world_in self.now.words s.now ≡ world_at self.now slot.0) }
-        ensures there { IfOk result (λ s. slice_get self.now.slots slot.0 ≡ Some s.now) }
-        ensures well { IfOk result (λ s. IsSlotWell self.now.words s.now) }
+    /// The queue of a slot. It is refused where the slot is closed, or there is none (NoQueue).
+    fn queue(&self, slot: SlotId) -> Result<&Block, Refusal>
+        ensures world { IfOk result (λ b. world_at self.now slot.0 ≡ Some (state_in self.now.words b.now)) }
+        ensures well { IfOk result (λ b. IsWellIn self.now.words b.now) }
         ensures whole { IsWell self.now }
         ensures errors { IfErr result (λ e. (e ≡ Refusal.NoQueue) × (world_at self.now slot.0 ≡ None)) }
     {
         match self.slots.get(slot.0 as usize) {
-            Some(slot) => Ok(slot),
-            None => Err(Refusal::NoQueue),
+            Some(Slot::Open(block)) => Ok(block),
+            _ => Err(Refusal::NoQueue),
         }
     }
 
@@ -49,7 +50,7 @@ impl Broker {
     {
         let _ = &self.layout;
         self.admit(client)?;
-        self.slot(slot)?.told(client)
+        Ok(self.queue(slot)?.told(client))
     }
 
     /// Which kind of queue a slot has. It is refused where the slot is closed (NoQueue).
@@ -59,7 +60,7 @@ impl Broker {
         ensures promises { KeepsPromises self.now }
     {
         let _ = &self.layout;
-        self.slot(slot)?.kind()
+        Ok(self.queue(slot)?.kind())
     }
 
     /// The number of the call that the client has under way in the queue of a slot, if it has one; of a durable queue's
@@ -69,7 +70,7 @@ impl Broker {
         ensures { result ≡ answer_at (λ w. Ok (number_under_way w client)) self.now slot.0 client }
     {
         self.admit(client)?;
-        self.slot(slot)?.calling(client)
+        Ok(self.queue(slot)?.calling(client))
     }
 
     /// What happened in the queue of a slot since the history begins. It takes no memory, and is refused where the slot
@@ -84,7 +85,7 @@ impl Broker {
         ensures promises { KeepsPromises self.now }
         ensures errors { IfErr result (λ e. (e ≡ Refusal.NoQueue) × (world_at self.now slot.0 ≡ None)) }
     {
-        self.slot(slot)?.history()
+        Ok(self.queue(slot)?.history())
     }
 
     /// The calls of the queue of a slot in the order in which they took effect. It is refused, in this order, where the
@@ -95,7 +96,7 @@ impl Broker {
         ensures open { OnOk result (IsSome (world_at self.now slot.0)) }
         ensures errors { IfErr result (IsWhyUnread (world_at self.now slot.0)) }
     {
-        self.slot(slot)?.order()
+        self.queue(slot)?.order()
     }
 
     /// What the queue of a slot holds by its kept words. It is refused, in this order, where the slot is closed
@@ -106,7 +107,7 @@ impl Broker {
         ensures open { OnOk result (IsSome (world_at self.now slot.0)) }
         ensures errors { IfErr result (IsWhyUnread (world_at self.now slot.0)) }
     {
-        self.slot(slot)?.content(&self.memory)
+        self.queue(slot)?.content(&self.memory)
     }
 
     /// Makes room in the history of the queue of a slot, so that its next acts, so many of them, are not refused for
@@ -127,10 +128,10 @@ impl Broker {
         ensures goes_on { BrokerGoesOn self.old self.new }
         ensures promises { KeepsPromises self.new }
     {
-        if slot.0 as usize >= self.slots.len() {
+        let Some(Slot::Open(block)) = self.slots.get_mut(slot.0 as usize) else {
             return Err(Refusal::NoQueue);
-        }
-        self.slots[slot.0 as usize].reserve(acts)
+        };
+        block.reserve(acts)
     }
 
     /// The kept words as bytes: the image of the broker's memory. A value that is only cached is not in it. It is

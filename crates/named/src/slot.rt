@@ -1,31 +1,26 @@
 //! A slot of a broker: closed, or open with a queue.
 
-ghost use Rattle.std.specs.Prelude.{◌≡◌, ◌⊎◌, ◌<◌, ◌≤◌, ◌+◌, ◌*◌, true, false, is_none, length, IfOk, IfErr, OnOk, OnErr, IsSome, Ok, Err, Some, None};
-ghost use Rattle.persist.specs.Changes.{change_of};
-ghost use Rattle.persist.specs.declared.memory.TheConstants.{PORTS};
-ghost use Rattle.recover.specs.Table.{boot_recovery};
-ghost use Rattle.interleave.specs.Booted.{booted_world, MayRefuse};
-ghost use Rattle.named.specs.Rotating.{has_calls_in, IsBaseIn, IsBegunAnew, IsQuietIn};
-ghost use Rattle.named.specs.Each.{HasMoreRoom};
-ghost use Rattle.named.specs.Slots.{IsAsReady, IsReadyIn, AskAlikeBesideSlot, IsEvictedOutside, IsSlotAsked, IsWordOf, world_evicted_in, HasRoomFor};
-ghost use Rattle.interleave.specs.Queue.{told_in, told_to};
-ghost use Rattle.words.specs.declared.refusal.Refusal.{Refusal as AnyRefusal};
-ghost use Rattle.interleave.specs.Calls.{is_no_memory};
-ghost use Rattle.interleave.specs.State.{after_step, step_result, after_start, start_result, after_alone, after_stop, after_recover, recover_result, kept_content, order_in, IsAnsweredAlone, world_over};
-ghost use Rattle.interleave.specs.Verdicts.{number_under_way};
-ghost use Rattle.named.specs.Blocks.{waiting_in, IsSameWords};
-ghost use Rattle.named.specs.Slots.{world_in, acted, answered, IfWorld, IsWhyUnread, IsSlotWell, IsSameOutsideSlot, IsSameSlot, kind_in, room_in, AreEffectsFew};
-ghost use Rattle.named.specs.Brokers.{IsSlotAt, IsUnusedBlock, block_words};
+ghost use Rattle.std.specs.Prelude.{◌≡◌, ◌<◌, ◌≤◌, ◌+◌, ◌*◌, true, false, is_none, length, IfOk, IfErr, OnOk, OnErr, IsSome, Ok, Some};
 ghost use Rattle.arena.specs.Broker.{broker_size};
 ghost use Rattle.arena.specs.Shape.{shape_of};
+ghost use Rattle.persist.specs.Changes.{change_of};
+ghost use Rattle.persist.specs.declared.memory.TheConstants.{PORTS};
 ghost use Rattle.persist.specs.Memory.{Words, words_after_crash, words_after_eviction};
+ghost use Rattle.recover.specs.Table.{boot_recovery};
+ghost use Rattle.interleave.specs.Booted.{booted_world, MayRefuse};
+ghost use Rattle.interleave.specs.Calls.{is_no_memory};
+ghost use Rattle.interleave.specs.State.{after_stop, after_recover, recover_result, world_over};
+ghost use Rattle.named.specs.Blocks.{IsSameWords};
+ghost use Rattle.named.specs.Brokers.{IsSlotAt, IsUnusedBlock, block_words};
+ghost use Rattle.named.specs.Each.{HasMoreRoom};
+ghost use Rattle.named.specs.Rotating.{has_calls_in, IsBaseIn, IsBegunAnew, IsQuietIn};
+ghost use Rattle.named.specs.Slots.{acted, answered, kind_in, room_in, world_evicted_in, world_in, AreEffectsFew, AskAlikeBesideSlot, HasRoomFor, IsAsReady, IsEvictedOutside, IsReadyIn, IsSameOutsideSlot, IsSameSlot, IsSlotAsked, IsSlotWell, IsWordOf};
 
 use crate::block::Block;
 use arena::{BrokerLayout, SLOTS, SlotId};
-use events::{History, Order};
 use persist::{Change, EvictableWords, Memory};
 use std::alloc::Global;
-use words::{Call, Client, Kind, MAX_STEPS_ALONE, QUEUE_PORTS, Refusal, Reply, Told, Value};
+use words::{Kind, QUEUE_PORTS, Refusal, Value};
 
 /// A slot: nobody has created a queue in it, or it has one.
 #[derive(Drop)]
@@ -45,194 +40,6 @@ fn first_port(slot: SlotId) -> usize
 }
 
 impl Slot {
-    /// Starts a call in its queue.
-    pub(crate) fn start(
-        &mut self,
-        memory: &mut Memory,
-        client: Client,
-        number: u64,
-        call: Call,
-    ) -> Result<(), Refusal>
-        requires well { IsSlotWell memory.old.words self.old }
-        requires asked { IsSlotAsked memory.old self.old }
-        ensures world { world_in memory.new.words self.new
-            ≡ acted (λ w. after_start (is_no_memory result) w client number call) (world_in memory.old.words self.old) }
-        ensures result { result
-            ≡ answered (λ w. start_result (is_no_memory result) w client number) (world_in memory.old.words self.old) }
-        ensures full { is_no_memory result ≡ true → room_in self.old ≡ 0 }
-        ensures room { room_in self.old ≤ room_in self.new + 1 }
-        ensures spare { IfErr result (λ e. room_in self.old ≤ room_in self.new) }
-        ensures well { IsSlotWell memory.new.words self.new }
-        ensures asked { IsSlotAsked memory.new self.new }
-        ensures beside { AskAlikeBesideSlot self.old memory.old memory.new }
-        ensures outside { IsSameOutsideSlot self.old memory.old.words memory.new.words }
-        ensures same { IsSameSlot self.old self.new }
-        ensures as_ready { IsAsReady self.old self.new }
-    {
-        match self {
-            Slot::Closed => Err(Refusal::NoQueue),
-            Slot::Open(block) => block.start(memory, client, number, call),
-        }
-    }
-
-    /// One step of a call in its queue.
-    pub(crate) fn step(
-        &mut self,
-        memory: &mut Memory,
-        client: Client,
-    ) -> Result<Option<Reply>, Refusal>
-        requires well { IsSlotWell memory.old.words self.old }
-        requires asked { IsSlotAsked memory.old self.old }
-        requires client { client.0 < QUEUE_PORTS }
-        ensures world { world_in memory.new.words self.new
-            ≡ acted (λ w. after_step (is_no_memory result) w client) (world_in memory.old.words self.old) }
-        ensures result { result
-            ≡ answered (λ w. step_result (is_no_memory result) w client) (world_in memory.old.words self.old) }
-        ensures full { is_no_memory result ≡ true → room_in self.old ≡ 0 }
-        ensures room { room_in self.old ≤ room_in self.new + 1 }
-        ensures spare { IfErr result (λ e. room_in self.old ≤ room_in self.new) }
-        ensures stays { result ≡ Ok None → room_in self.old ≤ room_in self.new }
-        ensures well { IsSlotWell memory.new.words self.new }
-        ensures asked { IsSlotAsked memory.new self.new }
-        ensures beside { AskAlikeBesideSlot self.old memory.old memory.new }
-        ensures outside { IsSameOutsideSlot self.old memory.old.words memory.new.words }
-        ensures same { IsSameSlot self.old self.new }
-        ensures as_ready { IsAsReady self.old self.new }
-    {
-        match self {
-            Slot::Closed => Err(Refusal::NoQueue),
-            Slot::Open(block) => block.step(memory, client),
-        }
-    }
-
-    /// A call in its queue goes on alone until it answers.
-    pub(crate) fn run_alone(
-        &mut self,
-        memory: &mut Memory,
-        client: Client,
-    ) -> Result<(Reply, u32), Refusal>
-        requires well { IsSlotWell memory.old.words self.old }
-        requires asked { IsSlotAsked memory.old self.old }
-        requires client { client.0 < QUEUE_PORTS }
-        ensures refused { (refusal : AnyRefusal)
-            → answered (λ w. waiting_in w client) (world_in memory.old.words self.old) ≡ Err refusal → result ≡ Err refusal }
-        ensures errors { IfErr result (λ e. (e ≡ Refusal.NoMemory)
-            ⊎ (answered (λ w. waiting_in w client) (world_in memory.old.words self.old) ≡ Err e)) }
-        ensures same_world { IfErr result (λ e. world_in memory.new.words self.new ≡ world_in memory.old.words self.old) }
-        ensures full { is_no_memory result ≡ true → room_in self.old ≡ 0 }
-        ensures room { room_in self.old ≤ room_in self.new + 1 }
-        ensures spare { IfErr result (λ e. room_in self.old ≤ room_in self.new) }
-        ensures steps { IfOk result (λ answer. answer.1 ≤ MAX_STEPS_ALONE) }
-        ensures answer { IfOk result (λ answer. IfWorld (world_in memory.old.words self.old)
-            (λ w. IsAnsweredAlone w client answer.1 answer.0)) }
-        ensures world { IfOk result (λ answer. world_in memory.new.words self.new
-            ≡ acted (λ w. after_alone answer.1 w client) (world_in memory.old.words self.old)) }
-        ensures well { IsSlotWell memory.new.words self.new }
-        ensures asked { IsSlotAsked memory.new self.new }
-        ensures beside { AskAlikeBesideSlot self.old memory.old memory.new }
-        ensures outside { IsSameOutsideSlot self.old memory.old.words memory.new.words }
-        ensures same { IsSameSlot self.old self.new }
-        ensures as_ready { IsAsReady self.old self.new }
-    {
-        match self {
-            Slot::Closed => Err(Refusal::NoQueue),
-            Slot::Open(block) => block.run_alone(memory, client),
-        }
-    }
-
-    /// What the client was last told by its queue.
-    pub(crate) fn told(&self, client: Client) -> Result<Told, Refusal>
-        ensures { (ws : Words) → result
-            ≡ answered (λ w. Ok (told_to (told_in w.queue) client)) (world_in ws self.now) }
-    {
-        match self {
-            Slot::Closed => Err(Refusal::NoQueue),
-            Slot::Open(block) => Ok(block.told(client)),
-        }
-    }
-
-    /// Which kind of queue it has.
-    pub(crate) fn kind(&self) -> Result<Kind, Refusal>
-        ensures kind { IfOk result (λ kind. kind_in self.now ≡ Some kind) }
-        ensures errors { IfErr result (λ e. (e ≡ Refusal.NoQueue) × (kind_in self.now ≡ None)) }
-    {
-        match self {
-            Slot::Closed => Err(Refusal::NoQueue),
-            Slot::Open(block) => Ok(block.kind()),
-        }
-    }
-
-    /// The number of the call that a client of its queue has under way, if it has one.
-    pub(crate) fn calling(&self, client: Client) -> Result<Option<u64>, Refusal>
-        ensures { (ws : Words) → result ≡ answered (λ w. Ok (number_under_way w client)) (world_in ws self.now) }
-    {
-        match self {
-            Slot::Closed => Err(Refusal::NoQueue),
-            Slot::Open(block) => Ok(block.calling(client)),
-        }
-    }
-
-    /// What happened in its queue since the history begins.
-    pub(crate) fn history(&self) -> Result<&History, Refusal>
-        ensures base { (ws : Words)
-            → IfOk result (λ h. IfWorld (world_in ws self.now) (λ w. h.now.base.items ≡ w.base)) }
-        ensures told { (ws : Words) → IfOk result (λ h. IfWorld (world_in ws self.now) (λ w. h.now.told ≡ w.told)) }
-        ensures events { (ws : Words)
-            → IfOk result (λ h. IfWorld (world_in ws self.now) (λ w. h.now.events.items ≡ w.log.events)) }
-        ensures open { (ws : Words) → OnOk result (IsSome (world_in ws self.now)) }
-        ensures errors { (ws : Words) → IfErr result (λ e. (e ≡ Refusal.NoQueue) × (world_in ws self.now ≡ None)) }
-    {
-        match self {
-            Slot::Closed => Err(Refusal::NoQueue),
-            Slot::Open(block) => Ok(block.history()),
-        }
-    }
-
-    /// The calls of its queue in the order in which they took effect.
-    pub(crate) fn order(&self) -> Result<Order, Refusal>
-        ensures order { (ws : Words)
-            → IfOk result (λ order. IfWorld (world_in ws self.now) (λ w. order.entries.items ≡ order_in w)) }
-        ensures open { (ws : Words) → OnOk result (IsSome (world_in ws self.now)) }
-        ensures errors { (ws : Words) → IfErr result (IsWhyUnread (world_in ws self.now)) }
-    {
-        match self {
-            Slot::Closed => Err(Refusal::NoQueue),
-            Slot::Open(block) => block.order(),
-        }
-    }
-
-    /// What its queue holds by the kept words.
-    pub(crate) fn content(&self, memory: &Memory) -> Result<Vec<Value>, Refusal>
-        requires { IsSlotWell memory.now.words self.now }
-        ensures content { IfOk result (λ values. IfWorld (world_in memory.now.words self.now)
-            (λ w. values.items ≡ kept_content w)) }
-        ensures open { OnOk result (IsSome (world_in memory.now.words self.now)) }
-        ensures errors { IfErr result (IsWhyUnread (world_in memory.now.words self.now)) }
-    {
-        match self {
-            Slot::Closed => Err(Refusal::NoQueue),
-            Slot::Open(block) => block.content(memory),
-        }
-    }
-
-    /// Makes room in its history, so that the next acts, so many of them, are not refused for want of memory.
-    pub(crate) fn reserve(&mut self, acts: usize) -> Result<(), Refusal>
-        requires { AreEffectsFew self.old }
-        ensures world { (ws : Words) → world_in ws self.new ≡ world_in ws self.old }
-        ensures room { OnOk result (acts ≤ room_in self.new) }
-        ensures kept { room_in self.old ≤ room_in self.new }
-        ensures full { result ≡ Err Refusal.NoMemory → room_in self.old < acts }
-        ensures open { (ws : Words) → OnOk result (IsSome (world_in ws self.old)) }
-        ensures errors { (ws : Words) → IfErr result (IsWhyUnread (world_in ws self.old)) }
-        ensures same { IsSameSlot self.old self.new }
-        ensures as_ready { IsAsReady self.old self.new }
-    {
-        match self {
-            Slot::Closed => Err(Refusal::NoQueue),
-            Slot::Open(block) => block.reserve(acts),
-        }
-    }
-
     /// A new queue of this kind, in the slot's block, which is all zero. It takes no memory.
     pub(crate) fn open(alloc: Global, layout: &BrokerLayout, slot: SlotId, kind: Kind) -> Self
         requires { slot.0 < SLOTS }

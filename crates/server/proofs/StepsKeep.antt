@@ -19,7 +19,7 @@ use Rattle.interleave.specs.Telling.{IsToldAtReady}
 use Rattle.named.specs.declared.recovery.BrokerRecovery.{BrokerRecovery}
 use Rattle.named.specs.declared.recovery.BrokerRecovery.TheVariants.{ReadDirectory, RecoverQueue}
 use Rattle.named.proofs.GoingOn.{world_holds}
-use Rattle.session.proofs.Recovering.{recovered_shape}
+use Rattle.named.proofs.Stays.{recovered_shape}
 use Rattle.session.proofs.Worlds.{none_some}
 
 -- a queue is still there, and its kept words hold and tell what they did; no call took effect

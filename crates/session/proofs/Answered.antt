@@ -25,7 +25,8 @@ use Rattle.session.specs.Sessions.{AreVerdictsRight, IsLogClient, IsRight, IsSlo
 use Rattle.session.proofs.Clients.{laid_out_each}
 use Rattle.session.proofs.Downs.{up_same}
 use Rattle.session.proofs.Heard.{kept_there, right_heard}
-use Rattle.session.proofs.Recovering.{IsAsFar, IsStepDown, recovered_shape, step_down}
+use Rattle.named.proofs.Stays.{recovered_shape}
+use Rattle.session.proofs.Recovering.{IsAsFar, IsStepDown, step_down}
 use Rattle.session.proofs.Worlds.{IsLaidOutAs, client_stays, few_there, laid_out_quiet, none_some, up_there}
 
 -- a slot's queue is still there, laid out as it was

@@ -16,18 +16,10 @@ use Rattle.named.specs.Slots.{acted, answered}
 use Rattle.named.specs.Stopping.{IsFound, IsFoundFirst, IsFoundIn, IsQueueOn, IsQueueRecovered, IsRecoveryStep, found_by, found_world}
 use Rattle.named.specs.declared.recovery.BrokerRecovery.{BrokerRecovery}
 use Rattle.named.specs.declared.recovery.BrokerRecovery.TheVariants.{ReadDirectory, RecoverQueue}
+use Rattle.named.proofs.Stays.{recovered_shape}
 use Rattle.session.specs.Sessions.{IsSlotRight, kept_in}
 use Rattle.session.proofs.SlotLaws.{rested_recovered, right_down, right_if_none, right_if_quiet}
 use Rattle.session.proofs.Worlds.{holds_there}
-
--- a step of a queue's recovery leaves its layout
-pub recovered_shape : (full : Bool) (w : State) → (after_recover full w).shape ≡ w.shape
-recovered_shape full w = go w.recovery full
-  where
-    go : (o : Option Recovery) (f : Bool) → (recover_with f w o).shape ≡ w.shape
-    go None f = refl
-    go (Some r) true = refl
-    go (Some r) false = refl
 
 -- what is kept of each slot is right while the broker is down
 abbrev pub AreDownRight : Brokered → List (List (Option Verdict)) → Type 0

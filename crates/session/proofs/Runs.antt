@@ -14,7 +14,7 @@ use Rattle.interleave.specs.Calls.{idle_result, is_no_memory, waiting_result}
 use Rattle.interleave.specs.State.{State, IsAnsweredAlone, after_alone, after_bump_load, after_call_began, after_start, is_down, machine, number_of_idle, number_to_start, start_result, start_result_with, start_with, used_by}
 use Rattle.interleave.specs.declared.queue.Queue.{Queue}
 use Rattle.interleave.proofs.AloneLaws.{get_set}
-use Rattle.named.specs.Blocks.{waiting_in}
+use Rattle.interleave.specs.Rules.{waiting_in}
 use Rattle.named.specs.Brokers.{Brokered, IsWell, admission, answer_at, quiet, room_at, world_after, world_at}
 use Rattle.named.specs.Slots.{IfWorld, acted}
 use Rattle.named.proofs.Stays.{start_alike}

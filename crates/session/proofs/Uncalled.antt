@@ -34,7 +34,7 @@ use Rattle.named.specs.declared.slot.Slot.TheVariants.{Closed, Open}
 use Rattle.named.proofs.Stays.{evict_alike}
 use Rattle.session.specs.Sessions.{HasDurableQueue, IsUncalled}
 use Rattle.session.proofs.Queueing.{world_at_rest}
-use Rattle.session.proofs.Recovering.{recovered_shape}
+use Rattle.named.proofs.Stays.{recovered_shape}
 use Rattle.session.proofs.SlotLaws.{rested_new, rested_recovered}
 use Rattle.session.proofs.Worlds.{holds_there, none_some, open_below}
 

@@ -1,4 +1,4 @@
-use Rattle.std.proofs.Common.{◌≡◌, ℕ, ◌<◌, ◌≤◌, inl, inr, length, arith, List, Option, Result, Ok, Err, refl, sym, ap, ◌∙◌, subst, rules}
+use Rattle.std.proofs.Common.{◌≡◌, ℕ, ◌<◌, ◌≤◌, inl, inr, length, arith, true, false, List, Option, Result, Ok, Err, refl, sym, ap, ◌∙◌, subst, rules}
 use Rattle.std.proofs.lemmas.Bool.{cases_lt}
 use Rattle.words.specs.declared.refusal.Refusal.{Refusal}
 use Rattle.words.specs.declared.refusal.Refusal.TheVariants.{NoWord}
@@ -7,6 +7,7 @@ use Rattle.persist.specs.declared.access.Change.{Change}
 use Rattle.persist.specs.Memory.{Words, words_after_eviction}
 use Rattle.events.specs.declared.event.Effect.{Effect}
 use Rattle.protocol.specs.Machine.{Trace}
+use Rattle.interleave.specs.Calls.{is_no_memory}
 use Rattle.interleave.specs.Changes.{effects_on_change}
 use Rattle.interleave.specs.Ranges.{WordsFit}
 use Rattle.interleave.specs.State.{machine_of, evict_with}
@@ -48,7 +49,9 @@ returns-in_err-change-clause-by_rule g c =
     record {
       leaves = ap (state_of k) (c.evict.ensures.same past) ∙ sym (ap (evict_with (state_of k ws) c.args.word) none);
       answers = no_word_there ∙ sym refused;
-      full = λ full. absurd (cc (no_word_there, full));
+      full = λ full.
+          let no : false ≡ true = sym (ap (λ (r : Result (Option Change) Refusal). is_no_memory r) no_word_there) ∙ full in
+          absurd (cc (no));
       room = omega arith;
       spare = if_refused c.from_residual.result (omega arith);
     }

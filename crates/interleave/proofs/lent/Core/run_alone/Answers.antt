@@ -132,7 +132,7 @@ returns-in-Some-clause-alone g c =
       errors = tt;
       full = λ full. absurd (cc (full));
       same = tt;
-      steps = omega (arith, c.loop-answer.invariant.left, more);
+      steps = search rules;
       answer = subst (λ (n : ℕ). IsAnsweredAlone old c.args.client n c.in-Some.reply) more result;
       world =
           c.step.ensures.by_rule.leaves ∙ ap (λ (b : Bool). after_step b w c.args.client) paid

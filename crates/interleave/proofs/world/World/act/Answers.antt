@@ -61,7 +61,7 @@ returns-in-Evict-clause-holds c =
 pub returns-in-Crash-clause-holds : goal.returns-in-Crash-clause-holds
 returns-in-Crash-clause-holds c =
     let holds : Holds c.args.self.now.now = subst Holds (ap (λ (r : Roomy). r.now) c.self.view_is) c.self.invariant.world in
-    subst Holds (sym c.crash.ensures.world) (holds_after_crash (is_no_memory c.crash.result) c.args.self.now.now holds)
+    subst Holds (sym c.crash.ensures.by_rule.leaves) (holds_after_crash (is_no_memory c.crash.result) c.args.self.now.now holds)
 
 pub returns-in-Recover-clause-holds : goal.returns-in-Recover-clause-holds
 returns-in-Recover-clause-holds c =

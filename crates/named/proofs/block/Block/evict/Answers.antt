@@ -12,10 +12,10 @@ use Rattle.interleave.specs.Core.{state_of}
 use Rattle.interleave.specs.Holds.{Holds}
 use Rattle.interleave.specs.State.{State, after_evict, evict_result}
 use Rattle.interleave.proofs.AskedKept.{around_stepped}
-use Rattle.named.specs.Blocks.{AskAlikeBeside, BlockState, IsAskedIn, IsWellIn, requests_in, state_in}
+use Rattle.named.specs.Blocks.{BlockState, IsAskedIn, IsWellIn, IsWithinBlock, state_in}
 use Rattle.named.proofs.Evicted.{change_there, result_evicted, whole_evicted, within_block, words_evicted}
-use Rattle.named.proofs.Stays.{alone_alike_by, start_alike}
-use Rattle.named.proofs.Windows.{ActedIn, Window, alone_in, alone_lender, evicted_in, recovered_in, started_in, stepped_in, through_first}
+use Rattle.named.proofs.Stays.{evict_alike}
+use Rattle.named.proofs.Windows.{ActedIn, Window, evicted_in, left_within, through_first, with_core}
 use Rattle.named.proofs.block.Block.evict.Goals as goal
 
 pub evict-requires : goal.evict-requires
@@ -46,13 +46,13 @@ returns-clause-state c =
       holds = c.evict.ensures.holds;
     } in
     let acted : ActedIn old new was c.evict.new.self (after_evict (state_in old.words was) (c.args.word - c.self.inside.from)) =
-    evicted_in old new was c.evict.new.self _ 0 v.memory.ghost_name v.port v.from v.len first ws window (c.args.word - c.self.inside.from) c.evict.ensures.world c.evict.ensures.lent in
+    evicted_in old new was c.evict.new.self _ 0 v.memory.ghost_name v.port v.from v.len first ws window (c.args.word - c.self.inside.from) c.evict.ensures.by_rule.leaves c.evict.ensures.lent in
     let name : v.memory.ghost_name ≡ w.memory.ghost_name = ap (λ (l : Lent). l.around.lender) c.evict.ensures.lent in
     let fact : state_in new.words (let x : BlockState = record was { core = c.evict.new.self } in x) ≡ after_evict (state_in old.words was) (c.args.word - c.self.inside.from) = acted.state in
     search rules
 
-pub returns-clause-well : goal.returns-clause-well
-returns-clause-well c =
+pub returns-clause-within : goal.returns-clause-within
+returns-clause-within c =
     let w = c.in_ok-window.window in
     let v = c.evict.new.memory in
     let old : MemoryState = c.args.memory.now in
@@ -70,81 +70,11 @@ returns-clause-well c =
       holds = c.evict.ensures.holds;
     } in
     let acted : ActedIn old new was c.evict.new.self (after_evict (state_in old.words was) (c.args.word - c.self.inside.from)) =
-    evicted_in old new was c.evict.new.self _ 0 v.memory.ghost_name v.port v.from v.len first ws window (c.args.word - c.self.inside.from) c.evict.ensures.world c.evict.ensures.lent in
+    evicted_in old new was c.evict.new.self _ 0 v.memory.ghost_name v.port v.from v.len first ws window (c.args.word - c.self.inside.from) c.evict.ensures.by_rule.leaves c.evict.ensures.lent in
     let name : v.memory.ghost_name ≡ w.memory.ghost_name = ap (λ (l : Lent). l.around.lender) c.evict.ensures.lent in
-    let fact : IsWellIn new.words (let x : BlockState = record was { core = c.evict.new.self } in x) = acted.well in
-    search rules
-
-pub returns-clause-asked : goal.returns-clause-asked
-returns-clause-asked c =
-    let w = c.in_ok-window.window in
-    let v = c.evict.new.memory in
-    let old : MemoryState = c.args.memory.now in
-    let new : MemoryState = v.memory.now in
-    let was : BlockState = record { core = c.self.inside.core; from = c.self.inside.from; len = c.self.inside.len; port = c.self.inside.port } in
-    let first : Lent = window_lent w in
-    let ws : Words = window_words w in
-    let window : Window old new was c.evict.new.self _ 0 v.memory.ghost_name v.port v.from v.len first ws = record {
-      well = subst (λ (s : BlockState). IsWellIn old.words s) (sym c.self.view_is) c.requires.well;
-      asked = subst (λ (s : BlockState). IsAskedIn old s) (sym c.self.view_is) c.requires.asked;
-      own = omega arith;
-      lent = through_first first _ was old c.in_ok-window.ensures.lent;
-      words = c.in_ok-window.ensures.words;
-      inside = v.inside;
-      holds = c.evict.ensures.holds;
-    } in
-    let acted : ActedIn old new was c.evict.new.self (after_evict (state_in old.words was) (c.args.word - c.self.inside.from)) =
-    evicted_in old new was c.evict.new.self _ 0 v.memory.ghost_name v.port v.from v.len first ws window (c.args.word - c.self.inside.from) c.evict.ensures.world c.evict.ensures.lent in
-    let name : v.memory.ghost_name ≡ w.memory.ghost_name = ap (λ (l : Lent). l.around.lender) c.evict.ensures.lent in
-    let fact : IsAskedIn new (let x : BlockState = record was { core = c.evict.new.self } in x) = acted.asked in
-    search rules
-
-pub returns-clause-beside : goal.returns-clause-beside
-returns-clause-beside c =
-    let w = c.in_ok-window.window in
-    let v = c.evict.new.memory in
-    let old : MemoryState = c.args.memory.now in
-    let new : MemoryState = v.memory.now in
-    let was : BlockState = record { core = c.self.inside.core; from = c.self.inside.from; len = c.self.inside.len; port = c.self.inside.port } in
-    let first : Lent = window_lent w in
-    let ws : Words = window_words w in
-    let window : Window old new was c.evict.new.self _ 0 v.memory.ghost_name v.port v.from v.len first ws = record {
-      well = subst (λ (s : BlockState). IsWellIn old.words s) (sym c.self.view_is) c.requires.well;
-      asked = subst (λ (s : BlockState). IsAskedIn old s) (sym c.self.view_is) c.requires.asked;
-      own = omega arith;
-      lent = through_first first _ was old c.in_ok-window.ensures.lent;
-      words = c.in_ok-window.ensures.words;
-      inside = v.inside;
-      holds = c.evict.ensures.holds;
-    } in
-    let acted : ActedIn old new was c.evict.new.self (after_evict (state_in old.words was) (c.args.word - c.self.inside.from)) =
-    evicted_in old new was c.evict.new.self _ 0 v.memory.ghost_name v.port v.from v.len first ws window (c.args.word - c.self.inside.from) c.evict.ensures.world c.evict.ensures.lent in
-    let name : v.memory.ghost_name ≡ w.memory.ghost_name = ap (λ (l : Lent). l.around.lender) c.evict.ensures.lent in
-    let fact : AskAlikeBeside c.self.inside.port old new = acted.beside in
-    search rules
-
-pub returns-clause-outside : goal.returns-clause-outside
-returns-clause-outside c =
-    let w = c.in_ok-window.window in
-    let v = c.evict.new.memory in
-    let old : MemoryState = c.args.memory.now in
-    let new : MemoryState = v.memory.now in
-    let was : BlockState = record { core = c.self.inside.core; from = c.self.inside.from; len = c.self.inside.len; port = c.self.inside.port } in
-    let first : Lent = window_lent w in
-    let ws : Words = window_words w in
-    let window : Window old new was c.evict.new.self _ 0 v.memory.ghost_name v.port v.from v.len first ws = record {
-      well = subst (λ (s : BlockState). IsWellIn old.words s) (sym c.self.view_is) c.requires.well;
-      asked = subst (λ (s : BlockState). IsAskedIn old s) (sym c.self.view_is) c.requires.asked;
-      own = omega arith;
-      lent = through_first first _ was old c.in_ok-window.ensures.lent;
-      words = c.in_ok-window.ensures.words;
-      inside = v.inside;
-      holds = c.evict.ensures.holds;
-    } in
-    let acted : ActedIn old new was c.evict.new.self (after_evict (state_in old.words was) (c.args.word - c.self.inside.from)) =
-    evicted_in old new was c.evict.new.self _ 0 v.memory.ghost_name v.port v.from v.len first ws window (c.args.word - c.self.inside.from) c.evict.ensures.world c.evict.ensures.lent in
-    let name : v.memory.ghost_name ≡ w.memory.ghost_name = ap (λ (l : Lent). l.around.lender) c.evict.ensures.lent in
-    let fact : IsSameOutside c.self.inside.from c.self.inside.len old.words new.words = acted.outside in
+    let at : ℕ = c.args.word - c.self.inside.from in
+    let fact : IsWithinBlock old was new (with_core was c.evict.new.self) =
+    left_within old new was c.evict.new.self (after_evict (state_in old.words was) at) acted (evict_alike (state_in old.words was) at).0 in
     search rules
 
 pub returns-clause-words : goal.returns-clause-words
@@ -166,7 +96,7 @@ returns-clause-words c =
       holds = c.evict.ensures.holds;
     } in
     let acted : ActedIn old new was c.evict.new.self (after_evict (state_in old.words was) (c.args.word - c.self.inside.from)) =
-    evicted_in old new was c.evict.new.self _ 0 v.memory.ghost_name v.port v.from v.len first ws window (c.args.word - c.self.inside.from) c.evict.ensures.world c.evict.ensures.lent in
+    evicted_in old new was c.evict.new.self _ 0 v.memory.ghost_name v.port v.from v.len first ws window (c.args.word - c.self.inside.from) c.evict.ensures.by_rule.leaves c.evict.ensures.lent in
     let name : v.memory.ghost_name ≡ w.memory.ghost_name = ap (λ (l : Lent). l.around.lender) c.evict.ensures.lent in
     let from : c.self.inside.from ≤ c.args.word = subst (λ (s : BlockState). s.from ≤ c.args.word) (sym c.self.view_is) c.requires.from in
     let len : c.args.word < c.self.inside.from + c.self.inside.len = subst (λ (s : BlockState). c.args.word < s.from + s.len) (sym c.self.view_is) c.requires.len in
@@ -185,14 +115,14 @@ returns-clause-result c =
     let well : IsWellIn old was = subst (λ (s : BlockState). IsWellIn old s) (sym c.self.view_is) c.requires.well in
     let at : ℕ = c.args.word - c.self.inside.from in
     let answer : c.evict.result ≡ Ok (change_of shown at) =
-    c.evict.ensures.result ∙ ap (λ (ws : Words). evict_result (state_of was.core ws) at) c.in_ok-window.ensures.words
+    c.evict.ensures.by_rule.answers ∙ ap (λ (ws : Words). evict_result (state_of was.core ws) at) c.in_ok-window.ensures.words
     ∙ result_evicted was.core shown at well.holds (within_block was.from was.len c.args.word old from len well.inside) in
     let ok : Ok c.in_ok-change.change ≡ Ok (change_of shown at) = sym c.in_ok-change.was ∙ answer in
     let is : c.in_ok-change.change ≡ change_of shown at = cc (ok) in
     ap Ok (c.renumbered.ensures ∙ ap (change_at c.args.word) is ∙ change_there c.self.inside.from c.self.inside.len c.args.word old from len)
 
-pub returns-in_err-change-clause-asked : goal.returns-in_err-change-clause-asked
-returns-in_err-change-clause-asked c =
+pub returns-in_err-change-clause-within : goal.returns-in_err-change-clause-within
+returns-in_err-change-clause-within c =
     let w = c.in_ok-window.window in
     let v = c.evict.new.memory in
     let old : MemoryState = c.args.memory.now in
@@ -210,31 +140,9 @@ returns-in_err-change-clause-asked c =
       holds = c.evict.ensures.holds;
     } in
     let acted : ActedIn old new was c.evict.new.self (after_evict (state_in old.words was) (c.args.word - c.self.inside.from)) =
-    evicted_in old new was c.evict.new.self _ 0 v.memory.ghost_name v.port v.from v.len first ws window (c.args.word - c.self.inside.from) c.evict.ensures.world c.evict.ensures.lent in
+    evicted_in old new was c.evict.new.self _ 0 v.memory.ghost_name v.port v.from v.len first ws window (c.args.word - c.self.inside.from) c.evict.ensures.by_rule.leaves c.evict.ensures.lent in
     let name : v.memory.ghost_name ≡ w.memory.ghost_name = ap (λ (l : Lent). l.around.lender) c.evict.ensures.lent in
-    let fact : IsAskedIn new (let x : BlockState = record was { core = c.evict.new.self } in x) = acted.asked in
-    search rules
-
-pub returns-in_err-change-clause-beside : goal.returns-in_err-change-clause-beside
-returns-in_err-change-clause-beside c =
-    let w = c.in_ok-window.window in
-    let v = c.evict.new.memory in
-    let old : MemoryState = c.args.memory.now in
-    let new : MemoryState = v.memory.now in
-    let was : BlockState = record { core = c.self.inside.core; from = c.self.inside.from; len = c.self.inside.len; port = c.self.inside.port } in
-    let first : Lent = window_lent w in
-    let ws : Words = window_words w in
-    let window : Window old new was c.evict.new.self _ 0 v.memory.ghost_name v.port v.from v.len first ws = record {
-      well = subst (λ (s : BlockState). IsWellIn old.words s) (sym c.self.view_is) c.requires.well;
-      asked = subst (λ (s : BlockState). IsAskedIn old s) (sym c.self.view_is) c.requires.asked;
-      own = omega arith;
-      lent = through_first first _ was old c.in_ok-window.ensures.lent;
-      words = c.in_ok-window.ensures.words;
-      inside = v.inside;
-      holds = c.evict.ensures.holds;
-    } in
-    let acted : ActedIn old new was c.evict.new.self (after_evict (state_in old.words was) (c.args.word - c.self.inside.from)) =
-    evicted_in old new was c.evict.new.self _ 0 v.memory.ghost_name v.port v.from v.len first ws window (c.args.word - c.self.inside.from) c.evict.ensures.world c.evict.ensures.lent in
-    let name : v.memory.ghost_name ≡ w.memory.ghost_name = ap (λ (l : Lent). l.around.lender) c.evict.ensures.lent in
-    let fact : AskAlikeBeside c.self.inside.port old new = acted.beside in
+    let at : ℕ = c.args.word - c.self.inside.from in
+    let fact : IsWithinBlock old was new (with_core was c.evict.new.self) =
+    left_within old new was c.evict.new.self (after_evict (state_in old.words was) at) acted (evict_alike (state_in old.words was) at).0 in
     search rules
