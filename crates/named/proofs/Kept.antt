@@ -6,7 +6,7 @@ use Rattle.std.specs.Option.{option_map}
 use Rattle.persist.specs.Memory.{Words, words_in, IsSameOutside}
 use Rattle.persist.proofs.Parts.{elsewhere}
 use Rattle.arena.specs.Broker.{block_from, block_size_of}
-use Rattle.arena.specs.Shape.{Counts}
+use Rattle.arena.specs.Shape.{Counts, Shape, shape_of}
 use Rattle.arena.proofs.BrokerWords.{block_ends}
 use Rattle.directory.specs.Directory.{Directory}
 use Rattle.directory.specs.UnderWay.{HasDirectory, HaveSameDirectory}
@@ -18,12 +18,12 @@ use Rattle.directory.proofs.Sounds.{head_moves, outside_same}
 use Rattle.interleave.specs.State.{State}
 use Rattle.interleave.proofs.AloneLaws.{get_set}
 use Rattle.interleave.proofs.PartLaws.{holds_alike}
-use Rattle.named.specs.Blocks.{BlockState, IsWellIn, state_in}
+use Rattle.named.specs.Blocks.{BlockState, IsWellIn, state_in, LieInOnePlace}
 use Rattle.words.specs.declared.call.Client.{Client}
 use Rattle.words.specs.declared.call.Kind.{Kind}
 use Rattle.words.specs.declared.refusal.Refusal.{Refusal}
 use Rattle.words.specs.declared.refusal.Refusal.TheVariants.{NoQueue, NotReady}
-use Rattle.named.specs.Slots.{acted, answered, IsAsReady, IsReadyIn, IsSameOutsideSlot, IsSameSlot, IsSlotWell, LieInOnePlace, kind_in, world_in}
+use Rattle.named.specs.Slots.{acted, answered, IsAsReady, IsReadyIn, IsSameOutsideSlot, IsSameSlot, IsSlotWell, kind_in, world_in}
 use Rattle.named.specs.Brokers.{Brokered, HasRoom, IsDirectoryAt, IsDirectoryDown, IsDirectoryIn, IsInBlock, IsSlotAt, IsUnusedBlock, IsWell, block_words, quiet, with_slot, world_at, world_of, world_after, answer_at, answer_if, admission, is_ready_at}
 use Rattle.named.specs.declared.recovery.BrokerRecovery.{BrokerRecovery}
 use Rattle.named.specs.declared.recovery.BrokerRecovery.TheVariants.{ReadDirectory, RecoverQueue}
@@ -178,17 +178,28 @@ pub directory_stays : (old new : Words) (recovery : Option BrokerRecovery) (crea
 directory_stays old new None creation directory same here = creating_stays old new creation directory same here
 directory_stays old new (Some recovery) creation directory same here = down_stays old new recovery creation directory same here
 
+-- a queue that lies in its place is in its block
+pub in_block_again : (c : Counts) (old new : Words) (at : ℕ) (was is : BlockState) → IsInBlock c old at was → IsWellIn new is
+    → LieInOnePlace was is → IsInBlock c new at is
+in_block_again c old new at was is here well place = record {
+  shape = place.3 ∙ here.shape ∙ ap (λ (s : Shape). shape_of s.kind c) (sym place.3);
+  from = place.0 ∙ here.from;
+  len = place.1 ∙ here.len;
+  port = place.2 ∙ here.port;
+  well = well;
+}
+
 -- the slot that acted
 pub slot_now : (c : Counts) (old new : Words) (i : ℕ) (was is : Slot) → IsSlotAt c old i was → IsSlotWell new is → IsSameSlot was is
     → IsSameOutsideSlot was old new → IsSlotAt c new i is
 slot_now c old new i Closed Closed here well place outside = subst (λ (ws : Words). IsUnusedBlock c ws i) (sym outside) here
-slot_now c old new i (Open was) (Open is) here well place outside = record { shape = place.3 ∙ here.shape; from = place.0 ∙ here.from; len = place.1 ∙ here.len; port = place.2 ∙ here.port; well = well }
+slot_now c old new i (Open was) (Open is) here well place outside = in_block_again c old new i was is here well place
 slot_now c old new i Closed (Open is) here well place outside = absurd place
 slot_now c old new i (Open was) Closed here well place outside = absurd place
 
 pub kind_stays : (was is : Slot) → IsSameSlot was is → kind_in is ≡ kind_in was
 kind_stays Closed Closed place = refl
-kind_stays (Open was) (Open is) place = refl
+kind_stays (Open was) (Open is) place = ap (λ (s : Shape). Some s.kind) place.3
 kind_stays Closed (Open is) place = absurd place
 kind_stays (Open was) Closed place = absurd place
 

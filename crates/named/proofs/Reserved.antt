@@ -6,8 +6,8 @@ use Rattle.persist.specs.Memory.{Words}
 use Rattle.interleave.specs.Holds.{Holds}
 use Rattle.interleave.proofs.AloneLaws.{get_set}
 use Rattle.interleave.proofs.MachineFacts.{room_held}
-use Rattle.named.specs.Blocks.{BlockState, IsWellIn, state_in}
-use Rattle.named.specs.Slots.{AreEffectsFew, IsSameOutsideSlot, IsSameSlot, IsSlotWell, LieInOnePlace, room_in, world_in}
+use Rattle.named.specs.Blocks.{BlockState, IsWellIn, state_in, LieInOnePlace}
+use Rattle.named.specs.Slots.{AreEffectsFew, IsSameOutsideSlot, IsSameSlot, IsSlotWell, room_in, world_in}
 use Rattle.named.specs.Brokers.{Brokered, room_of, world_of}
 use Rattle.named.specs.declared.slot.Slot.{Slot}
 use Rattle.named.specs.declared.slot.Slot.TheVariants.{Closed, Open}

@@ -19,7 +19,7 @@ use Rattle.named.specs.Slots.{IsReadyIn, IsSameSlot, IsSlotWell, acted}
 use Rattle.named.specs.declared.recovery.BrokerRecovery.{BrokerRecovery}
 use Rattle.named.specs.declared.slot.Slot.{Slot}
 use Rattle.named.specs.declared.slot.Slot.TheVariants.{Closed, Open}
-use Rattle.named.proofs.Kept.{get_set_other, kind_stays, ready_stays, slot_is_well, some_is}
+use Rattle.named.proofs.Kept.{get_set_other, in_block_again, kind_stays, ready_stays, slot_is_well, some_is}
 
 -- a queue that is ready, and that nobody calls, may end its history
 pub may_rotate : (full : Bool) (ws : Words) (block : BlockState) → is_some block.core.trace.recovery ≡ false → some_client_calls block.core.calls ≡ false
@@ -146,7 +146,7 @@ all_quiet b holds ready nobody at slot here = (
 
 anew_at : (c : Counts) (ws : Words) (at : ℕ) (was is : Slot) → IsSlotAt c ws at was → IsSlotWell ws is → IsSameSlot was is → IsSlotAt c ws at is
 anew_at c ws at Closed Closed here well place = here
-anew_at c ws at (Open was) (Open is) here well place = record { shape = place.3 ∙ here.shape; from = place.0 ∙ here.from; len = place.1 ∙ here.len; port = place.2 ∙ here.port; well = well }
+anew_at c ws at (Open was) (Open is) here well place = in_block_again c ws ws at was is here well place
 anew_at c ws at Closed (Open is) here well place = absurd place
 anew_at c ws at (Open was) Closed here well place = absurd place
 

@@ -24,7 +24,7 @@ use Rattle.named.specs.declared.recovery.BrokerRecovery.TheVariants.{ReadDirecto
 use Rattle.named.specs.declared.slot.Slot.{Slot}
 use Rattle.named.specs.declared.slot.Slot.TheVariants.{Closed, Open}
 use Rattle.named.proofs.Begun.{get_there}
-use Rattle.named.proofs.Kept.{kind_stays, ready_stays, slot_is_well, slot_now, some_is}
+use Rattle.named.proofs.Kept.{in_block_again, kind_stays, ready_stays, slot_is_well, slot_now, some_is}
 use Rattle.named.proofs.Reserved.{few, same_outside, slot_reserved}
 
 -- what a slot was, of which this became
@@ -108,7 +108,7 @@ few_in_each b holds at slot e = few b.words slot (slot_is_well b.counts b.words 
 block_stopped : (c : Counts) (old new : Words) (at : ℕ) (was is : Slot) → (IsUnusedBlock c old at → IsUnusedBlock c new at) → IsSlotAt c old at was
     → IsSlotWell new is → IsSameSlot was is → IsSlotAt c new at is
 block_stopped c old new at Closed Closed unused here well place = unused here
-block_stopped c old new at (Open was) (Open is) unused here well place = record { shape = place.3 ∙ here.shape; from = place.0 ∙ here.from; len = place.1 ∙ here.len; port = place.2 ∙ here.port; well = well }
+block_stopped c old new at (Open was) (Open is) unused here well place = in_block_again c old new at was is here well place
 block_stopped c old new at Closed (Open is) unused here well place = absurd place
 block_stopped c old new at (Open was) Closed unused here well place = absurd place
 

@@ -1,10 +1,15 @@
 -- The slots of a broker: each closed, or open with a queue of either kind in its block.
-use Rattle.std.specs.Prelude.{◌≡◌, ℕ, ◌+◌, ◌-◌, ◌<◌, ◌≤◌, Bool, not, is_some, length, Option, Some, None, Result, Err}
+use Rattle.std.specs.Prelude.{◌≡◌, ℕ, ◌+◌, ◌-◌, ◌<◌, ◌≤◌, ◌⊎◌, Bool, true, not, is_some, length, Option, Some, None, Result, Err, IfOk, IfErr}
+use Rattle.words.specs.declared.call.Client.{Client}
+use Rattle.words.specs.declared.call.Reply.{Reply}
+use Rattle.words.specs.declared.limits.TheConstants.{MAX_STEPS_ALONE}
 use Rattle.words.specs.declared.call.Kind.{Kind}
 use Rattle.words.specs.declared.refusal.Refusal.{Refusal}
 use Rattle.words.specs.declared.refusal.Refusal.TheVariants.{NoMemory, NoQueue}
 use Rattle.persist.specs.Memory.{MemoryState, Words, IsSameOutside, words_after_eviction}
-use Rattle.interleave.specs.State.{State, after_evict}
+use Rattle.interleave.specs.Calls.{is_no_memory}
+use Rattle.interleave.specs.Rules.{Rule, waiting_in}
+use Rattle.interleave.specs.State.{State, after_alone, after_evict, IsAnsweredAlone}
 use Rattle.named.specs.Blocks.{AskAlikeBeside, BlockState, IsAskedIn, LieInOnePlace, state_in, IsWellIn}
 use Rattle.named.specs.declared.slot.Slot.{Slot}
 use Rattle.named.specs.declared.slot.Slot.TheVariants.{Closed, Open}
@@ -107,3 +112,38 @@ IsEvictedOutside (Open block) word old new = IsSameOutside block.from block.len 
 abbrev pub HasRoomFor : ℕ → Slot → Type 0
 HasRoomFor acts Closed = Unit {0}
 HasRoomFor acts (Open block) = acts ≤ block.core.trace.room
+
+-- an act on the slot's queue went through its block and its ports alone, and all is well with it again
+pub record IsWithinSlot (old_memory : MemoryState) (old : Slot) (new_memory : MemoryState) (new : Slot) : Type 0 where
+  pub well : IsSlotWell new_memory.words new
+  pub asked : IsSlotAsked new_memory new
+  pub beside : AskAlikeBesideSlot old old_memory new_memory
+  pub outside : IsSameOutsideSlot old old_memory.words new_memory.words
+  pub same : IsSameSlot old new
+  pub as_ready : IsAsReady old new
+
+-- a client's act by a rule: a closed slot has no queue
+pub record IsActInSlot {A : Type 0} (rule : Rule A) (old_words : Words) (old : Slot) (result : Result A Refusal)
+    (new_words : Words) (new : Slot) : Type 0 where
+  pub world : world_in new_words new ≡ acted (rule.leaves (is_no_memory result)) (world_in old_words old)
+  pub answers : result ≡ answered (rule.answers (is_no_memory result)) (world_in old_words old)
+  pub full : is_no_memory result ≡ true → room_in old ≡ 0
+  pub room : room_in old ≤ room_in new + 1
+  pub spare : IfErr result (λ e. room_in old ≤ room_in new)
+
+-- and a client's call that goes on alone
+pub record IsAloneInSlot (client : Client) (old_words : Words) (old : Slot) (result : Result (Reply × ℕ) Refusal)
+    (new_words : Words) (new : Slot) : Type 0 where
+  pub refused : (refusal : Refusal) → answered (λ w. waiting_in w client) (world_in old_words old) ≡ Err refusal
+      → result ≡ Err refusal
+  pub errors : IfErr result
+      (λ e. (e ≡ NoMemory) ⊎ (answered (λ w. waiting_in w client) (world_in old_words old) ≡ Err e))
+  pub full : is_no_memory result ≡ true → room_in old ≡ 0
+  pub same : IfErr result (λ e. world_in new_words new ≡ world_in old_words old)
+  pub steps : IfOk result (λ answer. answer.1 ≤ MAX_STEPS_ALONE)
+  pub answer : IfOk result
+      (λ answer. IfWorld (world_in old_words old) (λ w. IsAnsweredAlone w client answer.1 answer.0))
+  pub world : IfOk result
+      (λ answer. world_in new_words new ≡ acted (λ w. after_alone answer.1 w client) (world_in old_words old))
+  pub room : room_in old ≤ room_in new + 1
+  pub spare : IfErr result (λ e. room_in old ≤ room_in new)

@@ -8,8 +8,7 @@ ghost use Rattle.named.specs.GoingOn.{BrokerGoesOn};
 ghost use Rattle.named.specs.Promises.{KeepsPromises};
 
 use crate::broker::Broker;
-use crate::slot::Slot;
-use arena::SlotId;
+use arena::{SLOTS, SlotId};
 use words::{Call, Client, Refusal, Reply};
 
 impl Broker {
@@ -39,10 +38,10 @@ impl Broker {
         ensures promises { KeepsPromises self.new }
     {
         self.admit(client)?;
-        let Some(Slot::Open(block)) = self.slots.get_mut(slot.0 as usize) else {
+        if slot.0 as usize >= SLOTS {
             return Err(Refusal::NoQueue);
-        };
-        block.start(&mut self.memory, client, number, call)
+        }
+        self.slots[slot.0 as usize].start(&mut self.memory, client, number, call)
     }
 
     /// One step of a call in the queue of a slot. It is refused as [`Broker::start`] is, and then as
@@ -55,10 +54,10 @@ impl Broker {
         ensures promises { KeepsPromises self.new }
     {
         self.admit(client)?;
-        let Some(Slot::Open(block)) = self.slots.get_mut(slot.0 as usize) else {
+        if slot.0 as usize >= SLOTS {
             return Err(Refusal::NoQueue);
-        };
-        block.step(&mut self.memory, client)
+        }
+        self.slots[slot.0 as usize].step(&mut self.memory, client)
     }
 
     /// A call in the queue of a slot goes on alone until it answers: its reply, and how many steps that took, at most
@@ -70,9 +69,9 @@ impl Broker {
         ensures promises { KeepsPromises self.new }
     {
         self.admit(client)?;
-        let Some(Slot::Open(block)) = self.slots.get_mut(slot.0 as usize) else {
+        if slot.0 as usize >= SLOTS {
             return Err(Refusal::NoQueue);
-        };
-        block.run_alone(&mut self.memory, client)
+        }
+        self.slots[slot.0 as usize].run_alone(&mut self.memory, client)
     }
 }

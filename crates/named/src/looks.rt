@@ -128,10 +128,10 @@ impl Broker {
         ensures goes_on { BrokerGoesOn self.old self.new }
         ensures promises { KeepsPromises self.new }
     {
-        let Some(Slot::Open(block)) = self.slots.get_mut(slot.0 as usize) else {
+        if slot.0 as usize >= self.slots.len() {
             return Err(Refusal::NoQueue);
-        };
-        block.reserve(acts)
+        }
+        self.slots[slot.0 as usize].reserve(acts)
     }
 
     /// The kept words as bytes: the image of the broker's memory. A value that is only cached is not in it. It is

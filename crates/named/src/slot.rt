@@ -1,6 +1,6 @@
 //! A slot of a broker: closed, or open with a queue.
 
-ghost use Rattle.std.specs.Prelude.{◌≡◌, ◌<◌, ◌≤◌, ◌+◌, ◌*◌, true, false, is_none, length, IfOk, IfErr, OnOk, OnErr, IsSome, Ok, Some};
+ghost use Rattle.std.specs.Prelude.{◌≡◌, ◌<◌, ◌≤◌, ◌+◌, ◌*◌, true, false, is_none, length, IfOk, IfErr, OnOk, OnErr, IsSome, Ok, Err, Some, None};
 ghost use Rattle.arena.specs.Broker.{broker_size};
 ghost use Rattle.arena.specs.Shape.{shape_of};
 ghost use Rattle.persist.specs.Changes.{change_of};
@@ -9,18 +9,19 @@ ghost use Rattle.persist.specs.Memory.{Words, words_after_crash, words_after_evi
 ghost use Rattle.recover.specs.Table.{boot_recovery};
 ghost use Rattle.interleave.specs.Booted.{booted_world, MayRefuse};
 ghost use Rattle.interleave.specs.Calls.{is_no_memory};
+ghost use Rattle.interleave.specs.Rules.{starting, stepping};
 ghost use Rattle.interleave.specs.State.{after_stop, after_recover, recover_result, world_over};
 ghost use Rattle.named.specs.Blocks.{IsSameWords};
 ghost use Rattle.named.specs.Brokers.{IsSlotAt, IsUnusedBlock, block_words};
 ghost use Rattle.named.specs.Each.{HasMoreRoom};
 ghost use Rattle.named.specs.Rotating.{has_calls_in, IsBaseIn, IsBegunAnew, IsQuietIn};
-ghost use Rattle.named.specs.Slots.{acted, answered, kind_in, room_in, world_evicted_in, world_in, AreEffectsFew, AskAlikeBesideSlot, HasRoomFor, IsAsReady, IsEvictedOutside, IsReadyIn, IsSameOutsideSlot, IsSameSlot, IsSlotAsked, IsSlotWell, IsWordOf};
+ghost use Rattle.named.specs.Slots.{acted, answered, kind_in, room_in, world_evicted_in, world_in, AreEffectsFew, AskAlikeBesideSlot, HasRoomFor, IsAsReady, IsEvictedOutside, IsReadyIn, IsActInSlot, IsAloneInSlot, IsSameOutsideSlot, IsSameSlot, IsSlotAsked, IsSlotWell, IsWhyUnread, IsWithinSlot, IsWordOf};
 
 use crate::block::Block;
 use arena::{BrokerLayout, SLOTS, SlotId};
 use persist::{Change, EvictableWords, Memory};
 use std::alloc::Global;
-use words::{Kind, QUEUE_PORTS, Refusal, Value};
+use words::{Call, Client, Kind, QUEUE_PORTS, Refusal, Reply, Value};
 
 /// A slot: nobody has created a queue in it, or it has one.
 #[derive(Drop)]
@@ -40,6 +41,81 @@ fn first_port(slot: SlotId) -> usize
 }
 
 impl Slot {
+    /// Starts a call in its queue.
+    pub(crate) fn start(
+        &mut self,
+        memory: &mut Memory,
+        client: Client,
+        number: u64,
+        call: Call,
+    ) -> Result<(), Refusal>
+        requires well { IsSlotWell memory.old.words self.old }
+        requires asked { IsSlotAsked memory.old self.old }
+        ensures act { IsActInSlot (starting client number call) memory.old.words self.old result
+            memory.new.words self.new }
+        ensures within { IsWithinSlot memory.old self.old memory.new self.new }
+    {
+        match self {
+            Slot::Closed => Err(Refusal::NoQueue),
+            Slot::Open(block) => block.start(memory, client, number, call),
+        }
+    }
+
+    /// One step of a call in its queue.
+    pub(crate) fn step(
+        &mut self,
+        memory: &mut Memory,
+        client: Client,
+    ) -> Result<Option<Reply>, Refusal>
+        requires well { IsSlotWell memory.old.words self.old }
+        requires asked { IsSlotAsked memory.old self.old }
+        requires client { client.0 < QUEUE_PORTS }
+        ensures act { IsActInSlot (stepping client) memory.old.words self.old result memory.new.words self.new }
+        ensures stays { result ≡ Ok None → room_in self.old ≤ room_in self.new }
+        ensures within { IsWithinSlot memory.old self.old memory.new self.new }
+    {
+        match self {
+            Slot::Closed => Err(Refusal::NoQueue),
+            Slot::Open(block) => block.step(memory, client),
+        }
+    }
+
+    /// A call in its queue goes on alone until it answers.
+    pub(crate) fn run_alone(
+        &mut self,
+        memory: &mut Memory,
+        client: Client,
+    ) -> Result<(Reply, u32), Refusal>
+        requires well { IsSlotWell memory.old.words self.old }
+        requires asked { IsSlotAsked memory.old self.old }
+        requires client { client.0 < QUEUE_PORTS }
+        ensures alone { IsAloneInSlot client memory.old.words self.old result memory.new.words self.new }
+        ensures within { IsWithinSlot memory.old self.old memory.new self.new }
+    {
+        match self {
+            Slot::Closed => Err(Refusal::NoQueue),
+            Slot::Open(block) => block.run_alone(memory, client),
+        }
+    }
+
+    /// Makes room in its history, so that the next acts, so many of them, are not refused for want of memory.
+    pub(crate) fn reserve(&mut self, acts: usize) -> Result<(), Refusal>
+        requires { AreEffectsFew self.old }
+        ensures world { (ws : Words) → world_in ws self.new ≡ world_in ws self.old }
+        ensures room { OnOk result (acts ≤ room_in self.new) }
+        ensures kept { room_in self.old ≤ room_in self.new }
+        ensures full { result ≡ Err Refusal.NoMemory → room_in self.old < acts }
+        ensures open { (ws : Words) → OnOk result (IsSome (world_in ws self.old)) }
+        ensures errors { (ws : Words) → IfErr result (IsWhyUnread (world_in ws self.old)) }
+        ensures same { IsSameSlot self.old self.new }
+        ensures as_ready { IsAsReady self.old self.new }
+    {
+        match self {
+            Slot::Closed => Err(Refusal::NoQueue),
+            Slot::Open(block) => block.reserve(acts),
+        }
+    }
+
     /// A new queue of this kind, in the slot's block, which is all zero. It takes no memory.
     pub(crate) fn open(alloc: Global, layout: &BrokerLayout, slot: SlotId, kind: Kind) -> Self
         requires { slot.0 < SLOTS }

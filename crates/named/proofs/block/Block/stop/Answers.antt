@@ -1,8 +1,8 @@
 use Rattle.std.proofs.Common.{◌≡◌, [], refl, sym, ap, subst}
 use Rattle.persist.specs.Memory.{Words, words_after_crash, words_in}
 use Rattle.interleave.specs.State.{State, after_stop}
-use Rattle.named.specs.Blocks.{BlockState, IsWellIn, state_in}
-use Rattle.named.specs.Slots.{LieInOnePlace}
+use Rattle.named.specs.Blocks.{BlockState, IsWellIn, state_in, LieInOnePlace}
+use Rattle.named.specs.Slots.{}
 use Rattle.named.proofs.Crashed.{inside_kept}
 use Rattle.named.proofs.block.Block.stop.Goals as goal
 

@@ -1,7 +1,12 @@
-use Rattle.std.proofs.Common.{is_some, ap}
+use Rattle.std.proofs.Common.{Some, is_some, ap, ◌∙◌}
+use Rattle.arena.specs.Shape.{Shape}
 use Rattle.persist.specs.Memory.{zero_words}
 use Rattle.interleave.specs.State.{State}
 use Rattle.named.proofs.slot.Slot.open_found.Goals as goal
 
 pub returns-clause-down : goal.returns-clause-down
 returns-clause-down c = ap (λ (x : State). is_some x.recovery) (c.boot_unused.ensures.state (zero_words 0))
+
+pub returns-clause-kind : goal.returns-clause-kind
+returns-clause-kind c =
+    ap (λ (x : State). Some x.shape.kind) (c.boot_unused.ensures.state (zero_words 0)) ∙ ap (λ (s : Shape). Some s.kind) c.queue.ensures.layout

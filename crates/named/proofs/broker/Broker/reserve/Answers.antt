@@ -1,0 +1,86 @@
+use Rattle.std.proofs.Common.{rules, ◌≡◌, ◌≤◌, ◌<◌, length, slice_get, slice_set, Some, OnOk, IfErr, Option, refl, ap, sym, subst, ◌∙◌}
+use Rattle.std.specs.Prelude.{IsSome}
+use Rattle.std.proofs.lemmas.Option.{slice_get_read}
+use Rattle.interleave.specs.State.{State}
+use Rattle.named.specs.Slots.{IsWhyUnread, world_in}
+use Rattle.named.specs.Brokers.{Brokered, room_at, room_of, world_at, world_of}
+use Rattle.named.proofs.GoingOn.{same_goes_on, broker_stays}
+use Rattle.named.proofs.Kept.{get_set_other, slot_is_well, still_well}
+use Rattle.named.proofs.Reserved.{few, room_here, rooms_kept, same_outside, slot_reserved, worlds_same}
+use Rattle.named.proofs.Askings.{same_asked}
+use Rattle.named.proofs.Promises.{promises_kept, promises_well}
+use Rattle.named.proofs.broker.Broker.reserve.Goals as goal
+
+pub reserve-requires : goal.reserve-requires
+reserve-requires c =
+    let below : c.args.slot.0 < length c.self.inside.slots.items = search rules in
+    let here : slice_get c.self.inside.slots.items c.args.slot.0 ≡ Some c.index_mut.result.now = slice_get_read c.self.inside.slots.items (length c.self.inside.slots.items) c.args.slot.0 c.index_mut.result.now refl below c.index_mut.ensures.value in
+    few c.self.inside.memory.words c.index_mut.result.now (slot_is_well c.self.inside.layout c.self.inside.memory.words c.args.slot.0 c.index_mut.result.now (c.self.invariant.well.slots c.args.slot.0 c.index_mut.result.now here))
+
+pub invariant_of-self : goal.invariant_of-self
+invariant_of-self c =
+    let below : c.args.slot.0 < length c.self.inside.slots.items = search rules in
+    let here : slice_get c.self.inside.slots.items c.args.slot.0 ≡ Some c.index_mut.result.now = slice_get_read c.self.inside.slots.items (length c.self.inside.slots.items) c.args.slot.0 c.index_mut.result.now refl below c.index_mut.ensures.value in
+    let b : Brokered = record { counts = c.self.inside.layout; words = c.self.inside.memory.words; slots = c.self.inside.slots.items; directory = c.self.inside.directory; creation = c.self.inside.creation; recovery = c.self.inside.recovery } in
+    let well = slot_reserved c.self.inside.memory.words c.index_mut.result.now c.reserve.new.self (slot_is_well c.self.inside.layout c.self.inside.memory.words c.args.slot.0 c.index_mut.result.now (c.self.invariant.well.slots c.args.slot.0 c.index_mut.result.now here)) c.reserve.ensures.same (c.reserve.ensures.world c.self.inside.memory.words) in
+    record {
+      well = still_well b c.args.slot.0 c.index_mut.result.now c.reserve.new.self c.self.inside.memory.words c.self.invariant.well here well (same_outside c.self.inside.memory.words c.index_mut.result.now) c.reserve.ensures.same c.reserve.ensures.as_ready;
+      slots = λ at. same_asked b.counts c.self.inside.memory at (world_at b at) _ (worlds_same b c.args.slot.0 c.index_mut.result.now c.reserve.new.self here (c.reserve.ensures.world c.self.inside.memory.words) at) (c.self.invariant.slots at);
+      creation = c.self.invariant.creation;
+    }
+
+pub returns-clause-worlds : goal.returns-clause-worlds
+returns-clause-worlds c = λ at.
+    let below : c.args.slot.0 < length c.self.inside.slots.items = search rules in
+    let here : slice_get c.self.inside.slots.items c.args.slot.0 ≡ Some c.index_mut.result.now = slice_get_read c.self.inside.slots.items (length c.self.inside.slots.items) c.args.slot.0 c.index_mut.result.now refl below c.index_mut.ensures.value in
+    let b : Brokered = record { counts = c.self.inside.layout; words = c.self.inside.memory.words; slots = c.self.inside.slots.items; directory = c.self.inside.directory; creation = c.self.inside.creation; recovery = c.self.inside.recovery } in
+    worlds_same b c.args.slot.0 c.index_mut.result.now c.reserve.new.self here (c.reserve.ensures.world c.self.inside.memory.words) at ∙ ap (λ (x : Brokered). world_at x at) c.self.view_is
+
+pub returns-clause-room : goal.returns-clause-room
+returns-clause-room c =
+    let below : c.args.slot.0 < length c.self.inside.slots.items = search rules in
+    let here : slice_get c.self.inside.slots.items c.args.slot.0 ≡ Some c.index_mut.result.now = slice_get_read c.self.inside.slots.items (length c.self.inside.slots.items) c.args.slot.0 c.index_mut.result.now refl below c.index_mut.ensures.value in
+    let b : Brokered = record { counts = c.self.inside.layout; words = c.self.inside.memory.words; slots = c.self.inside.slots.items; directory = c.self.inside.directory; creation = c.self.inside.creation; recovery = c.self.inside.recovery } in
+    subst (λ n. OnOk c.reserve.result (c.args.acts ≤ n)) (sym (room_here b c.args.slot.0 c.index_mut.result.now c.reserve.new.self here)) c.reserve.ensures.room
+
+pub returns-clause-kept : goal.returns-clause-kept
+returns-clause-kept c = λ at.
+    let below : c.args.slot.0 < length c.self.inside.slots.items = search rules in
+    let here : slice_get c.self.inside.slots.items c.args.slot.0 ≡ Some c.index_mut.result.now = slice_get_read c.self.inside.slots.items (length c.self.inside.slots.items) c.args.slot.0 c.index_mut.result.now refl below c.index_mut.ensures.value in
+    let b : Brokered = record { counts = c.self.inside.layout; words = c.self.inside.memory.words; slots = c.self.inside.slots.items; directory = c.self.inside.directory; creation = c.self.inside.creation; recovery = c.self.inside.recovery } in
+    subst (λ n. n ≤ room_of (slice_get (slice_set c.self.inside.slots.items c.args.slot.0 c.reserve.new.self) at)) (ap (λ (x : Brokered). room_at x at) c.self.view_is)
+    (rooms_kept b c.args.slot.0 c.index_mut.result.now c.reserve.new.self here c.reserve.ensures.kept at)
+
+pub returns-clause-other_rooms : goal.returns-clause-other_rooms
+returns-clause-other_rooms c = λ other ne.
+    ap room_of (get_set_other c.self.inside.slots.items c.args.slot.0 c.reserve.new.self other ne)
+    ∙ ap (λ (x : Brokered). room_at x other) c.self.view_is
+
+pub returns-clause-open : goal.returns-clause-open
+returns-clause-open c =
+    let below : c.args.slot.0 < length c.self.inside.slots.items = search rules in
+    let here : slice_get c.self.inside.slots.items c.args.slot.0 ≡ Some c.index_mut.result.now = slice_get_read c.self.inside.slots.items (length c.self.inside.slots.items) c.args.slot.0 c.index_mut.result.now refl below c.index_mut.ensures.value in
+    let world : world_in c.self.inside.memory.words c.index_mut.result.now ≡ world_at c.args.self.now c.args.slot.0 = sym (ap (world_of c.self.inside.memory.words) here) ∙ ap (λ (x : Brokered). world_at x c.args.slot.0) c.self.view_is in
+    subst (λ (o : Option State). OnOk c.reserve.result (IsSome o)) world (c.reserve.ensures.open c.self.inside.memory.words)
+
+pub returns-clause-errors : goal.returns-clause-errors
+returns-clause-errors c =
+    let below : c.args.slot.0 < length c.self.inside.slots.items = search rules in
+    let here : slice_get c.self.inside.slots.items c.args.slot.0 ≡ Some c.index_mut.result.now = slice_get_read c.self.inside.slots.items (length c.self.inside.slots.items) c.args.slot.0 c.index_mut.result.now refl below c.index_mut.ensures.value in
+    let world : world_in c.self.inside.memory.words c.index_mut.result.now ≡ world_at c.args.self.now c.args.slot.0 = sym (ap (world_of c.self.inside.memory.words) here) ∙ ap (λ (x : Brokered). world_at x c.args.slot.0) c.self.view_is in
+    subst (λ (o : Option State). IfErr c.reserve.result (IsWhyUnread o)) world (c.reserve.ensures.errors c.self.inside.memory.words)
+
+pub returns-then-slot-len-clause-promises : goal.returns-then-slot-len-clause-promises
+returns-then-slot-len-clause-promises c = promises_kept _ _ c.self.invariant.well c.self.view_is
+
+pub returns-clause-promises : goal.returns-clause-promises
+returns-clause-promises c = promises_well _ (invariant_of-self c).well
+
+pub returns-clause-goes_on : goal.returns-clause-goes_on
+returns-clause-goes_on c =
+    let b : Brokered = record { counts = c.self.inside.layout; words = c.self.inside.memory.words; slots = c.self.inside.slots.items; directory = c.self.inside.directory; creation = c.self.inside.creation; recovery = c.self.inside.recovery } in
+    let new : Brokered = record b { slots = slice_set b.slots c.args.slot.0 c.reserve.new.self } in
+    same_goes_on c.args.self.now new (ap (λ (x : Brokered). x.directory) c.self.view_is) (returns-clause-worlds c)
+
+pub returns-then-slot-len-clause-goes_on : goal.returns-then-slot-len-clause-goes_on
+returns-then-slot-len-clause-goes_on c = broker_stays _

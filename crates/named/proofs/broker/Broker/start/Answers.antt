@@ -1,0 +1,90 @@
+use Rattle.std.proofs.Common.{◌≡◌, Ok, slice_get, slice_set, Some, sym, subst, ap, ◌∙◌, refl}
+use Rattle.std.proofs.lemmas.Option.{slice_get_read}
+use Rattle.protocol.specs.declared.acts.Act.TheVariants.{Start}
+use Rattle.interleave.specs.Rules.{starting}
+use Rattle.named.specs.Acting.{IsActAt, IsSameBeside}
+use Rattle.named.specs.Brokers.{Brokered, admission}
+use Rattle.named.specs.GoingOn.{BrokerGoesOn}
+use Rattle.named.specs.declared.slot.Slot.{Slot}
+use Rattle.named.proofs.Acting.{act_at, goes_on_at, nothing_beside, same_beside, still_over}
+use Rattle.named.proofs.Askings.{slot_asked_here}
+use Rattle.named.proofs.GoingOn.{broker_stays}
+use Rattle.named.proofs.Kept.{slot_is_well}
+use Rattle.named.proofs.Promises.{promises_kept, promises_well}
+use Rattle.named.proofs.broker.Broker.start.Goals as goal
+
+pub start-requires : goal.start-requires
+start-requires c =
+    let b : Brokered = record { counts = c.self.inside.layout; words = c.self.inside.memory.words; slots = c.self.inside.slots.items; directory = c.self.inside.directory; creation = c.self.inside.creation; recovery = c.self.inside.recovery } in
+    let was : Slot = c.index_mut.result.now in
+    let here : slice_get b.slots c.args.slot.0 ≡ Some was =
+    slice_get_read b.slots 8 c.args.slot.0 was (sym c.self.invariant.well.count) c.if-slot-ge-SLOTS.false c.index_mut.ensures.value in
+    record {
+      well = slot_is_well b.counts b.words c.args.slot.0 was (c.self.invariant.well.slots c.args.slot.0 was here);
+      asked = slot_asked_here b c.self.inside.memory c.args.slot.0 was c.self.invariant here;
+    }
+
+pub invariant_of-self : goal.invariant_of-self
+invariant_of-self c =
+    let b : Brokered = record { counts = c.self.inside.layout; words = c.self.inside.memory.words; slots = c.self.inside.slots.items; directory = c.self.inside.directory; creation = c.self.inside.creation; recovery = c.self.inside.recovery } in
+    let was : Slot = c.index_mut.result.now in
+    let here : slice_get b.slots c.args.slot.0 ≡ Some was =
+    slice_get_read b.slots 8 c.args.slot.0 was (sym c.self.invariant.well.count) c.if-slot-ge-SLOTS.false c.index_mut.ensures.value in
+    still_over b c.self.inside.memory c.start.new.memory c.args.slot.0 was c.start.new.self c.self.invariant here c.if-slot-ge-SLOTS.false c.start.ensures.within
+
+pub returns-clause-act : goal.returns-clause-act
+returns-clause-act c =
+    let b : Brokered = record { counts = c.self.inside.layout; words = c.self.inside.memory.words; slots = c.self.inside.slots.items; directory = c.self.inside.directory; creation = c.self.inside.creation; recovery = c.self.inside.recovery } in
+    let was : Slot = c.index_mut.result.now in
+    let here : slice_get b.slots c.args.slot.0 ≡ Some was =
+    slice_get_read b.slots 8 c.args.slot.0 was (sym c.self.invariant.well.count) c.if-slot-ge-SLOTS.false c.index_mut.ensures.value in
+    let new : Brokered = record b { words = c.start.new.memory.words; slots = slice_set b.slots c.args.slot.0 c.start.new.self } in
+    let admitted : admission b c.args.client ≡ Ok tt = ap (λ (x : Brokered). admission x c.args.client) c.self.view_is ∙ sym c.admit.ensures ∙ c.in_ok-admit.was in
+    subst (λ (x : Brokered). IsActAt (starting c.args.client c.args.number c.args.call) c.args.slot.0 c.args.client x c.start.result new) c.self.view_is
+    (act_at b c.self.inside.memory c.start.new.memory c.args.slot.0 was c.start.new.self c.self.invariant here c.if-slot-ge-SLOTS.false c.start.ensures.within (starting c.args.client c.args.number c.args.call) c.args.client c.start.result admitted c.start.ensures.act)
+
+pub returns-clause-goes_on : goal.returns-clause-goes_on
+returns-clause-goes_on c =
+    let b : Brokered = record { counts = c.self.inside.layout; words = c.self.inside.memory.words; slots = c.self.inside.slots.items; directory = c.self.inside.directory; creation = c.self.inside.creation; recovery = c.self.inside.recovery } in
+    let was : Slot = c.index_mut.result.now in
+    let here : slice_get b.slots c.args.slot.0 ≡ Some was =
+    slice_get_read b.slots 8 c.args.slot.0 was (sym c.self.invariant.well.count) c.if-slot-ge-SLOTS.false c.index_mut.ensures.value in
+    let new : Brokered = record b { words = c.start.new.memory.words; slots = slice_set b.slots c.args.slot.0 c.start.new.self } in
+    let admitted : admission b c.args.client ≡ Ok tt = ap (λ (x : Brokered). admission x c.args.client) c.self.view_is ∙ sym c.admit.ensures ∙ c.in_ok-admit.was in
+    subst (λ (x : Brokered). BrokerGoesOn x new) c.self.view_is
+    (goes_on_at b c.self.inside.memory c.start.new.memory c.args.slot.0 was c.start.new.self c.self.invariant here c.if-slot-ge-SLOTS.false c.start.ensures.within (starting c.args.client c.args.number c.args.call) c.args.client c.start.result admitted c.start.ensures.act (Start c.args.client c.args.number c.args.call) (λ w. refl))
+
+pub returns-clause-beside : goal.returns-clause-beside
+returns-clause-beside c =
+    let b : Brokered = record { counts = c.self.inside.layout; words = c.self.inside.memory.words; slots = c.self.inside.slots.items; directory = c.self.inside.directory; creation = c.self.inside.creation; recovery = c.self.inside.recovery } in
+    let was : Slot = c.index_mut.result.now in
+    let here : slice_get b.slots c.args.slot.0 ≡ Some was =
+    slice_get_read b.slots 8 c.args.slot.0 was (sym c.self.invariant.well.count) c.if-slot-ge-SLOTS.false c.index_mut.ensures.value in
+    let new : Brokered = record b { words = c.start.new.memory.words; slots = slice_set b.slots c.args.slot.0 c.start.new.self } in
+    subst (λ (x : Brokered). IsSameBeside c.args.slot.0 x new) c.self.view_is
+    (same_beside b c.self.inside.memory c.start.new.memory c.args.slot.0 was c.start.new.self c.self.invariant here c.if-slot-ge-SLOTS.false c.start.ensures.within)
+
+pub returns-clause-promises : goal.returns-clause-promises
+returns-clause-promises c = promises_well _ (invariant_of-self c).well
+
+pub returns-in_err-admit-clause-beside : goal.returns-in_err-admit-clause-beside
+returns-in_err-admit-clause-beside c =
+    let b : Brokered = record { counts = c.self.inside.layout; words = c.self.inside.memory.words; slots = c.self.inside.slots.items; directory = c.self.inside.directory; creation = c.self.inside.creation; recovery = c.self.inside.recovery } in
+    subst (λ (x : Brokered). IsSameBeside c.args.slot.0 x b) c.self.view_is (nothing_beside b c.args.slot.0 c.self.invariant.well)
+
+pub returns-in_err-admit-clause-goes_on : goal.returns-in_err-admit-clause-goes_on
+returns-in_err-admit-clause-goes_on c = broker_stays _
+
+pub returns-in_err-admit-clause-promises : goal.returns-in_err-admit-clause-promises
+returns-in_err-admit-clause-promises c = promises_kept _ _ c.self.invariant.well c.self.view_is
+
+pub returns-then-slot-ge-SLOTS-clause-beside : goal.returns-then-slot-ge-SLOTS-clause-beside
+returns-then-slot-ge-SLOTS-clause-beside c =
+    let b : Brokered = record { counts = c.self.inside.layout; words = c.self.inside.memory.words; slots = c.self.inside.slots.items; directory = c.self.inside.directory; creation = c.self.inside.creation; recovery = c.self.inside.recovery } in
+    subst (λ (x : Brokered). IsSameBeside c.args.slot.0 x b) c.self.view_is (nothing_beside b c.args.slot.0 c.self.invariant.well)
+
+pub returns-then-slot-ge-SLOTS-clause-goes_on : goal.returns-then-slot-ge-SLOTS-clause-goes_on
+returns-then-slot-ge-SLOTS-clause-goes_on c = broker_stays _
+
+pub returns-then-slot-ge-SLOTS-clause-promises : goal.returns-then-slot-ge-SLOTS-clause-promises
+returns-then-slot-ge-SLOTS-clause-promises c = promises_kept _ _ c.self.invariant.well c.self.view_is
