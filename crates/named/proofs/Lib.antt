@@ -23,6 +23,5 @@ pub mod Promises
 pub mod Readings
 pub mod Queues
 pub mod Lastings
-pub mod QueueKinds
 pub mod Migrated
 pub mod Acting

@@ -1,13 +1,13 @@
 //! What the queues of a broker have: what happened, what they hold, and what their clients were told.
 
-ghost use Rattle.std.specs.Prelude.{◌≡◌, ◌≢◌, ◌<◌, ◌≤◌, ℕ, Ok, Err, IfOk, IfErr, OnOk, OnErr, IsSome, Some, None};
+ghost use Rattle.std.specs.Prelude.{◌≡◌, ◌≢◌, ◌<◌, ◌≤◌, ℕ, slice_get, Ok, Err, IfOk, IfErr, OnOk, OnErr, IsSome, Some, None};
 ghost use Rattle.persist.specs.Image.{image_of, reading};
 ghost use Rattle.interleave.specs.Queue.{told_in, told_to};
 ghost use Rattle.interleave.specs.State.{kept_content, order_in};
 ghost use Rattle.interleave.specs.Verdicts.{number_under_way};
 ghost use Rattle.named.specs.Blocks.{state_in, IsWellIn};
 ghost use Rattle.named.specs.Booting.{AreBootWords};
-ghost use Rattle.named.specs.Slots.{answered, IfWorld, IsWhyUnread};
+ghost use Rattle.named.specs.Slots.{answered, world_in, IfWorld, IsSlotWell, IsWhyUnread};
 ghost use Rattle.named.specs.GoingOn.{BrokerGoesOn};
 ghost use Rattle.named.specs.Promises.{KeepsPromises};
 ghost use Rattle.named.specs.Brokers.{world_at, room_at, answer_at, IsWell};
@@ -20,6 +20,20 @@ use events::{History, Order};
 use words::{Client, Kind, Refusal, Told, Value};
 
 impl Broker {
+    /// A slot, where there is one.
+    fn slot(&self, slot: SlotId) -> Result<&Slot, Refusal>
+        ensures world { IfOk result (λ s. world_in self.now.words s.now ≡ world_at self.now slot.0) }
+        ensures there { IfOk result (λ s. slice_get self.now.slots slot.0 ≡ Some s.now) }
+        ensures well { IfOk result (λ s. IsSlotWell self.now.words s.now) }
+        ensures whole { IsWell self.now }
+        ensures errors { IfErr result (λ e. (e ≡ Refusal.NoQueue) × (world_at self.now slot.0 ≡ None)) }
+    {
+        match self.slots.get(slot.0 as usize) {
+            Some(slot) => Ok(slot),
+            None => Err(Refusal::NoQueue),
+        }
+    }
+
     /// The queue of a slot. It is refused where the slot is closed, or there is none (NoQueue).
     fn queue(&self, slot: SlotId) -> Result<&Block, Refusal>
         ensures world { IfOk result (λ b. world_at self.now slot.0 ≡ Some (state_in self.now.words b.now)) }
@@ -27,10 +41,7 @@ impl Broker {
         ensures whole { IsWell self.now }
         ensures errors { IfErr result (λ e. (e ≡ Refusal.NoQueue) × (world_at self.now slot.0 ≡ None)) }
     {
-        match self.slots.get(slot.0 as usize) {
-            Some(Slot::Open(block)) => Ok(block),
-            _ => Err(Refusal::NoQueue),
-        }
+        self.slot(slot)?.queue()
     }
 
     /// How many clients each queue has, from 1 to [`words::MAX_CLIENTS`].

@@ -15,6 +15,7 @@ ghost use Rattle.named.specs.Blocks.{IsSameWords};
 ghost use Rattle.named.specs.Brokers.{IsSlotAt, IsUnusedBlock, block_words};
 ghost use Rattle.named.specs.Each.{HasMoreRoom};
 ghost use Rattle.named.specs.Rotating.{has_calls_in, IsBaseIn, IsBegunAnew, IsQuietIn};
+ghost use Rattle.named.specs.declared.slot.Slot.TheVariants.{Closed, Open};
 ghost use Rattle.named.specs.Slots.{acted, answered, kind_in, room_in, world_evicted_in, world_in, AreEffectsFew, AskAlikeBesideSlot, HasRoomFor, IsAsReady, IsEvictedOutside, IsReadyIn, IsActInSlot, IsAloneInSlot, IsSameOutsideSlot, IsSameSlot, IsSlotAsked, IsSlotWell, IsWhyUnread, IsWithinSlot, IsWordOf};
 
 use crate::block::Block;
@@ -95,6 +96,17 @@ impl Slot {
         match self {
             Slot::Closed => Err(Refusal::NoQueue),
             Slot::Open(block) => block.run_alone(memory, client),
+        }
+    }
+
+    /// Its queue. It is refused where nobody has created one (NoQueue).
+    pub(crate) fn queue(&self) -> Result<&Block, Refusal>
+        ensures open { IfOk result (λ block. self.now ≡ Open block.now) }
+        ensures errors { IfErr result (λ e. (e ≡ Refusal.NoQueue) × (self.now ≡ Closed)) }
+    {
+        match self {
+            Slot::Closed => Err(Refusal::NoQueue),
+            Slot::Open(block) => Ok(block),
         }
     }
 

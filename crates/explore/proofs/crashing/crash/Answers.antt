@@ -13,7 +13,7 @@ pub returns-clause-found : goal.returns-clause-found
 returns-clause-found c =
     let memory : is_no_memory c.crash.result ≡ false =
     ap (λ (r : Result (Unit {0}) Refusal). is_no_memory r) c.in_ok-crash.was in
-    let crashed = c.crash.ensures.world ∙ ap (λ (full : Bool). after_crash full c.evict_words.new.world.now) memory in
+    let crashed = c.crash.ensures.by_rule.leaves ∙ ap (λ (full : Bool). after_crash full c.evict_words.new.world.now) memory in
     let many = c.most_to_ready-most.ensures ∙ ap most_to_ready c.layout.ensures in
     let s : Shape = c.args.layout in
     let comes : found_in c.repeat.new.world.now c.in_ok-steps.steps

@@ -8,6 +8,6 @@ pub loop-word-preserved : goal.loop-word-preserved
 loop-word-preserved c =
     let rest : ℕ = c.args.words - (c.loop-word.word + 1) in
     let left : c.args.words - c.loop-word.word ≡ suc rest = omega (arith, c.loop-word-test.true) in
-    ap (λ (w : State). after_acts w (map Evict (range_with_len (c.loop-word.word + 1) rest))) c.evict.ensures.world
+    ap (λ (w : State). after_acts w (map Evict (range_with_len (c.loop-word.word + 1) rest))) c.evict.ensures.by_rule.leaves
     ∙ ap (λ n. after_acts c.loop-word.world.now (map Evict (range_with_len c.loop-word.word n))) (sym left)
     ∙ c.loop-word.invariant

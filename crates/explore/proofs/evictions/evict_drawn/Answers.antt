@@ -19,7 +19,7 @@ loop-word-preserved c =
     let next = ap (λ p. p.1) c.next_word.ensures in
     elim c.if-next_word-eq1.branch [
       | then-next_word-eq1 b ↦ draw_taken w v rest word c.next_word.result c.loop-word.draws c.next_word.new.self bits next b.if-next_word-eq1.true
-          (ap (λ (r : Roomy). r.now) b.world-is ∙ b.evict.ensures.world) ∙ all
+          (ap (λ (r : Roomy). r.now) b.world-is ∙ b.evict.ensures.by_rule.leaves) ∙ all
       | else-next_word-eq1 b ↦ draw_passed w v rest word c.next_word.result c.loop-word.draws c.next_word.new.self bits next b.if-next_word-eq1.false
           (ap (λ (r : Roomy). r.now) b.world-is) ∙ all
     ]

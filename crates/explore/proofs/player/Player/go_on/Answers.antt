@@ -21,9 +21,9 @@ returns-in-Err-clause-play c =
     ap (λ (r : Result (Option Reply) Refusal). is_no_memory r) c.in-Err.is
     ∙ is_another (Option Reply) c.in-Err.refusal other in
     let refused : step_result false play.world client ≡ Err c.in-Err.refusal =
-    ap (λ full. step_result full play.world client) (sym memory) ∙ sym c.step.ensures.result ∙ c.in-Err.is in
+    ap (λ full. step_result full play.world client) (sym memory) ∙ sym c.step.ensures.by_rule.answers ∙ c.in-Err.is in
     let same : c.step.new.self.now ≡ play.world =
-    c.step.ensures.world
+    c.step.ensures.by_rule.leaves
     ∙ ap (λ full. after_step full play.world client) memory
     ∙ refused_same play.world client c.in-Err.refusal refused in
     ap (λ w. record { world = w; steps = play.steps }) same
@@ -39,7 +39,7 @@ returns-in-Err-clause-lines c =
     ap (λ (r : Result (Option Reply) Refusal). is_no_memory r) c.in-Err.is
     ∙ is_another (Option Reply) c.in-Err.refusal other in
     let refused : step_result false play.world client ≡ Err c.in-Err.refusal =
-    ap (λ full. step_result full play.world client) (sym memory) ∙ sym c.step.ensures.result ∙ c.in-Err.is in
+    ap (λ full. step_result full play.world client) (sym memory) ∙ sym c.step.ensures.by_rule.answers ∙ c.in-Err.is in
     lines
     ∙ ap (λ ls. c.loop.lines.items ++ ls)
     (sym (gives_refused client c.args.most c.loop.counter play c.in-Err.refusal c.loop-test.true refused))
@@ -52,9 +52,9 @@ returns-in-Some-clause-play c =
     let is : c.step.result ≡ Ok (Some c.in-Some.reply) = c.in-Ok.is ∙ ap Ok c.in-Some.is in
     let memory : is_no_memory c.step.result ≡ false = ap (λ (r : Result (Option Reply) Refusal). is_no_memory r) is in
     let answered : step_result false play.world client ≡ Ok (Some c.in-Some.reply) =
-    ap (λ full. step_result full play.world client) (sym memory) ∙ sym c.step.ensures.result ∙ is in
+    ap (λ full. step_result full play.world client) (sym memory) ∙ sym c.step.ensures.by_rule.answers ∙ is in
     let world : c.step.new.self.now ≡ after_step false play.world client =
-    c.step.ensures.world ∙ ap (λ full. after_step full play.world client) memory in
+    c.step.ensures.by_rule.leaves ∙ ap (λ full. after_step full play.world client) memory in
     let steps : c.go_on-steps.new.self ≡ call_counted 1 client play.steps = c.go_on-steps.ensures.steps in
     always_ok c.add.result (
     one_step client play c.step.new.self.now c.go_on-steps.new.self world steps
@@ -69,7 +69,7 @@ returns-in-Some-clause-lines c =
     let is : c.step.result ≡ Ok (Some c.in-Some.reply) = c.in-Ok.is ∙ ap Ok c.in-Some.is in
     let memory : is_no_memory c.step.result ≡ false = ap (λ (r : Result (Option Reply) Refusal). is_no_memory r) is in
     let answered : step_result false play.world client ≡ Ok (Some c.in-Some.reply) =
-    ap (λ full. step_result full play.world client) (sym memory) ∙ sym c.step.ensures.result ∙ is in
+    ap (λ full. step_result full play.world client) (sym memory) ∙ sym c.step.ensures.by_rule.answers ∙ is in
     let count : c.go_on-steps.result ≡ count_after 1 (slice_index play.steps.calls client.0) =
     c.go_on-steps.ensures.count in
     on_ok_weaker c.add.result (λ told.
@@ -87,9 +87,9 @@ loop-preserved c =
     let is : c.step.result ≡ Ok None = c.in-Ok.is ∙ ap Ok c.in_default.is in
     let memory : is_no_memory c.step.result ≡ false = ap (λ (r : Result (Option Reply) Refusal). is_no_memory r) is in
     let going : step_result false play.world client ≡ Ok None =
-    ap (λ full. step_result full play.world client) (sym memory) ∙ sym c.step.ensures.result ∙ is in
+    ap (λ full. step_result full play.world client) (sym memory) ∙ sym c.step.ensures.by_rule.answers ∙ is in
     let world : c.step.new.self.now ≡ after_step false play.world client =
-    c.step.ensures.world ∙ ap (λ full. after_step full play.world client) memory in
+    c.step.ensures.by_rule.leaves ∙ ap (λ full. after_step full play.world client) memory in
     let steps : c.go_on-steps.new.self ≡ call_counted 1 client play.steps = c.go_on-steps.ensures.steps in
     let same : next ≡ play_after_step play client =
     one_step client play c.step.new.self.now c.go_on-steps.new.self world steps in

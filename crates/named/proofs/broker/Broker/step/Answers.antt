@@ -5,7 +5,7 @@ use Rattle.interleave.specs.Rules.{stepping}
 use Rattle.interleave.proofs.AloneLaws.{get_set}
 use Rattle.named.specs.Slots.{room_in}
 use Rattle.named.specs.Acting.{IsActAt, IsSameBeside}
-use Rattle.named.specs.Brokers.{Brokered, admission, room_at, room_of}
+use Rattle.named.specs.Brokers.{Brokered, IsWell, admission, room_at, room_of}
 use Rattle.named.specs.GoingOn.{BrokerGoesOn}
 use Rattle.named.specs.declared.slot.Slot.{Slot}
 use Rattle.named.proofs.Acting.{act_at, goes_on_at, nothing_beside, same_beside, still_over}
@@ -72,8 +72,7 @@ returns-clause-promises c = promises_well _ (invariant_of-self c).well
 
 pub returns-in_err-admit-clause-beside : goal.returns-in_err-admit-clause-beside
 returns-in_err-admit-clause-beside c =
-    let b : Brokered = record { counts = c.self.inside.layout; words = c.self.inside.memory.words; slots = c.self.inside.slots.items; directory = c.self.inside.directory; creation = c.self.inside.creation; recovery = c.self.inside.recovery } in
-    subst (λ (x : Brokered). IsSameBeside c.args.slot.0 x b) c.self.view_is (nothing_beside b c.args.slot.0 c.self.invariant.well)
+    nothing_beside _ c.args.slot.0 (subst IsWell c.self.view_is c.self.invariant.well)
 
 pub returns-in_err-admit-clause-goes_on : goal.returns-in_err-admit-clause-goes_on
 returns-in_err-admit-clause-goes_on c = broker_stays _
@@ -83,8 +82,7 @@ returns-in_err-admit-clause-promises c = promises_kept _ _ c.self.invariant.well
 
 pub returns-then-slot-ge-SLOTS-clause-beside : goal.returns-then-slot-ge-SLOTS-clause-beside
 returns-then-slot-ge-SLOTS-clause-beside c =
-    let b : Brokered = record { counts = c.self.inside.layout; words = c.self.inside.memory.words; slots = c.self.inside.slots.items; directory = c.self.inside.directory; creation = c.self.inside.creation; recovery = c.self.inside.recovery } in
-    subst (λ (x : Brokered). IsSameBeside c.args.slot.0 x b) c.self.view_is (nothing_beside b c.args.slot.0 c.self.invariant.well)
+    nothing_beside _ c.args.slot.0 (subst IsWell c.self.view_is c.self.invariant.well)
 
 pub returns-then-slot-ge-SLOTS-clause-goes_on : goal.returns-then-slot-ge-SLOTS-clause-goes_on
 returns-then-slot-ge-SLOTS-clause-goes_on c = broker_stays _

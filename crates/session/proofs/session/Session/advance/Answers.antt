@@ -22,18 +22,18 @@ invariant_of-self c =
     advanced_right c.self.inside.broker c.step.new.self c.args.queue.0 c.args.client c.self.inside.kept c.self.inside.kept
     c.step.result c.self.invariant c.step.ensures.promises.well
     (record {
-      world = c.step.ensures.world;
-      result_is = c.step.ensures.result;
-      full = c.step.ensures.full;
-      room = c.step.ensures.room;
-      spare = c.step.ensures.spare;
+      world = c.step.ensures.act.world;
+      result_is = c.step.ensures.act.answers;
+      full = c.step.ensures.act.full;
+      room = c.step.ensures.act.room;
+      spare = c.step.ensures.act.spare;
       stays = c.step.ensures.stays;
       others = record {
-        worlds = c.step.ensures.others;
-        rooms = c.step.ensures.other_rooms;
-        directory = c.step.ensures.directory;
-        creation = c.step.ensures.creation;
-        recovery = c.step.ensures.recovery;
+        worlds = c.step.ensures.beside.others;
+        rooms = c.step.ensures.beside.other_rooms;
+        directory = c.step.ensures.beside.directory;
+        creation = c.step.ensures.beside.creation;
+        recovery = c.step.ensures.beside.recovery;
       };
     })
     (kept_refused c.self.inside.kept c.args.queue.0 c.args.client.0 _ c.step.result c.in_err-answer.field-0.0 (c.in_err-answer.was))
@@ -44,18 +44,18 @@ returns-in_err-answer-clause-goes_on c =
     (advanced_on c.self.inside.broker c.step.new.self c.args.queue.0 c.args.client c.self.inside.kept c.self.inside.kept
     c.step.result c.self.invariant
     (record {
-      world = c.step.ensures.world;
-      result_is = c.step.ensures.result;
-      full = c.step.ensures.full;
-      room = c.step.ensures.room;
-      spare = c.step.ensures.spare;
+      world = c.step.ensures.act.world;
+      result_is = c.step.ensures.act.answers;
+      full = c.step.ensures.act.full;
+      room = c.step.ensures.act.room;
+      spare = c.step.ensures.act.spare;
       stays = c.step.ensures.stays;
       others = record {
-        worlds = c.step.ensures.others;
-        rooms = c.step.ensures.other_rooms;
-        directory = c.step.ensures.directory;
-        creation = c.step.ensures.creation;
-        recovery = c.step.ensures.recovery;
+        worlds = c.step.ensures.beside.others;
+        rooms = c.step.ensures.beside.other_rooms;
+        directory = c.step.ensures.beside.directory;
+        creation = c.step.ensures.beside.creation;
+        recovery = c.step.ensures.beside.recovery;
       };
     })
     (kept_refused c.self.inside.kept c.args.queue.0 c.args.client.0 _ c.step.result c.in_err-answer.field-0.0 (c.in_err-answer.was)))
@@ -66,7 +66,7 @@ returns-in_err-answer-clause-promises c = numbers_kept _ (invariant_of-self c)
 pub hear-requires-clause-slot : goal.hear-requires-clause-slot
 hear-requires-clause-slot c =
     let at = answered_at _ c.self.inside.broker c.args.queue.0 c.args.client c.in_ok-answer.answer
-    (sym c.step.ensures.result ∙ c.in_ok-answer.was) in
+    (sym c.step.ensures.act.answers ∙ c.in_ok-answer.was) in
     open_below c.self.inside.broker c.self.invariant.well c.args.queue.0 at.world at.here
 
 pub invariant_of-self-2 : goal.invariant_of-self-2
@@ -76,18 +76,18 @@ invariant_of-self-2 c =
     advanced_right c.self.inside.broker c.step.new.self c.args.queue.0 c.args.client c.self.inside.kept c.hear.new.self
     c.step.result c.self.invariant c.step.ensures.promises.well
     (record {
-      world = c.step.ensures.world;
-      result_is = c.step.ensures.result;
-      full = c.step.ensures.full;
-      room = c.step.ensures.room;
-      spare = c.step.ensures.spare;
+      world = c.step.ensures.act.world;
+      result_is = c.step.ensures.act.answers;
+      full = c.step.ensures.act.full;
+      room = c.step.ensures.act.room;
+      spare = c.step.ensures.act.spare;
       stays = c.step.ensures.stays;
       others = record {
-        worlds = c.step.ensures.others;
-        rooms = c.step.ensures.other_rooms;
-        directory = c.step.ensures.directory;
-        creation = c.step.ensures.creation;
-        recovery = c.step.ensures.recovery;
+        worlds = c.step.ensures.beside.others;
+        rooms = c.step.ensures.beside.other_rooms;
+        directory = c.step.ensures.beside.directory;
+        creation = c.step.ensures.beside.creation;
+        recovery = c.step.ensures.beside.recovery;
       };
     })
     (kept_heard c.self.inside.kept c.hear.new.self c.args.queue.0 c.args.client.0 c.in_ok-number.number _ c.step.result
@@ -105,18 +105,18 @@ returns-clause-reply c =
   where
     made : IsAdvanced c.self.inside.broker c.step.new.self c.args.queue.0 c.args.client c.step.result
     made = record {
-      world = c.step.ensures.world;
-      result_is = c.step.ensures.result;
-      full = c.step.ensures.full;
-      room = c.step.ensures.room;
-      spare = c.step.ensures.spare;
+      world = c.step.ensures.act.world;
+      result_is = c.step.ensures.act.answers;
+      full = c.step.ensures.act.full;
+      room = c.step.ensures.act.room;
+      spare = c.step.ensures.act.spare;
       stays = c.step.ensures.stays;
       others = record {
-        worlds = c.step.ensures.others;
-        rooms = c.step.ensures.other_rooms;
-        directory = c.step.ensures.directory;
-        creation = c.step.ensures.creation;
-        recovery = c.step.ensures.recovery;
+        worlds = c.step.ensures.beside.others;
+        rooms = c.step.ensures.beside.other_rooms;
+        directory = c.step.ensures.beside.directory;
+        creation = c.step.ensures.beside.creation;
+        recovery = c.step.ensures.beside.recovery;
       };
     }
 
@@ -147,18 +147,18 @@ returns-clause-goes_on c =
     (advanced_on c.self.inside.broker c.step.new.self c.args.queue.0 c.args.client c.self.inside.kept c.hear.new.self
     c.step.result c.self.invariant
     (record {
-      world = c.step.ensures.world;
-      result_is = c.step.ensures.result;
-      full = c.step.ensures.full;
-      room = c.step.ensures.room;
-      spare = c.step.ensures.spare;
+      world = c.step.ensures.act.world;
+      result_is = c.step.ensures.act.answers;
+      full = c.step.ensures.act.full;
+      room = c.step.ensures.act.room;
+      spare = c.step.ensures.act.spare;
       stays = c.step.ensures.stays;
       others = record {
-        worlds = c.step.ensures.others;
-        rooms = c.step.ensures.other_rooms;
-        directory = c.step.ensures.directory;
-        creation = c.step.ensures.creation;
-        recovery = c.step.ensures.recovery;
+        worlds = c.step.ensures.beside.others;
+        rooms = c.step.ensures.beside.other_rooms;
+        directory = c.step.ensures.beside.directory;
+        creation = c.step.ensures.beside.creation;
+        recovery = c.step.ensures.beside.recovery;
       };
     })
     (kept_heard c.self.inside.kept c.hear.new.self c.args.queue.0 c.args.client.0 c.in_ok-number.number _ c.step.result

@@ -31,8 +31,8 @@ returns-in_err-start-clause-begun c =
     begun_if_runs old new c.args.queue.0 c.args.client c.unwrap_or.result c.args.call c.start.result
     (answer_to c.args.self.now c.args.queue.0 c.args.client c.args.number) runs
     (started_by old.broker new.broker c.args.queue.0 c.args.client c.unwrap_or.result c.args.call c.start.result
-    c.start.ensures.world c.start.ensures.result c.start.ensures.full c.start.ensures.room c.start.ensures.spare
-    (record { worlds = c.start.ensures.others; rooms = c.start.ensures.other_rooms; directory = c.start.ensures.directory; creation = c.start.ensures.creation; recovery = c.start.ensures.recovery }))
+    c.start.ensures.act.world c.start.ensures.act.answers c.start.ensures.act.full c.start.ensures.act.room c.start.ensures.act.spare
+    (record { worlds = c.start.ensures.beside.others; rooms = c.start.ensures.beside.other_rooms; directory = c.start.ensures.beside.directory; creation = c.start.ensures.beside.creation; recovery = c.start.ensures.beside.recovery }))
     refl in
     let answers : Result (Option Reply) Refusal = answer_to c.args.self.now c.args.queue.0 c.args.client c.args.number in
     subst (λ (s : Sessioned). IsBegunBy s new c.args.queue.0 c.args.client (number_or_zero c.args.number) c.args.call c.from_residual-in_err-start.result answers) c.self.view_is
@@ -47,7 +47,7 @@ returns-in_err-start-clause-goes_on c =
     (goes_on_kept old new refl
     (laid_out_act (λ w. after_start (is_no_memory c.start.result) w c.args.client c.unwrap_or.result c.args.call)
     (λ w. (start_alike (is_no_memory c.start.result) w c.args.client c.unwrap_or.result c.args.call).0)
-    old.broker new.broker c.args.queue.0 c.args.client c.start.ensures.world c.start.ensures.others))
+    old.broker new.broker c.args.queue.0 c.args.client c.start.ensures.act.world c.start.ensures.beside.others))
 
 pub returns-clause-goes_on : goal.returns-clause-goes_on
 returns-clause-goes_on c =
@@ -57,7 +57,7 @@ returns-clause-goes_on c =
     (goes_on_kept old new refl
     (laid_out_act (λ w. after_start (is_no_memory c.start.result) w c.args.client c.unwrap_or.result c.args.call)
     (λ w. (start_alike (is_no_memory c.start.result) w c.args.client c.unwrap_or.result c.args.call).0)
-    old.broker new.broker c.args.queue.0 c.args.client c.start.ensures.world c.start.ensures.others))
+    old.broker new.broker c.args.queue.0 c.args.client c.start.ensures.act.world c.start.ensures.beside.others))
 
 pub returns-in_err-reply-clause-promises : goal.returns-in_err-reply-clause-promises
 returns-in_err-reply-clause-promises c = numbers_shown _ _ c.self.invariant c.self.view_is
@@ -76,13 +76,13 @@ invariant_of-self c =
     started_right c.self.inside.broker c.start.new.self c.args.queue.0 c.args.client c.unwrap_or.result c.args.call
     c.self.inside.kept (as_begun c.start.result) c.self.invariant c.start.ensures.promises.well
     (started_by c.self.inside.broker c.start.new.self c.args.queue.0 c.args.client c.unwrap_or.result c.args.call
-    c.start.result c.start.ensures.world c.start.ensures.result c.start.ensures.full c.start.ensures.room c.start.ensures.spare
+    c.start.result c.start.ensures.act.world c.start.ensures.act.answers c.start.ensures.act.full c.start.ensures.act.room c.start.ensures.act.spare
     (record {
-      worlds = c.start.ensures.others;
-      rooms = c.start.ensures.other_rooms;
-      directory = c.start.ensures.directory;
-      creation = c.start.ensures.creation;
-      recovery = c.start.ensures.recovery;
+      worlds = c.start.ensures.beside.others;
+      rooms = c.start.ensures.beside.other_rooms;
+      directory = c.start.ensures.beside.directory;
+      creation = c.start.ensures.beside.creation;
+      recovery = c.start.ensures.beside.recovery;
     }))
 
 pub returns-in_err-start-clause-promises : goal.returns-in_err-start-clause-promises
@@ -93,13 +93,13 @@ invariant_of-self-2 c =
     started_right c.self.inside.broker c.start.new.self c.args.queue.0 c.args.client c.unwrap_or.result c.args.call
     c.self.inside.kept (as_begun c.start.result) c.self.invariant c.start.ensures.promises.well
     (started_by c.self.inside.broker c.start.new.self c.args.queue.0 c.args.client c.unwrap_or.result c.args.call
-    c.start.result c.start.ensures.world c.start.ensures.result c.start.ensures.full c.start.ensures.room c.start.ensures.spare
+    c.start.result c.start.ensures.act.world c.start.ensures.act.answers c.start.ensures.act.full c.start.ensures.act.room c.start.ensures.act.spare
     (record {
-      worlds = c.start.ensures.others;
-      rooms = c.start.ensures.other_rooms;
-      directory = c.start.ensures.directory;
-      creation = c.start.ensures.creation;
-      recovery = c.start.ensures.recovery;
+      worlds = c.start.ensures.beside.others;
+      rooms = c.start.ensures.beside.other_rooms;
+      directory = c.start.ensures.beside.directory;
+      creation = c.start.ensures.beside.creation;
+      recovery = c.start.ensures.beside.recovery;
     }))
 
 pub returns-clause-promises : goal.returns-clause-promises
@@ -141,12 +141,12 @@ returns-in_err-start-clause-stale c = λ is.
     (subst (λ (n : ℕ). IsStarted c.self.inside.broker c.start.new.self c.args.queue.0 c.args.client n c.args.call
     (as_begun c.start.result)) number
     (started_by c.self.inside.broker c.start.new.self c.args.queue.0 c.args.client c.unwrap_or.result c.args.call
-    c.start.result c.start.ensures.world c.start.ensures.result c.start.ensures.full c.start.ensures.room c.start.ensures.spare
+    c.start.result c.start.ensures.act.world c.start.ensures.act.answers c.start.ensures.act.full c.start.ensures.act.room c.start.ensures.act.spare
     (record {
-      worlds = c.start.ensures.others;
-      rooms = c.start.ensures.other_rooms;
-      directory = c.start.ensures.directory;
-      creation = c.start.ensures.creation;
-      recovery = c.start.ensures.recovery;
+      worlds = c.start.ensures.beside.others;
+      rooms = c.start.ensures.beside.other_rooms;
+      directory = c.start.ensures.beside.directory;
+      creation = c.start.ensures.beside.creation;
+      recovery = c.start.ensures.beside.recovery;
     })))
     (result ∙ is)
