@@ -1,0 +1,69 @@
+#!/usr/bin/env python3
+"""house.py [TOP]: counts of the repository at TOP (here): lines, clauses, citations of lower crates' lemmas, depth.
+
+A clause is joined over its lines; its length is that of the joined text. Printed, not tested.
+"""
+import pathlib
+import re
+import sys
+
+top = pathlib.Path(sys.argv[1] if len(sys.argv) > 1 else pathlib.Path(__file__).parent.parent)
+crates = {}
+for line in (top / "crates.txt").read_text().splitlines():
+    name, colon, below = line.split("#")[0].partition(":")
+    if colon:
+        crates[name.strip()] = below.split()
+
+
+def is_product(crate):
+    return not crate.startswith(("test_", "bench_", "demo_"))
+
+
+def texts(crate, part, kind):
+    return [path.read_text() for path in sorted((top / "crates" / crate / part).rglob(f"*.{kind}"))]
+
+
+def lines(part, kind, product):
+    return sum(text.count("\n") for it in crates if is_product(it) == product for text in texts(it, part, kind))
+
+
+def clauses(text):
+    """The clauses of a source file, each joined to one line."""
+    found, open_braces = [], 0
+    for line in text.splitlines():
+        starts = re.match(r"\s*(requires|ensures)\b", line)
+        if starts:
+            found.append("")
+        if starts or open_braces:
+            found[-1] = f"{found[-1]} {line.strip()}".strip()
+            open_braces += line.count("{") - line.count("}")
+    return found
+
+
+def depth(crate):
+    return 1 + max((depth(it) for it in crates[crate] if it in crates), default=0)
+
+
+all_clauses = [it for crate in crates for text in texts(crate, "src", "rt") for it in clauses(text)]
+cited = [
+    (crate, module)
+    for crate in crates
+    for text in texts(crate, "proofs", "antt")
+    for module in re.findall(r"^use Rattle\.(\w+\.proofs[\w.]*)\.\{", text, re.M)
+    if module.split(".")[0] in crates and module.split(".")[0] != crate
+]
+answers = sum(
+    path.read_text().count("\n")
+    for crate in crates
+    for path in (top / "crates" / crate / "proofs").rglob("Answers.antt")
+)
+print("lines of src, product:", lines("src", "rt", True))
+print("lines of src, tests, bench and demo:", lines("src", "rt", False))
+print("lines of specs:", lines("specs", "antt", True) + lines("specs", "antt", False))
+print("lines of proofs:", lines("proofs", "antt", True) + lines("proofs", "antt", False), "of which answers:", answers)
+print("clauses:", len(all_clauses))
+for most in (120, 200, 300):
+    print(f"clauses over {most} columns:", sum(len(it) > most for it in all_clauses))
+print("longest clause:", max(map(len, all_clauses)))
+print("citations of lower crates' lemmas:", len(cited), "of modules:", len({module for _, module in cited}))
+print("crates:", len(crates), "depth:", max(map(depth, crates)))
