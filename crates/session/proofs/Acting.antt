@@ -14,6 +14,7 @@ use Rattle.interleave.specs.Holds.{Holds}
 use Rattle.interleave.specs.State.{State, after_step, is_down as is_world_down, step_result, step_result_with}
 use Rattle.interleave.specs.Verdicts.{number_of_call, number_under_way, taken_as, IsLast, IsRecalled}
 use Rattle.interleave.proofs.HoldsKept.{waiting_is}
+use Rattle.named.specs.Acting.{IsSameBeside}
 use Rattle.named.specs.Brokers.{Brokered, IsWell, admission, answer_at, world_at}
 use Rattle.named.proofs.Stays.{step_alike}
 use Rattle.arena.specs.Shape.{Shape}
@@ -24,7 +25,7 @@ use Rattle.session.proofs.Going.{answers_go_on}
 use Rattle.session.proofs.Numbering.{answered_by_floor}
 use Rattle.named.proofs.Kept.{some_is}
 use Rattle.interleave.proofs.verdicts.Last.{answered}
-use Rattle.session.specs.Requests.{AreOthersAlike, IsAdvanced, call_number, last_after, numbered}
+use Rattle.session.specs.Requests.{IsAdvanced, call_number, last_after, numbered}
 use Rattle.session.specs.Sessions.{IsLogClient, IsRight, IsSlotRight, Sessioned, is_up, kept_in}
 use Rattle.session.proofs.Calling.{IsAnsweredAt, IsKeptNew, admitted_up, answered_at, right_answered, right_by_client, right_if_durable, right_stepped, up_is}
 use Rattle.session.proofs.Downs.{up_same}
@@ -46,7 +47,7 @@ right_alike up (Some w) f g same is = λ log.
 
 module _ (old new : Brokered) (slot : ℕ) (was is : List (List (Option Verdict))) where
   -- where only the queue of one slot acted, and what is kept for it alone may have changed
-  pub right_beside : IsWell new → AreOthersAlike old new slot
+  pub right_beside : IsWell new → IsSameBeside slot old new
       → ((at : ℕ) → at ≢ slot → (c : ℕ) → kept_in is at c ≡ kept_in was at c)
       → IsRight (record { broker = old; kept = was })
       → IsSlotRight (is_up old) (world_at new slot) (kept_in is slot) → IsRight (record { broker = new; kept = is })
@@ -63,7 +64,7 @@ module _ (old new : Brokered) (slot : ℕ) (was is : List (List (Option Verdict)
           subst (λ (n : ℕ). IsSlotRight (is_up old) (world_at new n) (kept_in is n)) (sym same) here
       go at (inr apart) =
           right_alike (is_up old) (world_at new at) (kept_in was at) (kept_in is at) (beside at apart)
-          (right_if_quiet (is_up old) (world_at old at) (world_at new at) (kept_in was at) (others.worlds at apart)
+          (right_if_quiet (is_up old) (world_at old at) (world_at new at) (kept_in was at) (others.others at apart)
           (right.slots at))
 
   -- what is kept for one client alone may have changed
@@ -120,9 +121,9 @@ module _ (old new : Brokered) (slot : ℕ) (client : Client) (was is : List (Lis
       → IsRight before → IsWell new → IsAdvanced old new slot client result
       → ((at c : ℕ) → kept_in is at c ≡ kept_in was at c) → IsRight (record { broker = new; kept = is })
   unanswered_right result none right well made same =
-      right_beside old new slot was is well made.others (λ at apart c. same at c) right
+      right_beside old new slot was is well made.beside (λ at apart c. same at c) right
       (right_alike (is_up old) (world_at new slot) (kept_in was slot) (kept_in is slot) (same slot)
-      (right_by_client (λ w. after_step full w client) old new slot client (kept_in was slot) made.world each
+      (right_by_client (λ w. after_step full w client) old new slot client (kept_in was slot) made.act.world each
       (right.slots slot)))
     where
       full : Bool
@@ -135,7 +136,7 @@ module _ (old new : Brokered) (slot : ℕ) (client : Client) (was is : List (Lis
           (up_there old right.well slot w here (admitted_up old client admitted))
           (λ reply answers.
           none reply
-          (made.result_is
+          (made.act.answers
           ∙ open_answer (λ v. step_result full v client) old slot client
           (record { world = w; here = here; admitted = admitted }) ∙ answers))
           (kept_in was slot) r
@@ -156,18 +157,18 @@ module _ (old new : Brokered) (slot : ℕ) (client : Client) (was is : List (Lis
       (subst (IsKeptNow was is slot client.0)
       (last_same (call_number (world_at old slot) client) (Ok None) (kept_in was slot client.0) (λ reply e. absurd (cc (e)))) kept))
   advanced_right (Ok (Some reply)) right well made kept =
-      right_beside old new slot was is well made.others (kept_beside old new slot was is client _ kept) right
+      right_beside old new slot was is well made.beside (kept_beside old new slot was is client _ kept) right
       (subst (λ (b : Bool). IsSlotRight b (world_at new slot) (kept_in is slot)) (sym (up_is old at.up))
       (subst (λ (o : Option State). IsSlotRight true o (kept_in is slot)) (sym now) (by_kind w.shape.kind refl)))
     where
       at : IsAnsweredAt (λ w. step_result false w client) old slot client (Some reply)
-      at = answered_at (λ w. step_result false w client) old slot client (Some reply) (sym made.result_is)
+      at = answered_at (λ w. step_result false w client) old slot client (Some reply) (sym made.act.answers)
 
       w : State
       w = at.world
 
       now : world_at new slot ≡ Some (after_step false w client)
-      now = made.world
+      now = made.act.world
           ∙ open_after (λ v. after_step false v client) old slot client
           (record { world = w; here = at.here; admitted = at.admitted })
 
@@ -206,13 +207,13 @@ module _ (old new : Brokered) (slot : ℕ) (client : Client) (was is : List (Lis
       after = record { broker = new; kept = is }
 
       at : IsAnsweredAt (λ w. step_result false w client) old slot client (Some reply)
-      at = answered_at (λ w. step_result false w client) old slot client (Some reply) (sym made.result_is)
+      at = answered_at (λ w. step_result false w client) old slot client (Some reply) (sym made.act.answers)
 
       w : State
       w = at.world
 
       now : world_at new slot ≡ Some (after_step false w client)
-      now = made.world
+      now = made.act.world
           ∙ open_after (λ v. after_step false v client) old slot client
           (record { world = w; here = at.here; admitted = at.admitted })
 
@@ -239,7 +240,7 @@ module _ (old new : Brokered) (slot : ℕ) (client : Client) (was is : List (Lis
   advanced_on result right made kept = record {
     clients = client_stays old new
         (laid_out_act (λ v. after_step (is_no_memory result) v client)
-        (λ v. (step_alike (is_no_memory result) v client).0) old new slot client made.world made.others.worlds);
+        (λ v. (step_alike (is_no_memory result) v client).0) old new slot client made.act.world made.beside.others);
     answers = answers_go_on old new was is slot client kept.others (λ number reply its answers.
         subst (λ (v : Option Verdict). IsSettled v number reply) (sym kept.here) (stays result made number reply its answers));
   }
@@ -257,7 +258,7 @@ module _ (old new : Brokered) (slot : ℕ) (client : Client) (was is : List (Lis
           answers
       stays (Ok (Some reply)) made k own its answers =
           let at : IsAnsweredAt (λ w. step_result false w client) old slot client (Some reply) =
-          answered_at (λ w. step_result false w client) old slot client (Some reply) (sym made.result_is) in
+          answered_at (λ w. step_result false w client) old slot client (Some reply) (sym made.act.answers) in
           let same : its.world ≡ at.world = some_is (world_at old slot) its.world at.world its.here at.here in
           let log : at.world.shape.kind ≡ log_kind = ap (λ (v : State). v.shape.kind) (sym same) ∙ its.log in
           let holds : Holds at.world = holds_there old right.well slot at.world at.here in

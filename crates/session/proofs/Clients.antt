@@ -7,11 +7,12 @@ use Rattle.words.specs.declared.call.Reply.{Reply}
 use Rattle.words.specs.declared.refusal.Refusal.{Refusal}
 use Rattle.arena.specs.declared.broker.TheConstants.{SLOTS}
 use Rattle.interleave.specs.State.{State, after_alone, after_start}
+use Rattle.named.specs.Acting.{IsSameBeside}
 use Rattle.named.specs.Brokers.{Brokered, IsWell, admission, answer_at, quiet, world_after, world_at}
 use Rattle.named.specs.Slots.{acted}
 use Rattle.named.proofs.Stays.{alone_alike, start_alike}
 use Rattle.session.specs.Keeping.{IsSettled, IsKeptNow, SessionGoesOn}
-use Rattle.session.specs.Requests.{AreOthersAlike, IsRun}
+use Rattle.session.specs.Requests.{IsRun}
 use Rattle.session.specs.Sessions.{Sessioned, kept_at}
 use Rattle.session.proofs.Calling.{answered_at}
 use Rattle.session.proofs.Going.{answers_go_on}
@@ -47,8 +48,8 @@ laid_out_run old new slot client number call (Err refusal) (inr refused, room, o
     old slot client w (world_at new slot) here refused.1
 
 pub others_run : (old new : Brokered) (slot : ℕ) (client : Client) (number : ℕ) (call : Call) (result : Result Reply Refusal)
-    → IsRun old new slot client number call result → AreOthersAlike old new slot
-others_run old new slot client number call (Ok reply) ran = ran.others
+    → IsRun old new slot client number call result → IsSameBeside slot old new
+others_run old new slot client number call (Ok reply) ran = ran.beside
 others_run old new slot client number call (Err refusal) ran = ran.2
 
 -- every queue is laid out as it was where the queue of one slot alone acted, and its layout stays

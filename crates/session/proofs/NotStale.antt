@@ -152,7 +152,7 @@ module _ (s : Sessioned) (keeps : KeepsNumbers s) (slot : ℕ) (client : Client)
       above_greatest (is_no_memory result)
       (begun_stale (start_result (is_no_memory result) w client number)
       (sym (open_answer (λ v. as_begun (start_result (is_no_memory result) v client number)) s.broker slot client
-      (record { world = w; here = at.here; admitted = at.admitted })) ∙ sym made.result_is ∙ is))
+      (record { world = w; here = at.here; admitted = at.admitted })) ∙ sym made.act.answers ∙ is))
 
 -- no start of a durable queue is refused so
 durable_start : (full : Bool) (w : State) (client : Client) → w.shape.kind ≡ durable_kind → IsOfKind w.shape.kind w.queue
@@ -195,7 +195,7 @@ begun_above s keeps slot client None runs new call result made is =
     (holds_there s.broker keeps.broker.well slot at.world at.here).kind
     (begun_stale (start_result (is_no_memory result) at.world client 0)
     (sym (open_answer (λ v. as_begun (start_result (is_no_memory result) v client 0)) s.broker slot client
-    (record { world = at.world; here = at.here; admitted = at.admitted })) ∙ sym made.result_is ∙ is)))
+    (record { world = at.world; here = at.here; admitted = at.admitted })) ∙ sym made.act.answers ∙ is)))
 
 -- no request is refused so that does not run: by its client and its queue
 admission_says : (b : Brokered) (client : Client) → admission b client ≡ Err StaleNumber → ⊥

@@ -5,10 +5,11 @@ use Rattle.words.specs.declared.refusal.Refusal.{Refusal}
 use Rattle.words.specs.declared.refusal.Refusal.TheVariants.{NoClient, NotReady}
 use Rattle.arena.specs.Shape.{Shape}
 use Rattle.interleave.specs.State.{State}
+use Rattle.named.specs.Acting.{IsSameBeside}
 use Rattle.named.specs.Brokers.{Brokered, IsWell, admission, answer_at, answer_if, world_after, world_at}
 use Rattle.named.specs.Slots.{acted, answered}
 use Rattle.named.specs.declared.recovery.BrokerRecovery.{BrokerRecovery}
-use Rattle.session.specs.Requests.{AreOthersAlike, IsOpenTo}
+use Rattle.session.specs.Requests.{IsOpenTo}
 use Rattle.session.proofs.Worlds.{clients_there}
 
 -- a client that was admitted still is, while the queue of a slot is laid out in the same way and the broker is ready
@@ -24,14 +25,19 @@ still_admitted old new client slot w v well next here there shape recovery ok =
     by n recovery = if nat_lt client.0 n then (if is_some recovery then Err NotReady else Ok tt) else Err NoClient
 
 -- where only one slot's queue acted, and again
-pub alike_further : (old now new : Brokered) (slot : ℕ) → AreOthersAlike old now slot → AreOthersAlike now new slot
-    → AreOthersAlike old new slot
+pub alike_further : (old now new : Brokered) (slot : ℕ) → IsSameBeside slot old now → IsSameBeside slot now new
+    → IsSameBeside slot old new
 alike_further old now new slot one other = record {
-  worlds = λ at ne. other.worlds at ne ∙ one.worlds at ne;
-  rooms = λ at ne. other.rooms at ne ∙ one.rooms at ne;
+  other_rooms = λ at ne. other.other_rooms at ne ∙ one.other_rooms at ne;
+  others = λ at ne. other.others at ne ∙ one.others at ne;
   directory = other.directory ∙ one.directory;
   creation = other.creation ∙ one.creation;
   recovery = other.recovery ∙ one.recovery;
+  directory_words = record {
+    room = other.directory_words.room;
+    cached = λ word below. other.directory_words.cached word below ∙ one.directory_words.cached word below;
+    kept = λ word below. other.directory_words.kept word below ∙ one.directory_words.kept word below;
+  };
 }
 
 -- what an act of a client comes to that is not refused before its queue is looked at

@@ -8,17 +8,21 @@ use Rattle.words.specs.declared.call.Reply.{Reply}
 use Rattle.words.specs.declared.limits.TheConstants.{MAX_STEPS_ALONE}
 use Rattle.words.specs.declared.refusal.Refusal.{Refusal}
 use Rattle.words.specs.declared.refusal.Refusal.TheVariants.{NoMemory, NoRoom}
+use Rattle.persist.specs.Memory.{Words}
+use Rattle.directory.specs.UnderWay.{HaveSameDirectory}
 use Rattle.protocol.specs.Machine.{begun_of, call_begun}
 use Rattle.protocol.specs.declared.UnderWay.{UnderWay}
 use Rattle.interleave.specs.Calls.{idle_result, is_no_memory, waiting_result}
 use Rattle.interleave.specs.State.{State, IsAnsweredAlone, after_alone, after_bump_load, after_call_began, after_start, is_down, machine, number_of_idle, number_to_start, start_result, start_result_with, start_with, used_by}
 use Rattle.interleave.specs.declared.queue.Queue.{Queue}
 use Rattle.interleave.proofs.AloneLaws.{get_set}
-use Rattle.interleave.specs.Rules.{waiting_in}
+use Rattle.interleave.specs.Rules.{starting, waiting_in}
+use Rattle.named.specs.Acting.{IsActAt, IsSameBeside}
 use Rattle.named.specs.Brokers.{Brokered, IsWell, admission, answer_at, quiet, room_at, world_after, world_at}
 use Rattle.named.specs.Slots.{IfWorld, acted}
+use Rattle.named.proofs.Kept.{directory_as_it_was}
 use Rattle.named.proofs.Stays.{start_alike}
-use Rattle.session.specs.Requests.{AreOthersAlike, IsOpenTo, IsRun, IsServed}
+use Rattle.session.specs.Requests.{IsOpenTo, IsRun, IsServed}
 use Rattle.session.proofs.Opens.{alike_further, open_after, open_answer, still_admitted}
 
 -- what a start found: a ready queue and a client with no call under way
@@ -125,26 +129,25 @@ pub record IsRoomMade (old made : Brokered) (slot : ℕ) : Type 0 where
   pub directory : made.directory ≡ old.directory
   pub creation : made.creation ≡ old.creation
   pub recovery : made.recovery ≡ old.recovery
+  pub words : made.words ≡ old.words
+  pub was_well : IsWell old
   pub well : IsWell made
 
 -- a start was tried then
 pub record IsStartTried (made now : Brokered) (slot : ℕ) (client : Client) (number : ℕ) (call : Call) (result : Result Unit Refusal)
     : Type 0 where
-  pub world : world_at now slot ≡ world_after (λ w. after_start (is_no_memory result) w client number call) made slot client
-  pub result_is : result ≡ answer_at (λ w. start_result (is_no_memory result) w client number) made slot client
-  pub full : is_no_memory result ≡ true → room_at made slot ≡ 0
-  pub room : room_at made slot ≤ room_at now slot + 1
-  pub spare : IfErr result (λ e. room_at made slot ≤ room_at now slot)
-  pub others : AreOthersAlike made now slot
+  pub act : IsActAt (starting client number call) slot client made result now
+  pub beside : IsSameBeside slot made now
   pub well : IsWell now
 
-made_alike : (old made : Brokered) (slot : ℕ) → IsRoomMade old made slot → AreOthersAlike old made slot
+made_alike : (old made : Brokered) (slot : ℕ) → IsRoomMade old made slot → IsSameBeside slot old made
 made_alike old made slot m = record {
-  worlds = λ at ne. ap quiet (m.worlds at);
-  rooms = m.rooms;
+  other_rooms = m.rooms;
+  others = λ at ne. ap quiet (m.worlds at);
   directory = m.directory;
   creation = m.creation;
   recovery = m.recovery;
+  directory_words = subst (λ (ws : Words). HaveSameDirectory old.words ws) (sym m.words) (directory_as_it_was old old m.was_well refl);
 }
 
 module _ (old made now : Brokered) (slot : ℕ) (client : Client) (number : ℕ) (call : Call) (opened : IsOpenTo old slot client)
@@ -158,23 +161,23 @@ module _ (old made now : Brokered) (slot : ℕ) (client : Client) (number : ℕ)
   admitted_then = record { world = opened.world; here = m.worlds slot ∙ opened.here; admitted = ok_then }
 
   not_refused_memory : is_no_memory result ≡ false
-  not_refused_memory = not_full result (room_at made slot) tried.full (omega (arith, m.room))
+  not_refused_memory = not_full result (room_at made slot) tried.act.full (omega (arith, m.room))
 
-  others_alike : AreOthersAlike old now slot
-  others_alike = alike_further old made now slot (made_alike old made slot m) tried.others
+  others_alike : IsSameBeside slot old now
+  others_alike = alike_further old made now slot (made_alike old made slot m) tried.beside
 
   pub start_was_refused : (refusal : Refusal) → result ≡ Err refusal → IsRun old now slot client number call (Err refusal)
   start_was_refused refusal is = (
-    inr (refused_here old made now slot client number call opened admitted_then refl result tried.result_is tried.world not_refused_memory refusal is),
-    omega (arith, m.more, subst (λ (r : Result Unit Refusal). IfErr r (λ e. room_at made slot ≤ room_at now slot)) is tried.spare),
+    inr (refused_here old made now slot client number call opened admitted_then refl result tried.act.answers tried.act.world not_refused_memory refusal is),
+    omega (arith, m.more, subst (λ (r : Result Unit Refusal). IfErr r (λ e. room_at made slot ≤ room_at now slot)) is tried.act.spare),
     others_alike,
   )
 
   pub was_started : result ≡ Ok tt → start_result false opened.world client number ≡ Ok tt
-  was_started is = started_here old made now slot client number call opened admitted_then refl result tried.result_is tried.world not_refused_memory ∙ is
+  was_started is = started_here old made now slot client number call opened admitted_then refl result tried.act.answers tried.act.world not_refused_memory ∙ is
 
   pub left : world_at now slot ≡ Some (after_start false opened.world client number call)
-  left = left_here old made now slot client number call opened admitted_then refl result tried.result_is tried.world not_refused_memory
+  left = left_here old made now slot client number call opened admitted_then refl result tried.act.answers tried.act.world not_refused_memory
 
   -- the call goes on where its queue has room for one more act
   pub never_refused : {T : Type 0} (ran : Result T Refusal) (refusal : Refusal) → result ≡ Ok tt → ran ≡ Err refusal
@@ -182,14 +185,14 @@ module _ (old made now : Brokered) (slot : ℕ) (client : Client) (number : ℕ)
       → (is_no_memory ran ≡ true → room_at now slot ≡ 0) → ⊥
   never_refused ran refusal ok is (inl memory) full =
       let none : room_at now slot ≡ 0 = full (ap is_no_memory (is ∙ ap Err memory)) in
-      omega (arith, m.room, tried.room, none)
+      omega (arith, m.room, tried.act.room, none)
   never_refused ran refusal ok is (inr refused) full =
       let v : State = after_start false opened.world client number call in
       let open_now : IsOpenTo now slot client = record {
         world = v;
         here = left;
         admitted = still_admitted old now client slot opened.world v well tried.well opened.here left
-            (start_alike false opened.world client number call).0 (tried.others.recovery ∙ m.recovery) opened.admitted;
+            (start_alike false opened.world client number call).0 (tried.beside.recovery ∙ m.recovery) opened.admitted;
       } in
       goes_on_once_started opened.world client number call refusal (was_started ok)
       (sym (open_answer (λ w. waiting_in w client) now slot client open_now) ∙ refused)
@@ -197,7 +200,7 @@ module _ (old made now : Brokered) (slot : ℕ) (client : Client) (number : ℕ)
   pub served : (new : Brokered) (reply : Reply) (steps : ℕ) → result ≡ Ok tt → steps ≤ MAX_STEPS_ALONE
       → IfWorld (world_at now slot) (λ w. IsAnsweredAlone w client steps reply)
       → world_at new slot ≡ acted (λ w. after_alone steps w client) (world_at now slot)
-      → room_at now slot ≤ room_at new slot + 1 → AreOthersAlike now new slot
+      → room_at now slot ≤ room_at new slot + 1 → IsSameBeside slot now new
       → IsServed old new slot client number call reply
   served new reply steps ok few answered is room others = record {
     world = opened.world;
@@ -207,6 +210,6 @@ module _ (old made now : Brokered) (slot : ℕ) (client : Client) (number : ℕ)
     few = few;
     answered = subst (λ (o : Option State). IfWorld o (λ w. IsAnsweredAlone w client steps reply)) left answered;
     is = is ∙ ap (acted (λ w. after_alone steps w client)) left;
-    room = omega (arith, m.more, tried.room, room);
-    others = alike_further old now new slot others_alike others;
+    room = omega (arith, m.more, tried.act.room, room);
+    beside = alike_further old now new slot others_alike others;
   }

@@ -26,7 +26,7 @@ use Rattle.named.proofs.Stays.{alone_alike, start_alike}
 use Rattle.session.specs.Keeping.{IsKeptNow}
 use Rattle.session.specs.Numbers.{by_last, by_number, by_outcome, by_reply, missed}
 use Rattle.session.specs.Promises.{IsReplyAt, IsReplyIfNumbered, IsReplyIn}
-use Rattle.session.specs.Requests.{AreOthersAlike, IsRun, IsServed, IsStarted, IsUnserved, answer_to, is_kind, queue_admission, request_admission, request_answer}
+use Rattle.session.specs.Requests.{IsRun, IsServed, IsStarted, IsUnserved, answer_to, is_kind, queue_admission, request_admission, request_answer}
 use Rattle.session.specs.Sessions.{IsRight, IsSlotRight, Sessioned, is_up, kept_at, kept_in}
 use Rattle.session.proofs.Acting.{kept_beside, kept_new, right_beside}
 use Rattle.session.proofs.Calling.{IsAnsweredAt, admitted_has, admitted_up, answered_at, right_by_client, right_if_durable, right_served, right_started, up_is}
@@ -60,7 +60,7 @@ module _ (old new : Brokered) (slot : ℕ) (client : Client) (number : ℕ) (cal
   abbrev after : Sessioned
   after = record { broker = new; kept = kept }
 
-  begun_right : (full : Bool) → IsRight before → IsWell new → AreOthersAlike old new slot
+  begun_right : (full : Bool) → IsRight before → IsWell new → IsSameBeside slot old new
       → world_at new slot ≡ world_after (λ w. after_start full w client number call) old slot client → IsRight after
   begun_right full right well others world =
       right_beside old new slot kept kept well others (λ at apart c. refl) right
@@ -72,10 +72,10 @@ module _ (old new : Brokered) (slot : ℕ) (client : Client) (number : ℕ) (cal
 
   pub started_right : (result : Result (Option Reply) Refusal) → IsRight before → IsWell new
       → IsStarted old new slot client number call result → IsRight after
-  started_right result right well made = begun_right (is_no_memory result) right well made.others made.world
+  started_right result right well made = begun_right (is_no_memory result) right well made.beside made.act.world
 
   -- nothing changed but room
-  same_right : IsRight before → IsWell new → AreOthersAlike old new slot → world_at new slot ≡ world_at old slot
+  same_right : IsRight before → IsWell new → IsSameBeside slot old new → world_at new slot ≡ world_at old slot
       → IsRight after
   same_right right well others same =
       right_beside old new slot kept kept well others (λ at apart c. refl) right
@@ -83,7 +83,7 @@ module _ (old new : Brokered) (slot : ℕ) (client : Client) (number : ℕ) (cal
 
   pub unserved_right : (refusal : Refusal) → IsRight before → IsWell new
       → IsUnserved old new slot client number call refusal × (room_at old slot ≤ room_at new slot)
-      × AreOthersAlike old new slot → IsRight after
+      × IsSameBeside slot old new → IsRight after
   unserved_right refusal right well (inl none, room, others) = same_right right well others (none.2 slot)
   unserved_right refusal right well (inr refused, room, others) = begun_right false right well others refused.1
 
@@ -126,7 +126,7 @@ module _ (old new : Brokered) (slot : ℕ) (client : Client) (number : ℕ) (cal
       → ((at : ℕ) → at ≢ slot → (c : ℕ) → kept_in is at c ≡ kept_in was at c)
       → IsSlotRight true (Some done) (kept_in is slot) → IsRight (record { broker = new; kept = is })
   here_right is beside now =
-      right_beside old new slot was is well made.others beside right
+      right_beside old new slot was is well made.beside beside right
       (subst (λ (b : Bool). IsSlotRight b (world_at new slot) (kept_in is slot)) (sym (up_is old up))
       (subst (λ (o : Option State). IsSlotRight true o (kept_in is slot)) (sym made.is) now))
 

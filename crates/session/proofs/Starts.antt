@@ -9,9 +9,11 @@ use Rattle.words.specs.declared.refusal.Refusal.{Refusal}
 use Rattle.words.specs.declared.refusal.Refusal.TheVariants.{NoMemory}
 use Rattle.interleave.specs.Calls.{is_no_memory}
 use Rattle.interleave.specs.State.{State, after_start, start_result}
+use Rattle.interleave.specs.Rules.{starting}
+use Rattle.named.specs.Acting.{IsActAt, IsSameBeside}
 use Rattle.named.specs.Brokers.{Brokered, admission, answer_at, answer_if, room_at, world_after, world_at}
 use Rattle.named.specs.Slots.{answered}
-use Rattle.session.specs.Requests.{AreOthersAlike, IsBegunBy, IsStarted, as_begun, number_or_zero}
+use Rattle.session.specs.Requests.{IsBegunBy, IsStarted, as_begun, number_or_zero}
 use Rattle.session.specs.Sessions.{Sessioned}
 
 -- whether memory was refused is not a matter of what else would be answered
@@ -38,19 +40,18 @@ refused_begun p (Err refusal) is = is
 refused_begun p (Ok u) is = tt
 
 pub started_by : (old new : Brokered) (slot : ℕ) (client : Client) (number : ℕ) (call : Call) (r : Result Unit Refusal)
-    → world_at new slot ≡ world_after (λ w. after_start (is_no_memory r) w client number call) old slot client
-    → r ≡ answer_at (λ w. start_result (is_no_memory r) w client number) old slot client
-    → (is_no_memory r ≡ true → room_at old slot ≡ 0) → room_at old slot ≤ room_at new slot + 1
-    → IfErr r (λ e. room_at old slot ≤ room_at new slot) → AreOthersAlike old new slot
+    → IsActAt (starting client number call) slot client old r new → IsSameBeside slot old new
     → IsStarted old new slot client number call (as_begun r)
-started_by old new slot client number call r world result full room spare others = record {
-  world = world ∙ ap (λ x. world_after (λ w. after_start x w client number call) old slot client) (sym (same_memory r));
-  result_is = ap as_begun result ∙ begun_at (λ w. start_result (is_no_memory r) w client number) old slot client
-      ∙ ap (λ x. answer_at (λ w. as_begun (start_result x w client number)) old slot client) (sym (same_memory r));
-  full = λ e. full (sym (same_memory r) ∙ e);
-  room = room;
-  spare = refused_begun (λ e. room_at old slot ≤ room_at new slot) r spare;
-  others = others;
+started_by old new slot client number call r act beside = record {
+  act = record {
+    world = act.world ∙ ap (λ x. world_after (λ w. after_start x w client number call) old slot client) (sym (same_memory r));
+    answers = ap as_begun act.answers ∙ begun_at (λ w. start_result (is_no_memory r) w client number) old slot client
+        ∙ ap (λ x. answer_at (λ w. as_begun (start_result x w client number)) old slot client) (sym (same_memory r));
+    full = λ e. act.full (sym (same_memory r) ∙ e);
+    room = act.room;
+    spare = refused_begun (λ e. room_at old slot ≤ room_at new slot) r act.spare;
+  };
+  beside = beside;
 }
 
 pub number_is : (number : Option ℕ) → unwrap_or number 0 ≡ number_or_zero number

@@ -1,5 +1,5 @@
 -- A client's request: when it is refused, and what it makes of the broker where it runs.
-use Rattle.std.specs.Prelude.{◌≡◌, ◌≢◌, ◌+◌, ◌<◌, ◌≤◌, ◌⊎◌, ℕ, Bool, true, false, is_some, IfErr, Option, Some, None, Result, Ok, Err, if◌then◌else◌}
+use Rattle.std.specs.Prelude.{◌≡◌, ◌+◌, ◌<◌, ◌≤◌, ◌⊎◌, ℕ, Bool, true, false, is_some, Option, Some, None, Result, Ok, Err, if◌then◌else◌}
 use Rattle.words.specs.declared.call.Call.{Call}
 use Rattle.words.specs.declared.call.Client.{Client}
 use Rattle.words.specs.declared.call.Kind.{Kind}
@@ -9,10 +9,11 @@ use Rattle.words.specs.declared.limits.TheConstants.{MAX_STEPS_ALONE}
 use Rattle.words.specs.declared.refusal.Refusal.{Refusal}
 use Rattle.words.specs.declared.refusal.Refusal.TheVariants.{Busy, NoMemory, WrongKind}
 use Rattle.words.specs.declared.told.Verdict.{Verdict}
-use Rattle.interleave.specs.Calls.{is_no_memory}
-use Rattle.interleave.specs.State.{State, IsAnsweredAlone, after_alone, after_start, after_step, start_result, step_result}
+use Rattle.interleave.specs.Rules.{Rule, stepping}
+use Rattle.interleave.specs.State.{State, IsAnsweredAlone, after_alone, after_start, start_result}
 use Rattle.interleave.specs.Verdicts.{number_under_way, taken_as}
-use Rattle.named.specs.Brokers.{Brokered, admission, answer_at, answer_if, quiet, room_at, world_after, world_at}
+use Rattle.named.specs.Acting.{IsActAt, IsSameBeside}
+use Rattle.named.specs.Brokers.{Brokered, admission, answer_at, answer_if, room_at, world_after, world_at}
 use Rattle.session.specs.Numbers.{by_number}
 use Rattle.session.specs.Sessions.{Sessioned, kept_at}
 use Rattle.session.specs.declared.running.TheConstants.{ACTS_OF_A_CALL}
@@ -52,30 +53,23 @@ abbrev pub number_or_zero : Option ℕ → ℕ
 number_or_zero (Some number) = number
 number_or_zero None = 0
 
--- the other queues and the directory are as they were, where only the queue of one slot acted
-pub record AreOthersAlike (old new : Brokered) (slot : ℕ) : Type 0 where
-  pub worlds : (other : ℕ) → other ≢ slot → quiet (world_at new other) ≡ quiet (world_at old other)
-  pub rooms : (other : ℕ) → other ≢ slot → room_at new other ≡ room_at old other
-  pub directory : new.directory ≡ old.directory
-  pub creation : new.creation ≡ old.creation
-  pub recovery : new.recovery ≡ old.recovery
-
 -- what a start answers, as what a request does that has begun to run
 abbrev pub as_begun : Result Unit Refusal → Result (Option Reply) Refusal
 as_begun (Ok u) = Ok None
 as_begun (Err refusal) = Err refusal
 
+-- the rule of a request that begins to run
+abbrev pub beginning : Client → ℕ → Call → Rule (Option Reply)
+beginning client number call = record {
+  leaves = λ full w. after_start full w client number call;
+  answers = λ full w. as_begun (start_result full w client number);
+}
+
 -- the client's call was started, or refused as a start is
 pub record IsStarted (old new : Brokered) (slot : ℕ) (client : Client) (number : ℕ) (call : Call)
     (result : Result (Option Reply) Refusal) : Type 0 where
-  pub world : world_at new slot
-      ≡ world_after (λ w. after_start (is_no_memory result) w client number call) old slot client
-  pub result_is : result
-      ≡ answer_at (λ w. as_begun (start_result (is_no_memory result) w client number)) old slot client
-  pub full : is_no_memory result ≡ true → room_at old slot ≡ 0
-  pub room : room_at old slot ≤ room_at new slot + 1
-  pub spare : IfErr result (λ e. room_at old slot ≤ room_at new slot)
-  pub others : AreOthersAlike old new slot
+  pub act : IsActAt (beginning client number call) slot client old result new
+  pub beside : IsSameBeside slot old new
 
 -- what a request makes that comes to this: nothing, where it is refused or its reply is kept; else it is started
 abbrev pub IsBegunBy : Sessioned → Sessioned → ℕ → Client → ℕ → Call → Result (Option Reply) Refusal
@@ -102,7 +96,7 @@ pub record IsServed (old new : Brokered) (slot : ℕ) (client : Client) (number 
   pub answered : IsAnsweredAlone (after_start false world client number call) client steps reply
   pub is : world_at new slot ≡ Some (after_alone steps (after_start false world client number call) client)
   pub room : room_at old slot ≤ room_at new slot + ACTS_OF_A_CALL
-  pub others : AreOthersAlike old new slot
+  pub beside : IsSameBeside slot old new
 
 -- none was: there was no memory for its acts, or its start was refused
 abbrev pub IsUnserved : Brokered → Brokered → ℕ → Client → ℕ → Call → Refusal → Type 0
@@ -115,7 +109,7 @@ abbrev pub IsRun : Brokered → Brokered → ℕ → Client → ℕ → Call →
 IsRun old new slot client number call (Ok reply) = IsServed old new slot client number call reply
 IsRun old new slot client number call (Err refusal) =
     IsUnserved old new slot client number call refusal × (room_at old slot ≤ room_at new slot)
-    × AreOthersAlike old new slot
+    × IsSameBeside slot old new
 
 -- what a request makes that runs to its end, if it comes to this
 abbrev pub IsServedBy : Sessioned → Sessioned → ℕ → Client → ℕ → Call → Result Reply Refusal
@@ -144,10 +138,6 @@ last_after None result last = last
 -- a call made a step
 pub record IsAdvanced (old new : Brokered) (slot : ℕ) (client : Client) (result : Result (Option Reply) Refusal)
     : Type 0 where
-  pub world : world_at new slot ≡ world_after (λ w. after_step (is_no_memory result) w client) old slot client
-  pub result_is : result ≡ answer_at (λ w. step_result (is_no_memory result) w client) old slot client
-  pub full : is_no_memory result ≡ true → room_at old slot ≡ 0
-  pub room : room_at old slot ≤ room_at new slot + 1
-  pub spare : IfErr result (λ e. room_at old slot ≤ room_at new slot)
+  pub act : IsActAt (stepping client) slot client old result new
   pub stays : result ≡ Ok None → room_at old slot ≤ room_at new slot
-  pub others : AreOthersAlike old new slot
+  pub beside : IsSameBeside slot old new

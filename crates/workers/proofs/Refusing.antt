@@ -157,7 +157,7 @@ begin_within old new slot client number call r (Err refusal) act why =
 begin_within old new slot client number call r (Ok (Some reply)) act why =
     subst (λ (x : Result (Option Reply) Refusal). Within is_call_refusal x) (sym act.0) tt
 begin_within old new slot client number call r (Ok None) act why =
-    subst (λ (x : Result (Option Reply) Refusal). Within is_call_refusal x) (sym act.0.result_is)
+    subst (λ (x : Result (Option Reply) Refusal). Within is_call_refusal x) (sym act.0.act.answers)
     (act_within is_call_refusal (λ w. as_begun (start_result (is_no_memory r) w client number)) old.broker slot client refl
     refl refl (λ w. start_within (is_no_memory r) w client number))
 

@@ -13,6 +13,7 @@ use Rattle.interleave.specs.Holds.{Holds}
 use Rattle.interleave.specs.State.{State, after_attempt}
 use Rattle.interleave.proofs.verdicts.Carried.{uncounted}
 use Rattle.interleave.proofs.verdicts.Recalled.{base_stays, reply_on}
+use Rattle.named.specs.Acting.{IsSameBeside}
 use Rattle.named.specs.Brokers.{Brokered, IsWell, admission, quiet, world_after, world_at}
 use Rattle.named.specs.GoingOn.{IsGoneOn}
 use Rattle.named.specs.Slots.{acted}
@@ -20,7 +21,6 @@ use Rattle.named.specs.declared.recovery.BrokerRecovery.{BrokerRecovery}
 use Rattle.named.proofs.GoingOn.{on_by_act, on_if_quiet, world_holds}
 use Rattle.named.proofs.Kept.{some_is}
 use Rattle.session.specs.Promises.{IsReplyIn}
-use Rattle.session.specs.Requests.{AreOthersAlike}
 use Rattle.session.specs.Sessions.{Sessioned}
 use Rattle.session.proofs.Worlds.{none_some}
 use Rattle.workers.specs.Lists.{events_at, events_of}
@@ -129,7 +129,7 @@ nothing_carried old new same =
     (ap (λ (s : Sessioned). s.broker.recovery) same)
 
 -- the queue of one slot acted
-module _ (old new : Sessioned) (slot : ℕ) (others : AreOthersAlike old.broker new.broker slot) where
+module _ (old new : Sessioned) (slot : ℕ) (others : IsSameBeside slot old.broker new.broker) where
   -- where one slot went on so, each did
   each_on : (P : Option State → Option State → Type 0) → P (world_at old.broker slot) (world_at new.broker slot)
       → ((was now : Option State) → quiet now ≡ quiet was → P was now) → (at : ℕ)
@@ -137,7 +137,7 @@ module _ (old new : Sessioned) (slot : ℕ) (others : AreOthersAlike old.broker 
   each_on P here apart at = elim (cases_eq at slot) [
     | inl same ↦
         subst (λ (n : ℕ). P (world_at old.broker n) (world_at new.broker n)) (sym same) here
-    | inr ne ↦ apart (world_at old.broker at) (world_at new.broker at) (others.worlds at ne)
+    | inr ne ↦ apart (world_at old.broker at) (world_at new.broker at) (others.others at ne)
   ]
 
   -- and no event came
@@ -155,7 +155,7 @@ module _ (old new : Sessioned) (slot : ℕ) (others : AreOthersAlike old.broker 
   next_came event on up = record {
     here = on.events_are;
     others = λ other ne.
-        (stays_if_quiet (world_at old.broker other) (world_at new.broker other) (others.worlds other ne)).events_are
+        (stays_if_quiet (world_at old.broker other) (world_at new.broker other) (others.others other ne)).events_are
         ∙ append-nil (events_at old.broker other);
     replies = λ at number c reply.
         each_on (λ was now. IsReplyIn was c number reply → IsReplyIn now c number reply)

@@ -157,7 +157,7 @@ module _ (old new : Sessioned) (slot : ℕ) (client : Client) (number : ℕ) (ca
   kept_if_answered (Err refusal) reply begun = absurd (cc (begun.0))
   kept_if_answered (Ok (Some kept)) reply begun = (begun.1, sym begun.0)
   kept_if_answered (Ok None) reply begun =
-      let at = answered_at (answers false) old.broker slot client (Some reply) (sym begun.0.result_is) in
+      let at = answered_at (answers false) old.broker slot client (Some reply) (sym begun.0.act.answers) in
       absurd (never_begun (start_result false at.world client number) reply at.says)
 
   -- a refused start leaves the histories
@@ -169,7 +169,7 @@ module _ (old new : Sessioned) (slot : ℕ) (client : Client) (number : ℕ) (ca
     refused_at : (w : State) → world_at old.broker slot ≡ Some w → admission old.broker client ≡ Ok tt
         → as_begun (start_result full w client number) ≡ Err refusal
     refused_at w here admitted =
-        sym (started.result_is
+        sym (started.act.answers
         ∙ open_answer (answers full) old.broker slot client (record { world = w; here = here; admitted = admitted }))
 
     adds_none : (w : State) (r : Result Unit Refusal) → start_result full w client number ≡ r
@@ -179,9 +179,9 @@ module _ (old new : Sessioned) (slot : ℕ) (client : Client) (number : ℕ) (ca
 
     start_refused : (u : Client) → IsCarriedFor u old new
     start_refused =
-        quiet_carried old new slot started.others
+        quiet_carried old new slot started.beside
         (stays_by_client full (Start client number call) old.broker new.broker slot client keeps.broker.well
-        started.world
+        started.act.world
         (λ w here admitted. adds_none w (start_result full w client number) refl (refused_at w here admitted)))
 
   pub begun_refused : (refusal : Refusal) (answer : Result (Option Reply) Refusal) → KeepsNumbers old
@@ -208,7 +208,7 @@ module _ (old new : Sessioned) (slot : ℕ) (client : Client) (number : ℕ) (ca
         let holds = holds_there old.broker keeps.broker.well slot w at.here in
         goes_by_act false w (Start client number call) (call_event client number call ∷ []) (world_at old.broker slot)
         (world_at new.broker slot) holds at.here
-        (started.world
+        (started.act.world
         ∙ open_after (λ v. after_start false v client number call) old.broker slot client
         (record { world = w; here = at.here; admitted = at.admitted }))
         (started_adds w client number its.n call ok its.is
@@ -216,8 +216,8 @@ module _ (old new : Sessioned) (slot : ℕ) (client : Client) (number : ℕ) (ca
 
     call_came : HasNext old new slot (call_event client number call)
     call_came =
-        let at = answered_at (answers false) old.broker slot client None (sym started.result_is) in
-        next_came old new slot started.others (call_event client number call) (came at) at.up
+        let at = answered_at (answers false) old.broker slot client None (sym started.act.answers) in
+        next_came old new slot started.beside (call_event client number call) (came at) at.up
 
 -- a call that runs: its Call comes to the history
 pub begun_run : (old new : Sessioned) (slot : ℕ) (client : Client) (number : Option ℕ) (call : Call) → KeepsNumbers old

@@ -91,9 +91,9 @@ module _ (old new : Sessioned) (slot : ℕ) (client : Client) (keeps : KeepsNumb
   -- the call goes on, and nothing is told yet
   pub advanced_more : IsAdvanced old.broker new.broker slot client (Ok None) → (u : Client) → IsCarriedFor u old new
   advanced_more advanced =
-      let at = answered_at (λ w. step_result false w client) old.broker slot client None (sym advanced.result_is) in
-      quiet_carried old new slot advanced.others
-      (stays_by_client false (Step client) old.broker new.broker slot client keeps.broker.well advanced.world
+      let at = answered_at (λ w. step_result false w client) old.broker slot client None (sym advanced.act.answers) in
+      quiet_carried old new slot advanced.beside
+      (stays_by_client false (Step client) old.broker new.broker slot client keeps.broker.well advanced.act.world
       (λ w here admitted.
       let it : at.world ≡ w = some_is (world_at old.broker slot) at.world w at.here here in
       step_adds_none w client (subst (λ (v : State). step_result false v client ≡ Ok None) it at.says)))
@@ -103,15 +103,15 @@ module _ (old new : Sessioned) (slot : ℕ) (client : Client) (keeps : KeepsNumb
       → HasNext old new slot (return_event client reply) × CallsNow (events_at old.broker slot) client
   advanced_answered reply advanced =
       let at =
-      answered_at (λ w. step_result false w client) old.broker slot client (Some reply) (sym advanced.result_is) in
+      answered_at (λ w. step_result false w client) old.broker slot client (Some reply) (sym advanced.act.answers) in
       let w : State = at.world in
       let holds = holds_there old.broker keeps.broker.well slot w at.here in
       let up = up_there old.broker keeps.broker.well slot w at.here at.up in
       let waits = waits_if_stepped w client (Some reply) at.says in (
-        next_came old new slot advanced.others (return_event client reply)
+        next_came old new slot advanced.beside (return_event client reply)
             (goes_by_act false w (Step client) (return_event client reply ∷ []) (world_at old.broker slot)
             (world_at new.broker slot) holds at.here
-            (advanced.world
+            (advanced.act.world
             ∙ open_after (λ v. after_step false v client) old.broker slot client
             (record { world = w; here = at.here; admitted = at.admitted }))
             (step_adds w client (Some reply) at.says))
@@ -126,7 +126,7 @@ module _ (old new : Sessioned) (slot : ℕ) (client : Client) (keeps : KeepsNumb
     full = is_no_memory {X = Option Reply} (Err refusal)
 
     left_alone : world_at new.broker slot ≡ world_at old.broker slot
-    left_alone = go (admission old.broker client) (world_at old.broker slot) advanced.world advanced.result_is
+    left_alone = go (admission old.broker client) (world_at old.broker slot) advanced.act.world advanced.act.answers
       where
         go : (r : Result Unit Refusal) (o : Option State)
             → world_at new.broker slot ≡ (if is_ok r then acted (λ w. after_step full w client) o else o)
@@ -138,7 +138,7 @@ module _ (old new : Sessioned) (slot : ℕ) (client : Client) (keeps : KeepsNumb
 
     pub advanced_refused : (u : Client) → IsCarriedFor u old new
     advanced_refused =
-        quiet_carried old new slot advanced.others
+        quiet_carried old new slot advanced.beside
         (stays_if_same (world_at old.broker slot) (world_at new.broker slot) left_alone)
 
     -- where it was not for memory, the broker is down or no call of the client is under way
@@ -147,7 +147,7 @@ module _ (old new : Sessioned) (slot : ℕ) (client : Client) (keeps : KeepsNumb
       none_waits : old.broker.recovery ≡ None → (w : State) → world_at old.broker slot ≡ Some w → (u : UnderWay)
           → slice_get w.calls client.0 ≡ Some (Some u) → ⊥
       none_waits up w here u at =
-          other (by full (advanced.result_is
+          other (by full (advanced.act.answers
           ∙ open_answer (λ v. step_result full v client) old.broker slot client
           (record { world = w; here = here; admitted = admitted })
           ∙ ap (λ (o : Option (Option UnderWay)). step_result_with full w (waiting_result (is_down w) o)) at
@@ -206,7 +206,7 @@ module _ (old new : Sessioned) (slot : ℕ) (client : Client) (keeps : KeepsNumb
       advanced_lost = (
         lost_then,
         elim lost_then [
-          | inl down ↦ inl (ap (λ (o : Option BrokerRecovery). is_some o) advanced.others.recovery ∙ down)
+          | inl down ↦ inl (ap (λ (o : Option BrokerRecovery). is_some o) advanced.beside.recovery ∙ down)
           | inr none ↦ inr (subst (λ (o : Option State). CallsNow (events_of o) client → ⊥) (sym left_alone) none)
         ],
       )

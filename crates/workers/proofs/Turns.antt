@@ -38,7 +38,7 @@ begun_beside old new slot client number call result (Err refusal) begun =
 begun_beside old new slot client number call result (Ok (Some reply)) begun =
     (ap (λ (s : Sessioned). s.broker.recovery) begun.1, ap (λ (s : Sessioned). s.broker.creation) begun.1)
 begun_beside old new slot client number call result (Ok None) begun =
-    (begun.0.others.recovery, begun.0.others.creation)
+    (begun.0.beside.recovery, begun.0.beside.creation)
 
 -- a start that is refused, and a step that is, or that does not answer, leave the lists
 module _ (all : ℕ) (first : Sessioned) (old : Guarded) (well : IsGuardedWell all first old) (new : Sessioned)
@@ -58,7 +58,7 @@ module _ (all : ℕ) (first : Sessioned) (old : Guarded) (well : IsGuardedWell a
       → ((u : Client) → IsCarriedFor u old.session new) → IsGuardedWell all first as_it_was
   stepped_still result made carried =
       guarded_still all first old well new old.creating carried keeps on
-      (known_if_same old.session.broker new.broker old.creating made.others.recovery made.others.creation well.creation)
+      (known_if_same old.session.broker new.broker old.creating made.beside.recovery made.beside.creation well.creation)
 
   pub guarded_more : IsAdvanced old.session.broker new.broker slot client (Ok None) → IsGuardedWell all first as_it_was
   guarded_more made = stepped_still (Ok None) made (advanced_more old.session new slot client well.promises made)
@@ -187,7 +187,7 @@ module _ (all : ℕ) (first : Sessioned) (old : Guarded) (well : IsGuardedWell a
     known_advanced : (result : Result (Option Reply) Refusal)
         → IsAdvanced old.session.broker new.broker slot client result → IsCreationKnown new.broker old.creating
     known_advanced result made =
-        known_if_same old.session.broker new.broker old.creating made.others.recovery made.others.creation
+        known_if_same old.session.broker new.broker old.creating made.beside.recovery made.beside.creation
         well.creation
 
     pub guarded_answered : (reply : Reply)

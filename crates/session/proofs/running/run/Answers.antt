@@ -9,16 +9,16 @@ use Rattle.session.proofs.running.run.Goals as goal
 
 pub returns-in_err-start-clause-run : goal.returns-in_err-start-clause-run
 returns-in_err-start-clause-run c =
-    let made : IsRoomMade c.args.broker.now c.reserve.new.self c.args.queue.0 = record { worlds = c.reserve.ensures.worlds; room = c.in_ok-reserve.ensures.room; more = c.reserve.ensures.kept c.args.queue.0; rooms = c.reserve.ensures.other_rooms; directory = c.reserve.ensures.directory; creation = c.reserve.ensures.creation; recovery = c.reserve.ensures.recovery; well = c.reserve.ensures.promises.well } in
-    let tried : IsStartTried c.reserve.new.self c.start.new.self c.args.queue.0 c.args.client c.args.number c.args.call c.start.result = record { world = c.start.ensures.act.world; result_is = c.start.ensures.act.answers; full = c.start.ensures.act.full; room = c.start.ensures.act.room; spare = c.start.ensures.act.spare; others = record { worlds = c.start.ensures.beside.others; rooms = c.start.ensures.beside.other_rooms; directory = c.start.ensures.beside.directory; creation = c.start.ensures.beside.creation; recovery = c.start.ensures.beside.recovery }; well = c.start.ensures.promises.well } in
+    let made : IsRoomMade c.args.broker.now c.reserve.new.self c.args.queue.0 = record { worlds = c.reserve.ensures.worlds; room = c.in_ok-reserve.ensures.room; more = c.reserve.ensures.kept c.args.queue.0; rooms = c.reserve.ensures.other_rooms; directory = c.reserve.ensures.directory; creation = c.reserve.ensures.creation; recovery = c.reserve.ensures.recovery; words = c.reserve.ensures.words; was_well = c.requires.well; well = c.reserve.ensures.promises.well } in
+    let tried : IsStartTried c.reserve.new.self c.start.new.self c.args.queue.0 c.args.client c.args.number c.args.call c.start.result = record { act = c.start.ensures.act; beside = c.start.ensures.beside; well = c.start.ensures.promises.well } in
     let answer : c.from_residual-in_err-start.result ≡ Err c.in_err-start.field-0.0 = search rules in
     subst (IsRun c.args.broker.now c.start.new.self c.args.queue.0 c.args.client c.args.number c.args.call) (sym answer)
     (start_was_refused c.args.broker.now c.reserve.new.self c.start.new.self c.args.queue.0 c.args.client c.args.number c.args.call c.requires.open c.requires.well made c.start.result tried c.in_err-start.field-0.0 c.in_err-start.was)
 
 pub returns-in_err-reply-clause-run : goal.returns-in_err-reply-clause-run
 returns-in_err-reply-clause-run c =
-    let made : IsRoomMade c.args.broker.now c.reserve.new.self c.args.queue.0 = record { worlds = c.reserve.ensures.worlds; room = c.in_ok-reserve.ensures.room; more = c.reserve.ensures.kept c.args.queue.0; rooms = c.reserve.ensures.other_rooms; directory = c.reserve.ensures.directory; creation = c.reserve.ensures.creation; recovery = c.reserve.ensures.recovery; well = c.reserve.ensures.promises.well } in
-    let tried : IsStartTried c.reserve.new.self c.start.new.self c.args.queue.0 c.args.client c.args.number c.args.call c.start.result = record { world = c.start.ensures.act.world; result_is = c.start.ensures.act.answers; full = c.start.ensures.act.full; room = c.start.ensures.act.room; spare = c.start.ensures.act.spare; others = record { worlds = c.start.ensures.beside.others; rooms = c.start.ensures.beside.other_rooms; directory = c.start.ensures.beside.directory; creation = c.start.ensures.beside.creation; recovery = c.start.ensures.beside.recovery }; well = c.start.ensures.promises.well } in
+    let made : IsRoomMade c.args.broker.now c.reserve.new.self c.args.queue.0 = record { worlds = c.reserve.ensures.worlds; room = c.in_ok-reserve.ensures.room; more = c.reserve.ensures.kept c.args.queue.0; rooms = c.reserve.ensures.other_rooms; directory = c.reserve.ensures.directory; creation = c.reserve.ensures.creation; recovery = c.reserve.ensures.recovery; words = c.reserve.ensures.words; was_well = c.requires.well; well = c.reserve.ensures.promises.well } in
+    let tried : IsStartTried c.reserve.new.self c.start.new.self c.args.queue.0 c.args.client c.args.number c.args.call c.start.result = record { act = c.start.ensures.act; beside = c.start.ensures.beside; well = c.start.ensures.promises.well } in
     let alone : IsAloneAt c.args.queue.0 c.args.client c.start.new.self (Err c.in_err-reply.field-0.0) c.run_alone.new.self =
     subst (λ (r : Result (Reply × ℕ) Refusal). IsAloneAt c.args.queue.0 c.args.client c.start.new.self r c.run_alone.new.self)
     c.in_err-reply.was c.run_alone.ensures.alone in
@@ -26,13 +26,13 @@ returns-in_err-reply-clause-run c =
 
 pub returns-clause-run : goal.returns-clause-run
 returns-clause-run c =
-    let made : IsRoomMade c.args.broker.now c.reserve.new.self c.args.queue.0 = record { worlds = c.reserve.ensures.worlds; room = c.in_ok-reserve.ensures.room; more = c.reserve.ensures.kept c.args.queue.0; rooms = c.reserve.ensures.other_rooms; directory = c.reserve.ensures.directory; creation = c.reserve.ensures.creation; recovery = c.reserve.ensures.recovery; well = c.reserve.ensures.promises.well } in
-    let tried : IsStartTried c.reserve.new.self c.start.new.self c.args.queue.0 c.args.client c.args.number c.args.call c.start.result = record { world = c.start.ensures.act.world; result_is = c.start.ensures.act.answers; full = c.start.ensures.act.full; room = c.start.ensures.act.room; spare = c.start.ensures.act.spare; others = record { worlds = c.start.ensures.beside.others; rooms = c.start.ensures.beside.other_rooms; directory = c.start.ensures.beside.directory; creation = c.start.ensures.beside.creation; recovery = c.start.ensures.beside.recovery }; well = c.start.ensures.promises.well } in
+    let made : IsRoomMade c.args.broker.now c.reserve.new.self c.args.queue.0 = record { worlds = c.reserve.ensures.worlds; room = c.in_ok-reserve.ensures.room; more = c.reserve.ensures.kept c.args.queue.0; rooms = c.reserve.ensures.other_rooms; directory = c.reserve.ensures.directory; creation = c.reserve.ensures.creation; recovery = c.reserve.ensures.recovery; words = c.reserve.ensures.words; was_well = c.requires.well; well = c.reserve.ensures.promises.well } in
+    let tried : IsStartTried c.reserve.new.self c.start.new.self c.args.queue.0 c.args.client c.args.number c.args.call c.start.result = record { act = c.start.ensures.act; beside = c.start.ensures.beside; well = c.start.ensures.promises.well } in
     let alone : IsAloneAt c.args.queue.0 c.args.client c.start.new.self (Ok (c.in_ok-reply.reply, c.in_ok-reply._steps)) c.run_alone.new.self =
     subst (λ (r : Result (Reply × ℕ) Refusal). IsAloneAt c.args.queue.0 c.args.client c.start.new.self r c.run_alone.new.self)
     c.in_ok-reply.was c.run_alone.ensures.alone in
     served c.args.broker.now c.reserve.new.self c.start.new.self c.args.queue.0 c.args.client c.args.number c.args.call c.requires.open c.requires.well made c.start.result tried c.run_alone.new.self c.in_ok-reply.reply c.in_ok-reply._steps c.in_ok-start.was alone.steps alone.answer alone.world alone.room
-    (record { worlds = c.run_alone.ensures.beside.others; rooms = c.run_alone.ensures.beside.other_rooms; directory = c.run_alone.ensures.beside.directory; creation = c.run_alone.ensures.beside.creation; recovery = c.run_alone.ensures.beside.recovery })
+    c.run_alone.ensures.beside
 
 pub returns-in_err-start-clause-goes_on : goal.returns-in_err-start-clause-goes_on
 returns-in_err-start-clause-goes_on c = broker_goes_further _ _ _ c.reserve.ensures.goes_on c.start.ensures.goes_on

@@ -21,21 +21,7 @@ pub invariant_of-self : goal.invariant_of-self
 invariant_of-self c =
     advanced_right c.self.inside.broker c.step.new.self c.args.queue.0 c.args.client c.self.inside.kept c.self.inside.kept
     c.step.result c.self.invariant c.step.ensures.promises.well
-    (record {
-      world = c.step.ensures.act.world;
-      result_is = c.step.ensures.act.answers;
-      full = c.step.ensures.act.full;
-      room = c.step.ensures.act.room;
-      spare = c.step.ensures.act.spare;
-      stays = c.step.ensures.stays;
-      others = record {
-        worlds = c.step.ensures.beside.others;
-        rooms = c.step.ensures.beside.other_rooms;
-        directory = c.step.ensures.beside.directory;
-        creation = c.step.ensures.beside.creation;
-        recovery = c.step.ensures.beside.recovery;
-      };
-    })
+    (record { act = c.step.ensures.act; stays = c.step.ensures.stays; beside = c.step.ensures.beside })
     (kept_refused c.self.inside.kept c.args.queue.0 c.args.client.0 _ c.step.result c.in_err-answer.field-0.0 (c.in_err-answer.was))
 
 pub returns-in_err-answer-clause-goes_on : goal.returns-in_err-answer-clause-goes_on
@@ -43,21 +29,7 @@ returns-in_err-answer-clause-goes_on c =
     subst (λ (s : Sessioned). SessionGoesOn s (record { broker = c.step.new.self; kept = c.self.inside.kept })) c.self.view_is
     (advanced_on c.self.inside.broker c.step.new.self c.args.queue.0 c.args.client c.self.inside.kept c.self.inside.kept
     c.step.result c.self.invariant
-    (record {
-      world = c.step.ensures.act.world;
-      result_is = c.step.ensures.act.answers;
-      full = c.step.ensures.act.full;
-      room = c.step.ensures.act.room;
-      spare = c.step.ensures.act.spare;
-      stays = c.step.ensures.stays;
-      others = record {
-        worlds = c.step.ensures.beside.others;
-        rooms = c.step.ensures.beside.other_rooms;
-        directory = c.step.ensures.beside.directory;
-        creation = c.step.ensures.beside.creation;
-        recovery = c.step.ensures.beside.recovery;
-      };
-    })
+    (record { act = c.step.ensures.act; stays = c.step.ensures.stays; beside = c.step.ensures.beside })
     (kept_refused c.self.inside.kept c.args.queue.0 c.args.client.0 _ c.step.result c.in_err-answer.field-0.0 (c.in_err-answer.was)))
 
 pub returns-in_err-answer-clause-promises : goal.returns-in_err-answer-clause-promises
@@ -75,21 +47,7 @@ invariant_of-self-2 c =
     c.in_ok-number.was c.calling.ensures in
     advanced_right c.self.inside.broker c.step.new.self c.args.queue.0 c.args.client c.self.inside.kept c.hear.new.self
     c.step.result c.self.invariant c.step.ensures.promises.well
-    (record {
-      world = c.step.ensures.act.world;
-      result_is = c.step.ensures.act.answers;
-      full = c.step.ensures.act.full;
-      room = c.step.ensures.act.room;
-      spare = c.step.ensures.act.spare;
-      stays = c.step.ensures.stays;
-      others = record {
-        worlds = c.step.ensures.beside.others;
-        rooms = c.step.ensures.beside.other_rooms;
-        directory = c.step.ensures.beside.directory;
-        creation = c.step.ensures.beside.creation;
-        recovery = c.step.ensures.beside.recovery;
-      };
-    })
+    (record { act = c.step.ensures.act; stays = c.step.ensures.stays; beside = c.step.ensures.beside })
     (kept_heard c.self.inside.kept c.hear.new.self c.args.queue.0 c.args.client.0 c.in_ok-number.number _ c.step.result
     c.in_ok-answer.answer
     (subst (λ (s : Sessioned). c.in_ok-number.number ≡ call_number (world_at s.broker c.args.queue.0) c.args.client)
@@ -104,21 +62,7 @@ returns-clause-reply c =
     (by_answer c.in_ok-answer.answer c.in_ok-answer.was)
   where
     made : IsAdvanced c.self.inside.broker c.step.new.self c.args.queue.0 c.args.client c.step.result
-    made = record {
-      world = c.step.ensures.act.world;
-      result_is = c.step.ensures.act.answers;
-      full = c.step.ensures.act.full;
-      room = c.step.ensures.act.room;
-      spare = c.step.ensures.act.spare;
-      stays = c.step.ensures.stays;
-      others = record {
-        worlds = c.step.ensures.beside.others;
-        rooms = c.step.ensures.beside.other_rooms;
-        directory = c.step.ensures.beside.directory;
-        creation = c.step.ensures.beside.creation;
-        recovery = c.step.ensures.beside.recovery;
-      };
-    }
+    made = record { act = c.step.ensures.act; stays = c.step.ensures.stays; beside = c.step.ensures.beside }
 
     by_answer : (answer : Option Reply) → c.step.result ≡ Ok answer → IfSome answer (IsReplyIfNumbered
         (record { broker = c.step.new.self; kept = c.hear.new.self }) c.args.queue.0 c.args.client
@@ -146,21 +90,7 @@ returns-clause-goes_on c =
     subst (λ (s : Sessioned). SessionGoesOn s (record { broker = c.step.new.self; kept = c.hear.new.self })) c.self.view_is
     (advanced_on c.self.inside.broker c.step.new.self c.args.queue.0 c.args.client c.self.inside.kept c.hear.new.self
     c.step.result c.self.invariant
-    (record {
-      world = c.step.ensures.act.world;
-      result_is = c.step.ensures.act.answers;
-      full = c.step.ensures.act.full;
-      room = c.step.ensures.act.room;
-      spare = c.step.ensures.act.spare;
-      stays = c.step.ensures.stays;
-      others = record {
-        worlds = c.step.ensures.beside.others;
-        rooms = c.step.ensures.beside.other_rooms;
-        directory = c.step.ensures.beside.directory;
-        creation = c.step.ensures.beside.creation;
-        recovery = c.step.ensures.beside.recovery;
-      };
-    })
+    (record { act = c.step.ensures.act; stays = c.step.ensures.stays; beside = c.step.ensures.beside })
     (kept_heard c.self.inside.kept c.hear.new.self c.args.queue.0 c.args.client.0 c.in_ok-number.number _ c.step.result
     c.in_ok-answer.answer
     (subst (λ (s : Sessioned). c.in_ok-number.number ≡ call_number (world_at s.broker c.args.queue.0) c.args.client)

@@ -31,8 +31,8 @@ returns-in_err-start-clause-begun c =
     begun_if_runs old new c.args.queue.0 c.args.client c.unwrap_or.result c.args.call c.start.result
     (answer_to c.args.self.now c.args.queue.0 c.args.client c.args.number) runs
     (started_by old.broker new.broker c.args.queue.0 c.args.client c.unwrap_or.result c.args.call c.start.result
-    c.start.ensures.act.world c.start.ensures.act.answers c.start.ensures.act.full c.start.ensures.act.room c.start.ensures.act.spare
-    (record { worlds = c.start.ensures.beside.others; rooms = c.start.ensures.beside.other_rooms; directory = c.start.ensures.beside.directory; creation = c.start.ensures.beside.creation; recovery = c.start.ensures.beside.recovery }))
+    c.start.ensures.act
+    c.start.ensures.beside)
     refl in
     let answers : Result (Option Reply) Refusal = answer_to c.args.self.now c.args.queue.0 c.args.client c.args.number in
     subst (λ (s : Sessioned). IsBegunBy s new c.args.queue.0 c.args.client (number_or_zero c.args.number) c.args.call c.from_residual-in_err-start.result answers) c.self.view_is
@@ -76,14 +76,8 @@ invariant_of-self c =
     started_right c.self.inside.broker c.start.new.self c.args.queue.0 c.args.client c.unwrap_or.result c.args.call
     c.self.inside.kept (as_begun c.start.result) c.self.invariant c.start.ensures.promises.well
     (started_by c.self.inside.broker c.start.new.self c.args.queue.0 c.args.client c.unwrap_or.result c.args.call
-    c.start.result c.start.ensures.act.world c.start.ensures.act.answers c.start.ensures.act.full c.start.ensures.act.room c.start.ensures.act.spare
-    (record {
-      worlds = c.start.ensures.beside.others;
-      rooms = c.start.ensures.beside.other_rooms;
-      directory = c.start.ensures.beside.directory;
-      creation = c.start.ensures.beside.creation;
-      recovery = c.start.ensures.beside.recovery;
-    }))
+    c.start.result c.start.ensures.act
+    c.start.ensures.beside)
 
 pub returns-in_err-start-clause-promises : goal.returns-in_err-start-clause-promises
 returns-in_err-start-clause-promises c = numbers_kept _ (invariant_of-self c)
@@ -93,14 +87,8 @@ invariant_of-self-2 c =
     started_right c.self.inside.broker c.start.new.self c.args.queue.0 c.args.client c.unwrap_or.result c.args.call
     c.self.inside.kept (as_begun c.start.result) c.self.invariant c.start.ensures.promises.well
     (started_by c.self.inside.broker c.start.new.self c.args.queue.0 c.args.client c.unwrap_or.result c.args.call
-    c.start.result c.start.ensures.act.world c.start.ensures.act.answers c.start.ensures.act.full c.start.ensures.act.room c.start.ensures.act.spare
-    (record {
-      worlds = c.start.ensures.beside.others;
-      rooms = c.start.ensures.beside.other_rooms;
-      directory = c.start.ensures.beside.directory;
-      creation = c.start.ensures.beside.creation;
-      recovery = c.start.ensures.beside.recovery;
-    }))
+    c.start.result c.start.ensures.act
+    c.start.ensures.beside)
 
 pub returns-clause-promises : goal.returns-clause-promises
 returns-clause-promises c = numbers_kept _ (invariant_of-self-2 c)
@@ -141,12 +129,6 @@ returns-in_err-start-clause-stale c = λ is.
     (subst (λ (n : ℕ). IsStarted c.self.inside.broker c.start.new.self c.args.queue.0 c.args.client n c.args.call
     (as_begun c.start.result)) number
     (started_by c.self.inside.broker c.start.new.self c.args.queue.0 c.args.client c.unwrap_or.result c.args.call
-    c.start.result c.start.ensures.act.world c.start.ensures.act.answers c.start.ensures.act.full c.start.ensures.act.room c.start.ensures.act.spare
-    (record {
-      worlds = c.start.ensures.beside.others;
-      rooms = c.start.ensures.beside.other_rooms;
-      directory = c.start.ensures.beside.directory;
-      creation = c.start.ensures.beside.creation;
-      recovery = c.start.ensures.beside.recovery;
-    })))
+    c.start.result c.start.ensures.act
+    c.start.ensures.beside))
     (result ∙ is)
