@@ -28,6 +28,7 @@ use Rattle.session.specs.Numbers.{by_last, by_number, by_outcome, by_reply, miss
 use Rattle.session.specs.Promises.{IsReplyAt, IsReplyIfNumbered, IsReplyIn}
 use Rattle.session.specs.Requests.{IsRun, IsServed, IsStarted, IsUnserved, answer_to, is_kind, queue_admission, request_admission, request_answer}
 use Rattle.session.specs.Sessions.{IsRight, IsSlotRight, Sessioned, is_up, kept_at, kept_in}
+use Rattle.named.specs.Acting.{IsSameBeside}
 use Rattle.session.proofs.Acting.{kept_beside, kept_new, right_beside}
 use Rattle.session.proofs.Calling.{IsAnsweredAt, admitted_has, admitted_up, answered_at, right_by_client, right_if_durable, right_served, right_started, up_is}
 use Rattle.session.proofs.Numbering.{misses}

@@ -20,7 +20,7 @@ returns-clause-goes_on c =
     let new : Sessioned = record { broker = c.run.new.broker; kept = c.self.inside.kept } in
     subst (λ (s : Sessioned). SessionGoesOn s new) c.self.view_is
     (goes_on_kept old new refl (laid_out_each c.self.inside.broker c.run.new.broker c.args.queue.0
-    (others_run c.self.inside.broker c.run.new.broker c.args.queue.0 c.args.client 0 c.args.call c.run.result c.run.ensures.run).worlds
+    (others_run c.self.inside.broker c.run.new.broker c.args.queue.0 c.args.client 0 c.args.call c.run.result c.run.ensures.run).others
     (laid_out_run c.self.inside.broker c.run.new.broker c.args.queue.0 c.args.client 0 c.args.call c.run.result c.run.ensures.run)))
 
 pub returns-in_err-admit-clause-promises : goal.returns-in_err-admit-clause-promises

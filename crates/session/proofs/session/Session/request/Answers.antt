@@ -27,7 +27,7 @@ returns-in_err-reply-2-clause-goes_on c =
     let new : Sessioned = record { broker = c.run.new.broker; kept = c.self.inside.kept } in
     subst (λ (s : Sessioned). SessionGoesOn s new) c.self.view_is
     (goes_on_kept old new refl (laid_out_each old.broker new.broker c.args.queue.0
-    (others_run old.broker new.broker c.args.queue.0 c.args.client c.args.number c.args.call c.run.result c.run.ensures.run).worlds
+    (others_run old.broker new.broker c.args.queue.0 c.args.client c.args.number c.args.call c.run.result c.run.ensures.run).others
     (laid_out_run old.broker new.broker c.args.queue.0 c.args.client c.args.number c.args.call c.run.result c.run.ensures.run)))
 
 pub hear-requires-clause-slot : goal.hear-requires-clause-slot
@@ -48,7 +48,7 @@ returns-clause-goes_on c =
     subst (λ (s : Sessioned). SessionGoesOn s new) c.self.view_is
     (goes_on_kept_now old new c.args.queue.0 c.args.client (Some (taken_as c.args.number c.in_ok-reply-2.reply)) c.hear.ensures
     (laid_out_each old.broker new.broker c.args.queue.0
-    (others_run old.broker new.broker c.args.queue.0 c.args.client c.args.number c.args.call c.run.result c.run.ensures.run).worlds
+    (others_run old.broker new.broker c.args.queue.0 c.args.client c.args.number c.args.call c.run.result c.run.ensures.run).others
     (laid_out_run old.broker new.broker c.args.queue.0 c.args.client c.args.number c.args.call c.run.result c.run.ensures.run))
     (λ was reply answered. inr (answered_below (kept_at old c.args.queue.0 c.args.client) c.args.number was reply runs answered)))
 
