@@ -1,7 +1,8 @@
-use Rattle.std.proofs.Common.{◌≡◌, false, ap, ◌∙◌}
+use Rattle.std.proofs.Common.{◌≡◌, ℕ, List, length, false, ap, subst, ◌∙◌}
 use Rattle.std.proofs.lemmas.Result.{IfOk-weaker}
 use Rattle.std.specs.Prelude.{Bool, Result}
 use Rattle.words.specs.declared.refusal.Refusal.{Refusal}
+use Rattle.protocol.specs.declared.acts.Act.{Act}
 use Rattle.interleave.specs.Calls.{is_no_memory}
 use Rattle.interleave.specs.State.{after_crash, most_to_ready}
 use Rattle.arena.specs.Shape.{Shape}
@@ -16,12 +17,14 @@ returns-clause-found c =
     let crashed = c.crash.ensures.by_rule.leaves ∙ ap (λ (full : Bool). after_crash full c.evict_words.new.world.now) memory in
     let many = c.most_to_ready-most.ensures ∙ ap most_to_ready c.layout.ensures in
     let s : Shape = c.args.layout in
-    let comes : found_in c.repeat.new.world.now c.in_ok-steps.steps
-    ≡ found_after s c.args.acts.now c.args.evictions c.args.point =
-    comes_to s c.args.acts.now c.args.evictions c.args.point c.in_ok-world.world.now
+    let acts : List (Act ℕ) = c.args.acts.now in
+    let comes : found_in c.repeat.new.world.now c.in_ok-steps.steps ≡ found_after s acts c.args.evictions (length acts) =
+    subst (λ (point : ℕ). found_in c.repeat.new.world.now c.in_ok-steps.steps ≡ found_after s acts c.args.evictions point)
+    c.len-point.ensures
+    (comes_to s acts c.args.evictions c.len-point.result c.in_ok-world.world.now
     c.attempt_all.new.world.now c.evict_words.new.world.now c.crash.new.self.now c.repeat.new.world.now
     c.most_to_ready-most.result c.in_ok-steps.steps c.in_ok-world.ensures.made c.in_ok-attempt_all.ensures.world
-    c.evict_words.ensures crashed many c.in_ok-steps.ensures.world c.in_ok-steps.ensures.accepted in
+    c.evict_words.ensures crashed many c.in_ok-steps.ensures.world c.in_ok-steps.ensures.accepted) in
     IfOk-weaker c.found-found.result (λ point. found_of point ≡ found_in c.repeat.new.world.now c.in_ok-steps.steps)
-    (λ point. found_of point ≡ found_after s c.args.acts.now c.args.evictions c.args.point) (λ point is. is ∙ comes)
+    (λ point. found_of point ≡ found_after s acts c.args.evictions (length acts)) (λ point is. is ∙ comes)
     c.found-found.ensures.found
