@@ -20,8 +20,8 @@ returns-clause-found c =
     let acts : List (Act ℕ) = c.args.acts.now in
     let comes : found_in c.repeat.new.world.now c.in_ok-steps.steps ≡ found_after s acts c.args.evictions (length acts) =
     subst (λ (point : ℕ). found_in c.repeat.new.world.now c.in_ok-steps.steps ≡ found_after s acts c.args.evictions point)
-    c.len-point.ensures
-    (comes_to s acts c.args.evictions c.len-point.result c.in_ok-world.world.now
+    c.len.ensures
+    (comes_to s acts c.args.evictions c.len.result c.in_ok-world.world.now
     c.attempt_all.new.world.now c.evict_words.new.world.now c.crash.new.self.now c.repeat.new.world.now
     c.most_to_ready-most.result c.in_ok-steps.steps c.in_ok-world.ensures.made c.in_ok-attempt_all.ensures.world
     c.evict_words.ensures crashed many c.in_ok-steps.ensures.world c.in_ok-steps.ensures.accepted) in
