@@ -1,4 +1,4 @@
-use Rattle.std.proofs.Common.{◌≡◌, ℕ, List, length, false, ap, subst, ◌∙◌}
+use Rattle.std.proofs.Common.{◌≡◌, ℕ, List, length, false, ap, ◌∙◌}
 use Rattle.std.proofs.lemmas.Result.{IfOk-weaker}
 use Rattle.std.specs.Prelude.{Bool, Result}
 use Rattle.words.specs.declared.refusal.Refusal.{Refusal}
@@ -19,12 +19,10 @@ returns-clause-found c =
     let s : Shape = c.args.layout in
     let acts : List (Act ℕ) = c.args.acts.now in
     let comes : found_in c.repeat.new.world.now c.in_ok-steps.steps ≡ found_after s acts c.args.evictions (length acts) =
-    subst (λ (point : ℕ). found_in c.repeat.new.world.now c.in_ok-steps.steps ≡ found_after s acts c.args.evictions point)
-    c.len.ensures
-    (comes_to s acts c.args.evictions c.len.result c.in_ok-world.world.now
+    comes_to s acts c.args.evictions (length acts) c.in_ok-world.world.now
     c.attempt_all.new.world.now c.evict_words.new.world.now c.crash.new.self.now c.repeat.new.world.now
     c.most_to_ready-most.result c.in_ok-steps.steps c.in_ok-world.ensures.made c.in_ok-attempt_all.ensures.world
-    c.evict_words.ensures crashed many c.in_ok-steps.ensures.world c.in_ok-steps.ensures.accepted) in
+    c.evict_words.ensures crashed many c.in_ok-steps.ensures.world c.in_ok-steps.ensures.accepted in
     IfOk-weaker c.found-found.result (λ point. found_of point ≡ found_in c.repeat.new.world.now c.in_ok-steps.steps)
     (λ point. found_of point ≡ found_after s acts c.args.evictions (length acts)) (λ point is. is ∙ comes)
     c.found-found.ensures.found
