@@ -21,9 +21,7 @@ use interleave::Core;
 use persist::{Change, Memory};
 use std::alloc::Global;
 use std::marker::Model;
-use words::{
-    Call, Client, Kind, QUEUE_PORTS, RECOVERY_PORT, Refusal, Reply, Told, Value,
-};
+use words::{Call, Client, Kind, QUEUE_PORTS, RECOVERY_PORT, Refusal, Reply, Told, Value};
 
 /// A queue's core, where its words lie, in the block of a slot, and the first of its ports: each client has one, and
 /// recovery the one behind them.

@@ -52,6 +52,6 @@ returns-clause-act c =
     let fact : IsActIn recovering old was c.recover_step.result new (with_core was c.recover_step.new.self) =
     act_in old new was c.recover_step.new.self _ RECOVERY_PORT v.memory.ghost_name v.port v.from v.len first ws window recovering c.recover_step.result
     c.recover_step.ensures.by_rule acted (recovered_shape full (state_in old.words was)) in
-    let name : v.memory.ghost_name ≡ w.memory.ghost_name = 
+    let name : v.memory.ghost_name ≡ w.memory.ghost_name =
     ap (λ (l : Lent). l.around.lender) c.recover_step.ensures.lent ∙ ap (λ (a : Around). a.lender) (around_recovered full (state_of c.self.inside.core ws) first) in
     search rules

@@ -51,7 +51,7 @@ returns-clause-act c =
     let fact : IsActIn (stepping c.args.client) old was c.step.result new (with_core was c.step.new.self) =
     act_in old new was c.step.new.self _ c.args.client.0 v.memory.ghost_name v.port v.from v.len first ws window (stepping c.args.client) c.step.result
     c.step.ensures.by_rule acted (step_alike full (state_in old.words was) c.args.client).0 in
-    let name : v.memory.ghost_name ≡ w.memory.ghost_name = 
+    let name : v.memory.ghost_name ≡ w.memory.ghost_name =
     ap (λ (l : Lent). l.around.lender) c.step.ensures.lent ∙ ap (λ (a : Around). a.lender) (around_stepped full (state_of c.self.inside.core ws) c.args.client first) in
     search rules
 
