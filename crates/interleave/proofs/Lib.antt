@@ -1,4 +1,5 @@
 pub mod Entering
+pub mod Beginnings
 pub mod RunLaws
 pub mod ActLaws
 pub mod PartLaws
