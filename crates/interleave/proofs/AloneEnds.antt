@@ -43,33 +43,39 @@ some_left w client u here holds =
     go (More op) fewer = omega (arith, fewer)
     go (Done reply) some = some
 
+-- it is answered by its next step, or goes on, and is answered from there
+one_step_more : (n : ℕ) (w : State) (client : Client) (u : UnderWay) → slice_get w.calls client.0 ≡ Some (Some u)
+    → Holds w → left_in w client ≤ suc n
+    → ((v : State) (next : UnderWay) → slice_get v.calls client.0 ≡ Some (Some next) → Holds v → left_in v client ≤ n
+    → IsAnsweredWithin n v client)
+    → (a : After Op Reply) → next_of (machine w) u ≡ a → IsAnsweredWithin (suc n) w client
+one_step_more n w client u here holds few then (Done reply) e = record {
+  steps = 1;
+  reply = reply;
+  few = omega arith;
+  answered = answer_is w client u here holds ∙ ap (λ (a : After Op Reply). Ok (answer_of a)) e;
+}
+one_step_more n w client u here holds few then (More op) e =
+    let v : State = after_step false w client in
+    let stepped : v ≡ after_one_access w client u = step_is w client u here holds in
+    let on = goes_on w client u here holds (ap answer_of e) in
+    let there : slice_get v.calls client.0 ≡ Some (Some on.call) =
+    subst (λ (x : State). slice_get x.calls client.0 ≡ Some (Some on.call)) (sym stepped) on.is in
+    let fewer : left_in v client < left_in w client =
+    subst (λ (x : State). left_in x client < left_in w client) (sym stepped) on.fewer in
+    let rest = then v on.call there (holds_after_step false w client holds) (omega (arith, fewer, few)) in
+    record {
+      steps = suc rest.steps;
+      reply = rest.reply;
+      few = omega (arith, rest.few);
+      answered = answered_later rest.steps w client rest.reply rest.answered;
+    }
+
 answers_within : (n : ℕ) (w : State) (client : Client) (u : UnderWay) → slice_get w.calls client.0 ≡ Some (Some u)
     → Holds w → left_in w client ≤ n → IsAnsweredWithin n w client
 answers_within zero w client u here holds few = absurd (omega (arith, few, some_left w client u here holds))
-answers_within (suc n) w client u here holds few = go (next_of (machine w) u) refl
-  where
-    go : (a : After Op Reply) → next_of (machine w) u ≡ a → IsAnsweredWithin (suc n) w client
-    go (Done reply) e = record {
-      steps = 1;
-      reply = reply;
-      few = omega arith;
-      answered = answer_is w client u here holds ∙ ap (λ (a : After Op Reply). Ok (answer_of a)) e;
-    }
-    go (More op) e =
-        let v : State = after_step false w client in
-        let stepped : v ≡ after_one_access w client u = step_is w client u here holds in
-        let on = goes_on w client u here holds (ap answer_of e) in
-        let there : slice_get v.calls client.0 ≡ Some (Some on.call) =
-        subst (λ (x : State). slice_get x.calls client.0 ≡ Some (Some on.call)) (sym stepped) on.is in
-        let fewer : left_in v client < left_in w client =
-        subst (λ (x : State). left_in x client < left_in w client) (sym stepped) on.fewer in
-        let rest = answers_within n v client on.call there (holds_after_step false w client holds) (omega (arith, fewer, few)) in
-        record {
-          steps = suc rest.steps;
-          reply = rest.reply;
-          few = omega (arith, rest.few);
-          answered = answered_later rest.steps w client rest.reply rest.answered;
-        }
+answers_within (suc n) w client u here holds few =
+    one_step_more n w client u here holds few (λ v next. answers_within n v client next) (next_of (machine w) u) refl
 
 pub answers_soon : (w : State) (client : Client) (u : UnderWay) → Holds w → waiting_in w client ≡ Ok u
     → IsAnsweredWithin MAX_STEPS_ALONE w client
