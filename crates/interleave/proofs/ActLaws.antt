@@ -8,6 +8,7 @@ use Rattle.interleave.specs.Standing.{GoesOn}
 use Rattle.interleave.specs.State.{State, after_attempt, after_recover, recover_result}
 use Rattle.interleave.specs.Telling.{IsToldAtReady}
 use Rattle.interleave.specs.Turn.{NobodyCalls}
+use Rattle.interleave.proofs.Beginnings.{begins_by_attempt}
 use Rattle.interleave.proofs.HoldsKept.{holds_after_recover}
 use Rattle.interleave.proofs.KeptTells.{mended, tells_on, told_by_kept, told_of_announced}
 use Rattle.interleave.proofs.NumbersKept.{within_floors_ready}
@@ -18,6 +19,7 @@ use Rattle.interleave.proofs.StandingLaws.{nobody_at_ready, told_stands, unannou
 -- an attempt at an act goes on with the world: nothing is taken back, and calls that had ended stay as they are
 pub goes_on_after : (full : Bool) (w : State) (act : Act ℕ) → Holds w → GoesOn w (after_attempt full w act)
 goes_on_after full w act holds = record {
+  begins = begins_by_attempt full w act;
   grown = grown_by_attempt full w act;
   part = part_after_attempt full w act holds;
   ended = ended_by_attempt full w act holds;

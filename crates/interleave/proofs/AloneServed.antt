@@ -17,6 +17,7 @@ use Rattle.interleave.specs.Holds.{Holds}
 use Rattle.interleave.specs.Standing.{EndedCallsStay, GoesOn, IsBeginningOf}
 use Rattle.interleave.specs.State.{State, machine, is_down, order_in, after_alone, after_one_access, after_step, step_with, step_result, step_result_with, IsAnsweredAlone}
 use Rattle.interleave.specs.Turn.{IsInTurn, IsServedAlone}
+use Rattle.interleave.proofs.Beginnings.{begins_alone}
 use Rattle.interleave.proofs.AloneLaws.{get_set}
 use Rattle.interleave.proofs.HoldsKept.{explained_world, holds_after_step, part_after_step, waiting_is}
 use Rattle.interleave.proofs.Ended.{begins_itself, begins_on}
@@ -106,6 +107,7 @@ module _ (w : State) (client : Client) (holds : Holds w) where
       → IfOk result (λ answer. new ≡ after_alone answer.1 w client) → GoesOn w new
   goes_on_after_alone new (Err refusal) same answered is = subst (GoesOn w) (sym same) (goes_nowhere w)
   goes_on_after_alone new (Ok answer) same answered is = subst (GoesOn w) (sym is) (record {
+    begins = begins_alone answer.1 w client;
     grown = grown_alone answer.1;
     part = order_alone answer.1;
     ended = ended_alone answer.1 answer.0 answered;

@@ -1,4 +1,5 @@
 pub mod Entering
+pub mod Beginnings
 pub mod RunLaws
 pub mod ActLaws
 pub mod PartLaws
@@ -36,6 +37,7 @@ pub mod StandingLaws
 pub mod Turns
 pub mod TurnLaws
 pub mod AloneServed
+pub mod AloneEnds
 pub mod Rotated
 pub mod Unused
 pub mod verdicts

@@ -11,7 +11,8 @@ use Rattle.protocol.specs.declared.acts.Act.{Act}
 use Rattle.protocol.specs.declared.acts.Act.TheVariants.{Start, Step, Evict, Crash, Recover}
 use Rattle.interleave.specs.Holds.{Holds}
 use Rattle.interleave.specs.Runs.{IsAttempt, IsToldWhenReady, Went, nothing, next, StaysDown, AreToldWhenReady, AreToldForGood, recovery_steps}
-use Rattle.interleave.specs.Standing.{EndedCallsStay, GoesOn, IsBeginningOf, IsToldForGood}
+use Rattle.interleave.specs.Standing.{BeginAlike, EndedCallsStay, GoesOn, IsBeginningOf, IsToldForGood}
+use Rattle.interleave.proofs.Beginnings.{begins_by_attempt, begins_itself_alike, begins_on_alike}
 use Rattle.interleave.proofs.Ended.{begins_itself, begins_on}
 use Rattle.interleave.proofs.NumbersKept.{within_floors_ready}
 use Rattle.interleave.proofs.StandingLaws.{ended_by_order, ended_then, ended_after_step, ended_after_evict, grown_by_start, grown_by_step, grown_by_evict, grown_by_crash, grown_by_recover, told_stands}
@@ -202,6 +203,10 @@ ended_attempt : {room : ℕ} {w v : State} {act : Act ℕ} {accepted : Bool} →
 ended_attempt {w = w} {act = act} holds attempt =
     subst (EndedCallsStay w) (sym attempt.leaves) (ended_by_attempt attempt.full w act holds)
 
+begins_attempt : {room : ℕ} {w v : State} {act : Act ℕ} {accepted : Bool} → IsAttempt room w act accepted v → BeginAlike w v
+begins_attempt {w = w} {act = act} attempt =
+    subst (BeginAlike w) (sym attempt.leaves) (begins_by_attempt attempt.full w act)
+
 grown_attempt : {room : ℕ} {w v : State} {act : Act ℕ} {accepted : Bool} → IsAttempt room w act accepted v
     → IsBeginningOf w.log.events v.log.events
 grown_attempt {w = w} {act = act} attempt =
@@ -237,6 +242,7 @@ no_crash_before (Recover ∷ acts) act h = no_crash_before acts act h
 -- a world came of itself, and what came of what came of it came of it
 pub goes_nowhere : (w : State) → GoesOn w w
 goes_nowhere w = record {
+  begins = begins_itself_alike w;
   grown = begins_itself w.log.events;
   part = part_same (order_in w);
   ended = λ p reply ended taken. taken;
@@ -244,6 +250,7 @@ goes_nowhere w = record {
 
 pub goes_further : {old now new : State} → GoesOn old now → GoesOn now new → GoesOn old new
 goes_further {old = old} {now = now} {new = new} one other = record {
+  begins = begins_on_alike one.begins other.begins;
   grown = begins_on old.log.events now.log.events new.log.events one.grown other.grown;
   part = part_of_part other.part one.part;
   ended = ended_then old now new one.grown one.ended other.ended;
@@ -294,6 +301,7 @@ pub one_more : {room : ℕ} {old : State} {acts : List (Act ℕ)} {taken : ℕ} 
     → SoFar room old (acts ++ act ∷ []) (taken + count_of accepted) v
 one_more {acts = acts} {w = w} {v = v} {act = act} {accepted = accepted} so_far holds attempt =
     let on : GoesOn w v = record {
+      begins = begins_attempt attempt;
       grown = grown_attempt attempt;
       part = part_attempt holds attempt;
       ended = ended_attempt holds attempt;

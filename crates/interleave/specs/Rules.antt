@@ -66,6 +66,13 @@ pub record IsByAlone (client : Client) (old : Roomy) (result : Result (Reply × 
   pub room : old.room ≤ new.room + 1
   pub spare : IfErr result (λ e. old.room ≤ new.room)
 
+-- the client's call is answered within so many steps, where it goes on alone
+pub record IsAnsweredWithin (most : ℕ) (w : State) (client : Client) : Type 0 where
+  pub steps : ℕ
+  pub reply : Reply
+  pub few : steps ≤ most
+  pub answered : IsAnsweredAlone w client steps reply
+
 -- nothing is taken back, the order explains the history, and recovery can begin with the kept words
 pub record GoesOnExplained (old new : State) : Type 0 where
   pub goes_on : GoesOn old new

@@ -67,14 +67,26 @@ UnannouncedAreOut order w =
     → WasCutOff w.log.events client p → ¬ (IsAnnounced (machine w).memory.kept w.log.issued client p)
     → ¬ (InOrder order p)
 
--- the history of the one world goes on from that of the other, nothing is taken back, and ended calls stay; of the
--- bases it says nothing
-pub record GoesOn (old new : State) : Type 0 where
+-- the history of the one world grows to that of the other: nothing is taken back, and ended calls stay
+pub record GrowsFrom (old new : State) : Type 0 where
   pub grown : IsBeginningOf old.log.events new.log.events
   pub part : IsPartOf (order_in old) (order_in new)
   pub ended : EndedCallsStay old new
 
--- both hold by the order of each world that comes of this one
+-- two worlds are laid out alike, and their histories begin with the same: what the queue held and told then
+pub record BeginAlike (old new : State) : Type 0 where
+  pub shape : new.shape ≡ old.shape
+  pub base : new.base ≡ old.base
+  pub told : new.told ≡ old.told
+
+-- the one world goes on as the other: their histories begin alike, and that of the one grows to that of the other
+pub record GoesOn (old new : State) : Type 0 where
+  pub begins : BeginAlike old new
+  pub grown : IsBeginningOf old.log.events new.log.events
+  pub part : IsPartOf (order_in old) (order_in new)
+  pub ended : EndedCallsStay old new
+
+-- both hold by the order of each world whose history grew from that of this one
 abbrev pub IsToldForGood : State → Type 0
 IsToldForGood w =
-    (later : State) → GoesOn w later → AreToldOfAnnouncedBy later w × UnannouncedAreOut (order_in later) w
+    (later : State) → GrowsFrom w later → AreToldOfAnnouncedBy later w × UnannouncedAreOut (order_in later) w

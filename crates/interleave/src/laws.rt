@@ -1,7 +1,10 @@
 //! What holds of every act on a world.
 
-ghost use Rattle.std.specs.Prelude.{ℕ, Bool, List, length, slice_get, Some, ◌≡◌, ◌≢◌, ◌≤◌, ◌+◌, ◌++◌};
+ghost use Rattle.std.specs.Prelude.{ℕ, Bool, List, length, slice_get, Ok, Some, ◌≡◌, ◌≢◌, ◌≤◌, ◌+◌, ◌++◌};
+ghost use Rattle.words.specs.declared.call.Call.{Call};
 ghost use Rattle.words.specs.declared.call.Client.{Client};
+ghost use Rattle.words.specs.declared.call.Reply.{Reply};
+ghost use Rattle.words.specs.declared.limits.TheConstants.{MAX_STEPS_ALONE};
 ghost use Rattle.words.specs.declared.told.Told.{Told};
 ghost use Rattle.arena.specs.Shape.{Shape};
 ghost use Rattle.stepper.specs.Step.{IsReadInRange};
@@ -12,12 +15,14 @@ ghost use Rattle.protocol.specs.declared.UnderWay.{UnderWay};
 ghost use Rattle.interleave.specs.Premises.{IsMoreInRange, MayGoOn};
 ghost use Rattle.interleave.specs.Recoveries.{MayRecover};
 ghost use Rattle.interleave.specs.Holds.{Holds};
-ghost use Rattle.interleave.specs.Rotation.{IsQuiet, ShareNoNumber};
+ghost use Rattle.interleave.specs.Rotation.{AreNumbersTold, IsBaseToldRightly, IsQuiet, ShareNoNumber};
+ghost use Rattle.interleave.specs.Rules.{waiting_in, IsAnsweredWithin};
+ghost use Rattle.interleave.specs.Turn.{IsInTurn, IsServedAlone};
 ghost use Rattle.words.specs.declared.call.Kind.{Kind};
 ghost use Rattle.interleave.specs.Standing.{IsBeginningOf};
 ghost use Rattle.protocol.specs.Acts.{recoveries};
 ghost use Rattle.interleave.specs.Runs.{Went, recovery_steps, TellsNext};
-ghost use Rattle.interleave.specs.State.{State, after_attempt, after_act, after_acts, taken_of, kept_tells};
+ghost use Rattle.interleave.specs.State.{State, after_alone, after_attempt, after_act, after_acts, taken_of, kept_tells, IsAnsweredAlone};
 ghost use Rattle.interleave.specs.OneAccess.{MakesOneAccess};
 ghost use Rattle.interleave.specs.OneEvent.{event_of};
 ghost use Rattle.protocol.specs.declared.acts.Act.{Act};
@@ -61,6 +66,23 @@ pub fn kept_words_tell()
     ensures same { (w v : State) (tells telling : List Told)
         → Holds w → Holds v → w.shape ≡ v.shape → w.words.kept ≡ v.words.kept
         → TellsNext w tells → TellsNext v telling → tells ≡ telling }
+{}
+
+/// A call under way is answered within [`words::MAX_STEPS_ALONE`] steps, where it goes on alone. If it began last and
+/// nobody else has one, it is answered as by the plain queue, which then holds what the kept words hold.
+pub fn calls_alone_are_served()
+    ensures answered { (w : State) (client : Client) (call : UnderWay) → Holds w → waiting_in w client ≡ Ok call
+        → IsAnsweredWithin MAX_STEPS_ALONE w client }
+    ensures served { (w : State) (client : Client) (call : Call) (steps : ℕ) (reply : Reply)
+        → Holds w → IsInTurn w client call → IsAnsweredAlone w client steps reply
+        → IsServedAlone w call reply (after_alone steps w client) }
+{}
+
+/// Where a world is at rest, as before a rotation, what its kept words tell each client is right of its announced call,
+/// and no number in the order is above what they tell. A rotation's next base tells that.
+pub fn kept_words_tell_rightly()
+    ensures announced { (w : State) → Holds w → IsBaseToldRightly w }
+    ensures numbers { (w : State) → Holds w → IsQuiet w → AreNumbersTold w }
 {}
 
 /// A step leads into the range that the next one asks for, and so at every moment each call under way and the recovery

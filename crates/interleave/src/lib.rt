@@ -21,8 +21,9 @@ mod world;
 
 pub use acts::{Act, Ran};
 pub use laws::{
-    acts_with_room_are_made, histories_go_on, kept_words_tell, numbers_are_new, one_access_an_act,
-    one_event_an_act, steps_stay_in_range,
+    acts_with_room_are_made, calls_alone_are_served, histories_go_on, kept_words_tell,
+    kept_words_tell_rightly, numbers_are_new, one_access_an_act, one_event_an_act,
+    steps_stay_in_range,
 };
 pub use lent::Core;
 pub use queue::Queue;

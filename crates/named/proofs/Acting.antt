@@ -48,6 +48,7 @@ module _ (rest : Brokered) (m n : MemoryState) (at : ℕ) (was is : Slot)
 
   pub same_beside : IsSameBeside at old new
   same_beside = record {
+    counts = refl;
     other_rooms = λ other ne. ap room_of (get_set_other rest.slots at is other ne);
     others = quiet_others;
     directory = refl;
@@ -87,7 +88,7 @@ module _ (rest : Brokered) (m n : MemoryState) (at : ℕ) (was is : Slot)
     pub goes_on_at : (acts : Act ℕ) → ((w : State) → rule.leaves (is_no_memory result) w ≡ after_attempt (is_no_memory result) w acts)
         → BrokerGoesOn old new
     goes_on_at acts is_act =
-        client_goes_on (is_no_memory result) acts old new at client holds.well refl
+        client_goes_on (is_no_memory result) acts old new at client holds.well refl refl
         (act_at.world ∙ by_act (admission old client) (world_at old at)) quiet_others
       where
         by_act : (r : Result Unit Refusal) (o : Option State)
@@ -122,11 +123,12 @@ module _ (rest : Brokered) (m n : MemoryState) (at : ℕ) (was is : Slot)
 
     pub alone_on : BrokerGoesOn old new
     alone_on =
-        alone_goes_on client result old new at holds.well refl alone_at.same alone_at.answer alone_at.world quiet_others
+        alone_goes_on client result old new at holds.well refl refl alone_at.same alone_at.answer alone_at.world quiet_others
 
 -- an act that changes nothing
 pub nothing_beside : (b : Brokered) (at : ℕ) → IsWell b → IsSameBeside at b b
 nothing_beside b at well = record {
+  counts = refl;
   other_rooms = λ other ne. refl;
   others = λ other ne. refl;
   directory = refl;

@@ -42,10 +42,11 @@ free_no_world b slot w holds free e = go (slice_get b.slots slot) refl e
     go (Some s) is there = let none = no_world b.words s (holds.kinds slot s None is free) in absurd (cc (none, there))
 
 -- queues that are as they were, but for a slot that is opened
-opened_goes_on : (old new : Brokered) (at : ℕ) (queue : Queue) → IsWell old → IsFree old.directory at
+opened_goes_on : (old new : Brokered) (at : ℕ) (queue : Queue) → IsWell old → IsFree old.directory at → new.counts ≡ old.counts
     → new.directory ≡ slice_set old.directory at (Some queue)
     → ((j : ℕ) → j ≢ at → quiet (world_at new j) ≡ quiet (world_at old j)) → BrokerGoesOn old new
-opened_goes_on old new at queue holds free directory others = record {
+opened_goes_on old new at queue holds free counts directory others = record {
+  counts = counts;
   directory = λ slot q has. ap (λ (d : Directory). slice_get d slot) directory ∙ more_directory old.directory at queue free slot q has;
   worlds = λ slot w e. go slot w e (cases_eq slot at);
 }
@@ -55,9 +56,9 @@ opened_goes_on old new at queue holds free directory others = record {
     go slot w e (inr ne) = on_if_quiet w (world_at new slot) (others slot ne ∙ ap quiet e)
 
 -- all queues as they were but for the count of accesses
-quiet_goes_on : (old new : Brokered) → new.directory ≡ old.directory → ((j : ℕ) → quiet (world_at new j) ≡ quiet (world_at old j)) → BrokerGoesOn old new
-quiet_goes_on old new directory same =
-    each_goes_on old new directory (λ slot w e. on_if_quiet w (world_at new slot) (same slot ∙ ap quiet e))
+quiet_goes_on : (old new : Brokered) → new.counts ≡ old.counts → new.directory ≡ old.directory → ((j : ℕ) → quiet (world_at new j) ≡ quiet (world_at old j)) → BrokerGoesOn old new
+quiet_goes_on old new counts directory same =
+    each_goes_on old new counts directory (λ slot w e. on_if_quiet w (world_at new slot) (same slot ∙ ap quiet e))
 
 pub creation_step_goes_on : (old new : Brokered) (creation : Creation) (result : Result (Option SlotId) Refusal) → IsWell old → old.recovery ≡ None
     → old.creation ≡ Some creation → IsStepCreated old new creation result (successor creation)
@@ -67,10 +68,10 @@ creation_step_goes_on old new creation result holds ready is step others = go (s
   where
     go : (a : After Creation SlotId) → successor creation ≡ a → IsStepCreated old new creation result a → BrokerGoesOn old new
     go (More next) e (answer, same) =
-        quiet_goes_on old new (ap (λ (b : Brokered). b.directory) same) (λ j.
+        quiet_goes_on old new (ap (λ (b : Brokered). b.counts) same) (ap (λ (b : Brokered). b.directory) same) (λ j.
         others j (subst (λ (r : Result (Option SlotId) Refusal). IfOk r (λ opened. IfSome opened (λ slot. j ≢ slot.0))) (sym answer) tt))
     go (Done slot) e (answer, opened) =
-        opened_goes_on old new slot.0 creation.queue holds (is_free old creation holds ready is slot e) opened.directory (λ j ne.
+        opened_goes_on old new slot.0 creation.queue holds (is_free old creation holds ready is slot e) opened.counts opened.directory (λ j ne.
         others j (subst (λ (r : Result (Option SlotId) Refusal). IfOk r (λ opened. IfSome opened (λ slot. j ≢ slot.0))) (sym answer) ne))
 
 -- so it is of the creation that a broker has
@@ -119,13 +120,13 @@ read_creation : (old new : Brokered) (a : After DirectoryRecovery Directory) →
 read_creation old new (More next) on = inl on.1
 read_creation old new (Done places) on = creation_stays old.creation new.creation new.recovery on.2
 
-alike_downtime : (old new : Brokered) → (new.creation ≡ old.creation) ⊎ (new.recovery ≡ None) → IsKnownAlike old new → IsDowntime old new
-alike_downtime old new creation alike = same_downtime old new (quiet_goes_on old new alike.directory alike.worlds) alike.directory creation
+alike_downtime : (old new : Brokered) → new.counts ≡ old.counts → (new.creation ≡ old.creation) ⊎ (new.recovery ≡ None) → IsKnownAlike old new → IsDowntime old new
+alike_downtime old new counts creation alike = same_downtime old new (quiet_goes_on old new counts alike.directory alike.worlds) alike.directory creation
 
-first_downtime : (old new : Brokered) (slot : SlotId) → IsWell old → slot.0 < length old.slots → world_at old slot.0 ≡ None → (new.creation ≡ old.creation) ⊎ (new.recovery ≡ None)
+first_downtime : (old new : Brokered) (slot : SlotId) → IsWell old → slot.0 < length old.slots → new.counts ≡ old.counts → world_at old slot.0 ≡ None → (new.creation ≡ old.creation) ⊎ (new.recovery ≡ None)
     → IsFoundFirst old new slot → IsDowntime old new
-first_downtime old new slot holds below none creation first = record {
-  goes_on = opened_goes_on old new slot.0 first.creation.queue holds free first.directory first.others;
+first_downtime old new slot holds below counts none creation first = record {
+  goes_on = opened_goes_on old new slot.0 first.creation.queue holds free counts first.directory first.others;
   only = λ at queue has. elim (only_more old.directory slot.0 first.creation.queue at queue (slice_get_within old.directory slot.0 None free)
       (ap (λ (d : Directory). slice_get d at) (sym first.directory) ∙ has)) [
         | inl there ↦ inl there
@@ -137,10 +138,10 @@ first_downtime old new slot holds below none creation first = record {
     free : IsFree old.directory slot.0
     free = first_free old slot.0 holds none below
 
-found_downtime : (old new : Brokered) (slot : SlotId) (o : Option State) → IsWell old → slot.0 < length old.slots → world_at old slot.0 ≡ o
+found_downtime : (old new : Brokered) (slot : SlotId) (o : Option State) → IsWell old → slot.0 < length old.slots → new.counts ≡ old.counts → world_at old slot.0 ≡ o
     → (new.creation ≡ old.creation) ⊎ (new.recovery ≡ None) → IsFoundIn old new slot o → IsDowntime old new
-found_downtime old new slot (Some w) holds below e creation found = alike_downtime old new creation found
-found_downtime old new slot None holds below e creation found = first_downtime old new slot holds below e creation found
+found_downtime old new slot (Some w) holds below counts e creation found = alike_downtime old new counts creation found
+found_downtime old new slot None holds below counts e creation found = first_downtime old new slot holds below counts e creation found
 
 pub directory_downtime : (old new : Brokered) (at : DirectoryRecovery) (result : Result Bool Refusal) → IsWell old → old.recovery ≡ Some (ReadDirectory at)
     → IsDirectoryRead old new at result → IsDowntime old new
@@ -150,8 +151,8 @@ directory_downtime old new at result holds is read = go (found_by old at).opened
     creation = read_creation old new (found_by old at).after read.next
 
     go : (o : Option SlotId) → (found_by old at).opened ≡ o → IsFound old new o → IsDowntime old new
-    go None e found = alike_downtime old new creation found
-    go (Some slot) e found = found_downtime old new slot (world_at old slot.0) holds (opened_below old at slot holds is e) refl creation found
+    go None e found = alike_downtime old new read.counts creation found
+    go (Some slot) e found = found_downtime old new slot (world_at old slot.0) holds (opened_below old at slot holds is e) read.counts refl creation found
 
 queue_creation : (old new : Brokered) (slot : ℕ) (result r : Result Bool Refusal) → IsQueueOn old new slot result r → (new.creation ≡ old.creation) ⊎ (new.recovery ≡ None)
 queue_creation old new slot result (Err refusal) on = inl on.2
@@ -161,7 +162,7 @@ queue_creation old new slot result (Ok true) on = creation_stays old.creation ne
 pub queue_downtime : (old new : Brokered) (slot : ℕ) (result : Result Bool Refusal) → IsWell old → IsQueueRecovered old new slot result → IsDowntime old new
 queue_downtime old new slot result holds step =
     same_downtime old new
-    (slot_goes_on old new slot step.directory
+    (slot_goes_on old new slot step.counts step.directory
     (λ w e. on_by_act (is_no_memory result) w Recover (world_at new slot) (world_holds old slot w holds e) (step.world ∙ ap (acted (after_recover (is_no_memory result))) e))
     step.others)
     step.directory

@@ -38,7 +38,7 @@ alike_goes_on : (w v : State) → quiet (Some v) ≡ quiet (Some w) → GoesOn w
 alike_goes_on w v e =
     let is : counted v ≡ counted w = cc (e) in
     let on : GoesOn (counted w) (counted v) = subst (GoesOn (counted w)) (sym is) (goes_nowhere (counted w)) in
-    record { grown = on.grown; part = on.part; ended = on.ended }
+    record { begins = record { shape = on.begins.shape; base = on.begins.base; told = on.begins.told }; grown = on.grown; part = on.part; ended = on.ended }
 
 -- what became of a slot's world by an act of its own, or of another slot
 pub on_by_act : (full : Bool) (w : State) (act : Act ℕ) (now : Option State) → Holds w → now ≡ Some (after_attempt full w act) → IsGoneOn w now
@@ -53,10 +53,11 @@ on_if_same w now e = record { world = w; is = e; goes_on = goes_nowhere w }
 
 -- the broker as it was goes on, and one that goes on from there
 pub broker_stays : (b : Brokered) → BrokerGoesOn b b
-broker_stays b = record { directory = λ slot queue has. has; worlds = λ slot w e. on_if_same w (world_at b slot) e }
+broker_stays b = record { counts = refl; directory = λ slot queue has. has; worlds = λ slot w e. on_if_same w (world_at b slot) e }
 
 pub broker_goes_further : (old now new : Brokered) → BrokerGoesOn old now → BrokerGoesOn now new → BrokerGoesOn old new
 broker_goes_further old now new one other = record {
+  counts = other.counts ∙ one.counts;
   directory = λ slot queue has. other.directory slot queue (one.directory slot queue has);
   worlds = λ slot w e.
       let first = one.worlds slot w e in
@@ -88,10 +89,11 @@ world_holds b slot w holds e = go (slice_get b.slots slot) refl e
     go (Some s) is there = slot_holds b.words s w (slot_is_well b.counts b.words slot s (holds.slots slot s is)) there
 
 -- an act on one slot, and the others as they were
-pub slot_goes_on : (old new : Brokered) (i : ℕ) → new.directory ≡ old.directory
+pub slot_goes_on : (old new : Brokered) (i : ℕ) → new.counts ≡ old.counts → new.directory ≡ old.directory
     → ((w : State) → world_at old i ≡ Some w → IsGoneOn w (world_at new i))
     → ((j : ℕ) → j ≢ i → quiet (world_at new j) ≡ quiet (world_at old j)) → BrokerGoesOn old new
-slot_goes_on old new i directory own others = record {
+slot_goes_on old new i counts directory own others = record {
+  counts = counts;
   directory = λ slot queue has. ap (λ (d : Directory). slice_get d slot) directory ∙ has;
   worlds = λ slot w e. go slot w e (cases_eq slot i);
 }
@@ -107,11 +109,11 @@ admitted_or_not full act (Ok u) o now w holds there is =
     on_by_act full w act now holds (is ∙ ap (acted (λ v. after_attempt full v act)) there)
 admitted_or_not full act (Err refusal) o now w holds there is = on_if_same w now (is ∙ there)
 
-pub client_goes_on : (full : Bool) (act : Act ℕ) (old new : Brokered) (slot : ℕ) (client : Client) → IsWell old → new.directory ≡ old.directory
+pub client_goes_on : (full : Bool) (act : Act ℕ) (old new : Brokered) (slot : ℕ) (client : Client) → IsWell old → new.counts ≡ old.counts → new.directory ≡ old.directory
     → world_at new slot ≡ world_after (λ v. after_attempt full v act) old slot client
     → ((j : ℕ) → j ≢ slot → quiet (world_at new j) ≡ quiet (world_at old j)) → BrokerGoesOn old new
-client_goes_on full act old new slot client holds directory world others =
-    slot_goes_on old new slot directory
+client_goes_on full act old new slot client holds counts directory world others =
+    slot_goes_on old new slot counts directory
     (λ w e. admitted_or_not full act (admission old client) (world_at old slot) (world_at new slot) w (world_holds old slot w holds e) e world)
     others
 
@@ -128,18 +130,19 @@ alone_or_not client (Ok answer) o now w holds there same answered is =
       goes_on = goes_on_after_alone w client holds (after_alone answer.1 w client) (Ok answer) tt at refl;
     }
 
-pub alone_goes_on : (client : Client) (result : Result (Reply × ℕ) Refusal) (old new : Brokered) (slot : ℕ) → IsWell old → new.directory ≡ old.directory
+pub alone_goes_on : (client : Client) (result : Result (Reply × ℕ) Refusal) (old new : Brokered) (slot : ℕ) → IsWell old → new.counts ≡ old.counts → new.directory ≡ old.directory
     → IfErr result (λ e. world_at new slot ≡ world_at old slot)
     → IfOk result (λ answer. IfWorld (world_at old slot) (λ w. IsAnsweredAlone w client answer.1 answer.0))
     → IfOk result (λ answer. world_at new slot ≡ acted (λ w. after_alone answer.1 w client) (world_at old slot))
     → ((j : ℕ) → j ≢ slot → quiet (world_at new j) ≡ quiet (world_at old j)) → BrokerGoesOn old new
-alone_goes_on client result old new slot holds directory same answered is others =
-    slot_goes_on old new slot directory
+alone_goes_on client result old new slot holds counts directory same answered is others =
+    slot_goes_on old new slot counts directory
     (λ w e. alone_or_not client result (world_at old slot) (world_at new slot) w (world_holds old slot w holds e) e same answered is) others
 
 -- each world by an act of its own
-pub each_goes_on : (old new : Brokered) → new.directory ≡ old.directory → ((slot : ℕ) (w : State) → world_at old slot ≡ Some w → IsGoneOn w (world_at new slot)) → BrokerGoesOn old new
-each_goes_on old new directory worlds = record {
+pub each_goes_on : (old new : Brokered) → new.counts ≡ old.counts → new.directory ≡ old.directory → ((slot : ℕ) (w : State) → world_at old slot ≡ Some w → IsGoneOn w (world_at new slot)) → BrokerGoesOn old new
+each_goes_on old new counts directory worlds = record {
+  counts = counts;
   directory = λ slot queue has. ap (λ (d : Directory). slice_get d slot) directory ∙ has;
   worlds = worlds;
 }
@@ -151,15 +154,15 @@ evicted_on c slot word w now holds is = go (is_in_block c slot word) refl
     go true e = on_by_act false w (Evict (word - block_from c slot)) now holds (is ∙ ap (λ (x : Bool). let r : Option State = Some (if x then after_evict w (word - block_from c slot) else w) in r) e)
     go false e = on_if_same w now (is ∙ ap (λ (x : Bool). let r : Option State = Some (if x then after_evict w (word - block_from c slot) else w) in r) e)
 
-pub eviction_goes_on : (old new : Brokered) (word : ℕ) → IsWell old → new.directory ≡ old.directory
+pub eviction_goes_on : (old new : Brokered) (word : ℕ) → IsWell old → new.counts ≡ old.counts → new.directory ≡ old.directory
     → ((slot : ℕ) → world_at new slot ≡ acted (world_evicted old.counts slot word) (world_at old slot)) → BrokerGoesOn old new
-eviction_goes_on old new word holds directory worlds =
-    each_goes_on old new directory (λ slot w e.
+eviction_goes_on old new word holds counts directory worlds =
+    each_goes_on old new counts directory (λ slot w e.
     evicted_on old.counts slot word w (world_at new slot) (world_holds old slot w holds e) (worlds slot ∙ ap (acted (world_evicted old.counts slot word)) e))
 
 pub crash_goes_on : (old new : Brokered) → IsWell old → IsStopped old new → BrokerGoesOn old new
 crash_goes_on old new holds stopped =
-    each_goes_on old new (ap (λ (b : Brokered). b.directory) stopped.same) (λ slot w e.
+    each_goes_on old new (ap (λ (b : Brokered). b.counts) stopped.same) (ap (λ (b : Brokered). b.directory) stopped.same) (λ slot w e.
     on_by_act false w Crash (world_at new slot) (world_holds old slot w holds e) (stopped.worlds slot ∙ ap (acted after_stop) e))
 
 -- a queue that comes into a free slot leaves the others
@@ -201,20 +204,20 @@ creation_stays creation now None e = inr refl
 creation_stays creation now (Some recovery) e = inl e
 
 -- queues that are as they were
-pub same_goes_on : (old new : Brokered) → new.directory ≡ old.directory → ((slot : ℕ) → world_at new slot ≡ world_at old slot) → BrokerGoesOn old new
-same_goes_on old new directory same =
-    each_goes_on old new directory (λ slot w e. on_if_same w (world_at new slot) (same slot ∙ e))
+pub same_goes_on : (old new : Brokered) → new.counts ≡ old.counts → new.directory ≡ old.directory → ((slot : ℕ) → world_at new slot ≡ world_at old slot) → BrokerGoesOn old new
+same_goes_on old new counts directory same =
+    each_goes_on old new counts directory (λ slot w e. on_if_same w (world_at new slot) (same slot ∙ e))
 
 -- so it is where a creation begins
 pub begun_goes_on : (old new : Brokered) → new ≡ record old { creation = new.creation } → BrokerGoesOn old new
 begun_goes_on old new e =
-    same_goes_on old new (ap (λ (b : Brokered). b.directory) e) (λ slot. ap (λ (b : Brokered). world_at b slot) e)
+    same_goes_on old new (ap (λ (b : Brokered). b.counts) e) (ap (λ (b : Brokered). b.directory) e) (λ slot. ap (λ (b : Brokered). world_at b slot) e)
 
 pub eviction_downtime : (old new : Brokered) (word : ℕ) → IsWell old → new ≡ record old { words = new.words; slots = new.slots }
     → ((slot : ℕ) → world_at new slot ≡ acted (world_evicted old.counts slot word) (world_at old slot)) → IsDowntime old new
 eviction_downtime old new word holds same worlds =
     let directory : new.directory ≡ old.directory = ap (λ (b : Brokered). b.directory) same in
-    same_downtime old new (eviction_goes_on old new word holds directory worlds) directory (inl (ap (λ (b : Brokered). b.creation) same))
+    same_downtime old new (eviction_goes_on old new word holds (ap (λ (b : Brokered). b.counts) same) directory worlds) directory (inl (ap (λ (b : Brokered). b.creation) same))
 
 -- nor does an act that does nothing
 pub nothing_downtime : (b : Brokered) → IsDowntime b b

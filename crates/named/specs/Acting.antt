@@ -36,9 +36,10 @@ pub record IsAloneAt (slot : ℕ) (client : Client) (old : Brokered) (result : R
   pub room : room_at old slot ≤ room_at new slot + 1
   pub spare : IfErr result (λ e. room_at old slot ≤ room_at new slot)
 
--- nothing else changed: the other queues, but for the count of accesses, the directory, and what is under way of the
--- broker's own
+-- nothing else changed: the other queues, but for the count of accesses, the counts, the directory, and what is under
+-- way of the broker's own
 pub record IsSameBeside (slot : ℕ) (old new : Brokered) : Type 0 where
+  pub counts : new.counts ≡ old.counts
   pub other_rooms : (other : ℕ) → other ≢ slot → room_at new other ≡ room_at old other
   pub others : (other : ℕ) → other ≢ slot → quiet (world_at new other) ≡ quiet (world_at old other)
   pub directory : new.directory ≡ old.directory

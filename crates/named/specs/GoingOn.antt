@@ -16,8 +16,9 @@ pub record IsGoneOn (w : State) (now : Option State) : Type 0 where
   pub is : now ≡ Some world
   pub goes_on : GoesOn w world
 
--- so it is of each queue, with its name and kind
+-- so it is of each queue, with its name and kind, and there are as many clients and records
 pub record BrokerGoesOn (old new : Brokered) : Type 0 where
+  pub counts : new.counts ≡ old.counts
   pub directory : (slot : ℕ) (queue : Queue) → HasQueue old.directory slot queue → HasQueue new.directory slot queue
   pub worlds : (slot : ℕ) (w : State) → world_at old slot ≡ Some w → IsGoneOn w (world_at new slot)
 

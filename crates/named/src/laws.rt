@@ -9,9 +9,9 @@ ghost use Rattle.named.specs.GoingOn.{BrokerGoesOn, CameOf, IsDowntime};
 ghost use Rattle.named.specs.Promises.{KeepsPromises};
 ghost use Rattle.named.specs.Rotating.{IsRotated};
 
-/// Each act but a rotation says that the broker goes on: each queue stays in its slot with its name and kind, nothing
-/// is taken back from its order, and calls that had ended stay as they are. So it is over any list of such acts.
-#[tactic(auto, using(crate::proofs::GoingOn::broker_stays, crate::proofs::GoingOn::broker_goes_further))]
+/// Each act but a rotation says that the broker goes on: each queue stays in its slot with its name and kind, begins
+/// with what it began with, nothing is taken back from its order, and calls that had ended stay as they are. So it is
+/// over any list of such acts.
 pub fn brokers_go_on()
     ensures none { (b : Brokered) → BrokerGoesOn b b }
     ensures more { (old now new : Brokered) → BrokerGoesOn old now → BrokerGoesOn now new → BrokerGoesOn old new }

@@ -17,7 +17,7 @@ pub record IsOpenedOver (broker : Brokered) (s : Sessioned) : Type 0 where
 
 -- The bytes are the image of the kept words that the session came to; they are read as these words, which boot. What
 -- was settled as the session began is so still, no number took effect twice, and the queues that there were are there,
--- each with a history that went on or ended with a rotation. Of what they held when it began `came` says nothing.
+-- each with a history that went on from where it began, or ended with a rotation.
 pub record IsImageAfter (first : Sessioned) (bytes : List ℕ) : Type 0 where
   pub last : Sessioned
   pub goes_on : SessionGoesOn first last

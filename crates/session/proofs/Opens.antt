@@ -28,6 +28,7 @@ still_admitted old new client slot w v well next here there shape recovery ok =
 pub alike_further : (old now new : Brokered) (slot : ℕ) → IsSameBeside slot old now → IsSameBeside slot now new
     → IsSameBeside slot old new
 alike_further old now new slot one other = record {
+  counts = other.counts ∙ one.counts;
   other_rooms = λ at ne. other.other_rooms at ne ∙ one.other_rooms at ne;
   others = λ at ne. other.others at ne ∙ one.others at ne;
   directory = other.directory ∙ one.directory;

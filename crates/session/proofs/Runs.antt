@@ -129,6 +129,7 @@ pub record IsRoomMade (old made : Brokered) (slot : ℕ) : Type 0 where
   pub directory : made.directory ≡ old.directory
   pub creation : made.creation ≡ old.creation
   pub recovery : made.recovery ≡ old.recovery
+  pub counts : made.counts ≡ old.counts
   pub words : made.words ≡ old.words
   pub was_well : IsWell old
   pub well : IsWell made
@@ -142,6 +143,7 @@ pub record IsStartTried (made now : Brokered) (slot : ℕ) (client : Client) (nu
 
 made_alike : (old made : Brokered) (slot : ℕ) → IsRoomMade old made slot → IsSameBeside slot old made
 made_alike old made slot m = record {
+  counts = m.counts;
   other_rooms = m.rooms;
   others = λ at ne. ap quiet (m.worlds at);
   directory = m.directory;

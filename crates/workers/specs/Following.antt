@@ -43,8 +43,7 @@ pub record Guarded : Type 0 where
 
 -- what holds of it whenever the lock is free, where there are so many clients, and the session was this one when the
 -- seats were given: what was settled then is so still, the clients of its log queues are such clients still, and the
--- queues that it had then are there, each with a history that went on or ended with a rotation; of what they held when
--- it began `came` says nothing
+-- queues that it had then are there, each with a history that went on from where it began, or ended with a rotation
 pub record IsGuardedWell (all : ℕ) (first : Sessioned) (g : Guarded) : Type 0 where
   pub clients : length g.rows ≡ all
   pub followed : AreFollowed (beginnings first g.rotated) g.session g.rows

@@ -9,7 +9,7 @@ use Rattle.session.proofs.running.run.Goals as goal
 
 pub returns-in_err-start-clause-run : goal.returns-in_err-start-clause-run
 returns-in_err-start-clause-run c =
-    let made : IsRoomMade c.args.broker.now c.reserve.new.self c.args.queue.0 = record { worlds = c.reserve.ensures.worlds; room = c.in_ok-reserve.ensures.room; more = c.reserve.ensures.kept c.args.queue.0; rooms = c.reserve.ensures.other_rooms; directory = c.reserve.ensures.directory; creation = c.reserve.ensures.creation; recovery = c.reserve.ensures.recovery; words = c.reserve.ensures.words; was_well = c.requires.well; well = c.reserve.ensures.promises.well } in
+    let made : IsRoomMade c.args.broker.now c.reserve.new.self c.args.queue.0 = record { worlds = c.reserve.ensures.worlds; room = c.in_ok-reserve.ensures.room; more = c.reserve.ensures.kept c.args.queue.0; rooms = c.reserve.ensures.other_rooms; directory = c.reserve.ensures.directory; creation = c.reserve.ensures.creation; recovery = c.reserve.ensures.recovery; counts = c.reserve.ensures.goes_on.counts; words = c.reserve.ensures.words; was_well = c.requires.well; well = c.reserve.ensures.promises.well } in
     let tried : IsStartTried c.reserve.new.self c.start.new.self c.args.queue.0 c.args.client c.args.number c.args.call c.start.result = record { act = c.start.ensures.act; beside = c.start.ensures.beside; well = c.start.ensures.promises.well } in
     let answer : c.from_residual-in_err-start.result ≡ Err c.in_err-start.field-0.0 = search rules in
     subst (IsRun c.args.broker.now c.start.new.self c.args.queue.0 c.args.client c.args.number c.args.call) (sym answer)
@@ -17,7 +17,7 @@ returns-in_err-start-clause-run c =
 
 pub returns-in_err-reply-clause-run : goal.returns-in_err-reply-clause-run
 returns-in_err-reply-clause-run c =
-    let made : IsRoomMade c.args.broker.now c.reserve.new.self c.args.queue.0 = record { worlds = c.reserve.ensures.worlds; room = c.in_ok-reserve.ensures.room; more = c.reserve.ensures.kept c.args.queue.0; rooms = c.reserve.ensures.other_rooms; directory = c.reserve.ensures.directory; creation = c.reserve.ensures.creation; recovery = c.reserve.ensures.recovery; words = c.reserve.ensures.words; was_well = c.requires.well; well = c.reserve.ensures.promises.well } in
+    let made : IsRoomMade c.args.broker.now c.reserve.new.self c.args.queue.0 = record { worlds = c.reserve.ensures.worlds; room = c.in_ok-reserve.ensures.room; more = c.reserve.ensures.kept c.args.queue.0; rooms = c.reserve.ensures.other_rooms; directory = c.reserve.ensures.directory; creation = c.reserve.ensures.creation; recovery = c.reserve.ensures.recovery; counts = c.reserve.ensures.goes_on.counts; words = c.reserve.ensures.words; was_well = c.requires.well; well = c.reserve.ensures.promises.well } in
     let tried : IsStartTried c.reserve.new.self c.start.new.self c.args.queue.0 c.args.client c.args.number c.args.call c.start.result = record { act = c.start.ensures.act; beside = c.start.ensures.beside; well = c.start.ensures.promises.well } in
     let alone : IsAloneAt c.args.queue.0 c.args.client c.start.new.self (Err c.in_err-reply.field-0.0) c.run_alone.new.self =
     subst (λ (r : Result (Reply × ℕ) Refusal). IsAloneAt c.args.queue.0 c.args.client c.start.new.self r c.run_alone.new.self)
@@ -26,7 +26,7 @@ returns-in_err-reply-clause-run c =
 
 pub returns-clause-run : goal.returns-clause-run
 returns-clause-run c =
-    let made : IsRoomMade c.args.broker.now c.reserve.new.self c.args.queue.0 = record { worlds = c.reserve.ensures.worlds; room = c.in_ok-reserve.ensures.room; more = c.reserve.ensures.kept c.args.queue.0; rooms = c.reserve.ensures.other_rooms; directory = c.reserve.ensures.directory; creation = c.reserve.ensures.creation; recovery = c.reserve.ensures.recovery; words = c.reserve.ensures.words; was_well = c.requires.well; well = c.reserve.ensures.promises.well } in
+    let made : IsRoomMade c.args.broker.now c.reserve.new.self c.args.queue.0 = record { worlds = c.reserve.ensures.worlds; room = c.in_ok-reserve.ensures.room; more = c.reserve.ensures.kept c.args.queue.0; rooms = c.reserve.ensures.other_rooms; directory = c.reserve.ensures.directory; creation = c.reserve.ensures.creation; recovery = c.reserve.ensures.recovery; counts = c.reserve.ensures.goes_on.counts; words = c.reserve.ensures.words; was_well = c.requires.well; well = c.reserve.ensures.promises.well } in
     let tried : IsStartTried c.reserve.new.self c.start.new.self c.args.queue.0 c.args.client c.args.number c.args.call c.start.result = record { act = c.start.ensures.act; beside = c.start.ensures.beside; well = c.start.ensures.promises.well } in
     let alone : IsAloneAt c.args.queue.0 c.args.client c.start.new.self (Ok (c.in_ok-reply.reply, c.in_ok-reply._steps)) c.run_alone.new.self =
     subst (λ (r : Result (Reply × ℕ) Refusal). IsAloneAt c.args.queue.0 c.args.client c.start.new.self r c.run_alone.new.self)

@@ -137,7 +137,7 @@ returns-in_err-reserve_each-clause-goes_on c =
     let written : (with_items c.self.inside.slots more).items ≡ more = with_items_is c.self.inside.slots more (each.count ∙ sym c.self.inside.slots.ok.0) in
     let new : Brokered = record b { slots = (with_items c.self.inside.slots more).items } in
     subst (λ (x : Brokered). BrokerGoesOn x new) c.self.view_is
-    (same_goes_on b new refl (λ at. ap (λ (l : List Slot). world_of b.words (slice_get l at)) written ∙ worlds_roomier b more c.self.invariant.well each at))
+    (same_goes_on b new refl refl (λ at. ap (λ (l : List Slot). world_of b.words (slice_get l at)) written ∙ worlds_roomier b more c.self.invariant.well each at))
 
 pub returns-clause-goes_on : goal.returns-clause-goes_on
 returns-clause-goes_on c = crash_goes_on _ _ (subst IsWell c.self.view_is c.self.invariant.well) (returns-clause-stopped c refl)

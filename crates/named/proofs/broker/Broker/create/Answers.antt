@@ -4,7 +4,7 @@ use Rattle.directory.specs.declared.creation.Creation.{Creation}
 use Rattle.directory.specs.declared.queue.Queue.{Queue}
 use Rattle.named.specs.Brokers.{Brokered, IsWell}
 use Rattle.named.proofs.Begun.{begun_well}
-use Rattle.named.proofs.GoingOn.{begun_goes_on}
+use Rattle.named.proofs.GoingOn.{begun_goes_on, broker_stays}
 use Rattle.named.proofs.Kept.{ready_there}
 use Rattle.named.proofs.Askings.{begun_asked}
 use Rattle.named.proofs.Promises.{promises_well}
@@ -38,3 +38,18 @@ returns-clause-goes_on c =
       recovery = c.self.inside.recovery;
     } in
     begun_goes_on c.args.self.now new (ap (λ (x : Brokered). let y : Brokered = record x { creation = Some c.begin.result } in y) c.self.view_is)
+
+pub returns-in_err-name-clause-goes_on : goal.returns-in_err-name-clause-goes_on
+returns-in_err-name-clause-goes_on c = broker_stays _
+
+pub returns-in_err-check_ready-clause-goes_on : goal.returns-in_err-check_ready-clause-goes_on
+returns-in_err-check_ready-clause-goes_on c = broker_stays _
+
+pub returns-then-is_some-clause-goes_on : goal.returns-then-is_some-clause-goes_on
+returns-then-is_some-clause-goes_on c = broker_stays _
+
+pub returns-then-has-clause-goes_on : goal.returns-then-has-clause-goes_on
+returns-then-has-clause-goes_on c = broker_stays _
+
+pub returns-in_default-clause-goes_on : goal.returns-in_default-clause-goes_on
+returns-in_default-clause-goes_on c = broker_stays _

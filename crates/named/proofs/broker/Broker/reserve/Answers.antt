@@ -80,7 +80,7 @@ pub returns-clause-goes_on : goal.returns-clause-goes_on
 returns-clause-goes_on c =
     let b : Brokered = record { counts = c.self.inside.layout; words = c.self.inside.memory.words; slots = c.self.inside.slots.items; directory = c.self.inside.directory; creation = c.self.inside.creation; recovery = c.self.inside.recovery } in
     let new : Brokered = record b { slots = slice_set b.slots c.args.slot.0 c.reserve.new.self } in
-    same_goes_on c.args.self.now new (ap (λ (x : Brokered). x.directory) c.self.view_is) (returns-clause-worlds c)
+    same_goes_on c.args.self.now new (ap (λ (x : Brokered). x.counts) c.self.view_is) (ap (λ (x : Brokered). x.directory) c.self.view_is) (returns-clause-worlds c)
 
 pub returns-then-slot-len-clause-goes_on : goal.returns-then-slot-len-clause-goes_on
 returns-then-slot-len-clause-goes_on c = broker_stays _

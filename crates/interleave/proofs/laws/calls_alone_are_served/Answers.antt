@@ -1,0 +1,10 @@
+use Rattle.interleave.proofs.AloneEnds.{answers_soon}
+use Rattle.interleave.proofs.AloneServed.{served_alone}
+use Rattle.interleave.proofs.laws.calls_alone_are_served.Goals as goal
+
+pub returns-clause-answered : goal.returns-clause-answered
+returns-clause-answered c = answers_soon
+
+pub returns-clause-served : goal.returns-clause-served
+returns-clause-served c =
+    λ w client call steps reply holds turn answered. served_alone w client holds steps reply answered call turn
