@@ -66,7 +66,7 @@ answered_within set f None closed own = closed
 answered_within set f (Some w) closed own = own w
 
 -- what a client's act is answered
-act_within : {T : Type 0} (set : Refusal → Bool) (f : State → Result T Refusal) (b : Brokered) (slot : ℕ) (client : Client)
+pub act_within : {T : Type 0} (set : Refusal → Bool) (f : State → Result T Refusal) (b : Brokered) (slot : ℕ) (client : Client)
     → IsTrue (set NoClient) → IsTrue (set NotReady) → IsTrue (set NoQueue) → ((w : State) → Within set (f w))
     → Within set (answer_at f b slot client)
 act_within set f b slot client none down closed own =
@@ -141,7 +141,7 @@ started_within full w client (Ok number) why =
     (chosen is_call_refusal (used_by w client == w.shape.records) (Err NoRoom) _ refl
     (chosen is_call_refusal full (Err NoMemory) (Ok tt) refl tt))
 
-start_within : (full : Bool) (w : State) (client : Client) (number : ℕ)
+pub start_within : (full : Bool) (w : State) (client : Client) (number : ℕ)
     → Within is_call_refusal (as_begun (start_result full w client number))
 start_within full w client number =
     started_within full w client (number_to_start w client number)

@@ -1,0 +1,5 @@
+pub mod Going
+pub mod Creations
+pub mod Recoveries
+pub mod Leading
+pub mod Fitting

@@ -1,0 +1,4 @@
+pub mod Answers
+pub mod Creating
+pub mod Recovering
+pub mod Serving
