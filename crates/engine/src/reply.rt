@@ -46,10 +46,7 @@ pub fn reply_to<T: Wait, P: Reading, D: Desk>(
         Err(refusal) => Reply::Fault(refusal),
         Ok(request) => {
             let made = request;
-            match desk.answer(rt, request) {
-                Ok(answer) => Reply::Made(made, answer),
-                Err(_) => Reply::Fault(Refusal::NoMemory),
-            }
+            Reply::Made(made, desk.answer(rt, request))
         }
     }
 }

@@ -85,7 +85,7 @@ no_slot b queue _ placed = absurd placed
 by_no_slot : (P : Refusal → Type 0) (b : Brokered) (queue : Option (List ℕ)) (refusal : Refusal)
     → IsPlaced b queue (Err refusal) → P NotReady → P NoQueue → P refusal
 by_no_slot P b queue refusal placed down none =
-    elim (no_slot b queue refusal placed) [ | inl e ↦ subst P (sym e) down | inr e ↦ subst P (sym e) none ]
+    elim (no_slot b queue refusal placed) [ inl e ↦ subst P (sym e) down | inr e ↦ subst P (sym e) none ]
 
 -- calls
 unbegun : (r : Result Unit Refusal) → Within is_call_refusal (as_begun r) → Within is_call_refusal r

@@ -19,10 +19,10 @@ pub comes_further : (old now new : Sessioned) (ready : Bool) → ready ≡ false
 comes_further old now new ready going come step kept = record {
   steps = suc come.steps;
   stepped = (
-      now,
-      come.stepped,
-      subst (λ (r : Bool). IsStep now new (Ok r)) going (record { step = step; kept = kept }),
-    );
+    now,
+    come.stepped,
+    subst (λ (r : Bool). IsStep now new (Ok r)) going (record { step = step; kept = kept }),
+  );
 }
 
 -- and with one more step to its end, or to one that is refused

@@ -1,12 +1,13 @@
 //! The desk.
 
-ghost use Rattle.std.specs.Prelude.{◌≡◌, []};
+ghost use Rattle.std.specs.Prelude.{◌≡◌, [], IfOk};
 ghost use Rattle.owning.specs.Serving.{GoesOnRight, Leads};
 ghost use Rattle.desk.specs.Serving.{AreAnswered};
 ghost use Rattle.session.specs.Promises.{KeepsNumbers};
 
 use crate::answering::answer_to;
 use crate::beginning::Beginning;
+use chronicle::Chronicle;
 use engine::Desk;
 use events::copied;
 use session::Session;
@@ -15,13 +16,12 @@ use std::marker::{Model, PhantomData};
 use std::sync::Wait;
 use wire::{Answer, Request};
 
-/// Where the requests of the only connection are answered: it has the session for itself. It remembers each request
-/// with its answer.
+/// Where the requests of the only connection are answered: it has the session for itself.
 #[derive(Drop)]
 pub struct OwningDesk<J: Beginning> {
     session: Session,
     /// The requests that were made, with their answers, in order.
-    served: Vec<(Request, Answer)>,
+    served: Chronicle<(Request, Answer)>,
     of: PhantomData<J>,
 }
 
@@ -30,24 +30,25 @@ impl<J: Beginning> Model for OwningDesk<J> {
 
     ghost Value = { Owned };
 
-    ghost view = { λ d. record { session = d.session; served = d.served.items } };
+    ghost view = { λ d. record { session = d.session; served = d.served } };
 
-    ghost invariant = { λ d. IsOwned J.first (record { session = d.session; served = d.served.items }) };
+    ghost invariant = { λ d. IsOwned J.first (record { session = d.session; served = d.served }) };
 }
 
 impl<J: Beginning> OwningDesk<J> {
-    /// A desk that has served nothing.
-    pub fn new(alloc: Global, session: Session) -> Self
+    /// A desk that has served nothing. It takes memory for one word, and none for what it serves.
+    pub fn new(alloc: Global, session: Session) -> Result<Self, AllocError>
         requires name { session ≡ J.first }
         requires promises { KeepsNumbers session }
-        ensures session { result.session ≡ session }
-        ensures served { result.served ≡ [] }
+        ensures session { IfOk result (λ desk. desk.session ≡ session) }
+        ensures served { IfOk result (λ desk. desk.served ≡ []) }
     {
-        OwningDesk {
+        let served = Chronicle::begin(alloc)?;
+        Ok(OwningDesk {
             session,
-            served: Vec::new(alloc),
+            served,
             of: PhantomData,
-        }
+        })
     }
 
     /// The session as what was served left it.
@@ -64,12 +65,9 @@ impl<J: Beginning> OwningDesk<J> {
 impl<J: Beginning> Desk for OwningDesk<J> {
     ghost served = { λ desk. desk.served };
 
-    fn answer<R: Wait>(&mut self, rt: &R, request: Request) -> Result<Answer, AllocError> {
-        self.served.reserve(1)?;
-        let made = copied(&request);
-        let answer = answer_to(&mut self.session, request);
-        let told = copied(&answer);
-        self.served.push_reserved((made, answer));
-        Ok(told)
+    fn answer<R: Wait>(&mut self, rt: &R, request: Request) -> Answer {
+        let made = (copied(&request), answer_to(&mut self.session, request));
+        self.served.note(&made);
+        made.1
     }
 }

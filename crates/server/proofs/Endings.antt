@@ -9,7 +9,7 @@ use Rattle.session.specs.Promises.{KeepsNumbers}
 use Rattle.session.specs.Sessions.{Sessioned}
 use Rattle.workers.specs.Seats.{AreSeatsRecorded}
 use Rattle.workers.specs.declared.entry.Entry.{Entry}
-use Rattle.server.specs.Image.{IsImageAfter}
+use Rattle.server.specs.Image.{IsImageAfter, IsImageOf}
 
 -- its image, where there was memory for that
 pub image_after : {S : Type 0} (list : S → List Entry) (seats : List S) (first last : Sessioned) (b : Brokered)
@@ -24,7 +24,7 @@ image_after list seats first last b (Ok bytes) same lists on keeps image read bo
   rotated = lists.rotated;
   came = lists.came;
   promises = keeps;
-  image = subst (λ (x : Brokered). bytes.items ≡ image_of x.words.kept) same image;
-  read = subst (λ (x : Brokered). reading bytes.items ≡ Ok x.words.kept) same read;
-  boots = subst (λ (x : Brokered). AreBootWords x.words.kept) same boots;
+  image =
+      subst (λ (x : Brokered). IsImageOf x bytes.items) same
+      (record { image = image; read = read; boots = boots });
 }

@@ -15,18 +15,22 @@ pub record IsOpenedOver (broker : Brokered) (s : Sessioned) : Type 0 where
   pub same : s.broker ≡ broker
   pub kept : AreKeptAsHeard broker s.kept
 
--- The bytes are the image of the kept words that the session came to; they are read as these words, which boot. What
--- was settled as the session began is so still, no number took effect twice, and the queues that there were are there,
--- each with a history that went on from where it began, or ended with a rotation.
+-- the bytes are the image of the broker's kept words; they are read as these words, which boot
+pub record IsImageOf (b : Brokered) (bytes : List ℕ) : Type 0 where
+  pub image : bytes ≡ image_of b.words.kept
+  pub read : reading bytes ≡ Ok b.words.kept
+  pub boots : AreBootWords b.words.kept
+
+-- The bytes are the image of what the session came to. What was settled as it began is so still, no number took effect
+-- twice, and the queues that there were are there, each with a history that went on from where it began, or ended with
+-- a rotation.
 pub record IsImageAfter (first : Sessioned) (bytes : List ℕ) : Type 0 where
   pub last : Sessioned
   pub goes_on : SessionGoesOn first last
   pub rotated : Bool
   pub came : CameOf first.broker rotated last.broker
   pub promises : KeepsNumbers last
-  pub image : bytes ≡ image_of last.broker.words.kept
-  pub read : reading bytes ≡ Ok last.broker.words.kept
-  pub boots : AreBootWords last.broker.words.kept
+  pub image : IsImageOf last.broker bytes
 
 -- the image that a broker leaves, which a session over it served
 pub record IsImageLeftBy (broker : Brokered) (bytes : List ℕ) : Type 0 where

@@ -1,28 +1,50 @@
 -- What was served of an input of JSON lines, where nothing had been served before.
-use Rattle.std.specs.Prelude.{◌≡◌, ◌⊎◌, ℕ, Bool, List, [], Option}
+use Rattle.std.specs.Prelude.{◌≡◌, ◌⊎◌, ℕ, Bool, List, [], Option, IfSome}
 use Rattle.words.specs.declared.refusal.Refusal.{Refusal}
-use Rattle.words.specs.declared.refusal.Refusal.TheVariants.{ReadFailed, WriteFailed}
+use Rattle.words.specs.declared.refusal.Refusal.TheVariants.{Busy, NoMemory, ReadFailed, WriteFailed}
 use Rattle.engine.specs.Lines.{lines_of}
 use Rattle.engine.specs.Replies.{Served}
 use Rattle.engine.specs.Serving.{Serves, ServesWhatWasRead}
+use Rattle.named.specs.Brokers.{Brokered}
+use Rattle.session.specs.Sessions.{Sessioned}
 use Rattle.desk.specs.Serving.{AreAnswered}
+use Rattle.owning.specs.Serving.{GoesOnRight, Leads}
 use Rattle.requests.specs.Line.{meaning}
-use Rattle.server.specs.Image.{IsBusyOrNoMemory}
+use Rattle.server.specs.Image.{IsImageOf, IsOpenedOver}
 
--- The lines of the input have their replies, of whose text this is written. These requests were made, and each has an
--- answer that it may have where there are so many clients.
-pub record ServesInput (clients : ℕ) (whole : Bool) (input : List ℕ) (IsWritten : List ℕ → Type 0) : Type 0 where
-  pub made : Served
-  pub serves : Serves meaning whole (lines_of input) [] made IsWritten
-  pub answered : AreAnswered clients made
+-- The lines of the input, where it is known, have their replies, of whose text this is written: these requests were
+-- made.
+abbrev pub ServesInput : Bool → Option (List ℕ) → (List ℕ → Type 0) → Served → Type 0
+ServesInput whole input IsWritten made =
+    IfSome input (λ text. Serves meaning whole (lines_of text) [] made IsWritten)
 
 -- So have the whole lines of what was read of it.
-pub record ServesInputRead (clients : ℕ) (input : List ℕ) (left : Option (List ℕ)) (IsWritten : List ℕ → Type 0)
-    : Type 0 where
-  pub made : Served
-  pub serves : ServesWhatWasRead meaning input left [] made IsWritten
-  pub answered : AreAnswered clients made
+abbrev pub ServesInputRead : Option (List ℕ) → Option (List ℕ) → (List ℕ → Type 0) → Served → Type 0
+ServesInputRead input left IsWritten made =
+    IfSome input (λ text. ServesWhatWasRead meaning text left [] made IsWritten)
 
--- why an input was not served to its end, or no image is left
+-- Requests were made, one after another, of a session over the broker, which came to another one by them; each was
+-- answered as that says, with an answer that it may have. What was settled stays so, no number took effect twice, and
+-- the queues and their histories went on.
+pub record IsServed (broker : Brokered) (AreMade : Served → Type 0) : Type 0 where
+  pub first : Sessioned
+  pub opened : IsOpenedOver broker first
+  pub made : Served
+  pub are_made : AreMade made
+  pub last : Sessioned
+  pub leads : Leads first made last
+  pub answered : AreAnswered broker.counts.clients made
+  pub goes_on : GoesOnRight first last
+
+-- The bytes are the image of the session that those requests led to.
+pub record LeavesImage (broker : Brokered) (AreMade : Served → Type 0) (bytes : List ℕ) : Type 0 where
+  pub served : IsServed broker AreMade
+  pub image : IsImageOf served.last.broker bytes
+
+-- why an input was not served to its end, or no image is left of it
+abbrev pub MayEndServed : Refusal → Type 0
+MayEndServed refusal = (refusal ≡ ReadFailed) ⊎ (refusal ≡ WriteFailed) ⊎ (refusal ≡ NoMemory)
+
+-- or why nothing was served: a call or a creation is under way
 abbrev pub MayEndPipe : Refusal → Type 0
-MayEndPipe refusal = (refusal ≡ ReadFailed) ⊎ (refusal ≡ WriteFailed) ⊎ IsBusyOrNoMemory refusal
+MayEndPipe refusal = MayEndServed refusal ⊎ (refusal ≡ Busy)

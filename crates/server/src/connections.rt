@@ -6,11 +6,12 @@ use desk::{BrokerDesk, Seating};
 use devices::{CountedReader, CountedWriter};
 use engine::{Desk, serve};
 use log::{Log, warn};
-use std::alloc::{AllocError, Global};
+use std::alloc::Global;
 use std::net::TcpStream;
 use std::sync::Wait;
 use std::sync::atomic::{AtomicBool, Ordering};
 use wire::{Answer, Request};
+use words::Refusal;
 use workers::{Naming, Shared};
 
 /// What the workers share.
@@ -39,15 +40,15 @@ struct StoppingDesk<'a, J: Naming> {
 }
 
 impl<J: Naming> Desk for StoppingDesk<'_, J> {
-    ghost served = { λ desk. desk.desk.served.items };
+    ghost served = { λ desk. desk.desk.served };
 
-    fn answer<R: Wait>(&mut self, rt: &R, request: Request) -> Result<Answer, AllocError> {
-        let answer = self.desk.answer(rt, request)?;
+    fn answer<R: Wait>(&mut self, rt: &R, request: Request) -> Answer {
+        let answer = self.desk.answer(rt, request);
         if self.desk.is_stopped() {
             // It is said before the reply goes out: a client that has read it is not served on another connection.
             self.stopping.store(true, Ordering::SeqCst);
         }
-        Ok(answer)
+        answer
     }
 }
 
@@ -62,10 +63,14 @@ fn serve_connection<J: Naming, R: Wait + Log>(
     if connection.set_nodelay(true).is_err() {
         warn!(rt; "a connection delays its replies");
     }
+    let Ok(desk) = BrokerDesk::new(alloc, serving.shared, serving.seats) else {
+        warn!(rt; "a connection is closed unserved: {}", Refusal::NoMemory);
+        return;
+    };
     let mut reader = CountedReader::new(&connection);
     let mut writer = CountedWriter::new(&connection);
     let mut desk = StoppingDesk {
-        desk: BrokerDesk::new(alloc, serving.shared, serving.seats),
+        desk,
         stopping: serving.stopping,
     };
     let served = serve::<R, JsonLines, _, _, _>(rt, alloc, &mut reader, &mut writer, &mut desk);

@@ -18,6 +18,6 @@ pub use entry::{Answer, End, Entry};
 pub use gate::{Gate, OpenGate};
 pub use laws::{calls_are_counted, interrupted_calls_are_told};
 pub use naming::Naming;
-pub use opening::{NotOpened, Opened};
+pub use opening::{NotOpened, Opened, is_in_use};
 pub use seat::Seat;
 pub use shared::{Created, Shared};

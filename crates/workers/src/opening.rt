@@ -57,8 +57,8 @@ fn has_call(session: &Session, queue: SlotId) -> bool
     false
 }
 
-/// Whether a client has a call under way, or a creation is.
-fn is_in_use(session: &Session) -> bool
+/// Whether a client has a call under way, or a creation is. Such a session is not shared.
+pub fn is_in_use(session: &Session) -> bool
     ensures busy { result ≡ true → IsInUse session.now.broker }
     ensures idle { result ≡ false → IsNotInUse session.now.broker }
 {

@@ -1,8 +1,4 @@
 use Rattle.server.proofs.piping.pipe.Given as goal
 
 abbrev pub ghosts-served : goal.ghosts-served
-ghosts-served g a = record {
-  roll = a.opened.roll;
-  clients = a.opened.session.broker.counts.clients;
-  first = a.opened.session;
-}
+ghosts-served g a = record { first = a.session }

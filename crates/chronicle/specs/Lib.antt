@@ -1,0 +1,2 @@
+pub use Rattle.atomic_table.specs.Seated
+pub mod Rule
