@@ -1,6 +1,7 @@
 //! The desk of a connection.
 
 ghost use Rattle.std.specs.Prelude.{◌≡◌, [], IfOk};
+ghost use Rattle.desk.specs.Requests.{is_stop_answer};
 ghost use Rattle.desk.specs.Serving.{has_stopped, AreAnswered};
 
 use crate::answering::answer_to;
@@ -12,6 +13,13 @@ use std::alloc::{AllocError, Global};
 use std::sync::Wait;
 use wire::{Answer, Request};
 use workers::{Naming, Shared};
+
+/// Whether the answer is that the server stops.
+fn is_stopping(answer: &Answer) -> bool
+    ensures { result ≡ is_stop_answer answer.now }
+{
+    matches!(answer, Answer::Stopping)
+}
 
 /// Where the requests of one connection are answered, by a broker that connections share.
 #[derive(Drop)]
@@ -59,7 +67,7 @@ impl<J: Naming> Desk for BrokerDesk<'_, J> {
             copied(&request),
             answer_to(rt, self.shared, self.seats, request),
         );
-        self.stopped = matches!(made.1, Answer::Stopping);
+        self.stopped = is_stopping(&made.1);
         self.served.note(&made);
         made.1
     }

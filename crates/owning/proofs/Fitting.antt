@@ -14,7 +14,7 @@ use Rattle.directory.specs.Directory.{Directory}
 use Rattle.interleave.specs.Calls.{is_no_memory}
 use Rattle.interleave.specs.Queue.{told_in, told_to}
 use Rattle.interleave.specs.State.{crash_result, start_result}
-use Rattle.named.specs.Brokers.{Brokered, answer_at, IsNotCreated}
+use Rattle.named.specs.Brokers.{Brokered, IsNotCreated}
 use Rattle.session.specs.Requests.{IsRun, IsServedBy, as_begun, answer_to, number_or_zero}
 use Rattle.session.specs.Sessions.{Sessioned}
 use Rattle.workers.specs.Refusals.{is_call_refusal, is_creation_refusal, is_told_refusal}
@@ -25,7 +25,7 @@ use Rattle.wire.specs.declared.request.Request.{Request}
 use Rattle.wire.specs.declared.request.Request.TheVariants.{Create, Crash, List as list_request, Put, Recover, Stop, Take, Told as told_request}
 use Rattle.desk.specs.Requests.{is_answer_to, is_call_answer, is_crash_answer, is_creation_answer, is_list_answer, is_nameless_call_answer, is_nameless_told_answer, is_recovery_answer, is_told_answer, is_stop_answer, is_bad_name, NamesNoClient}
 use Rattle.desk.specs.declared.calls.Asked.{Asked}
-use Rattle.owning.specs.Answers.{Says, answer_as, client_in, IsAnswered, IsCall, IsCallBy, IsCalled, IsCalledIn, IsListing, IsPlaced, IsThere, IsTelling, IsTellingBy, IsToldIn}
+use Rattle.owning.specs.Answers.{Says, answer_as, client_in, IsAnswered, IsCall, IsCallBy, IsCalledIn, IsListing, IsPlaced, IsThere, IsTelling, IsTellingBy, IsToldIn}
 use Rattle.owning.specs.Creating.{IsCreation, IsCreationOf}
 use Rattle.owning.specs.Recovering.{IsCrash, IsRecovery}
 
@@ -65,7 +65,7 @@ list_fits b (Ok places) made = refl
 list_fits b (Err refusal) made = subst (λ (e : Refusal). is_list_answer (Refused e) ≡ true) (sym made.0) refl
 
 -- why there is no client, and no slot
-if_client : Bool → ℕ → Result Client Refusal
+abbrev if_client : Bool → ℕ → Result Client Refusal
 if_client b number = if b then Ok (record { 0 = number }) else Err NoClient
 
 no_client : (clients number : ℕ) (refusal : Refusal) → client_in clients number ≡ Err refusal → refusal ≡ NoClient

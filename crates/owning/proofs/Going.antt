@@ -1,5 +1,4 @@
 -- A session goes on rightly over requests.
-use Rattle.std.proofs.Common.{◌≡◌, subst}
 use Rattle.named.specs.GoingOn.{BrokerGoesOn}
 use Rattle.named.proofs.GoingOn.{broker_goes_further, broker_stays}
 use Rattle.session.specs.Keeping.{SessionGoesOn}

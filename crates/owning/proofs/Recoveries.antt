@@ -1,10 +1,12 @@
 -- A recovery that runs to its end.
-use Rattle.std.proofs.Common.{◌≡◌, ℕ, zero, suc, Bool, true, false, Result, Ok, Err, refl, sym, subst}
+use Rattle.std.proofs.Common.{◌≡◌, ℕ, suc, Bool, true, false, Ok, Err, refl, subst}
 use Rattle.words.specs.declared.refusal.Refusal.{Refusal}
+use Rattle.named.specs.Brokers.{IsWell}
 use Rattle.named.specs.Stopping.{IsRecoveryStep}
 use Rattle.session.specs.Keeping.{AreKeptAfter}
 use Rattle.session.specs.Sessions.{Sessioned}
-use Rattle.owning.specs.Recovering.{IsRecovery, IsStep, IsStepped, step_ending}
+use Rattle.workers.proofs.Guarded.{recovery_errors}
+use Rattle.owning.specs.Recovering.{IsRecovery, IsStep, IsStepped}
 
 -- the session came here by steps of recovery, none of which was the last
 pub record HasCome (old now : Sessioned) : Type 0 where
@@ -34,14 +36,16 @@ is_ready old now new ready over come step kept = record {
   mid = now;
   stepped = come.stepped;
   last = subst (λ (r : Bool). IsStep now new (Ok r)) over (record { step = step; kept = kept });
+  errors = tt;
 }
 
-pub is_refused : (old now new : Sessioned) (refusal : Refusal) → HasCome old now
+pub is_refused : (old now new : Sessioned) (refusal : Refusal) → IsWell now.broker → HasCome old now
     → IsRecoveryStep now.broker new.broker (Err refusal) now.broker.recovery → AreKeptAfter now new (Err refusal)
     → IsRecovery old new (Err refusal)
-is_refused old now new refusal come step kept = record {
+is_refused old now new refusal well come step kept = record {
   steps = come.steps;
   mid = now;
   stepped = come.stepped;
   last = record { step = step; kept = kept };
+  errors = recovery_errors now.broker new.broker (Err refusal) well step;
 }

@@ -1,5 +1,5 @@
 -- What each request makes of a session, and what it is answered.
-use Rattle.std.specs.Prelude.{◌≡◌, ◌<◌, ℕ, None, Option, Some, IsSome, Result, Ok, Err, nat_lt, if◌then◌else◌}
+use Rattle.std.specs.Prelude.{◌≡◌, ℕ, List, None, Option, Some, IsSome, Result, Ok, Err, nat_lt, if◌then◌else◌}
 use Rattle.words.specs.declared.call.Call.TheVariants.{Enq, Deq}
 use Rattle.words.specs.declared.call.Client.{Client}
 use Rattle.words.specs.declared.call.Reply.{Reply}

@@ -1,4 +1,5 @@
 pub mod Endings
+pub mod Serving
 pub mod Refused
 pub mod StepsKeep
 pub mod Beginnings

@@ -8,7 +8,7 @@ use crate::slow::{SlowReader, SlowWriter};
 use crate::story::STORY;
 use desk::{BrokerDesk, Seating};
 use devices::{CountedWriter, FaultyReader, FaultyWriter};
-use engine::serve;
+use engine::{Desk, serve};
 use server::{JsonLines, pipe};
 use session::Session;
 use std::alloc::{AllocError, Global};
@@ -16,6 +16,7 @@ use std::io::{self, Write};
 use std::marker::Brand;
 use std::sync::Wait;
 use std::test::*;
+use wire::{Answer, Request};
 use words::Refusal;
 use workers::{Naming, Opened};
 
@@ -77,7 +78,23 @@ struct Exchange {
     made: usize,
 }
 
-/// Serves the input by a desk whose list is looked at.
+/// A desk that counts the requests that are made.
+#[derive(Drop)]
+struct CountingDesk<'a, J: Naming> {
+    desk: BrokerDesk<'a, J>,
+    made: usize,
+}
+
+impl<J: Naming> Desk for CountingDesk<'_, J> {
+    ghost served = { λ desk. desk.desk.served };
+
+    fn answer<R: Wait>(&mut self, rt: &R, request: Request) -> Answer {
+        self.made = self.made.saturating_add(1);
+        self.desk.answer(rt, request)
+    }
+}
+
+/// Serves the input by a desk that counts.
 fn exchanged<J: Naming, T: Wait>(
     rt: &T,
     alloc: Global,
@@ -92,14 +109,17 @@ fn exchanged<J: Naming, T: Wait>(
         Err(not) => return Err(Fail::new(not.refusal)),
     };
     let seats = Seating::new(alloc, seats)?;
-    let mut desk = BrokerDesk::new(alloc, &shared, &seats);
+    let mut desk = CountingDesk {
+        desk: BrokerDesk::new(alloc, &shared, &seats)?,
+        made: 0,
+    };
     let mut reader = SlowReader::new(input, limits.each, limits.readable);
     let mut writer = SlowWriter::new(alloc, limits.each, limits.writable);
     let end = serve::<T, JsonLines, _, _, _>(rt, alloc, &mut reader, &mut writer, &mut desk);
     Ok(Exchange {
         end,
         written: writer.into_written(),
-        made: desk.served.len(),
+        made: desk.made,
     })
 }
 

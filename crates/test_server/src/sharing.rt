@@ -64,7 +64,9 @@ fn put_all<J: Naming, R: Wait + Clock>(
     seats: &Seating<J>,
     tally: &Tally,
 ) {
-    let mut desk = BrokerDesk::new(alloc, shared, seats);
+    let Ok(mut desk) = BrokerDesk::new(alloc, shared, seats) else {
+        return count(&tally.other);
+    };
     wait_for_all(rt, &tally.there);
     for value in 0..PUTS {
         let put = Request::Put {
@@ -74,8 +76,8 @@ fn put_all<J: Naming, R: Wait + Clock>(
             number: None,
         };
         match desk.answer(rt, put) {
-            Ok(Answer::Reply(Reply::Done)) => count(&tally.done),
-            Ok(Answer::Refused(Refusal::Busy)) => count(&tally.busy),
+            Answer::Reply(Reply::Done) => count(&tally.done),
+            Answer::Refused(Refusal::Busy) => count(&tally.busy),
             _ => count(&tally.other),
         }
     }
@@ -95,12 +97,12 @@ fn shared_by_all<J: Naming + Send + Sync, R: Threads + Wait + Clock + Abort + Sy
         Err(not) => return Err(Fail::new(not.refusal)),
     };
     let seats = Seating::new(alloc, seats)?;
-    let mut desk = BrokerDesk::new(alloc, &shared, &seats);
+    let mut desk = BrokerDesk::new(alloc, &shared, &seats)?;
     let create = Request::Create {
         queue: Name::make(b"a").ok(),
         kind: Kind::Durable,
     };
-    assert!(rt; matches!(desk.answer(rt, create)?, Answer::Created(_)));
+    assert!(rt; matches!(desk.answer(rt, create), Answer::Created(_)));
     map_indices(
         rt,
         alloc,
@@ -118,7 +120,7 @@ fn taken<J: Naming, R: Wait>(rt: &R, desk: &mut BrokerDesk<'_, J>) -> Result<u64
             queue: Name::make(b"a").ok(),
             number: None,
         };
-        match desk.answer(rt, take)? {
+        match desk.answer(rt, take) {
             Answer::Reply(Reply::Got(_)) => {}
             Answer::Reply(Reply::Empty) => return Ok(count),
             _ => return Err(Fail::new("another answer")),

@@ -192,13 +192,28 @@ fn play_line<J: Naming, R: Wait + Print + AllocGlobal>(
     Ok(())
 }
 
+/// A desk, asked for again where it is refused memory.
+fn desk_at_last<'a, J: Naming, R: Wait + Print + AllocGlobal>(
+    rt: &R,
+    shared: &'a Shared<J>,
+    seats: &'a Seating<J>,
+) -> Result<BrokerDesk<'a, J>> {
+    for _ in 0..MOST_TRIES {
+        if let Ok(desk) = BrokerDesk::new(rt.alloc(), shared, seats) {
+            return Ok(desk);
+        }
+        say_again(rt, "BrokerDesk::new", true)?;
+    }
+    Err(Refusal::NoMemory.into())
+}
+
 /// All lines at one desk.
 fn play_lines<J: Naming, R: Wait + Print + AllocGlobal>(
     rt: &R,
     shared: &Shared<J>,
     seats: &Seating<J>,
 ) -> Result<()> {
-    let mut desk = BrokerDesk::new(rt.alloc(), shared, seats);
+    let mut desk = desk_at_last(rt, shared, seats)?;
     for (asks, line) in &LINES {
         play_line(rt, shared, &mut desk, *asks, line)?;
     }

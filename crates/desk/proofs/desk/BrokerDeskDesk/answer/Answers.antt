@@ -1,10 +1,13 @@
-use Rattle.desk.proofs.Keeping.{answered_more}
+use Rattle.std.proofs.Common.{sym, ◌∙◌}
+use Rattle.desk.proofs.Keeping.{answered_more, stopped_last}
 use Rattle.desk.proofs.desk.BrokerDeskDesk.answer.Goals as goal
 
-pub invariant_of-self-2 : goal.invariant_of-self-2
-invariant_of-self-2 g c =
-    let answered = c.answer_to-answer.ensures in
-    record {
-      answered = answered_more g.J.Naming.clients _ _ _ c.args.request c.answer_to-answer.result
-          c.args.self.now.answered c.reserve.ensures.items (rw c.copied-made.ensures at c.push_reserved.ensures.items) answered.fits answered.client;
-    }
+pub invariant_of-self-clause-answered : goal.invariant_of-self-clause-answered
+invariant_of-self-clause-answered g c =
+    let answered = c.answer_to.ensures in
+    answered_more g.J.Naming.clients _ _ c.args.request _ c.answer_to.result c.args.self.now.answered c.copied.ensures
+    c.note.ensures answered.fits answered.client
+
+pub invariant_of-self-clause-stops : goal.invariant_of-self-clause-stops
+invariant_of-self-clause-stops g c =
+    c.is_stopping-self.ensures ∙ sym (stopped_last _ c.note.new.self c.copied.result c.answer_to.result c.note.ensures)
