@@ -1,7 +1,7 @@
 -- What lies under the lock stays well over each act.
 use Rattle.std.proofs.Common.{◌≡◌, ◌≢◌, inl, inr, ℕ, ◌≤◌, Bool, true, false, length, List, Option, Some, None, Result, Ok, Err, refl, sym, ap, ◌∙◌, subst, arith}
 use Rattle.std.proofs.lemmas.List.{length-set}
-use Rattle.std.specs.Prelude.{IfErr, IfSome, is_some, not, ◌&&◌, IsSome, slice_set, ◌⊎◌}
+use Rattle.std.specs.Prelude.{IfErr, IfSome, is_some, not, ◌&&◌, IsSome, slice_set}
 use Rattle.words.specs.declared.call.Client.{Client}
 use Rattle.arena.specs.declared.broker.SlotId.{SlotId}
 use Rattle.session.specs.Keeping.{SessionGoesOn}
@@ -20,7 +20,6 @@ use Rattle.named.specs.Stopping.{IsQueueOn, IsReadOn, IsRecoveryStep, creation_a
 use Rattle.named.specs.declared.recovery.BrokerRecovery.{BrokerRecovery}
 use Rattle.named.specs.declared.recovery.BrokerRecovery.TheVariants.{ReadDirectory, RecoverQueue}
 use Rattle.words.specs.declared.refusal.Refusal.{Refusal}
-use Rattle.words.specs.declared.refusal.Refusal.TheVariants.{AlreadyReady, NoMemory}
 use Rattle.workers.specs.Creating.{IsCreationKnown, creating_after_crash, is_under_way}
 use Rattle.directory.specs.Creation.{successor}
 use Rattle.directory.specs.Directory.{Directory}
@@ -28,6 +27,7 @@ use Rattle.directory.specs.declared.creation.Creation.{Creation}
 use Rattle.directory.specs.declared.recovery.DirectoryRecovery.{DirectoryRecovery}
 use Rattle.stepper.specs.declared.resume.After.{After}
 use Rattle.stepper.specs.declared.resume.After.TheVariants.{Done, More}
+use Rattle.workers.specs.Recovered.{IsRecoveryRefusal}
 use Rattle.workers.specs.Following.{AreFollowed, Guarded, IsFollowed, IsGuardedWell, beginnings}
 use Rattle.workers.specs.Lists.{events_at}
 use Rattle.workers.specs.declared.entry.Entry.{Entry}
@@ -67,6 +67,7 @@ module _ (all : ℕ) (first : Sessioned) (old : Guarded) (well : IsGuardedWell a
       → KeepsNumbers new → IsOn old.session new → IsCreationKnown new.broker creating
       → IsGuardedWell all first (record { session = new; rows = old.rows; creating = creating; rotated = old.rotated })
   guarded_still new creating carried keeps on known = record {
+    beginning = well.beginning;
     clients = well.clients;
     followed =
         rows_carried (beginnings first old.rotated) old.session new old.rows (λ t. carried (record { 0 = t }))
@@ -90,6 +91,7 @@ module _ (all : ℕ) (first : Sessioned) (old : Guarded) (well : IsGuardedWell a
         rotated = old.rotated;
       })
   guarded_of new t row begun carried its keeps on known = record {
+    beginning = well.beginning;
     clients = length-set old.rows t row ∙ well.clients;
     followed =
         row_changed (beginnings first old.rotated) old.session new old.rows t row begun carried its well.followed;
@@ -258,38 +260,34 @@ known_after_recovery old new result creating step known = go old.recovery refl s
     go (Some (RecoverQueue slot)) e recovered =
         queue_on (RecoverQueue slot) e slot.0 _ recovered.next
 
--- a step of recovery is refused where there is none, or for want of memory
-abbrev IsRecoveryError : Refusal → Type 0
-IsRecoveryError refusal = (refusal ≡ AlreadyReady) ⊎ (refusal ≡ NoMemory)
-
 -- what a queue's step answers
 queue_errors : (full : Bool) (w : State) (recovery : Option Recovery) (refusal : Refusal)
-    → recover_result_with full w recovery ≡ Err refusal → IsRecoveryError refusal
+    → recover_result_with full w recovery ≡ Err refusal → IsRecoveryRefusal refusal
 queue_errors full w None refusal e = inl (cc (e))
 queue_errors true w (Some r) refusal e = inr (cc (e))
 queue_errors false w (Some r) refusal e = absurd (cc (e))
 
 pub recovery_errors : (old new : Brokered) (result : Result Bool Refusal) → IsWell old
-    → IsRecoveryStep old new result old.recovery → IfErr result IsRecoveryError
+    → IsRecoveryStep old new result old.recovery → IfErr result IsRecoveryRefusal
 recovery_errors old new result well step = go old.recovery refl step
   where
     by_queue : (slot : ℕ) (o : Option State) → world_at old slot ≡ o → IsSome o
         → (answer : Result Bool Refusal) → answered (recover_result (is_no_memory result)) o ≡ answer
-        → IsQueueOn old new slot result answer → IfErr result IsRecoveryError
+        → IsQueueOn old new slot result answer → IfErr result IsRecoveryRefusal
     by_queue slot None there some answer is on = absurd (cc (some))
     by_queue slot (Some w) there some (Err refusal) is on =
-        subst (λ (r : Result Bool Refusal). IfErr r IsRecoveryError) (sym on.0)
+        subst (λ (r : Result Bool Refusal). IfErr r IsRecoveryRefusal) (sym on.0)
         (queue_errors (is_no_memory result) w w.recovery refusal is)
     by_queue slot (Some w) there some (Ok true) is on =
-        subst (λ (r : Result Bool Refusal). IfErr r IsRecoveryError) (sym on.0) tt
+        subst (λ (r : Result Bool Refusal). IfErr r IsRecoveryRefusal) (sym on.0) tt
     by_queue slot (Some w) there some (Ok false) is on =
-        subst (λ (r : Result Bool Refusal). IfErr r IsRecoveryError) (sym on.0) tt
+        subst (λ (r : Result Bool Refusal). IfErr r IsRecoveryRefusal) (sym on.0) tt
 
     go : (o : Option BrokerRecovery) → old.recovery ≡ o → IsRecoveryStep old new result o
-        → IfErr result IsRecoveryError
-    go None e same = subst (λ (r : Result Bool Refusal). IfErr r IsRecoveryError) (sym same.0) (inl refl)
+        → IfErr result IsRecoveryRefusal
+    go None e same = subst (λ (r : Result Bool Refusal). IfErr r IsRecoveryRefusal) (sym same.0) (inl refl)
     go (Some (ReadDirectory at)) e read =
-        subst (λ (r : Result Bool Refusal). IfErr r IsRecoveryError) (sym read.answer) tt
+        subst (λ (r : Result Bool Refusal). IfErr r IsRecoveryRefusal) (sym read.answer) tt
     go (Some (RecoverQueue slot)) e recovered =
         let it = its_queue old well slot e in
         by_queue slot.0 (world_at old slot.0) refl (listed_open old slot.0 it.queue well it.has)

@@ -1,5 +1,6 @@
 pub mod SeenStill
 pub mod Answering
+pub mod Beginning
 pub mod Carried
 pub mod Counting
 pub mod Endings
@@ -7,6 +8,7 @@ pub mod Follows
 pub mod Guarded
 pub mod Histories
 pub mod Idling
+pub mod QueueKinds
 pub mod Lists
 pub mod Seating
 pub mod SlotsOn

@@ -7,6 +7,7 @@ use Rattle.session.specs.Keeping.{SessionGoesOn}
 use Rattle.session.specs.Promises.{KeepsNumbers}
 use Rattle.session.specs.Sessions.{Sessioned}
 use Rattle.workers.specs.Creating.{IsCreationKnown}
+use Rattle.workers.specs.Opening.{IsNotInUse}
 use Rattle.workers.specs.Lists.{IsCutOff, IsRecorded, OnlyLastIsOpen, RanAt, events_at}
 use Rattle.workers.specs.declared.entry.End.TheVariants.{Open}
 use Rattle.workers.specs.declared.entry.Entry.{Entry}
@@ -41,10 +42,17 @@ pub record Guarded : Type 0 where
   pub creating : Creating
   pub rotated : Bool
 
+-- the session may be shared as it is: it has so many clients, nobody uses it, and it keeps its promises
+pub record IsBeginning (all : ℕ) (first : Sessioned) : Type 0 where
+  pub counts : first.broker.counts.clients ≡ all
+  pub quiet : IsNotInUse first.broker
+  pub promises : KeepsNumbers first
+
 -- what holds of it whenever the lock is free, where there are so many clients, and the session was this one when the
 -- seats were given: what was settled then is so still, the clients of its log queues are such clients still, and the
 -- queues that it had then are there, each with a history that went on from where it began, or ended with a rotation
 pub record IsGuardedWell (all : ℕ) (first : Sessioned) (g : Guarded) : Type 0 where
+  pub beginning : IsBeginning all first
   pub clients : length g.rows ≡ all
   pub followed : AreFollowed (beginnings first g.rotated) g.session g.rows
   pub promises : KeepsNumbers g.session

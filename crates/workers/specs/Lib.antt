@@ -8,4 +8,5 @@ pub mod Opening
 pub mod Creating
 pub mod Seats
 pub mod Looking
+pub mod Recovered
 pub mod Refusals

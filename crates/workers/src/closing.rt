@@ -1,6 +1,6 @@
 //! How the histories end, and how a shared session is taken back.
 
-ghost use Rattle.std.specs.Prelude.{◌≡◌, [], length, IfErr, IsTrue, OnErr, OnOk, slice_get, slice_set, Some};
+ghost use Rattle.std.specs.Prelude.{◌≡◌, [], length, IfErr, IsTrue, OnErr, OnOk, slice_set};
 ghost use Rattle.named.specs.Rotating.{IsRotated};
 ghost use Rattle.roll.specs.Rule.{IsKeeper, rows_of};
 ghost use Rattle.session.specs.Keeping.{SessionGoesOn};
@@ -11,29 +11,12 @@ ghost use Rattle.workers.specs.Seats.{AreSeatsRecorded, AreAllInOrder, AreEmpty}
 use crate::entry::Entry;
 use crate::locked::Locked;
 use crate::naming::Naming;
-use crate::seat::{Seat, seat_of};
+use crate::seat::{Seat, known, seat_of};
 use crate::shared::Shared;
 use roll::{Roll, Token};
 use session::Session;
 use std::sync::Wait;
 use words::Refusal;
-
-/// The keeper knows the seat's list.
-fn hand_back<J: Naming>(roll: &Roll<Entry>, keeper: &mut Token<Entry>, seat: Seat<J>)
-    requires roll { roll.now ≡ J.roll }
-    requires keeper { IsKeeper J.roll (rows_of keeper.old) keeper.old }
-    ensures known { slice_get (rows_of keeper.old) seat.client.0 ≡ Some seat.list.items }
-    ensures keeper { IsKeeper J.roll (rows_of keeper.old) keeper.new }
-{
-    let Seat {
-        client: _,
-        list,
-        steps: _,
-        token,
-        of: _,
-    } = seat;
-    roll.write(keeper, token, &list);
-}
 
 /// The seat with an empty list, as the keeper knows it.
 fn emptied<J: Naming>(roll: &Roll<Entry>, keeper: &mut Token<Entry>, seat: Seat<J>) -> Seat<J>
@@ -136,7 +119,7 @@ impl<J: Naming> Shared<J> {
         let (session, mut keeper) = locked.into_inner().into_parts();
         let mut seats = seats;
         while let Some(seat) = seats.pop() {
-            hand_back(&roll, &mut keeper, seat);
+            known(&roll, &mut keeper, seat);
         }
         session
     }

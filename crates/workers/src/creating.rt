@@ -1,6 +1,6 @@
 //! Crashes, recoveries, and creations, under the lock.
 
-ghost use Rattle.std.specs.Prelude.{◌≡◌, ◌⊎◌, Err, IfErr, IfSome, IsErr, IsSome, IsTrue, OnErr, OnOk};
+ghost use Rattle.std.specs.Prelude.{◌≡◌, Err, IfErr, IfSome, IsErr, IsSome, IsTrue, OnErr, OnOk};
 ghost use Rattle.directory.specs.Directory.{HasName};
 ghost use Rattle.directory.specs.Name.{IsName};
 ghost use Rattle.named.specs.Brokers.{world_at, MayCreate};
@@ -8,6 +8,7 @@ ghost use Rattle.named.specs.Stopping.{IsRecoveryStep, IsStopped};
 ghost use Rattle.workers.specs.Creating.{creating_after_crash};
 ghost use Rattle.workers.specs.Made.{IsMade};
 ghost use Rattle.workers.specs.Refusals.{is_creation_refusal};
+ghost use Rattle.workers.specs.Recovered.{IsRecoveryRefusal};
 ghost use Rattle.workers.specs.declared.locked.Creating.{Creating as AnyCreating};
 
 use crate::locked::{Creating, Locked};
@@ -49,7 +50,7 @@ impl<J: Naming> Locked<J> {
 
     /// One step of the creation, for its caller: what became of it, once it is over.
     pub(crate) fn create_step(&mut self) -> Option<Created>
-        ensures { IfSome result (IsMade self.new.session.broker) }
+        ensures { IfSome result (IsMade J.first.broker.directory self.new.session.broker) }
     {
         match self.creating {
             Creating::UnderWay => self.make_step(),
@@ -64,7 +65,7 @@ impl<J: Naming> Locked<J> {
     /// One step of the creation that is under way.
     fn make_step(&mut self) -> Option<Created>
         requires { self.old.creating ≡ AnyCreating.UnderWay }
-        ensures { IfSome result (IsMade self.new.session.broker) }
+        ensures { IfSome result (IsMade J.first.broker.directory self.new.session.broker) }
     {
         match self.session.create_step() {
             Ok(None) => None,
@@ -91,7 +92,7 @@ impl<J: Naming> Locked<J> {
     pub(crate) fn recover_step(&mut self) -> Result<bool, Refusal>
         ensures step { IsRecoveryStep self.old.session.broker self.new.session.broker result
             self.old.session.broker.recovery }
-        ensures errors { IfErr result (λ refusal. (refusal ≡ Refusal.AlreadyReady) ⊎ (refusal ≡ Refusal.NoMemory)) }
+        ensures errors { IfErr result IsRecoveryRefusal }
     {
         self.session.recover_step()
     }

@@ -1,19 +1,17 @@
 //! What lies under the lock.
 
-ghost use Rattle.std.specs.Prelude.{◌≡◌, ◌≢◌, ◌<◌, ℕ, false, length, true, IfErr, IsTrue, vec_capacity, vec_len};
-ghost use Rattle.named.specs.Brokers.{is_creating};
+ghost use Rattle.std.specs.Prelude.{◌≡◌, ◌≢◌, ◌<◌, false, length, true, IfErr, vec_capacity, vec_len};
 ghost use Rattle.roll.specs.Rule.{IsKeeper, rows_of};
-ghost use Rattle.session.specs.Promises.{KeepsNumbers};
 ghost use Rattle.session.specs.Requests.{answer_to, number_or_zero, IsBegunBy};
 ghost use Rattle.workers.specs.Answers.{IsListAfter, IsListBegun};
-ghost use Rattle.workers.specs.Following.{IsGuardedWell};
+ghost use Rattle.workers.specs.Following.{IsBeginning, IsGuardedWell};
 ghost use Rattle.workers.specs.Lists.{ends_open, events_at};
-ghost use Rattle.workers.specs.Refusals.{is_call_refusal};
+ghost use Rattle.workers.specs.Refusals.{IsSettledStart, IsWhyRefused, WasSettled};
 ghost use Rattle.workers.specs.Seats.{AreEmpty};
 
 use crate::entry::{End, Entry, Request, Took, last_queue};
 use crate::naming::Naming;
-use crate::seat::{Seat, with_entry, with_last};
+use crate::seat::{Seat, known, with_entry, with_last};
 use arena::SlotId;
 use roll::{Roll, Token};
 use session::Session;
@@ -88,9 +86,8 @@ impl<J: Naming> Locked<J> {
         requires keeper { IsKeeper J.roll (rows_of keeper) keeper }
         requires clients { length (rows_of keeper) ≡ J.clients }
         requires first { session ≡ J.first }
-        requires idle { is_creating session.broker ≡ false }
+        requires beginning { IsBeginning J.clients session }
         requires empty { AreEmpty (λ row. row) (rows_of keeper) }
-        requires promises { KeepsNumbers session }
     {
         Locked {
             session,
@@ -125,7 +122,10 @@ impl<J: Naming> Locked<J> {
         ensures act { IsBegunBy self.old.session self.new.session request.now.queue.0 seat.client
             (number_or_zero request.now.number) request.now.call result.1
             (answer_to self.old.session request.now.queue.0 seat.client request.now.number) }
-        ensures errors { IfErr result.1 (λ refusal. IsTrue (is_call_refusal refusal)) }
+        ensures errors { IfErr result.1
+            (IsWhyRefused J.first seat.list.items request.now.queue request.now.number) }
+        ensures settled { (reply : Reply) → WasSettled J.first request.now.queue seat.client request.now.number reply
+            → IsSettledStart reply result.1 }
     {
         let queue = request.queue;
         let next = events_in(&self.session, queue);
@@ -137,7 +137,7 @@ impl<J: Naming> Locked<J> {
                 let entry = request.entry(next, &began);
                 (with_entry(roll, &mut self.keeper, seat, entry), Ok(began))
             }
-            Err(refusal) => (seat, Err(refusal)),
+            Err(refusal) => (known(roll, &mut self.keeper, seat), Err(refusal)),
         }
     }
 

@@ -94,6 +94,36 @@ pub(crate) fn seat_of<J: Naming>(client: Client, list: Vec<Entry>, token: Token<
     }
 }
 
+/// The same seat: to write its list once more is how to learn that the keeper knows it.
+pub(crate) fn known<J: Naming>(
+    roll: &Roll<Entry>,
+    keeper: &mut Token<Entry>,
+    seat: Seat<J>,
+) -> Seat<J>
+    requires roll { roll.now ≡ J.roll }
+    requires keeper { IsKeeper J.roll (rows_of keeper.old) keeper.old }
+    ensures known { slice_get (rows_of keeper.old) seat.client.0 ≡ Some seat.list.items }
+    ensures client { result.client ≡ seat.client }
+    ensures list { result.list.items ≡ seat.list.items }
+    ensures keeper { IsKeeper J.roll (rows_of keeper.old) keeper.new }
+{
+    let Seat {
+        client,
+        list,
+        steps,
+        token,
+        of,
+    } = seat;
+    let token = roll.write(keeper, token, &list);
+    Seat {
+        client,
+        list,
+        steps,
+        token,
+        of,
+    }
+}
+
 /// The seat with one entry more, as the keeper knows it.
 pub(crate) fn with_entry<J: Naming>(
     roll: &Roll<Entry>,

@@ -4,7 +4,8 @@ use Rattle.workers.specs.Following.{Guarded}
 use Rattle.workers.specs.declared.locked.Creating.{Creating}
 use Rattle.workers.specs.declared.locked.Creating.TheVariants.{Nothing}
 use Rattle.workers.proofs.Guarded.{guarded_still, known_after_last, known_after_step, under_way_is}
-use Rattle.workers.proofs.Stops.{creation_carried}
+use Rattle.workers.proofs.SeenStill.{free_before}
+use Rattle.workers.proofs.Stops.{creation_carried, creation_free}
 use Rattle.workers.proofs.locked.Locked.make_step.Goals as goal
 
 pub invariant_of-self : goal.invariant_of-self
@@ -44,9 +45,17 @@ invariant_of-self-in-Ok-Some g c =
 
 pub returns-in-Ok-Some : goal.returns-in-Ok-Some
 returns-in-Ok-Some g c =
+    let e = c.create_step.ensures in
+    let old = c.self.inside.session in
+    let new = c.create_step.new.self in
+    let well = c.self.invariant.1 in
+    let first = g.J.Naming.first.broker in
     let under_way = ap (λ (s : Guarded). s.creating) c.self.view_is ∙ c.requires in
-    let known =
-    subst (λ (creating : Creating). IsCreationKnown c.self.inside.session.broker creating) under_way
-    c.self.invariant.1.creation in
-    (known_after_last c.self.inside.session.broker c.create_step.new.self.broker known c.create_step.result
-    c.in-Ok-Some.slot (c.in-Ok-Some.is ∙ ap Ok c.in-Ok-Some.field-0-is) c.create_step.ensures.step).1
+    let known = subst (λ (creating : Creating). IsCreationKnown old.broker creating) under_way well.creation in
+    let has = under_way_is old.broker known in
+    let is = c.in-Ok-Some.is ∙ ap Ok c.in-Ok-Some.field-0-is in (
+      (known_after_last old.broker new.broker known c.create_step.result c.in-Ok-Some.slot is e.step).1,
+      free_before first old.broker c.self.inside.rotated well.came well.beginning.promises.broker.well.listed
+          well.promises.broker.well.listed c.in-Ok-Some.slot.0
+          (creation_free old new well.promises has.0 c.create_step.result e.others has.1 e.step c.in-Ok-Some.slot is),
+    )

@@ -1,10 +1,12 @@
-use Rattle.std.proofs.Common.{ap, sym, true, length, List}
+use Rattle.std.proofs.Common.{ap, sym, ◌∙◌, true, length, List}
 use Rattle.events.specs.declared.event.Event.{Event}
 use Rattle.named.specs.Brokers.{Brokered}
 use Rattle.named.proofs.Comings.{came_over_rotation}
+use Rattle.interleave.specs.Calls.{is_no_memory}
 use Rattle.roll.specs.Rule.{rows_of}
 use Rattle.workers.specs.Following.{beginnings}
 use Rattle.workers.proofs.Guarded.{known_if_same, rows_begun, session_further}
+use Rattle.workers.proofs.Refusing.{rotation_refused}
 use Rattle.workers.proofs.Stops.{rotated_empty}
 use Rattle.workers.proofs.locked.Locked.rotate.Goals as goal
 
@@ -17,6 +19,7 @@ invariant_of-self-2 g c =
     let new = c.rotate.new.self in (
       a.keeper,
       record {
+        beginning = well.beginning;
         clients = a.clients;
         followed = rows_begun (beginnings g.J.Naming.first true) new (rows_of c.all_emptied.new.keeper)
             (λ slot. sym (ap (λ (es : List Event). length es) (rotated_empty old.broker new.broker e.rotated slot))) a.rows;
@@ -28,3 +31,8 @@ invariant_of-self-2 g c =
         came = came_over_rotation g.J.Naming.first.broker c.self.inside.rotated old.broker new.broker well.came well.promises.broker e.rotated;
       },
     )
+
+pub returns-in-Err-clause-errors : goal.returns-in-Err-clause-errors
+returns-in-Err-clause-errors g c =
+    rotation_refused (is_no_memory c.rotate.result) c.self.inside.session.broker c.in-Err.refusal
+    (sym c.in-Err.is ∙ c.rotate.ensures.result)

@@ -9,14 +9,14 @@ pub loop-seat-preserved : goal.loop-seat-preserved
 loop-seat-preserved g c =
     let i = c.loop-seat.invariant in
     let seat = c.in-Some.seat in
-    let handed = c.hand_back.ensures in
+    let told = c.known.ensures in
     let now = rows_of c.loop-seat.keeper in
     let was = rows_of c.into_parts-session.result.1 in
     let same : now ≡ was = ap (λ me. me.0.rows) i.0.1 in
     let place = seat.client.0 in
     let list = seat.list.items in
-    let known = subst (λ (rows : List (List Entry)). slice_get rows place ≡ Some list) same handed.known in (
-      (handed.keeper.0, handed.keeper.1 ∙ ap (λ (rows : List (List Entry)). (keeper rows, [])) same),
+    let known = subst (λ (rows : List (List Entry)). slice_get rows place ≡ Some list) same told.known in (
+      (told.keeper.0, told.keeper.1 ∙ ap (λ (rows : List (List Entry)). (keeper rows, [])) same),
       left_popped _ _ _ was _ _ _ seat c.requires i.1 c.in-Some.ensures.items known,
     )
 
