@@ -1,5 +1,5 @@
 -- What lies under the lock stays well over each act.
-use Rattle.std.proofs.Common.{◌≡◌, ◌≢◌, inl, inr, ℕ, ◌≤◌, Bool, true, false, length, List, Option, Some, None, Result, Ok, Err, refl, sym, ap, ◌∙◌, subst, arith}
+use Rattle.std.proofs.Common.{◌≡◌, ◌≢◌, ◌++◌, ◌∷◌, [], inl, inr, ℕ, ◌≤◌, Bool, true, false, length, List, Option, Some, None, Result, Ok, Err, refl, sym, ap, ◌∙◌, subst, arith}
 use Rattle.std.proofs.lemmas.List.{length-set}
 use Rattle.std.specs.Prelude.{IfErr, IfSome, is_some, not, ◌&&◌, IsSome, slice_set}
 use Rattle.words.specs.declared.call.Client.{Client}
@@ -20,6 +20,10 @@ use Rattle.named.specs.Stopping.{IsQueueOn, IsReadOn, IsRecoveryStep, creation_a
 use Rattle.named.specs.declared.recovery.BrokerRecovery.{BrokerRecovery}
 use Rattle.named.specs.declared.recovery.BrokerRecovery.TheVariants.{ReadDirectory, RecoverQueue}
 use Rattle.words.specs.declared.refusal.Refusal.{Refusal}
+use Rattle.workers.specs.Deeds.{CameBy}
+use Rattle.workers.specs.Deeds.CameBy.{act, creation as opened_by}
+use Rattle.workers.specs.declared.deeds.Deed.{Deed}
+use Rattle.workers.specs.declared.deeds.Deed.TheVariants.{Creation as creation_deed}
 use Rattle.workers.specs.Creating.{IsCreationKnown, creating_after_crash, is_under_way}
 use Rattle.directory.specs.Creation.{successor}
 use Rattle.directory.specs.Directory.{Directory}
@@ -61,11 +65,32 @@ pub with_rows : (all : ℕ) (first : Sessioned) (g : Guarded) (rows : List (List
 with_rows all first g rows same well =
     subst (λ (rs : List (List Entry)). IsGuardedWell all first (record g { rows = rs })) (sym same) well
 
+-- with other rows of what was done
+pub with_deeds : (all : ℕ) (first : Sessioned) (g : Guarded) (deeds kept : List (List Deed)) → kept ≡ deeds
+    → IsGuardedWell all first g → CameBy first.broker deeds g.session.broker
+    → IsGuardedWell all first (record g { deeds = kept })
+with_deeds all first g deeds kept same well came = record {
+  beginning = well.beginning;
+  clients = well.clients;
+  followed = well.followed;
+  promises = well.promises;
+  creation = well.creation;
+  goes_on = well.goes_on;
+  came = well.came;
+  done = subst (λ (rows : List (List Deed)). CameBy first.broker rows g.session.broker) (sym same) came;
+}
+
 module _ (all : ℕ) (first : Sessioned) (old : Guarded) (well : IsGuardedWell all first old) where
   -- an act of no seat
   pub guarded_still : (new : Sessioned) (creating : Creating) → ((u : Client) → IsCarriedFor u old.session new)
       → KeepsNumbers new → IsOn old.session new → IsCreationKnown new.broker creating
-      → IsGuardedWell all first (record { session = new; rows = old.rows; creating = creating; rotated = old.rotated })
+      → IsGuardedWell all first (record {
+        session = new;
+        rows = old.rows;
+        deeds = old.deeds;
+        creating = creating;
+        rotated = old.rotated;
+      })
   guarded_still new creating carried keeps on known = record {
     beginning = well.beginning;
     clients = well.clients;
@@ -76,6 +101,7 @@ module _ (all : ℕ) (first : Sessioned) (old : Guarded) (well : IsGuardedWell a
     creation = known;
     goes_on = session_further first old.session new well.goes_on on.numbers;
     came = came_further first.broker old.rotated old.session.broker new.broker well.came on.queues;
+    done = act well.done on.queues;
   }
 
   -- an act of the seat at t, whose row changes with it
@@ -87,6 +113,7 @@ module _ (all : ℕ) (first : Sessioned) (old : Guarded) (well : IsGuardedWell a
       → IsGuardedWell all first (record {
         session = new;
         rows = slice_set old.rows t row;
+        deeds = old.deeds;
         creating = old.creating;
         rotated = old.rotated;
       })
@@ -99,6 +126,7 @@ module _ (all : ℕ) (first : Sessioned) (old : Guarded) (well : IsGuardedWell a
     creation = known;
     goes_on = session_further first old.session new well.goes_on on.numbers;
     came = came_further first.broker old.rotated old.session.broker new.broker well.came on.queues;
+    done = act well.done on.queues;
   }
 
 -- rows that have no calls yet, since histories of these lengths
@@ -206,6 +234,20 @@ module _ (old new : Brokered) (known : IsCreationKnown old UnderWay) where
             subst (λ (s : SlotId). IsSome (world_at new s.0)) same
                 (subst (λ (o : Option State). IsSome o) (sym made.1.world) refl),
           )
+
+  -- so it is one of the deeds
+  pub done_by_last : (first : Brokered) (result : Result (Option SlotId) Refusal) (slot : SlotId) → result ≡ Ok (Some slot)
+      → Steps result → {deeds : List (List Deed)} → CameBy first deeds old
+      → CameBy first (deeds ++ (creation_deed slot ∷ []) ∷ []) new
+  done_by_last first result slot is step {deeds} before =
+      by_creation result step (λ made_of made. last made_of (successor made_of) made)
+    where
+      last : (made_of : Creation) (after : After Creation SlotId) → IsStepCreated old new made_of result after
+          → CameBy first (deeds ++ (creation_deed slot ∷ []) ∷ []) new
+      last made_of (More next) made = absurd (none_is_more slot (sym made.0 ∙ is))
+      last made_of (Done other) made =
+          let same : other ≡ slot = cc (sym made.0 ∙ is) in
+          subst (λ (x : SlotId). CameBy first (deeds ++ (creation_deed x ∷ []) ∷ []) new) same (opened_by before made.1)
 
   -- none is refused
   pub step_is_made : (result : Result (Option SlotId) Refusal) (refusal : Refusal) → result ≡ Err refusal → Steps result

@@ -7,6 +7,7 @@ pub mod Endings
 pub mod Follows
 pub mod Guarded
 pub mod Histories
+pub mod Honouring
 pub mod Idling
 pub mod QueueKinds
 pub mod Lists

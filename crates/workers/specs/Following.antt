@@ -7,8 +7,10 @@ use Rattle.session.specs.Keeping.{SessionGoesOn}
 use Rattle.session.specs.Promises.{KeepsNumbers}
 use Rattle.session.specs.Sessions.{Sessioned}
 use Rattle.workers.specs.Creating.{IsCreationKnown}
+use Rattle.workers.specs.Deeds.{CameBy}
 use Rattle.workers.specs.Opening.{IsNotInUse}
 use Rattle.workers.specs.Lists.{IsCutOff, IsRecorded, OnlyLastIsOpen, RanAt, events_at}
+use Rattle.workers.specs.declared.deeds.Deed.{Deed}
 use Rattle.workers.specs.declared.entry.End.TheVariants.{Open}
 use Rattle.workers.specs.declared.entry.Entry.{Entry}
 use Rattle.workers.specs.declared.locked.Creating.{Creating}
@@ -34,11 +36,12 @@ pub record AreFollowed (since : ℕ → ℕ) (s : Sessioned) (rows : List (List 
   pub begun : (slot : ℕ) → since slot ≤ length (events_at s.broker slot)
   pub each : (t : ℕ) (row : List Entry) → slice_get rows t ≡ Some row → IsFollowed since s (record { 0 = t }) row
 
--- what lies under the lock: the session, the rows that the keeper knows, the creation that threads know of, and whether
--- the histories have ended since the seats were given
+-- what lies under the lock: the session, the rows that the keeper knows, what was done to all of the session, the
+-- creation that threads know of, and whether the histories have ended since the seats were given
 pub record Guarded : Type 0 where
   pub session : Sessioned
   pub rows : List (List Entry)
+  pub deeds : List (List Deed)
   pub creating : Creating
   pub rotated : Bool
 
@@ -59,3 +62,4 @@ pub record IsGuardedWell (all : ℕ) (first : Sessioned) (g : Guarded) : Type 0 
   pub creation : IsCreationKnown g.session.broker g.creating
   pub goes_on : SessionGoesOn first g.session
   pub came : CameOf first.broker g.rotated g.session.broker
+  pub done : CameBy first.broker g.deeds g.session.broker

@@ -6,6 +6,7 @@ pub mod Made
 pub mod Naming
 pub mod Opening
 pub mod Creating
+pub mod Deeds
 pub mod Seats
 pub mod Looking
 pub mod Recovered

@@ -1,6 +1,6 @@
 //! What lies under the lock.
 
-ghost use Rattle.std.specs.Prelude.{◌≡◌, ◌≢◌, ◌<◌, false, length, true, IfErr, vec_capacity, vec_len};
+ghost use Rattle.std.specs.Prelude.{◌≡◌, ◌≢◌, ◌<◌, [], false, length, true, IfErr, vec_capacity, vec_len};
 ghost use Rattle.roll.specs.Rule.{IsKeeper, rows_of};
 ghost use Rattle.session.specs.Requests.{answer_to, number_or_zero, IsBegunBy};
 ghost use Rattle.workers.specs.Answers.{IsListAfter, IsListBegun};
@@ -9,6 +9,7 @@ ghost use Rattle.workers.specs.Lists.{ends_open, events_at};
 ghost use Rattle.workers.specs.Refusals.{IsSettledStart, IsWhyRefused, WasSettled};
 ghost use Rattle.workers.specs.Seats.{AreEmpty};
 
+use crate::deeds::Register;
 use crate::entry::{End, Entry, Request, Took, last_queue};
 use crate::naming::Naming;
 use crate::seat::{Seat, known, with_entry, with_last};
@@ -29,11 +30,13 @@ pub(crate) enum Creating {
     Interrupted,
 }
 
-/// The session, beside the keeper of the seats' lists: each list is what the histories have of its client.
+/// The session, beside the keeper of the seats' lists, each of which is what the histories have of its client, and that
+/// of what was done to all of it.
 #[derive(Drop)]
 pub(crate) struct Locked<J: Naming> {
     pub(crate) session: Session,
     pub(crate) keeper: Token<Entry>,
+    pub(crate) register: Register,
     pub(crate) creating: Creating,
     /// Whether the histories have ended since the seats were given.
     pub(crate) rotated: bool,
@@ -49,17 +52,20 @@ impl<J: Naming> Model for Locked<J> {
     ghost view = { λ l. record {
       session = l.session;
       rows = rows_of l.keeper;
+      deeds = rows_of l.register.keeper;
       creating = l.creating;
       rotated = l.rotated;
     } };
 
-    ghost invariant = { λ l. IsKeeper J.roll (rows_of l.keeper) l.keeper
+    ghost invariant = { λ l. IsKeeper J.roll.lists (rows_of l.keeper) l.keeper
         × IsGuardedWell J.clients J.first (record {
           session = l.session;
           rows = rows_of l.keeper;
+          deeds = rows_of l.register.keeper;
           creating = l.creating;
           rotated = l.rotated;
-        }) };
+        })
+        × IsKeeper J.roll.deeds (rows_of l.register.keeper) l.register.keeper };
 }
 
 /// How many events the history of a slot has; 0 where the slot is closed.
@@ -82,8 +88,9 @@ fn is_want_of_memory(refusal: Refusal) -> bool
 
 impl<J: Naming> Locked<J> {
     /// What is to lie under the lock, where no seat has been used yet.
-    pub(crate) fn new(session: Session, keeper: Token<Entry>) -> Self
-        requires keeper { IsKeeper J.roll (rows_of keeper) keeper }
+    pub(crate) fn new(session: Session, keeper: Token<Entry>, register: Register) -> Self
+        requires keeper { IsKeeper J.roll.lists (rows_of keeper) keeper }
+        requires register { IsKeeper J.roll.deeds [] register.keeper }
         requires clients { length (rows_of keeper) ≡ J.clients }
         requires first { session ≡ J.first }
         requires beginning { IsBeginning J.clients session }
@@ -92,19 +99,21 @@ impl<J: Naming> Locked<J> {
         Locked {
             session,
             keeper,
+            register,
             creating: Creating::Nothing,
             rotated: false,
             of: PhantomData,
         }
     }
 
-    /// The session, and the keeper of the seats' lists.
-    pub(crate) fn into_parts(self) -> (Session, Token<Entry>)
+    /// The session, the keeper of the seats' lists, and what keeps what was done.
+    pub(crate) fn into_parts(self) -> (Session, Token<Entry>, Register)
         ensures session { result.0 ≡ self.session }
-        ensures keeper { IsKeeper J.roll self.rows result.1 }
+        ensures keeper { IsKeeper J.roll.lists self.rows result.1 }
+        ensures register { IsKeeper J.roll.deeds self.deeds result.2.keeper }
         ensures well { IsGuardedWell J.clients J.first self }
     {
-        (self.session, self.keeper)
+        (self.session, self.keeper, self.register)
     }
 
     /// Begins a call of the seat's client. Its entry is written in the same event, so that list and history never part.
@@ -114,7 +123,7 @@ impl<J: Naming> Locked<J> {
         seat: Seat<J>,
         request: &Request,
     ) -> (Seat<J>, Result<Option<Reply>, Refusal>)
-        requires roll { roll.now ≡ J.roll }
+        requires roll { roll.now ≡ J.roll.lists }
         requires idle { ends_open seat.list.items ≡ false }
         requires room { vec_len seat.list < vec_capacity seat.list }
         ensures client { result.0.client ≡ seat.client }
@@ -143,7 +152,7 @@ impl<J: Naming> Locked<J> {
 
     /// One step of the seat's open call.
     pub(crate) fn step(&mut self, roll: &Roll<Entry>, seat: Seat<J>) -> (Seat<J>, Took)
-        requires roll { roll.now ≡ J.roll }
+        requires roll { roll.now ≡ J.roll.lists }
         requires open { ends_open seat.list.items ≡ true }
         ensures client { result.0.client ≡ seat.client }
         ensures step { IsListAfter seat.list.items result.1 result.0.list.items }

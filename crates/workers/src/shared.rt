@@ -2,6 +2,7 @@
 
 ghost use Rattle.std.specs.Prelude.{◌≡◌, ◌<◌, false, IfErr, IfOk, IfSome, IsTrue, true, vec_capacity, vec_len};
 ghost use Rattle.workers.specs.Answers.{Finishes, IsListAfter, IsListBegun, Remembers};
+ghost use Rattle.workers.specs.Deeds.{IsReceipted};
 ghost use Rattle.workers.specs.Lists.{ends_open};
 ghost use Rattle.workers.specs.Looking.{IsCreatedBeside, IsFoundOf, IsListedOf};
 ghost use Rattle.workers.specs.Refusals.{is_creation_refusal, is_refused, is_told_refusal};
@@ -11,8 +12,10 @@ ghost use Rattle.workers.specs.Refusals.{IsSettledAnswer, IsSettledStart, IsWhyR
 ghost use Rattle.directory.specs.Directory.{HasName};
 ghost use Rattle.directory.specs.Name.{IsName};
 ghost use Rattle.workers.specs.declared.entry.Answer.{Answer as AnyAnswer};
+ghost use Rattle.workers.specs.declared.deeds.Deed.{Deed as AnyDeed};
 ghost use Rattle.workers.specs.declared.shared.Created.{Created as AnyCreated};
 
+use crate::deeds::{Deed, Receipt};
 use crate::entry::{Answer, Entry, Request, Took};
 use crate::gate::Gate;
 use crate::locked::Locked;
@@ -30,8 +33,10 @@ use words::{Call, Client, Kind, Refusal, Reply, Told};
 #[derive(Drop)]
 pub struct Shared<J: Naming> {
     pub(crate) roll: Roll<Entry>,
+    pub(crate) deeds: Roll<Deed>,
     pub(crate) locked: Mutex<Locked<J>>,
-    pub(crate) ghost same: { roll ≡ J.roll },
+    pub(crate) ghost lists: { roll ≡ J.roll.lists },
+    pub(crate) ghost done: { deeds ≡ J.roll.deeds },
 }
 
 /// What became of a creation.
@@ -171,18 +176,20 @@ impl<J: Naming> Shared<J> {
 
     /// Creates a queue, one act a step. It is Interrupted where a crash came between, and refused as
     /// [`session::Session::create`] is; Busy also where a crash ended another creation whose caller has not seen that
-    /// yet. A name that a queue had when the seats were given is taken for good, and so is its slot.
-    pub fn create<R: Wait>(&self, rt: &R, name: &[u8], kind: Kind) -> Created
-        ensures bad_name { (IsName name.now → ⊥) → result ≡ AnyCreated.Refused Refusal.BadName }
-        ensures taken { HasName J.first.broker.directory name.now → IsTrue (is_refused result) }
-        ensures free { IsCreatedBeside J.first.broker.directory result }
-        ensures errors { IfNotCreated result (λ refusal. IsTrue (is_creation_refusal refusal)) }
+    /// yet. A name that a queue had when the seats were given is taken for good, and so is its slot. A queue that was
+    /// created comes with a receipt of that.
+    pub fn create<R: Wait>(&self, rt: &R, name: &[u8], kind: Kind) -> (Created, Option<Receipt<J>>)
+        ensures bad_name { (IsName name.now → ⊥) → result.0 ≡ AnyCreated.Refused Refusal.BadName }
+        ensures taken { HasName J.first.broker.directory name.now → IsTrue (is_refused result.0) }
+        ensures receipt { IsReceipted (λ receipt. receipt.deed) result.0 result.1 }
+        ensures free { IsCreatedBeside J.first.broker.directory result.0 }
+        ensures errors { IfNotCreated result.0 (λ refusal. IsTrue (is_creation_refusal refusal)) }
     {
         if let Err(refusal) = self.locked.lock(rt).create(name, kind) {
-            return Created::Refused(refusal);
+            return (Created::Refused(refusal), None);
         }
         for _ in rt.forever() {
-            if let Some(created) = self.locked.lock(rt).create_step() {
+            if let Some(created) = self.locked.lock(rt).create_step(&self.deeds) {
                 return created;
             }
         }
@@ -191,10 +198,11 @@ impl<J: Naming> Shared<J> {
 
     /// The whole system stops: each call under way is interrupted, as its seat hears when it goes on. It is refused for
     /// want of memory (NoMemory), and then nothing stopped.
-    pub fn crash<R: Wait>(&self, rt: &R) -> Result<(), Refusal>
-        ensures { IfErr result (λ refusal. refusal ≡ Refusal.NoMemory) }
+    pub fn crash<R: Wait>(&self, rt: &R) -> Result<Receipt<J>, Refusal>
+        ensures deed { IfOk result (λ receipt. receipt.deed ≡ AnyDeed.Crash) }
+        ensures errors { IfErr result (λ refusal. refusal ≡ Refusal.NoMemory) }
     {
-        self.locked.lock(rt).crash()
+        self.locked.lock(rt).crash(&self.deeds)
     }
 
     /// Recovers the broker, one act a step, until it is ready; other threads may take steps too. It is refused where no

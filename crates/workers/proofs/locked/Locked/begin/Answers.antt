@@ -17,6 +17,7 @@ invariant_of-self g c =
           (guarded_begun g.J.Naming.clients g.J.Naming.first _ c.self.invariant.1 c.begin.new.self e.promises (record { numbers = e.goes_on; queues = e.queues })
           c.args.seat.client list w.before c.args.request.now c.events_in-next.result c.requires.idle
           c.events_in-next.ensures c.in-Ok.began e.begun e.reply)),
+      c.self.invariant.2,
     )
 
 pub invariant_of-self-in-Err : goal.invariant_of-self-in-Err
@@ -29,6 +30,7 @@ invariant_of-self-in-Err g c =
           (guarded_unbegun g.J.Naming.clients g.J.Naming.first _ c.self.invariant.1 c.begin.new.self e.promises
           (record { numbers = e.goes_on; queues = e.queues }) r.queue.0 c.args.seat.client (number_or_zero r.number) r.call
           c.in-Err.refusal (answer_to c.self.inside.session r.queue.0 c.args.seat.client r.number) e.begun),
+      c.self.invariant.2,
     )
 
 pub returns-in-Err-clause-errors : goal.returns-in-Err-clause-errors

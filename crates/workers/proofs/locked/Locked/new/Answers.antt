@@ -1,6 +1,10 @@
-use Rattle.std.proofs.Common.{ap, sym, subst, length, false}
+use Rattle.std.proofs.Common.{[], ap, sym, subst, ◌∙◌, length, List, false}
 use Rattle.named.specs.GoingOn.{CameOf}
 use Rattle.named.proofs.Comings.{came_of_itself}
+use Rattle.roll.specs.Rule.{keeper}
+use Rattle.workers.specs.Deeds.{CameBy}
+use Rattle.workers.specs.Deeds.CameBy.{nothing}
+use Rattle.workers.specs.declared.deeds.Deed.{Deed}
 use Rattle.session.specs.Sessions.{Sessioned}
 use Rattle.session.specs.Keeping.{SessionGoesOn}
 use Rattle.workers.specs.Following.{IsBeginning, beginnings}
@@ -21,5 +25,9 @@ invariant_of-result g c =
         creation = r.beginning.quiet.creating;
         goes_on = subst (λ (s : Sessioned). SessionGoesOn s c.args.session) r.first (session_stays c.args.session);
         came = subst (λ (s : Sessioned). CameOf s.broker false c.args.session.broker) r.first (came_of_itself c.args.session.broker);
+        done = subst (λ (rows : List (List Deed)). CameBy g.J.Naming.first.broker rows c.args.session.broker)
+            (sym (ap (λ m. m.0.rows) r.register.1))
+            (subst (λ (s : Sessioned). CameBy s.broker [] c.args.session.broker) r.first nothing);
       },
+      (r.register.0, r.register.1 ∙ sym (ap (λ m. (keeper m.0.rows, [])) r.register.1)),
     )
