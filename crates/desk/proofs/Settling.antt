@@ -68,7 +68,7 @@ refusal_fits first list queue number Old why = refl
 refusal_fits first list queue number Gap why = refl
 refusal_fits first list queue number StaleNumber why = refl
 refusal_fits first list queue number NoRoom why = refl
-refusal_fits first list queue number _ why = absurd cc
+refusal_fits first list queue number _ why = absurd why
 
 pub wire_fits : (first : Sessioned) (list : List Entry) (queue : SlotId) (number : Option ℕ) (given : Answer)
     → IfNotMade given (IsWhyRefused first list queue number) → IsTrue (is_call_answer (answer_on_wire given))

@@ -12,9 +12,9 @@ use Rattle.workers.specs.declared.deeds.Deed.TheVariants.{Crash, Creation as cre
 use Rattle.workers.specs.declared.shared.Created.{Created}
 use Rattle.workers.specs.declared.shared.Created.TheVariants.{Interrupted, Queue, Refused}
 
--- The one broker came of the other, and meanwhile just this was done, each at its moment: everything stopped (Crash), a
--- creation opened its slot (Creation), the histories ended and others began (Rotation). Between them the queues and
--- their histories go on. Each deed is a row of its own, as a roll has it
+-- The one broker came of the other, and meanwhile this was done in this order, each at its moment: everything stopped
+-- (Crash), a creation opened its slot (Creation), the histories ended and others began (Rotation). Between them the
+-- queues and their histories go on, by acts of any kind. Each deed is a row of its own, as a roll has it
 pub data CameBy (first : Brokered) : List (List Deed) → Brokered → Type 0 where
   nothing : CameBy first [] first
   act : {deeds : List (List Deed)} {old new : Brokered} (before : CameBy first deeds old)
