@@ -2,13 +2,14 @@
 use Rattle.std.proofs.Common.{◌≡◌, ℕ, List, Option, Some, None, refl, sym, subst, inl, inr}
 use Rattle.std.specs.Prelude.{IfErr, IfOk, IfSome, IsNone, IsTrue, ok_or}
 use Rattle.words.specs.declared.refusal.Refusal.{Refusal}
-use Rattle.words.specs.declared.refusal.Refusal.TheVariants.{Busy, NoQueue, NotReady}
+use Rattle.words.specs.declared.refusal.Refusal.TheVariants.{Busy, Gap, NoMemory, NoQueue, NoRoom, NotReady, Old, StaleNumber, WrongKind}
 use Rattle.arena.specs.declared.broker.SlotId.{SlotId}
 use Rattle.directory.specs.Directory.{Directory, HasName}
 use Rattle.wire.specs.declared.answer.Answer.{Answer as WireAnswer}
 use Rattle.wire.specs.declared.answer.Answer.TheVariants.{Refused}
+use Rattle.session.specs.Sessions.{Sessioned}
 use Rattle.workers.specs.Looking.{IsFoundOf}
-use Rattle.workers.specs.Refusals.{IfNotMade, is_call_refusal}
+use Rattle.workers.specs.Refusals.{IfNotMade, IsWhyRefused, is_call_refusal}
 use Rattle.workers.specs.declared.entry.Answer.{Answer}
 use Rattle.workers.specs.declared.entry.Answer.TheVariants.{Interrupted as seat_interrupted, Refused as seat_refused}
 use Rattle.workers.specs.declared.entry.Answer.TheVariants.{Reply as seat_reply, Unfinished as seat_unfinished}
@@ -29,7 +30,7 @@ some_is_found slot none = absurd cc
 
 -- a name that is not found was not there at first
 pub not_there : (first : Directory) (name : List ℕ) → IsFoundOf first name None → HasName first name → ⊥
-not_there first name none has = some_is_found (record { 0 = has.slot }) (none has.slot has.here)
+not_there first name none has = some_is_found (record { 0 = has.slot }) (none.there has.slot has.here)
 
 -- what a queue's name is found to be
 pub found_slot : (first : Directory) (name : List ℕ) (queue : Option (List ℕ)) → queue ≡ Some name → (found : Option SlotId)
@@ -56,12 +57,25 @@ why_nameless first queue refusal (inl down) = rw down refl
 why_nameless first queue refusal (inr none) = rw none.0 refl
 
 -- what a seat answers a call is one of a call on the wire too
-pub wire_fits : (given : Answer) → IfNotMade given (λ refusal. IsTrue (is_call_refusal refusal))
-    → IsTrue (is_call_answer (answer_on_wire given))
-wire_fits (seat_reply reply) why = refl
-wire_fits (seat_refused refusal) why = why
-wire_fits seat_interrupted why = refl
-wire_fits seat_unfinished why = refl
+refusal_fits : (first : Sessioned) (list : List Entry) (queue : SlotId) (number : Option ℕ) (refusal : Refusal)
+    → IsWhyRefused first list queue number refusal → IsTrue (is_call_refusal refusal)
+refusal_fits first list queue number Busy why = refl
+refusal_fits first list queue number NoMemory why = refl
+refusal_fits first list queue number NotReady why = refl
+refusal_fits first list queue number NoQueue why = refl
+refusal_fits first list queue number WrongKind why = refl
+refusal_fits first list queue number Old why = refl
+refusal_fits first list queue number Gap why = refl
+refusal_fits first list queue number StaleNumber why = refl
+refusal_fits first list queue number NoRoom why = refl
+refusal_fits first list queue number _ why = absurd why
+
+pub wire_fits : (first : Sessioned) (list : List Entry) (queue : SlotId) (number : Option ℕ) (given : Answer)
+    → IfNotMade given (IsWhyRefused first list queue number) → IsTrue (is_call_answer (answer_on_wire given))
+wire_fits first list queue number (seat_reply reply) why = refl
+wire_fits first list queue number (seat_refused refusal) why = refusal_fits first list queue number refusal why
+wire_fits first list queue number seat_interrupted why = refl
+wire_fits first list queue number seat_unfinished why = refl
 
 -- what a seat answers a call in a queue of no name, a desk may
 pub nameless_fits : (answer : WireAnswer) → IsTrue (is_nameless_refusal answer) → IsTrue (is_nameless_call_answer answer)

@@ -23,7 +23,8 @@ fn create<J: Naming, R: Wait>(rt: &R, shared: &Shared<J>, queue: Option<Name>, k
     let Some(name) = queue else {
         return Answer::Refused(Refusal::BadName);
     };
-    match shared.create(rt, name.as_bytes(), kind) {
+    let (created, _receipt) = shared.create(rt, name.as_bytes(), kind);
+    match created {
         Created::Queue(slot) => Answer::Created(slot),
         Created::Refused(refusal) => Answer::Refused(refusal),
         Created::Interrupted => Answer::Interrupted,
@@ -85,6 +86,14 @@ fn told<J: Naming, R: Wait>(
     shared.told(rt, client, slot)
 }
 
+/// The whole system stops. A connection wants no receipt of it.
+fn crash<J: Naming, R: Wait>(rt: &R, shared: &Shared<J>) -> Result<(), Refusal>
+    ensures { IfErr result (λ refusal. refusal ≡ Refusal.NoMemory) }
+{
+    shared.crash(rt)?;
+    Ok(())
+}
+
 /// The answer, where what was asked for was done.
 fn done(outcome: Result<(), Refusal>, answer: Answer) -> Answer
     ensures { result ≡ answer_where_done outcome answer }
@@ -114,7 +123,7 @@ pub(crate) fn answer_to<J: Naming, R: Wait>(
             Ok(told) => Answer::Told(told),
             Err(refusal) => Answer::Refused(refusal),
         },
-        Request::Crash => done(shared.crash(rt), Answer::Crashed),
+        Request::Crash => done(crash(rt, shared), Answer::Crashed),
         Request::Recover => done(shared.recover(rt), Answer::Ready),
         Request::Stop => Answer::Stopping,
     }

@@ -15,7 +15,7 @@ mod program;
 pub use asked::{Listening, Mode, Options};
 pub use limits::{
     DEFAULT_CLIENTS, DEFAULT_DRAW, DEFAULT_PORT, DEFAULT_RECORDS, DEFAULT_WORKERS, MAX_DRAW,
-    MAX_PORT, MAX_WORKERS,
+    MAX_PORT, MAX_WORKERS, limits_are_fixed,
 };
 pub use line::command_line;
 pub use pqx::{CheckOptions, Choice, PointOptions, PqxAsked, RunOptions};

@@ -1,5 +1,9 @@
 //! What each option that is a number may be, and what it is where it is not given.
 
+ghost use Rattle.std.specs.Prelude.{◌≡◌};
+ghost use Rattle.options.specs.declared.limits.TheConstants.{DEFAULT_CLIENTS, DEFAULT_RECORDS, DEFAULT_PORT, DEFAULT_WORKERS};
+ghost use Rattle.options.specs.declared.limits.TheConstants.{DEFAULT_DRAW, MAX_DRAW, MAX_PORT, MAX_WORKERS};
+
 use crate::number::NumberOption;
 use words::{MAX_CLIENTS, MAX_RECORDS};
 
@@ -26,6 +30,16 @@ pub const DEFAULT_DRAW: u64 = 1;
 
 /// The greatest such state.
 pub const MAX_DRAW: u64 = 18_446_744_073_709_551_615;
+
+/// What is asked for where an option is not given, and the greatest that may be: the numbers of the command line, which
+/// its pages and docs/WIRE.md have.
+pub fn limits_are_fixed()
+    ensures clients { DEFAULT_CLIENTS ≡ 4 }
+    ensures records { DEFAULT_RECORDS ≡ 256 }
+    ensures port { (DEFAULT_PORT ≡ 7070) × (MAX_PORT ≡ 65535) }
+    ensures workers { (DEFAULT_WORKERS ≡ 4) × (MAX_WORKERS ≡ 16) }
+    ensures draw { (DEFAULT_DRAW ≡ 1) × (MAX_DRAW ≡ 18446744073709551615) }
+{}
 
 /// `--clients T`
 pub(crate) const CLIENTS: NumberOption = NumberOption {

@@ -18,7 +18,7 @@ use Rattle.named.specs.Brokers.{Brokered, IsNotCreated}
 use Rattle.session.specs.Requests.{IsRun, IsServedBy, as_begun, answer_to, number_or_zero}
 use Rattle.session.specs.Sessions.{Sessioned}
 use Rattle.workers.specs.Refusals.{is_call_refusal, is_creation_refusal, is_told_refusal}
-use Rattle.workers.proofs.Refusing.{Within, act_within, request_comes_within, start_within}
+use Rattle.owning.proofs.Refusing.{Within, act_within, request_comes_within, start_within}
 use Rattle.wire.specs.declared.answer.Answer.{Answer}
 use Rattle.wire.specs.declared.answer.Answer.TheVariants.{Crashed, Created, Queues, Ready, Refused, Reply as reply_answer, Told as told_answer}
 use Rattle.wire.specs.declared.request.Request.{Request}

@@ -42,7 +42,7 @@ fn rotate_too_early<J: Naming, R: Wait + Print + AllocGlobal>(
     let (seats, rotated) = shared.rotate(rt, all(rt, seat)?);
     let seat = only(seats).ok_or(Refusal::NoClient)?;
     let after = seen_beside(rt, shared, &seat.list)?;
-    if rotated == Err(Refusal::Busy) && before.as_str() == after.as_str() {
+    if matches!(rotated, Err(Refusal::Busy)) && before.as_str() == after.as_str() {
         println!(rt; "busy")?;
     } else {
         println!(rt; "changed: Shared::rotate")?;

@@ -167,7 +167,7 @@ fn acts<J: Naming, R: Wait + Print + AllocGlobal>(rt: &R, opened: Opened) -> Res
     let seat = only(seats).ok_or(Refusal::NoClient)?;
     let seat = first_calls(rt, &shared, seat)?;
     show_list(rt, &seat)?;
-    let created = shared.create(rt, b"c", Kind::Log);
+    let (created, _receipt) = shared.create(rt, b"c", Kind::Log);
     println!(rt; "a queue: {created:?}")?;
     let seat = rotate(rt, &shared, seat)?;
     let seat = call(rt, &shared, seat, numbered(5, Call::Deq), &OpenGate)?;

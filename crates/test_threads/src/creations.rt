@@ -43,7 +43,7 @@ const SECOND: [u8; 4] = [b'f', b'g', b'h', b'i'];
 /// came between.
 fn created<J: Naming, R: Wait + Clock>(rt: &R, shared: &Shared<J>, letter: u8) -> Option<Created> {
     for turn in 0..TURNS {
-        let created = shared.create(rt, &[letter], Kind::Log);
+        let (created, _receipt) = shared.create(rt, &[letter], Kind::Log);
         match created {
             Created::Interrupted | Created::Refused(Refusal::NotReady | Refusal::Busy) => {
                 if turn % 4 == 3 {
@@ -99,7 +99,7 @@ fn restarts<J: Naming, R: Wait + Clock>(rt: &R, shared: &Shared<J>, signals: &Si
         if signals.over.load(Ordering::SeqCst) == 2 {
             return right;
         }
-        right &= shared.crash(rt) == Ok(());
+        right &= shared.crash(rt).is_ok();
         tell(&signals.begun);
         right &= shared.recover(rt) == Ok(());
         if turn % 64 == 63 {

@@ -168,7 +168,7 @@ fn restarts<J: Naming, R: Wait + Clock>(
         if done.load(Ordering::SeqCst) == clients {
             return right;
         }
-        right &= shared.crash(rt) == Ok(()) && shared.recover(rt) == Ok(());
+        right &= shared.crash(rt).is_ok() && shared.recover(rt) == Ok(());
     }
     false
 }

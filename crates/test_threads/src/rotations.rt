@@ -45,7 +45,7 @@ fn rotated<J: Naming, R: Wait + Abort>(
     shared.crash(rt)?;
     shared.recover(rt)?;
     let (seats, rotated) = shared.rotate(rt, put_together(alloc, zero, one)?);
-    assert_eq!(rt; rotated, Ok(()));
+    assert!(rt; rotated.is_ok());
     assert!(rt; seats.iter().all(|seat| seat.list.is_empty()));
     assert_eq!(rt;
         shared.told(rt, Client(0), A),

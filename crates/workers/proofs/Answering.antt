@@ -1,10 +1,11 @@
 -- What a call leaves in its seat's list, from its start to its answer.
-use Rattle.std.proofs.Common.{◌≡◌, refl, true, List, Option, Some, None, Result, Ok, ap, ◌∙◌, subst}
+use Rattle.std.proofs.Common.{◌≡◌, refl, true, List, Option, Some, None, Result, Ok, Err, ap, ◌∙◌, subst}
 use Rattle.words.specs.declared.call.Reply.{Reply as AnyReply}
 use Rattle.words.specs.declared.refusal.Refusal.{Refusal}
 use Rattle.workers.proofs.Lists.{ends_open_push, with_end_push}
 use Rattle.workers.specs.Answers.{Finishes, IsListBegun, IsAddedOpen, Remembers, entry_of}
 use Rattle.workers.specs.Lists.{ends_open, with_end}
+use Rattle.workers.specs.Refusals.{IsSettledStart, is_settled_refusal}
 use Rattle.workers.specs.declared.entry.Answer.{Answer}
 use Rattle.workers.specs.declared.entry.Answer.TheVariants.{Interrupted as answer_interrupted, Refused, Reply}
 use Rattle.workers.specs.declared.entry.Answer.TheVariants.{Unfinished}
@@ -40,3 +41,19 @@ remembers old r begun new answer_interrupted way is = record {
       ∙ with_end_push Interrupted old (entry_of r.queue r.number r.call (Some way.place) Open));
 }
 remembers old r begun new Unfinished way is = record { place = Some way.place; ran = refl; is = is ∙ way.is }
+
+-- a settled number is answered as its start is
+pub settled_runs_not : (reply : AnyReply) (r : Result (Option AnyReply) Refusal) → r ≡ Ok None → IsSettledStart reply r → ⊥
+settled_runs_not reply r is settled =
+    let none : (let o : Option AnyReply = None in o) ≡ Some reply = subst (IsSettledStart reply) is settled in
+    absurd (cc (none))
+
+pub settled_replies : (reply given : AnyReply) (r : Result (Option AnyReply) Refusal) → r ≡ Ok (Some given)
+    → IsSettledStart reply r → given ≡ reply
+settled_replies reply given r is settled =
+    let some : (let o : Option AnyReply = Some given in o) ≡ Some reply = subst (IsSettledStart reply) is settled in
+    cc (some)
+
+pub settled_refused : (reply : AnyReply) (refusal : Refusal) (r : Result (Option AnyReply) Refusal) → r ≡ Err refusal
+    → IsSettledStart reply r → is_settled_refusal refusal ≡ true
+settled_refused reply refusal r is settled = subst (IsSettledStart reply) is settled

@@ -1,7 +1,7 @@
 -- What lies under the lock stays well over each act.
-use Rattle.std.proofs.Common.{◌≡◌, ◌≢◌, inl, inr, ℕ, ◌≤◌, Bool, true, false, length, List, Option, Some, None, Result, Ok, Err, refl, sym, ap, ◌∙◌, subst, arith}
+use Rattle.std.proofs.Common.{◌≡◌, ◌≢◌, ◌++◌, ◌∷◌, [], inl, inr, ℕ, ◌≤◌, Bool, true, false, length, List, Option, Some, None, Result, Ok, Err, refl, sym, ap, ◌∙◌, subst, arith}
 use Rattle.std.proofs.lemmas.List.{length-set}
-use Rattle.std.specs.Prelude.{IfErr, IfSome, is_some, not, ◌&&◌, IsSome, slice_set, ◌⊎◌}
+use Rattle.std.specs.Prelude.{IfErr, IfSome, is_some, not, ◌&&◌, IsSome, slice_set}
 use Rattle.words.specs.declared.call.Client.{Client}
 use Rattle.arena.specs.declared.broker.SlotId.{SlotId}
 use Rattle.session.specs.Keeping.{SessionGoesOn}
@@ -20,7 +20,10 @@ use Rattle.named.specs.Stopping.{IsQueueOn, IsReadOn, IsRecoveryStep, creation_a
 use Rattle.named.specs.declared.recovery.BrokerRecovery.{BrokerRecovery}
 use Rattle.named.specs.declared.recovery.BrokerRecovery.TheVariants.{ReadDirectory, RecoverQueue}
 use Rattle.words.specs.declared.refusal.Refusal.{Refusal}
-use Rattle.words.specs.declared.refusal.Refusal.TheVariants.{AlreadyReady, NoMemory}
+use Rattle.workers.specs.Deeds.{CameBy}
+use Rattle.workers.specs.Deeds.CameBy.{act, creation as opened_by}
+use Rattle.workers.specs.declared.deeds.Deed.{Deed}
+use Rattle.workers.specs.declared.deeds.Deed.TheVariants.{Creation as creation_deed}
 use Rattle.workers.specs.Creating.{IsCreationKnown, creating_after_crash, is_under_way}
 use Rattle.directory.specs.Creation.{successor}
 use Rattle.directory.specs.Directory.{Directory}
@@ -28,6 +31,7 @@ use Rattle.directory.specs.declared.creation.Creation.{Creation}
 use Rattle.directory.specs.declared.recovery.DirectoryRecovery.{DirectoryRecovery}
 use Rattle.stepper.specs.declared.resume.After.{After}
 use Rattle.stepper.specs.declared.resume.After.TheVariants.{Done, More}
+use Rattle.workers.specs.Recovered.{IsRecoveryRefusal}
 use Rattle.workers.specs.Following.{AreFollowed, Guarded, IsFollowed, IsGuardedWell, beginnings}
 use Rattle.workers.specs.Lists.{events_at}
 use Rattle.workers.specs.declared.entry.Entry.{Entry}
@@ -61,12 +65,34 @@ pub with_rows : (all : ℕ) (first : Sessioned) (g : Guarded) (rows : List (List
 with_rows all first g rows same well =
     subst (λ (rs : List (List Entry)). IsGuardedWell all first (record g { rows = rs })) (sym same) well
 
+-- with other rows of what was done
+pub with_deeds : (all : ℕ) (first : Sessioned) (g : Guarded) (deeds kept : List (List Deed)) → kept ≡ deeds
+    → IsGuardedWell all first g → CameBy first.broker deeds g.session.broker
+    → IsGuardedWell all first (record g { deeds = kept })
+with_deeds all first g deeds kept same well came = record {
+  beginning = well.beginning;
+  clients = well.clients;
+  followed = well.followed;
+  promises = well.promises;
+  creation = well.creation;
+  goes_on = well.goes_on;
+  came = well.came;
+  done = subst (λ (rows : List (List Deed)). CameBy first.broker rows g.session.broker) (sym same) came;
+}
+
 module _ (all : ℕ) (first : Sessioned) (old : Guarded) (well : IsGuardedWell all first old) where
   -- an act of no seat
   pub guarded_still : (new : Sessioned) (creating : Creating) → ((u : Client) → IsCarriedFor u old.session new)
       → KeepsNumbers new → IsOn old.session new → IsCreationKnown new.broker creating
-      → IsGuardedWell all first (record { session = new; rows = old.rows; creating = creating; rotated = old.rotated })
+      → IsGuardedWell all first (record {
+        session = new;
+        rows = old.rows;
+        deeds = old.deeds;
+        creating = creating;
+        rotated = old.rotated;
+      })
   guarded_still new creating carried keeps on known = record {
+    beginning = well.beginning;
     clients = well.clients;
     followed =
         rows_carried (beginnings first old.rotated) old.session new old.rows (λ t. carried (record { 0 = t }))
@@ -75,6 +101,7 @@ module _ (all : ℕ) (first : Sessioned) (old : Guarded) (well : IsGuardedWell a
     creation = known;
     goes_on = session_further first old.session new well.goes_on on.numbers;
     came = came_further first.broker old.rotated old.session.broker new.broker well.came on.queues;
+    done = act well.done on.queues;
   }
 
   -- an act of the seat at t, whose row changes with it
@@ -86,10 +113,12 @@ module _ (all : ℕ) (first : Sessioned) (old : Guarded) (well : IsGuardedWell a
       → IsGuardedWell all first (record {
         session = new;
         rows = slice_set old.rows t row;
+        deeds = old.deeds;
         creating = old.creating;
         rotated = old.rotated;
       })
   guarded_of new t row begun carried its keeps on known = record {
+    beginning = well.beginning;
     clients = length-set old.rows t row ∙ well.clients;
     followed =
         row_changed (beginnings first old.rotated) old.session new old.rows t row begun carried its well.followed;
@@ -97,6 +126,7 @@ module _ (all : ℕ) (first : Sessioned) (old : Guarded) (well : IsGuardedWell a
     creation = known;
     goes_on = session_further first old.session new well.goes_on on.numbers;
     came = came_further first.broker old.rotated old.session.broker new.broker well.came on.queues;
+    done = act well.done on.queues;
   }
 
 -- rows that have no calls yet, since histories of these lengths
@@ -205,6 +235,20 @@ module _ (old new : Brokered) (known : IsCreationKnown old UnderWay) where
                 (subst (λ (o : Option State). IsSome o) (sym made.1.world) refl),
           )
 
+  -- so it is one of the deeds
+  pub done_by_last : (first : Brokered) (result : Result (Option SlotId) Refusal) (slot : SlotId) → result ≡ Ok (Some slot)
+      → Steps result → {deeds : List (List Deed)} → CameBy first deeds old
+      → CameBy first (deeds ++ (creation_deed slot ∷ []) ∷ []) new
+  done_by_last first result slot is step {deeds} before =
+      by_creation result step (λ made_of made. last made_of (successor made_of) made)
+    where
+      last : (made_of : Creation) (after : After Creation SlotId) → IsStepCreated old new made_of result after
+          → CameBy first (deeds ++ (creation_deed slot ∷ []) ∷ []) new
+      last made_of (More next) made = absurd (none_is_more slot (sym made.0 ∙ is))
+      last made_of (Done other) made =
+          let same : other ≡ slot = cc (sym made.0 ∙ is) in
+          subst (λ (x : SlotId). CameBy first (deeds ++ (creation_deed x ∷ []) ∷ []) new) same (opened_by before made.1)
+
   -- none is refused
   pub step_is_made : (result : Result (Option SlotId) Refusal) (refusal : Refusal) → result ≡ Err refusal → Steps result
       → ⊥
@@ -258,38 +302,34 @@ known_after_recovery old new result creating step known = go old.recovery refl s
     go (Some (RecoverQueue slot)) e recovered =
         queue_on (RecoverQueue slot) e slot.0 _ recovered.next
 
--- a step of recovery is refused where there is none, or for want of memory
-abbrev IsRecoveryError : Refusal → Type 0
-IsRecoveryError refusal = (refusal ≡ AlreadyReady) ⊎ (refusal ≡ NoMemory)
-
 -- what a queue's step answers
 queue_errors : (full : Bool) (w : State) (recovery : Option Recovery) (refusal : Refusal)
-    → recover_result_with full w recovery ≡ Err refusal → IsRecoveryError refusal
+    → recover_result_with full w recovery ≡ Err refusal → IsRecoveryRefusal refusal
 queue_errors full w None refusal e = inl (cc (e))
 queue_errors true w (Some r) refusal e = inr (cc (e))
 queue_errors false w (Some r) refusal e = absurd (cc (e))
 
 pub recovery_errors : (old new : Brokered) (result : Result Bool Refusal) → IsWell old
-    → IsRecoveryStep old new result old.recovery → IfErr result IsRecoveryError
+    → IsRecoveryStep old new result old.recovery → IfErr result IsRecoveryRefusal
 recovery_errors old new result well step = go old.recovery refl step
   where
     by_queue : (slot : ℕ) (o : Option State) → world_at old slot ≡ o → IsSome o
         → (answer : Result Bool Refusal) → answered (recover_result (is_no_memory result)) o ≡ answer
-        → IsQueueOn old new slot result answer → IfErr result IsRecoveryError
+        → IsQueueOn old new slot result answer → IfErr result IsRecoveryRefusal
     by_queue slot None there some answer is on = absurd (cc (some))
     by_queue slot (Some w) there some (Err refusal) is on =
-        subst (λ (r : Result Bool Refusal). IfErr r IsRecoveryError) (sym on.0)
+        subst (λ (r : Result Bool Refusal). IfErr r IsRecoveryRefusal) (sym on.0)
         (queue_errors (is_no_memory result) w w.recovery refusal is)
     by_queue slot (Some w) there some (Ok true) is on =
-        subst (λ (r : Result Bool Refusal). IfErr r IsRecoveryError) (sym on.0) tt
+        subst (λ (r : Result Bool Refusal). IfErr r IsRecoveryRefusal) (sym on.0) tt
     by_queue slot (Some w) there some (Ok false) is on =
-        subst (λ (r : Result Bool Refusal). IfErr r IsRecoveryError) (sym on.0) tt
+        subst (λ (r : Result Bool Refusal). IfErr r IsRecoveryRefusal) (sym on.0) tt
 
     go : (o : Option BrokerRecovery) → old.recovery ≡ o → IsRecoveryStep old new result o
-        → IfErr result IsRecoveryError
-    go None e same = subst (λ (r : Result Bool Refusal). IfErr r IsRecoveryError) (sym same.0) (inl refl)
+        → IfErr result IsRecoveryRefusal
+    go None e same = subst (λ (r : Result Bool Refusal). IfErr r IsRecoveryRefusal) (sym same.0) (inl refl)
     go (Some (ReadDirectory at)) e read =
-        subst (λ (r : Result Bool Refusal). IfErr r IsRecoveryError) (sym read.answer) tt
+        subst (λ (r : Result Bool Refusal). IfErr r IsRecoveryRefusal) (sym read.answer) tt
     go (Some (RecoverQueue slot)) e recovered =
         let it = its_queue old well slot e in
         by_queue slot.0 (world_at old slot.0) refl (listed_open old slot.0 it.queue well it.has)

@@ -1,12 +1,15 @@
 pub mod SeenStill
 pub mod Answering
+pub mod Beginning
 pub mod Carried
 pub mod Counting
 pub mod Endings
 pub mod Follows
 pub mod Guarded
 pub mod Histories
+pub mod Honouring
 pub mod Idling
+pub mod QueueKinds
 pub mod Lists
 pub mod Seating
 pub mod SlotsOn

@@ -1,45 +1,55 @@
--- Which refusals the calls of a session under the lock get.
-use Rattle.std.proofs.Common.{◌+◌, ℕ, true, false, List, Option, Some, None, Result, Ok, Err, refl, sym, subst, slice_get}
-use Rattle.std.specs.Prelude.{◌==◌, Bool, IfErr, IsTrue, is_some, nat_lt, slice_index, if◌then◌else◌}
+-- Why the calls of a session under the lock are refused, and that a settled number runs no more.
+use Rattle.std.proofs.Common.{◌≡◌, ◌∙◌, ◌⊎◌, inl, inr, ◌+◌, ◌<◌, ℕ, Bool, true, false, length, List, Option, Some, None, Result, Ok, Err, refl, sym, ap, subst, slice_get, arith, true≢false}
+use Rattle.std.proofs.Common.{slice_index_or, unwrap_or}
+use Rattle.std.specs.Prelude.{◌==◌, IfErr, IsSome, IsTrue, ◌||◌, is_some, nat_lt, slice_index, if◌then◌else◌}
+use Rattle.std.specs.List.{list_any}
+use Rattle.std.proofs.lemmas.Bool.{eq-eqb, lt-ltb}
+use Rattle.std.proofs.lemmas.Bool.Decides.{nat_tests}
+use Rattle.std.proofs.lemmas.Option.{slice_get-get_or, slice_get_within, unwrap_or-slice_get}
 use Rattle.words.specs.declared.call.Call.{Call}
 use Rattle.words.specs.declared.call.Client.{Client}
 use Rattle.words.specs.declared.call.Kind.{Kind}
 use Rattle.words.specs.declared.call.Kind.TheVariants.{Durable as durable_kind, Log as log_kind}
 use Rattle.words.specs.declared.call.Reply.{Reply}
+use Rattle.words.specs.declared.limits.TheConstants.{MAX_CALL_NUMBER}
 use Rattle.words.specs.declared.refusal.Refusal.{Refusal}
 use Rattle.words.specs.declared.refusal.Refusal.TheVariants.{Busy, Gap, NoClient, NoMemory}
 use Rattle.words.specs.declared.refusal.Refusal.TheVariants.{NoQueue, NoRoom, NotReady, Old, StaleNumber, WrongKind}
 use Rattle.words.specs.declared.told.Outcome.{Outcome}
 use Rattle.words.specs.declared.told.Outcome.TheVariants.{NotTaken, Taken}
 use Rattle.words.specs.declared.told.Verdict.{Verdict}
-use Rattle.directory.specs.Directory.{HasName}
+use Rattle.arena.specs.declared.broker.SlotId.{SlotId}
+use Rattle.directory.specs.Directory.{HasName, HasQueue}
+use Rattle.directory.specs.declared.queue.Queue.{Queue as AnyQueue}
 use Rattle.interleave.specs.Calls.{idle_result, is_no_memory}
 use Rattle.interleave.specs.Queue.{number_check}
 use Rattle.interleave.specs.State.{State, is_down, number_of_idle, number_to_start, start_result, start_result_with, used_by}
-use Rattle.interleave.specs.Verdicts.{number_under_way}
+use Rattle.interleave.specs.Verdicts.{number_of_call, number_under_way}
 use Rattle.interleave.specs.declared.queue.Queue.{Queue as ClientsQueue}
 use Rattle.interleave.specs.declared.queue.Queue.TheVariants.{Durable, Log}
-use Rattle.named.specs.Brokers.{Brokered, admission, answer_at, answer_if, has_client, world_at}
+use Rattle.named.specs.Brokers.{Brokered, answer_at, answer_if, has_client, world_at}
 use Rattle.logqueue.specs.Numbers.{is_stale}
 use Rattle.protocol.specs.declared.UnderWay.{UnderWay}
 use Rattle.named.specs.Brokers.{is_down as is_broker_down}
 use Rattle.named.specs.GoingOn.{CameOf}
+use Rattle.named.specs.Rotating.{has_calls_in, rotate_result}
 use Rattle.named.specs.Slots.{answered}
+use Rattle.named.specs.declared.recovery.BrokerRecovery.{BrokerRecovery}
+use Rattle.named.proofs.Begun.{listed_open}
 use Rattle.named.proofs.Comings.{queues_came}
+use Rattle.session.specs.Keeping.{IsSettled}
 use Rattle.session.specs.Numbers.{by_last, by_number, by_outcome, missed}
-use Rattle.session.specs.Requests.{IsBegunBy, answer_to, as_begun, is_kind, queue_admission, request_admission}
-use Rattle.session.specs.Sessions.{Sessioned, kept_at}
-use Rattle.workers.specs.Refusals.{is_call_refusal}
-
--- a refusal, if it is one, is of the set
-abbrev pub Within : {T : Type 0} → (Refusal → Bool) → Result T Refusal → Type 0
-Within set r = IfErr r (λ e. IsTrue (set e))
-
--- one of two
-chosen : {T : Type 0} (set : Refusal → Bool) (b : Bool) (x y : Result T Refusal) → Within set x → Within set y
-    → Within set (if b then x else y)
-chosen set true x y left right = left
-chosen set false x y left right = right
+use Rattle.session.specs.Requests.{IsBegunBy, answer_to, as_begun, is_kind, number_or_zero, queue_admission, request_admission}
+use Rattle.session.specs.Sessions.{IsLogClient, Sessioned, kept_at}
+use Rattle.session.proofs.Worlds.{clients_there, holds_there, up_there}
+use Rattle.workers.specs.Following.{Guarded, IsGuardedWell}
+use Rattle.workers.specs.Lists.{ends_open, events_at, events_of}
+use Rattle.workers.specs.Refusals.{IsSettledStart, IsWhyRefused, WasSettled, is_rotation_refusal, kind_asked}
+use Rattle.workers.specs.declared.entry.Entry.{Entry}
+use Rattle.workers.proofs.Beginning.{all_clients, is_client, none_calls}
+use Rattle.workers.proofs.Carried.{CallsNow}
+use Rattle.workers.proofs.QueueKinds.{kind_of_queue}
+use Rattle.workers.proofs.Steps.{calls_now}
 
 -- a name that a queue had at the beginning is taken for good
 pub taken_still : (first now : Brokered) (was : Bool) (name : List ℕ) → CameOf first was now → HasName first.directory name
@@ -53,117 +63,311 @@ taken_still first now was name came has = record {
   };
 }
 
--- an answer that is given where nothing was refused before
-if_within : {T : Type 0} (set : Refusal → Bool) (r : Result Unit Refusal) (answer : Result T Refusal) → Within set r
-    → Within set answer → Within set (answer_if r answer)
-if_within set (Ok u) answer why own = own
-if_within set (Err refusal) answer why own = why
+-- a refusal, if it is one, has this reason
+abbrev pub Within : {T : Type 0} → (Refusal → Type 0) → Result T Refusal → Type 0
+Within P r = IfErr r P
 
--- what the world of a slot answers
-answered_within : {T : Type 0} (set : Refusal → Bool) (f : State → Result T Refusal) (world : Option State)
-    → IsTrue (set NoQueue) → ((w : State) → Within set (f w)) → Within set (answered f world)
-answered_within set f None closed own = closed
-answered_within set f (Some w) closed own = own w
+-- one of two
+chosen : {T : Type 0} (P : Refusal → Type 0) (b : Bool) (x y : Result T Refusal) → (b ≡ true → Within P x)
+    → (b ≡ false → Within P y) → Within P (if b then x else y)
+chosen P true x y left right = left refl
+chosen P false x y left right = right refl
 
--- what a client's act is answered
-pub act_within : {T : Type 0} (set : Refusal → Bool) (f : State → Result T Refusal) (b : Brokered) (slot : ℕ) (client : Client)
-    → IsTrue (set NoClient) → IsTrue (set NotReady) → IsTrue (set NoQueue) → ((w : State) → Within set (f w))
-    → Within set (answer_at f b slot client)
-act_within set f b slot client none down closed own =
-    if_within set (admission b client) (answered f (world_at b slot))
-    (chosen set (has_client b client) _ (Err NoClient)
-    (chosen set (is_broker_down b) (Err NotReady) (Ok tt) down tt) none)
-    (answered_within set f (world_at b slot) closed own)
+-- what a number comes to: Old and Gap are of numbers alone
+module _ (P : Refusal → Type 0) (old : P Old) (gap : P Gap) where
+  missed_within : (last number : ℕ) → Within P (missed last number)
+  missed_within last number = chosen P (nat_lt number last) (Err Old) (Err Gap) (λ e. old) (λ e. gap)
 
--- what a number comes to
-missed_within : (last number : ℕ) → Within is_call_refusal (missed last number)
-missed_within last number = chosen is_call_refusal (nat_lt number last) (Err Old) (Err Gap) refl refl
+  outcome_within : (outcome : Outcome) (last number : ℕ) → Within P (by_outcome outcome last number)
+  outcome_within (Taken reply) last number =
+      chosen P (number == last) (Ok (Some reply)) _ (λ e. tt)
+      (λ e. chosen P (number == last + 1) (Ok None) (missed last number) (λ f. tt) (λ f. missed_within last number))
+  outcome_within NotTaken last number =
+      chosen P (number == last) (Ok None) (missed last number) (λ e. tt) (λ e. missed_within last number)
 
-outcome_within : (outcome : Outcome) (last number : ℕ) → Within is_call_refusal (by_outcome outcome last number)
-outcome_within (Taken reply) last number =
-    chosen is_call_refusal (number == last) (Ok (Some reply)) _ tt
-    (chosen is_call_refusal (number == last + 1) (Ok None) (missed last number) tt (missed_within last number))
-outcome_within NotTaken last number =
-    chosen is_call_refusal (number == last) (Ok None) (missed last number) tt (missed_within last number)
+  last_within : (last : Option Verdict) (number : ℕ) → Within P (by_last last number)
+  last_within (Some verdict) number = outcome_within verdict.outcome verdict.number number
+  last_within None number = chosen P (number == 1) (Ok None) (Err Gap) (λ e. tt) (λ e. gap)
 
-last_within : (last : Option Verdict) (number : ℕ) → Within is_call_refusal (by_last last number)
-last_within (Some verdict) number = outcome_within verdict.outcome verdict.number number
-last_within None number = chosen is_call_refusal (number == 1) (Ok None) (Err Gap) tt refl
+  number_within : (last : Option Verdict) (number : ℕ) → Within P (by_number last number)
+  number_within last number =
+      chosen P (number == 0) (Err Old) (by_last last number) (λ e. old) (λ e. last_within last number)
 
-number_within : (last : Option Verdict) (number : ℕ) → Within is_call_refusal (by_number last number)
-number_within last number =
-    chosen is_call_refusal (number == 0) (Err Old) (by_last last number) refl (last_within last number)
+-- a call that is under way by the queue
+some_call : (w : State) (client : Client) → is_some (number_under_way w client) ≡ true
+    → (u : UnderWay) × (slice_get w.calls client.0 ≡ Some (Some u))
+some_call w client some = go (slice_get w.calls client.0) refl
+  where
+    none : slice_index_or w.calls client.0 None ≡ None → ⊥
+    none is = true≢false (sym some ∙ ap (λ (o : Option UnderWay). is_some (number_of_call o)) is)
 
--- why a request is refused whatever its number
-request_within : (kind : Kind) (b : Brokered) (slot : ℕ) (client : Client)
-    → Within is_call_refusal (request_admission kind b slot client)
-request_within kind b slot client =
-    act_within is_call_refusal (queue_admission kind client) b slot client refl refl refl (λ w.
-    chosen is_call_refusal (is_kind kind w.shape.kind) _ (Err WrongKind)
-    (chosen is_call_refusal (is_some (number_under_way w client)) (Err Busy) (Ok tt) refl tt) refl)
+    go : (o : Option (Option UnderWay)) → slice_get w.calls client.0 ≡ o
+        → (u : UnderWay) × (slice_get w.calls client.0 ≡ Some (Some u))
+    go None at =
+        absurd (none (sym (unwrap_or-slice_get w.calls client.0 None)
+        ∙ ap (λ (o : Option (Option UnderWay)). unwrap_or o None) at))
+    go (Some None) at =
+        absurd (none (sym (unwrap_or-slice_get w.calls client.0 None)
+        ∙ ap (λ (o : Option (Option UnderWay)). unwrap_or o None) at))
+    go (Some (Some u)) at = (u, at)
 
--- what a request comes to
-pub request_comes_within : (s : Sessioned) (slot : ℕ) (client : Client) (number : Option ℕ)
-    → Within is_call_refusal (answer_to s slot client number)
-request_comes_within s slot client (Some number) =
-    if_within is_call_refusal (request_admission log_kind s.broker slot client) _
-    (request_within log_kind s.broker slot client) (number_within (kept_at s slot client) number)
-request_comes_within s slot client None =
-    if_within is_call_refusal (request_admission durable_kind s.broker slot client) _
-    (request_within durable_kind s.broker slot client) tt
+module _ (all : ℕ) (first : Sessioned) (g : Guarded) (well : IsGuardedWell all first g) (client : Client)
+    (list : List Entry) (known : slice_get g.rows client.0 ≡ Some list) (ended : ends_open list ≡ false)
+    (queue : SlotId) (asked : Option ℕ) where
+  abbrev s : Sessioned
+  s = g.session
 
--- a start
-idle_within : (down : Bool) (call : Option (Option UnderWay)) → Within is_call_refusal (idle_result down call)
-idle_within down None = refl
-idle_within true (Some call) = refl
-idle_within false (Some None) = tt
-idle_within false (Some (Some u)) = refl
+  -- stale is a number that the start has said to be too great
+  abbrev Why : Refusal → Type 0
+  Why e = (e ≡ StaleNumber → MAX_CALL_NUMBER < number_or_zero asked) → IsWhyRefused first list queue asked e
 
-check_within : (queue : ClientsQueue) (client : Client) (number : ℕ) → Within is_call_refusal (number_check queue client number)
-check_within (Durable told) client number = tt
-check_within (Log clients) client number =
-    chosen is_call_refusal (is_stale (slice_index clients.floors client.0) number) (Err StaleNumber) (Ok number) refl tt
+  -- the queue that there was in the slot is there
+  there_still : (q : AnyQueue) → HasQueue first.broker.directory queue.0 q → HasQueue s.broker.directory queue.0 q
+  there_still = queues_came first.broker g.rotated s.broker well.came queue.0
 
-number_of_idle_within : (queue : ClientsQueue) (client : Client) (number : ℕ) (idle : Result Unit Refusal)
-    → Within is_call_refusal idle → Within is_call_refusal (number_of_idle queue client number idle)
-number_of_idle_within queue client number (Err refusal) why = why
-number_of_idle_within queue client number (Ok u) why = check_within queue client number
+  closed : world_at s.broker queue.0 ≡ None → Why NoQueue
+  closed none stale q has =
+      let is_open = listed_open s.broker queue.0 q well.promises.broker.well (there_still q has) in
+      absurd (cc (is_open, none))
 
-begun_within : (r : Result Unit Refusal) → Within is_call_refusal r → Within is_call_refusal (as_begun r)
-begun_within (Ok u) why = tt
-begun_within (Err refusal) why = why
+  calling : CallsNow (events_at s.broker queue.0) client → Why Busy
+  calling calls stale up = absurd (none_calls all first g well up client list known ended queue.0 calls)
 
-started_within : (full : Bool) (w : State) (client : Client) (number : Result ℕ Refusal) → Within is_call_refusal number
-    → Within is_call_refusal (as_begun (start_result_with full w client number))
-started_within full w client (Err refusal) why = why
-started_within full w client (Ok number) why =
-    begun_within (start_result_with full w client (Ok number))
-    (chosen is_call_refusal (used_by w client == w.shape.records) (Err NoRoom) _ refl
-    (chosen is_call_refusal full (Err NoMemory) (Ok tt) refl tt))
+  -- a client's act is refused by its queue, or before
+  by_act : {T : Type 0} (f : State → Result T Refusal)
+      → ((w : State) → s.broker.recovery ≡ None → world_at s.broker queue.0 ≡ Some w → Within Why (f w))
+      → Within Why (answer_at f s.broker queue.0 client)
+  by_act {T} f own = go (has_client s.broker client) (is_client all first g well client list known) s.broker.recovery
+      refl (world_at s.broker queue.0) refl
+    where
+      let_in : Bool → Option BrokerRecovery → Result Unit Refusal
+      let_in h o = if h then (if is_some o then Err NotReady else Ok tt) else Err NoClient
 
-pub start_within : (full : Bool) (w : State) (client : Client) (number : ℕ)
-    → Within is_call_refusal (as_begun (start_result full w client number))
-start_within full w client number =
-    started_within full w client (number_to_start w client number)
-    (number_of_idle_within w.queue client number (idle_result (is_down w) (slice_get w.calls client.0))
-    (idle_within (is_down w) (slice_get w.calls client.0)))
+      go : (h : Bool) → h ≡ true → (o : Option BrokerRecovery) → s.broker.recovery ≡ o → (world : Option State)
+          → world_at s.broker queue.0 ≡ world → Within Why (answer_if (let_in h o) (answered f world))
+      go false never o up world there = absurd (true≢false (sym never))
+      go true _ (Some r) up world there = λ stale. tt
+      go true _ None up None there = closed there
+      go true _ None up (Some w) there = own w up there
 
--- a call that begins
-begin_within : (old new : Sessioned) (slot : ℕ) (client : Client) (number : ℕ) (call : Call)
-    (r comes : Result (Option Reply) Refusal) → IsBegunBy old new slot client number call r comes
-    → Within is_call_refusal comes → Within is_call_refusal r
-begin_within old new slot client number call r (Err refusal) act why =
-    subst (λ (x : Result (Option Reply) Refusal). Within is_call_refusal x) (sym act.0) why
-begin_within old new slot client number call r (Ok (Some reply)) act why =
-    subst (λ (x : Result (Option Reply) Refusal). Within is_call_refusal x) (sym act.0) tt
-begin_within old new slot client number call r (Ok None) act why =
-    subst (λ (x : Result (Option Reply) Refusal). Within is_call_refusal x) (sym act.0.act.answers)
-    (act_within is_call_refusal (λ w. as_begun (start_result (is_no_memory r) w client number)) old.broker slot client refl
-    refl refl (λ w. start_within (is_no_memory r) w client number))
+  module _ (w : State) (up : s.broker.recovery ≡ None) (here : world_at s.broker queue.0 ≡ Some w) where
+    calls_here : (u : UnderWay) → slice_get w.calls client.0 ≡ Some (Some u) → Why Busy
+    calls_here u at =
+        calling (subst (λ (o : Option State). CallsNow (events_of o) client) (sym here)
+        (calls_now w (holds_there s.broker well.promises.broker.well queue.0 w here)
+        (up_there s.broker well.promises.broker.well queue.0 w here up) client u at))
 
-pub call_within : (old new : Sessioned) (slot : ℕ) (client : Client) (asked : Option ℕ) (number : ℕ) (call : Call)
-    (r : Result (Option Reply) Refusal)
-    → IsBegunBy old new slot client number call r (answer_to old slot client asked) → Within is_call_refusal r
-call_within old new slot client asked number call r act =
-    begin_within old new slot client number call r (answer_to old slot client asked) act
-    (request_comes_within old slot client asked)
+    busy_here : is_some (number_under_way w client) ≡ true → Why Busy
+    busy_here some = let call = some_call w client some in calls_here call.0 call.1
+
+    -- it is of the kind that a call is for, if there was such a queue
+    other_kind : (kind : Kind) → kind ≡ kind_asked asked → is_kind kind w.shape.kind ≡ false → Why WrongKind
+    other_kind kind is other stale q has same =
+        let its = kind_of_queue s.broker well.promises.broker.well queue.0 w q here (there_still q has) in
+        no_other (kind_asked asked) (ap (λ (k : Kind). is_kind k w.shape.kind) (sym is)
+        ∙ other) (its ∙ same)
+      where
+        no_other : (k : Kind) → is_kind k w.shape.kind ≡ false → w.shape.kind ≡ k → ⊥
+        no_other durable_kind never e = true≢false (sym (ap (is_kind durable_kind) e) ∙ never)
+        no_other log_kind never e = true≢false (sym (ap (is_kind log_kind) e) ∙ never)
+
+    idle_within : (call : Option (Option UnderWay)) → slice_get w.calls client.0 ≡ call
+        → Within Why (idle_result (is_down w) call)
+    idle_within None at = absurd (none_there (slice_get-get_or w.calls client.0 None below) at)
+      where
+        none_there : {x : Option UnderWay} → slice_get w.calls client.0 ≡ Some x → slice_get w.calls client.0 ≡ None → ⊥
+        none_there e f = absurd (cc (e, f))
+
+        below : client.0 < length w.calls
+        below =
+            let few = slice_get_within g.rows client.0 list known in
+            let clients = (holds_there s.broker well.promises.broker.well queue.0 w here).safe.clients in
+            let same = clients_there s.broker well.promises.broker.well queue.0 w here in
+            omega (arith, few, well.clients, clients, same, all_clients all first g well)
+    idle_within (Some None) at = go (is_down w)
+      where
+        go : (d : Bool) → Within Why (idle_result d (Some None))
+        go true = λ stale. tt
+        go false = tt
+    idle_within (Some (Some u)) at = go (is_down w)
+      where
+        go : (d : Bool) → Within Why (idle_result d (Some (Some u)))
+        go true = λ stale. tt
+        go false = calls_here u at
+
+    check_within : (q : ClientsQueue) (number : ℕ) → Within Why (number_check q client number)
+    check_within (Durable told) number = tt
+    check_within (Log clients) number =
+        chosen Why (is_stale (slice_index clients.floors client.0) number) (Err StaleNumber) (Ok number)
+        (λ e stale. stale refl) (λ e. tt)
+
+    number_of_idle_within : (number : ℕ) (idle : Result Unit Refusal) → Within Why idle
+        → Within Why (number_of_idle w.queue client number idle)
+    number_of_idle_within number (Err refusal) why = why
+    number_of_idle_within number (Ok u) why = check_within w.queue number
+
+    begun_within : (r : Result Unit Refusal) → Within Why r → Within Why (as_begun r)
+    begun_within (Ok u) why = tt
+    begun_within (Err refusal) why = why
+
+    started_within : (full : Bool) (number : Result ℕ Refusal) → Within Why number
+        → Within Why (as_begun (start_result_with full w client number))
+    started_within full (Err refusal) why = why
+    started_within full (Ok number) why =
+        begun_within (start_result_with full w client (Ok number))
+        (chosen Why (used_by w client == w.shape.records) (Err NoRoom) _ (λ e stale. tt)
+        (λ e. chosen Why full (Err NoMemory) (Ok tt) (λ f stale. tt) (λ f. tt)))
+
+    start_within : (full : Bool) (number : ℕ) → Within Why (as_begun (start_result full w client number))
+    start_within full number =
+        started_within full (number_to_start w client number)
+        (number_of_idle_within number (idle_result (is_down w) (slice_get w.calls client.0))
+        (idle_within (slice_get w.calls client.0) refl))
+
+    queue_within : (kind : Kind) → kind ≡ kind_asked asked → Within Why (queue_admission kind client w)
+    queue_within kind is =
+        chosen Why (is_kind kind w.shape.kind) _ (Err WrongKind)
+        (λ e. chosen Why (is_some (number_under_way w client)) (Err Busy) (Ok tt) busy_here (λ f. tt))
+        (other_kind kind is)
+
+  -- why a request is refused whatever its number
+  request_within : (kind : Kind) → kind ≡ kind_asked asked → Within Why (request_admission kind s.broker queue.0 client)
+  request_within kind is = by_act (queue_admission kind client) (λ w up here. queue_within w up here kind is)
+
+  let_in_within : (r : Result Unit Refusal) (answer : Result (Option Reply) Refusal) → Within Why r → Within Why answer
+      → Within Why (answer_if r answer)
+  let_in_within (Ok u) answer why own = own
+  let_in_within (Err refusal) answer why own = why
+
+  -- what it comes to
+  comes_within : Within Why (answer_to s queue.0 client asked)
+  comes_within = go asked refl
+    where
+      go : (o : Option ℕ) → asked ≡ o → Within Why (answer_to s queue.0 client o)
+      go (Some n) is =
+          let number : IsSome asked = subst (λ (o : Option ℕ). IsSome o) (sym is) refl in
+          let_in_within (request_admission log_kind s.broker queue.0 client) _
+          (request_within log_kind (ap kind_asked (sym is)))
+          (number_within Why (λ stale. number) (λ stale. number) (kept_at s queue.0 client) n)
+      go None is =
+          let_in_within (request_admission durable_kind s.broker queue.0 client) _
+          (request_within durable_kind (ap kind_asked (sym is))) tt
+
+  begin_within : (new : Sessioned) (call : Call) (r comes : Result (Option Reply) Refusal)
+      → IsBegunBy s new queue.0 client (number_or_zero asked) call r comes → Within Why comes → Within Why r
+  begin_within new call r (Err refusal) act why =
+      subst (λ (x : Result (Option Reply) Refusal). Within Why x) (sym act.0) why
+  begin_within new call r (Ok (Some reply)) act why =
+      subst (λ (x : Result (Option Reply) Refusal). Within Why x) (sym act.0) tt
+  begin_within new call r (Ok None) act why =
+      subst (λ (x : Result (Option Reply) Refusal). Within Why x) (sym act.0.act.answers)
+      (by_act (λ w. as_begun (start_result (is_no_memory r) w client (number_or_zero asked)))
+      (λ w up here. start_within w up here (is_no_memory r) (number_or_zero asked)))
+
+  pub why_refused : (new : Sessioned) (call : Call) (refusal : Refusal)
+      → IsBegunBy s new queue.0 client (number_or_zero asked) call (Err refusal) (answer_to s queue.0 client asked)
+      → ((let r : Result (Option Reply) Refusal = Err refusal in r) ≡ Err StaleNumber
+      → MAX_CALL_NUMBER < number_or_zero asked)
+      → IsWhyRefused first list queue asked refusal
+  why_refused new call refusal act above =
+      begin_within new call (Err refusal) (answer_to s queue.0 client asked) act comes_within
+      (λ stale. above (ap (λ (e : Refusal). let r : Result (Option Reply) Refusal = Err e in r) stale))
+
+-- a settled number has its reply, or is Old
+settled_outcome : (outcome : Outcome) (last n : ℕ) (reply : Reply)
+    → ((last ≡ n) × (outcome ≡ Taken reply)) ⊎ (n < last) → IsSettledStart reply (by_outcome outcome last n)
+settled_outcome (Taken own) last n reply (inl same) =
+    subst (λ (b : Bool). IsSettledStart reply (if b then Ok (Some own) else (if n == last + 1 then Ok None else missed last n)))
+    (sym (eq-eqb n last (sym same.0))) (ap (λ (o : Outcome). reply_or reply o) same.1)
+  where
+    reply_or : Reply → Outcome → Option Reply
+    reply_or other (Taken r) = Some r
+    reply_or other NotTaken = None
+settled_outcome NotTaken last n reply (inl same) = absurd (cc (same.1))
+settled_outcome (Taken own) last n reply (inr less) = grind (arith, nat_tests, less)
+settled_outcome NotTaken last n reply (inr less) = grind (arith, nat_tests, less)
+
+settled_number : (last : Option Verdict) (n : ℕ) (reply : Reply) → IsSettled last n reply
+    → IsSettledStart reply (by_number last n)
+settled_number None n reply settled = absurd settled
+settled_number (Some verdict) n reply settled = go (n == 0)
+  where
+    cases : ((verdict.number ≡ n) × (verdict.outcome ≡ Taken reply)) ⊎ (n < verdict.number)
+    cases = elim settled [
+      | inl same ↦ inl (ap (λ (v : Verdict). v.number) same, ap (λ (v : Verdict). v.outcome) same)
+      | inr less ↦ inr less
+    ]
+
+    go : (b : Bool) → IsSettledStart reply (if b then Err Old else by_outcome verdict.outcome verdict.number n)
+    go true = refl
+    go false = settled_outcome verdict.outcome verdict.number n reply cases
+
+module _ (all : ℕ) (first : Sessioned) (g : Guarded) (well : IsGuardedWell all first g) (client : Client)
+    (queue : SlotId) (asked : Option ℕ) (reply : Reply) (was : WasSettled first queue client asked reply) where
+  abbrev b : Brokered
+  b = g.session.broker
+
+  its : IsLogClient b queue.0 client
+  its = well.goes_on.clients queue.0 client was.its
+
+  settled_answer : IsSettledStart reply (answer_to g.session queue.0 client (Some was.n))
+  settled_answer = go (has_client b client) has b.recovery (world_at b queue.0) its.here
+    where
+      has : has_client b client ≡ true
+      has =
+          let few = its.few in
+          let same = clients_there b well.promises.broker.well queue.0 its.world its.here in
+          let below : client.0 < b.counts.clients = omega (arith, few, same) in
+          lt-ltb client.0 b.counts.clients below
+
+      let_in : Bool → Option BrokerRecovery → Result Unit Refusal
+      let_in h o = if h then (if is_some o then Err NotReady else Ok tt) else Err NoClient
+
+      by_kind : (k : Bool) → k ≡ true → (busy : Bool)
+          → IsSettledStart reply (answer_if (if k then (if busy then Err Busy else Ok tt) else Err WrongKind)
+          (by_number (kept_at g.session queue.0 client) was.n))
+      by_kind false never busy = absurd (true≢false (sym never))
+      by_kind true _ true = refl
+      by_kind true _ false =
+          settled_number (kept_at g.session queue.0 client) was.n reply
+          (well.goes_on.answers queue.0 client was.n reply was.its was.settled)
+
+      go : (h : Bool) → h ≡ true → (o : Option BrokerRecovery) → (world : Option State) → world ≡ Some its.world
+          → IsSettledStart reply (answer_if (answer_if (let_in h o) (answered (queue_admission log_kind client) world))
+          (by_number (kept_at g.session queue.0 client) was.n))
+      go false never o world here = absurd (true≢false (sym never))
+      go true _ (Some r) world here = refl
+      go true _ None None here = absurd (cc (here))
+      go true _ None (Some w) here =
+          let same : w ≡ its.world = cc (here) in
+          by_kind (is_kind log_kind w.shape.kind) (ap (λ (v : State). is_kind log_kind v.shape.kind) same
+          ∙ ap (is_kind log_kind) its.log) (is_some (number_under_way w client))
+
+  begun_settled : (new : Sessioned) (number : ℕ) (call : Call) (r comes : Result (Option Reply) Refusal)
+      → IsBegunBy g.session new queue.0 client number call r comes → IsSettledStart reply comes → IsSettledStart reply r
+  begun_settled new number call r (Err refusal) act why = subst (IsSettledStart reply) (sym act.0) why
+  begun_settled new number call r (Ok (Some kept)) act why = subst (IsSettledStart reply) (sym act.0) why
+  begun_settled new number call r (Ok None) act why = absurd (cc (why))
+
+  pub settled_start : (new : Sessioned) (number : ℕ) (call : Call) (r : Result (Option Reply) Refusal)
+      → IsBegunBy g.session new queue.0 client number call r (answer_to g.session queue.0 client asked)
+      → IsSettledStart reply r
+  settled_start new number call r act =
+      begun_settled new number call r (answer_to g.session queue.0 client (Some was.n))
+      (subst (λ (o : Option ℕ). IsBegunBy g.session new queue.0 client number call r
+      (answer_to g.session queue.0 client o)) was.number_is act) settled_answer
+
+-- a rotation is refused as it may be
+pub rotation_refused : (full : Bool) (b : Brokered) (refusal : Refusal)
+    → (let r : Result Unit Refusal = Err refusal in r) ≡ rotate_result full b → IsTrue (is_rotation_refusal refusal)
+rotation_refused full b refusal is = go (is_broker_down b) (is_some b.creation || list_any has_calls_in b.slots) full is
+  where
+    go : (down busy f : Bool) → (let r : Result Unit Refusal = Err refusal in r)
+        ≡ (if down then Err NotReady else (if busy then Err Busy else (if f then Err NoMemory else Ok tt)))
+        → IsTrue (is_rotation_refusal refusal)
+    go true busy f e =
+        subst (λ (y : Refusal). IsTrue (is_rotation_refusal y)) (let s : NotReady ≡ refusal = cc (e) in s) refl
+    go false true f e = subst (λ (y : Refusal). IsTrue (is_rotation_refusal y)) (let s : Busy ≡ refusal = cc (e) in s) refl
+    go false false true e =
+        subst (λ (y : Refusal). IsTrue (is_rotation_refusal y)) (let s : NoMemory ≡ refusal = cc (e) in s) refl
+    go false false false e = absurd (cc (e))

@@ -42,7 +42,7 @@ working_there w holds up =
     ready.working
 
 -- a client that has a call waiting calls now
-calls_now : (w : State) → Holds w → w.recovery ≡ None → (client : Client) (u : UnderWay)
+pub calls_now : (w : State) → Holds w → w.recovery ≡ None → (client : Client) (u : UnderWay)
     → slice_get w.calls client.0 ≡ Some (Some u) → CallsNow w.log.events client
 calls_now w holds up client u at =
     let working = working_there w holds up in
@@ -59,7 +59,7 @@ calls_now w holds up client u at =
     }
 
 -- one with none does not
-not_now : (w : State) → Holds w → w.recovery ≡ None → (client : Client) → slice_index_or w.calls client.0 None ≡ None
+pub not_now : (w : State) → Holds w → w.recovery ≡ None → (client : Client) → slice_index_or w.calls client.0 None ≡ None
     → CallsNow w.log.events client → ⊥
 not_now w holds up client none = (working_there w holds up).idle client none
 

@@ -130,6 +130,28 @@ module _ (old new : Sessioned) (keeps : KeepsNumbers old) (up : old.broker.recov
       go None e none made = absurd (cc (none))
       go (Some creation) e there made = made_carried creation e made
 
+  -- its slot was free before
+  pub creation_free : IsSome old.broker.creation
+      → (old.broker.recovery ≡ None → IfSome old.broker.creation
+      (λ creation. IsStepCreated old.broker new.broker creation result (successor creation)))
+      → (slot : SlotId) → result ≡ Ok (Some slot) → IsFree old.broker.directory slot.0
+  creation_free some step slot ok = go old.broker.creation refl some (step up)
+    where
+      by_step : (creation : Creation) → old.broker.creation ≡ Some creation → (a : After Creation SlotId)
+          → successor creation ≡ a → IsStepCreated old.broker new.broker creation result a
+          → IsFree old.broker.directory slot.0
+      by_step creation is (More next) e made = absurd (cc (sym made.0 ∙ ok))
+      by_step creation is (Done other) e made =
+          let same : other ≡ slot = cc (sym made.0 ∙ ok) in
+          subst (λ (x : SlotId). IsFree old.broker.directory x.0) same
+          (is_free old.broker creation keeps.broker.well up is other e)
+
+      go : (o : Option Creation) → old.broker.creation ≡ o → IsSome o
+          → IfSome o (λ creation. IsStepCreated old.broker new.broker creation result (successor creation))
+          → IsFree old.broker.directory slot.0
+      go None e none made = absurd (cc (none))
+      go (Some creation) e there made = by_step creation e (successor creation) refl made
+
 -- a crash comes to each history
 pub crashed_carried : (old new : Sessioned) → KeepsNumbers old → IsStopped old.broker new.broker → (client : Client)
     → IsCarriedFor client old new

@@ -44,7 +44,13 @@ begun_beside old new slot client number call result (Ok None) begun =
 module _ (all : ℕ) (first : Sessioned) (old : Guarded) (well : IsGuardedWell all first old) (new : Sessioned)
     (keeps : KeepsNumbers new) (on : IsOn old.session new) (slot : ℕ) (client : Client) where
   abbrev as_it_was : Guarded
-  as_it_was = record { session = new; rows = old.rows; creating = old.creating; rotated = old.rotated }
+  as_it_was = record {
+    session = new;
+    rows = old.rows;
+    deeds = old.deeds;
+    creating = old.creating;
+    rotated = old.rotated;
+  }
 
   pub guarded_unbegun : (number : ℕ) (call : Call) (refusal : Refusal) (answer : Result (Option Reply) Refusal)
       → IsBegunBy old.session new slot client number call (Err refusal) answer → IsGuardedWell all first as_it_was
@@ -108,6 +114,7 @@ module _ (all : ℕ) (first : Sessioned) (old : Guarded) (well : IsGuardedWell a
   with_row row = record {
     session = new;
     rows = slice_set old.rows client.0 row;
+    deeds = old.deeds;
     creating = old.creating;
     rotated = old.rotated;
   }

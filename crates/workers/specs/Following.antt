@@ -7,7 +7,10 @@ use Rattle.session.specs.Keeping.{SessionGoesOn}
 use Rattle.session.specs.Promises.{KeepsNumbers}
 use Rattle.session.specs.Sessions.{Sessioned}
 use Rattle.workers.specs.Creating.{IsCreationKnown}
+use Rattle.workers.specs.Deeds.{CameBy}
+use Rattle.workers.specs.Opening.{IsNotInUse}
 use Rattle.workers.specs.Lists.{IsCutOff, IsRecorded, OnlyLastIsOpen, RanAt, events_at}
+use Rattle.workers.specs.declared.deeds.Deed.{Deed}
 use Rattle.workers.specs.declared.entry.End.TheVariants.{Open}
 use Rattle.workers.specs.declared.entry.Entry.{Entry}
 use Rattle.workers.specs.declared.locked.Creating.{Creating}
@@ -33,21 +36,30 @@ pub record AreFollowed (since : ℕ → ℕ) (s : Sessioned) (rows : List (List 
   pub begun : (slot : ℕ) → since slot ≤ length (events_at s.broker slot)
   pub each : (t : ℕ) (row : List Entry) → slice_get rows t ≡ Some row → IsFollowed since s (record { 0 = t }) row
 
--- what lies under the lock: the session, the rows that the keeper knows, the creation that threads know of, and whether
--- the histories have ended since the seats were given
+-- what lies under the lock: the session, the rows that the keeper knows, what was done to all of the session, the
+-- creation that threads know of, and whether the histories have ended since the seats were given
 pub record Guarded : Type 0 where
   pub session : Sessioned
   pub rows : List (List Entry)
+  pub deeds : List (List Deed)
   pub creating : Creating
   pub rotated : Bool
+
+-- the session may be shared as it is: it has so many clients, nobody uses it, and it keeps its promises
+pub record IsBeginning (all : ℕ) (first : Sessioned) : Type 0 where
+  pub counts : first.broker.counts.clients ≡ all
+  pub quiet : IsNotInUse first.broker
+  pub promises : KeepsNumbers first
 
 -- what holds of it whenever the lock is free, where there are so many clients, and the session was this one when the
 -- seats were given: what was settled then is so still, the clients of its log queues are such clients still, and the
 -- queues that it had then are there, each with a history that went on from where it began, or ended with a rotation
 pub record IsGuardedWell (all : ℕ) (first : Sessioned) (g : Guarded) : Type 0 where
+  pub beginning : IsBeginning all first
   pub clients : length g.rows ≡ all
   pub followed : AreFollowed (beginnings first g.rotated) g.session g.rows
   pub promises : KeepsNumbers g.session
   pub creation : IsCreationKnown g.session.broker g.creating
   pub goes_on : SessionGoesOn first g.session
   pub came : CameOf first.broker g.rotated g.session.broker
+  pub done : CameBy first.broker g.deeds g.session.broker

@@ -6,6 +6,8 @@ pub mod Made
 pub mod Naming
 pub mod Opening
 pub mod Creating
+pub mod Deeds
 pub mod Seats
 pub mod Looking
+pub mod Recovered
 pub mod Refusals

@@ -1,10 +1,10 @@
 -- Which sessions may be shared, and under which name.
 use Rattle.std.specs.Prelude.{◌≡◌, ◌⊎◌, ℕ, true, false, Ok, Some}
-use Rattle.roll.specs.Seated.{TableId}
 use Rattle.words.specs.declared.call.Client.{Client}
 use Rattle.interleave.specs.Verdicts.{number_under_way}
 use Rattle.named.specs.Brokers.{Brokered, answer_at, is_creating}
 use Rattle.session.specs.Sessions.{Sessioned}
+use Rattle.workers.specs.Naming.{Rolls}
 
 -- the client has a call with this number under way in the queue of a slot
 abbrev pub IsCalling : Brokered → ℕ → Client → ℕ → Type 0
@@ -28,13 +28,13 @@ pub record IsNotInUse (b : Brokered) : Type 0 where
   pub creating : is_creating b ≡ false
   pub calls : (slot : ℕ) → HasNoCall b slot
 
--- a session that has no name yet, with the roll of its seats' lists
+-- a session that has no name yet, with its rolls
 pub record Unnamed : Type 0 where
-  pub roll : TableId
+  pub roll : Rolls
   pub session : Sessioned
 
--- the name says which roll it is, how many clients there are, and what the session was
-pub record IsNameOf (roll : TableId) (clients : ℕ) (first : Sessioned) (o : Unnamed) : Type 0 where
+-- the name says which rolls these are, how many clients there are, and what the session was
+pub record IsNameOf (roll : Rolls) (clients : ℕ) (first : Sessioned) (o : Unnamed) : Type 0 where
   pub same : o.roll ≡ roll
   pub all : o.session.broker.counts.clients ≡ clients
   pub session : o.session ≡ first

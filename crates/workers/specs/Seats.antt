@@ -16,6 +16,10 @@ pub record AreAllInOrder {S : Type 0} (client : S → Client) (clients : ℕ) (s
 pub record AreEmpty {S : Type 0} (list : S → List Entry) (seats : List S) : Type 0 where
   pub each : (k : ℕ) (seat : S) → slice_get seats k ≡ Some seat → list seat ≡ []
 
+-- each seat's list is the row in its place
+pub record AreRows {S : Type 0} (list : S → List Entry) (rows : List (List Entry)) (seats : List S) : Type 0 where
+  pub each : (k : ℕ) (seat : S) → slice_get seats k ≡ Some seat → slice_get rows k ≡ Some (list seat)
+
 -- each seat's list is what the histories have of its client: since the seats were given, where no rotation ended the
 -- histories, and else since the last one did
 pub record AreSeatsRecorded {S : Type 0} (list : S → List Entry) (first : Sessioned) (seats : List S) (s : Sessioned)

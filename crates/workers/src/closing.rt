@@ -1,47 +1,33 @@
 //! How the histories end, and how a shared session is taken back.
 
-ghost use Rattle.std.specs.Prelude.{◌≡◌, [], length, IfErr, IsTrue, OnErr, OnOk, slice_get, slice_set, Some};
+ghost use Rattle.std.specs.Prelude.{◌≡◌, [], length, IfErr, IfOk, IsTrue, OnErr, OnOk, slice_set};
 ghost use Rattle.named.specs.Rotating.{IsRotated};
 ghost use Rattle.roll.specs.Rule.{IsKeeper, rows_of};
 ghost use Rattle.session.specs.Keeping.{SessionGoesOn};
 ghost use Rattle.session.specs.Promises.{KeepsNumbers};
 ghost use Rattle.workers.specs.Refusals.{is_rotation_refusal};
-ghost use Rattle.workers.specs.Seats.{AreSeatsRecorded, AreAllInOrder, AreEmpty};
+ghost use Rattle.workers.specs.declared.deeds.Deed.{Deed as AnyDeed};
+ghost use Rattle.workers.specs.Deeds.{AreHonoured};
+ghost use Rattle.workers.specs.Seats.{AreSeatsRecorded, AreAllInOrder, AreEmpty, AreRows};
 
+use crate::deeds::{Deed, Receipt, honoured};
 use crate::entry::Entry;
 use crate::locked::Locked;
 use crate::naming::Naming;
-use crate::seat::{Seat, seat_of};
+use crate::seat::{Seat, known, seat_of};
 use crate::shared::Shared;
 use roll::{Roll, Token};
 use session::Session;
 use std::sync::Wait;
 use words::Refusal;
 
-/// The keeper knows the seat's list.
-fn hand_back<J: Naming>(roll: &Roll<Entry>, keeper: &mut Token<Entry>, seat: Seat<J>)
-    requires roll { roll.now ≡ J.roll }
-    requires keeper { IsKeeper J.roll (rows_of keeper.old) keeper.old }
-    ensures known { slice_get (rows_of keeper.old) seat.client.0 ≡ Some seat.list.items }
-    ensures keeper { IsKeeper J.roll (rows_of keeper.old) keeper.new }
-{
-    let Seat {
-        client: _,
-        list,
-        steps: _,
-        token,
-        of: _,
-    } = seat;
-    roll.write(keeper, token, &list);
-}
-
 /// The seat with an empty list, as the keeper knows it.
 fn emptied<J: Naming>(roll: &Roll<Entry>, keeper: &mut Token<Entry>, seat: Seat<J>) -> Seat<J>
-    requires roll { roll.now ≡ J.roll }
-    requires keeper { IsKeeper J.roll (rows_of keeper.old) keeper.old }
+    requires roll { roll.now ≡ J.roll.lists }
+    requires keeper { IsKeeper J.roll.lists (rows_of keeper.old) keeper.old }
     ensures client { result.client ≡ seat.client }
     ensures list { result.list.items ≡ [] }
-    ensures keeper { IsKeeper J.roll (slice_set (rows_of keeper.old) seat.client.0 []) keeper.new }
+    ensures keeper { IsKeeper J.roll.lists (slice_set (rows_of keeper.old) seat.client.0 []) keeper.new }
 {
     let Seat {
         client,
@@ -62,11 +48,11 @@ fn all_emptied<J: Naming>(
     keeper: &mut Token<Entry>,
     mut seats: Vec<Seat<J>>,
 ) -> Vec<Seat<J>>
-    requires roll { roll.now ≡ J.roll }
-    requires keeper { IsKeeper J.roll (rows_of keeper.old) keeper.old }
+    requires roll { roll.now ≡ J.roll.lists }
+    requires keeper { IsKeeper J.roll.lists (rows_of keeper.old) keeper.old }
     requires clients { length (rows_of keeper.old) ≡ J.clients }
     requires order { AreAllInOrder (λ seat. seat.client) J.clients seats.items }
-    ensures keeper { IsKeeper J.roll (rows_of keeper.new) keeper.new }
+    ensures keeper { IsKeeper J.roll.lists (rows_of keeper.new) keeper.new }
     ensures clients { length (rows_of keeper.new) ≡ J.clients }
     ensures rows { AreEmpty (λ row. row) (rows_of keeper.new) }
     ensures order { AreAllInOrder (λ seat. seat.client) J.clients result.items }
@@ -79,19 +65,34 @@ fn all_emptied<J: Naming>(
     seats
 }
 
+/// The keeper knows the list of each seat.
+fn all_known<J: Naming>(roll: &Roll<Entry>, mut keeper: Token<Entry>, mut seats: Vec<Seat<J>>)
+    requires roll { roll.now ≡ J.roll.lists }
+    requires keeper { IsKeeper J.roll.lists (rows_of keeper) keeper }
+    requires order { AreAllInOrder (λ seat. seat.client) J.clients seats.items }
+    ensures { AreRows (λ seat. seat.list.items) (rows_of keeper) seats.items }
+{
+    while let Some(seat) = seats.pop() {
+        known(roll, &mut keeper, seat);
+    }
+}
+
 impl<J: Naming> Locked<J> {
     /// The histories of all queues end, and with them the lists of all seats.
     fn rotate(
         &mut self,
         roll: &Roll<Entry>,
+        deeds: &Roll<Deed>,
         seats: Vec<Seat<J>>,
-    ) -> (Vec<Seat<J>>, Result<(), Refusal>)
-        requires roll { roll.now ≡ J.roll }
+    ) -> (Vec<Seat<J>>, Result<Receipt<J>, Refusal>)
+        requires roll { roll.now ≡ J.roll.lists }
+        requires deeds { deeds.now ≡ J.roll.deeds }
         requires order { AreAllInOrder (λ seat. seat.client) J.clients seats.items }
         ensures order { AreAllInOrder (λ seat. seat.client) J.clients result.0.items }
         ensures empty { OnOk result.1 (AreEmpty (λ seat. seat.list.items) result.0.items) }
         ensures same { OnErr result.1 (result.0.items ≡ seats.items) }
         ensures errors { IfErr result.1 (λ refusal. IsTrue (is_rotation_refusal refusal)) }
+        ensures deed { IfOk result.1 (λ receipt. receipt.deed ≡ AnyDeed.Rotation) }
         ensures rotated { OnOk result.1 (IsRotated self.old.session.broker self.new.session.broker) }
         ensures kept { self.new.session.kept ≡ self.old.session.kept }
     {
@@ -99,7 +100,8 @@ impl<J: Naming> Locked<J> {
             return (seats, Err(refusal));
         }
         self.rotated = true;
-        (all_emptied(roll, &mut self.keeper, seats), Ok(()))
+        let seats = all_emptied(roll, &mut self.keeper, seats);
+        (seats, Ok(self.register.enter(deeds, Deed::Rotation)))
     }
 }
 
@@ -113,14 +115,15 @@ impl<J: Naming> Shared<J> {
         &self,
         rt: &R,
         seats: Vec<Seat<J>>,
-    ) -> (Vec<Seat<J>>, Result<(), Refusal>)
+    ) -> (Vec<Seat<J>>, Result<Receipt<J>, Refusal>)
         requires { AreAllInOrder (λ seat. seat.client) J.clients seats.items }
         ensures order { AreAllInOrder (λ seat. seat.client) J.clients result.0.items }
         ensures empty { OnOk result.1 (AreEmpty (λ seat. seat.list.items) result.0.items) }
         ensures same { OnErr result.1 (result.0.items ≡ seats.items) }
+        ensures deed { IfOk result.1 (λ receipt. receipt.deed ≡ AnyDeed.Rotation) }
         ensures errors { IfErr result.1 (λ refusal. IsTrue (is_rotation_refusal refusal)) }
     {
-        self.locked.lock(rt).rotate(&self.roll, seats)
+        self.locked.lock(rt).rotate(&self.roll, &self.deeds, seats)
     }
 
     /// Takes the session back, and the seats with their lists: what a caller wants of these he copies before. The seats
@@ -132,12 +135,23 @@ impl<J: Naming> Shared<J> {
         ensures goes_on { SessionGoesOn J.first result }
         ensures promises { KeepsNumbers result }
     {
-        let Shared { roll, locked } = self;
-        let (session, mut keeper) = locked.into_inner().into_parts();
-        let mut seats = seats;
-        while let Some(seat) = seats.pop() {
-            hand_back(&roll, &mut keeper, seat);
-        }
+        let (session, keeper, _register) = self.locked.into_inner().into_parts();
+        all_known(&self.roll, keeper, seats);
+        session
+    }
+
+    /// As [`Shared::close`], and the receipts that are handed in are honoured: what each says was done since the seats
+    /// were given, and no two are of the same deed.
+    pub fn close_with(self, seats: Vec<Seat<J>>, receipts: Vec<Receipt<J>>) -> Session
+        requires { AreAllInOrder (λ seat. seat.client) J.clients seats.items }
+        ensures lists { AreSeatsRecorded (λ seat. seat.list.items) J.first seats.items result }
+        ensures receipts { AreHonoured (λ receipt. receipt.deed) J.first.broker receipts.items result.broker }
+        ensures goes_on { SessionGoesOn J.first result }
+        ensures promises { KeepsNumbers result }
+    {
+        let (session, keeper, register) = self.locked.into_inner().into_parts();
+        all_known(&self.roll, keeper, seats);
+        honoured(&self.deeds, register, receipts);
         session
     }
 }

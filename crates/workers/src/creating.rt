@@ -1,19 +1,24 @@
 //! Crashes, recoveries, and creations, under the lock.
 
-ghost use Rattle.std.specs.Prelude.{◌≡◌, ◌⊎◌, Err, IfErr, IfSome, IsErr, IsSome, IsTrue, OnErr, OnOk};
+ghost use Rattle.std.specs.Prelude.{◌≡◌, Err, IfErr, IfOk, IfSome, IsErr, IsSome, IsTrue, OnErr, OnOk};
 ghost use Rattle.directory.specs.Directory.{HasName};
 ghost use Rattle.directory.specs.Name.{IsName};
 ghost use Rattle.named.specs.Brokers.{world_at, MayCreate};
 ghost use Rattle.named.specs.Stopping.{IsRecoveryStep, IsStopped};
 ghost use Rattle.workers.specs.Creating.{creating_after_crash};
+ghost use Rattle.workers.specs.Deeds.{IsReceipted};
 ghost use Rattle.workers.specs.Made.{IsMade};
 ghost use Rattle.workers.specs.Refusals.{is_creation_refusal};
+ghost use Rattle.workers.specs.Recovered.{IsRecoveryRefusal};
+ghost use Rattle.workers.specs.declared.deeds.Deed.{Deed as AnyDeed};
 ghost use Rattle.workers.specs.declared.locked.Creating.{Creating as AnyCreating};
 
+use crate::deeds::{Deed, Receipt};
 use crate::locked::{Creating, Locked};
 use crate::naming::Naming;
 use crate::shared::Created;
 use directory::Name;
+use roll::Roll;
 use words::{Kind, Refusal};
 
 impl Creating {
@@ -48,29 +53,37 @@ impl<J: Naming> Locked<J> {
     }
 
     /// One step of the creation, for its caller: what became of it, once it is over.
-    pub(crate) fn create_step(&mut self) -> Option<Created>
-        ensures { IfSome result (IsMade self.new.session.broker) }
+    pub(crate) fn create_step(
+        &mut self,
+        deeds: &Roll<Deed>,
+    ) -> Option<(Created, Option<Receipt<J>>)>
+        requires { deeds.now ≡ J.roll.deeds }
+        ensures made { IfSome result (λ done. IsMade J.first.broker.directory self.new.session.broker done.0) }
+        ensures receipt { IfSome result (λ done. IsReceipted (λ receipt. receipt.deed) done.0 done.1) }
     {
         match self.creating {
-            Creating::UnderWay => self.make_step(),
+            Creating::UnderWay => self.make_step(deeds),
             Creating::Interrupted => {
                 self.creating = Creating::Nothing;
-                Some(Created::Interrupted)
+                Some((Created::Interrupted, None))
             }
-            Creating::Nothing => Some(Created::Interrupted),
+            Creating::Nothing => Some((Created::Interrupted, None)),
         }
     }
 
     /// One step of the creation that is under way.
-    fn make_step(&mut self) -> Option<Created>
-        requires { self.old.creating ≡ AnyCreating.UnderWay }
-        ensures { IfSome result (IsMade self.new.session.broker) }
+    fn make_step(&mut self, deeds: &Roll<Deed>) -> Option<(Created, Option<Receipt<J>>)>
+        requires under_way { self.old.creating ≡ AnyCreating.UnderWay }
+        requires deeds { deeds.now ≡ J.roll.deeds }
+        ensures made { IfSome result (λ done. IsMade J.first.broker.directory self.new.session.broker done.0) }
+        ensures receipt { IfSome result (λ done. IsReceipted (λ receipt. receipt.deed) done.0 done.1) }
     {
         match self.session.create_step() {
             Ok(None) => None,
             Ok(Some(slot)) => {
                 self.creating = Creating::Nothing;
-                Some(Created::Queue(slot))
+                let receipt = self.register.enter(deeds, Deed::Creation(slot));
+                Some((Created::Queue(slot), Some(receipt)))
             }
             // The broker has it under way, and is ready.
             Err(_) => unreachable!(),
@@ -78,20 +91,22 @@ impl<J: Naming> Locked<J> {
     }
 
     /// The whole system stops: calls under way end, and so does a creation.
-    pub(crate) fn crash(&mut self) -> Result<(), Refusal>
+    pub(crate) fn crash(&mut self, deeds: &Roll<Deed>) -> Result<Receipt<J>, Refusal>
+        requires { deeds.now ≡ J.roll.deeds }
         ensures stopped { OnOk result (IsStopped self.old.session.broker self.new.session.broker) }
+        ensures deed { IfOk result (λ receipt. receipt.deed ≡ AnyDeed.Crash) }
         ensures errors { IfErr result (λ refusal. refusal ≡ Refusal.NoMemory) }
     {
         self.session.crash()?;
         self.creating = self.creating.stopped();
-        Ok(())
+        Ok(self.register.enter(deeds, Deed::Crash))
     }
 
     /// One step of recovery: whether the broker is ready by it.
     pub(crate) fn recover_step(&mut self) -> Result<bool, Refusal>
         ensures step { IsRecoveryStep self.old.session.broker self.new.session.broker result
             self.old.session.broker.recovery }
-        ensures errors { IfErr result (λ refusal. (refusal ≡ Refusal.AlreadyReady) ⊎ (refusal ≡ Refusal.NoMemory)) }
+        ensures errors { IfErr result IsRecoveryRefusal }
     {
         self.session.recover_step()
     }

@@ -4,6 +4,7 @@
 
 mod closing;
 mod creating;
+mod deeds;
 mod entry;
 mod gate;
 mod laws;
@@ -14,6 +15,7 @@ mod opening;
 mod seat;
 mod shared;
 
+pub use deeds::{Deed, Receipt};
 pub use entry::{Answer, End, Entry};
 pub use gate::{Gate, OpenGate};
 pub use laws::{calls_are_counted, interrupted_calls_are_told};

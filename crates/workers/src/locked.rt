@@ -1,19 +1,18 @@
 //! What lies under the lock.
 
-ghost use Rattle.std.specs.Prelude.{◌≡◌, ◌≢◌, ◌<◌, ℕ, false, length, true, IfErr, IsTrue, vec_capacity, vec_len};
-ghost use Rattle.named.specs.Brokers.{is_creating};
+ghost use Rattle.std.specs.Prelude.{◌≡◌, ◌≢◌, ◌<◌, [], false, length, true, IfErr, vec_capacity, vec_len};
 ghost use Rattle.roll.specs.Rule.{IsKeeper, rows_of};
-ghost use Rattle.session.specs.Promises.{KeepsNumbers};
 ghost use Rattle.session.specs.Requests.{answer_to, number_or_zero, IsBegunBy};
 ghost use Rattle.workers.specs.Answers.{IsListAfter, IsListBegun};
-ghost use Rattle.workers.specs.Following.{IsGuardedWell};
+ghost use Rattle.workers.specs.Following.{IsBeginning, IsGuardedWell};
 ghost use Rattle.workers.specs.Lists.{ends_open, events_at};
-ghost use Rattle.workers.specs.Refusals.{is_call_refusal};
+ghost use Rattle.workers.specs.Refusals.{IsSettledStart, IsWhyRefused, WasSettled};
 ghost use Rattle.workers.specs.Seats.{AreEmpty};
 
+use crate::deeds::Register;
 use crate::entry::{End, Entry, Request, Took, last_queue};
 use crate::naming::Naming;
-use crate::seat::{Seat, with_entry, with_last};
+use crate::seat::{Seat, known, with_entry, with_last};
 use arena::SlotId;
 use roll::{Roll, Token};
 use session::Session;
@@ -31,11 +30,13 @@ pub(crate) enum Creating {
     Interrupted,
 }
 
-/// The session, beside the keeper of the seats' lists: each list is what the histories have of its client.
+/// The session, beside the keeper of the seats' lists, each of which is what the histories have of its client, and that
+/// of what was done to all of it.
 #[derive(Drop)]
 pub(crate) struct Locked<J: Naming> {
     pub(crate) session: Session,
     pub(crate) keeper: Token<Entry>,
+    pub(crate) register: Register,
     pub(crate) creating: Creating,
     /// Whether the histories have ended since the seats were given.
     pub(crate) rotated: bool,
@@ -51,17 +52,20 @@ impl<J: Naming> Model for Locked<J> {
     ghost view = { λ l. record {
       session = l.session;
       rows = rows_of l.keeper;
+      deeds = rows_of l.register.keeper;
       creating = l.creating;
       rotated = l.rotated;
     } };
 
-    ghost invariant = { λ l. IsKeeper J.roll (rows_of l.keeper) l.keeper
+    ghost invariant = { λ l. IsKeeper J.roll.lists (rows_of l.keeper) l.keeper
         × IsGuardedWell J.clients J.first (record {
           session = l.session;
           rows = rows_of l.keeper;
+          deeds = rows_of l.register.keeper;
           creating = l.creating;
           rotated = l.rotated;
-        }) };
+        })
+        × IsKeeper J.roll.deeds (rows_of l.register.keeper) l.register.keeper };
 }
 
 /// How many events the history of a slot has; 0 where the slot is closed.
@@ -84,30 +88,32 @@ fn is_want_of_memory(refusal: Refusal) -> bool
 
 impl<J: Naming> Locked<J> {
     /// What is to lie under the lock, where no seat has been used yet.
-    pub(crate) fn new(session: Session, keeper: Token<Entry>) -> Self
-        requires keeper { IsKeeper J.roll (rows_of keeper) keeper }
+    pub(crate) fn new(session: Session, keeper: Token<Entry>, register: Register) -> Self
+        requires keeper { IsKeeper J.roll.lists (rows_of keeper) keeper }
+        requires register { IsKeeper J.roll.deeds [] register.keeper }
         requires clients { length (rows_of keeper) ≡ J.clients }
         requires first { session ≡ J.first }
-        requires idle { is_creating session.broker ≡ false }
+        requires beginning { IsBeginning J.clients session }
         requires empty { AreEmpty (λ row. row) (rows_of keeper) }
-        requires promises { KeepsNumbers session }
     {
         Locked {
             session,
             keeper,
+            register,
             creating: Creating::Nothing,
             rotated: false,
             of: PhantomData,
         }
     }
 
-    /// The session, and the keeper of the seats' lists.
-    pub(crate) fn into_parts(self) -> (Session, Token<Entry>)
+    /// The session, the keeper of the seats' lists, and what keeps what was done.
+    pub(crate) fn into_parts(self) -> (Session, Token<Entry>, Register)
         ensures session { result.0 ≡ self.session }
-        ensures keeper { IsKeeper J.roll self.rows result.1 }
+        ensures keeper { IsKeeper J.roll.lists self.rows result.1 }
+        ensures register { IsKeeper J.roll.deeds self.deeds result.2.keeper }
         ensures well { IsGuardedWell J.clients J.first self }
     {
-        (self.session, self.keeper)
+        (self.session, self.keeper, self.register)
     }
 
     /// Begins a call of the seat's client. Its entry is written in the same event, so that list and history never part.
@@ -117,7 +123,7 @@ impl<J: Naming> Locked<J> {
         seat: Seat<J>,
         request: &Request,
     ) -> (Seat<J>, Result<Option<Reply>, Refusal>)
-        requires roll { roll.now ≡ J.roll }
+        requires roll { roll.now ≡ J.roll.lists }
         requires idle { ends_open seat.list.items ≡ false }
         requires room { vec_len seat.list < vec_capacity seat.list }
         ensures client { result.0.client ≡ seat.client }
@@ -125,7 +131,10 @@ impl<J: Naming> Locked<J> {
         ensures act { IsBegunBy self.old.session self.new.session request.now.queue.0 seat.client
             (number_or_zero request.now.number) request.now.call result.1
             (answer_to self.old.session request.now.queue.0 seat.client request.now.number) }
-        ensures errors { IfErr result.1 (λ refusal. IsTrue (is_call_refusal refusal)) }
+        ensures errors { IfErr result.1
+            (IsWhyRefused J.first seat.list.items request.now.queue request.now.number) }
+        ensures settled { (reply : Reply) → WasSettled J.first request.now.queue seat.client request.now.number reply
+            → IsSettledStart reply result.1 }
     {
         let queue = request.queue;
         let next = events_in(&self.session, queue);
@@ -137,13 +146,13 @@ impl<J: Naming> Locked<J> {
                 let entry = request.entry(next, &began);
                 (with_entry(roll, &mut self.keeper, seat, entry), Ok(began))
             }
-            Err(refusal) => (seat, Err(refusal)),
+            Err(refusal) => (known(roll, &mut self.keeper, seat), Err(refusal)),
         }
     }
 
     /// One step of the seat's open call.
     pub(crate) fn step(&mut self, roll: &Roll<Entry>, seat: Seat<J>) -> (Seat<J>, Took)
-        requires roll { roll.now ≡ J.roll }
+        requires roll { roll.now ≡ J.roll.lists }
         requires open { ends_open seat.list.items ≡ true }
         ensures client { result.0.client ≡ seat.client }
         ensures step { IsListAfter seat.list.items result.1 result.0.list.items }

@@ -1,8 +1,8 @@
 //! What threads see of the queues.
 
-ghost use Rattle.std.specs.Prelude.{◌≡◌, ◌<◌, ℕ, IfErr, IfOk, IsTrue, slice_get};
+ghost use Rattle.std.specs.Prelude.{◌≡◌, ◌<◌, ℕ, length, IfErr, IfOk, IsTrue, slice_get};
 ghost use Rattle.arena.specs.declared.broker.TheConstants.{SLOTS};
-ghost use Rattle.workers.specs.Looking.{HasQueuesOf, IsFoundOf};
+ghost use Rattle.workers.specs.Looking.{IsFoundOf, IsListedOf};
 ghost use Rattle.workers.specs.Refusals.{is_told_refusal};
 
 use crate::locked::Locked;
@@ -13,7 +13,8 @@ use words::{Client, Refusal, Told};
 
 /// The same places.
 fn copy_of(places: &Places) -> Places
-    ensures { (slot : ℕ) → slot < SLOTS → slice_get result slot ≡ slice_get places.now slot }
+    ensures count { length result ≡ SLOTS }
+    ensures same { (slot : ℕ) → slot < SLOTS → slice_get result slot ≡ slice_get places.now slot }
 {
     let mut copied: Places = [None; SLOTS];
     for slot in 0..SLOTS {
@@ -34,7 +35,7 @@ impl<J: Naming> Locked<J> {
 
     /// What each slot has: a copy.
     pub(crate) fn list(&self) -> Result<Places, Refusal>
-        ensures queues { IfOk result (HasQueuesOf J.first.broker.directory) }
+        ensures queues { IfOk result (IsListedOf J.first.broker.directory) }
         ensures errors { IfErr result (λ refusal. refusal ≡ Refusal.NotReady) }
     {
         let _ = &self.session;

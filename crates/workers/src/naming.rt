@@ -6,11 +6,11 @@ use std::marker::Brand;
 /// that is generic in its name picks one for what it opens.
 pub trait Naming {
     ghost use Rattle.std.specs.Prelude.{ℕ};
-    ghost use Rattle.roll.specs.Seated.{TableId};
     ghost use Rattle.session.specs.Sessions.{Sessioned};
+    ghost use Rattle.workers.specs.Naming.{Rolls};
 
-    /// The roll of the seats' lists.
-    ghost roll: { TableId };
+    /// The rolls of the seats' lists, and of what was done to all of the session.
+    ghost roll: { Rolls };
 
     /// How many clients, and so seats, there are.
     ghost clients: { ℕ };

@@ -1,9 +1,11 @@
 //! How a session comes to be shared.
 
-ghost use Rattle.std.specs.Prelude.{◌≡◌, ◌⊎◌, false, true, IfErr, IfOk, OnOk};
+ghost use Rattle.std.specs.Prelude.{◌≡◌, ◌⊎◌, [], false, true, IfErr, IfOk, OnOk};
+ghost use Rattle.roll.specs.Rule.{IsKeeper};
 ghost use Rattle.workers.specs.Opening.{IsInUse, IsNameOf, IsNotInUse, HasNoCall};
 ghost use Rattle.workers.specs.Seats.{AreAllInOrder, AreEmpty};
 
+use crate::deeds::{Deed, Register};
 use crate::entry::Entry;
 use crate::locked::Locked;
 use crate::naming::Naming;
@@ -12,7 +14,7 @@ use crate::shared::Shared;
 use arena::{SLOTS, SlotId};
 use roll::{Roll, Token};
 use session::Session;
-use std::alloc::Global;
+use std::alloc::{AllocError, Global};
 use std::marker::Model;
 use std::sync::Mutex;
 use words::{Client, Refusal};
@@ -23,18 +25,22 @@ pub struct Opened {
     session: Session,
     roll: Roll<Entry>,
     keeper: Token<Entry>,
+    deeds: Roll<Deed>,
+    register: Register,
 }
 
 impl Model for Opened {
     ghost use Rattle.std.specs.Prelude.{[]};
     ghost use Rattle.roll.specs.Rule.{IsKeeper};
+    ghost use Rattle.roll.specs.Rule.{IsKeeper};
     ghost use Rattle.workers.specs.Opening.{IsNotInUse, Unnamed};
 
     ghost Value = { Unnamed };
 
-    ghost view = { λ o. record { roll = o.roll; session = o.session } };
+    ghost view = { λ o. record { roll = record { lists = o.roll; deeds = o.deeds }; session = o.session } };
 
-    ghost invariant = { λ o. IsKeeper o.roll [] o.keeper × IsNotInUse o.session.broker };
+    ghost invariant = { λ o. IsKeeper o.roll [] o.keeper × IsNotInUse o.session.broker
+        × IsKeeper o.deeds [] o.register.keeper };
 }
 
 /// Why a session is not shared; it is handed back.
@@ -73,6 +79,16 @@ pub fn is_in_use(session: &Session) -> bool
     false
 }
 
+/// A roll of what is done, with nothing done yet.
+fn registered(alloc: Global) -> Result<(Roll<Deed>, Register), AllocError>
+    ensures { IfOk result (λ r. IsKeeper r.0 [] r.1.keeper) }
+{
+    let mut row = Vec::new(alloc);
+    row.reserve(1)?;
+    let (roll, keeper) = Roll::open(alloc)?;
+    Ok((roll, Register::new(keeper, row)))
+}
+
 impl Opened {
     /// Opens a session to threads, before it is named. It is refused, in this order, where a client has a call under
     /// way or a creation is (Busy), and for want of memory (NoMemory).
@@ -89,13 +105,15 @@ impl Opened {
                 session,
             });
         }
-        match Roll::open(alloc) {
-            Ok((roll, keeper)) => Ok(Opened {
+        match (Roll::open(alloc), registered(alloc)) {
+            (Ok((roll, keeper)), Ok((deeds, register))) => Ok(Opened {
                 session,
                 roll,
                 keeper,
+                deeds,
+                register,
             }),
-            Err(_) => Err(NotOpened {
+            _ => Err(NotOpened {
                 refusal: Refusal::NoMemory,
                 session,
             }),
@@ -114,6 +132,8 @@ impl Opened {
             session,
             roll,
             mut keeper,
+            deeds,
+            register,
         } = self;
         let clients = session.broker().clients();
         let mut seats = Vec::new(alloc);
@@ -128,7 +148,12 @@ impl Opened {
             let token = roll.enroll(&mut keeper, &list);
             seats.push_reserved(seat_of(Client(client as u8), list, token));
         }
-        let locked = Mutex::new(Locked::new(session, keeper));
-        Ok((Shared { roll, locked }, seats))
+        let locked = Mutex::new(Locked::new(session, keeper, register));
+        let shared = Shared {
+            roll,
+            deeds,
+            locked,
+        };
+        Ok((shared, seats))
     }
 }

@@ -24,7 +24,7 @@ pub struct Seat<J: Naming> {
     pub(crate) steps: u64,
     pub(crate) token: Token<Entry>,
     pub(crate) of: PhantomData<J>,
-    pub ghost holds: { IsHolder J.roll client.0 list.items token },
+    pub ghost holds: { IsHolder J.roll.lists client.0 list.items token },
 }
 
 impl<J: Naming> Seat<J> {
@@ -82,7 +82,7 @@ impl<J: Naming> Seat<J> {
 
 /// A client's seat with this list.
 pub(crate) fn seat_of<J: Naming>(client: Client, list: Vec<Entry>, token: Token<Entry>) -> Seat<J>
-    requires { IsHolder J.roll client.0 list.items token }
+    requires { IsHolder J.roll.lists client.0 list.items token }
     ensures { (result.client ≡ client) × (result.list.items ≡ list.items) }
 {
     Seat {
@@ -94,6 +94,36 @@ pub(crate) fn seat_of<J: Naming>(client: Client, list: Vec<Entry>, token: Token<
     }
 }
 
+/// The same seat: to write its list once more is how to learn that the keeper knows it.
+pub(crate) fn known<J: Naming>(
+    roll: &Roll<Entry>,
+    keeper: &mut Token<Entry>,
+    seat: Seat<J>,
+) -> Seat<J>
+    requires roll { roll.now ≡ J.roll.lists }
+    requires keeper { IsKeeper J.roll.lists (rows_of keeper.old) keeper.old }
+    ensures known { slice_get (rows_of keeper.old) seat.client.0 ≡ Some seat.list.items }
+    ensures client { result.client ≡ seat.client }
+    ensures list { result.list.items ≡ seat.list.items }
+    ensures keeper { IsKeeper J.roll.lists (rows_of keeper.old) keeper.new }
+{
+    let Seat {
+        client,
+        list,
+        steps,
+        token,
+        of,
+    } = seat;
+    let token = roll.write(keeper, token, &list);
+    Seat {
+        client,
+        list,
+        steps,
+        token,
+        of,
+    }
+}
+
 /// The seat with one entry more, as the keeper knows it.
 pub(crate) fn with_entry<J: Naming>(
     roll: &Roll<Entry>,
@@ -101,13 +131,13 @@ pub(crate) fn with_entry<J: Naming>(
     seat: Seat<J>,
     entry: Entry,
 ) -> Seat<J>
-    requires roll { roll.now ≡ J.roll }
-    requires keeper { IsKeeper J.roll (rows_of keeper.old) keeper.old }
+    requires roll { roll.now ≡ J.roll.lists }
+    requires keeper { IsKeeper J.roll.lists (rows_of keeper.old) keeper.old }
     requires room { vec_len seat.list < vec_capacity seat.list }
     ensures before { slice_get (rows_of keeper.old) seat.client.0 ≡ Some seat.list.items }
     ensures client { result.client ≡ seat.client }
     ensures list { result.list.items ≡ seat.list.items ++ entry ∷ [] }
-    ensures keeper { IsKeeper J.roll (slice_set (rows_of keeper.old) seat.client.0 (seat.list.items ++ entry ∷ []))
+    ensures keeper { IsKeeper J.roll.lists (slice_set (rows_of keeper.old) seat.client.0 (seat.list.items ++ entry ∷ []))
         keeper.new }
 {
     let Seat {
@@ -135,13 +165,13 @@ pub(crate) fn with_last<J: Naming>(
     seat: Seat<J>,
     end: End,
 ) -> Seat<J>
-    requires roll { roll.now ≡ J.roll }
-    requires keeper { IsKeeper J.roll (rows_of keeper.old) keeper.old }
+    requires roll { roll.now ≡ J.roll.lists }
+    requires keeper { IsKeeper J.roll.lists (rows_of keeper.old) keeper.old }
     requires open { ends_open seat.list.items ≡ true }
     ensures before { slice_get (rows_of keeper.old) seat.client.0 ≡ Some seat.list.items }
     ensures client { result.client ≡ seat.client }
     ensures list { result.list.items ≡ with_end end seat.list.items }
-    ensures keeper { IsKeeper J.roll (slice_set (rows_of keeper.old) seat.client.0 (with_end end seat.list.items))
+    ensures keeper { IsKeeper J.roll.lists (slice_set (rows_of keeper.old) seat.client.0 (with_end end seat.list.items))
         keeper.new }
 {
     let Seat {

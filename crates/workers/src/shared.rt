@@ -1,16 +1,21 @@
 //! A broker that threads share.
 
-ghost use Rattle.std.specs.Prelude.{◌≡◌, ◌<◌, ◌⊎◌, false, IfErr, IfOk, IsTrue, true, vec_capacity, vec_len};
+ghost use Rattle.std.specs.Prelude.{◌≡◌, ◌<◌, false, IfErr, IfOk, IfSome, IsTrue, true, vec_capacity, vec_len};
 ghost use Rattle.workers.specs.Answers.{Finishes, IsListAfter, IsListBegun, Remembers};
+ghost use Rattle.workers.specs.Deeds.{IsReceipted};
 ghost use Rattle.workers.specs.Lists.{ends_open};
-ghost use Rattle.workers.specs.Looking.{HasQueuesOf, IsFoundOf};
-ghost use Rattle.workers.specs.Refusals.{is_call_refusal, is_creation_refusal, is_refused, is_told_refusal};
+ghost use Rattle.workers.specs.Looking.{IsCreatedBeside, IsFoundOf, IsListedOf};
+ghost use Rattle.workers.specs.Refusals.{is_creation_refusal, is_refused, is_told_refusal};
 ghost use Rattle.workers.specs.Refusals.{IfNotCreated, IfNotMade};
+ghost use Rattle.workers.specs.Recovered.{told_of_recovery, IsRecoveryRefusal};
+ghost use Rattle.workers.specs.Refusals.{IsSettledAnswer, IsSettledStart, IsWhyRefused, WasSettled};
 ghost use Rattle.directory.specs.Directory.{HasName};
 ghost use Rattle.directory.specs.Name.{IsName};
 ghost use Rattle.workers.specs.declared.entry.Answer.{Answer as AnyAnswer};
+ghost use Rattle.workers.specs.declared.deeds.Deed.{Deed as AnyDeed};
 ghost use Rattle.workers.specs.declared.shared.Created.{Created as AnyCreated};
 
+use crate::deeds::{Deed, Receipt};
 use crate::entry::{Answer, Entry, Request, Took};
 use crate::gate::Gate;
 use crate::locked::Locked;
@@ -28,8 +33,10 @@ use words::{Call, Client, Kind, Refusal, Reply, Told};
 #[derive(Drop)]
 pub struct Shared<J: Naming> {
     pub(crate) roll: Roll<Entry>,
+    pub(crate) deeds: Roll<Deed>,
     pub(crate) locked: Mutex<Locked<J>>,
-    pub(crate) ghost same: { roll ≡ J.roll },
+    pub(crate) ghost lists: { roll ≡ J.roll.lists },
+    pub(crate) ghost done: { deeds ≡ J.roll.deeds },
 }
 
 /// What became of a creation.
@@ -41,6 +48,20 @@ pub enum Created {
     Refused(Refusal),
     /// A crash came before its last step. Whether the queue is there is known once the broker is ready.
     Interrupted,
+}
+
+/// What the caller of a recovery is told once its step answered this, after steps of its own or at its first one.
+fn told_of_recovery(begun: bool, step: Result<bool, Refusal>) -> Option<Result<(), Refusal>>
+    ensures told { result ≡ told_of_recovery begun step }
+    ensures errors { IfErr step IsRecoveryRefusal → IfSome result (λ told. IfErr told IsRecoveryRefusal) }
+{
+    match step {
+        Ok(false) => None,
+        Ok(true) => Some(Ok(())),
+        // Another thread took the last step.
+        Err(Refusal::AlreadyReady) if begun => Some(Ok(())),
+        Err(refusal) => Some(Err(refusal)),
+    }
 }
 
 impl<J: Naming> Shared<J> {
@@ -55,7 +76,9 @@ impl<J: Naming> Shared<J> {
         requires room { vec_len seat.list < vec_capacity seat.list }
         ensures client { result.0.client ≡ seat.client }
         ensures begun { IsListBegun seat.list.items request result.1 result.0.list.items }
-        ensures errors { IfErr result.1 (λ refusal. IsTrue (is_call_refusal refusal)) }
+        ensures errors { IfErr result.1 (IsWhyRefused J.first seat.list.items request.queue request.number) }
+        ensures settled { (reply : Reply) → WasSettled J.first request.queue seat.client request.number reply
+            → IsSettledStart reply result.1 }
     {
         self.locked.lock(rt).begin(&self.roll, seat, &request)
     }
@@ -96,8 +119,9 @@ impl<J: Naming> Shared<J> {
     /// the client's last number, and without one in a durable queue. The seat remembers just this call, with the answer
     /// that is given. It passes the gate after its start and after each step that does not answer. It is refused,
     /// before all else, where the seat has an open call (Busy), for want of memory for its entry (NoMemory), and as
-    /// [`session::Session::begin`] is; then nothing is remembered. A step that is refused memory leaves the call under
-    /// way (Unfinished), for [`Shared::finish`].
+    /// [`session::Session::begin`] is; then nothing is remembered. A number that was settled when the seats were given
+    /// runs no more: it has its reply, or is Old. A step that is refused memory leaves the call under way (Unfinished),
+    /// for [`Shared::finish`].
     pub fn call<R: Wait, G: Gate>(
         &self,
         rt: &R,
@@ -110,7 +134,9 @@ impl<J: Naming> Shared<J> {
         ensures client { result.0.client ≡ seat.client }
         ensures entry { Remembers seat.list.items queue number call result.1 result.0.list.items }
         ensures busy { ends_open seat.list.items ≡ true → result ≡ (seat, AnyAnswer.Refused Refusal.Busy) }
-        ensures errors { IfNotMade result.1 (λ refusal. IsTrue (is_call_refusal refusal)) }
+        ensures errors { IfNotMade result.1 (IsWhyRefused J.first seat.list.items queue number) }
+        ensures settled { (reply : Reply) → WasSettled J.first queue seat.client number reply
+            → IsSettledAnswer reply result.1 }
     {
         if seat.is_open() {
             return (seat, Answer::Refused(Refusal::Busy));
@@ -150,17 +176,20 @@ impl<J: Naming> Shared<J> {
 
     /// Creates a queue, one act a step. It is Interrupted where a crash came between, and refused as
     /// [`session::Session::create`] is; Busy also where a crash ended another creation whose caller has not seen that
-    /// yet. A name that a queue had when the seats were given is taken for good.
-    pub fn create<R: Wait>(&self, rt: &R, name: &[u8], kind: Kind) -> Created
-        ensures bad_name { (IsName name.now → ⊥) → result ≡ AnyCreated.Refused Refusal.BadName }
-        ensures taken { HasName J.first.broker.directory name.now → IsTrue (is_refused result) }
-        ensures errors { IfNotCreated result (λ refusal. IsTrue (is_creation_refusal refusal)) }
+    /// yet. A name that a queue had when the seats were given is taken for good, and so is its slot. A queue that was
+    /// created comes with a receipt of that.
+    pub fn create<R: Wait>(&self, rt: &R, name: &[u8], kind: Kind) -> (Created, Option<Receipt<J>>)
+        ensures bad_name { (IsName name.now → ⊥) → result.0 ≡ AnyCreated.Refused Refusal.BadName }
+        ensures taken { HasName J.first.broker.directory name.now → IsTrue (is_refused result.0) }
+        ensures receipt { IsReceipted (λ receipt. receipt.deed) result.0 result.1 }
+        ensures free { IsCreatedBeside J.first.broker.directory result.0 }
+        ensures errors { IfNotCreated result.0 (λ refusal. IsTrue (is_creation_refusal refusal)) }
     {
         if let Err(refusal) = self.locked.lock(rt).create(name, kind) {
-            return Created::Refused(refusal);
+            return (Created::Refused(refusal), None);
         }
         for _ in rt.forever() {
-            if let Some(created) = self.locked.lock(rt).create_step() {
+            if let Some(created) = self.locked.lock(rt).create_step(&self.deeds) {
                 return created;
             }
         }
@@ -169,33 +198,32 @@ impl<J: Naming> Shared<J> {
 
     /// The whole system stops: each call under way is interrupted, as its seat hears when it goes on. It is refused for
     /// want of memory (NoMemory), and then nothing stopped.
-    pub fn crash<R: Wait>(&self, rt: &R) -> Result<(), Refusal>
-        ensures { IfErr result (λ refusal. refusal ≡ Refusal.NoMemory) }
+    pub fn crash<R: Wait>(&self, rt: &R) -> Result<Receipt<J>, Refusal>
+        ensures deed { IfOk result (λ receipt. receipt.deed ≡ AnyDeed.Crash) }
+        ensures errors { IfErr result (λ refusal. refusal ≡ Refusal.NoMemory) }
     {
-        self.locked.lock(rt).crash()
+        self.locked.lock(rt).crash(&self.deeds)
     }
 
     /// Recovers the broker, one act a step, until it is ready; other threads may take steps too. It is refused where no
     /// recovery is under way at its first step (AlreadyReady), and for want of memory (NoMemory): then the steps that
     /// were made stand, and another `recover` goes on.
     pub fn recover<R: Wait>(&self, rt: &R) -> Result<(), Refusal>
-        ensures { IfErr result (λ refusal. (refusal ≡ Refusal.AlreadyReady) ⊎ (refusal ≡ Refusal.NoMemory)) }
+        ensures { IfErr result IsRecoveryRefusal }
     {
         let mut begun = false;
         for _ in rt.forever() {
-            match self.locked.lock(rt).recover_step() {
-                Ok(false) => begun = true,
-                Ok(true) => return Ok(()),
-                // Another thread took the last step.
-                Err(Refusal::AlreadyReady) if begun => return Ok(()),
-                Err(refusal) => return Err(refusal),
+            let step = self.locked.lock(rt).recover_step();
+            if let Some(told) = told_of_recovery(begun, step) {
+                return told;
             }
+            begun = true;
         }
         unreachable!()
     }
 
     /// The slot with the queue of this name, if there is one. A queue that there was when the seats were given is found
-    /// in its slot for good. It is refused as [`named::Broker::find`] is.
+    /// in its slot for good, and no other name is found there. It is refused as [`named::Broker::find`] is.
     pub fn find<R: Wait>(&self, rt: &R, name: &Name) -> Result<Option<SlotId>, Refusal>
         ensures found { IfOk result (IsFoundOf J.first.broker.directory name.now) }
         ensures errors { IfErr result (λ refusal. refusal ≡ Refusal.NotReady) }
@@ -206,7 +234,7 @@ impl<J: Naming> Shared<J> {
     /// What each slot has, as it is now: a copy. The queues that there were when the seats were given are among them
     /// for good. It is refused as [`named::Broker::list`] is.
     pub fn list<R: Wait>(&self, rt: &R) -> Result<Places, Refusal>
-        ensures queues { IfOk result (HasQueuesOf J.first.broker.directory) }
+        ensures queues { IfOk result (IsListedOf J.first.broker.directory) }
         ensures errors { IfErr result (λ refusal. refusal ≡ Refusal.NotReady) }
     {
         self.locked.lock(rt).list()

@@ -6,7 +6,7 @@ use Rattle.workers.proofs.closing.all_emptied.Given as goal
 abbrev pub invariant-loop : goal.invariant-loop
 invariant-loop g l =
     let rows = l.keeper.me.0.rows in
-    IsKeeper g.J.Naming.roll rows l.keeper
+    IsKeeper g.J.Naming.roll.lists rows l.keeper
     × (length rows ≡ g.J.Naming.clients)
     × (l.end ≡ g.J.Naming.clients)
     × AreEmptyBelow l.counter rows

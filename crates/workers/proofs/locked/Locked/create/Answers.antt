@@ -16,6 +16,7 @@ invariant_of-self-2 g c =
           (record { numbers = c.create.ensures.goes_on; queues = c.create.ensures.queues })
           (known_if_begun new.broker (ap (λ (s : Sessioned). s.broker.recovery) c.create.ensures.others ∙ e.may.ready)
           e.under_way),
+      c.self.invariant.2,
     )
 
 pub returns-clause-taken : goal.returns-clause-taken

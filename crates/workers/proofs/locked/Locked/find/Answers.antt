@@ -12,5 +12,5 @@ returns-clause-found g c =
     let same = sym c.broker.ensures.broker in
     let came = subst (λ (b : Brokered). CameOf first c.self.inside.rotated b) same well.came in
     let listed = subst (λ (b : Brokered). IsDirectory b.directory) same well.promises.broker.well.listed in
-    found_in first c.broker.result.now c.self.inside.rotated c.args.name.now c.find.result came listed
-    c.find.ensures.found c.find.ensures.none
+    found_in first c.broker.result.now c.self.inside.rotated came well.beginning.promises.broker.well.listed listed
+    c.args.name.now c.find.result c.find.ensures.found c.find.ensures.none

@@ -12,5 +12,6 @@ returns-clause-queues g c =
     let same = sym c.broker.ensures.broker in
     let came = subst (λ (b : Brokered). CameOf first c.self.inside.rotated b) same well.came in
     let listed = subst (λ (b : Brokered). IsDirectory b.directory) same well.promises.broker.well.listed in
-    listed_still first c.broker.result.now c.self.inside.rotated c.copy_of.result came listed
-    (λ slot below. c.copy_of.ensures slot below ∙ ap (λ (d : Directory). slice_get d slot) c.in_ok-list.ensures.places)
+    listed_still first c.broker.result.now c.self.inside.rotated came well.beginning.promises.broker.well.listed listed
+    c.copy_of.result c.copy_of.ensures.count
+    (λ slot below. c.copy_of.ensures.same slot below ∙ ap (λ (d : Directory). slice_get d slot) c.in_ok-list.ensures.places)

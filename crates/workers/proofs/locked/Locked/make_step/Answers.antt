@@ -1,10 +1,12 @@
-use Rattle.std.proofs.Common.{subst, sym, ap, ◌∙◌, Ok}
+use Rattle.std.proofs.Common.{[], subst, sym, ap, ◌∙◌, Ok}
+use Rattle.roll.specs.Rule.{keeper, rows_of}
 use Rattle.workers.specs.Creating.{IsCreationKnown}
 use Rattle.workers.specs.Following.{Guarded}
 use Rattle.workers.specs.declared.locked.Creating.{Creating}
 use Rattle.workers.specs.declared.locked.Creating.TheVariants.{Nothing}
-use Rattle.workers.proofs.Guarded.{guarded_still, known_after_last, known_after_step, under_way_is}
-use Rattle.workers.proofs.Stops.{creation_carried}
+use Rattle.workers.proofs.Guarded.{done_by_last, guarded_still, known_after_last, known_after_step, under_way_is, with_deeds}
+use Rattle.workers.proofs.SeenStill.{free_before}
+use Rattle.workers.proofs.Stops.{creation_carried, creation_free}
 use Rattle.workers.proofs.locked.Locked.make_step.Goals as goal
 
 pub invariant_of-self : goal.invariant_of-self
@@ -13,7 +15,7 @@ invariant_of-self g c =
     let old = c.self.inside.session in
     let new = c.create_step.new.self in
     let well = c.self.invariant.1 in
-    let under_way = ap (λ (s : Guarded). s.creating) c.self.view_is ∙ c.requires in
+    let under_way = ap (λ (s : Guarded). s.creating) c.self.view_is ∙ c.requires.under_way in
     let known = subst (λ (creating : Creating). IsCreationKnown old.broker creating) under_way well.creation in
     let has = under_way_is old.broker known in
     let is = c.in-Ok-None.is ∙ ap Ok c.in-Ok-None.field-0-is in (
@@ -23,30 +25,45 @@ invariant_of-self g c =
           (record { numbers = e.goes_on; queues = e.queues })
           (subst (λ (creating : Creating). IsCreationKnown new.broker creating) (sym under_way)
           (known_after_step old.broker new.broker known c.create_step.result is e.step)),
+      c.self.invariant.2,
     )
 
 pub invariant_of-self-in-Ok-Some : goal.invariant_of-self-in-Ok-Some
 invariant_of-self-in-Ok-Some g c =
     let e = c.create_step.ensures in
+    let k = c.enter-receipt.ensures.keeper in
     let old = c.self.inside.session in
     let new = c.create_step.new.self in
     let well = c.self.invariant.1 in
-    let under_way = ap (λ (s : Guarded). s.creating) c.self.view_is ∙ c.requires in
+    let under_way = ap (λ (s : Guarded). s.creating) c.self.view_is ∙ c.requires.under_way in
     let known = subst (λ (creating : Creating). IsCreationKnown old.broker creating) under_way well.creation in
     let has = under_way_is old.broker known in
     let is = c.in-Ok-Some.is ∙ ap Ok c.in-Ok-Some.field-0-is in (
       c.self.invariant.0,
-      guarded_still g.J.Naming.clients g.J.Naming.first _ well new Nothing
+      with_deeds g.J.Naming.clients g.J.Naming.first _ _ (rows_of c.enter-receipt.new.self.keeper)
+          (ap (λ m. m.0.rows) k.1)
+          (guarded_still g.J.Naming.clients g.J.Naming.first _ well new Nothing
           (λ u. creation_carried old new well.promises has.0 c.create_step.result e.others has.1 e.step u) e.promises
           (record { numbers = e.goes_on; queues = e.queues })
-          (known_after_last old.broker new.broker known c.create_step.result c.in-Ok-Some.slot is e.step).0,
+          (known_after_last old.broker new.broker known c.create_step.result c.in-Ok-Some.slot is e.step).0)
+          (done_by_last old.broker new.broker known g.J.Naming.first.broker c.create_step.result c.in-Ok-Some.slot is e.step
+          well.done),
+      (k.0, k.1 ∙ sym (ap (λ m. (keeper m.0.rows, [])) k.1)),
     )
 
-pub returns-in-Ok-Some : goal.returns-in-Ok-Some
-returns-in-Ok-Some g c =
-    let under_way = ap (λ (s : Guarded). s.creating) c.self.view_is ∙ c.requires in
-    let known =
-    subst (λ (creating : Creating). IsCreationKnown c.self.inside.session.broker creating) under_way
-    c.self.invariant.1.creation in
-    (known_after_last c.self.inside.session.broker c.create_step.new.self.broker known c.create_step.result
-    c.in-Ok-Some.slot (c.in-Ok-Some.is ∙ ap Ok c.in-Ok-Some.field-0-is) c.create_step.ensures.step).1
+pub returns-in-Ok-Some-clause-made : goal.returns-in-Ok-Some-clause-made
+returns-in-Ok-Some-clause-made g c =
+    let e = c.create_step.ensures in
+    let old = c.self.inside.session in
+    let new = c.create_step.new.self in
+    let well = c.self.invariant.1 in
+    let first = g.J.Naming.first.broker in
+    let under_way = ap (λ (s : Guarded). s.creating) c.self.view_is ∙ c.requires.under_way in
+    let known = subst (λ (creating : Creating). IsCreationKnown old.broker creating) under_way well.creation in
+    let has = under_way_is old.broker known in
+    let is = c.in-Ok-Some.is ∙ ap Ok c.in-Ok-Some.field-0-is in (
+      (known_after_last old.broker new.broker known c.create_step.result c.in-Ok-Some.slot is e.step).1,
+      free_before first old.broker c.self.inside.rotated well.came well.beginning.promises.broker.well.listed
+          well.promises.broker.well.listed c.in-Ok-Some.slot.0
+          (creation_free old new well.promises has.0 c.create_step.result e.others has.1 e.step c.in-Ok-Some.slot is),
+    )

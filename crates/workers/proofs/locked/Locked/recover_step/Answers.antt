@@ -13,6 +13,7 @@ invariant_of-self g c =
           (λ u. recovered_carried old new well.promises c.recover_step.result e.step u) e.promises
           (record { numbers = e.goes_on; queues = e.downtime.goes_on })
           (known_after_recovery old.broker new.broker c.recover_step.result c.self.inside.creating e.step well.creation),
+      c.self.invariant.2,
     )
 
 pub returns-clause-errors : goal.returns-clause-errors

@@ -1,24 +1,31 @@
-use Rattle.std.proofs.Common.{ap, sym, true, length, List}
+use Rattle.std.proofs.Common.{[], ap, sym, subst, ◌∙◌, true, length, List}
 use Rattle.events.specs.declared.event.Event.{Event}
 use Rattle.named.specs.Brokers.{Brokered}
 use Rattle.named.proofs.Comings.{came_over_rotation}
-use Rattle.roll.specs.Rule.{rows_of}
+use Rattle.interleave.specs.Calls.{is_no_memory}
+use Rattle.roll.specs.Rule.{keeper, rows_of}
+use Rattle.workers.specs.Deeds.{CameBy}
+use Rattle.workers.specs.Deeds.CameBy.{rotation}
+use Rattle.workers.specs.declared.deeds.Deed.{Deed}
 use Rattle.workers.specs.Following.{beginnings}
 use Rattle.workers.proofs.Guarded.{known_if_same, rows_begun, session_further}
+use Rattle.workers.proofs.Refusing.{rotation_refused}
 use Rattle.workers.proofs.Stops.{rotated_empty}
 use Rattle.workers.proofs.locked.Locked.rotate.Goals as goal
 
 pub invariant_of-self-2 : goal.invariant_of-self-2
 invariant_of-self-2 g c =
     let e = c.in_default.ensures in
-    let a = c.all_emptied.ensures in
+    let a = c.all_emptied-seats.ensures in
+    let k = c.enter.ensures.keeper in
     let well = c.self.invariant.1 in
     let old = c.self.inside.session in
     let new = c.rotate.new.self in (
       a.keeper,
       record {
+        beginning = well.beginning;
         clients = a.clients;
-        followed = rows_begun (beginnings g.J.Naming.first true) new (rows_of c.all_emptied.new.keeper)
+        followed = rows_begun (beginnings g.J.Naming.first true) new (rows_of c.all_emptied-seats.new.keeper)
             (λ slot. sym (ap (λ (es : List Event). length es) (rotated_empty old.broker new.broker e.rotated slot))) a.rows;
         promises = e.promises;
         creation = known_if_same old.broker new.broker c.self.inside.creating
@@ -26,5 +33,13 @@ invariant_of-self-2 g c =
             well.creation;
         goes_on = session_further g.J.Naming.first old new well.goes_on e.goes_on;
         came = came_over_rotation g.J.Naming.first.broker c.self.inside.rotated old.broker new.broker well.came well.promises.broker e.rotated;
+        done = subst (λ (rows : List (List Deed)). CameBy g.J.Naming.first.broker rows new.broker)
+            (sym (ap (λ m. m.0.rows) k.1)) (rotation well.done well.promises.broker e.rotated);
       },
+      (k.0, k.1 ∙ sym (ap (λ m. (keeper m.0.rows, [])) k.1)),
     )
+
+pub returns-in-Err-clause-errors : goal.returns-in-Err-clause-errors
+returns-in-Err-clause-errors g c =
+    rotation_refused (is_no_memory c.rotate.result) c.self.inside.session.broker c.in-Err.refusal
+    (sym c.in-Err.is ∙ c.rotate.ensures.result)

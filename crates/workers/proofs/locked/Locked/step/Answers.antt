@@ -10,6 +10,7 @@ invariant_of-self g c =
       c.self.invariant.0,
       guarded_more g.J.Naming.clients g.J.Naming.first _ c.self.invariant.1 c.advance.new.self
           c.advance.ensures.promises (record { numbers = c.advance.ensures.goes_on; queues = c.advance.ensures.queues }) c.last_queue-queue.result.0 c.args.seat.client e,
+      c.self.invariant.2,
     )
 
 pub invariant_of-self-in-Ok-Some : goal.invariant_of-self-in-Ok-Some
@@ -22,6 +23,7 @@ invariant_of-self-in-Ok-Some g c =
           (guarded_answered g.J.Naming.clients g.J.Naming.first _ c.self.invariant.1 c.advance.new.self
           c.advance.ensures.promises (record { numbers = c.advance.ensures.goes_on; queues = c.advance.ensures.queues }) c.args.seat.client list w.before c.last_queue-queue.result.0 c.requires.open
           (rw c.as_slice.ensures.value at c.last_queue-queue.ensures) c.in-Ok-Some.reply e),
+      c.self.invariant.2,
     )
 
 pub invariant_of-self-then-is_want_of_memory : goal.invariant_of-self-then-is_want_of_memory
@@ -30,6 +32,7 @@ invariant_of-self-then-is_want_of_memory g c = (
   guarded_unstepped g.J.Naming.clients g.J.Naming.first _ c.self.invariant.1 c.advance.new.self
       c.advance.ensures.promises (record { numbers = c.advance.ensures.goes_on; queues = c.advance.ensures.queues }) c.last_queue-queue.result.0 c.args.seat.client c.in-Err.refusal
       c.in-Err.ensures.advanced,
+  c.self.invariant.2,
 )
 
 pub invariant_of-self-in-Err : goal.invariant_of-self-in-Err
@@ -43,4 +46,5 @@ invariant_of-self-in-Err g c =
           c.advance.ensures.promises (record { numbers = c.advance.ensures.goes_on; queues = c.advance.ensures.queues }) c.args.seat.client list w.before c.last_queue-queue.result.0 c.requires.open
           (rw c.as_slice.ensures.value at c.last_queue-queue.ensures) c.in-Err.refusal
           (c.if-is_want_of_memory.ensures.other refl) c.in-Err.ensures.advanced),
+      c.self.invariant.2,
     )

@@ -13,7 +13,7 @@ loop-client-preserved g c =
     let row = c.new-list.result.items in
     let none = c.new-list.ensures.items in
     let rows : rows_of c.enroll-token.new.keeper ≡ old ++ row ∷ [] = ap (λ me. me.0.rows) enrolled.keeper.1 in
-    let same : c.enroll-token.new.keeper.table_id ≡ g.J.Naming.roll = search rules in (
+    let same : c.enroll-token.new.keeper.table_id ≡ g.J.Naming.roll.lists = search rules in (
       (same, enrolled.keeper.1 ∙ sym (ap (λ me. (keeper me.0.rows, [])) enrolled.keeper.1)),
       omega (arith, ap (λ (rows : List (List Entry)). length rows) rows, length-append old (row ∷ []), i.1),
       rw rows (empty_pushed (λ (r : List Entry). r) old row i.2 none),

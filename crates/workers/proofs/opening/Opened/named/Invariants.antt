@@ -6,7 +6,7 @@ use Rattle.workers.proofs.opening.Opened.named.Given as goal
 abbrev pub invariant-loop-client : goal.invariant-loop-client
 invariant-loop-client g l =
     let rows = rows_of l.keeper in
-    IsKeeper g.J.Naming.roll rows l.keeper
+    IsKeeper g.J.Naming.roll.lists rows l.keeper
     × (length rows ≡ l.client)
     × AreEmpty (λ row. row) rows
     × AreAllInOrder (λ seat. seat.client) l.client l.seats.items

@@ -1,6 +1,6 @@
 use Rattle.std.proofs.Common.{◌∙◌, ap, Ok}
 use Rattle.workers.specs.declared.entry.Request.{Request}
-use Rattle.workers.proofs.Answering.{begun_open, remembers, under_way_begun}
+use Rattle.workers.proofs.Answering.{begun_open, remembers, settled_refused, settled_replies, settled_runs_not, under_way_begun}
 use Rattle.workers.proofs.shared.Shared.call.Goals as goal
 
 pub go_on-requires : goal.go_on-requires
@@ -16,3 +16,18 @@ returns-in-Ok-None-clause-entry g c =
     let old = c.with_room-seat.result.0.list.items in
     let way = under_way_begun old r _ _ (c.in-Ok-None.is ∙ ap Ok c.in-Ok-None.field-0-is) c.begin-seat.ensures.begun in
     rw (← c.with_room-seat.ensures.same.1) (remembers old r _ _ c.go_on.result.1 way c.go_on.ensures.finishes)
+
+pub returns-in-Ok-None-clause-settled : goal.returns-in-Ok-None-clause-settled
+returns-in-Ok-None-clause-settled g c = λ reply was.
+    absurd (settled_runs_not reply _ (c.in-Ok-None.is ∙ ap Ok c.in-Ok-None.field-0-is)
+    (c.begin-seat.ensures.settled reply (rw c.with_room-seat.ensures.same.0 was)))
+
+pub returns-in-Ok-Some-clause-settled : goal.returns-in-Ok-Some-clause-settled
+returns-in-Ok-Some-clause-settled g c = λ reply was.
+    settled_replies reply c.in-Ok-Some.reply _ (c.in-Ok-Some.is ∙ ap Ok c.in-Ok-Some.field-0-is)
+    (c.begin-seat.ensures.settled reply (rw c.with_room-seat.ensures.same.0 was))
+
+pub returns-in-Err-clause-settled : goal.returns-in-Err-clause-settled
+returns-in-Err-clause-settled g c = λ reply was.
+    settled_refused reply c.in-Err.refusal _ c.in-Err.is
+    (c.begin-seat.ensures.settled reply (rw c.with_room-seat.ensures.same.0 was))

@@ -1,32 +1,16 @@
-use Rattle.std.proofs.Common.{rules, ◌≡◌, [], List, Some, ap, ◌∙◌, subst}
+use Rattle.std.proofs.Common.{◌≡◌, List, Some, ap, subst}
 use Rattle.std.specs.Prelude.{slice_get}
-use Rattle.roll.specs.Rule.{keeper, rows_of}
+use Rattle.roll.specs.Rule.{rows_of}
 use Rattle.workers.specs.declared.entry.Entry.{Entry}
-use Rattle.workers.proofs.Seating.{accounted_by_rows, left_popped, rows_from_none_left}
+use Rattle.workers.proofs.Seating.{accounted_by_rows}
 use Rattle.workers.proofs.shared.Shared.close.Goals as goal
-
-pub loop-seat-preserved : goal.loop-seat-preserved
-loop-seat-preserved g c =
-    let i = c.loop-seat.invariant in
-    let seat = c.in-Some.seat in
-    let handed = c.hand_back.ensures in
-    let now = rows_of c.loop-seat.keeper in
-    let was = rows_of c.into_parts-session.result.1 in
-    let same : now ≡ was = ap (λ me. me.0.rows) i.0.1 in
-    let place = seat.client.0 in
-    let list = seat.list.items in
-    let known = subst (λ (rows : List (List Entry)). slice_get rows place ≡ Some list) same handed.known in (
-      (handed.keeper.0, handed.keeper.1 ∙ ap (λ (rows : List (List Entry)). (keeper rows, [])) same),
-      left_popped _ _ _ was _ _ _ seat c.requires i.1 c.in-Some.ensures.items known,
-    )
 
 pub returns-clause-lists : goal.returns-clause-lists
 returns-clause-lists g c =
     let under_lock = c.into_inner.result in
     let parts = c.into_parts-session.ensures in
-    let none : c.loop-seat.seats.items ≡ [] = search rules in
     let same : rows_of c.into_parts-session.result.1 ≡ under_lock.rows = ap (λ me. me.0.rows) parts.keeper.1 in
     accounted_by_rows (λ seat. seat.list.items) g.J.Naming.clients g.J.Naming.first under_lock _ c.args.seats.items
     parts.session parts.well
     (λ k seat at. subst (λ (rows : List (List Entry)). slice_get rows k ≡ Some seat.list.items) same
-    (rows_from_none_left _ _ _ _ c.loop-seat.invariant.1 none k seat at))
+    (c.all_known.ensures.each k seat at))

@@ -1,11 +1,11 @@
 use Rattle.std.proofs.Common.{ap, ◌∙◌, [], Some}
 use Rattle.roll.specs.Rule.{keeper}
 use Rattle.workers.proofs.Turning.{set_as_was}
-use Rattle.workers.proofs.closing.hand_back.Goals as goal
+use Rattle.workers.proofs.seat.known.Goals as goal
 
 pub returns-clause-keeper : goal.returns-clause-keeper
 returns-clause-keeper g c =
-    let written = c.write.ensures in
+    let written = c.write-token.ensures in
     let rows = c.args.keeper.now.me.0.rows in
     let seat = c.args.seat in
     let at = written.before ∙ ap Some (ap (λ me. me.0.row) seat.holds.1) in (

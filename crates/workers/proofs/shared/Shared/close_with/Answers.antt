@@ -1,0 +1,31 @@
+use Rattle.std.proofs.Common.{◌≡◌, List, Some, ap, sym, subst}
+use Rattle.std.specs.Prelude.{slice_get}
+use Rattle.roll.specs.Rule.{rows_of}
+use Rattle.session.specs.Sessions.{Sessioned}
+use Rattle.workers.specs.declared.entry.Entry.{Entry}
+use Rattle.workers.specs.Deeds.{CameBy}
+use Rattle.workers.specs.declared.deeds.Deed.{Deed}
+use Rattle.workers.proofs.Seating.{accounted_by_rows}
+use Rattle.workers.proofs.shared.Shared.close_with.Goals as goal
+
+pub returns-clause-lists : goal.returns-clause-lists
+returns-clause-lists g c =
+    let under_lock = c.into_inner.result in
+    let parts = c.into_parts-session.ensures in
+    let same : rows_of c.into_parts-session.result.1 ≡ under_lock.rows = ap (λ me. me.0.rows) parts.keeper.1 in
+    accounted_by_rows (λ seat. seat.list.items) g.J.Naming.clients g.J.Naming.first under_lock _ c.args.seats.items
+    parts.session parts.well
+    (λ k seat at. subst (λ (rows : List (List Entry)). slice_get rows k ≡ Some seat.list.items) same
+    (c.all_known.ensures.each k seat at))
+
+pub returns-clause-receipts : goal.returns-clause-receipts
+returns-clause-receipts g c =
+    let parts = c.into_parts-session.ensures in
+    record {
+      deeds = rows_of c.into_parts-session.result.2.keeper;
+      came = subst (λ (rows : List (List Deed)). CameBy g.J.Naming.first.broker rows c.into_parts-session.result.0.broker)
+          (sym (ap (λ me. me.0.rows) parts.register.1))
+          (subst (λ (s : Sessioned). CameBy g.J.Naming.first.broker c.into_inner.result.deeds s.broker) (sym parts.session)
+          parts.well.done);
+      among = c.honoured.ensures;
+    }

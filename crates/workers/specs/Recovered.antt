@@ -1,0 +1,16 @@
+-- What the caller of a recovery is told.
+use Rattle.std.specs.Prelude.{◌≡◌, ◌⊎◌, Bool, true, false, Option, Some, None, Result, Ok, Err}
+use Rattle.words.specs.declared.refusal.Refusal.{Refusal}
+use Rattle.words.specs.declared.refusal.Refusal.TheVariants.{AlreadyReady, NoMemory}
+
+-- why a step of it is refused: none is under way, or there is no memory
+abbrev pub IsRecoveryRefusal : Refusal → Type 0
+IsRecoveryRefusal refusal = (refusal ≡ AlreadyReady) ⊎ (refusal ≡ NoMemory)
+
+-- once a step of it answered this, where steps of its own came before (`begun`) or none did: nothing yet; that the
+-- broker is ready, by this step, or by one of another thread; or why the step was refused
+abbrev pub told_of_recovery : Bool → Result Bool Refusal → Option (Result Unit Refusal)
+told_of_recovery begun (Ok false) = None
+told_of_recovery begun (Ok true) = Some (Ok tt)
+told_of_recovery true (Err AlreadyReady) = Some (Ok tt)
+told_of_recovery begun (Err refusal) = Some (Err refusal)
