@@ -49,7 +49,9 @@ fn served<J: Beginning, T: Wait, R: Reader, W: Writer>(
     ensures write_fault { IsErrOf result Refusal.WriteFailed ↔ (W.failures writer.old < W.failures writer.new) }
     ensures errors { IfErr result MayEndServed }
 {
-    let mut desk = OwningDesk::<J>::new(alloc, session).map_err(|_| Refusal::NoMemory)?;
+    let Ok(mut desk) = OwningDesk::<J>::new(alloc, session) else {
+        return Err(Refusal::NoMemory);
+    };
     let served = serve::<T, JsonLines, R, W, OwningDesk<J>>(rt, alloc, reader, writer, &mut desk);
     let session = desk.into_session();
     served?;
