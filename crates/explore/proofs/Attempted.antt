@@ -19,8 +19,8 @@ use Rattle.interleave.specs.State.{State, after_act, after_acts, after_recover, 
 use Rattle.interleave.proofs.AloneLaws.{get_set}
 use Rattle.explore.specs.Acts.{attempts_of, IsSteady}
 use Rattle.explore.specs.Play.{Play, after_command, after_commands, after_recovery, after_steps, most_alone, most_recovery, play_after_recovery_step, play_after_step, play_then, recover_then}
-use Rattle.explore.specs.declared.command.Command.{Command}
-use Rattle.explore.specs.declared.command.Command.TheVariants.{Enq, NumberedEnq, Deq, NumberedDeq, Step, End, Evict, Crash, Recover, RecoverBy, Content, Order}
+use Rattle.grammar.specs.declared.commands.Command.{Command}
+use Rattle.grammar.specs.declared.commands.Command.TheVariants.{Enq, NumberedEnq, Deq, NumberedDeq, Step, End, Evict, Crash, Recover, RecoverBy, Content, Order}
 use Rattle.explore.proofs.InOrder.{after_more, stays}
 use Rattle.explore.proofs.Plays.{refused_same as step_refused}
 use Rattle.explore.proofs.Recoveries.{refused_same as recovery_refused}

@@ -6,7 +6,7 @@ use Rattle.protocol.specs.declared.acts.Act.{Act}
 use Rattle.interleave.specs.State.{State, after_act, after_acts, is_accepted, taken_of, count_of}
 use Rattle.std.specs.List.{flat_map}
 use Rattle.explore.specs.Acts.{accepted_of, attempts_of, IsSteady}
-use Rattle.explore.specs.declared.command.Command.{Command}
+use Rattle.grammar.specs.declared.commands.Command.{Command}
 use Rattle.explore.proofs.Shapes.{after_acts_shape}
 
 -- some acts, and then others

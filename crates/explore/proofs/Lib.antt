@@ -1,9 +1,3 @@
-pub mod Numbers
-pub mod ItemWords
-pub mod Cuts
-pub mod Rows
-pub mod Scripts
-pub mod Unique
 pub mod Plays
 pub mod GoingAlone
 pub mod Recoveries

@@ -12,10 +12,11 @@ use Rattle.rayon.specs.Shown.{run-append}
 use Rattle.arena.specs.Shape.{Shape}
 use Rattle.protocol.specs.declared.acts.Act.{Act}
 use Rattle.interleave.specs.State.{after_acts, taken_of}
-use Rattle.explore.specs.Acts.{acts_of, shape_by}
+use Rattle.grammar.specs.Grammar.{shape_by}
+use Rattle.explore.specs.Acts.{acts_of}
 use Rattle.explore.specs.Points.{Found, crashed_world, found_of, found_at, points_on, points_of, recovery_of}
-use Rattle.explore.specs.declared.command.Command.{Command}
-use Rattle.explore.specs.declared.command.QueueLine.{QueueLine}
+use Rattle.grammar.specs.declared.commands.Command.{Command}
+use Rattle.grammar.specs.declared.commands.QueueLine.{QueueLine}
 use Rattle.explore.specs.declared.evictions.Evictions.{Evictions}
 use Rattle.explore.proofs.Explained.{found_ok}
 use Rattle.explore.specs.declared.crashing.Point.{Point}

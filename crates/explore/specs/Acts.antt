@@ -2,18 +2,13 @@
 use Rattle.std.specs.Prelude.{◌≡◌, ℕ, false, List, [], ◌∷◌, replicate, if◌then◌else◌}
 use Rattle.std.specs.List.{flat_map}
 use Rattle.words.specs.declared.call.Call.TheVariants.{Enq as enq_call, Deq as deq_call}
-use Rattle.arena.specs.Shape.{Shape, shape_of}
+use Rattle.arena.specs.Shape.{Shape}
 use Rattle.protocol.specs.declared.acts.Act.{Act}
 use Rattle.protocol.specs.declared.acts.Act.TheVariants.{Start, Step as step_act, Evict as evict_act, Crash as crash_act, Recover as recover_act}
 use Rattle.interleave.specs.State.{State, new_world, after_act, is_accepted, most_to_ready}
 use Rattle.explore.specs.Play.{most_alone}
-use Rattle.explore.specs.declared.command.Command.{Command}
-use Rattle.explore.specs.declared.command.Command.TheVariants.{Enq, NumberedEnq, Deq, NumberedDeq, Step, End, Evict, Crash, Recover, RecoverBy, Content, Order}
-use Rattle.explore.specs.declared.command.QueueLine.{QueueLine}
-
--- the shape that a queue line asks for
-abbrev pub shape_by : QueueLine → Shape
-shape_by queue = shape_of queue.kind (record { clients = queue.clients; records = queue.records })
+use Rattle.grammar.specs.declared.commands.Command.{Command}
+use Rattle.grammar.specs.declared.commands.Command.TheVariants.{Enq, NumberedEnq, Deq, NumberedDeq, Step, End, Evict, Crash, Recover, RecoverBy, Content, Order}
 
 -- what a command attempts. A step past the answer is refused, and so is one of recovery once the queue is ready
 abbrev pub attempts_of : Shape → Command → List (Act ℕ)

@@ -1,9 +1,3 @@
-pub mod Lines
-pub mod Limits
-pub mod Grammar
-pub mod Scripted
-pub mod Rows
-pub mod Script
 pub mod Prints
 pub mod Steps
 pub mod Play

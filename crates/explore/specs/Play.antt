@@ -9,9 +9,9 @@ use Rattle.words.specs.declared.refusal.Refusal.{Refusal}
 use Rattle.arena.specs.Shape.{Shape}
 use Rattle.interleave.specs.State.{State, new_world, after_start, start_result, after_step, step_result, after_evict, after_crash, after_recover, recover_result, most_to_ready}
 use Rattle.explore.specs.Steps.{call_counted, recovery_counted}
-use Rattle.explore.specs.declared.command.Command.{Command}
-use Rattle.explore.specs.declared.command.Command.TheVariants.{Enq, NumberedEnq, Deq, NumberedDeq, Step, End, Evict, Crash, Recover, RecoverBy, Content, Order}
-use Rattle.explore.specs.declared.limits.TheConstants.{CLIENT_NUMBERS}
+use Rattle.grammar.specs.declared.commands.Command.{Command}
+use Rattle.grammar.specs.declared.commands.Command.TheVariants.{Enq, NumberedEnq, Deq, NumberedDeq, Step, End, Evict, Crash, Recover, RecoverBy, Content, Order}
+use Rattle.explore.specs.declared.steps.TheConstants.{CLIENT_NUMBERS}
 use Rattle.explore.specs.declared.steps.Steps.{Steps}
 
 -- a world, and how many steps each client's call has made, and recovery

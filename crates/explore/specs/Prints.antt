@@ -1,20 +1,15 @@
 -- What the lines of a transcript say.
 use Rattle.std.specs.Prelude.{ℕ, ◌==◌, List, [], ◌∷◌, ◌++◌, if◌then◌else◌, codes, decimal}
-use Rattle.std.specs.List.{join_with_byte, flat_map}
+use Rattle.std.specs.List.{flat_map}
 use Rattle.words.specs.Refusal.{refusal_text}
 use Rattle.words.specs.PlainQueue.{Value}
 use Rattle.words.specs.Text.{value_text, reply_text, told_text}
 use Rattle.words.specs.declared.call.Call.{Call}
 use Rattle.words.specs.declared.call.Call.TheVariants.{Enq, Deq}
-use Rattle.explore.specs.Grammar.{command_words}
-use Rattle.explore.specs.declared.command.Command.{Command}
+use Rattle.grammar.specs.Grammar.{command_text}
 use Rattle.explore.specs.declared.ordered.Ordered.{Ordered}
 use Rattle.explore.specs.declared.printed.Line.{Line}
 use Rattle.explore.specs.declared.printed.Line.TheVariants.{Size, Call as called, Return, Refused, Evicted, Crash, Recovering, Ready, Told, Content, Order, Entry}
-
--- a command as its line has it
-abbrev pub command_text : Command → List ℕ
-command_text command = join_with_byte 32 (command_words command)
 
 -- the values that a queue holds, each after a space, or a dash where there are none
 abbrev pub spaced_value : Value → List ℕ

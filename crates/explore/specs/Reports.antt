@@ -4,13 +4,13 @@ use Rattle.std.specs.List.{flat_map}
 use Rattle.words.specs.PlainQueue.{Value}
 use Rattle.words.specs.Text.{reply_text, told_text}
 use Rattle.words.specs.declared.told.Told.{Told}
-use Rattle.explore.specs.Acts.{shape_by}
+use Rattle.grammar.specs.Grammar.{shape_by}
 use Rattle.explore.specs.Points.{Found, points_on}
 use Rattle.explore.specs.Prints.{values_text}
 use Rattle.explore.specs.Stopped.{alone_on}
 use Rattle.explore.specs.declared.answered.Alone.{Alone}
-use Rattle.explore.specs.declared.command.Command.{Command}
-use Rattle.explore.specs.declared.command.QueueLine.{QueueLine}
+use Rattle.grammar.specs.declared.commands.Command.{Command}
+use Rattle.grammar.specs.declared.commands.QueueLine.{QueueLine}
 use Rattle.explore.specs.declared.evictions.Evictions.{Evictions}
 
 -- what clients are told, parted by commas

@@ -4,11 +4,11 @@ use Rattle.std.specs.Io.KnownBytes.{Appends, Keeps}
 use Rattle.devices.specs.Devices.{AppendsBeginning}
 use Rattle.words.specs.declared.refusal.Refusal.{Refusal}
 use Rattle.words.specs.declared.refusal.Refusal.TheVariants.{BadLine, NoMemory, ReadFailed, WriteFailed}
-use Rattle.explore.specs.Lines.{lines_of}
-use Rattle.explore.specs.Scripted.{Scripted}
-use Rattle.explore.specs.Script.{Says, IsFirstBad}
-use Rattle.explore.specs.declared.command.Command.{Command}
-use Rattle.explore.specs.declared.command.QueueLine.{QueueLine}
+use Rattle.grammar.specs.Lines.{lines_of}
+use Rattle.grammar.specs.Scripted.{Scripted}
+use Rattle.grammar.specs.Script.{Says, IsFirstBad}
+use Rattle.grammar.specs.declared.commands.Command.{Command}
+use Rattle.grammar.specs.declared.commands.QueueLine.{QueueLine}
 
 -- where the bytes to read are known, they say this script
 abbrev pub SaysInput : Option (List ℕ) → Scripted → Type 0

@@ -7,10 +7,11 @@ use Rattle.words.specs.declared.refusal.Refusal.{Refusal}
 use Rattle.arena.specs.Shape.{Shape}
 use Rattle.protocol.specs.declared.acts.Act.{Act}
 use Rattle.interleave.specs.State.{State, new_world, after_acts, after_step, step_result}
-use Rattle.explore.specs.Acts.{acts_of, shape_by}
+use Rattle.grammar.specs.Grammar.{shape_by}
+use Rattle.explore.specs.Acts.{acts_of}
 use Rattle.explore.specs.Play.{most_alone}
-use Rattle.explore.specs.declared.command.Command.{Command}
-use Rattle.explore.specs.declared.command.QueueLine.{QueueLine}
+use Rattle.grammar.specs.declared.commands.Command.{Command}
+use Rattle.grammar.specs.declared.commands.QueueLine.{QueueLine}
 use Rattle.explore.specs.declared.answered.Alone.{Alone}
 
 -- by a step that is its so manieth: the answer of a call, or what comes of its next steps

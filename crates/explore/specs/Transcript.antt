@@ -7,18 +7,19 @@ use Rattle.words.specs.declared.refusal.Refusal.{Refusal}
 use Rattle.words.specs.declared.told.Told.{Told}
 use Rattle.persist.specs.declared.access.Change.{Change}
 use Rattle.arena.specs.Layout.{size_of}
-use Rattle.arena.specs.Shape.{Shape, shape_of}
+use Rattle.arena.specs.Shape.{Shape}
 use Rattle.events.specs.declared.event.Entry.{Entry}
 use Rattle.events.specs.declared.event.Event.{Event}
 use Rattle.events.specs.declared.event.Event.TheVariants.{Call as call_event, Return as return_event, Crash as crash_event, Ready as ready_event}
 use Rattle.interleave.specs.Queue.{told_in, told_to}
 use Rattle.interleave.specs.State.{State, start_result, step_result, evict_result, recover_result, order_in, kept_content}
+use Rattle.grammar.specs.Grammar.{shape_by}
 use Rattle.explore.specs.Play.{Play, play_after_step, play_after_recovery_step, recover_then, most_alone, most_recovery, after_command, new_play}
 use Rattle.explore.specs.Prints.{text_of}
 use Rattle.explore.specs.Steps.{count_after}
-use Rattle.explore.specs.declared.command.Command.{Command}
-use Rattle.explore.specs.declared.command.Command.TheVariants.{Enq, NumberedEnq, Deq, NumberedDeq, Step, End, Evict, Crash, Recover, RecoverBy, Content, Order}
-use Rattle.explore.specs.declared.command.QueueLine.{QueueLine}
+use Rattle.grammar.specs.declared.commands.Command.{Command}
+use Rattle.grammar.specs.declared.commands.Command.TheVariants.{Enq, NumberedEnq, Deq, NumberedDeq, Step, End, Evict, Crash, Recover, RecoverBy, Content, Order}
+use Rattle.grammar.specs.declared.commands.QueueLine.{QueueLine}
 use Rattle.explore.specs.declared.ordered.Ordered.{Ordered}
 use Rattle.explore.specs.declared.printed.Line.{Line}
 use Rattle.explore.specs.declared.printed.Line.TheVariants.{Size as size_line, Call as call_line, Return as return_line, Refused as refused_line, Evicted as evicted_line, Crash as crash_line, Recovering as recovering_line, Ready as ready_line, Told as told_line, Content as content_line, Order as order_line, Entry as entry_line}
@@ -118,8 +119,7 @@ queue_lines s commands = size_line (size_of s) ∷ lines_of_all (new_play s) com
 -- those of a script: there are none where it has no queue
 abbrev pub script_lines : Option QueueLine → List Command → List Line
 script_lines None commands = []
-script_lines (Some queue) commands =
-    queue_lines (shape_of queue.kind (record { clients = queue.clients; records = queue.records })) commands
+script_lines (Some queue) commands = queue_lines (shape_by queue) commands
 
 -- its transcript
 abbrev pub script_text : Option QueueLine → List Command → List ℕ

@@ -1,13 +1,13 @@
 //! What each act of a script does: the answer that it gives, and the words that differ after it.
 
 ghost use Rattle.std.specs.Prelude.{◌≡◌, IfErr};
-ghost use Rattle.explore.specs.Grammar.{IsServedQueue};
+ghost use Rattle.grammar.specs.Grammar.{IsServedQueue};
 
 use crate::attempts::attempt;
-use crate::command::{Command, QueueLine};
 use crate::lists::push;
 use crate::recording::accepted_acts;
 use arena::Layout;
+use grammar::{Command, QueueLine};
 use interleave::{Act, World};
 use persist::KeptWords;
 use std::alloc::Global;

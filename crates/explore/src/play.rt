@@ -4,11 +4,10 @@ ghost use Rattle.std.specs.Prelude.{◌≡◌, IfOk, IfErr, string_bytes};
 ghost use Rattle.explore.specs.Prints.{text_of};
 ghost use Rattle.explore.specs.Transcript.{queue_lines, script_text};
 
-use crate::command::Command;
 use crate::player::Player;
 use crate::printed::{Line, add};
-use crate::script::Script;
 use arena::Layout;
+use grammar::{Command, Script};
 use std::alloc::Global;
 use std::fmt::Write;
 use words::Refusal;
@@ -44,8 +43,8 @@ pub fn transcript(alloc: Global, script: &Script) -> Result<Vec<u8>, Refusal>
     ensures text { IfOk result (λ text. text.items ≡ script_text script.now.queue script.now.commands) }
     ensures errors { IfErr result (λ e. e ≡ Refusal.NoMemory) }
 {
-    let Some(queue) = script.queue else {
+    let Some(queue) = script.queue() else {
         return Ok(Vec::new(alloc));
     };
-    text(alloc, &play(alloc, queue.layout()?, &script.commands)?)
+    text(alloc, &play(alloc, queue.layout()?, script.commands())?)
 }

@@ -5,11 +5,11 @@ ghost use Rattle.interleave.specs.State.{start_result, evict_result, recover_res
 ghost use Rattle.explore.specs.Play.{most_alone, most_recovery, new_play, play_after_start, after_steps, after_eviction, play_after_crash, play_after_recovery_step, after_recovery, after_command};
 ghost use Rattle.explore.specs.Transcript.{start_line, step_lines, evict_line, ready_lines, recovery_lines, order_lines, command_lines};
 
-use crate::command::Command;
 use crate::ordered::named_call;
 use crate::printed::{Line, Values, add, add_refused};
 use crate::steps::Steps;
 use arena::Layout;
+use grammar::Command;
 use interleave::World;
 use std::alloc::Global;
 use std::marker::Model;

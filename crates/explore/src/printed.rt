@@ -2,8 +2,8 @@
 
 ghost use Rattle.std.specs.Prelude.{◌≡◌, ◌≢◌, ◌++◌, ◌∷◌, [], OnOk, IfErr};
 
-use crate::command::Command;
 use crate::ordered::Ordered;
+use grammar::Command;
 use std::fmt;
 use std::marker::Model;
 use words::{Client, Refusal, Reply, Told, Value};

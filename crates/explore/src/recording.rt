@@ -6,9 +6,9 @@ ghost use Rattle.protocol.specs.declared.acts.Act.TheVariants.{Start};
 ghost use Rattle.explore.specs.Acts.{accepted_of, acts_of, attempts_of, IsSteady};
 
 use crate::attempts::{attempt, most_to_ready, repeat};
-use crate::command::Command;
 use crate::lists::push;
 use arena::Layout;
+use grammar::Command;
 use interleave::{Act, World};
 use std::alloc::Global;
 use words::{Call, Client, MAX_STEPS_ALONE, Refusal};

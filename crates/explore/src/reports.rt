@@ -11,10 +11,10 @@ use crate::crashing::Point;
 use crate::evictions::Evictions;
 use crate::page::{Setting, page};
 use crate::recording::accepted_acts;
-use crate::script::Script;
 use crate::stopped::alone;
 use crate::sweep::{Report, watched_points};
 use crate::watch::Watch;
+use grammar::Script;
 use std::alloc::Global;
 use std::fmt::Write;
 use std::thread::Threads;
@@ -128,7 +128,7 @@ pub(crate) fn points_text<R: Threads + Sync, W: Watch>(
     ensures text { IfOk result (λ text. text.items ≡ points_text evictions script.now.queue script.now.commands) }
     ensures errors { IfErr result (λ e. e ≡ Refusal.NoMemory) }
 {
-    let Some(queue) = script.queue else {
+    let Some(queue) = script.queue() else {
         return Ok(Vec::new(alloc));
     };
     let report = watched_points(rt, alloc, script, evictions, watch)?;
@@ -147,7 +147,7 @@ pub(crate) fn pictured_points<R: Threads + Sync, W: Watch>(
         ≡ points_text evictions script.now.queue script.now.commands) }
     ensures errors { IfErr result (λ e. e ≡ Refusal.NoMemory) }
 {
-    let Some(queue) = script.queue else {
+    let Some(queue) = script.queue() else {
         return Ok(Pictured {
             text: Vec::new(alloc),
             page: Vec::new(alloc),
@@ -158,7 +158,7 @@ pub(crate) fn pictured_points<R: Threads + Sync, W: Watch>(
     let layout = queue.layout()?;
     let setting = Setting {
         queue,
-        acts: accepted_acts(alloc, layout, &script.commands)?,
+        acts: accepted_acts(alloc, layout, script.commands())?,
         evictions,
         words: layout.size(),
     };
@@ -197,7 +197,7 @@ pub(crate) fn stopped_text(alloc: Global, script: &Script) -> Result<Vec<u8>, Re
     ensures text { IfOk result (λ text. text.items ≡ stopped_text script.now.queue script.now.commands) }
     ensures errors { IfErr result (λ e. e ≡ Refusal.NoMemory) }
 {
-    if script.queue.is_none() {
+    if script.queue().is_none() {
         return Ok(Vec::new(alloc));
     }
     calls_text(alloc, &alone(alloc, script)?)

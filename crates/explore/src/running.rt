@@ -8,13 +8,12 @@ ghost use Rattle.explore.specs.Run.{Prints, PrintsBeginning, IsReadRefusal, IsRu
 ghost use Rattle.explore.specs.Transcript.{script_text};
 
 use crate::evictions::Evictions;
-use crate::parse::parse_script;
 use crate::play::transcript;
 use crate::reports::{pictured_points, points_text, stopped_text};
-use crate::script::Script;
 use crate::story::story;
 use crate::watch::Watch;
 use devices::{MAX_FAILURES, Reader, Unread, Writer, read_all, send};
+use grammar::{Script, parse_script};
 use std::alloc::Global;
 use std::thread::Threads;
 use words::Refusal;

@@ -1,11 +1,13 @@
 //! How many steps were made.
 
 ghost use Rattle.std.specs.Prelude.{◌≡◌, ◌<◌, length, replicate, slice_index, slice_set};
-ghost use Rattle.explore.specs.declared.limits.TheConstants.{CLIENT_NUMBERS};
+ghost use Rattle.explore.specs.declared.steps.TheConstants.{CLIENT_NUMBERS};
 ghost use Rattle.explore.specs.Steps.{count_after, call_counted, recovery_counted};
 
-use crate::limits::CLIENT_NUMBERS;
 use words::Client;
+
+/// How many numbers a client may have.
+const CLIENT_NUMBERS: usize = 256;
 
 /// How many steps each client's call has made, and recovery since the last crash. A client's number is one byte.
 #[derive(Drop)]

@@ -11,8 +11,8 @@ use crate::answered::Alone;
 use crate::attempts::{attempt_all, pass_over};
 use crate::lists::push;
 use crate::recording::accepted_acts;
-use crate::script::Script;
 use arena::Layout;
+use grammar::Script;
 use interleave::{Act, World};
 use std::alloc::Global;
 use words::{Client, Refusal};
@@ -100,10 +100,10 @@ pub fn alone(alloc: Global, script: &Script) -> Result<Vec<Alone>, Refusal>
     ensures few { IfOk result (λ found. All (λ alone. alone.steps ≤ MAX_STEPS_ALONE) found.items) }
     ensures errors { IfErr result (λ e. e ≡ Refusal.NoMemory) }
 {
-    let Some(queue) = script.queue else {
+    let Some(queue) = script.queue() else {
         return Ok(Vec::new(alloc));
     };
     let layout = queue.layout()?;
-    let acts = accepted_acts(alloc, layout, &script.commands)?;
+    let acts = accepted_acts(alloc, layout, script.commands())?;
     alone_on(alloc, layout, &acts)
 }

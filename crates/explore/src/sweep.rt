@@ -8,10 +8,10 @@ use crate::crashing::{Point, crash};
 use crate::evictions::Evictions;
 use crate::lists::append;
 use crate::recording::accepted_acts;
-use crate::script::Script;
 use crate::spare::Spare;
 use crate::watch::{Unwatched, Watch};
 use arena::Layout;
+use grammar::Script;
 use interleave::Act;
 use rayon::prelude::*;
 use std::alloc::Global;
@@ -156,11 +156,11 @@ pub fn watched_points<R: Threads + Sync, W: Watch>(
     ensures bad { IfOk result (λ report. report.bad ≡ 0) }
     ensures errors { IfErr result (λ e. e ≡ Refusal.NoMemory) }
 {
-    let Some(queue) = script.queue else {
+    let Some(queue) = script.queue() else {
         return Ok(report_of(Vec::new(alloc)));
     };
     let layout = queue.layout()?;
-    let acts = accepted_acts(alloc, layout, &script.commands)?;
+    let acts = accepted_acts(alloc, layout, script.commands())?;
     let schedule = Schedule {
         layout,
         acts,

@@ -3,9 +3,10 @@
 use anyhow::Result;
 use devices::{CountedWriter, FaultyReader};
 use explore::{
-    Evictions, Script, Watch, alone, parse_script, points, run, run_alone, run_page, run_points,
-    transcript, watched_points,
+    Evictions, Watch, alone, points, run, run_alone, run_page, run_points, transcript,
+    watched_points,
 };
+use grammar::{Script, parse_script};
 use std::alloc::Global;
 use std::thread::Threads;
 use test_growths::{MOST_TRIES, Written, made, say_again, text_of};
@@ -126,7 +127,7 @@ pub(crate) fn tell<R: Threads + Sync + Print + AllocGlobal>(rt: &R) -> Result<()
         println!(rt; "# A script")?;
         let script = made(
             rt,
-            "explore::parse_script",
+            "grammar::parse_script",
             || parse_script(alloc, text.as_bytes()),
         )?;
         tell_of(rt, &script)?;

@@ -11,7 +11,7 @@ use Rattle.explore.proofs.stopped.alone.Goals as goal
 pub returns-clause-few : goal.returns-clause-few
 returns-clause-few c =
     let s = c.in_ok-layout.layout in
-    let acts = c.deref-2.result.now in
+    let acts = c.deref.result.now in
     IfOk-weaker c.alone_on.result
     (λ found. found.items ≡ flat_map (alone_at s acts) (range_with_len 0 (length acts + 1)))
     (λ found. All (λ (alone : Alone). alone.steps ≤ MAX_STEPS_ALONE) found.items) (λ found is.
