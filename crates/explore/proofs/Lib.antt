@@ -1,13 +1,6 @@
-pub mod Plays
-pub mod GoingAlone
-pub mod Recoveries
-pub mod InOrder
-pub mod Attempted
 pub mod Draws
-pub mod Shapes
 pub mod Crashes
 pub mod Explained
-pub mod StoppedCalls
 pub mod Sweeps
 pub mod Written
 pub mod Printing

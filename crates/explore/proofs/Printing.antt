@@ -1,8 +1,8 @@
--- A beginning of what is printed.
+-- A beginning of the text of a script is one of what is printed of it.
 use Rattle.std.proofs.Common.{◌≡◌, subst, ℕ, List}
 use Rattle.std.specs.Prelude.{Option, Some, None}
 use Rattle.devices.specs.Devices.{AppendsBeginning}
-use Rattle.explore.specs.Run.{PrintsBeginning, SaysInput}
+use Rattle.playing.specs.Run.{PrintsBeginning, SaysInput}
 use Rattle.grammar.specs.Scripted.{Scripted}
 use Rattle.grammar.specs.declared.commands.Command.{Command}
 use Rattle.grammar.specs.declared.commands.QueueLine.{QueueLine}

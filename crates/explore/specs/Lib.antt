@@ -1,9 +1,2 @@
-pub mod Prints
-pub mod Steps
-pub mod Play
-pub mod Transcript
-pub mod Run
-pub mod Acts
 pub mod Points
-pub mod Stopped
 pub mod Reports

@@ -2,8 +2,8 @@
 
 ghost use Rattle.std.specs.Prelude.{◌≡◌, IfErr};
 
-use crate::crashing::Point;
 use crate::evictions::{Evictions, evicted_count};
+use crate::point::Point;
 use crate::sweep::Report;
 use grammar::QueueLine;
 use interleave::Act;

@@ -3,18 +3,16 @@
 ghost use Rattle.std.specs.Prelude.{◌≡◌, ◌<◌, ◌≤◌, ◌++◌, OnOk, IfOk, IfErr, length, map, string_bytes};
 ghost use Rattle.words.specs.declared.limits.TheConstants.{MAX_CLIENTS};
 ghost use Rattle.explore.specs.Points.{found_of};
-ghost use Rattle.explore.specs.Prints.{values_text};
+ghost use Rattle.playing.specs.Prints.{values_text};
 ghost use Rattle.explore.specs.Reports.{calls_text, content_text, end_text, steps_text, told_all_text, point_text, points_text, report_text, stopped_text, most_steps as most_steps_of};
 
-use crate::answered::Alone;
-use crate::crashing::Point;
 use crate::evictions::Evictions;
 use crate::page::{Setting, page};
-use crate::recording::accepted_acts;
-use crate::stopped::alone;
+use crate::point::Point;
 use crate::sweep::{Report, watched_points};
 use crate::watch::Watch;
 use grammar::Script;
+use playing::{Alone, accepted_acts, alone};
 use std::alloc::Global;
 use std::fmt::Write;
 use std::thread::Threads;
@@ -155,6 +153,7 @@ pub(crate) fn pictured_points<R: Threads + Sync, W: Watch>(
     };
     let report = watched_points(rt, alloc, script, evictions, watch)?;
     let text = report_text(alloc, queue.clients as usize, &report)?;
+    // A report has no acts, so they are found once more.
     let layout = queue.layout()?;
     let setting = Setting {
         queue,

@@ -279,7 +279,7 @@ fn write_word(
     )
 }
 
-/// What is drawn: the frames, the words, how many clients there are, and how far to the right and down the picture ends.
+/// What is drawn: the frames, the words, how many clients there are, and how far right and down the picture ends.
 #[derive(Clone, Copy)]
 struct Picture<'a> {
     frames: &'a [Frame],

@@ -4,7 +4,7 @@ use Rattle.words.specs.Refusal.{refusal_text}
 use Rattle.words.specs.declared.refusal.Refusal.TheVariants.{BadLine}
 use Rattle.grammar.specs.Lines.{lines_of}
 use Rattle.grammar.specs.Script.{Says, IsFirstBad}
-use Rattle.explore.specs.Transcript.{script_text}
+use Rattle.playing.specs.Transcript.{script_text}
 use Rattle.grammar.specs.declared.commands.Command.{Command}
 use Rattle.grammar.specs.declared.commands.QueueLine.{QueueLine}
 

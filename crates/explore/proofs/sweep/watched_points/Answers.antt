@@ -1,6 +1,6 @@
 use Rattle.std.proofs.Common.{◌≡◌, Ok, map, sym, ap, ◌∙◌}
 use Rattle.grammar.specs.Grammar.{shape_by}
-use Rattle.explore.specs.Acts.{acts_of}
+use Rattle.playing.specs.Acts.{acts_of}
 use Rattle.explore.specs.Points.{found_of}
 use Rattle.grammar.specs.Scripted.{Scripted}
 use Rattle.explore.proofs.Sweeps.{points_are, all_ok}
