@@ -1,4 +1,4 @@
--- What a crash comes to, act by act.
+-- A crash comes to what its acts leave: those up to the point, the evictions, and then recovery's.
 use Rattle.std.proofs.Common.{◌≡◌, refl, ℕ, false, List, map, replicate, ap, ◌∙◌}
 use Rattle.arena.specs.Layout.{size_of}
 use Rattle.arena.specs.Shape.{Shape}
@@ -7,7 +7,7 @@ use Rattle.protocol.specs.declared.acts.Act.TheVariants.{Evict, Recover}
 use Rattle.interleave.specs.State.{State, new_world, after_acts, after_crash, taken_of, most_to_ready}
 use Rattle.explore.specs.Points.{crashed_world, evicted_words, found_in, found_by_recovery, recovery_of, found_after}
 use Rattle.explore.specs.declared.evictions.Evictions.{Evictions}
-use Rattle.explore.proofs.Shapes.{after_acts_shape}
+use Rattle.playing.proofs.Shapes.{after_acts_shape}
 
 pub evictions_of : Shape → Evictions → ℕ → List (Act ℕ)
 evictions_of s evictions point = map Evict (evicted_words evictions (size_of s) point)

@@ -1,4 +1,4 @@
--- Drawn words are the first and then the rest.
+-- What draws evict, and how many words, is what the first draw does and then the rest.
 use Rattle.std.proofs.Common.{◌≡◌, ◌+◌, ◌%◌, ◌==◌, ℕ, suc, map, refl, sym, ap, eq-eqb, ne_eqb, ◌∙◌, List, ◌∷◌, true, false, length, arith}
 use Rattle.std.specs.Prelude.{Bool, if◌then◌else◌}
 use Rattle.protocol.specs.declared.acts.Act.TheVariants.{Evict}

@@ -1,4 +1,4 @@
--- What is found in a world is explained by its order.
+-- What is found in a world is explained by its order, so its point is ok.
 use Rattle.std.proofs.Common.{◌≡◌, refl, sym, subst, ap, ◌∙◌, ℕ, List, map}
 use Rattle.std.specs.Prelude.{Bool, IsTrue}
 use Rattle.std.specs.List.{range_with_len}
@@ -14,7 +14,7 @@ use Rattle.events.specs.declared.event.Order.{Order}
 use Rattle.interleave.specs.Holds.{IsExplained as IsWorldExplained}
 use Rattle.interleave.specs.State.{State, order_in, kept_content}
 use Rattle.explore.specs.Points.{found_in}
-use Rattle.explore.specs.Transcript.{told_at}
+use Rattle.playing.specs.Transcript.{told_at}
 
 -- a world's history and order, as its calls show them
 pub record AreOf (w : State) (h : History) (o : Order) : Type 0 where

@@ -1,11 +1,11 @@
--- A beginning of what is printed.
+-- A beginning of the text of a script is one of what is printed of it.
 use Rattle.std.proofs.Common.{◌≡◌, subst, ℕ, List}
 use Rattle.std.specs.Prelude.{Option, Some, None}
 use Rattle.devices.specs.Devices.{AppendsBeginning}
-use Rattle.explore.specs.Run.{PrintsBeginning, SaysInput}
-use Rattle.explore.specs.Scripted.{Scripted}
-use Rattle.explore.specs.declared.command.Command.{Command}
-use Rattle.explore.specs.declared.command.QueueLine.{QueueLine}
+use Rattle.playing.specs.Run.{PrintsBeginning, SaysInput}
+use Rattle.grammar.specs.Scripted.{Scripted}
+use Rattle.grammar.specs.declared.commands.Command.{Command}
+use Rattle.grammar.specs.declared.commands.QueueLine.{QueueLine}
 
 pub begins : (printed : Option QueueLine → List Command → List ℕ) (input old new : Option (List ℕ)) (script : Scripted)
     (text : List ℕ) → SaysInput input script → AppendsBeginning old new text

@@ -1,4 +1,4 @@
--- Points that are made side by side, and one batch after another.
+-- Points that are made side by side, one batch after another, are the script's, and none is bad.
 use Rattle.std.proofs.Common.{◌≡◌, refl, sym, subst, ap, ◌∙◌, arith, ℕ, zero, suc, ◌+◌, ◌-◌, ◌<◌, ◌≤◌, List, [], ◌∷◌, ◌++◌, length, map, get_or, take, length-append, Vec, Global}
 use Rattle.std.proofs.lemmas.List.{map-append}
 use Rattle.std.proofs.lemmas.List.FromFn.{length-map-range_with_len}
@@ -12,13 +12,14 @@ use Rattle.rayon.specs.Shown.{run-append}
 use Rattle.arena.specs.Shape.{Shape}
 use Rattle.protocol.specs.declared.acts.Act.{Act}
 use Rattle.interleave.specs.State.{after_acts, taken_of}
-use Rattle.explore.specs.Acts.{acts_of, shape_by}
+use Rattle.grammar.specs.Grammar.{shape_by}
+use Rattle.playing.specs.Acts.{acts_of}
 use Rattle.explore.specs.Points.{Found, crashed_world, found_of, found_at, points_on, points_of, recovery_of}
-use Rattle.explore.specs.declared.command.Command.{Command}
-use Rattle.explore.specs.declared.command.QueueLine.{QueueLine}
+use Rattle.grammar.specs.declared.commands.Command.{Command}
+use Rattle.grammar.specs.declared.commands.QueueLine.{QueueLine}
 use Rattle.explore.specs.declared.evictions.Evictions.{Evictions}
 use Rattle.explore.proofs.Explained.{found_ok}
-use Rattle.explore.specs.declared.crashing.Point.{Point}
+use Rattle.explore.specs.declared.point.Point.{Point}
 
 -- what is to be made at a number, or want of memory
 abbrev pub Makes : (ℕ → Found) → ℕ → Result Point Refusal → Type 0

@@ -1,4 +1,4 @@
--- Text that is written part by part.
+-- Text that is written part by part has all of its parts.
 use Rattle.std.proofs.Common.{◌≡◌, ap, ◌∙◌, ℕ, List, ◌++◌, append_assoc}
 
 -- some parts, and then the next

@@ -1,15 +1,2 @@
-pub mod Lines
-pub mod Limits
-pub mod Grammar
-pub mod Scripted
-pub mod Rows
-pub mod Script
-pub mod Prints
-pub mod Steps
-pub mod Play
-pub mod Transcript
-pub mod Run
-pub mod Acts
 pub mod Points
-pub mod Stopped
 pub mod Reports

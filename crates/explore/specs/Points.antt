@@ -11,11 +11,12 @@ use Rattle.arena.specs.Shape.{Shape}
 use Rattle.protocol.specs.declared.acts.Act.{Act}
 use Rattle.protocol.specs.declared.acts.Act.TheVariants.{Evict, Recover}
 use Rattle.interleave.specs.State.{State, new_world, after_acts, taken_of, after_crash, kept_content, most_to_ready}
-use Rattle.explore.specs.Acts.{acts_of, shape_by}
-use Rattle.explore.specs.Transcript.{told_at}
-use Rattle.explore.specs.declared.command.Command.{Command}
-use Rattle.explore.specs.declared.command.QueueLine.{QueueLine}
-use Rattle.explore.specs.declared.crashing.Point.{Point}
+use Rattle.grammar.specs.Grammar.{shape_by}
+use Rattle.playing.specs.Acts.{acts_of}
+use Rattle.playing.specs.Transcript.{told_at}
+use Rattle.grammar.specs.declared.commands.Command.{Command}
+use Rattle.grammar.specs.declared.commands.QueueLine.{QueueLine}
+use Rattle.explore.specs.declared.point.Point.{Point}
 use Rattle.explore.specs.declared.evictions.Evictions.{Evictions}
 use Rattle.explore.specs.declared.evictions.Evictions.TheVariants.{None as no_word, All, Drawn}
 

@@ -2,15 +2,15 @@
 use Rattle.std.specs.Prelude.{ℕ, ◌+◌, Bool, true, false, List, [], ◌∷◌, ◌++◌, Option, Some, None, length, take, fold, max, codes, decimal}
 use Rattle.std.specs.List.{flat_map}
 use Rattle.words.specs.PlainQueue.{Value}
-use Rattle.words.specs.Text.{reply_text, told_text}
+use Rattle.words.specs.Text.{told_text}
 use Rattle.words.specs.declared.told.Told.{Told}
-use Rattle.explore.specs.Acts.{shape_by}
+use Rattle.grammar.specs.Grammar.{shape_by}
 use Rattle.explore.specs.Points.{Found, points_on}
-use Rattle.explore.specs.Prints.{values_text}
-use Rattle.explore.specs.Stopped.{alone_on}
-use Rattle.explore.specs.declared.answered.Alone.{Alone}
-use Rattle.explore.specs.declared.command.Command.{Command}
-use Rattle.explore.specs.declared.command.QueueLine.{QueueLine}
+use Rattle.playing.specs.Prints.{values_text}
+use Rattle.playing.specs.Stopped.{alone_on, alone_text}
+use Rattle.playing.specs.declared.answers.Alone.{Alone}
+use Rattle.grammar.specs.declared.commands.Command.{Command}
+use Rattle.grammar.specs.declared.commands.QueueLine.{QueueLine}
 use Rattle.explore.specs.declared.evictions.Evictions.{Evictions}
 
 -- what clients are told, parted by commas
@@ -57,12 +57,7 @@ points_text evictions None commands = []
 points_text evictions (Some queue) commands =
     report_text queue.clients (points_on (shape_by queue) commands evictions) 0
 
--- a call that went on alone
-abbrev pub alone_text : Alone → List ℕ
-alone_text alone =
-    codes "point " ++ decimal alone.point ++ codes " client " ++ decimal alone.client.0 ++ codes ": "
-    ++ reply_text alone.reply ++ codes " steps " ++ decimal alone.steps
-
+-- a call that went on alone, and a newline
 abbrev pub ended_alone_text : Alone → List ℕ
 ended_alone_text alone = alone_text alone ++ codes "\n"
 

@@ -37,6 +37,7 @@ fn evict_all(world: &mut World, words: usize)
     ensures { world.new.now ≡ after_acts world.old.now (map Evict (range_with_len 0 words)) }
 {
     for word in 0..words {
+        // These are the words of the layout, so none is refused.
         let _ = world.evict(word);
     }
 }

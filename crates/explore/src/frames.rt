@@ -1,15 +1,13 @@
 //! What each act of a script does: the answer that it gives, and the words that differ after it.
 
 ghost use Rattle.std.specs.Prelude.{◌≡◌, IfErr};
-ghost use Rattle.explore.specs.Grammar.{IsServedQueue};
+ghost use Rattle.grammar.specs.Grammar.{IsServedQueue};
 
-use crate::attempts::attempt;
-use crate::command::{Command, QueueLine};
-use crate::lists::push;
-use crate::recording::accepted_acts;
 use arena::Layout;
+use grammar::{Command, QueueLine};
 use interleave::{Act, World};
 use persist::KeptWords;
+use playing::{accepted_acts, attempt};
 use std::alloc::Global;
 use words::{Refusal, Reply};
 
@@ -52,19 +50,18 @@ fn differing(alloc: Global, world: &World) -> Result<Vec<Differs>, Refusal>
     let mut differs = Vec::new(alloc);
     for change in memory.changes() {
         let word = change.0 as usize;
+        // Every change is of a word that there is: the clause of `changes` says so by its definition alone.
         let kept = if word < memory.size() {
             memory.kept(word)
         } else {
             0
         };
-        push(
-            &mut differs,
-            Differs {
-                word: change.0,
-                cached: change.1,
-                kept,
-            },
-        )?;
+        let differs_here = Differs {
+            word: change.0,
+            cached: change.1,
+            kept,
+        };
+        differs.push(differs_here).map_err(|_| Refusal::NoMemory)?;
     }
     Ok(differs)
 }
@@ -78,14 +75,12 @@ fn frames_on(alloc: Global, layout: Layout, acts: &[Act]) -> Result<Vec<Frame>, 
     for act in acts {
         let reply = make(&mut world, act)?;
         let differs = differing(alloc, &world)?;
-        push(
-            &mut frames,
-            Frame {
-                act: *act,
-                reply,
-                differs,
-            },
-        )?;
+        let frame = Frame {
+            act: *act,
+            reply,
+            differs,
+        };
+        frames.push(frame).map_err(|_| Refusal::NoMemory)?;
     }
     Ok(frames)
 }

@@ -2,10 +2,10 @@
 
 ghost use Rattle.std.specs.Prelude.{◌≡◌, IfErr};
 
-use crate::command::QueueLine;
-use crate::crashing::Point;
 use crate::evictions::{Evictions, evicted_count};
+use crate::point::Point;
 use crate::sweep::Report;
+use grammar::QueueLine;
 use interleave::Act;
 use std::alloc::{AllocError, Global};
 use std::fmt::{self, Write};

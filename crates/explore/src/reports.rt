@@ -3,18 +3,16 @@
 ghost use Rattle.std.specs.Prelude.{◌≡◌, ◌<◌, ◌≤◌, ◌++◌, OnOk, IfOk, IfErr, length, map, string_bytes};
 ghost use Rattle.words.specs.declared.limits.TheConstants.{MAX_CLIENTS};
 ghost use Rattle.explore.specs.Points.{found_of};
-ghost use Rattle.explore.specs.Prints.{values_text};
+ghost use Rattle.playing.specs.Prints.{values_text};
 ghost use Rattle.explore.specs.Reports.{calls_text, content_text, end_text, steps_text, told_all_text, point_text, points_text, report_text, stopped_text, most_steps as most_steps_of};
 
-use crate::answered::Alone;
-use crate::crashing::Point;
 use crate::evictions::Evictions;
 use crate::page::{Setting, page};
-use crate::recording::accepted_acts;
-use crate::script::Script;
-use crate::stopped::alone;
+use crate::point::Point;
 use crate::sweep::{Report, watched_points};
 use crate::watch::Watch;
+use grammar::Script;
+use playing::{Alone, accepted_acts, alone};
 use std::alloc::Global;
 use std::fmt::Write;
 use std::thread::Threads;
@@ -128,7 +126,7 @@ pub(crate) fn points_text<R: Threads + Sync, W: Watch>(
     ensures text { IfOk result (λ text. text.items ≡ points_text evictions script.now.queue script.now.commands) }
     ensures errors { IfErr result (λ e. e ≡ Refusal.NoMemory) }
 {
-    let Some(queue) = script.queue else {
+    let Some(queue) = script.queue() else {
         return Ok(Vec::new(alloc));
     };
     let report = watched_points(rt, alloc, script, evictions, watch)?;
@@ -147,7 +145,7 @@ pub(crate) fn pictured_points<R: Threads + Sync, W: Watch>(
         ≡ points_text evictions script.now.queue script.now.commands) }
     ensures errors { IfErr result (λ e. e ≡ Refusal.NoMemory) }
 {
-    let Some(queue) = script.queue else {
+    let Some(queue) = script.queue() else {
         return Ok(Pictured {
             text: Vec::new(alloc),
             page: Vec::new(alloc),
@@ -155,10 +153,11 @@ pub(crate) fn pictured_points<R: Threads + Sync, W: Watch>(
     };
     let report = watched_points(rt, alloc, script, evictions, watch)?;
     let text = report_text(alloc, queue.clients as usize, &report)?;
+    // A report has no acts, so they are found once more.
     let layout = queue.layout()?;
     let setting = Setting {
         queue,
-        acts: accepted_acts(alloc, layout, &script.commands)?,
+        acts: accepted_acts(alloc, layout, script.commands())?,
         evictions,
         words: layout.size(),
     };
@@ -197,7 +196,7 @@ pub(crate) fn stopped_text(alloc: Global, script: &Script) -> Result<Vec<u8>, Re
     ensures text { IfOk result (λ text. text.items ≡ stopped_text script.now.queue script.now.commands) }
     ensures errors { IfErr result (λ e. e ≡ Refusal.NoMemory) }
 {
-    if script.queue.is_none() {
+    if script.queue().is_none() {
         return Ok(Vec::new(alloc));
     }
     calls_text(alloc, &alone(alloc, script)?)

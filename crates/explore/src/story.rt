@@ -2,10 +2,9 @@
 
 ghost use Rattle.std.specs.Prelude.{◌≡◌, IfErr};
 
-use crate::command::QueueLine;
 use crate::frames::{Differs, Frame, frames};
 use crate::page::Spelt;
-use crate::script::Script;
+use grammar::{QueueLine, Script};
 use interleave::Act;
 use std::alloc::{AllocError, Global};
 use std::fmt::Write;
@@ -280,7 +279,7 @@ fn write_word(
     )
 }
 
-/// What is drawn: the frames, the words, how many clients there are, and how far to the right and down the picture ends.
+/// What is drawn: the frames, the words, how many clients there are, and how far right and down the picture ends.
 #[derive(Clone, Copy)]
 struct Picture<'a> {
     frames: &'a [Frame],
@@ -433,10 +432,10 @@ fn write_page(
 pub(crate) fn story(alloc: Global, script: &Script) -> Result<Vec<u8>, Refusal>
     ensures errors { IfErr result (λ e. e ≡ Refusal.NoMemory) }
 {
-    let Some(queue) = script.queue else {
+    let Some(queue) = script.queue() else {
         return Ok(Vec::new(alloc));
     };
-    let frames = frames(alloc, queue, &script.commands)?;
+    let frames = frames(alloc, queue, script.commands())?;
     let mut text = String::new(alloc);
     match write_page(alloc, &mut text, queue, &frames) {
         Ok(()) => Ok(text.into_bytes()),

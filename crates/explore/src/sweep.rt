@@ -1,18 +1,17 @@
 //! A crash at every point of a script.
 
-ghost use Rattle.std.specs.Prelude.{◌≡◌, ◌+◌, ◌-◌, ◌<◌, ◌≤◌, IfOk, IfErr, length, map, not, count_by};
+ghost use Rattle.std.specs.Prelude.{◌≡◌, ◌+◌, ◌-◌, ◌<◌, ◌≤◌, ◌++◌, OnOk, IfOk, IfErr, length, map, not, count_by};
 ghost use Rattle.std.specs.List.{range_with_len};
 ghost use Rattle.explore.specs.Points.{found_of, found_at, points_of};
 
-use crate::crashing::{Point, crash};
 use crate::evictions::Evictions;
-use crate::lists::append;
-use crate::recording::accepted_acts;
-use crate::script::Script;
+use crate::point::{Point, crash};
 use crate::spare::Spare;
 use crate::watch::{Unwatched, Watch};
 use arena::Layout;
+use grammar::Script;
 use interleave::Act;
+use playing::accepted_acts;
 use rayon::prelude::*;
 use std::alloc::Global;
 use std::thread::Threads;
@@ -34,6 +33,8 @@ struct Schedule {
     evictions: Evictions,
 }
 
+// Points of one batch cost about the same, so no thread waits long for another. Between two batches `watch` is told how
+// far the run is.
 /// How many points are made at once.
 const AT_ONCE: usize = 256;
 
@@ -67,6 +68,7 @@ fn some_points<R: Threads + Sync>(
 {
     let made: Result<Result<Vec<Point>, Refusal>, _> = (from..to)
         .into_par_iter()
+        // A point is much work: `rayon` would make a whole batch in one thread.
         .with_min_len(1)
         .map_init(
             || Spare::none(),
@@ -90,6 +92,14 @@ fn some_points<R: Threads + Sync>(
         Ok(points) => points,
         Err(_) => Err(Refusal::NoMemory),
     }
+}
+
+/// Adds a batch of points, in their order.
+fn append(points: &mut Vec<Point>, mut batch: Vec<Point>) -> Result<(), Refusal>
+    ensures points { OnOk result (points.new.items ≡ points.old.items ++ batch.items) }
+    ensures errors { IfErr result (λ e. e ≡ Refusal.NoMemory) }
+{
+    points.append(&mut batch).map_err(|_| Refusal::NoMemory)
 }
 
 /// All points of a schedule.
@@ -156,11 +166,11 @@ pub fn watched_points<R: Threads + Sync, W: Watch>(
     ensures bad { IfOk result (λ report. report.bad ≡ 0) }
     ensures errors { IfErr result (λ e. e ≡ Refusal.NoMemory) }
 {
-    let Some(queue) = script.queue else {
+    let Some(queue) = script.queue() else {
         return Ok(report_of(Vec::new(alloc)));
     };
     let layout = queue.layout()?;
-    let acts = accepted_acts(alloc, layout, &script.commands)?;
+    let acts = accepted_acts(alloc, layout, script.commands())?;
     let schedule = Schedule {
         layout,
         acts,

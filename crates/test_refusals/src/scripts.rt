@@ -2,10 +2,9 @@
 
 use anyhow::Result;
 use devices::{CountedWriter, FaultyReader};
-use explore::{
-    Evictions, Script, Watch, alone, parse_script, points, run, run_alone, run_page, run_points,
-    transcript, watched_points,
-};
+use explore::{Evictions, Watch, points, run, run_alone, run_page, run_points, watched_points};
+use grammar::{Script, parse_script};
+use playing::{alone, transcript};
 use std::alloc::Global;
 use std::thread::Threads;
 use test_growths::{MOST_TRIES, Written, made, say_again, text_of};
@@ -96,9 +95,9 @@ fn work_at_last<R: Threads + Sync + Print + AllocGlobal>(
 /// The calls on a script, one after another.
 fn tell_of<R: Threads + Sync + Print + AllocGlobal>(rt: &R, script: &Script) -> Result<()> {
     let alloc = rt.alloc();
-    let printed = made(rt, "explore::transcript", || transcript(alloc, script))?;
+    let printed = made(rt, "playing::transcript", || transcript(alloc, script))?;
     print!(rt; "{}", text_of(&printed))?;
-    let stopped = made(rt, "explore::alone", || alone(alloc, script))?;
+    let stopped = made(rt, "playing::alone", || alone(alloc, script))?;
     println!(rt; "alone: {}", stopped.len())?;
     let report = made(
         rt,
@@ -126,7 +125,7 @@ pub(crate) fn tell<R: Threads + Sync + Print + AllocGlobal>(rt: &R) -> Result<()
         println!(rt; "# A script")?;
         let script = made(
             rt,
-            "explore::parse_script",
+            "grammar::parse_script",
             || parse_script(alloc, text.as_bytes()),
         )?;
         tell_of(rt, &script)?;

@@ -2,11 +2,11 @@
 use Rattle.std.specs.Prelude.{◌≡◌, ◌⊎◌, ℕ, List, ◌++◌, Option, codes, decimal}
 use Rattle.words.specs.Refusal.{refusal_text}
 use Rattle.words.specs.declared.refusal.Refusal.TheVariants.{BadLine}
-use Rattle.explore.specs.Lines.{lines_of}
-use Rattle.explore.specs.Script.{Says, IsFirstBad}
-use Rattle.explore.specs.Transcript.{script_text}
-use Rattle.explore.specs.declared.command.Command.{Command}
-use Rattle.explore.specs.declared.command.QueueLine.{QueueLine}
+use Rattle.grammar.specs.Lines.{lines_of}
+use Rattle.grammar.specs.Script.{Says, IsFirstBad}
+use Rattle.playing.specs.Transcript.{script_text}
+use Rattle.grammar.specs.declared.commands.Command.{Command}
+use Rattle.grammar.specs.declared.commands.QueueLine.{QueueLine}
 
 -- `line 3: 28 BadLine`
 abbrev pub bad_line : ℕ → List ℕ

@@ -3,7 +3,8 @@
 ghost use Rattle.std.specs.Prelude.{◌≡◌, ◌↔◌, IsTrue, IfOk, IfErr};
 ghost use Rattle.test_scenarios.specs.Printed.{bad_line, IsPrintOf};
 
-use explore::{parse_script, transcript};
+use grammar::parse_script;
+use playing::transcript;
 use std::alloc::Global;
 use words::Refusal;
 

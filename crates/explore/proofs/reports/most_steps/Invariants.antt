@@ -1,6 +1,6 @@
 use Rattle.std.proofs.Common.{◌≡◌, drop, fold, max}
 use Rattle.explore.specs.Reports.{most_steps}
-use Rattle.explore.specs.declared.answered.Alone.{Alone}
+use Rattle.playing.specs.declared.answers.Alone.{Alone}
 use Rattle.explore.proofs.reports.most_steps.Given as goal
 
 -- the calls that are left bring what all of them do

@@ -1,6 +1,6 @@
 use Rattle.std.proofs.Common.{◌≡◌, ◌++◌, take, string_bytes}
 use Rattle.std.specs.List.{flat_map}
-use Rattle.explore.specs.Prints.{spaced_value}
+use Rattle.playing.specs.Prints.{spaced_value}
 use Rattle.explore.proofs.reports.write_values.Given as goal
 
 -- the values so far are written

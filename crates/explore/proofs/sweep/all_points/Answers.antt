@@ -12,6 +12,6 @@ made-preserved g c =
     let up : length old ≤ c.end_of_batch-to.result = omega (arith, c.end_of_batch-to.ensures.later) in
     let more = c.in_ok-more.ensures.points
     ∙ ap (λ n. map f (range_with_len n (c.end_of_batch-to.result - n))) (c.len-from.ensures ∙ c.made.points.ok.0) in
-    let both = more_made f old c.in_ok-more.more.items c.append.new.items.items c.end_of_batch-to.result
-    c.in_ok-append.ensures.items up c.made.invariant.made more in
+    let both = more_made f old c.in_ok-more.more.items c.append.new.points.items c.end_of_batch-to.result
+    c.in_ok-append.ensures.points up c.made.invariant.made more in
     record { few = omega (arith, both.1, c.end_of_batch-to.ensures.within); made = both.0 }

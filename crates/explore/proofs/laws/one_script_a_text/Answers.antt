@@ -1,5 +1,0 @@
-use Rattle.explore.proofs.Unique.{same_script}
-use Rattle.explore.proofs.laws.one_script_a_text.Goals as goal
-
-pub returns : goal.returns
-returns c = same_script

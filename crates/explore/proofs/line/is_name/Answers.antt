@@ -1,9 +1,0 @@
-use Rattle.std.proofs.Common.{ap}
-use Rattle.std.proofs.lemmas.Bool.{false≢true}
-use Rattle.std.specs.Prelude.{is_some}
-use Rattle.explore.proofs.Cuts.{second_word}
-use Rattle.explore.proofs.line.is_name.Goals as goal
-
-pub returns-in_default-Some : goal.returns-in_default-Some
-returns-in_default-Some c =
-    (λ h. absurd (false≢true h), λ is. absurd (second_word c.first_word.result.1 c.args.line.now c.first_word.result.0.now c.first_word.ensures (ap is_some c.in_default-Some.is-1) c.args.name.now is))

@@ -1,9 +1,0 @@
-use Rattle.std.proofs.Common.{◌≤◌, subst}
-use Rattle.interleave.specs.State.{steps_to_ready}
-use Rattle.explore.specs.Play.{Play, most_recovery}
-use Rattle.explore.proofs.player.Player.recover_step.Goals as goal
-
-pub returns-else-ready-clause-few : goal.returns-else-ready-clause-few
-unfolding most_recovery
-returns-else-ready-clause-few c going =
-    subst (λ (p : Play). steps_to_ready p.world ≤ most_recovery p.world) c.self.view_is c.recover_step.ensures.few

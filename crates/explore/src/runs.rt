@@ -1,0 +1,155 @@
+//! A script from a reader, followed to a writer.
+
+ghost use Rattle.std.specs.Prelude.{◌<◌, ◌↔◌, OnOk, IfErr, IsErrOf};
+ghost use Rattle.devices.specs.Devices.{IsFlushed};
+ghost use Rattle.explore.specs.Reports.{points_text, stopped_text};
+ghost use Rattle.playing.specs.Run.{Prints, PrintsBeginning, IsRunRefusal, NamesBadLine, WritesNothing};
+ghost use Rattle.playing.specs.Transcript.{script_text};
+
+use crate::evictions::Evictions;
+use crate::reports::{pictured_points, points_text, stopped_text};
+use crate::story::story;
+use crate::watch::Watch;
+use devices::{MAX_FAILURES, Reader, Writer};
+use playing::{print, read_script, transcript};
+use std::alloc::Global;
+use std::thread::Threads;
+use words::Refusal;
+
+/// Reads the whole script before anything runs, follows it, and writes what it prints.
+pub fn run<R: Reader, W: Writer>(
+    alloc: Global,
+    reader: &mut R,
+    writer: &mut W,
+) -> Result<(), Refusal>
+    requires reads { R.failures reader.old < MAX_FAILURES }
+    requires writes { W.failures writer.old < MAX_FAILURES }
+    ensures printed { OnOk result
+        (Prints script_text (R.left reader.old) (W.written writer.old) (W.written writer.new)) }
+    ensures flushed { OnOk result (IsFlushed (W.written writer.new) (W.flushed writer.new)) }
+    ensures refusals { IfErr result IsRunRefusal }
+    ensures read_failed { IsErrOf result Refusal.ReadFailed ↔ (R.failures reader.old < R.failures reader.new) }
+    ensures write_failed { IsErrOf result Refusal.WriteFailed ↔ (W.failures writer.old < W.failures writer.new) }
+    ensures bad_line { IfErr result (NamesBadLine (R.left reader.old)) }
+    ensures unwritten { IfErr result (WritesNothing (W.written writer.old) (W.written writer.new)) }
+    ensures beginning { IsErrOf result Refusal.WriteFailed
+        → PrintsBeginning script_text (R.left reader.old) (W.written writer.old) (W.written writer.new) }
+{
+    let script = read_script(alloc, reader)?;
+    let printed = transcript(alloc, &script)?;
+    print(writer, &printed)
+}
+
+/// Reads the whole script before anything runs, follows it, and writes what it prints, as `run` does. It answers a page
+/// that shows its acts, one by one: an HTML file, empty where the script has no queue.
+pub fn run_story<R: Reader, W: Writer>(
+    alloc: Global,
+    reader: &mut R,
+    writer: &mut W,
+) -> Result<Vec<u8>, Refusal>
+    requires reads { R.failures reader.old < MAX_FAILURES }
+    requires writes { W.failures writer.old < MAX_FAILURES }
+    ensures printed { OnOk result
+        (Prints script_text (R.left reader.old) (W.written writer.old) (W.written writer.new)) }
+    ensures flushed { OnOk result (IsFlushed (W.written writer.new) (W.flushed writer.new)) }
+    ensures refusals { IfErr result IsRunRefusal }
+    ensures read_failed { IsErrOf result Refusal.ReadFailed ↔ (R.failures reader.old < R.failures reader.new) }
+    ensures write_failed { IsErrOf result Refusal.WriteFailed ↔ (W.failures writer.old < W.failures writer.new) }
+    ensures bad_line { IfErr result (NamesBadLine (R.left reader.old)) }
+    ensures unwritten { IfErr result (WritesNothing (W.written writer.old) (W.written writer.new)) }
+    ensures beginning { IsErrOf result Refusal.WriteFailed
+        → PrintsBeginning script_text (R.left reader.old) (W.written writer.old) (W.written writer.new) }
+{
+    let script = read_script(alloc, reader)?;
+    let text = transcript(alloc, &script)?;
+    // The page first: where it is refused memory, nothing is written.
+    let page = story(alloc, &script)?;
+    match print(writer, &text) {
+        Ok(()) => Ok(page),
+        Err(refusal) => Err(refusal),
+    }
+}
+
+/// Reads the whole script before anything runs, and writes what a crash at each of its points comes to. `watch` is told
+/// how many points are made.
+pub fn run_points<H: Threads + Sync, R: Reader, W: Writer, T: Watch>(
+    rt: &H,
+    alloc: Global,
+    reader: &mut R,
+    writer: &mut W,
+    evictions: Evictions,
+    watch: &mut T,
+) -> Result<(), Refusal>
+    requires reads { R.failures reader.old < MAX_FAILURES }
+    requires writes { W.failures writer.old < MAX_FAILURES }
+    ensures printed { OnOk result
+        (Prints (points_text evictions) (R.left reader.old) (W.written writer.old) (W.written writer.new)) }
+    ensures flushed { OnOk result (IsFlushed (W.written writer.new) (W.flushed writer.new)) }
+    ensures refusals { IfErr result IsRunRefusal }
+    ensures read_failed { IsErrOf result Refusal.ReadFailed ↔ (R.failures reader.old < R.failures reader.new) }
+    ensures write_failed { IsErrOf result Refusal.WriteFailed ↔ (W.failures writer.old < W.failures writer.new) }
+    ensures bad_line { IfErr result (NamesBadLine (R.left reader.old)) }
+    ensures unwritten { IfErr result (WritesNothing (W.written writer.old) (W.written writer.new)) }
+    ensures beginning { IsErrOf result Refusal.WriteFailed
+        → PrintsBeginning (points_text evictions) (R.left reader.old) (W.written writer.old) (W.written writer.new) }
+{
+    let script = read_script(alloc, reader)?;
+    let printed = points_text(rt, alloc, &script, evictions, watch)?;
+    print(writer, &printed)
+}
+
+/// Reads the whole script before anything runs, and writes what a crash at each of its points comes to, as `run_points`
+/// does. It answers a page that shows the same: an HTML file, empty where the script has no queue.
+pub fn run_page<H: Threads + Sync, R: Reader, W: Writer, T: Watch>(
+    rt: &H,
+    alloc: Global,
+    reader: &mut R,
+    writer: &mut W,
+    evictions: Evictions,
+    watch: &mut T,
+) -> Result<Vec<u8>, Refusal>
+    requires reads { R.failures reader.old < MAX_FAILURES }
+    requires writes { W.failures writer.old < MAX_FAILURES }
+    ensures printed { OnOk result
+        (Prints (points_text evictions) (R.left reader.old) (W.written writer.old) (W.written writer.new)) }
+    ensures flushed { OnOk result (IsFlushed (W.written writer.new) (W.flushed writer.new)) }
+    ensures refusals { IfErr result IsRunRefusal }
+    ensures read_failed { IsErrOf result Refusal.ReadFailed ↔ (R.failures reader.old < R.failures reader.new) }
+    ensures write_failed { IsErrOf result Refusal.WriteFailed ↔ (W.failures writer.old < W.failures writer.new) }
+    ensures bad_line { IfErr result (NamesBadLine (R.left reader.old)) }
+    ensures unwritten { IfErr result (WritesNothing (W.written writer.old) (W.written writer.new)) }
+    ensures beginning { IsErrOf result Refusal.WriteFailed
+        → PrintsBeginning (points_text evictions) (R.left reader.old) (W.written writer.old) (W.written writer.new) }
+{
+    let script = read_script(alloc, reader)?;
+    let found = pictured_points(rt, alloc, &script, evictions, watch)?;
+    match print(writer, &found.text) {
+        Ok(()) => Ok(found.page),
+        Err(refusal) => Err(refusal),
+    }
+}
+
+/// Reads the whole script before anything runs, and writes what becomes of each call that stopped at one of its points,
+/// where it goes on alone.
+pub fn run_alone<R: Reader, W: Writer>(
+    alloc: Global,
+    reader: &mut R,
+    writer: &mut W,
+) -> Result<(), Refusal>
+    requires reads { R.failures reader.old < MAX_FAILURES }
+    requires writes { W.failures writer.old < MAX_FAILURES }
+    ensures printed { OnOk result
+        (Prints stopped_text (R.left reader.old) (W.written writer.old) (W.written writer.new)) }
+    ensures flushed { OnOk result (IsFlushed (W.written writer.new) (W.flushed writer.new)) }
+    ensures refusals { IfErr result IsRunRefusal }
+    ensures read_failed { IsErrOf result Refusal.ReadFailed ↔ (R.failures reader.old < R.failures reader.new) }
+    ensures write_failed { IsErrOf result Refusal.WriteFailed ↔ (W.failures writer.old < W.failures writer.new) }
+    ensures bad_line { IfErr result (NamesBadLine (R.left reader.old)) }
+    ensures unwritten { IfErr result (WritesNothing (W.written writer.old) (W.written writer.new)) }
+    ensures beginning { IsErrOf result Refusal.WriteFailed
+        → PrintsBeginning stopped_text (R.left reader.old) (W.written writer.old) (W.written writer.new) }
+{
+    let script = read_script(alloc, reader)?;
+    let printed = stopped_text(alloc, &script)?;
+    print(writer, &printed)
+}

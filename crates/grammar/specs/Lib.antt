@@ -1,0 +1,6 @@
+pub mod Lines
+pub mod Limits
+pub mod Grammar
+pub mod Rows
+pub mod Scripted
+pub mod Script

@@ -1,0 +1,10 @@
+use Rattle.std.proofs.Common.{take, flat_map}
+use Rattle.std.specs.Fmt.{HasWritten, IsPlainFormatter}
+use Rattle.playing.specs.Prints.{spaced_value}
+use Rattle.playing.proofs.lines.ValuesDisplay.fmt.Given as goal
+
+-- the values so far are written
+abbrev pub invariant-loop-value : goal.invariant-loop-value
+invariant-loop-value g l =
+    IsPlainFormatter l.initial.f
+    → HasWritten g.W.Write.write_str_gives l.initial.f (flat_map spaced_value (take l.value-index l.value-items)) l.f
