@@ -9,7 +9,7 @@ use Rattle.words.specs.declared.refusal.Refusal.TheVariants.{NoMemory}
 use Rattle.persist.specs.Memory.{Words}
 use Rattle.directory.specs.UnderWay.{HasDirectory, HaveSameDirectory}
 use Rattle.interleave.specs.Rules.{starting, stepping}
-use Rattle.interleave.specs.State.{State, start_result, step_result}
+use Rattle.interleave.specs.State.{State, step_result}
 use Rattle.named.specs.Acting.{IsActAt, IsSameBeside}
 use Rattle.named.specs.Brokers.{Brokered, IsWell, world_at}
 use Rattle.playing.specs.Play.{Play, play_after_start, play_after_step, steps_with}
@@ -155,3 +155,9 @@ by_none play client found (Some reply) answered is none = absurd (cc)
 pub answered_none : (play : Play) (client : Client) (found : Option Line) → IsAnsweredBy play client found → found ≡ None
     → step_result false play.world client ≡ Ok None
 answered_none play client found by none = by_none play client found by.answer by.answered by.is none
+
+-- what holds of the value, and beside it, put together
+pub all_three : {X E : Type 0} {Q R : Type 0} (r : Result X E) (P : X → Type 0) (S : X → Type 0)
+    → ((x : X) → P x → Q → R → S x) → IfOk r P → OnOk r Q → OnOk r R → IfOk r S
+all_three (Ok x) P S put p q s = put x p q s
+all_three (Err e) P S put p q s = tt

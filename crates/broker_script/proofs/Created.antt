@@ -1,7 +1,6 @@
 -- What a creation's step opened is in the directory.
-use Rattle.std.proofs.Common.{◌≡◌, ◌≢◌, refl, sym, ap, ◌∙◌, subst, ℕ, ◌<◌, arith, length}
-use Rattle.std.specs.Prelude.{Option, Some, None, Result, Ok, Err, IfSome, is_some, slice_get, slice_set}
-use Rattle.words.specs.declared.refusal.Refusal.{Refusal}
+use Rattle.std.proofs.Common.{◌≡◌, refl, ap, ◌∙◌, subst, arith}
+use Rattle.std.specs.Prelude.{Option, Some, None, Ok, Err, IfSome, is_some, slice_get, slice_set}
 use Rattle.arena.specs.declared.broker.SlotId.{SlotId}
 use Rattle.directory.proofs.Creations.{set_here}
 use Rattle.directory.specs.Creation.{after_point, next_of, successor}

@@ -1,16 +1,15 @@
 -- How what a broker's script says grows by a line, and that lines say at most one.
-use Rattle.std.proofs.Common.{◌≡◌, ℕ, ◌<◌, ◌≤◌, ◌+◌, ◌-◌, Bool, true, false, cond, List, [], ◌∷◌, ◌++◌, length, take, get_or, filter, map, sym, ap, ap₂, subst, ◌∙◌, arith, refl, length-append, append_assoc}
-use Rattle.std.proofs.lemmas.Bool.{not-false}
+use Rattle.std.proofs.Common.{◌≡◌, ℕ, ◌<◌, ◌≤◌, ◌+◌, ◌-◌, Bool, true, cond, List, [], ◌∷◌, ◌++◌, length, take, get_or, filter, map, sym, ap, ap₂, subst, ◌∙◌, arith, refl, length-append, append_assoc}
 use Rattle.std.proofs.lemmas.List.{map-append, take_more, length-take, append-nil}
 use Rattle.std.proofs.lemmas.List.Elements.{filter-append, All-cons, All-head, All-tail, All-push}
-use Rattle.std.specs.Prelude.{Option, Some, None, All, not}
+use Rattle.std.specs.Prelude.{Option, Some, None, All}
 use Rattle.grammar.specs.Lines.{words_of, is_statement}
 use Rattle.grammar.specs.declared.limits.TheConstants.{MAX_LINES}
-use Rattle.broker_script.specs.Grammar.{broker_words, statement_words, IsServedBroker, IsServedStatement, SaysStatement}
+use Rattle.broker_script.specs.Grammar.{broker_words, statement_words, IsServedStatement, SaysStatement}
 use Rattle.broker_script.specs.Script.{Says, Continues, EndsBadly, IsFirstBad, MayFollowAll, may_follow}
 use Rattle.broker_script.specs.declared.statements.BrokerLine.{BrokerLine}
 use Rattle.broker_script.specs.declared.statements.Statement.{Statement}
-use Rattle.broker_script.proofs.Words.{same_broker, same_statements, same_statement}
+use Rattle.broker_script.proofs.Words.{same_broker, same_statements}
 
 statements_more : (lines : List (List ℕ)) (line : List ℕ) → is_statement line ≡ true
     → map words_of (filter is_statement (lines ++ line ∷ [])) ≡ map words_of (filter is_statement lines) ++ words_of line ∷ []
@@ -25,9 +24,11 @@ one_more lines line few = omega (arith, length-append lines (line ∷ []))
 follows_more : (before statements : List Statement) (next : Statement) → MayFollowAll before statements
     → may_follow (before ++ statements) next ≡ true → MayFollowAll before (statements ++ next ∷ [])
 follows_more before [] next follow may = (ap (λ (b : List Statement). may_follow b next) (sym (append-nil before)) ∙ may, tt)
-follows_more before (statement ∷ statements) next follow may =
-    (follow.0, follows_more (before ++ statement ∷ []) statements next follow.1
-    (ap (λ (b : List Statement). may_follow b next) (append_assoc before (statement ∷ []) statements) ∙ may))
+follows_more before (statement ∷ statements) next follow may = (
+  follow.0,
+  follows_more (before ++ statement ∷ []) statements next follow.1
+      (ap (λ (b : List Statement). may_follow b next) (append_assoc before (statement ∷ []) statements) ∙ may),
+)
 
 -- and the last one of some may
 follows_last : (before statements : List Statement) (next : Statement) → MayFollowAll before (statements ++ next ∷ [])

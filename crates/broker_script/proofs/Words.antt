@@ -1,15 +1,12 @@
 -- Each statement, and each broker, is read back from its words.
-use Rattle.std.proofs.Common.{◌≡◌, ℕ, ◌<◌, ◌≤◌, ◌+◌, ◌-◌, ◌*◌, ◌^◌, ◌==◌, ◌++◌, Bool, true, false, cond, List, [], ◌∷◌, length, slice_index, slice_index_or, take, drop, decimal, sym, ap, ap₂, ◌∙◌, arith, refl, subst, if◌then◌else◌, length-append}
+use Rattle.std.proofs.Common.{◌≡◌, ℕ, ◌+◌, ◌-◌, ◌*◌, ◌==◌, Bool, true, false, List, [], ◌∷◌, length, slice_index, slice_index_or, take, drop, decimal, sym, ap, ◌∙◌, arith, refl, if◌then◌else◌}
 use Rattle.std.proofs.lemmas.List.{length_push}
 use Rattle.std.proofs.Math.Seq.{get_or-append_seam, take-append_seam}
 use Rattle.std.proofs.lemmas.List.Elements.{All-head, All-tail}
-use Rattle.std.specs.Prelude.{Option, Some, None, All, codes, map}
+use Rattle.std.specs.Prelude.{All, codes, map}
 use Rattle.std.specs.Str.Parse.{digits_value}
-use Rattle.arena.specs.Limits.{AreCounts}
-use Rattle.words.specs.declared.call.Client.{Client}
 use Rattle.words.specs.declared.call.Kind.{Kind}
 use Rattle.words.specs.declared.call.Kind.TheVariants.{Durable, Log}
-use Rattle.directory.specs.Name.{IsName}
 use Rattle.grammar.proofs.Unique.{read, command_in, command_back}
 use Rattle.grammar.specs.Grammar.{command_words, kind_word, IsServed}
 use Rattle.grammar.specs.declared.commands.Command.{Command}

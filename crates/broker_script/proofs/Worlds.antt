@@ -1,9 +1,9 @@
 -- The queue of a slot in a broker that is ready is a world that acts as one alone does.
-use Rattle.std.proofs.Common.{◌≡◌, ◌≢◌, refl, sym, ap, ◌∙◌, subst, ℕ, ◌<◌, ◌≤◌, ◌+◌, ◌*◌, Bool, true, false, List, arith, length, get_or, if◌then◌else◌}
+use Rattle.std.proofs.Common.{◌≡◌, ◌≢◌, refl, sym, ap, ◌∙◌, ℕ, ◌<◌, ◌≤◌, Bool, true, false, arith, length, get_or, if◌then◌else◌}
 use Rattle.std.proofs.lemmas.Bool.{false≢true}
 use Rattle.std.proofs.lemmas.Option.{slice_get_past, slice_get_within, slice_get-get_or}
 use borrow.Author.Tests.{ltb-false}
-use Rattle.std.specs.Prelude.{Option, Some, None, Result, Ok, Err, IsSome, is_ok, is_some, nat_lt, slice_get, unwrap_or}
+use Rattle.std.specs.Prelude.{Option, Some, None, Result, Ok, Err, IsSome, is_ok, is_some, slice_get, unwrap_or}
 use Rattle.words.specs.declared.call.Call.{Call}
 use Rattle.words.specs.declared.call.Client.{Client}
 use Rattle.words.specs.declared.call.Reply.{Reply}
@@ -15,7 +15,6 @@ use Rattle.arena.specs.declared.broker.TheConstants.{SLOTS}
 use Rattle.directory.specs.Directory.{HasQueue}
 use Rattle.directory.specs.declared.queue.Queue.{Queue}
 use Rattle.interleave.specs.Calls.{idle_result, is_no_memory, waiting_result}
-use Rattle.interleave.specs.Queue.{number_check}
 use Rattle.interleave.specs.Rules.{Rule, starting, stepping}
 use Rattle.interleave.specs.State.{State, new_world, after_start, after_step, is_down as is_world_down, number_of_idle, start_result, start_result_with, start_with, step_result, step_result_with, step_with}
 use Rattle.protocol.specs.declared.UnderWay.{UnderWay}
@@ -91,20 +90,22 @@ here : {A : Type 0} (rule : Rule A) (slot : ℕ) (client : Client) (old : Broker
     (w : State) → IsActAt rule slot client old result new → admission old client ≡ Ok tt → world_at old slot ≡ Some w
     → is_no_memory result ≡ false
     → (result ≡ rule.answers false w) × (world_at new slot ≡ Some (rule.leaves false w))
-here rule slot client old result new w act may is memory =
-    (act.answers ∙ answer_here (rule.answers (is_no_memory result)) old slot client w may is
-    ∙ ap (λ full. rule.answers full w) memory,
-    act.world
-    ∙ ap (λ (a : Result Unit Refusal). if is_ok a then acted (rule.leaves (is_no_memory result)) (world_at old slot) else world_at old slot) may
-    ∙ ap (acted (rule.leaves (is_no_memory result))) is ∙ ap (λ full. Some (rule.leaves full w)) memory)
+here rule slot client old result new w act may is memory = (
+  act.answers ∙ answer_here (rule.answers (is_no_memory result)) old slot client w may is
+      ∙ ap (λ full. rule.answers full w) memory,
+  act.world
+      ∙ ap (λ (a : Result Unit Refusal). if is_ok a then acted (rule.leaves (is_no_memory result)) (world_at old slot) else world_at old slot) may
+      ∙ ap (acted (rule.leaves (is_no_memory result))) is ∙ ap (λ full. Some (rule.leaves full w)) memory,
+)
 
 away : {A : Type 0} (rule : Rule A) (slot : ℕ) (client : Client) (old : Brokered) (result : Result A Refusal) (new : Brokered)
     → IsActAt rule slot client old result new → admission old client ≡ Err NoClient
     → (result ≡ Err NoClient) × (world_at new slot ≡ world_at old slot)
-away rule slot client old result new act may =
-    (act.answers ∙ ap (λ (a : Result Unit Refusal). answer_if a (answered (rule.answers (is_no_memory result)) (world_at old slot))) may,
-    act.world
-    ∙ ap (λ (a : Result Unit Refusal). if is_ok a then acted (rule.leaves (is_no_memory result)) (world_at old slot) else world_at old slot) may)
+away rule slot client old result new act may = (
+  act.answers ∙ ap (λ (a : Result Unit Refusal). answer_if a (answered (rule.answers (is_no_memory result)) (world_at old slot))) may,
+  act.world
+      ∙ ap (λ (a : Result Unit Refusal). if is_ok a then acted (rule.leaves (is_no_memory result)) (world_at old slot) else world_at old slot) may,
+)
 
 -- a result that is not for want of memory
 pub had_memory : {A : Type 0} (r : Result A Refusal) → r ≢ Err NoMemory → is_no_memory r ≡ false
@@ -146,7 +147,7 @@ by_start : (slot : ℕ) (client : Client) (number : ℕ) (call : Call) (old : Br
     → IsAsAlone (starting client number call) slot old result new
 by_start slot client number call old result new true is act well ready there_is memory =
     let both = here (starting client number call) slot client old result new (the_world old slot) act
-        (admitted old client is ready) there_is memory in
+    (admitted old client is ready) there_is memory in
     record { answers = both.0; world = both.1 }
 by_start slot client number call old result new false is act well ready there_is memory =
     let none = no_place old well slot (the_world old slot) there_is client is in
@@ -171,7 +172,7 @@ by_step : (slot : ℕ) (client : Client) (old : Brokered) (result : Result (Opti
     → IsAsAlone (stepping client) slot old result new
 by_step slot client old result new true is act well ready there_is memory =
     let both = here (stepping client) slot client old result new (the_world old slot) act
-        (admitted old client is ready) there_is memory in
+    (admitted old client is ready) there_is memory in
     record { answers = both.0; world = both.1 }
 by_step slot client old result new false is act well ready there_is memory =
     let none = no_place old well slot (the_world old slot) there_is client is in

@@ -1,6 +1,5 @@
 -- The lines of a broker's script, each as its words, and the limits of the numbers in them.
 use Rattle.std.specs.Prelude.{◌≡◌, ◌≤◌, ℕ, Bool, true, false, List, [], ◌∷◌, ◌++◌, codes, decimal}
-use Rattle.words.specs.declared.call.Kind.{Kind}
 use Rattle.arena.specs.Limits.{AreCounts}
 use Rattle.directory.specs.Name.{IsName}
 use Rattle.grammar.specs.Grammar.{command_words, kind_word, IsServed}

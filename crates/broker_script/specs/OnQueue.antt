@@ -55,13 +55,14 @@ abbrev pub has_line : Kind → Command → Bool
 has_line kind command = is_on kind command && not (is_whole command)
 
 -- a queue's line was refused, and nothing changed
-pub record IsRefusedOn (old : Played) (name : List ℕ) (refusal : Refusal) (lines : List Printed) (new : Played) : Type 0 where
+pub record IsRefusedOn (old : Played) (name : List ℕ) (refusal : Refusal) (lines : List Printed) (new : Played)
+    : Type 0 where
   pub line : lines ≡ Of name (Refused refusal) ∷ []
   pub same : new ≡ old
 
 -- a line on the queue of this name, once it was looked for
-pub record Follows (old : Played) (slot : SlotId) (name : List ℕ) (command : Command) (lines : List Printed) (new : Played)
-    : Type 0 where
+pub record Follows (old : Played) (slot : SlotId) (name : List ℕ) (command : Command) (lines : List Printed)
+    (new : Played) : Type 0 where
   pub given : List Line
   pub gives : lines ≡ of_queue name given
   pub followed : IsFollowedIn old slot.0 command given new

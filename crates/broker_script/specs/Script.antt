@@ -8,7 +8,7 @@ use Rattle.grammar.specs.declared.limits.TheConstants.{MAX_LINES}
 use Rattle.broker_script.specs.Grammar.{broker_words, statement_words, IsServedBroker, IsServedStatement}
 use Rattle.broker_script.specs.declared.statements.BrokerLine.{BrokerLine}
 use Rattle.broker_script.specs.declared.statements.Statement.{Statement}
-use Rattle.broker_script.specs.declared.statements.Statement.TheVariants.{Create, BeginCreation, CreateStep, CreateSteps, Find, List as list_queues, Rotate, Whole, On, Told}
+use Rattle.broker_script.specs.declared.statements.Statement.TheVariants.{Create, BeginCreation, On}
 
 -- whether a line creates a queue of this name, and one of a kind that has this command
 abbrev pub creates : List ℕ → Statement → Bool
@@ -21,8 +21,8 @@ creates_for name command (Create other kind) = bytes_eq other name && is_on kind
 creates_for name command (BeginCreation other kind most) = bytes_eq other name && is_on kind command
 creates_for name command _ = false
 
--- whether a line may come after these: one on a queue that some of them create may only where one of those creates it of
--- a kind that has the command
+-- whether a line may come after these: one on a queue that some of them create may only where one of those creates it
+-- of a kind that has the command
 abbrev pub may_follow : List Statement → Statement → Bool
 may_follow before (On name command) =
     not (list_any (creates name) before) || list_any (creates_for name command) before
@@ -53,7 +53,8 @@ pub record Says (lines : List (List ℕ)) (broker : Option BrokerLine) (statemen
 pub record IsFirstBad (lines : List (List ℕ)) (number : ℕ) : Type 0 where
   pub some : 1 ≤ number
   pub there : number ≤ length lines
-  pub good : (broker : Option BrokerLine) × (statements : List Statement) × Says (take (number - 1) lines) broker statements
+  pub good : (broker : Option BrokerLine) × (statements : List Statement)
+      × Says (take (number - 1) lines) broker statements
   pub bad : (broker : Option BrokerLine) (statements : List Statement) → Says (take number lines) broker statements → ⊥
 
 -- whatever lines said the script so far, they say the new one with this line

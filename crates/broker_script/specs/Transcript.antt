@@ -4,7 +4,6 @@ use Rattle.words.specs.declared.call.Client.{Client}
 use Rattle.words.specs.declared.refusal.Refusal.{Refusal}
 use Rattle.words.specs.declared.refusal.Refusal.TheVariants.{NotReady}
 use Rattle.persist.specs.Memory.{words_after_eviction}
-use Rattle.persist.specs.declared.access.Change.{Change}
 use Rattle.arena.specs.Broker.{broker_size}
 use Rattle.arena.specs.Shape.{Counts}
 use Rattle.arena.specs.declared.broker.SlotId.{SlotId}
@@ -12,7 +11,7 @@ use Rattle.directory.specs.Directory.{Directory}
 use Rattle.directory.specs.declared.limits.TheConstants.{CREATION_STEPS}
 use Rattle.directory.specs.declared.queue.Queue.{Queue}
 use Rattle.grammar.specs.declared.commands.Command.{Command}
-use Rattle.grammar.specs.declared.commands.Command.TheVariants.{Enq, NumberedEnq, Deq, NumberedDeq, Step, End, Evict, Crash, Recover, RecoverBy, Content, Order}
+use Rattle.grammar.specs.declared.commands.Command.TheVariants.{Evict, Crash, Recover, RecoverBy}
 use Rattle.named.specs.Blocks.{IsSameWords}
 use Rattle.named.specs.Brokers.{Brokered, IsNew, is_down, world_at}
 use Rattle.named.specs.Evicting.{evict_result, world_evicted}
@@ -122,11 +121,12 @@ FollowsLine old (Told name client) lines new = Tells old name client lines new
 -- some lines, one after the other
 pub data FollowsAll : Played → List Statement → List Printed → Type 0 where
   none : {old : Played} → FollowsAll old [] []
-  more : {old : Played} {statement : Statement} {statements : List Statement} (next : Played) (first rest : List Printed)
-      (line : FollowsLine old statement first next) (lines : FollowsAll next statements rest)
+  more : {old : Played} {statement : Statement} {statements : List Statement} (next : Played)
+      (first rest : List Printed) (line : FollowsLine old statement first next) (lines : FollowsAll next statements rest)
       → FollowsAll old (statement ∷ statements) (first ++ rest)
 
--- the lines of a script: the size of a new broker's memory, and what the lines on it give; none where there is no broker
+-- the lines of a script: the size of a new broker's memory, and what the lines on it give; none where there is no
+-- broker
 pub record IsPlayedOn (counts : Counts) (statements : List Statement) (lines : List Printed) : Type 0 where
   pub broker : Brokered
   pub made : IsNew counts broker

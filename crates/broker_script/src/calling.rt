@@ -109,7 +109,8 @@ impl Player {
         requires { slot.0 < SLOTS }
         ensures count { result ≡ count_after 1 (slice_index (steps_at self.old slot.0).calls client.0) }
         ensures steps { steps_at self.new slot.0 ≡ call_counted 1 client (steps_at self.old slot.0) }
-        ensures others { (other : ℕ) → other ≢ slot.0 → slice_get self.new.steps other ≡ slice_get self.old.steps other }
+        ensures others { (other : ℕ) → other ≢ slot.0
+            → slice_get self.new.steps other ≡ slice_get self.old.steps other }
         ensures same { self.new ≡ record self.old { steps = self.new.steps } }
     {
         self.steps[slot.0 as usize].go_on(client, 1)
@@ -204,6 +205,7 @@ impl Player {
         ensures followed { IfOk result (λ lines. IsFollowedIn self.old slot.0 command.now lines.items self.new) }
         ensures errors { IfErr result (λ e. e ≡ Refusal.NoMemory) }
     {
+        let _ = &self.broker;
         match command {
             Command::Enq { client, value } => {
                 let started = self.start(slot, *client, 0, Call::Enq(*value));

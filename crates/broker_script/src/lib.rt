@@ -3,6 +3,7 @@
 
 mod calling;
 mod creating;
+mod laws;
 mod lines;
 mod parser;
 mod play;
@@ -13,11 +14,11 @@ mod rows;
 mod running;
 mod script;
 mod statements;
-
 mod whole;
 
+pub use laws::one_script_a_text;
 pub use parser::parse_script;
+pub use play::transcript;
 pub use running::run;
 pub use script::Script;
 pub use statements::{BrokerLine, Statement};
-pub use play::transcript;

@@ -65,11 +65,7 @@ pub(crate) fn append(lines: &mut Vec<Printed>, mut more: Vec<Printed>) -> Result
 }
 
 /// A queue's lines with its name before each.
-pub(crate) fn labelled(
-    alloc: Global,
-    name: Name,
-    lines: Vec<Line>,
-) -> Result<Vec<Printed>, Refusal>
+pub(crate) fn labelled(alloc: Global, name: Name, lines: Vec<Line>) -> Result<Vec<Printed>, Refusal>
     ensures lines { IfOk result (λ printed. printed.items ≡ of_queue name lines.items) }
     ensures errors { IfErr result (λ e. e ≡ Refusal.NoMemory) }
 {

@@ -35,7 +35,9 @@ fn creates_for(name: &Name, command: &Command, statement: &Statement) -> bool
             other.as_bytes() == name.as_bytes() && is_on(*kind, command)
         }
         Statement::BeginCreation {
-            name: other, kind, ..
+            name: other,
+            kind,
+            ..
         } => other.as_bytes() == name.as_bytes() && is_on(*kind, command),
         _ => false,
     }

@@ -36,7 +36,11 @@ fn follow_all(
 }
 
 /// The lines of a script on a broker.
-fn play(alloc: Global, broker: BrokerLine, statements: &[Statement]) -> Result<Vec<Printed>, Refusal>
+fn play(
+    alloc: Global,
+    broker: BrokerLine,
+    statements: &[Statement],
+) -> Result<Vec<Printed>, Refusal>
     requires { IsServedBroker broker }
     ensures lines { IfOk result (λ lines. IsPlayedOn
         (record { clients = broker.clients; records = broker.records }) statements.now lines.items) }

@@ -15,7 +15,10 @@ pub(crate) enum Printed {
     /// What a queue's script has too, about the whole memory.
     Whole(Line),
     /// What a queue's script has too, of the queue of this name.
-    Of { name: Name, line: Line },
+    Of {
+        name: Name,
+        line: Line,
+    },
     /// A queue was created, in so many steps.
     Created {
         name: Name,
@@ -25,11 +28,17 @@ pub(crate) enum Printed {
     /// A creation is not at its end yet.
     Creating,
     /// Which slot a queue has.
-    Found { name: Name, slot: SlotId },
+    Found {
+        name: Name,
+        slot: SlotId,
+    },
     /// How many queues there are.
     Queues(usize),
     /// One of them.
-    Place { slot: SlotId, queue: Queue },
+    Place {
+        slot: SlotId,
+        queue: Queue,
+    },
     /// The histories of all queues ended, and others began.
     Rotated,
 }

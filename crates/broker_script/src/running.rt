@@ -21,8 +21,10 @@ fn read_script<R: Reader>(alloc: Global, reader: &mut R) -> Result<Script, Refus
     ensures read_failed { IsErrOf result Refusal.ReadFailed ↔ (R.failures reader.old < R.failures reader.new) }
     ensures bad_line { IfErr result (NamesBadLine (R.left reader.old)) }
 {
-    let text = read_all(alloc, reader).map_err(unread_refusal)?;
-    parse_script(alloc, &text)
+    match read_all(alloc, reader) {
+        Ok(text) => parse_script(alloc, &text),
+        Err(unread) => Err(unread_refusal(unread)),
+    }
 }
 
 /// Reads the whole script before anything runs, follows it on a new broker, and writes what it prints.

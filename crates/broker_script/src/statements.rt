@@ -15,42 +15,23 @@ pub struct BrokerLine {
 #[derive(Clone, Copy, Debug, PartialEq, Eq)]
 pub enum Statement {
     /// A queue is created.
-    Create {
-        name: Name,
-        kind: Kind,
-    },
+    Create { name: Name, kind: Kind },
     /// A creation begins, and makes at most so many steps.
-    BeginCreation {
-        name: Name,
-        kind: Kind,
-        most: u32,
-    },
+    BeginCreation { name: Name, kind: Kind, most: u32 },
     /// The creation that is under way makes a step.
     CreateStep,
     /// It makes at most so many steps.
-    CreateSteps {
-        most: u32,
-    },
+    CreateSteps { most: u32 },
     /// Show which slot the queue of this name has.
-    Find {
-        name: Name,
-    },
+    Find { name: Name },
     /// Show the queues.
     List,
     /// The histories of all queues end, and others begin.
     Rotate,
     /// A line of a queue's script that is about the whole memory: an eviction, a crash or recovery.
-    Whole {
-        command: Command,
-    },
+    Whole { command: Command },
     /// Any other line of a queue's script, on the queue of this name.
-    On {
-        name: Name,
-        command: Command,
-    },
+    On { name: Name, command: Command },
     /// Show what a client of this queue was told last.
-    Told {
-        name: Name,
-        client: Client,
-    },
+    Told { name: Name, client: Client },
 }

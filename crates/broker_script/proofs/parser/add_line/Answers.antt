@@ -16,7 +16,7 @@ returns-in-None-clause-bad c e lines says other more =
     let told : is_statement line ≡ true = not-false (is_statement line) (sym c.is_skipped.ensures ∙ c.if-is_skipped.false) in
     let before : Says lines (Some c.in-Some.field-0) old = subst (λ (b : Option BrokerLine). Says lines b old) c.in-Some.is says in
     let never = subst (λ (ss : List Statement). (next : Statement) → SaysStatement line next → may_follow ss next ≡ true → ⊥)
-        c.deref.ensures.value c.in-None.ensures in
+    c.deref.ensures.value c.in-None.ensures in
     bad_later lines line c.in-Some.field-0 old before told never other more
 
 pub returns-in-Ok-clause-good : goal.returns-in-Ok-clause-good

@@ -1,7 +1,6 @@
 use Rattle.std.proofs.Common.{◌≡◌, ◌-◌, [], ◌∷◌, ap, sym, ◌∙◌, arith, subst}
 use Rattle.std.proofs.lemmas.Result.{IfOk-weaker}
-use Rattle.std.specs.Prelude.{Option, Some, None, Ok}
-use Rattle.named.specs.Brokers.{Brokered, IsWell}
+use Rattle.named.specs.Brokers.{IsWell}
 use Rattle.playing.proofs.Plays.{always_ok, ends_answered, ends_refused, gives_answered, gives_refused, gives_on, leads_on}
 use Rattle.playing.specs.Play.{after_steps}
 use Rattle.playing.specs.Transcript.{step_lines}

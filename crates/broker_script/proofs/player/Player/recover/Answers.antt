@@ -1,6 +1,6 @@
-use Rattle.std.proofs.Common.{◌≡◌, ◌≢◌, ◌-◌, subst, arith, true, false}
+use Rattle.std.proofs.Common.{subst, true, false}
 use Rattle.std.proofs.lemmas.Result.{IfOk-weaker}
-use Rattle.std.specs.Prelude.{Bool, Ok, Err}
+use Rattle.std.specs.Prelude.{Bool, Ok}
 use Rattle.broker_script.specs.Recovering.{IsRecoveredOn}
 use Rattle.broker_script.proofs.Going.{made, recovery_starts, recovery_more, recovery_ready, recovery_refused}
 use Rattle.broker_script.proofs.player.Player.recover.Goals as goal

@@ -1,6 +1,6 @@
-use Rattle.std.proofs.Common.{◌≡◌, ◌≢◌, ◌-◌, subst, arith, true, false}
+use Rattle.std.proofs.Common.{◌≡◌, ◌-◌, subst, arith, true, false}
 use Rattle.std.proofs.lemmas.Result.{IfOk-weaker}
-use Rattle.std.specs.Prelude.{Bool, Ok, Err}
+use Rattle.std.specs.Prelude.{Bool, Ok}
 use Rattle.broker_script.specs.Recovering.{IsRecoveredOn}
 use Rattle.broker_script.proofs.Going.{made, steps_start, steps_more, steps_ready, steps_refused, steps_out}
 use Rattle.broker_script.proofs.player.Player.recover_by.Goals as goal
