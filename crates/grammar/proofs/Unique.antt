@@ -99,6 +99,14 @@ read_back (RecoverBy most) served =
 read_back Content served = refl
 read_back Order served = refl
 
+-- a command read back from its words
+pub command_in : List (List ℕ) → Command
+command_in words = command_of (tag words) words (numbers words)
+
+pub command_back : (command : Command) → IsServed command → command_in (command_words command) ≡ command
+unfolding command_in
+command_back command served = read_back command served
+
 -- words are those of one command at most
 pub same_command : (c d : Command) → IsServed c → IsServed d → command_words c ≡ command_words d → c ≡ d
 same_command c d sc sd e = sym (read_back c sc) ∙ ap (λ (ws : List (List ℕ)). command_of (tag ws) ws (numbers ws)) e ∙ read_back d sd

@@ -1,0 +1,21 @@
+-- A beginning of a transcript.
+use Rattle.std.proofs.Common.{ℕ, List}
+use Rattle.std.specs.Prelude.{Option, Some, None}
+use Rattle.std.specs.Io.KnownBytes.{Appends}
+use Rattle.devices.specs.Devices.{AppendsBeginning}
+use Rattle.broker_script.specs.Run.{Prints, PrintsBeginning, SaysInput}
+use Rattle.broker_script.specs.Scripted.{Scripted}
+use Rattle.broker_script.specs.Transcript.{IsTranscript}
+
+pub begins : (input old new : Option (List ℕ)) (script : Scripted) (printed : List ℕ) → SaysInput input script
+    → IsTranscript script.broker script.statements printed → AppendsBeginning old new printed
+    → PrintsBeginning input old new
+begins None old new script printed says transcript sent = tt
+begins (Some text) old new script printed says transcript sent =
+    (printed, record { script = script; says = says; transcript = transcript }, sent)
+
+pub prints : (input old new : Option (List ℕ)) (script : Scripted) (printed : List ℕ) → SaysInput input script
+    → IsTranscript script.broker script.statements printed → Appends old new printed → Prints input old new
+prints None old new script printed says transcript sent = tt
+prints (Some text) old new script printed says transcript sent =
+    (printed, record { script = script; says = says; transcript = transcript }, sent)

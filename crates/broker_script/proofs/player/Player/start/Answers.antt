@@ -1,0 +1,20 @@
+use Rattle.std.proofs.Common.{ap}
+use Rattle.std.specs.Prelude.{Err}
+use Rattle.broker_script.proofs.Acted.{start_refused, started}
+use Rattle.broker_script.proofs.player.Player.start.Goals as goal
+
+pub returns-in-Err-clause-answer : goal.returns-in-Err-clause-answer
+returns-in-Err-clause-answer c memory =
+    let alone = started c.args.self.now c.self.inside.broker (ap (λ p. p.broker) c.self.view_is) c.args.slot.0 c.args.client
+    c.args.number c.args.call (Err c.in-Err.refusal) c.start.new.self c.in-Err.ensures.act c.self.invariant.well
+    c.requires.ready c.requires.open memory in
+    alone.answers
+
+pub returns-in-Err-clause-play : goal.returns-in-Err-clause-play
+returns-in-Err-clause-play c memory =
+    let alone = started c.args.self.now c.self.inside.broker (ap (λ p. p.broker) c.self.view_is) c.args.slot.0 c.args.client
+    c.args.number c.args.call (Err c.in-Err.refusal) c.start.new.self c.in-Err.ensures.act c.self.invariant.well
+    c.requires.ready c.requires.open memory in
+    start_refused c.args.self.now
+    (record { broker = c.start.new.self; steps = c.self.inside.steps; creation = c.self.inside.creation; recovery = c.self.inside.recovery })
+    c.args.slot.0 c.args.client c.args.number c.args.call c.in-Err.refusal alone (ap (λ p. p.steps) c.self.view_is)

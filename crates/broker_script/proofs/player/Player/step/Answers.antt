@@ -1,0 +1,20 @@
+use Rattle.std.proofs.Common.{ap, sym}
+use Rattle.std.specs.Prelude.{Err}
+use Rattle.broker_script.proofs.Acted.{step_refused, stepped}
+use Rattle.broker_script.proofs.player.Player.step.Goals as goal
+
+pub returns-in-Err-clause-refused : goal.returns-in-Err-clause-refused
+returns-in-Err-clause-refused c other =
+    let alone = stepped c.args.self.now c.self.inside.broker (ap (λ p. p.broker) c.self.view_is) c.args.slot.0 c.args.client
+    (Err c.in-Err.refusal) c.step.new.self c.in-Err.ensures.act c.self.invariant.well
+    c.requires.ready c.requires.open (λ e. other (cc)) in
+    sym alone.answers
+
+pub returns-in-Err-clause-same : goal.returns-in-Err-clause-same
+returns-in-Err-clause-same c other =
+    let alone = stepped c.args.self.now c.self.inside.broker (ap (λ p. p.broker) c.self.view_is) c.args.slot.0 c.args.client
+    (Err c.in-Err.refusal) c.step.new.self c.in-Err.ensures.act c.self.invariant.well
+    c.requires.ready c.requires.open (λ e. other (cc)) in
+    step_refused c.args.self.now
+    (record { broker = c.step.new.self; steps = c.self.inside.steps; creation = c.self.inside.creation; recovery = c.self.inside.recovery })
+    c.args.slot.0 c.args.client c.in-Err.refusal alone (ap (λ p. p.steps) c.self.view_is)

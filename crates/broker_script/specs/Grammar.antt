@@ -1,0 +1,75 @@
+-- The lines of a broker's script, each as its words, and the limits of the numbers in them.
+use Rattle.std.specs.Prelude.{◌≡◌, ◌≤◌, ℕ, Bool, true, false, List, [], ◌∷◌, ◌++◌, codes, decimal}
+use Rattle.arena.specs.Limits.{AreCounts}
+use Rattle.directory.specs.Name.{IsName}
+use Rattle.grammar.specs.Grammar.{command_words, kind_word, IsServed}
+use Rattle.grammar.specs.Lines.{words_of}
+use Rattle.grammar.specs.declared.commands.Command.{Command}
+use Rattle.grammar.specs.declared.commands.Command.TheVariants.{Enq, NumberedEnq, Deq, NumberedDeq, Step, End, Evict, Crash, Recover, RecoverBy, Content, Order}
+use Rattle.grammar.specs.declared.limits.TheConstants.{MAX_CLIENT_NUMBER, MAX_STEPS}
+use Rattle.broker_script.specs.declared.statements.BrokerLine.{BrokerLine}
+use Rattle.broker_script.specs.declared.statements.Statement.{Statement}
+use Rattle.broker_script.specs.declared.statements.Statement.TheVariants.{Create, BeginCreation, CreateStep, CreateSteps, Find, List as list_queues, Rotate, Whole, On, Told}
+
+-- `broker T K`
+abbrev pub broker_words : BrokerLine → List (List ℕ)
+broker_words broker = codes "broker" ∷ decimal broker.clients ∷ decimal broker.records ∷ []
+
+-- the word before a line on the queue of this name: `NAME:`
+abbrev pub label : List ℕ → List ℕ
+label name = name ++ codes ":"
+
+-- `create NAME KIND`, `create NAME KIND M`, `create-step`, `create-step M`, `find NAME`, `list`, `rotate`, a line of a
+-- queue's script that is about the whole memory, `NAME: ` and one that is about the queue, and `NAME: told C`
+abbrev pub statement_words : Statement → List (List ℕ)
+statement_words (Create name kind) = codes "create" ∷ name ∷ kind_word kind ∷ []
+statement_words (BeginCreation name kind most) = codes "create" ∷ name ∷ kind_word kind ∷ decimal most ∷ []
+statement_words CreateStep = codes "create-step" ∷ []
+statement_words (CreateSteps most) = codes "create-step" ∷ decimal most ∷ []
+statement_words (Find name) = codes "find" ∷ name ∷ []
+statement_words list_queues = codes "list" ∷ []
+statement_words Rotate = codes "rotate" ∷ []
+statement_words (Whole command) = command_words command
+statement_words (On name command) = label name ∷ command_words command
+statement_words (Told name client) = label name ∷ codes "told" ∷ decimal client.0 ∷ []
+
+-- whether a line of a queue's script is about the whole memory
+abbrev pub is_whole : Command → Bool
+is_whole (Enq client value) = false
+is_whole (NumberedEnq client number value) = false
+is_whole (Deq client) = false
+is_whole (NumberedDeq client number) = false
+is_whole (Step client most) = false
+is_whole (End client) = false
+is_whole (Evict word) = true
+is_whole Crash = true
+is_whole Recover = true
+is_whole (RecoverBy most) = true
+is_whole Content = false
+is_whole Order = false
+
+-- the queues have some clients, and each of them some records, no more than the most
+abbrev pub IsServedBroker : BrokerLine → Type 0
+IsServedBroker broker = AreCounts broker.clients broker.records
+
+-- a name is one of a queue's, a line asks for some steps, not too many, and a client's number is one byte
+abbrev pub IsServedStatement : Statement → Type 0
+IsServedStatement (Create name kind) = IsName name
+IsServedStatement (BeginCreation name kind most) = IsName name × (1 ≤ most) × (most ≤ MAX_STEPS)
+IsServedStatement CreateStep = Unit {0}
+IsServedStatement (CreateSteps most) = (1 ≤ most) × (most ≤ MAX_STEPS)
+IsServedStatement (Find name) = IsName name
+IsServedStatement list_queues = Unit {0}
+IsServedStatement Rotate = Unit {0}
+IsServedStatement (Whole command) = IsServed command × (is_whole command ≡ true)
+IsServedStatement (On name command) = IsName name × IsServed command × (is_whole command ≡ false)
+IsServedStatement (Told name client) = IsName name × (client.0 ≤ MAX_CLIENT_NUMBER)
+
+-- a line says this broker, or this: it has its words, within the limits
+pub record SaysBroker (line : List ℕ) (broker : BrokerLine) : Type 0 where
+  pub words : words_of line ≡ broker_words broker
+  pub served : IsServedBroker broker
+
+pub record SaysStatement (line : List ℕ) (statement : Statement) : Type 0 where
+  pub words : words_of line ≡ statement_words statement
+  pub served : IsServedStatement statement

@@ -1,0 +1,11 @@
+pub mod Grammar
+pub mod Rows
+pub mod Scripted
+pub mod Script
+pub mod Prints
+pub mod Play
+pub mod Creating
+pub mod Recovering
+pub mod OnQueue
+pub mod Transcript
+pub mod Run

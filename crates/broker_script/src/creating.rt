@@ -1,0 +1,113 @@
+//! Creations of a broker that follows a script.
+
+ghost use Rattle.std.specs.Prelude.{◌≡◌, ◌∷◌, [], IfOk, IfErr, IfSome, IfNone, IsSome, None};
+ghost use Rattle.directory.specs.Directory.{HasQueue};
+ghost use Rattle.directory.specs.declared.queue.Queue.{Queue as Place};
+ghost use Rattle.broker_script.specs.Creating.{BeginsCreation, Creates, IsBegunOn, IsCreatedOn};
+ghost use Rattle.broker_script.specs.declared.printed.Printed.TheVariants.{Created};
+
+use crate::lines::one;
+use crate::player::Player;
+use crate::printed::Printed;
+use arena::SlotId;
+use directory::{Name, Queue};
+use playing::Line;
+use std::alloc::Global;
+use words::{Kind, Refusal};
+
+impl Player {
+    /// The queue in a slot, if there is one, while no recovery is under way.
+    fn queue_in(&self, slot: SlotId) -> Option<Queue>
+        ensures found { IfSome result (HasQueue self.now.broker.directory slot.0) }
+        ensures none { self.now.broker.recovery ≡ None → (queue : Place)
+            → HasQueue self.now.broker.directory slot.0 queue → IsSome result }
+    {
+        let Ok(places) = self.broker.list() else {
+            return None;
+        };
+        match places.get(slot.0 as usize) {
+            Some(place) => *place,
+            None => None,
+        }
+    }
+
+    /// Shows the queue that a creation opened in a slot.
+    fn show_created(&self, alloc: Global, slot: SlotId) -> Result<Vec<Printed>, Refusal>
+        requires ready { self.now.broker.recovery ≡ None }
+        requires opened { (queue : Place) × HasQueue self.now.broker.directory slot.0 queue }
+        ensures line { IfOk result (λ lines. (queue : Place) × HasQueue self.now.broker.directory slot.0 queue
+            × (lines.items ≡ Created queue.name slot self.now.creation ∷ [])) }
+        ensures errors { IfErr result (λ e. e ≡ Refusal.NoMemory) }
+    {
+        let queue = self.queue_in(slot).unwrap();
+        one(
+            alloc,
+            Printed::Created {
+                name: queue.name,
+                slot,
+                steps: self.creation,
+            },
+        )
+    }
+
+    /// One step of the creation that is under way.
+    fn create_step(&mut self) -> Result<Option<SlotId>, Refusal>
+        ensures step { IsCreatedOn self.old result self.new }
+        ensures opened { IfOk result (λ opened. IfSome opened (λ slot.
+            (queue : Place) × HasQueue self.new.broker.directory slot.0 queue)) }
+        ensures ready { IfOk result (λ opened. self.new.broker.recovery ≡ None) }
+    {
+        match self.broker.create_step() {
+            Err(refusal) => Err(refusal),
+            Ok(opened) => {
+                self.creation = self.creation.saturating_add(1);
+                Ok(opened)
+            }
+        }
+    }
+
+    /// The creation that is under way goes on by at most so many steps.
+    pub(crate) fn create(&mut self, alloc: Global, most: u32) -> Result<Vec<Printed>, Refusal>
+        ensures creates { IfOk result (λ lines. Creates most self.old lines.items self.new) }
+        ensures errors { IfErr result (λ e. e ≡ Refusal.NoMemory) }
+    {
+        for _ in 0..most {
+            match self.create_step() {
+                Err(refusal) => return one(alloc, Printed::Whole(Line::Refused(refusal))),
+                Ok(None) => {}
+                Ok(Some(slot)) => return self.show_created(alloc, slot),
+            }
+        }
+        one(alloc, Printed::Creating)
+    }
+
+    /// Begins a creation.
+    fn begin(&mut self, name: &Name, kind: Kind) -> Result<(), Refusal>
+        ensures { IsBegunOn self.old name.now kind result self.new }
+    {
+        match self.broker.create(name.as_bytes(), kind) {
+            Err(refusal) => Err(refusal),
+            Ok(()) => {
+                self.creation = 0;
+                Ok(())
+            }
+        }
+    }
+
+    /// Begins a creation, which makes at most so many steps.
+    pub(crate) fn begin_creation(
+        &mut self,
+        alloc: Global,
+        name: &Name,
+        kind: Kind,
+        most: u32,
+    ) -> Result<Vec<Printed>, Refusal>
+        ensures begins { IfOk result (λ lines. BeginsCreation self.old name.now kind most lines.items self.new) }
+        ensures errors { IfErr result (λ e. e ≡ Refusal.NoMemory) }
+    {
+        match self.begin(name, kind) {
+            Ok(()) => self.create(alloc, most),
+            Err(refusal) => one(alloc, Printed::Whole(Line::Refused(refusal))),
+        }
+    }
+}

@@ -1,0 +1,107 @@
+//! A broker that follows a script.
+
+ghost use Rattle.std.specs.Prelude.{◌≡◌, IfOk, IfErr};
+ghost use Rattle.arena.specs.Limits.{AreCounts};
+ghost use Rattle.broker_script.specs.Play.{new_played};
+ghost use Rattle.broker_script.specs.Transcript.{FollowsLine, FollowsWhole};
+ghost use Rattle.named.specs.Brokers.{IsNew};
+
+use crate::printed::Printed;
+use crate::statements::Statement;
+use arena::SLOTS;
+use directory::CREATION_STEPS;
+use grammar::Command;
+use named::Broker;
+use playing::Steps;
+use std::alloc::Global;
+use std::marker::Model;
+use words::Refusal;
+
+/// A broker that follows a script, and how many steps its calls, its last creation and its recovery have made.
+#[derive(Drop)]
+pub(crate) struct Player {
+    pub(crate) broker: Broker,
+    /// Those of the calls on each slot's queue.
+    pub(crate) steps: [Steps; SLOTS],
+    pub(crate) creation: u64,
+    pub(crate) recovery: u64,
+}
+
+impl Model for Player {
+    ghost use Rattle.broker_script.specs.Play.{Played};
+    ghost use Rattle.named.specs.Promises.{KeepsPromises};
+
+    ghost Value = { Played };
+
+    ghost view = { λ p. record { broker = p.broker; steps = p.steps; creation = p.creation; recovery = p.recovery } };
+
+    ghost invariant = { λ p. KeepsPromises p.broker };
+}
+
+impl Player {
+    /// A new broker, on which no step was made.
+    pub(crate) fn new(alloc: Global, clients: u32, records: u32) -> Result<Self, Refusal>
+        requires { AreCounts clients records }
+        ensures made { IfOk result (λ p. IsNew (record { clients = clients; records = records }) p.broker) }
+        ensures played { IfOk result (λ p. p ≡ new_played p.broker) }
+        ensures errors { IfErr result (λ e. e ≡ Refusal.NoMemory) }
+    {
+        let broker = Broker::make(alloc, clients, records)?;
+        Ok(Player {
+            broker,
+            steps: [
+                Steps::new(),
+                Steps::new(),
+                Steps::new(),
+                Steps::new(),
+                Steps::new(),
+                Steps::new(),
+                Steps::new(),
+                Steps::new(),
+            ],
+            creation: 0,
+            recovery: 0,
+        })
+    }
+
+    /// Follows a line about the whole memory, and answers what it gives.
+    fn follow_whole(&mut self, alloc: Global, command: &Command) -> Result<Vec<Printed>, Refusal>
+        ensures follows { IfOk result (λ lines. FollowsWhole self.old command.now lines.items self.new) }
+        ensures errors { IfErr result (λ e. e ≡ Refusal.NoMemory) }
+    {
+        match command {
+            Command::Evict { word } => self.evict(alloc, *word),
+            Command::Crash => self.crash(alloc),
+            Command::Recover => self.recover(alloc),
+            Command::RecoverBy { most } => self.recover_by(alloc, *most),
+            _ => Ok(Vec::new(alloc)),
+        }
+    }
+
+    /// Follows a line, and answers what it gives.
+    pub(crate) fn follow(
+        &mut self,
+        alloc: Global,
+        statement: &Statement,
+    ) -> Result<Vec<Printed>, Refusal>
+        ensures follows { IfOk result (λ lines. FollowsLine self.old statement.now lines.items self.new) }
+        ensures errors { IfErr result (λ e. e ≡ Refusal.NoMemory) }
+    {
+        match statement {
+            Statement::Create { name, kind } => {
+                self.begin_creation(alloc, name, *kind, CREATION_STEPS as u32)
+            }
+            Statement::BeginCreation { name, kind, most } => {
+                self.begin_creation(alloc, name, *kind, *most)
+            }
+            Statement::CreateStep => self.create(alloc, 1),
+            Statement::CreateSteps { most } => self.create(alloc, *most),
+            Statement::Find { name } => self.find(alloc, name),
+            Statement::List => self.list(alloc),
+            Statement::Rotate => self.rotate(alloc),
+            Statement::Whole { command } => self.follow_whole(alloc, command),
+            Statement::On { name, command } => self.follow_on(alloc, name, command),
+            Statement::Told { name, client } => self.tell(alloc, name, *client),
+        }
+    }
+}

@@ -1,0 +1,81 @@
+//! The lines of a broker's transcript.
+
+ghost use Rattle.std.specs.Prelude.{◌≡◌};
+ghost use Rattle.grammar.specs.Grammar.{kind_word};
+
+use arena::SlotId;
+use directory::{Name, Queue};
+use playing::Line;
+use std::fmt;
+use words::Kind;
+
+/// A line of a transcript.
+#[derive(Drop)]
+pub(crate) enum Printed {
+    /// What a queue's script has too, about the whole memory.
+    Whole(Line),
+    /// What a queue's script has too, of the queue of this name.
+    Of {
+        name: Name,
+        line: Line,
+    },
+    /// A queue was created, in so many steps.
+    Created {
+        name: Name,
+        slot: SlotId,
+        steps: u64,
+    },
+    /// A creation is not at its end yet.
+    Creating,
+    /// Which slot a queue has.
+    Found {
+        name: Name,
+        slot: SlotId,
+    },
+    /// How many queues there are.
+    Queues(usize),
+    /// One of them.
+    Place {
+        slot: SlotId,
+        queue: Queue,
+    },
+    /// The histories of all queues ended, and others began.
+    Rotated,
+}
+
+/// A kind as a script spells it.
+fn kind_word(kind: Kind) -> &'static str
+    ensures { result.now ≡ kind_word kind }
+{
+    match kind {
+        Kind::Durable => "durable",
+        Kind::Log => "log",
+    }
+}
+
+/// `a: return 0 done steps 28`, `created a slot 0 steps 12`, `creating`, `found a slot 0`, `queues 2`,
+/// `slot 0 a durable`, `rotated`, or a line of a queue's transcript.
+impl fmt::Display for Printed {
+    ghost use Rattle.std.specs.Prelude.{Some};
+    ghost use Rattle.broker_script.specs.Prints.{printed_text};
+
+    ghost output = { λ line. Some (printed_text line) };
+
+    fn fmt<W: fmt::Write>(&self, f: &mut fmt::Formatter<W>) -> fmt::Result {
+        match self {
+            Printed::Whole(line) => write!(f, "{line}"),
+            Printed::Of { name, line } => write!(f, "{name}: {line}"),
+            Printed::Created { name, slot, steps } => {
+                write!(f, "created {name} slot {} steps {steps}", slot.0)
+            }
+            Printed::Creating => write!(f, "creating"),
+            Printed::Found { name, slot } => write!(f, "found {name} slot {}", slot.0),
+            Printed::Queues(count) => write!(f, "queues {count}"),
+            Printed::Place { slot, queue } => {
+                let kind = kind_word(queue.kind);
+                write!(f, "slot {} {} {kind}", slot.0, queue.name)
+            }
+            Printed::Rotated => write!(f, "rotated"),
+        }
+    }
+}

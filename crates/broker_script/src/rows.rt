@@ -1,0 +1,310 @@
+//! The lines that are served, a row for each.
+
+ghost use Rattle.std.specs.Prelude.{◌≡◌, ◌≢◌, ◌++◌, ◌∷◌, [], ℕ, List, MatchOption, decimal};
+ghost use Rattle.words.specs.declared.call.Client.{Client};
+ghost use Rattle.words.specs.declared.call.Kind.{Kind};
+ghost use Rattle.directory.specs.Name.{IsName};
+ghost use Rattle.grammar.specs.Grammar.{kind_word};
+ghost use Rattle.grammar.specs.Limits.{IsWithin};
+ghost use Rattle.grammar.specs.Lines.{words_of};
+ghost use Rattle.grammar.specs.declared.commands.Command.{Command};
+ghost use Rattle.broker_script.specs.Grammar.{is_whole, label, SaysBroker, SaysStatement};
+ghost use Rattle.broker_script.specs.Rows.{IsNoCreation, IsOfNoBroker, IsOfNoQueue};
+ghost use Rattle.broker_script.specs.declared.statements.BrokerLine.{BrokerLine};
+ghost use Rattle.broker_script.specs.declared.statements.Statement.{Statement};
+
+use crate::statements::{BrokerLine, Statement};
+use directory::Name;
+use grammar::{
+    CLIENT, CLIENTS, Command, RECORDS, STEPS, after_name, command, first_word, is_name, kind,
+    one_number, two_numbers,
+};
+use words::{Client, Kind};
+
+/// `broker T K`
+pub(crate) fn broker_line(line: &[u8]) -> Option<BrokerLine>
+    ensures { MatchOption result ((broker : BrokerLine) → SaysBroker line.now broker → ⊥) (SaysBroker line.now) }
+{
+    let counts = after_name(line, b"broker")?;
+    let (clients, records) = two_numbers(counts, CLIENTS, RECORDS)?;
+    Some(BrokerLine {
+        clients: clients as u32,
+        records: records as u32,
+    })
+}
+
+/// The name that is all of a text.
+fn one_name(text: &[u8]) -> Option<Name>
+    ensures { MatchOption result ((name : List ℕ) → IsName name → words_of text.now ≢ name ∷ [])
+        (λ name. (words_of text.now ≡ name ∷ []) × IsName name) }
+{
+    match first_word(text) {
+        (word, None) => Name::make(word).ok(),
+        (_, Some(_)) => None,
+    }
+}
+
+/// The name that a text begins with, and what follows it.
+fn name_first(text: &[u8]) -> Option<(Name, &[u8])>
+    ensures { MatchOption result
+        ((name : List ℕ) (rest : List (List ℕ)) → IsName name → words_of text.now ≡ name ∷ rest → rest ≡ [])
+        (λ r. (words_of text.now ≡ r.0 ∷ words_of r.1.now) × IsName r.0) }
+{
+    let (word, rest) = first_word(text);
+    let rest = rest?;
+    match Name::make(word) {
+        Ok(name) => Some((name, rest)),
+        Err(_) => None,
+    }
+}
+
+/// The name before the colon of a word.
+fn labelled(word: &[u8]) -> Option<Name>
+    ensures { MatchOption result ((name : List ℕ) → IsName name → word.now ≢ label name)
+        (λ name. (word.now ≡ label name) × IsName name) }
+{
+    let (last, bytes) = word.split_last()?;
+    if *last != b':' {
+        return None;
+    }
+    Name::make(bytes).ok()
+}
+
+/// The name that labels a line, and what follows it.
+fn label_first(line: &[u8]) -> Option<(Name, &[u8])>
+    ensures { MatchOption result
+        ((name : List ℕ) (rest : List (List ℕ)) → IsName name → words_of line.now ≡ label name ∷ rest → rest ≡ [])
+        (λ r. (words_of line.now ≡ label r.0 ∷ words_of r.1.now) × IsName r.0) }
+{
+    let (word, rest) = first_word(line);
+    let rest = rest?;
+    let name = labelled(word)?;
+    Some((name, rest))
+}
+
+/// The kind that is all of a text.
+fn one_kind(text: &[u8]) -> Option<Kind>
+    ensures { MatchOption result ((kind : Kind) → words_of text.now ≢ kind_word kind ∷ [])
+        (λ kind. words_of text.now ≡ kind_word kind ∷ []) }
+{
+    if is_name(text, b"durable") {
+        return Some(Kind::Durable);
+    }
+    if is_name(text, b"log") {
+        Some(Kind::Log)
+    } else {
+        None
+    }
+}
+
+/// The kind and the number of steps that are all of a text.
+fn kind_and_steps(text: &[u8]) -> Option<(Kind, u64)>
+    ensures { MatchOption result
+        ((kind : Kind) (n : ℕ) → IsWithin STEPS n → words_of text.now ≢ kind_word kind ∷ decimal n ∷ [])
+        (λ r. (words_of text.now ≡ kind_word r.0 ∷ decimal r.1 ∷ []) × IsWithin STEPS r.1) }
+{
+    let Some((kind, rest)) = kind(text) else {
+        return None;
+    };
+    let steps = one_number(rest, STEPS)?;
+    Some((kind, steps))
+}
+
+/// `create NAME KIND`
+fn create(line: &[u8]) -> Option<Statement>
+    ensures { MatchOption result
+        ((name : List ℕ) (kind : Kind) → SaysStatement line.now (Statement.Create name kind) → ⊥)
+        (SaysStatement line.now) }
+{
+    let Some((name, rest)) = name_first(after_name(line, b"create")?) else {
+        return None;
+    };
+    let kind = one_kind(rest)?;
+    Some(Statement::Create { name, kind })
+}
+
+/// `create NAME KIND M`
+fn begin_creation(line: &[u8]) -> Option<Statement>
+    ensures { MatchOption result
+        ((name : List ℕ) (kind : Kind) (most : ℕ) → SaysStatement line.now (Statement.BeginCreation name kind most) → ⊥)
+        (SaysStatement line.now) }
+{
+    let Some((name, rest)) = name_first(after_name(line, b"create")?) else {
+        return None;
+    };
+    let (kind, most) = kind_and_steps(rest)?;
+    Some(Statement::BeginCreation {
+        name,
+        kind,
+        most: most as u32,
+    })
+}
+
+/// `create-step`
+fn create_step(line: &[u8]) -> Option<Statement>
+    ensures { MatchOption result (SaysStatement line.now Statement.CreateStep → ⊥) (SaysStatement line.now) }
+{
+    if is_name(line, b"create-step") {
+        Some(Statement::CreateStep)
+    } else {
+        None
+    }
+}
+
+/// `create-step M`
+fn create_steps(line: &[u8]) -> Option<Statement>
+    ensures { MatchOption result ((most : ℕ) → SaysStatement line.now (Statement.CreateSteps most) → ⊥)
+        (SaysStatement line.now) }
+{
+    let Some(steps) = after_name(line, b"create-step") else {
+        return None;
+    };
+    let most = one_number(steps, STEPS)?;
+    Some(Statement::CreateSteps { most: most as u32 })
+}
+
+/// `find NAME`
+fn find(line: &[u8]) -> Option<Statement>
+    ensures { MatchOption result ((name : List ℕ) → SaysStatement line.now (Statement.Find name) → ⊥)
+        (SaysStatement line.now) }
+{
+    let name = one_name(after_name(line, b"find")?)?;
+    Some(Statement::Find { name })
+}
+
+/// `list`
+fn list(line: &[u8]) -> Option<Statement>
+    ensures { MatchOption result (SaysStatement line.now Statement.List → ⊥) (SaysStatement line.now) }
+{
+    if is_name(line, b"list") {
+        Some(Statement::List)
+    } else {
+        None
+    }
+}
+
+/// `rotate`
+fn rotate(line: &[u8]) -> Option<Statement>
+    ensures { MatchOption result (SaysStatement line.now Statement.Rotate → ⊥) (SaysStatement line.now) }
+{
+    if is_name(line, b"rotate") {
+        Some(Statement::Rotate)
+    } else {
+        None
+    }
+}
+
+/// Whether a line of a queue's script is about the whole memory.
+pub(crate) fn is_whole(command: &Command) -> bool
+    ensures { result ≡ is_whole command.now }
+{
+    match command {
+        Command::Evict { .. } | Command::Crash | Command::Recover | Command::RecoverBy { .. } => {
+            true
+        }
+        _ => false,
+    }
+}
+
+/// `evict W`, `crash`, `recover`, `recover M`
+fn whole(line: &[u8]) -> Option<Statement>
+    ensures { MatchOption result ((command : Command) → SaysStatement line.now (Statement.Whole command) → ⊥)
+        (SaysStatement line.now) }
+{
+    let command = command(line)?;
+    if is_whole(&command) {
+        Some(Statement::Whole { command })
+    } else {
+        None
+    }
+}
+
+/// `NAME: ` and a line of a queue's script.
+fn on(line: &[u8]) -> Option<Statement>
+    ensures { MatchOption result
+        ((name : List ℕ) (command : Command) → SaysStatement line.now (Statement.On name command) → ⊥)
+        (SaysStatement line.now) }
+{
+    let Some((name, rest)) = label_first(line) else {
+        return None;
+    };
+    let command = command(rest)?;
+    if is_whole(&command) {
+        None
+    } else {
+        Some(Statement::On { name, command })
+    }
+}
+
+/// `NAME: told C`
+fn told(line: &[u8]) -> Option<Statement>
+    ensures { MatchOption result
+        ((name : List ℕ) (client : Client) → SaysStatement line.now (Statement.Told name client) → ⊥)
+        (SaysStatement line.now) }
+{
+    let Some((name, rest)) = label_first(line) else {
+        return None;
+    };
+    let client = one_number(after_name(rest, b"told")?, CLIENT)?;
+    Some(Statement::Told {
+        name,
+        client: Client(client as u8),
+    })
+}
+
+/// The lines that begin a creation, or go on with it.
+fn creation_line(line: &[u8]) -> Option<Statement>
+    ensures { MatchOption result (IsNoCreation line.now) (SaysStatement line.now) }
+{
+    if let Some(statement) = create(line) {
+        return Some(statement);
+    }
+    if let Some(statement) = begin_creation(line) {
+        return Some(statement);
+    }
+    if let Some(statement) = create_step(line) {
+        return Some(statement);
+    }
+    create_steps(line)
+}
+
+/// The lines that are about one queue.
+fn queue_line(line: &[u8]) -> Option<Statement>
+    ensures { MatchOption result (IsOfNoQueue line.now) (SaysStatement line.now) }
+{
+    if let Some(statement) = find(line) {
+        return Some(statement);
+    }
+    if let Some(statement) = on(line) {
+        return Some(statement);
+    }
+    told(line)
+}
+
+/// The lines that are about all of them.
+fn whole_line(line: &[u8]) -> Option<Statement>
+    ensures { MatchOption result (IsOfNoBroker line.now) (SaysStatement line.now) }
+{
+    if let Some(statement) = list(line) {
+        return Some(statement);
+    }
+    if let Some(statement) = rotate(line) {
+        return Some(statement);
+    }
+    whole(line)
+}
+
+/// What a line says after the first one.
+#[tactic(auto, using(crate::proofs::OtherLines::no_row))]
+pub(crate) fn statement(line: &[u8]) -> Option<Statement>
+    ensures { MatchOption result ((statement : Statement) → SaysStatement line.now statement → ⊥)
+        (SaysStatement line.now) }
+{
+    if let Some(statement) = creation_line(line) {
+        return Some(statement);
+    }
+    if let Some(statement) = queue_line(line) {
+        return Some(statement);
+    }
+    whole_line(line)
+}

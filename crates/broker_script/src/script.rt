@@ -1,0 +1,23 @@
+//! A broker's script as a value.
+
+use crate::statements::{BrokerLine, Statement};
+use std::marker::Model;
+
+/// No broker and nothing to do, or a broker that is served and what is done on it, in order.
+#[derive(Debug, Drop)]
+pub struct Script {
+    pub(crate) broker: Option<BrokerLine>,
+    pub(crate) statements: Vec<Statement>,
+}
+
+impl Model for Script {
+    ghost use Rattle.std.specs.Prelude.{IfSome};
+    ghost use Rattle.broker_script.specs.Grammar.{IsServedBroker};
+    ghost use Rattle.broker_script.specs.Scripted.{Scripted};
+
+    ghost Value = { Scripted };
+
+    ghost view = { λ script. record { broker = script.broker; statements = script.statements.items } };
+
+    ghost invariant = { λ script. IfSome script.broker IsServedBroker };
+}

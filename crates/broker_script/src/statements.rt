@@ -1,0 +1,37 @@
+//! What the lines of a broker's script say.
+
+use directory::Name;
+use grammar::Command;
+use words::{Client, Kind};
+
+/// The first line of a script: the broker that it is about.
+#[derive(Clone, Copy, Debug, PartialEq, Eq)]
+pub struct BrokerLine {
+    pub clients: u32,
+    pub records: u32,
+}
+
+/// Any later line of a script.
+#[derive(Clone, Copy, Debug, PartialEq, Eq)]
+pub enum Statement {
+    /// A queue is created.
+    Create { name: Name, kind: Kind },
+    /// A creation begins, and makes at most so many steps.
+    BeginCreation { name: Name, kind: Kind, most: u32 },
+    /// The creation that is under way makes a step.
+    CreateStep,
+    /// It makes at most so many steps.
+    CreateSteps { most: u32 },
+    /// Show which slot the queue of this name has.
+    Find { name: Name },
+    /// Show the queues.
+    List,
+    /// The histories of all queues end, and others begin.
+    Rotate,
+    /// A line of a queue's script that is about the whole memory: an eviction, a crash or recovery.
+    Whole { command: Command },
+    /// Any other line of a queue's script, on the queue of this name.
+    On { name: Name, command: Command },
+    /// Show what a client of this queue was told last.
+    Told { name: Name, client: Client },
+}
