@@ -1,5 +1,5 @@
 -- What was served with a desk that has its session for itself.
-use Rattle.std.proofs.Common.{◌≡◌, ℕ, Bool, List, [], Option, Result, Ok, Err, IfOk, Vec, Global, subst, sym}
+use Rattle.std.proofs.Common.{◌≡◌, ℕ, Bool, List, [], Option, Result, Ok, Err, IfOk, Vec, Global, subst}
 use Rattle.std.specs.Prelude.{IfSome}
 use Rattle.words.specs.declared.refusal.Refusal.{Refusal}
 use Rattle.engine.specs.Lines.{lines_of}
@@ -22,7 +22,7 @@ are_made whole input W old made none serves =
     subst (λ (l : Served). IfSome input (λ text. Serves meaning whole (lines_of text) l made W)) none serves
 
 -- the requests that were made, where the session that was opened is the first one
-pub is_served : (AreMade : Served → Type 0) (first opened last : Sessioned) (made : Served) → opened ≡ first
+unfoldable pub is_served : (AreMade : Served → Type 0) (first opened last : Sessioned) (made : Served) → opened ≡ first
     → IsOpenedOver opened.broker opened → AreMade made → Leads first made last
     → AreAnswered first.broker.counts.clients made → GoesOnRight first last → IsServed first.broker AreMade
 is_served AreMade first opened last made is over are_made leads answered on = record {

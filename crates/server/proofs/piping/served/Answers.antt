@@ -1,8 +1,9 @@
-use Rattle.std.proofs.Common.{inr}
+use Rattle.std.proofs.Common.{inr, true}
 use Rattle.server.proofs.Serving.{are_made, is_served, leaves_image}
 use Rattle.server.proofs.piping.served.Goals as goal
 
 pub returns-clause-image : goal.returns-clause-image
+unfolding is_served
 returns-clause-image g c =
     let first = g.J.Beginning.first in
     let end = c.into_session-session.ensures in
