@@ -30,6 +30,9 @@ try points-help 0 points --help < /dev/null
 try alone-help 0 alone --help < /dev/null
 try check-help 0 check --help < /dev/null
 try help-check 0 help check < /dev/null
+try broker-help 0 broker --help < /dev/null
+try help-broker 0 help broker < /dev/null
+try broker-without-task 2 broker < /dev/null
 try version 0 --version < /dev/null
 try short-version 0 -V < /dev/null
 try no-command 2 < /dev/null
@@ -53,6 +56,43 @@ for script in "$data"/*.script; do
         *) compare "script $name" 0 "$status" "$data/$name.out" /dev/null ;;
     esac
 done
+
+# Scripts of whole brokers, and lines that no such script has after its first one.
+for script in tests/broker/*.in; do
+    name=$(basename "$script" .in)
+    status=0
+    "$pqx" broker run < "$script" > "$work/out" 2> "$work/err" || status=$?
+    case $(head -c 5 "tests/broker/$name.out") in
+        'line ')
+            sed 's/^/pqx: /' "tests/broker/$name.out" > "$work/wanted"
+            compare "broker $name" 1 "$status" /dev/null "$work/wanted"
+            ;;
+        *) compare "broker $name" 0 "$status" "tests/broker/$name.out" /dev/null ;;
+    esac
+done
+printf 'pqx: line 2: 28 BadLine\n' > "$work/wanted"
+while IFS= read -r line; do
+    status=0
+    printf 'broker 1 1\n%s\n' "$line" > "$work/in"
+    "$pqx" broker run < "$work/in" > "$work/out" 2> "$work/err" || status=$?
+    compare "broker line $line" 1 "$status" /dev/null "$work/wanted"
+done < tests/broker/bad-lines.txt
+printf 'pqx: line 1: 28 BadLine\n' > "$work/wanted"
+for line in 'broker 0 1' 'broker 17 1' 'broker 1 0' 'broker 1 4097' 'broker 1' 'broker 1 1 1' 'broker 01 1' 'Broker 1 1'; do
+    status=0
+    printf '%s\n' "$line" > "$work/in"
+    "$pqx" broker run < "$work/in" > "$work/out" 2> "$work/err" || status=$?
+    compare "broker line $line" 1 "$status" /dev/null "$work/wanted"
+done
+status=0
+"$pqx" broker run < tests > "$work/out" 2> "$work/err" || status=$?
+printf 'pqx: 26 ReadFailed\n' > "$work/wanted"
+compare 'broker run of a folder' 1 "$status" /dev/null "$work/wanted"
+status=0
+"$pqx" broker run < examples/creation.script > /dev/full 2> "$work/err" || status=$?
+printf 'pqx: 27 WriteFailed\n' > "$work/wanted"
+: > "$work/out"
+compare 'broker run to a full output' 1 "$status" /dev/null "$work/wanted"
 
 # Reports on those scripts that have one stored: a crash at each point, with no word kept, with every one and with drawn
 # ones, and each stopped call alone. Standard error is no terminal here, so nothing is written there.
@@ -159,6 +199,10 @@ for option in 'evict <WORDS>' 'draw <N>' 'page <FILE>'; do
     bad_option "the argument '--$option' cannot be used multiple times" 'pqx points [OPTIONS]' \
         points "--${option%% *}" 1 "--${option%% *}" 1
 done
+bad_option 'broker takes run' 'pqx <COMMAND>' broker walk
+bad_option 'broker takes run' 'pqx <COMMAND>' broker ''
+bad_option "unexpected argument 'run' found" 'pqx broker <TASK>' broker run run
+bad_option "unexpected argument '--evict' found" 'pqx broker <TASK>' broker run --evict all
 bad_option "unexpected argument '-1' found" 'pqx points [OPTIONS]' points --draw -1
 bad_option "unexpected argument 'crash.script' found" 'pqx points [OPTIONS]' points crash.script
 bad_option "unexpected argument 'crash.script' found" 'pqx alone' alone crash.script

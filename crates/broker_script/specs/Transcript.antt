@@ -122,8 +122,8 @@ FollowsLine old (Told name client) lines new = Tells old name client lines new
 pub data FollowsAll : Played → List Statement → List Printed → Type 0 where
   none : {old : Played} → FollowsAll old [] []
   more : {old : Played} {statement : Statement} {statements : List Statement} (next : Played)
-      (first rest : List Printed) (line : FollowsLine old statement first next) (lines : FollowsAll next statements rest)
-      → FollowsAll old (statement ∷ statements) (first ++ rest)
+      (first rest : List Printed) (line : FollowsLine old statement first next)
+      (lines : FollowsAll next statements rest) → FollowsAll old (statement ∷ statements) (first ++ rest)
 
 -- the lines of a script: the size of a new broker's memory, and what the lines on it give; none where there is no
 -- broker

@@ -13,7 +13,7 @@ use Rattle.options.specs.declared.pqx.PointOptions.{PointOptions}
 use Rattle.options.specs.declared.pqx.CheckOptions.{CheckOptions}
 use Rattle.options.specs.declared.pqx.RunOptions.{RunOptions}
 use Rattle.options.specs.declared.pqx.PqxAsked.{PqxAsked}
-use Rattle.options.specs.declared.pqx.PqxAsked.TheVariants.{Run, Points, Alone, Check}
+use Rattle.options.specs.declared.pqx.PqxAsked.TheVariants.{Run, Points, Alone, Check, BrokerRun}
 
 -- the words that are kept are those of the choice that is given, and none where none is
 abbrev pub Chooses : Option Text → Choice → Type 0
@@ -25,6 +25,11 @@ Chooses given drawn_words = given ≡ Some (codes "drawn")
 abbrev pub IsChoice : Option Text → Type 0
 IsChoice None = ⊤
 IsChoice (Some text) = (text ≡ codes "none") ⊎ (text ≡ codes "all") ⊎ (text ≡ codes "drawn")
+
+-- no task is given, or the one that there is
+abbrev pub IsTask : Option Text → Type 0
+IsTask None = ⊤
+IsTask (Some text) = text ≡ codes "run"
 
 -- the options of a report on points say this
 pub record AsksPoints (given : Text → Option Text) (o : PointOptions) : Type 0 where
@@ -44,15 +49,17 @@ pub record AsksCheck (given : Text → Option Text) (o : CheckOptions) : Type 0 
 -- the command and the values of its options ask this
 abbrev pub Asks : Option Text → (Text → Option Text) → PqxAsked → Type 0
 Asks command given (Run o) = (command ≢ Some (codes "points")) × (command ≢ Some (codes "alone"))
-    × (command ≢ Some (codes "check")) × AsksRun given o
+    × (command ≢ Some (codes "check")) × (command ≢ Some (codes "broker")) × AsksRun given o
 Asks command given (Points o) = (command ≡ Some (codes "points")) × AsksPoints given o
 Asks command given Alone = command ≡ Some (codes "alone")
 Asks command given (Check o) = (command ≡ Some (codes "check")) × AsksCheck given o
+Asks command given BrokerRun = (command ≡ Some (codes "broker")) × IsTask (given (codes "task"))
 
--- each option that has one of some values, or a number, was given such a one
+-- each option and word that has one of some values, or a number, was given such a one
 pub record AllFit (given : Text → Option Text) : Type 0 where
   pub choice : IsChoice (given (codes "evict"))
   pub draw : Fits 0 MAX_DRAW (given (codes "draw"))
+  pub task : IsTask (given (codes "task"))
 
 -- the words ask this, and clap finds no fault with them
 pub record IsPqxAsked (words : List Text) (o : PqxAsked) : Type 0 where

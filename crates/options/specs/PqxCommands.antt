@@ -23,6 +23,13 @@ check_app = with_rule (with_rule (new_app (codes "check"))
     (flag_rule (codes "order")))
     (option_rule (codes "page"))
 
+-- a word that stands for itself, and has to be there
+abbrev pub word_rule : Text → Rule
+word_rule name = record (new_rule name) { value_names = 1; required = true }
+
+abbrev pub broker_app : App
+broker_app = with_rule (new_app (codes "broker")) (word_rule (codes "task"))
+
 -- `pqx` itself, which wants a command, and tells its version
 abbrev pub top_app : App
 top_app = on_top (λ s. record s { has_version = true; subcommand_required = true }) (new_app (codes "pqx"))
@@ -35,4 +42,4 @@ scripts_app = with_subcommand (with_subcommand (with_subcommand top_app
     (new_app (codes "alone")).top
 
 abbrev pub pqx_app : App
-pqx_app = with_subcommand scripts_app check_app.top
+pqx_app = with_subcommand (with_subcommand scripts_app broker_app.top) check_app.top

@@ -45,4 +45,6 @@ pub enum PqxAsked<'a> {
     Alone,
     /// Whether an order explains a recording.
     Check(CheckOptions<'a>),
+    /// The transcript of a script of a whole broker.
+    BrokerRun,
 }

@@ -3,7 +3,7 @@
 ghost use Rattle.std.specs.Prelude.{◌≡◌, IfOk, false};
 ghost use Rattle.clap.specs.Words.{app_of, new_app};
 ghost use Rattle.clap.specs.declared.builder.command.Command.TheViews.{out-Command};
-ghost use Rattle.options.specs.PqxCommands.{check_app, points_app, run_app, pqx_app, scripts_app, top_app};
+ghost use Rattle.options.specs.PqxCommands.{broker_app, check_app, points_app, run_app, pqx_app, scripts_app, top_app};
 
 use crate::commands::option;
 use crate::program::VERSION;
@@ -24,6 +24,24 @@ nothing. This one has a client call, stops everything before the call's effect i
 
 The other lines: queue durable T K, deq C N, end C, evict W, recover M, order; on a durable queue enq C V and deq C.
 V is two lowercase hexadecimal digits for each of at most 24 bytes, and . for none.
+docs/SCRIPT.md has all of them, and every line that is printed.";
+
+/// What help says of scripts of a whole broker.
+const BROKERS: &str = "\
+A script names a broker and then acts on it and on its queues, a line for each act. An empty line, and one that begins
+with #, says nothing. In this one the creation of a queue is cut off when its name is kept, but not its gate:
+
+  broker 2 4         a broker whose queues have 2 clients, who can begin 4 calls each
+  create a log       a log queue of the name a is created, in 12 steps
+  create b log 9     the creation of b begins, and makes 9 steps
+  a: enq 0 1 09      client 0 of a calls: to enqueue the byte 9, as its call number 1
+  a: end 0           that call goes on alone until it is answered
+  crash              the whole system stops, and what is not kept is lost
+  recover            recovery goes on to its end, and each client of each queue is told of its last call
+  list               prints the queues: a alone
+
+The other lines: create-step, create-step M, find NAME, rotate, evict W, recover M, NAME: told C; and NAME: before each
+line of a queue's script that is about the queue.
 docs/SCRIPT.md has all of them, and every line that is printed.";
 
 /// What help says of recordings.
@@ -60,6 +78,23 @@ fn check<'a>(alloc: Global) -> Result<Command<'a>, AllocError>
         "Shows the recording on a page, which is written to this file",
     );
     command.arg(order)?.arg(page)
+}
+
+/// `broker run`
+fn broker<'a>(alloc: Global) -> Result<Command<'a>, AllocError>
+    ensures app { IfOk result (λ c. app_of c ≡ broker_app) }
+    ensures local { IfOk result (λ c. (out-Command c).has_globals ≡ false) }
+{
+    let command = Command::new(alloc, "broker")
+        .about(
+            "With run, follows the script of a whole broker that standard input has, and prints what happens",
+        )
+        .after_help(BROKERS);
+    let task = Arg::new(alloc, "task")
+        .value_name("TASK")
+        .required(true)
+        .help("What is done with the script: run");
+    command.arg(task)
 }
 
 /// `points [--evict none|all|drawn] [--draw N] [--page FILE]`
@@ -144,10 +179,11 @@ fn with_scripts<'a>(alloc: Global) -> Result<Command<'a>, AllocError>
         .subcommand(alone)
 }
 
-/// `pqx run`, `pqx points`, `pqx alone`, `pqx check`
+/// `pqx run`, `pqx points`, `pqx alone`, `pqx broker`, `pqx check`
 pub(crate) fn pqx<'a>(alloc: Global) -> Result<Command<'a>, AllocError>
     ensures app { IfOk result (λ c. app_of c ≡ pqx_app) }
 {
-    let command = check(alloc)?;
-    with_scripts(alloc)?.subcommand(command)
+    let broker = broker(alloc)?;
+    let check = check(alloc)?;
+    with_scripts(alloc)?.subcommand(broker)?.subcommand(check)
 }

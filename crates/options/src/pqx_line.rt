@@ -6,7 +6,7 @@ ghost use Rattle.clap.specs.Words.{first_value, found_of, kind_of, subcommand_ro
 ghost use Rattle.options.specs.Asked.{name_in, values_in};
 ghost use Rattle.options.specs.declared.limits.TheConstants.{DEFAULT_DRAW, MAX_DRAW};
 ghost use Rattle.options.specs.Numbers.{Fits, number_of};
-ghost use Rattle.options.specs.PqxAsked.{AllFit, Asks, AsksCheck, AsksPoints, AsksRun, Chooses, IsChoice, IsPqxAsked, RefusesPqx};
+ghost use Rattle.options.specs.PqxAsked.{AllFit, Asks, AsksCheck, AsksPoints, AsksRun, Chooses, IsChoice, IsPqxAsked, IsTask, RefusesPqx};
 
 use crate::limits::DEFAULT_DRAW;
 use crate::pqx::{CheckOptions, Choice, PointOptions, PqxAsked, RunOptions};
@@ -21,6 +21,7 @@ use std::convert::AsStr;
 enum Misfit {
     Evict,
     Draw,
+    Task,
 }
 
 /// What such an option takes.
@@ -28,6 +29,7 @@ fn text_of(misfit: Misfit) -> &'static str {
     match misfit {
         Misfit::Evict => "the option '--evict' takes none, all or drawn",
         Misfit::Draw => "the option '--draw' takes a whole number from 0 to 18446744073709551615",
+        Misfit::Task => "broker takes run",
     }
 }
 
@@ -91,6 +93,18 @@ fn check_options<'a>(given: &ArgMatches<'a>) -> CheckOptions<'a>
     }
 }
 
+/// What is done with a script of a whole broker.
+fn broker_task<'a>(given: Option<&str>) -> Result<PqxAsked<'a>, Misfit>
+    ensures asked { IfOk result (λ asked. (asked ≡ PqxAsked.BrokerRun)
+        × IsTask (option_map (λ s. s.now) given.entry)) }
+    ensures misfit { OnErr result (¬ (IsTask (option_map (λ s. s.now) given.entry))) }
+{
+    match given {
+        None | Some("run") => Ok(PqxAsked::BrokerRun),
+        Some(_) => Err(Misfit::Task),
+    }
+}
+
 /// What a command asks with the options that it was given.
 fn asked_by<'a>(command: &str, given: &ArgMatches<'a>) -> Result<PqxAsked<'a>, Misfit>
     ensures asked { IfOk result (Asks (Some command.now) (first_value (found_of given.now))) }
@@ -100,6 +114,7 @@ fn asked_by<'a>(command: &str, given: &ArgMatches<'a>) -> Result<PqxAsked<'a>, M
         "points" => Ok(PqxAsked::Points(point_options(given)?)),
         "alone" => Ok(PqxAsked::Alone),
         "check" => Ok(PqxAsked::Check(check_options(given))),
+        "broker" => broker_task(given.get_str("task")),
         _ => Ok(PqxAsked::Run(run_options(given))),
     }
 }

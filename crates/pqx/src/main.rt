@@ -1,4 +1,5 @@
-//! Follows scripts of single steps on a queue, and crashes them everywhere; finds an order for recordings of any queue.
+//! Follows scripts of single steps on a queue, and crashes them everywhere; follows scripts of whole brokers; finds an
+//! order for recordings of any queue.
 #![tactic(auto)]
 
 ghost use Rattle.std.specs.Prelude.{◌≡◌};
@@ -119,6 +120,7 @@ fn answer<H: Threads + Sync>(
         PqxAsked::Run(asked) => follow_script(rt, asked)?,
         PqxAsked::Alone => explore::run_alone(rt.alloc(), &mut reader, &mut writer)?,
         PqxAsked::Points(points) => report(threads, rt, points)?,
+        PqxAsked::BrokerRun => broker_script::run(rt.alloc(), &mut reader, &mut writer)?,
         PqxAsked::Check(asked) => return check(rt, asked),
     }
     Ok(ExitCode::SUCCESS)
