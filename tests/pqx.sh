@@ -202,7 +202,8 @@ done
 bad_option 'broker takes run' 'pqx <COMMAND>' broker walk
 bad_option 'broker takes run' 'pqx <COMMAND>' broker ''
 bad_option "unexpected argument 'run' found" 'pqx broker <TASK>' broker run run
-bad_option "unexpected argument '--evict' found" 'pqx broker <TASK>' broker run --evict all
+bad_option "unexpected argument '--evict' found"$'\n\n'"  tip: to pass '--evict' as a value, use '-- --evict'" \
+    'pqx broker <TASK>' broker run --evict all
 bad_option "unexpected argument '-1' found" 'pqx points [OPTIONS]' points --draw -1
 bad_option "unexpected argument 'crash.script' found" 'pqx points [OPTIONS]' points crash.script
 bad_option "unexpected argument 'crash.script' found" 'pqx alone' alone crash.script
