@@ -70,6 +70,9 @@ for script in tests/broker/*.in; do
         *) compare "broker $name" 0 "$status" "tests/broker/$name.out" /dev/null ;;
     esac
 done
+for script in examples/*.broker; do
+    judge "$script" "$(difference "$script" "tests/broker/$(basename "$script" .broker).in" "$script")"
+done
 printf 'pqx: line 2: 28 BadLine\n' > "$work/wanted"
 while IFS= read -r line; do
     status=0
@@ -89,7 +92,7 @@ status=0
 printf 'pqx: 26 ReadFailed\n' > "$work/wanted"
 compare 'broker run of a folder' 1 "$status" /dev/null "$work/wanted"
 status=0
-"$pqx" broker run < examples/creation.script > /dev/full 2> "$work/err" || status=$?
+"$pqx" broker run < examples/creation.broker > /dev/full 2> "$work/err" || status=$?
 printf 'pqx: 27 WriteFailed\n' > "$work/wanted"
 : > "$work/out"
 compare 'broker run to a full output' 1 "$status" /dev/null "$work/wanted"
