@@ -70,6 +70,9 @@ for script in tests/broker/*.in; do
         *) compare "broker $name" 0 "$status" "tests/broker/$name.out" /dev/null ;;
     esac
 done
+for script in examples/*.broker; do
+    judge "$script" "$(difference "$script" "tests/broker/$(basename "$script" .broker).in" "$script")"
+done
 printf 'pqx: line 2: 28 BadLine\n' > "$work/wanted"
 while IFS= read -r line; do
     status=0
@@ -89,7 +92,7 @@ status=0
 printf 'pqx: 26 ReadFailed\n' > "$work/wanted"
 compare 'broker run of a folder' 1 "$status" /dev/null "$work/wanted"
 status=0
-"$pqx" broker run < examples/creation.script > /dev/full 2> "$work/err" || status=$?
+"$pqx" broker run < examples/creation.broker > /dev/full 2> "$work/err" || status=$?
 printf 'pqx: 27 WriteFailed\n' > "$work/wanted"
 : > "$work/out"
 compare 'broker run to a full output' 1 "$status" /dev/null "$work/wanted"
@@ -202,7 +205,8 @@ done
 bad_option 'broker takes run' 'pqx <COMMAND>' broker walk
 bad_option 'broker takes run' 'pqx <COMMAND>' broker ''
 bad_option "unexpected argument 'run' found" 'pqx broker <TASK>' broker run run
-bad_option "unexpected argument '--evict' found" 'pqx broker <TASK>' broker run --evict all
+bad_option "unexpected argument '--evict' found"$'\n\n'"  tip: to pass '--evict' as a value, use '-- --evict'" \
+    'pqx broker <TASK>' broker run --evict all
 bad_option "unexpected argument '-1' found" 'pqx points [OPTIONS]' points --draw -1
 bad_option "unexpected argument 'crash.script' found" 'pqx points [OPTIONS]' points crash.script
 bad_option "unexpected argument 'crash.script' found" 'pqx alone' alone crash.script
