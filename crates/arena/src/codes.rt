@@ -1,5 +1,9 @@
 //! What the words say in which calls note their kind and how they went.
 
+ghost use Rattle.std.specs.Prelude.{◌≡◌};
+ghost use Rattle.arena.specs.declared.codes.TheConstants.{CLOSED_GATE, DEQUEUE_KIND, DURABLE_QUEUE, EMPTY_CELL, EMPTY_STATUS};
+ghost use Rattle.arena.specs.declared.codes.TheConstants.{ENQUEUE_KIND, GOT_CELL, LOG_QUEUE, OPEN_GATE, TAKEN_STATUS};
+
 /// In a cell: its dequeue found the queue empty. An open cell is 0.
 pub const EMPTY_CELL: u64 = 1;
 
@@ -29,3 +33,12 @@ pub const CLOSED_GATE: u64 = 0;
 
 /// The gate of a slot with a queue.
 pub const OPEN_GATE: u64 = 1;
+
+/// The numbers themselves, which docs/TABLES.md has. Images are read by them: none may change.
+pub fn codes_are_fixed()
+    ensures cells { (EMPTY_CELL ≡ 1) × (GOT_CELL ≡ 2) }
+    ensures entries { (ENQUEUE_KIND ≡ 1) × (DEQUEUE_KIND ≡ 2) }
+    ensures statuses { (TAKEN_STATUS ≡ 1) × (EMPTY_STATUS ≡ 2) }
+    ensures queues { (DURABLE_QUEUE ≡ 1) × (LOG_QUEUE ≡ 2) }
+    ensures gates { (CLOSED_GATE ≡ 0) × (OPEN_GATE ≡ 1) }
+{}

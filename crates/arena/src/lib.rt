@@ -16,7 +16,7 @@ pub use broker::{
 };
 pub use codes::{
     CLOSED_GATE, DEQUEUE_KIND, DURABLE_QUEUE, EMPTY_CELL, EMPTY_STATUS, ENQUEUE_KIND, GOT_CELL,
-    LOG_QUEUE, OPEN_GATE, TAKEN_STATUS,
+    LOG_QUEUE, OPEN_GATE, TAKEN_STATUS, codes_are_fixed,
 };
 pub use form::Form;
 pub use layout::Layout;
