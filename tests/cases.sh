@@ -59,3 +59,18 @@ need() {
         count || exit 1
     done
 }
+
+# A copy of the plain programs ($work/right, as $work/plain) that is wrong in one place is seen by a part, which says
+# then what differs: FILE OLD NEW PART. The old text stands there once.
+wrong() {
+    rm -r "$work/plain"
+    cp -r "$work/right" "$work/plain"
+    python3 - "$work/plain/$1" "$2" "$3" << 'PYTHON' || judge "$1" "$2 does not stand there once"
+import sys
+path, old, new = sys.argv[1:]
+text = open(path).read()
+open(path, "w").write(text.replace(old, new))
+sys.exit(text.count(old) != 1)
+PYTHON
+    if [ -n "$($4)" ]; then judge "$2" ''; else judge "'$3' in $1" "$4 does not see it"; fi
+}

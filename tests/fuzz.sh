@@ -1,8 +1,9 @@
 #!/usr/bin/env bash
 # The built pqx and pqd say what the plain programs of bench/plain say: of what bench/fuzz.sh draws for some seconds
-# with one seed, and of each byte at each place of requests and scripts (bench/plain/every_byte.py). And plain programs
-# that are wrong in one place are seen to differ, by the same seed: so the comparison can fail. It takes the programs
-# that the last `rt ci`, or `rt run` in their folders, left, or those that PQD and PQX name.
+# with one seed, of each byte at each place of requests and scripts (bench/plain/every_byte.py), and of scripts that a
+# crash cuts off at each step (bench/plain/every_crash.py). And plain programs that are wrong in one place are seen to
+# differ, by the same seed: so the comparison can fail. It takes the programs that the last `rt ci`, or `rt run` in
+# their folders, left, or those that PQD and PQX name.
 set -eu
 cd "$(dirname "$0")/.."
 . tests/cases.sh
@@ -22,12 +23,18 @@ tail -n 1 "$work/out" | grep -qE '^scripts [1-9][0-9]*, lines [1-9][0-9]*, image
 judge 'the plain programs' "$said"
 
 # Each byte at each place: as many of each kind as the documents make of these texts.
-for part in lines scripts; do
+for part in lines scripts brokers; do
     status=0
     python3 -B bench/plain/every_byte.py "$pqd" "$pqx" "$work" "$part" > "$work/out" 2> "$work/err" || status=$?
     cat "$work/out"
     compare "every byte of $part" 0 "$status" "tests/every-byte/$part.out" /dev/null
 done
+
+# Scripts of a whole broker that a crash cuts off at each step, and again: so many of each family.
+status=0
+python3 -B bench/plain/every_crash.py "$pqx" > "$work/out" 2> "$work/err" || status=$?
+cat "$work/out"
+compare 'every crash' 0 "$status" tests/every-crash.out /dev/null
 
 # A copy of the plain programs with one place changed: FILE OLD NEW. The old text stands there once.
 change() {
@@ -54,14 +61,17 @@ wrong() {
     fi
     judge "plain programs with '$3' in $1" "$said"
 }
+wrong broker_machine.py 'self.cached = list(self.kept)' 'pass' 'broker (script|points)'
+wrong broker_machine.py 'self.recovery[1] += 1' 'pass' 'broker (script|points)'
+wrong broker_script.py 'was, self.remembered[word] = self.remembered[word], value' 'was = self.remembered[word]' broker
 wrong broker.py 'if number < last:' 'if number <= last:' lines
 wrong broker.py 'self.is_down = True' 'self.is_down = False' lines
 wrong form.py '(?:[0-9a-f]{2})*' '(?:[0-9a-f]{2})+' lines
 wrong image.py 'require(len(data) == 12 + 8 * count, "TrailingBytes")' 'pass' image
 wrong image.py 'if not self.mark(number)]' 'if True]' '(image|lines)'
-wrong machine.py 'self.cached = list(self.kept)' 'pass' '(script|points|alone)'
-wrong machine.py 'self.requests[port] = word' 'self.keep(word)' '(script|points|alone)'
-wrong machine.py 'self.effects.append([self.takers[value], "done", True])' 'pass' script
+wrong machine.py 'self.cached = list(self.kept)' 'pass' '(broker )?(script|points|alone)'
+wrong machine.py 'self.requests[port] = word' 'self.keep(word)' '(broker )?(script|points|alone)'
+wrong machine.py 'self.effects.append([self.takers[value], "done", True])' 'pass' '(broker )?script'
 
 # What every_byte.py says of such a copy: FILE OLD NEW lines|scripts
 wrong_byte() {

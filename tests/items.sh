@@ -48,19 +48,6 @@ for part in rows sound crashes counts migration rewritten; do
     judge "$part" "$($part)"
 done
 
-# A copy that is wrong in one place is seen by a part: FILE OLD NEW PART. The old text stands there once.
-wrong() {
-    rm -r "$work/plain"
-    cp -r "$work/right" "$work/plain"
-    python3 - "$work/plain/$1" "$2" "$3" << 'PYTHON' || judge "$1" "$2 does not stand there once"
-import sys
-path, old, new = sys.argv[1:]
-text = open(path).read()
-open(path, "w").write(text.replace(old, new))
-sys.exit(text.count(old) != 1)
-PYTHON
-    if [ -n "$($4)" ]; then judge "$2" ''; else judge "'$3' in $1" "$4 does not see it"; fi
-}
 # The length is kept before the words; each part is loaded; what a cell names.
 wrong machine.py 'words += zip(self.message(record), self.form.words_of(call.value))' \
     'words += reversed([*zip(self.message(record), self.form.words_of(call.value))])' crashes

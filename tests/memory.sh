@@ -117,6 +117,9 @@ refuse() {
 refuse 'pqx run' examples/kept.script "$pqx" run
 refuse 'pqx points' crates/test_scenarios/data/points-log-enqueue.script "$pqx" points
 refuse 'pqx alone' crates/test_scenarios/data/points-log-enqueue.script "$pqx" alone
+refuse 'pqx broker run' tests/broker/image.in "$pqx" broker run
+printf '%s\n' 'broker 1 1' 'create a log 1' image > "$work/in"
+refuse 'pqx broker points' "$work/in" "$pqx" broker points
 printf '%s\n' '{"op":"create","queue":"a","kind":"log"}' '{"op":"put","client":0,"queue":"a","number":1,"value":"09000000"}' \
     '{"op":"take","client":0,"queue":"a","number":2}' '{"op":"crash"}' '{"op":"recover"}' '{"op":"stop"}' > "$work/in"
 refuse 'pqd pipe' "$work/in" "$pqd" pipe

@@ -57,6 +57,9 @@ bad_option "unexpected argument '--clients' found"$'\n\n  tip: '"'pipe --clients
 bad_option "unexpected argument 'word' found" 'pqd pipe [OPTIONS]' pipe word
 bad_option "unexpected argument '4' found" 'pqd serve [OPTIONS]' serve 4
 bad_option "unexpected argument '--walk' found" 'pqd pipe [OPTIONS]' pipe --walk
+bad_option "unexpected argument '4' found" 'pqd pipe [OPTIONS]' pipe --renew 4
+bad_option "the argument '--renew' cannot be used multiple times" 'pqd pipe [OPTIONS]' pipe --renew --renew
+bad_option "unexpected value 'yes' for '--renew' found; no more were expected" 'pqd serve --renew' serve --renew=yes
 bad_option "unexpected argument '--port' found" 'pqd pipe [OPTIONS]' pipe --port 0
 bad_option "unexpected argument '--workers' found" 'pqd pipe [OPTIONS]' pipe --workers 1
 bad_option "unexpected argument '--clint' found"$'\n\n  tip: '"a similar argument exists: '--clients'" \
@@ -183,7 +186,9 @@ rm "$image"
 # Every option of pipe in another order: 34 and 8 times 211 words.
 try no-input 0 pipe --image "$work/a b" --records=9 --clients 2 < /dev/null
 has_bytes 'an image with every option' "$work/a b" 13788
-try no-input 0 pipe --image "$image" < /dev/null
+# With no image to renew.
+try no-input 0 pipe --renew < /dev/null
+try no-input 0 pipe --renew --image "$image" < /dev/null
 has_bytes 'an image of the defaults: 34 and 8 times 11,281 words' "$image" 722268
 rm "$image"
 try first-run 0 pipe --clients 1 --records 2 --image "$image" < tests/pqd/first-run.in

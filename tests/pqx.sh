@@ -43,32 +43,43 @@ try stray-word 2 run crash.script < /dev/null
 try empty-word 2 '' < /dev/null
 try misspelt-command 2 runs < "$data/bad-step-0.script"
 
-# Scripts: those of the scenarios. A bad line is told on standard error alone, and ends with status 1.
+# What a command of pqx prints of a script, beside what is stored: NAME SCRIPT STORED COMMAND.. A bad line is told on
+# standard error alone, and ends with status 1.
+plays() {
+    local name=$1 script=$2 stored=$3 status=0
+    shift 3
+    "$pqx" "$@" < "$script" > "$work/out" 2> "$work/err" || status=$?
+    case $(head -c 5 "$stored") in
+        'line ')
+            sed 's/^/pqx: /' "$stored" > "$work/wanted"
+            compare "$name" 1 "$status" /dev/null "$work/wanted"
+            ;;
+        *) compare "$name" 0 "$status" "$stored" /dev/null ;;
+    esac
+}
+
+# Scripts: those of the scenarios.
 for script in "$data"/*.script; do
     name=$(basename "$script" .script)
+    plays "script $name" "$script" "$data/$name.out" run
+done
+
+# A crash of a whole broker at each point of a script, and which words are kept then.
+for script in tests/broker/points/*.in; do
+    name=$(basename "$script" .in)
+    plays "broker points $name" "$script" "tests/broker/points/$name.out" broker points
+done
+for words in none all drawn; do
     status=0
-    "$pqx" run < "$script" > "$work/out" 2> "$work/err" || status=$?
-    case $(head -c 5 "$data/$name.out") in
-        'line ')
-            sed 's/^/pqx: /' "$data/$name.out" > "$work/wanted"
-            compare "script $name" 1 "$status" /dev/null "$work/wanted"
-            ;;
-        *) compare "script $name" 0 "$status" "$data/$name.out" /dev/null ;;
-    esac
+    "$pqx" broker points --evict "$words" --draw 7 < tests/broker/points/evicted.in > "$work/out" 2> "$work/err" ||
+        status=$?
+    compare "broker points, $words kept" 0 "$status" "tests/broker/points/evicted-$words.txt" /dev/null
 done
 
 # Scripts of whole brokers, and lines that no such script has after its first one.
 for script in tests/broker/*.in; do
     name=$(basename "$script" .in)
-    status=0
-    "$pqx" broker run < "$script" > "$work/out" 2> "$work/err" || status=$?
-    case $(head -c 5 "tests/broker/$name.out") in
-        'line ')
-            sed 's/^/pqx: /' "tests/broker/$name.out" > "$work/wanted"
-            compare "broker $name" 1 "$status" /dev/null "$work/wanted"
-            ;;
-        *) compare "broker $name" 0 "$status" "tests/broker/$name.out" /dev/null ;;
-    esac
+    plays "broker $name" "$script" "tests/broker/$name.out" broker run
 done
 for script in examples/*.broker; do
     judge "$script" "$(difference "$script" "tests/broker/$(basename "$script" .broker).in" "$script")"
@@ -87,15 +98,17 @@ for line in 'broker 0 1' 'broker 17 1' 'broker 1 0' 'broker 1 4097' 'broker 1' '
     "$pqx" broker run < "$work/in" > "$work/out" 2> "$work/err" || status=$?
     compare "broker line $line" 1 "$status" /dev/null "$work/wanted"
 done
-status=0
-"$pqx" broker run < tests > "$work/out" 2> "$work/err" || status=$?
-printf 'pqx: 26 ReadFailed\n' > "$work/wanted"
-compare 'broker run of a folder' 1 "$status" /dev/null "$work/wanted"
-status=0
-"$pqx" broker run < examples/creation.broker > /dev/full 2> "$work/err" || status=$?
-printf 'pqx: 27 WriteFailed\n' > "$work/wanted"
-: > "$work/out"
-compare 'broker run to a full output' 1 "$status" /dev/null "$work/wanted"
+for task in run points; do
+    status=0
+    "$pqx" broker "$task" < tests > "$work/out" 2> "$work/err" || status=$?
+    printf 'pqx: 26 ReadFailed\n' > "$work/wanted"
+    compare "broker $task of a folder" 1 "$status" /dev/null "$work/wanted"
+    status=0
+    "$pqx" broker "$task" < examples/creation.broker > /dev/full 2> "$work/err" || status=$?
+    printf 'pqx: 27 WriteFailed\n' > "$work/wanted"
+    : > "$work/out"
+    compare "broker $task to a full output" 1 "$status" /dev/null "$work/wanted"
+done
 
 # Reports on those scripts that have one stored: a crash at each point, with no word kept, with every one and with drawn
 # ones, and each stopped call alone. Standard error is no terminal here, so nothing is written there.
@@ -136,6 +149,35 @@ judge 'the last of many points' "$(difference 'standard output' "$work/count" "$
 status=0
 "$pqx" points --evict drawn < "$work/in" > "$work/out" 2> "$work/err" || status=$?
 compare 'many points again' 0 "$status" "$work/wanted" /dev/null
+
+# Parts of a report: their lines, put together, are those of the whole, and the last line of each counts its own.
+: > "$work/together"
+: > "$work/counts"
+for ((from = 0; from < $(wc -l < "$work/wanted"); from += 700)); do
+    status=0
+    "$pqx" points --evict drawn --from "$from" --count 700 < "$work/in" > "$work/part" 2> "$work/err" || status=$?
+    sed '$d' "$work/part" > "$work/out"
+    compare "part from $from" 0 "$status" <(sed -n "$((from + 1)),$((from + 700))p" "$work/wanted" | grep '^point ') /dev/null
+    cat "$work/out" >> "$work/together"
+    tail -n 1 "$work/part" >> "$work/counts"
+    awk 'END { printf "points %d bad 0\n", NR }' "$work/out" >> "$work/count-wanted"
+done
+judge 'parts put together' "$(difference 'all parts' <(sed '$d' "$work/wanted") "$work/together")"
+judge 'what the parts count' "$(difference 'last lines' "$work/count-wanted" "$work/counts")"
+part() {
+    local status=0 name=$1
+    shift
+    "$pqx" points "$@" < "$data/points-log-enqueue.script" > "$work/out" 2> "$work/err" || status=$?
+    compare "points $*" 0 "$status" "tests/pqx/$name.out" /dev/null
+}
+part part-of-one --from 37 --count 1
+part part-to-the-end --from 37
+part part-to-the-end --from 37 --count 18446744073709551615
+part part-of-none --count 0
+part part-of-none --from 39
+part part-of-none --from 18446744073709551615 --count 18446744073709551615
+reports points points --from 0 --count 200
+reports points points --from +0
 
 # The page of a report: the same on standard output, and the stored page in its file. A file that cannot be written.
 status=0
@@ -197,20 +239,28 @@ for value in x '' -1 1.0 18446744073709551616; do
     bad_option "the option '--draw' takes a whole number from 0 to 18446744073709551615" 'pqx <COMMAND>' \
         points "--draw=$value"
 done
-for option in 'evict <WORDS>' 'draw <N>' 'page <FILE>'; do
+for option in from count; do
+    for value in x '' -1 1.0 18446744073709551616; do
+        bad_option "the option '--$option' takes a whole number from 0 to 18446744073709551615" 'pqx <COMMAND>' \
+            points "--$option=$value"
+    done
+done
+for option in 'evict <WORDS>' 'draw <N>' 'from <P>' 'count <N>' 'page <FILE>'; do
     bad_option "a value is required for '--$option' but none was supplied" '' points "--${option%% *}"
     bad_option "the argument '--$option' cannot be used multiple times" 'pqx points [OPTIONS]' \
         points "--${option%% *}" 1 "--${option%% *}" 1
 done
-bad_option 'broker takes run' 'pqx <COMMAND>' broker walk
-bad_option 'broker takes run' 'pqx <COMMAND>' broker ''
-bad_option "unexpected argument 'run' found" 'pqx broker <TASK>' broker run run
-bad_option "unexpected argument '--evict' found"$'\n\n'"  tip: to pass '--evict' as a value, use '-- --evict'" \
-    'pqx broker <TASK>' broker run --evict all
+bad_option 'broker takes run or points' 'pqx <COMMAND>' broker walk
+bad_option 'broker takes run or points' 'pqx <COMMAND>' broker ''
+bad_option "unexpected argument 'run' found" 'pqx broker [OPTIONS] <TASK>' broker run run
+bad_option "broker run takes neither '--evict' nor '--draw'" 'pqx <COMMAND>' broker run --evict all
+bad_option "broker run takes neither '--evict' nor '--draw'" 'pqx <COMMAND>' broker run --draw 1
+bad_option "the option '--evict' takes none, all or drawn" 'pqx <COMMAND>' broker points --evict some
 bad_option "unexpected argument '-1' found" 'pqx points [OPTIONS]' points --draw -1
 bad_option "unexpected argument 'crash.script' found" 'pqx points [OPTIONS]' points crash.script
 bad_option "unexpected argument 'crash.script' found" 'pqx alone' alone crash.script
 bad_option "unexpected argument '--evict' found" 'pqx alone' alone --evict all
+bad_option "unexpected argument '--from' found" 'pqx alone' alone --from 1
 bad_option "unexpected argument '--evict' found" 'pqx run [OPTIONS]' run --evict all
 bad_option "a value is required for '--page <FILE>' but none was supplied" '' run --page
 bad_option "the argument '--page <FILE>' cannot be used multiple times" 'pqx run [OPTIONS]' run --page 1 --page 1

@@ -1,7 +1,7 @@
-"""every_byte.py PQD PQX FOLDER lines|scripts: each byte at each place of a request of each kind, and lines of drawn
-pieces; or of two scripts that have every line. What pqd and pqx say is what the plain programs say. Prints what was
-tried, or the first difference, with status 1. Not all of the scripts are tried, since each takes a process of its
-own."""
+"""every_byte.py PQD PQX FOLDER lines|scripts|brokers: each byte at each place of a request of each kind, and lines of
+drawn pieces; or of two scripts that have every line; or of a broker's script that has every line of its own. What pqd
+and pqx say is what the plain programs say. Prints what was tried, or the first difference, with status 1. Not all of
+the scripts are tried, since each takes a process of its own."""
 
 import json
 import os
@@ -9,6 +9,7 @@ import random
 import sys
 from collections import Counter
 
+import broker_script
 import image
 import script
 from broker import ERRORS, Broker, text_of
@@ -49,6 +50,11 @@ SCRIPTS = [
     b"recover 1\nrecover\ncontent\norder\n" % GREATEST_TEXT,
     b"queue log 16 1\nenq 0 0 %b\nstep 0 1\ndeq 1 18446744073709551615\n#\nend 1\nevict 0\ncrash\nrecover 20\nrecover\n"
     b"content\norder" % FIVE_TEXT,
+]
+BROKER_SCRIPTS = [
+    b"#\n\nbroker 1 2\nboot\nset 0 1\ncreate a log\ncreate _-9 durable 1\ncreate-step\ncreate-step 11\nfind a\nlist\n"
+    b"a: enq 0 1 05\na: step 0 37\na: told 0\n_-9: deq 0\n_-9: end 0\nimage\nset 5 2\nboot\nset 5 1\nboot\nrecover 1\n"
+    b"recover\nrotate\nevict 5\ncrash\n",
 ]
 # Of the scripts those are tried whose change puts one of these bytes, or none, and of the others one of so many.
 NEAR = b"\n 0#9"
@@ -145,15 +151,15 @@ def try_pieces(pqd, path):
     return played(batch, pqd, path)
 
 
-def try_scripts(pqx):
+def try_scripts(command, scripts, transcript):
     """How many scripts were tried, and how many of them were followed."""
     draw, tried = random.Random(1), Counter()
-    for good in SCRIPTS:
+    for good in scripts:
         for text, byte in changes(good):
             if byte is not None and byte not in NEAR and draw.randrange(OF_OTHERS) != 0:
                 continue
-            wanted, _ = script.transcript(text)
-            compare("scripts", text, wanted, ran([pqx, "run"], text))
+            wanted = transcript(text)
+            compare("scripts", text, wanted, ran(command, text))
             tried["refused" if wanted[2] else "followed"] += 1
     return tried
 
@@ -167,7 +173,10 @@ def report(part, pqd, pqx, path):
     if part == "lines":
         lines, drawn = try_lines(pqd, path), try_pieces(pqd, path)
         return f"requests {lines['texts']}: {shown(lines)}\nlines of pieces {PIECES}: {shown(drawn)}"
-    tried = try_scripts(pqx)
+    if part == "scripts":
+        tried = try_scripts([pqx, "run"], SCRIPTS, lambda text: script.transcript(text)[0])
+    else:
+        tried = try_scripts([pqx, "broker", "run"], BROKER_SCRIPTS, broker_script.transcript)
     return f"scripts {sum(tried.values())}: followed {tried['followed']}, refused {tried['refused']}"
 
 

@@ -7,6 +7,9 @@ import sys
 import time
 from collections import Counter
 
+import broker_points
+import broker_script
+import broker_scripts
 import draw as lines
 import image
 import images
@@ -86,6 +89,18 @@ class Fuzz:
             raise Different("order", text, broken)
         compare("script", text, wanted, found)
 
+    def play_broker_script(self, draw):
+        """A script of a whole broker: its transcript, in which the orders explain what came before them."""
+        text = broker_scripts.drawn_script(draw)
+        wanted = broker_script.transcript(text)
+        self.tried["scripts of brokers"] += 1
+        self.tried["lines of transcripts"] += wanted[0].count(b"\n")
+        found = ran([self.pqx, "broker", "run"], text)
+        broken = broker_script.check_orders(found[0])
+        if broken:
+            raise Different("order", text, broken)
+        compare("broker script", text, wanted, found)
+
     def play_report(self, draw):
         """A crash at each point of a short script, or each stopped call alone."""
         text = scripts.drawn_script(draw)
@@ -93,8 +108,22 @@ class Fuzz:
             text = scripts.drawn_script(draw)
         drawn = ["points", "--evict", "drawn", "--draw", str(draw.randrange(2**64))]
         command = draw.choice([["points"], ["points", "--evict", "all"], drawn, drawn, ["alone"]])
+        if command[0] == "points" and draw.random() < 0.5:
+            command = [*command, "--from", str(draw.randrange(60)), "--count", str(draw.randrange(60))]
         wanted = points.report(text, command)
         self.tried["scripts"] += 1
+        self.tried["points"] += wanted[0].count(b"\n")
+        compare(" ".join(command), text, wanted, ran([self.pqx, *command], text))
+
+    def play_broker_report(self, draw):
+        """A crash of a whole broker at each point of a short script: each queue is there, and explained."""
+        text = broker_scripts.drawn_script(draw)
+        while len(text) > 300:
+            text = broker_scripts.drawn_script(draw)
+        options = draw.choice([[], ["--evict", "all"], ["--evict", "drawn", "--draw", str(draw.randrange(2**64))]])
+        command = ["broker", "points", *options]
+        wanted = broker_points.report(text, command)
+        self.tried["scripts of brokers"] += 1
         self.tried["points"] += wanted[0].count(b"\n")
         compare(" ".join(command), text, wanted, ran([self.pqx, *command], text))
 
@@ -143,7 +172,10 @@ def questions_of(broker):
 
 def turns(fuzz, seed, until):
     """Turns until the time is over, each drawn by its own seed; each kind comes once at least."""
-    plays = [fuzz.play_lines, fuzz.play_image, fuzz.play_script, fuzz.play_report, fuzz.play_image, fuzz.play_script]
+    plays = [
+        fuzz.play_lines, fuzz.play_image, fuzz.play_script, fuzz.play_report, fuzz.play_broker_script, fuzz.play_image,
+        fuzz.play_script, fuzz.play_broker_report,
+    ]
     turn = 0
     while turn < len(plays) or time.monotonic() < until:
         draw = random.Random(f"{seed} {turn}")
@@ -169,6 +201,7 @@ def main(pqd, pqx, seconds, seed, folder):
     rules = ", ".join(f"{rule[8:]} {count}" for rule, count in sorted(tried.items()) if rule.startswith("refused "))
     print(f"lines of transcripts {tried['lines of transcripts']}, points {tried['points']}")
     print(f"images served {tried['images served']}, refused: {rules or 'none'}")
+    print(f"scripts of brokers {tried['scripts of brokers']}")
     print(f"scripts {tried['scripts']}, lines {tried['lines']}, images {tried['images']}, differences {status}")
     return status
 

@@ -2,7 +2,7 @@
 
 from form import FORM
 from machine import Machine
-from script import parsed
+from script import parsed, printed
 
 
 class Pcg32:
@@ -74,10 +74,15 @@ def after(queue, acts):
     return machine
 
 
+def given(command, option, default):
+    """The number of an option, or the default where it is not given."""
+    return int(command[command.index(option) + 1]) if option in command else default
+
+
 def evicted(size, at, command):
     """The words that the environment keeps just before a crash at this point."""
     if "drawn" in command:
-        draws = Pcg32(int(command[-1]), at)
+        draws = Pcg32(given(command, "--draw", 1), at)
         return [word for word in range(size) if draws.draw() % 2 == 1]
     return range(size) if "all" in command else []
 
@@ -115,19 +120,18 @@ def stopped(queue, made):
 
 
 def crashed(queue, made, command):
-    lines = [point(after(queue, made[:at]), at, command) for at in range(len(made) + 1)]
+    first = given(command, "--from", 0)
+    wanted = range(len(made) + 1)[first:first + given(command, "--count", len(made) + 1)]
+    lines = [point(after(queue, made[:at]), at, command) for at in wanted]
     return [*lines, f"points {len(lines)} bad 0"]
 
 
 def report(text, command):
     """Standard output, standard error and the status of `alone`, `points`, `points --evict all`, or
-    `points --evict drawn --draw N`."""
-    script = parsed(text)
-    if isinstance(script, int):
-        return b"", f"pqx: line {script}: 28 BadLine\n".encode(), 1
-    queue, acts = script
-    if queue is None:
-        return b"", b"", 0
-    made = accepted(queue, acts)
-    lines = stopped(queue, made) if command[0] == "alone" else crashed(queue, made, command)
-    return "".join(line + "\n" for line in lines).encode(), b"", 0
+    `points --evict drawn --draw N`, the last three with `--from P` and `--count N` or without."""
+
+    def lines(queue, acts):
+        made = accepted(queue, acts)
+        return stopped(queue, made) if command[0] == "alone" else crashed(queue, made, command)
+
+    return printed(parsed(text), lines)

@@ -48,28 +48,51 @@ def act_of(words, is_log):
     return None if numbers is None else (words[0].decode(), numbers)
 
 
-def parsed(text):
-    """The queue and the acts, or the number of the first bad line."""
+def said(text):
+    """The lines that say something, by their numbers and words. The first line past the 1,000th has no words."""
     lines = text.split(b"\n")
     if not lines[-1]:
         lines.pop()
-    queue, acts = None, []
-    for at, line in enumerate(lines, 1):
-        if at > 1000:
+    for at, line in enumerate(lines[:1000], 1):
+        if line and not line.startswith(b"#"):
+            yield at, line.split(b" ")
+    if len(lines) > 1000:
+        yield 1001, None
+
+
+def read(text, first, then):
+    """What `first` makes of the first line that says something, and what `then` makes of each later one, beside what was
+    made of those before it. Or the number of the first line of which nothing is made."""
+    head, rest = None, []
+    for at, words in said(text):
+        made = None if words is None else first(words) if head is None else then(head, rest, words)
+        if made is None:
             return at
-        if not line or line.startswith(b"#"):
-            continue
-        words = line.split(b" ")
-        if queue is None:
-            queue = queue_of(words)
-            if queue is None:
-                return at
+        if head is None:
+            head = made
         else:
-            act = act_of(words, queue[0] == "log")
-            if act is None:
-                return at
-            acts.append((line.decode(), *act))
-    return queue, acts
+            rest.append(made)
+    return head, rest
+
+
+def act_in(queue, _, words):
+    """A line of a script of this queue, with its act."""
+    act = act_of(words, queue[0] == "log")
+    return act and (b" ".join(words).decode(), *act)
+
+
+def parsed(text):
+    """The queue and the acts, or the number of the first bad line."""
+    return read(text, queue_of, act_in)
+
+
+def printed(script, lines):
+    """Standard output, standard error and the status of a program that prints these lines of a script that was read."""
+    if isinstance(script, int):
+        return b"", f"pqx: line {script}: 28 BadLine\n".encode(), 1
+    if script[0] is None:
+        return b"", b"", 0
+    return "".join(line + "\n" for line in lines(*script)).encode(), b"", 0
 
 
 def call_line(call, reply):
@@ -139,16 +162,14 @@ def play(machine, line, word, numbers):
 def transcript(text):
     """Standard output, standard error and the status of `pqx run`; and the machine at the end, where there is one."""
     script = parsed(text)
-    if isinstance(script, int):
-        return (b"", f"pqx: line {script}: 28 BadLine\n".encode(), 1), None
-    queue, acts = script
-    if queue is None:
-        return (b"", b"", 0), None
-    machine = Machine(*queue)
-    printed = [f"size {len(machine.kept)}"]
-    for act in acts:
-        printed += play(machine, *act)
-    return ("".join(line + "\n" for line in printed).encode(), b"", 0), machine
+    machine = None if isinstance(script, int) or script[0] is None else Machine(*script[0])
+
+    def lines(_, acts):
+        yield f"size {len(machine.kept)}"
+        for act in acts:
+            yield from play(machine, *act)
+
+    return printed(script, lines), machine
 
 
 def history_of(lines, is_log):

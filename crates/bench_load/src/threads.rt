@@ -9,15 +9,22 @@ use std::sync::Wait;
 use std::thread::{Threads, map_vec};
 use std::time::{Clock, Instant};
 use words::Refusal;
-use workers::{Answer, Naming, OpenGate, Opened, Seat, Shared};
+use workers::{Answer, Naming, OpenGate, Opened, Request, Seat, Shared};
 
 /// The calls of a seat's client, all on its own queue. How many were answered.
 fn answered<J: Naming, R: Wait>(rt: &R, shared: &Shared<J>, seat: Seat<J>, work: Work) -> u64 {
-    let queue = work.queue(u32::from(seat.client.0));
+    let Ok(name) = work.name(u32::from(seat.client.0)) else {
+        return 0;
+    };
     let mut seat = seat;
     let mut answered = 0u64;
     for number in 0..work.calls {
-        let (next, answer) = shared.call(rt, seat, queue, None, call_of(number), &OpenGate);
+        let request = Request {
+            name,
+            number: None,
+            call: call_of(number),
+        };
+        let (next, answer) = shared.call(rt, seat, request, &OpenGate);
         seat = next;
         if matches!(answer, Answer::Reply(_)) {
             answered = answered.saturating_add(1);
@@ -35,7 +42,7 @@ fn turn<J: Naming + Send + Sync, R: Threads + Wait + Clock + AllocGlobal + Sync>
 ) -> Result<Figures>
     requires { IsNameOf J.roll J.clients J.first opened }
 {
-    let (shared, mut seats) = match opened.named::<J>(rt.alloc()) {
+    let (shared, mut seats, _operator) = match opened.named::<J>(rt.alloc()) {
         Ok(named) => named,
         Err(not) => return Err(not.refusal.into()),
     };

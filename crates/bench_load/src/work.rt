@@ -1,6 +1,7 @@
 //! What clients call, and on what.
 
 use arena::SlotId;
+use directory::Name;
 use named::Broker;
 use session::Session;
 use std::alloc::Global;
@@ -58,6 +59,11 @@ impl Work {
     /// A client's queue, or another thing's that is dealt out to the queues in turn.
     pub(crate) fn queue(&self, of: u32) -> SlotId {
         SlotId((of % self.queues.clamp(1, 8)) as u8)
+    }
+
+    /// The name of that queue.
+    pub(crate) fn name(&self, of: u32) -> Result<Name, Refusal> {
+        Name::make(&[b'a'.saturating_add(self.queue(of).0)])
     }
 }
 

@@ -70,9 +70,9 @@ step_made old new slot client answer alone counted =
 -- nothing but the queue's own
 pub only_in : (slot : ℕ) (old new : Played) → IsSameBeside slot old.broker new.broker
     → ((other : ℕ) → other ≢ slot → slice_get new.steps other ≡ slice_get old.steps other)
-    → new.creation ≡ old.creation → new.recovery ≡ old.recovery → IsOnlyIn slot old new
-only_in slot old new beside steps creation recovery =
-    record { beside = beside; steps = steps; creation = creation; recovery = recovery }
+    → new.creation ≡ old.creation → new.recovery ≡ old.recovery → new.image ≡ old.image → IsOnlyIn slot old new
+only_in slot old new beside steps creation recovery image =
+    record { beside = beside; steps = steps; creation = creation; recovery = recovery; image = image }
 
 same_directory : (old mid new : Words) → HaveSameDirectory old mid → HaveSameDirectory mid new → HaveSameDirectory old new
 same_directory old mid new one other = record {
@@ -96,6 +96,7 @@ only_then slot old mid new one other = record {
   steps = λ at apart. other.steps at apart ∙ one.steps at apart;
   creation = other.creation ∙ one.creation;
   recovery = other.recovery ∙ one.recovery;
+  image = other.image ∙ one.image;
 }
 
 -- and none
@@ -119,6 +120,7 @@ only_none slot old well = record {
   steps = λ at apart. refl;
   creation = refl;
   recovery = refl;
+  image = refl;
 }
 
 -- what follows of the value, where there is one

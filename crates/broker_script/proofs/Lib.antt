@@ -4,5 +4,8 @@ pub mod Scripts
 pub mod Worlds
 pub mod Created
 pub mod Acted
+pub mod Staying
+pub mod Making
 pub mod Going
 pub mod Printing
+mod Imaged

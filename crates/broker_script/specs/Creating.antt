@@ -8,6 +8,7 @@ use Rattle.directory.specs.Creation.{successor}
 use Rattle.directory.specs.Directory.{HasQueue}
 use Rattle.directory.specs.declared.queue.Queue.{Queue}
 use Rattle.named.specs.Brokers.{Brokered, is_down, quiet, world_at, IsBegun, IsNotCreated, IsStepCreated, MayCreate}
+use Rattle.named.specs.GoingOn.{BrokerGoesOn}
 use Rattle.playing.specs.Steps.{count_after}
 use Rattle.playing.specs.declared.lines.Line.TheVariants.{Refused}
 use Rattle.broker_script.specs.Play.{Played}
@@ -23,6 +24,7 @@ pub record IsCreationStep (old : Brokered) (result : Result (Option SlotId) Refu
       (λ creation. IsStepCreated old new creation result (successor creation))
   pub others : (other : ℕ) → IfOk result (λ opened. IfSome opened (λ slot. other ≢ slot.0))
       → quiet (world_at new other) ≡ quiet (world_at old other)
+  pub goes_on : BrokerGoesOn old new
 
 -- and it is counted, where it was made
 abbrev pub creation_counted : ℕ → Result (Option SlotId) Refusal → ℕ

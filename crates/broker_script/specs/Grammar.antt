@@ -1,5 +1,5 @@
 -- The lines of a broker's script, each as its words, and the limits of the numbers in them.
-use Rattle.std.specs.Prelude.{◌≡◌, ◌≤◌, ℕ, Bool, true, false, List, [], ◌∷◌, ◌++◌, codes, decimal}
+use Rattle.std.specs.Prelude.{◌≡◌, ◌≤◌, ◌<◌, ◌^◌, ℕ, Bool, true, false, List, [], ◌∷◌, ◌++◌, codes, decimal}
 use Rattle.arena.specs.Limits.{AreCounts}
 use Rattle.directory.specs.Name.{IsName}
 use Rattle.grammar.specs.Grammar.{command_words, kind_word, IsServed}
@@ -9,7 +9,7 @@ use Rattle.grammar.specs.declared.commands.Command.TheVariants.{Enq, NumberedEnq
 use Rattle.grammar.specs.declared.limits.TheConstants.{MAX_CLIENT_NUMBER, MAX_STEPS}
 use Rattle.broker_script.specs.declared.statements.BrokerLine.{BrokerLine}
 use Rattle.broker_script.specs.declared.statements.Statement.{Statement}
-use Rattle.broker_script.specs.declared.statements.Statement.TheVariants.{Create, BeginCreation, CreateStep, CreateSteps, Find, List as list_queues, Rotate, Whole, On, Told}
+use Rattle.broker_script.specs.declared.statements.Statement.TheVariants.{Create, BeginCreation, CreateStep, CreateSteps, Find, List as list_queues, Rotate, Image, SetWord, Boot, Whole, On, Told}
 
 -- `broker T K`
 abbrev pub broker_words : BrokerLine → List (List ℕ)
@@ -19,8 +19,9 @@ broker_words broker = codes "broker" ∷ decimal broker.clients ∷ decimal brok
 abbrev pub label : List ℕ → List ℕ
 label name = name ++ codes ":"
 
--- `create NAME KIND`, `create NAME KIND M`, `create-step`, `create-step M`, `find NAME`, `list`, `rotate`, a line of a
--- queue's script that is about the whole memory, `NAME: ` and one that is about the queue, and `NAME: told C`
+-- `create NAME KIND`, `create NAME KIND M`, `create-step`, `create-step M`, `find NAME`, `list`, `rotate`, `image`,
+-- `set W N`, `boot`, a line of a queue's script that is about the whole memory, `NAME: ` and one that is about the
+-- queue, and `NAME: told C`
 abbrev pub statement_words : Statement → List (List ℕ)
 statement_words (Create name kind) = codes "create" ∷ name ∷ kind_word kind ∷ []
 statement_words (BeginCreation name kind most) = codes "create" ∷ name ∷ kind_word kind ∷ decimal most ∷ []
@@ -29,6 +30,9 @@ statement_words (CreateSteps most) = codes "create-step" ∷ decimal most ∷ []
 statement_words (Find name) = codes "find" ∷ name ∷ []
 statement_words list_queues = codes "list" ∷ []
 statement_words Rotate = codes "rotate" ∷ []
+statement_words Image = codes "image" ∷ []
+statement_words (SetWord word value) = codes "set" ∷ decimal word ∷ decimal value ∷ []
+statement_words Boot = codes "boot" ∷ []
 statement_words (Whole command) = command_words command
 statement_words (On name command) = label name ∷ command_words command
 statement_words (Told name client) = label name ∷ codes "told" ∷ decimal client.0 ∷ []
@@ -61,6 +65,9 @@ IsServedStatement (CreateSteps most) = (1 ≤ most) × (most ≤ MAX_STEPS)
 IsServedStatement (Find name) = IsName name
 IsServedStatement list_queues = Unit {0}
 IsServedStatement Rotate = Unit {0}
+IsServedStatement Image = Unit {0}
+IsServedStatement (SetWord word value) = (word < 2 ^ 64) × (value < 2 ^ 64)
+IsServedStatement Boot = Unit {0}
 IsServedStatement (Whole command) = IsServed command × (is_whole command ≡ true)
 IsServedStatement (On name command) = IsName name × IsServed command × (is_whole command ≡ false)
 IsServedStatement (Told name client) = IsName name × (client.0 ≤ MAX_CLIENT_NUMBER)

@@ -7,5 +7,9 @@ pub mod Play
 pub mod Creating
 pub mod Recovering
 pub mod OnQueue
+pub mod Imaging
 pub mod Transcript
+pub mod Standing
+pub mod Acts
+pub mod Made
 pub mod Run

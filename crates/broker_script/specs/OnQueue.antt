@@ -1,19 +1,19 @@
 -- Lines on one queue: what they come to is what they come to on that queue alone.
-use Rattle.std.specs.Prelude.{◌≡◌, ◌≢◌, ◌&&◌, not, ℕ, Bool, false, List, [], ◌∷◌, Option, Some, None, IsSome, Result, Ok, Err, slice_get, slice_index, MatchBool}
+use Rattle.std.specs.Prelude.{◌≡◌, ◌≢◌, ◌&&◌, not, ℕ, Bool, false, List, [], ◌∷◌, Option, Some, None, Result, Ok, Err, slice_get, slice_index, MatchBool}
 use Rattle.words.specs.declared.call.Client.{Client}
 use Rattle.words.specs.declared.call.Kind.{Kind}
 use Rattle.words.specs.declared.call.Reply.{Reply}
 use Rattle.words.specs.declared.refusal.Refusal.{Refusal}
-use Rattle.words.specs.declared.refusal.Refusal.TheVariants.{NotReady, NoQueue, WrongKind}
+use Rattle.words.specs.declared.refusal.Refusal.TheVariants.{WrongKind}
 use Rattle.words.specs.declared.told.Told.{Told}
 use Rattle.arena.specs.declared.broker.SlotId.{SlotId}
-use Rattle.directory.specs.Directory.{HasName, IsNamed}
 use Rattle.interleave.specs.Queue.{told_in, told_to}
 use Rattle.interleave.specs.State.{step_result}
 use Rattle.grammar.specs.Grammar.{is_on}
 use Rattle.grammar.specs.declared.commands.Command.{Command}
 use Rattle.named.specs.Acting.{IsSameBeside}
 use Rattle.named.specs.Brokers.{Brokered, answer_at}
+use Rattle.named.specs.Finding.{IsPlaced}
 use Rattle.playing.specs.Play.{Play, after_command}
 use Rattle.playing.specs.Steps.{count_after}
 use Rattle.playing.specs.Transcript.{command_lines}
@@ -24,13 +24,6 @@ use Rattle.broker_script.specs.Play.{Played, play_at, the_world}
 use Rattle.broker_script.specs.Recovering.{of_queue}
 use Rattle.broker_script.specs.declared.printed.Printed.{Printed}
 use Rattle.broker_script.specs.declared.printed.Printed.TheVariants.{Whole, Of, Found}
-
--- in which slot the queue of this name is, or why it is not to be had
-abbrev pub IsPlaced : Brokered → List ℕ → Result SlotId Refusal → Type 0
-IsPlaced b name (Ok slot) = (b.recovery ≡ None) × IsNamed b.directory slot.0 name
-IsPlaced b name (Err NotReady) = IsSome b.recovery
-IsPlaced b name (Err NoQueue) = (b.recovery ≡ None) × (HasName b.directory name → ⊥)
-IsPlaced b name (Err _) = ⊥
 
 -- its slot as a line
 abbrev pub found_line : List ℕ → Result SlotId Refusal → Printed
@@ -43,6 +36,7 @@ pub record IsOnlyIn (slot : ℕ) (old new : Played) : Type 0 where
   pub steps : (other : ℕ) → other ≢ slot → slice_get new.steps other ≡ slice_get old.steps other
   pub creation : new.creation ≡ old.creation
   pub recovery : new.recovery ≡ old.recovery
+  pub image : new.image ≡ old.image
 
 -- a line was followed on the queue in a slot: it gave and left there what it gives and leaves on that queue alone
 pub record IsFollowedIn (old : Played) (slot : ℕ) (command : Command) (lines : List Line) (new : Played) : Type 0 where

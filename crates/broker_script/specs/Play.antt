@@ -1,5 +1,5 @@
 -- A broker that follows a script.
-use Rattle.std.specs.Prelude.{ℕ, List, replicate, slice_get, unwrap_or}
+use Rattle.std.specs.Prelude.{ℕ, List, [], replicate, slice_get, unwrap_or}
 use Rattle.words.specs.declared.call.Kind.TheVariants.{Durable}
 use Rattle.arena.specs.Shape.{shape_of}
 use Rattle.arena.specs.declared.broker.TheConstants.{SLOTS}
@@ -10,12 +10,13 @@ use Rattle.playing.specs.declared.steps.TheConstants.{CLIENT_NUMBERS}
 use Rattle.playing.specs.declared.steps.Steps.{Steps}
 
 -- a broker, how many steps the calls on each slot's queue have made, the creation that was begun last, and recovery
--- since the last crash
+-- since the last crash, and the words of the image that is remembered, of which there is none at first
 pub record Played : Type 0 where
   pub broker : Brokered
   pub steps : List Steps
   pub creation : ℕ
   pub recovery : ℕ
+  pub image : List ℕ
 
 -- no step was made
 abbrev pub no_steps : Steps
@@ -34,4 +35,4 @@ play_at p slot = record { world = the_world p.broker slot; steps = steps_at p sl
 
 -- a broker on which no step was made
 abbrev pub new_played : Brokered → Played
-new_played b = record { broker = b; steps = replicate SLOTS no_steps; creation = 0; recovery = 0 }
+new_played b = record { broker = b; steps = replicate SLOTS no_steps; creation = 0; recovery = 0; image = [] }

@@ -1,7 +1,8 @@
 -- Recovery, step by step.
-use Rattle.std.specs.Prelude.{◌≡◌, ◌<◌, ◌-◌, ℕ, zero, suc, Bool, true, false, List, [], ◌∷◌, ◌++◌, Option, Some, None, Result, Ok, Err, length, map, slice_get}
+use Rattle.std.specs.Prelude.{◌≡◌, ◌<◌, ◌-◌, ℕ, zero, suc, Bool, true, false, List, [], ◌∷◌, ◌++◌, Option, Some, None, Result, Ok, Err, IfErr, length, map, slice_get}
 use Rattle.words.specs.declared.refusal.Refusal.{Refusal}
 use Rattle.directory.specs.declared.queue.Queue.{Queue}
+use Rattle.named.specs.GoingOn.{BrokerGoesOn}
 use Rattle.named.specs.Stopping.{IsRecoveryStep}
 use Rattle.playing.specs.Steps.{count_after}
 use Rattle.playing.specs.Transcript.{told_at, told_lines}
@@ -38,6 +39,8 @@ recovery_counted steps (Err refusal) = steps
 
 pub record IsRecoveredOn (old : Played) (result : Result Bool Refusal) (new : Played) : Type 0 where
   pub step : IsRecoveryStep old.broker new.broker result old.broker.recovery
+  pub refused : IfErr result (λ refusal. old.broker.recovery ≡ None)
+  pub goes_on : BrokerGoesOn old.broker new.broker
   pub counted : new ≡ record old { broker = new.broker; recovery = recovery_counted old.recovery result }
 
 -- recovery goes on to its end, or is refused

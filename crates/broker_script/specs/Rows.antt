@@ -1,10 +1,10 @@
--- The lines in three groups.
+-- The lines in four groups.
 use Rattle.std.specs.Prelude.{ℕ, List}
 use Rattle.words.specs.declared.call.Client.{Client}
 use Rattle.words.specs.declared.call.Kind.{Kind}
 use Rattle.grammar.specs.declared.commands.Command.{Command}
 use Rattle.broker_script.specs.Grammar.{SaysStatement}
-use Rattle.broker_script.specs.declared.statements.Statement.TheVariants.{Create, BeginCreation, CreateStep, CreateSteps, Find, List as list_queues, Rotate, Whole, On, Told}
+use Rattle.broker_script.specs.declared.statements.Statement.TheVariants.{Create, BeginCreation, CreateStep, CreateSteps, Find, List as list_queues, Rotate, Image, SetWord, Boot, Whole, On, Told}
 
 -- a line begins no creation, and goes on with none
 pub record IsNoCreation (line : List ℕ) : Type 0 where
@@ -24,3 +24,9 @@ pub record IsOfNoBroker (line : List ℕ) : Type 0 where
   pub list : SaysStatement line list_queues → ⊥
   pub rotate : SaysStatement line Rotate → ⊥
   pub whole : (command : Command) → SaysStatement line (Whole command) → ⊥
+
+-- a line is not about an image
+pub record IsOfNoImage (line : List ℕ) : Type 0 where
+  pub image : SaysStatement line Image → ⊥
+  pub set : (word value : ℕ) → SaysStatement line (SetWord word value) → ⊥
+  pub boot : SaysStatement line Boot → ⊥

@@ -13,8 +13,10 @@ use Rattle.directory.specs.declared.queue.Queue.{Queue}
 use Rattle.grammar.specs.declared.commands.Command.{Command}
 use Rattle.grammar.specs.declared.commands.Command.TheVariants.{Evict, Crash, Recover, RecoverBy}
 use Rattle.named.specs.Blocks.{IsSameWords}
+use Rattle.named.specs.Finding.{IsPlaced}
 use Rattle.named.specs.Brokers.{Brokered, IsNew, is_down, world_at}
 use Rattle.named.specs.Evicting.{evict_result, world_evicted}
+use Rattle.named.specs.GoingOn.{BrokerGoesOn}
 use Rattle.named.specs.Rotating.{IsRotated, rotate_result}
 use Rattle.named.specs.Slots.{acted}
 use Rattle.named.specs.Stopping.{IsStopped}
@@ -22,7 +24,8 @@ use Rattle.playing.specs.Transcript.{evict_line}
 use Rattle.playing.specs.declared.lines.Line.{Line}
 use Rattle.playing.specs.declared.lines.Line.TheVariants.{Size, Refused, Crash as crash_line}
 use Rattle.broker_script.specs.Creating.{BeginsCreation, Creates}
-use Rattle.broker_script.specs.OnQueue.{found_line, FollowsOn, IsPlaced, IsToldLine}
+use Rattle.broker_script.specs.Imaging.{Boots, Images, SetsWord}
+use Rattle.broker_script.specs.OnQueue.{found_line, FollowsOn, IsToldLine}
 use Rattle.broker_script.specs.Play.{Played, new_played}
 use Rattle.broker_script.specs.Prints.{text_of}
 use Rattle.broker_script.specs.Recovering.{Recovers, RecoversBy}
@@ -30,7 +33,7 @@ use Rattle.broker_script.specs.declared.printed.Printed.{Printed}
 use Rattle.broker_script.specs.declared.printed.Printed.TheVariants.{Whole, Of, Queues, Place, Rotated}
 use Rattle.broker_script.specs.declared.statements.BrokerLine.{BrokerLine}
 use Rattle.broker_script.specs.declared.statements.Statement.{Statement}
-use Rattle.broker_script.specs.declared.statements.Statement.TheVariants.{Create, BeginCreation, CreateStep, CreateSteps, Find, List as list_queues, Rotate, Whole as whole, On, Told}
+use Rattle.broker_script.specs.declared.statements.Statement.TheVariants.{Create, BeginCreation, CreateStep, CreateSteps, Find, List as list_queues, Rotate, Image, SetWord, Boot, Whole as whole, On, Told}
 
 -- the queues, in slot order
 abbrev pub place_lines : ℕ → Option (Option Queue) → List Printed
@@ -91,6 +94,7 @@ pub record Evicts (old : Played) (word : ℕ) (lines : List Printed) (new : Play
 pub record Crashes (old : Played) (lines : List Printed) (new : Played) : Type 0 where
   pub line : lines ≡ Whole crash_line ∷ []
   pub stopped : IsStopped old.broker new.broker
+  pub goes_on : BrokerGoesOn old.broker new.broker
   pub others : new ≡ record old { broker = new.broker; recovery = 0 }
 
 -- nothing was given, and nothing changed
@@ -114,6 +118,9 @@ FollowsLine old (CreateSteps most) lines new = Creates most old lines new
 FollowsLine old (Find name) lines new = Finds old name lines new
 FollowsLine old list_queues lines new = (lines ≡ list_lines old.broker) × (new ≡ old)
 FollowsLine old Rotate lines new = Rotates old lines new
+FollowsLine old Image lines new = Images old lines new
+FollowsLine old (SetWord word value) lines new = SetsWord old word value lines new
+FollowsLine old Boot lines new = Boots old lines new
 FollowsLine old (whole command) lines new = FollowsWhole old command lines new
 FollowsLine old (On name command) lines new = FollowsOn old name command lines new
 FollowsLine old (Told name client) lines new = Tells old name client lines new

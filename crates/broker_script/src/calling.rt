@@ -3,11 +3,12 @@
 ghost use Rattle.std.specs.Prelude.{◌≡◌, ◌≢◌, ◌<◌, ◌∷◌, [], ℕ, false, Ok, Err, None, IsSome, IfOk, IfErr, OnOk, slice_get, slice_index};
 ghost use Rattle.interleave.specs.State.{kept_content, order_in, start_result, step_result};
 ghost use Rattle.named.specs.Brokers.{world_at};
+ghost use Rattle.named.specs.Finding.{IsPlaced};
 ghost use Rattle.playing.specs.Play.{after_steps, play_after_start, play_after_step};
 ghost use Rattle.playing.specs.Steps.{call_counted, count_after};
 ghost use Rattle.playing.specs.Transcript.{order_lines, start_line, step_lines};
 ghost use Rattle.broker_script.specs.Grammar.{is_whole};
-ghost use Rattle.broker_script.specs.OnQueue.{answer_line, has_line, FollowsOn, FollowsPlaced, IsAnsweredBy, IsFollowedIn, IsOnlyIn, IsPlaced};
+ghost use Rattle.broker_script.specs.OnQueue.{answer_line, has_line, FollowsOn, FollowsPlaced, IsAnsweredBy, IsFollowedIn, IsOnlyIn};
 ghost use Rattle.broker_script.specs.Play.{play_at, steps_at, the_world};
 
 use crate::lines::{labelled, one, one_line, refused_line};

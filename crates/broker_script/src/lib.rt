@@ -1,8 +1,10 @@
 //! Scripts of a whole broker: their lines, what the lines say, and what a broker prints that follows them.
 #![tactic(auto)]
 
+mod acts;
 mod calling;
 mod creating;
+mod imaging;
 mod laws;
 mod lines;
 mod parser;
@@ -16,9 +18,12 @@ mod script;
 mod statements;
 mod whole;
 
+pub use acts::accepted_acts;
 pub use laws::one_script_a_text;
 pub use parser::parse_script;
 pub use play::transcript;
-pub use running::run;
+pub use player::Player;
+pub use printed::Printed;
+pub use running::{read_script, run};
 pub use script::Script;
 pub use statements::{BrokerLine, Statement};

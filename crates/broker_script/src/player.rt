@@ -1,10 +1,11 @@
 //! A broker that follows a script.
 
-ghost use Rattle.std.specs.Prelude.{◌≡◌, IfOk, IfErr};
+ghost use Rattle.std.specs.Prelude.{◌≡◌, IfOk, IfErr, replicate};
 ghost use Rattle.arena.specs.Limits.{AreCounts};
-ghost use Rattle.broker_script.specs.Play.{new_played};
+ghost use Rattle.broker_script.specs.Play.{new_played, no_steps};
 ghost use Rattle.broker_script.specs.Transcript.{FollowsLine, FollowsWhole};
 ghost use Rattle.named.specs.Brokers.{IsNew};
+ghost use Rattle.named.specs.Promises.{KeepsPromises};
 
 use crate::printed::Printed;
 use crate::statements::Statement;
@@ -19,12 +20,14 @@ use words::Refusal;
 
 /// A broker that follows a script, and how many steps its calls, its last creation and its recovery have made.
 #[derive(Drop)]
-pub(crate) struct Player {
+pub struct Player {
     pub(crate) broker: Broker,
     /// Those of the calls on each slot's queue.
     pub(crate) steps: [Steps; SLOTS],
     pub(crate) creation: u64,
     pub(crate) recovery: u64,
+    /// The words of the image that is remembered: none at first.
+    pub(crate) image: Vec<u64>,
 }
 
 impl Model for Player {
@@ -33,14 +36,36 @@ impl Model for Player {
 
     ghost Value = { Played };
 
-    ghost view = { λ p. record { broker = p.broker; steps = p.steps; creation = p.creation; recovery = p.recovery } };
+    ghost view = { λ p. record {
+      broker = p.broker;
+      steps = p.steps;
+      creation = p.creation;
+      recovery = p.recovery;
+      image = p.image.items;
+    } };
 
     ghost invariant = { λ p. KeepsPromises p.broker };
 }
 
+/// No call on any slot's queue has made a step.
+pub(crate) fn no_steps() -> [Steps; SLOTS]
+    ensures { result ≡ replicate SLOTS no_steps }
+{
+    [
+        Steps::new(),
+        Steps::new(),
+        Steps::new(),
+        Steps::new(),
+        Steps::new(),
+        Steps::new(),
+        Steps::new(),
+        Steps::new(),
+    ]
+}
+
 impl Player {
-    /// A new broker, on which no step was made.
-    pub(crate) fn new(alloc: Global, clients: u32, records: u32) -> Result<Self, Refusal>
+    /// A new broker, on which no step was made, whose queues will have so many clients with so many records each.
+    pub fn new(alloc: Global, clients: u32, records: u32) -> Result<Self, Refusal>
         requires { AreCounts clients records }
         ensures made { IfOk result (λ p. IsNew (record { clients = clients; records = records }) p.broker) }
         ensures played { IfOk result (λ p. p ≡ new_played p.broker) }
@@ -49,18 +74,10 @@ impl Player {
         let broker = Broker::make(alloc, clients, records)?;
         Ok(Player {
             broker,
-            steps: [
-                Steps::new(),
-                Steps::new(),
-                Steps::new(),
-                Steps::new(),
-                Steps::new(),
-                Steps::new(),
-                Steps::new(),
-                Steps::new(),
-            ],
+            steps: no_steps(),
             creation: 0,
             recovery: 0,
+            image: Vec::new(alloc),
         })
     }
 
@@ -78,12 +95,24 @@ impl Player {
         }
     }
 
-    /// Follows a line, and answers what it gives.
-    pub(crate) fn follow(
-        &mut self,
-        alloc: Global,
-        statement: &Statement,
-    ) -> Result<Vec<Printed>, Refusal>
+    /// The broker, to look at.
+    pub fn broker(&self) -> &Broker
+        ensures broker { result.now ≡ self.now.broker }
+        ensures promises { KeepsPromises self.now.broker }
+    {
+        &self.broker
+    }
+
+    /// How many steps recovery had since the last crash.
+    pub fn recovery(&self) -> u64
+        ensures { result ≡ self.now.recovery }
+    {
+        self.recovery
+    }
+
+    /// Follows a line, and answers what it gives: of an act that is refused the one line that says why. It is itself
+    /// refused for want of memory alone (NoMemory), and then the line may be half followed.
+    pub fn follow(&mut self, alloc: Global, statement: &Statement) -> Result<Vec<Printed>, Refusal>
         ensures follows { IfOk result (λ lines. FollowsLine self.old statement.now lines.items self.new) }
         ensures errors { IfErr result (λ e. e ≡ Refusal.NoMemory) }
     {
@@ -99,6 +128,9 @@ impl Player {
             Statement::Find { name } => self.find(alloc, name),
             Statement::List => self.list(alloc),
             Statement::Rotate => self.rotate(alloc),
+            Statement::Image => self.remember(alloc),
+            Statement::SetWord { word, value } => self.set_word(alloc, *word, *value),
+            Statement::Boot => self.boot(alloc),
             Statement::Whole { command } => self.follow_whole(alloc, command),
             Statement::On { name, command } => self.follow_on(alloc, name, command),
             Statement::Told { name, client } => self.tell(alloc, name, *client),

@@ -2,16 +2,17 @@
 
 ghost use Rattle.std.specs.Prelude.{◌≡◌};
 ghost use Rattle.grammar.specs.Grammar.{kind_word};
+ghost use Rattle.broker_script.specs.Prints.{rule_word};
 
 use arena::SlotId;
 use directory::{Name, Queue};
 use playing::Line;
 use std::fmt;
-use words::Kind;
+use words::{Item, Kind, Refusal, Rule};
 
 /// A line of a transcript.
 #[derive(Drop)]
-pub(crate) enum Printed {
+pub enum Printed {
     /// What a queue's script has too, about the whole memory.
     Whole(Line),
     /// What a queue's script has too, of the queue of this name.
@@ -41,6 +42,20 @@ pub(crate) enum Printed {
     },
     /// The histories of all queues ended, and others began.
     Rotated,
+    /// An image was remembered: how many bytes it has, and the first four of its SHA-256.
+    Image {
+        size: usize,
+        digest: Item,
+    },
+    /// A word of it was changed, which had this value.
+    WasSet {
+        word: u64,
+        was: u64,
+    },
+    /// A broker began on it.
+    Booted,
+    /// None did, since the words break this rule first.
+    Unsound(Rule),
 }
 
 /// A kind as a script spells it.
@@ -53,8 +68,26 @@ fn kind_word(kind: Kind) -> &'static str
     }
 }
 
+/// The name of a rule of sound words.
+fn rule_word(rule: Rule) -> &'static str
+    ensures { result.now ≡ rule_word rule }
+{
+    match rule {
+        Rule::Size => "Size",
+        Rule::Records => "Records",
+        Rule::Chain => "Chain",
+        Rule::Claims => "Claims",
+        Rule::Ends => "Ends",
+        Rule::Rows => "Rows",
+        Rule::Entries => "Entries",
+        Rule::Image => "Image",
+        Rule::Directory => "Directory",
+    }
+}
+
 /// `a: return 0 done steps 28`, `created a slot 0 steps 12`, `creating`, `found a slot 0`, `queues 2`,
-/// `slot 0 a durable`, `rotated`, or a line of a queue's transcript.
+/// `slot 0 a durable`, `rotated`, `image bytes 2396 digest 09f3c1aa`, `set 5 was 1`, `booted`,
+/// `refused 29 Damaged Records`, or a line of a queue's transcript.
 impl fmt::Display for Printed {
     ghost use Rattle.std.specs.Prelude.{Some};
     ghost use Rattle.broker_script.specs.Prints.{printed_text};
@@ -76,6 +109,14 @@ impl fmt::Display for Printed {
                 write!(f, "slot {} {} {kind}", slot.0, queue.name)
             }
             Printed::Rotated => write!(f, "rotated"),
+            Printed::Image { size, digest } => write!(f, "image bytes {size} digest {digest}"),
+            Printed::WasSet { word, was } => write!(f, "set {word} was {was}"),
+            Printed::Booted => write!(f, "booted"),
+            Printed::Unsound(rule) => {
+                let refusal = Refusal::Damaged(*rule);
+                let name = rule_word(*rule);
+                write!(f, "refused {refusal} {name}")
+            }
         }
     }
 }

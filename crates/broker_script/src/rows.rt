@@ -9,15 +9,15 @@ ghost use Rattle.grammar.specs.Limits.{IsWithin};
 ghost use Rattle.grammar.specs.Lines.{words_of};
 ghost use Rattle.grammar.specs.declared.commands.Command.{Command};
 ghost use Rattle.broker_script.specs.Grammar.{is_whole, label, SaysBroker, SaysStatement};
-ghost use Rattle.broker_script.specs.Rows.{IsNoCreation, IsOfNoBroker, IsOfNoQueue};
+ghost use Rattle.broker_script.specs.Rows.{IsNoCreation, IsOfNoBroker, IsOfNoImage, IsOfNoQueue};
 ghost use Rattle.broker_script.specs.declared.statements.BrokerLine.{BrokerLine};
 ghost use Rattle.broker_script.specs.declared.statements.Statement.{Statement};
 
 use crate::statements::{BrokerLine, Statement};
 use directory::Name;
 use grammar::{
-    CLIENT, CLIENTS, Command, RECORDS, STEPS, after_name, command, first_word, is_name, kind,
-    one_number, two_numbers,
+    CLIENT, CLIENTS, Command, NUMBER, RECORDS, STEPS, after_name, command, first_word, is_name,
+    kind, one_number, two_numbers,
 };
 use words::{Client, Kind};
 
@@ -194,6 +194,41 @@ fn rotate(line: &[u8]) -> Option<Statement>
     }
 }
 
+/// `image`
+fn image(line: &[u8]) -> Option<Statement>
+    ensures { MatchOption result (SaysStatement line.now Statement.Image → ⊥) (SaysStatement line.now) }
+{
+    if is_name(line, b"image") {
+        Some(Statement::Image)
+    } else {
+        None
+    }
+}
+
+/// `set W N`
+fn set_word(line: &[u8]) -> Option<Statement>
+    ensures { MatchOption result
+        ((word value : ℕ) → SaysStatement line.now (Statement.SetWord word value) → ⊥)
+        (SaysStatement line.now) }
+{
+    let Some(numbers) = after_name(line, b"set") else {
+        return None;
+    };
+    let (word, value) = two_numbers(numbers, NUMBER, NUMBER)?;
+    Some(Statement::SetWord { word, value })
+}
+
+/// `boot`
+fn boot(line: &[u8]) -> Option<Statement>
+    ensures { MatchOption result (SaysStatement line.now Statement.Boot → ⊥) (SaysStatement line.now) }
+{
+    if is_name(line, b"boot") {
+        Some(Statement::Boot)
+    } else {
+        None
+    }
+}
+
 /// Whether a line of a queue's script is about the whole memory.
 pub(crate) fn is_whole(command: &Command) -> bool
     ensures { result ≡ is_whole command.now }
@@ -294,6 +329,19 @@ fn whole_line(line: &[u8]) -> Option<Statement>
     whole(line)
 }
 
+/// The lines that are about an image.
+fn image_line(line: &[u8]) -> Option<Statement>
+    ensures { MatchOption result (IsOfNoImage line.now) (SaysStatement line.now) }
+{
+    if let Some(statement) = image(line) {
+        return Some(statement);
+    }
+    if let Some(statement) = set_word(line) {
+        return Some(statement);
+    }
+    boot(line)
+}
+
 /// What a line says after the first one.
 #[tactic(auto, using(crate::proofs::OtherLines::no_row))]
 pub(crate) fn statement(line: &[u8]) -> Option<Statement>
@@ -304,6 +352,9 @@ pub(crate) fn statement(line: &[u8]) -> Option<Statement>
         return Some(statement);
     }
     if let Some(statement) = queue_line(line) {
+        return Some(statement);
+    }
+    if let Some(statement) = image_line(line) {
         return Some(statement);
     }
     whole_line(line)

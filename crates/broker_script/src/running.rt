@@ -13,8 +13,8 @@ use playing::{print, unread_refusal};
 use std::alloc::Global;
 use words::Refusal;
 
-/// Reads a whole script.
-fn read_script<R: Reader>(alloc: Global, reader: &mut R) -> Result<Script, Refusal>
+/// Reads a whole script: ReadFailed where the reader failed, else what [`parse_script`] says.
+pub fn read_script<R: Reader>(alloc: Global, reader: &mut R) -> Result<Script, Refusal>
     requires { R.failures reader.old < MAX_FAILURES }
     ensures script { IfOk result (SaysInput (R.left reader.old)) }
     ensures refusals { IfErr result IsReadRefusal }

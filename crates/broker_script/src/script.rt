@@ -1,5 +1,8 @@
 //! A broker's script as a value.
 
+ghost use Rattle.std.specs.Prelude.{◌≡◌, IfSome};
+ghost use Rattle.broker_script.specs.Grammar.{IsServedBroker};
+
 use crate::statements::{BrokerLine, Statement};
 use std::marker::Model;
 
@@ -20,4 +23,21 @@ impl Model for Script {
     ghost view = { λ script. record { broker = script.broker; statements = script.statements.items } };
 
     ghost invariant = { λ script. IfSome script.broker IsServedBroker };
+}
+
+impl Script {
+    /// The broker that it is about, if it is about one.
+    pub fn broker(&self) -> Option<BrokerLine>
+        ensures broker { result ≡ self.now.broker }
+        ensures served { IfSome result IsServedBroker }
+    {
+        self.broker
+    }
+
+    /// What is done on it, in order.
+    pub fn statements(&self) -> &[Statement]
+        ensures { result.now ≡ self.now.statements }
+    {
+        &self.statements
+    }
 }

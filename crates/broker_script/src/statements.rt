@@ -28,6 +28,12 @@ pub enum Statement {
     List,
     /// The histories of all queues end, and others begin.
     Rotate,
+    /// The image of the memory is shown, and remembered.
+    Image,
+    /// A word of the remembered image is changed.
+    SetWord { word: u64, value: u64 },
+    /// A broker begins on the remembered image.
+    Boot,
     /// A line of a queue's script that is about the whole memory: an eviction, a crash or recovery.
     Whole { command: Command },
     /// Any other line of a queue's script, on the queue of this name.

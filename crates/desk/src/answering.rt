@@ -7,7 +7,7 @@ ghost use Rattle.desk.specs.Requests.{is_list_answer, is_nameless_call_answer, N
 ghost use Rattle.workers.specs.Refusals.{is_told_refusal};
 ghost use Rattle.wire.specs.declared.answer.Answer.{Answer as AnyAnswer};
 
-use crate::calls::{answer_at_seat, slot_of};
+use crate::calls::{answer_at_seat, nameless};
 use crate::seating::Seating;
 use directory::Name;
 use std::sync::Wait;
@@ -58,11 +58,11 @@ fn call<J: Naming, R: Wait>(
     let Some(client) = seats.client(number) else {
         return Answer::Refused(Refusal::NoClient);
     };
-    let Some(seat) = seats.take(rt, client) else {
+    let Some((owed, seat)) = seats.take(rt, client) else {
         return Answer::Refused(Refusal::Busy);
     };
     let (seat, answer) = answer_at_seat(rt, shared, seat, request);
-    seats.put(rt, seat);
+    seats.put(rt, owed, seat);
     answer
 }
 
@@ -82,16 +82,11 @@ fn told<J: Naming, R: Wait>(
     let Some(client) = seats.client(number) else {
         return Err(Refusal::NoClient);
     };
-    let slot = slot_of(rt, shared, queue)?;
-    shared.told(rt, client, slot)
-}
-
-/// The whole system stops. A connection wants no receipt of it.
-fn crash<J: Naming, R: Wait>(rt: &R, shared: &Shared<J>) -> Result<(), Refusal>
-    ensures { IfErr result (λ refusal. refusal ≡ Refusal.NoMemory) }
-{
-    shared.crash(rt)?;
-    Ok(())
+    let Some(name) = queue else {
+        return Err(nameless(rt, shared));
+    };
+    let (told, _receipt) = shared.told(rt, client, &name);
+    told
 }
 
 /// The answer, where what was asked for was done.
@@ -123,8 +118,11 @@ pub(crate) fn answer_to<J: Naming, R: Wait>(
             Ok(told) => Answer::Told(told),
             Err(refusal) => Answer::Refused(refusal),
         },
-        Request::Crash => done(crash(rt, shared), Answer::Crashed),
-        Request::Recover => done(shared.recover(rt), Answer::Ready),
+        Request::Crash => done(seats.crash(rt, shared), Answer::Crashed),
+        Request::Recover => {
+            let (recovered, _receipt) = shared.recover(rt);
+            done(recovered, Answer::Ready)
+        }
         Request::Stop => Answer::Stopping,
     }
 }

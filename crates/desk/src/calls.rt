@@ -1,13 +1,12 @@
 //! Puts and takes, each with its client's seat.
 
 ghost use Rattle.std.specs.Prelude.{◌≡◌, IfErr, IfNone, IfOk, IfSome, IsErr, IsNone, IsTrue, OnErr, OnOk, true};
-ghost use Rattle.desk.specs.Calls.{answer_on_wire, asked_in, AnswersCall, IsSettled, IsSlotOf, IsWhyNotFound};
+ghost use Rattle.desk.specs.Calls.{answer_on_wire, asked_in, AnswersCall, AnswersSettled, IsOfNoName, IsSettled, why_nameless};
 ghost use Rattle.wire.specs.declared.answer.Answer.{Answer as AnyAnswer};
 ghost use Rattle.desk.specs.Requests.{is_call_answer, is_nameless_refusal};
 ghost use Rattle.workers.specs.Lists.{ends_open};
 
-use arena::SlotId;
-use directory::Name;
+use directory::{Name, Places};
 use std::sync::Wait;
 use wire::{Answer, Request};
 use words::{Call, Refusal};
@@ -58,23 +57,22 @@ fn on_wire(answer: workers::Answer) -> Answer
     }
 }
 
-/// The slot with the queue of this name. It is refused while the broker recovers (NotReady), and where there is no such
-/// queue (NoQueue). A queue that there was when the seats were given is found in its slot for good.
-pub(crate) fn slot_of<J: Naming, R: Wait>(
-    rt: &R,
-    shared: &Shared<J>,
-    queue: Option<Name>,
-) -> Result<SlotId, Refusal>
-    ensures found { IfOk result (IsSlotOf J.first.broker.directory queue) }
-    ensures errors { IfErr result (IsWhyNotFound J.first.broker.directory queue) }
-    ensures nameless { IsNone queue → IsErr result }
+/// Why a queue of no name is not found, where a list of the queues was answered so: it is not there, which is said once
+/// the broker is ready.
+fn why_nameless(listed: Result<Places, Refusal>) -> Refusal
+    ensures { result ≡ why_nameless listed }
 {
-    let Some(name) = queue else {
-        // A queue of no name is not there, which is said once the broker is ready.
-        shared.list(rt)?;
-        return Err(Refusal::NoQueue);
-    };
-    shared.find(rt, &name)?.ok_or(Refusal::NoQueue)
+    match listed {
+        Ok(_) => Refusal::NoQueue,
+        Err(refusal) => refusal,
+    }
+}
+
+/// Why a queue of no name is not found: it is not there (NoQueue), or the broker recovers (NotReady).
+pub(crate) fn nameless<J: Naming, R: Wait>(rt: &R, shared: &Shared<J>) -> Refusal
+    ensures { IsOfNoName result }
+{
+    why_nameless(shared.list(rt))
 }
 
 /// The seat with no open call: one that was left Unfinished is finished first. It is refused where that was refused
@@ -108,7 +106,8 @@ fn call_at_seat<J: Naming, R: Wait>(
     asked: Asked,
 ) -> (Seat<J>, Answer)
     ensures client { result.0.client ≡ seat.client }
-    ensures entry { AnswersCall J.first.broker.directory seat.list.items asked result.1 result.0.list.items }
+    ensures entry { AnswersCall J.first seat.list.items asked result.1 result.0.list.items }
+    ensures settled { AnswersSettled J.first seat.client asked result.1 }
     ensures nameless { IsNone asked.queue → IsTrue (is_nameless_refusal result.1) }
     ensures fits { IsTrue (is_call_answer result.1) }
 {
@@ -116,17 +115,18 @@ fn call_at_seat<J: Naming, R: Wait>(
     if let Err(refusal) = finished {
         return (seat, Answer::Refused(refusal));
     }
-    let queue = match slot_of(rt, shared, asked.queue) {
-        Ok(queue) => queue,
-        Err(refusal) => return (seat, Answer::Refused(refusal)),
+    let Some(name) = asked.queue else {
+        return (seat, Answer::Refused(nameless(rt, shared)));
     };
-    let (seat, answer) = shared.call(rt, seat, queue, asked.number, asked.call, &OpenGate);
+    let Asked { number, call, .. } = asked;
+    let request = workers::Request { name, number, call };
+    let (seat, answer) = shared.call(rt, seat, request, &OpenGate);
     (seat, on_wire(answer))
 }
 
 /// Answers a put or a take with its client's seat. A call of the client that was left Unfinished is finished first. It
-/// is refused where that was refused memory once more (Busy), while the broker recovers (NotReady), where there is no
-/// such queue (NoQueue), and as [`Shared::call`] is; then the seat remembers none more. Another request is none that a
+/// is refused where that was refused memory once more (Busy), and as [`Shared::call`] is; then the seat remembers none
+/// more. A number that was settled when the seats were given has its reply, or is Old. Another request is none that a
 /// seat answers (BadRequest).
 pub fn answer_at_seat<J: Naming, R: Wait>(
     rt: &R,
@@ -136,7 +136,8 @@ pub fn answer_at_seat<J: Naming, R: Wait>(
 ) -> (Seat<J>, Answer)
     ensures client { result.0.client ≡ seat.client }
     ensures entry { IfSome (asked_in request) (λ asked.
-        AnswersCall J.first.broker.directory seat.list.items asked result.1 result.0.list.items) }
+        AnswersCall J.first seat.list.items asked result.1 result.0.list.items) }
+    ensures settled { IfSome (asked_in request) (λ asked. AnswersSettled J.first seat.client asked result.1) }
     ensures nameless { IfSome (asked_in request) (λ asked.
         IsNone asked.queue → IsTrue (is_nameless_refusal result.1)) }
     ensures fits { IfSome (asked_in request) (λ asked. IsTrue (is_call_answer result.1)) }

@@ -1,13 +1,14 @@
-//! Seats that no connection is using.
+//! Seats that no connection is using, and the operator.
 
-ghost use Rattle.std.specs.Prelude.{◌≡◌, ◌≤◌, ◌↔◌, ◌⊎◌, IfErr, IfOk, IfSome, IsNone, slice_index_or, slice_set};
+ghost use Rattle.std.specs.Prelude.{◌≡◌, ◌≤◌, ◌↔◌, ◌⊎◌, IfErr, IfOk, IfSome, IsNone, IsSome, slice_index_or, slice_set};
 ghost use Rattle.workers.specs.Seats.{AreAllInOrder};
 ghost use Rattle.desk.specs.Seating.{AreInPlaces};
 
 use std::alloc::Global;
 use std::sync::{Mutex, Wait};
+use waiting::lock;
 use words::{Client, Refusal};
-use workers::{Naming, Seat};
+use workers::{Naming, Operator, Seat, Shared};
 
 /// Each client's seat in the client's place, or nothing there while a connection is using it.
 #[derive(Drop)]
@@ -59,20 +60,60 @@ impl<J: Naming> Places<J> {
     }
 }
 
-/// The seats of a shared broker, for connections to use in turn. A client's seat is used by one connection at a time.
+/// The empty place of a seat that a connection is using. It is no `Drop`, and only [`Seating::put`] takes it: a seat that
+/// was taken is put back.
+pub(crate) struct Owed {
+    client: Client,
+}
+
+/// Where the operator stands. He stops the broker for one connection at a time.
+#[derive(Drop)]
+struct Post<J: Naming> {
+    operator: Option<Operator<J>>,
+    ghost there: { IsSome operator },
+}
+
+impl<J: Naming> Post<J> {
+    /// Whoever stands there.
+    fn into_operator(self) -> Operator<J> {
+        let Post { operator } = self;
+        match operator {
+            Some(operator) => operator,
+            None => unreachable!(),
+        }
+    }
+
+    /// The whole system stops.
+    fn crash<R: Wait>(&mut self, rt: &R, shared: &Shared<J>) -> Result<(), Refusal>
+        ensures { IfErr result (λ refusal. refusal ≡ Refusal.NoMemory) }
+    {
+        let Some(operator) = self.operator.take() else {
+            unreachable!()
+        };
+        let (operator, stopped) = shared.crash(rt, operator);
+        self.operator = Some(operator);
+        stopped
+    }
+}
+
+/// The seats of a shared broker, for connections to use in turn, and its operator. A client's seat is used by one
+/// connection at a time.
 #[derive(Drop)]
 pub struct Seating<J: Naming> {
     /// How many clients there are.
     clients: u64,
     /// This lock and the broker's are never held together.
     places: Mutex<Places<J>>,
+    /// This lock is taken before the broker's.
+    post: Mutex<Post<J>>,
     ghost all: { clients ≡ J.clients },
     ghost numbered: { clients ≤ 256 },
 }
 
 impl<J: Naming> Seating<J> {
-    /// All seats that a shared broker gave, in client order. It is refused for want of memory (NoMemory).
-    pub fn new(alloc: Global, seats: Vec<Seat<J>>) -> Result<Self, Refusal>
+    /// All seats that a shared broker gave, in client order, and its operator. It is refused for want of memory
+    /// (NoMemory).
+    pub fn new(alloc: Global, seats: Vec<Seat<J>>, operator: Operator<J>) -> Result<Self, Refusal>
         requires { AreAllInOrder (λ seat. seat.client) J.clients seats.items }
         ensures { IfErr result (λ e. e ≡ Refusal.NoMemory) }
     {
@@ -86,7 +127,14 @@ impl<J: Naming> Seating<J> {
             places.push_reserved(Some(seat));
         }
         let places = Mutex::new(Places { seats: places });
-        Ok(Seating { clients, places })
+        let post = Mutex::new(Post {
+            operator: Some(operator),
+        });
+        Ok(Seating {
+            clients,
+            places,
+            post,
+        })
     }
 
     /// The client of this number, if there is one.
@@ -100,24 +148,37 @@ impl<J: Naming> Seating<J> {
         Some(Client(number as u8))
     }
 
-    /// The client's seat, unless another connection is using it.
-    pub(crate) fn take<R: Wait>(&self, rt: &R, client: Client) -> Option<Seat<J>>
-        ensures { IfSome result (λ seat. seat.client ≡ client) }
+    /// The client's seat, and the place that it leaves, unless another connection is using it.
+    pub(crate) fn take<R: Wait>(&self, rt: &R, client: Client) -> Option<(Owed, Seat<J>)>
+        ensures owed { IfSome result (λ r. r.0.client ≡ client) }
+        ensures seat { IfSome result (λ r. r.1.client ≡ client) }
     {
-        self.places.lock(rt).take(client)
+        let seat = lock(rt, &self.places).take(client)?;
+        Some((Owed { client }, seat))
     }
 
     /// The connection is not using the seat any more.
-    pub(crate) fn put<R: Wait>(&self, rt: &R, seat: Seat<J>) {
-        self.places.lock(rt).put(seat);
+    pub(crate) fn put<R: Wait>(&self, rt: &R, owed: Owed, seat: Seat<J>)
+        requires { seat.client ≡ owed.client }
+    {
+        let Owed { client: _ } = owed;
+        lock(rt, &self.places).put(seat);
     }
 
-    /// All seats, in client order. It is refused for want of memory (NoMemory), and where a seat is in use (Busy),
-    /// which is so of none once all connections have ended.
-    pub fn into_seats(self, alloc: Global) -> Result<Vec<Seat<J>>, Refusal>
-        ensures order { IfOk result (λ seats. AreAllInOrder (λ seat. seat.client) J.clients seats.items) }
+    /// The whole system stops. It is refused for want of memory (NoMemory).
+    pub(crate) fn crash<R: Wait>(&self, rt: &R, shared: &Shared<J>) -> Result<(), Refusal>
+        ensures { IfErr result (λ refusal. refusal ≡ Refusal.NoMemory) }
+    {
+        lock(rt, &self.post).crash(rt, shared)
+    }
+
+    /// All seats, in client order, and the operator. It is refused for want of memory (NoMemory), and where a seat is in
+    /// use (Busy), which is so of none once all connections have ended.
+    pub fn into_parts(self, alloc: Global) -> Result<(Vec<Seat<J>>, Operator<J>), Refusal>
+        ensures order { IfOk result (λ r. AreAllInOrder (λ seat. seat.client) J.clients r.0.items) }
         ensures errors { IfErr result (λ e. (e ≡ Refusal.NoMemory) ⊎ (e ≡ Refusal.Busy)) }
     {
-        self.places.into_inner().all(alloc)
+        let seats = self.places.into_inner().all(alloc)?;
+        Ok((seats, self.post.into_inner().into_operator()))
     }
 }

@@ -1,9 +1,8 @@
 -- Between two reads.
 use Rattle.std.proofs.Common.{◌≡◌, ℕ, Bool, true, false, List, [], ◌++◌, take, drop, Option, Some, None, refl, sym, ap, subst, ◌∙◌, append_assoc}
-use Rattle.std.specs.Prelude.{IfSome}
 use Rattle.std.proofs.lemmas.List.{append-nil, nil_from_length}
 use Rattle.std.proofs.KnownBytes.{Appends-nil, Appends-trans}
-use Rattle.std.specs.Io.KnownBytes.{Appends, Consumes, Keeps, IsAtEnd}
+use Rattle.std.specs.Io.KnownBytes.{Appends, Consumes, IsAtEnd}
 use Rattle.devices.specs.Devices.{AppendsBeginning}
 use Rattle.engine.specs.declared.lines.Progress.TheVariants.{Replied, Stopped}
 use Rattle.engine.specs.declared.reply.Reply.{Reply}
@@ -11,7 +10,7 @@ use Rattle.engine.specs.Input.{Gains}
 use Rattle.engine.specs.Lines.{lines_of, last_line_of, HasNoNewline, ended_lines}
 use Rattle.engine.specs.Replies.{Meaning, Served, output_of, made_of}
 use Rattle.engine.specs.Handled.{Handled, RepliesTo, RepliesAsFar, RepliesUntilFault}
-use Rattle.engine.specs.Serving.{Answers, Serves, ServesWhatWasRead}
+use Rattle.engine.specs.Serving.{Answers, IsInputOf, Serves, ServesWhatWasRead}
 use Rattle.engine.proofs.Fitting.{Answers-append, Answers-stopped, Answers-some, made_of-append}
 use Rattle.engine.proofs.Handling.{both_handled}
 use Rattle.engine.proofs.Long.{handled_whole, last_whole}
@@ -19,19 +18,11 @@ use Rattle.engine.proofs.Newlines.{HasNoNewline-take}
 use Rattle.engine.proofs.Replying.{none_replied, output_of-append}
 use Rattle.engine.proofs.WholeLines.{lines_of-ended, lines_of-last}
 
-pub if_some : (o : Option (List ℕ)) (P : List ℕ → Type 0) → ((x : List ℕ) → o ≡ Some x → P x) → IfSome o P
-if_some None P f = tt
-if_some (Some x) P f = f x refl
-
 -- what a reader that tells its bytes has left
 consumed : (left left_after : Option (List ℕ)) (unread piece : List ℕ) → left ≡ Some unread → Consumes left left_after piece
     → (after : List ℕ) × (left_after ≡ Some after) × (unread ≡ piece ++ after)
 consumed left None unread piece e p = absurd (subst (λ (o : Option (List ℕ)). Consumes o None piece) e p)
 consumed left (Some after) unread piece e p = (after, refl, subst (λ (o : Option (List ℕ)). Consumes o (Some after) piece) e p)
-
-kept : (left left_after : Option (List ℕ)) (unread : List ℕ) → left ≡ Some unread → Keeps left left_after → left_after ≡ Some unread
-kept left None unread e p = absurd (subst (λ (o : Option (List ℕ)). Keeps o None) e p)
-kept left (Some after) unread e p = ap Some (subst (λ (o : Option (List ℕ)). Keeps o (Some after)) e p)
 
 -- the lines that ended have their replies, which were written, and of the line that did not the first bytes are held
 pub record IsBetween (m : Meaning) (input held : List ℕ) (left : Option (List ℕ)) (old now : Served) (w v : Option (List ℕ)) : Type 0 where
@@ -47,10 +38,11 @@ pub begun : (m : Meaning) (input held : List ℕ) (left : Option (List ℕ)) (se
 begun m input held left served w none e =
     record { part = []; unread = input; left_is = e; one = tt; held_is = none; replied = none_replied m input served (Appends w w) (Appends-nil w) }
 
-pub read_failed : (m : Meaning) (input held : List ℕ) (left left_after : Option (List ℕ)) (old now : Served) (w v : Option (List ℕ))
-    → IsBetween m input held left old now w v → Keeps left left_after → ServesWhatWasRead m input left_after old now (Appends w v)
-read_failed m input held left left_after old now w v b p =
-    record { part = b.part; unread = b.unread; left_is = kept left left_after b.unread b.left_is p; one = b.one; replied = b.replied }
+pub read_failed : (m : Meaning) (input held unread : List ℕ) (left_after : Option (List ℕ)) (old now : Served) (w v : Option (List ℕ))
+    → IsBetween m input held (Some unread) old now w v → IsInputOf left_after unread → ServesWhatWasRead m input left_after old now (Appends w v)
+read_failed m input held unread left_after old now w v b its =
+    let same : unread ≡ b.unread = cc (b.left_is) in
+    record { part = b.part; unread = b.unread; left_is = subst (IsInputOf left_after) same its; one = b.one; replied = b.replied }
 
 -- a piece more was read, and it was replied to
 record Joined (m : Meaning) (stopped : Bool) (input rest : List ℕ) (left : Option (List ℕ)) (replies : List Reply) : Type 0 where

@@ -6,3 +6,4 @@ pub mod Long
 pub mod Buffers
 pub mod Replying
 pub mod Between
+mod Unknown

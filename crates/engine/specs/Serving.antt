@@ -1,5 +1,5 @@
 -- What a run of the server does.
-use Rattle.std.specs.Prelude.{◌≡◌, ℕ, Bool, false, List, [], ◌∷◌, ◌++◌, Option, Some, MatchBool}
+use Rattle.std.specs.Prelude.{◌≡◌, ℕ, Bool, false, List, [], ◌∷◌, ◌++◌, Option, None, Some, MatchBool}
 use Rattle.engine.specs.declared.reply.Reply.{Reply}
 use Rattle.engine.specs.Lines.{HasNoNewline}
 use Rattle.engine.specs.Replies.{Meaning, Served, Fits, is_stop, output_of, made_of}
@@ -22,11 +22,22 @@ pub record Serves (meaning : Meaning) (whole : Bool) (lines : List (List ℕ)) (
   pub written : IsWritten (output_of replies)
   pub served : new ≡ old ++ made_of replies
 
+-- the reader had these bytes, where its bytes are known
+abbrev pub IsInputOf : Option (List ℕ) → List ℕ → Type 0
+IsInputOf (Some known) input = input ≡ known
+IsInputOf None input = Unit {0}
+
+-- there is an input of the reader's of which this is so
+pub record HasInput (left : Option (List ℕ)) (IsSo : List ℕ → Type 0) : Type 0 where
+  pub input : List ℕ
+  pub its : IsInputOf left input
+  pub so : IsSo input
+
 -- Of what was read of the input the whole lines have their replies, and the part of a line behind them has none.
 pub record ServesWhatWasRead (meaning : Meaning) (input : List ℕ) (left : Option (List ℕ)) (old new : Served)
     (IsWritten : List ℕ → Type 0) : Type 0 where
   pub part : List ℕ
   pub unread : List ℕ
-  pub left_is : left ≡ Some unread
+  pub left_is : IsInputOf left unread
   pub one : HasNoNewline part
   pub replied : RepliesTo meaning false input (part ++ unread) old new IsWritten

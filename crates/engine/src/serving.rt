@@ -1,10 +1,10 @@
 //! Serving a reader and a writer.
 
-ghost use Rattle.std.specs.Prelude.{◌≡◌, ◌<◌, ◌↔◌, ◌⊎◌, true, false, OnOk, IfErr, IfSome, IsErrOf};
+ghost use Rattle.std.specs.Prelude.{◌≡◌, ◌<◌, ◌↔◌, ◌⊎◌, true, false, OnOk, IfErr, IsErrOf};
 ghost use Rattle.std.specs.Io.KnownBytes.{Appends};
 ghost use Rattle.devices.specs.Devices.{AppendsBeginning, IsFlushed};
 ghost use Rattle.engine.specs.Lines.{lines_of};
-ghost use Rattle.engine.specs.Serving.{Serves, ServesWhatWasRead};
+ghost use Rattle.engine.specs.Serving.{HasInput, Serves, ServesWhatWasRead};
 
 use crate::desk::Desk;
 use crate::input::Input;
@@ -27,17 +27,17 @@ pub fn serve<T: Wait, P: Reading, R: Reader, W: Writer, D: Desk>(
 ) -> Result<(), Refusal>
     requires reader { R.failures reader.old < MAX_FAILURES }
     requires writer { W.failures writer.old < MAX_FAILURES }
-    // The text of one reply for each line was written, and nothing else.
-    ensures served { OnOk result (IfSome (R.left reader.old) (λ input.
+    // The text of one reply for each line of the input was written, and nothing else.
+    ensures served { OnOk result (HasInput (R.left reader.old) (λ input.
         Serves P.meaning true (lines_of input) (D.served desk.old) (D.served desk.new)
         (Appends (W.written writer.old) (W.written writer.new)))) }
     ensures flushed { OnOk result (IsFlushed (W.written writer.new) (W.flushed writer.new)) }
     // The same for the whole lines of what was read.
-    ensures read_failed { IsErrOf result Refusal.ReadFailed → IfSome (R.left reader.old) (λ input.
+    ensures read_failed { IsErrOf result Refusal.ReadFailed → HasInput (R.left reader.old) (λ input.
         ServesWhatWasRead P.meaning input (R.left reader.new) (D.served desk.old) (D.served desk.new)
         (Appends (W.written writer.old) (W.written writer.new))) }
     // A beginning of it was written.
-    ensures write_failed { IsErrOf result Refusal.WriteFailed → IfSome (R.left reader.old) (λ input.
+    ensures write_failed { IsErrOf result Refusal.WriteFailed → HasInput (R.left reader.old) (λ input.
         Serves P.meaning false (lines_of input) (D.served desk.old) (D.served desk.new)
         (AppendsBeginning (W.written writer.old) (W.written writer.new))) }
     ensures read_fault { IsErrOf result Refusal.ReadFailed ↔ (R.failures reader.old < R.failures reader.new) }

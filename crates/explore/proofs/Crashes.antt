@@ -4,9 +4,10 @@ use Rattle.arena.specs.Layout.{size_of}
 use Rattle.arena.specs.Shape.{Shape}
 use Rattle.protocol.specs.declared.acts.Act.{Act}
 use Rattle.protocol.specs.declared.acts.Act.TheVariants.{Evict, Recover}
-use Rattle.interleave.specs.State.{State, new_world, after_acts, after_crash, taken_of, most_to_ready}
-use Rattle.explore.specs.Points.{crashed_world, evicted_words, found_in, found_by_recovery, recovery_of, found_after}
+use Rattle.interleave.specs.State.{State, new_world, after_acts, after_crash, after_stop, taken_of, most_to_ready}
+use Rattle.explore.specs.Points.{crashed_world, evicted_words, found_in, found_by_recovery, found_stopped, recovery_of, found_after}
 use Rattle.explore.specs.declared.evictions.Evictions.{Evictions}
+use Rattle.explore.specs.declared.evictions.Evictions.TheVariants.{None as no_word}
 use Rattle.playing.proofs.Shapes.{after_acts_shape}
 
 pub evictions_of : Shape → Evictions → ℕ → List (Act ℕ)
@@ -60,3 +61,11 @@ comes_to s acts evictions point made w v down ready most steps new brought kept 
     many ∙ ap (λ (u : State). most_to_ready u.shape) same ∙ ap most_to_ready (down_shape s acts evictions point) in
     recovers down (crashed_world s acts evictions point) ready steps (replicate most Recover) (recovery_of s) same
     (ap (λ n. replicate n Recover) enough) leads counts
+
+-- and where no word is evicted, to what a world comes to that stops after them
+pub stops_at : (s : Shape) (acts : List (Act ℕ)) (point : ℕ) (w : State) → w ≡ after_acts (new_world s) acts
+    → found_stopped w ≡ found_after s acts no_word point
+unfolding crashed_world
+stops_at s acts point w is =
+    ap found_stopped is
+    ∙ ap (λ (t : Shape). found_by_recovery (after_stop (after_acts (new_world s) acts)) (recovery_of t)) (after_acts_shape (new_world s) acts)

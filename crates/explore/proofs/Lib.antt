@@ -1,6 +1,9 @@
 pub mod Draws
 pub mod Crashes
 pub mod Explained
+pub mod Sizes
+pub mod Copied
 pub mod Sweeps
 pub mod Written
 pub mod Printing
+pub mod Parts

@@ -1,5 +1,5 @@
 -- What a crash at each point of a script comes to.
-use Rattle.std.specs.Prelude.{ℕ, zero, suc, ◌+◌, ◌%◌, ◌==◌, Bool, true, false, List, [], ◌∷◌, Option, Some, None, length, map, take, replicate, if◌then◌else◌}
+use Rattle.std.specs.Prelude.{ℕ, zero, suc, ◌+◌, ◌%◌, ◌==◌, Bool, true, false, List, [], ◌∷◌, Option, Some, None, length, map, take, drop, replicate, if◌then◌else◌}
 use Rattle.std.specs.List.{range_with_len}
 use Rattle.rand_pcg.specs.Lcg.{Lcg, started, increment_of}
 use Rattle.rand_pcg.specs.Pcg.{pcg32, multiplier_64}
@@ -10,7 +10,7 @@ use Rattle.arena.specs.Layout.{size_of}
 use Rattle.arena.specs.Shape.{Shape}
 use Rattle.protocol.specs.declared.acts.Act.{Act}
 use Rattle.protocol.specs.declared.acts.Act.TheVariants.{Evict, Recover}
-use Rattle.interleave.specs.State.{State, new_world, after_acts, taken_of, after_crash, kept_content, most_to_ready}
+use Rattle.interleave.specs.State.{State, new_world, after_acts, taken_of, after_crash, after_stop, kept_content, most_to_ready}
 use Rattle.grammar.specs.Grammar.{shape_by}
 use Rattle.playing.specs.Acts.{acts_of}
 use Rattle.playing.specs.Transcript.{told_at}
@@ -18,6 +18,7 @@ use Rattle.grammar.specs.declared.commands.Command.{Command}
 use Rattle.grammar.specs.declared.commands.QueueLine.{QueueLine}
 use Rattle.explore.specs.declared.point.Point.{Point}
 use Rattle.explore.specs.declared.evictions.Evictions.{Evictions}
+use Rattle.explore.specs.declared.part.Part.{Part}
 use Rattle.explore.specs.declared.evictions.Evictions.TheVariants.{None as no_word, All, Drawn}
 
 -- the words, so many from this one up, for which the next draws have lowest bit 1
@@ -65,9 +66,17 @@ found_in w steps = record {
   ok = true;
 }
 
+-- what a world comes to that stops, and recovers
+abbrev pub recovered : State → State
+recovered w = after_acts (after_stop w) (recovery_of w.shape)
+
 -- what recovery makes of a world
 abbrev pub found_by_recovery : State → List (Act ℕ) → Found
 found_by_recovery w recovery = found_in (after_acts w recovery) (taken_of w recovery)
+
+-- what is found if a world stops
+abbrev pub found_stopped : State → Found
+found_stopped w = found_by_recovery (after_stop w) (recovery_of w.shape)
 
 -- what a crash after these acts comes to
 abbrev pub found_after : Shape → List (Act ℕ) → Evictions → ℕ → Found
@@ -89,3 +98,11 @@ points_on s commands evictions =
 abbrev pub points_of : Option QueueLine → List Command → Evictions → List Found
 points_of None commands evictions = []
 points_of (Some queue) commands evictions = points_on (shape_by queue) commands evictions
+
+-- which points are wanted: those from one on, so many of them, or all
+abbrev pub first_of : {X : Type 0} → Option ℕ → List X → List X
+first_of None xs = xs
+first_of (Some count) xs = take count xs
+
+abbrev pub part_of : {X : Type 0} → Part → List X → List X
+part_of part xs = first_of part.count (drop part.from xs)

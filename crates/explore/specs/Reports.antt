@@ -5,13 +5,14 @@ use Rattle.words.specs.PlainQueue.{Value}
 use Rattle.words.specs.Text.{told_text}
 use Rattle.words.specs.declared.told.Told.{Told}
 use Rattle.grammar.specs.Grammar.{shape_by}
-use Rattle.explore.specs.Points.{Found, points_on}
+use Rattle.explore.specs.Points.{Found, part_of, points_on}
 use Rattle.playing.specs.Prints.{values_text}
 use Rattle.playing.specs.Stopped.{alone_on, alone_text}
 use Rattle.playing.specs.declared.answers.Alone.{Alone}
 use Rattle.grammar.specs.declared.commands.Command.{Command}
 use Rattle.grammar.specs.declared.commands.QueueLine.{QueueLine}
-use Rattle.explore.specs.declared.evictions.Evictions.{Evictions}
+use Rattle.explore.specs.declared.part.Part.{Part}
+use Rattle.explore.specs.declared.part.Wanted.{Wanted}
 
 -- what clients are told, parted by commas
 abbrev pub later_told_text : Told → List ℕ
@@ -46,16 +47,22 @@ numbered_text clients number [] = []
 numbered_text clients number (found ∷ rest) =
     point_text clients number found ++ numbered_text clients (number + 1) rest
 
--- a line for each point, and one that counts them, and those that are not ok
-abbrev pub report_text : ℕ → List Found → ℕ → List ℕ
-report_text clients points bad =
-    numbered_text clients 0 points
+-- a line for each point, numbered from here, and one that counts them, and those that are not ok
+abbrev pub report_text : ℕ → ℕ → List Found → ℕ → List ℕ
+report_text clients number points bad =
+    numbered_text clients number points
     ++ (codes "points " ++ decimal (length points) ++ codes " bad " ++ decimal bad ++ codes "\n")
 
-abbrev pub points_text : Evictions → Option QueueLine → List Command → List ℕ
-points_text evictions None commands = []
-points_text evictions (Some queue) commands =
-    report_text queue.clients (points_on (shape_by queue) commands evictions) 0
+-- the lines of a part of the points, which have the numbers that they have in the whole
+abbrev pub lines_of_part : ℕ → Part → List Found → List ℕ
+lines_of_part clients part points = numbered_text clients part.from (part_of part points)
+
+-- the report on a part of a script's points
+abbrev pub points_text : Wanted → Option QueueLine → List Command → List ℕ
+points_text wanted None commands = []
+points_text wanted (Some queue) commands =
+    report_text queue.clients wanted.part.from
+    (part_of wanted.part (points_on (shape_by queue) commands wanted.evictions)) 0
 
 -- a call that went on alone, and a newline
 abbrev pub ended_alone_text : Alone → List ℕ

@@ -2,18 +2,25 @@
 //! from a reader to a writer.
 #![tactic(auto)]
 
+mod copy;
 mod evictions;
 mod frames;
+mod laws;
 mod page;
+mod part;
 mod point;
 mod reports;
 mod runs;
 mod spare;
+mod stop;
 mod story;
 mod sweep;
+mod walk;
 mod watch;
 
 pub use evictions::Evictions;
+pub use laws::parts_make_the_whole;
+pub use part::{Part, WHOLE, Wanted};
 pub use point::Point;
 pub use runs::{run, run_alone, run_page, run_points, run_story};
 pub use sweep::{Report, points, watched_points};

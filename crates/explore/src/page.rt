@@ -3,6 +3,7 @@
 ghost use Rattle.std.specs.Prelude.{◌≡◌, IfErr};
 
 use crate::evictions::{Evictions, evicted_count};
+use crate::part::Wanted;
 use crate::point::Point;
 use crate::sweep::Report;
 use grammar::QueueLine;
@@ -120,7 +121,7 @@ impl fmt::Display for Spelt {
 pub(crate) struct Setting {
     pub(crate) queue: QueueLine,
     pub(crate) acts: Vec<Act>,
-    pub(crate) evictions: Evictions,
+    pub(crate) wanted: Wanted,
     /// How many words the memory has.
     pub(crate) words: usize,
 }
@@ -367,7 +368,7 @@ fn heading(text: &mut String, setting: &Setting, report: &Report) -> Result<(), 
         "<p>queue {kind} {} {}; ",
         queue.clients, queue.records
     )?;
-    match setting.evictions {
+    match setting.wanted.evictions {
         Evictions::None => write!(text, "no word kept before a crash")?,
         Evictions::All => write!(text, "every word kept before a crash")?,
         Evictions::Drawn { state } => write!(text, "words drawn from {state} kept before a crash")?,
@@ -380,6 +381,14 @@ fn heading(text: &mut String, setting: &Setting, report: &Report) -> Result<(), 
     )
 }
 
+/// The act that the crash at a point came after.
+fn act_before(alloc: Global, acts: &[Act], number: u64) -> Result<String, AllocError> {
+    match acts.get((number as usize).wrapping_sub(1)) {
+        Some(act) => format!(in alloc; "{}", Spelt(*act)),
+        None => String::from_str(alloc, "at first"),
+    }
+}
+
 /// All columns.
 fn columns(
     alloc: Global,
@@ -389,20 +398,18 @@ fn columns(
     report: &Report,
 ) -> Result<(), AllocError> {
     let mut left = LABELS_WIDTH;
-    let mut act = String::from_str(alloc, "at first")?;
-    for (number, point) in report.points.iter().enumerate() {
+    for (place, point) in report.points.iter().enumerate() {
+        let number = setting.wanted.part.from.saturating_add(place as u64);
         writeln!(text, "<g transform=\"translate({left},0)\">")?;
         writeln!(
             text,
             "<text class=\"number\" x=\"{MIDDLE}\" y=\"12\">{number}</text>"
         )?;
-        let evicted = evicted_count(setting.evictions, setting.words, number as u64);
+        let act = act_before(alloc, &setting.acts, number)?;
+        let evicted = evicted_count(setting.wanted.evictions, setting.words, number);
         column(alloc, text, sizes, point, act.as_str(), evicted)?;
         writeln!(text, "</g>")?;
         left = left.saturating_add(COLUMN_WIDTH);
-        if let Some(next) = setting.acts.get(number) {
-            act = format!(in alloc; "{}", Spelt(*next))?;
-        }
     }
     Ok(())
 }

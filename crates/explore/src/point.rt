@@ -67,7 +67,6 @@ pub(crate) fn crash(
     ensures errors { IfErr result (λ e. e ≡ Refusal.NoMemory) }
 {
     let point = acts.len() as u64;
-    // A world has no copy, so each point makes its acts anew.
     let mut world = spare.world(alloc, layout)?;
     attempt_all(&mut world, acts)?;
     evict_words(&mut world, evictions, point);

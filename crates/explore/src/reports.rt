@@ -6,8 +6,8 @@ ghost use Rattle.explore.specs.Points.{found_of};
 ghost use Rattle.playing.specs.Prints.{values_text};
 ghost use Rattle.explore.specs.Reports.{calls_text, content_text, end_text, steps_text, told_all_text, point_text, points_text, report_text, stopped_text, most_steps as most_steps_of};
 
-use crate::evictions::Evictions;
 use crate::page::{Setting, page};
+use crate::part::Wanted;
 use crate::point::Point;
 use crate::sweep::{Report, watched_points};
 use crate::watch::Watch;
@@ -48,7 +48,7 @@ fn write_values(text: &mut String, values: &[Value]) -> Result<(), Refusal>
 }
 
 /// Writes the number of a point, and how many steps recovery had.
-fn write_steps(text: &mut String, number: usize, steps: u64) -> Result<(), Refusal>
+fn write_steps(text: &mut String, number: u128, steps: u64) -> Result<(), Refusal>
     ensures text { OnOk result (string_bytes text.new ≡ string_bytes text.old ++ steps_text number steps) }
     ensures errors { IfErr result (λ e. e ≡ Refusal.NoMemory) }
 {
@@ -77,7 +77,7 @@ fn write_end(text: &mut String, ok: bool) -> Result<(), Refusal>
 fn write_point(
     text: &mut String,
     clients: usize,
-    number: usize,
+    number: u128,
     point: &Point,
 ) -> Result<(), Refusal>
     requires { clients ≤ MAX_CLIENTS }
@@ -91,16 +91,21 @@ fn write_point(
     write_end(text, point.ok)
 }
 
-/// The lines of a report on a queue of so many clients.
-fn report_text(alloc: Global, clients: usize, report: &Report) -> Result<Vec<u8>, Refusal>
+/// The lines of a report on a queue of so many clients, whose points are numbered from here.
+fn report_text(
+    alloc: Global,
+    clients: usize,
+    from: u64,
+    report: &Report,
+) -> Result<Vec<u8>, Refusal>
     requires { clients ≤ MAX_CLIENTS }
     ensures text { IfOk result (λ text. text.items
-        ≡ report_text clients (map found_of report.now.points.items) report.now.bad) }
+        ≡ report_text clients from (map found_of report.now.points.items) report.now.bad) }
     ensures errors { IfErr result (λ e. e ≡ Refusal.NoMemory) }
 {
     let mut text = String::new(alloc);
-    for (number, point) in report.points.iter().enumerate() {
-        write_point(&mut text, clients, number, point)?;
+    for (place, point) in report.points.iter().enumerate() {
+        write_point(&mut text, clients, u128::from(from) + place as u128, point)?;
     }
     writeln!(text, "points {} bad {}", report.points.len(), report.bad).map_err(
         |_| Refusal::NoMemory,
@@ -115,22 +120,22 @@ pub(crate) struct Pictured {
     pub(crate) page: Vec<u8>,
 }
 
-/// What a crash at each point of a script comes to, as text: the whole of it, or NoMemory.
+/// What a crash at each wanted point of a script comes to, as text: the whole of it, or NoMemory.
 pub(crate) fn points_text<R: Threads + Sync, W: Watch>(
     rt: &R,
     alloc: Global,
     script: &Script,
-    evictions: Evictions,
+    wanted: Wanted,
     watch: &mut W,
 ) -> Result<Vec<u8>, Refusal>
-    ensures text { IfOk result (λ text. text.items ≡ points_text evictions script.now.queue script.now.commands) }
+    ensures text { IfOk result (λ text. text.items ≡ points_text wanted script.now.queue script.now.commands) }
     ensures errors { IfErr result (λ e. e ≡ Refusal.NoMemory) }
 {
     let Some(queue) = script.queue() else {
         return Ok(Vec::new(alloc));
     };
-    let report = watched_points(rt, alloc, script, evictions, watch)?;
-    report_text(alloc, queue.clients as usize, &report)
+    let report = watched_points(rt, alloc, script, wanted, watch)?;
+    report_text(alloc, queue.clients as usize, wanted.part.from, &report)
 }
 
 /// The same, and beside it the page that shows it, which is empty where the script has no queue.
@@ -138,11 +143,11 @@ pub(crate) fn pictured_points<R: Threads + Sync, W: Watch>(
     rt: &R,
     alloc: Global,
     script: &Script,
-    evictions: Evictions,
+    wanted: Wanted,
     watch: &mut W,
 ) -> Result<Pictured, Refusal>
     ensures text { IfOk result (λ found. found.text.items
-        ≡ points_text evictions script.now.queue script.now.commands) }
+        ≡ points_text wanted script.now.queue script.now.commands) }
     ensures errors { IfErr result (λ e. e ≡ Refusal.NoMemory) }
 {
     let Some(queue) = script.queue() else {
@@ -151,14 +156,14 @@ pub(crate) fn pictured_points<R: Threads + Sync, W: Watch>(
             page: Vec::new(alloc),
         });
     };
-    let report = watched_points(rt, alloc, script, evictions, watch)?;
-    let text = report_text(alloc, queue.clients as usize, &report)?;
+    let report = watched_points(rt, alloc, script, wanted, watch)?;
+    let text = report_text(alloc, queue.clients as usize, wanted.part.from, &report)?;
     // A report has no acts, so they are found once more.
     let layout = queue.layout()?;
     let setting = Setting {
         queue,
         acts: accepted_acts(alloc, layout, script.commands())?,
-        evictions,
+        wanted,
         words: layout.size(),
     };
     let page = page(alloc, &setting, &report)?;

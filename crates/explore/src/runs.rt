@@ -6,7 +6,7 @@ ghost use Rattle.explore.specs.Reports.{points_text, stopped_text};
 ghost use Rattle.playing.specs.Run.{Prints, PrintsBeginning, IsRunRefusal, NamesBadLine, WritesNothing};
 ghost use Rattle.playing.specs.Transcript.{script_text};
 
-use crate::evictions::Evictions;
+use crate::part::Wanted;
 use crate::reports::{pictured_points, points_text, stopped_text};
 use crate::story::story;
 use crate::watch::Watch;
@@ -70,20 +70,20 @@ pub fn run_story<R: Reader, W: Writer>(
     }
 }
 
-/// Reads the whole script before anything runs, and writes what a crash at each of its points comes to. `watch` is told
-/// how many points are made.
+/// Reads the whole script before anything runs, and writes what a crash at each wanted point comes to: their lines as the
+/// whole report has them, and one that counts them. `watch` is told how many points are made.
 pub fn run_points<H: Threads + Sync, R: Reader, W: Writer, T: Watch>(
     rt: &H,
     alloc: Global,
     reader: &mut R,
     writer: &mut W,
-    evictions: Evictions,
+    wanted: Wanted,
     watch: &mut T,
 ) -> Result<(), Refusal>
     requires reads { R.failures reader.old < MAX_FAILURES }
     requires writes { W.failures writer.old < MAX_FAILURES }
     ensures printed { OnOk result
-        (Prints (points_text evictions) (R.left reader.old) (W.written writer.old) (W.written writer.new)) }
+        (Prints (points_text wanted) (R.left reader.old) (W.written writer.old) (W.written writer.new)) }
     ensures flushed { OnOk result (IsFlushed (W.written writer.new) (W.flushed writer.new)) }
     ensures refusals { IfErr result IsRunRefusal }
     ensures read_failed { IsErrOf result Refusal.ReadFailed ↔ (R.failures reader.old < R.failures reader.new) }
@@ -91,27 +91,27 @@ pub fn run_points<H: Threads + Sync, R: Reader, W: Writer, T: Watch>(
     ensures bad_line { IfErr result (NamesBadLine (R.left reader.old)) }
     ensures unwritten { IfErr result (WritesNothing (W.written writer.old) (W.written writer.new)) }
     ensures beginning { IsErrOf result Refusal.WriteFailed
-        → PrintsBeginning (points_text evictions) (R.left reader.old) (W.written writer.old) (W.written writer.new) }
+        → PrintsBeginning (points_text wanted) (R.left reader.old) (W.written writer.old) (W.written writer.new) }
 {
     let script = read_script(alloc, reader)?;
-    let printed = points_text(rt, alloc, &script, evictions, watch)?;
+    let printed = points_text(rt, alloc, &script, wanted, watch)?;
     print(writer, &printed)
 }
 
-/// Reads the whole script before anything runs, and writes what a crash at each of its points comes to, as `run_points`
+/// Reads the whole script before anything runs, and writes what a crash at each wanted point comes to, as `run_points`
 /// does. It answers a page that shows the same: an HTML file, empty where the script has no queue.
 pub fn run_page<H: Threads + Sync, R: Reader, W: Writer, T: Watch>(
     rt: &H,
     alloc: Global,
     reader: &mut R,
     writer: &mut W,
-    evictions: Evictions,
+    wanted: Wanted,
     watch: &mut T,
 ) -> Result<Vec<u8>, Refusal>
     requires reads { R.failures reader.old < MAX_FAILURES }
     requires writes { W.failures writer.old < MAX_FAILURES }
     ensures printed { OnOk result
-        (Prints (points_text evictions) (R.left reader.old) (W.written writer.old) (W.written writer.new)) }
+        (Prints (points_text wanted) (R.left reader.old) (W.written writer.old) (W.written writer.new)) }
     ensures flushed { OnOk result (IsFlushed (W.written writer.new) (W.flushed writer.new)) }
     ensures refusals { IfErr result IsRunRefusal }
     ensures read_failed { IsErrOf result Refusal.ReadFailed ↔ (R.failures reader.old < R.failures reader.new) }
@@ -119,10 +119,10 @@ pub fn run_page<H: Threads + Sync, R: Reader, W: Writer, T: Watch>(
     ensures bad_line { IfErr result (NamesBadLine (R.left reader.old)) }
     ensures unwritten { IfErr result (WritesNothing (W.written writer.old) (W.written writer.new)) }
     ensures beginning { IsErrOf result Refusal.WriteFailed
-        → PrintsBeginning (points_text evictions) (R.left reader.old) (W.written writer.old) (W.written writer.new) }
+        → PrintsBeginning (points_text wanted) (R.left reader.old) (W.written writer.old) (W.written writer.new) }
 {
     let script = read_script(alloc, reader)?;
-    let found = pictured_points(rt, alloc, &script, evictions, watch)?;
+    let found = pictured_points(rt, alloc, &script, wanted, watch)?;
     match print(writer, &found.text) {
         Ok(()) => Ok(found.page),
         Err(refusal) => Err(refusal),

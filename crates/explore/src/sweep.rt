@@ -1,12 +1,14 @@
 //! A crash at every point of a script.
 
-ghost use Rattle.std.specs.Prelude.{◌≡◌, ◌+◌, ◌-◌, ◌<◌, ◌≤◌, ◌++◌, OnOk, IfOk, IfErr, length, map, not, count_by};
-ghost use Rattle.std.specs.List.{range_with_len};
-ghost use Rattle.explore.specs.Points.{found_of, found_at, points_of};
+ghost use Rattle.std.specs.Prelude.{◌≡◌, ◌+◌, ◌-◌, ◌*◌, ◌<◌, ◌≤◌, ◌++◌, min, OnOk, IfOk, IfErr, length, map, not, count_by};
+ghost use Rattle.std.specs.List.{flat_map, range_with_len};
+ghost use Rattle.explore.specs.Pieces.{piece_range};
+ghost use Rattle.explore.specs.Points.{found_of, found_at, part_of, points_of};
 
 use crate::evictions::Evictions;
-use crate::point::{Point, crash};
-use crate::spare::Spare;
+use crate::part::{WHOLE, Wanted};
+use crate::point::Point;
+use crate::walk::{evicted_points, stopped_points};
 use crate::watch::{Unwatched, Watch};
 use arena::Layout;
 use grammar::Script;
@@ -33,25 +35,66 @@ struct Schedule {
     evictions: Evictions,
 }
 
-// Points of one batch cost about the same, so no thread waits long for another. Between two batches `watch` is told how
-// far the run is.
-/// How many points are made at once.
-const AT_ONCE: usize = 256;
+// A piece makes the acts before its first point once more: more points a piece are fewer acts made again. A batch has
+// some pieces for each processor, and between two batches `watch` is told how far the run is.
+/// How many points one worker makes, one after another.
+pub const PIECE: usize = 128;
 
-/// Where the batch ends that begins at this one of so many points.
-fn end_of_batch(from: usize, count: usize) -> usize
-    requires { from < count }
+/// How many pieces are made at once.
+const PIECES: usize = 32;
+
+/// How many points are made at once.
+const AT_ONCE: usize = PIECES * PIECE;
+
+/// Where the batch ends that begins at this one, of those up to another.
+fn end_of_batch(from: usize, to: usize) -> usize
+    requires { from < to }
     ensures later { from < result }
-    ensures within { result ≤ count }
+    ensures within { result ≤ to }
 {
-    if count - from < AT_ONCE {
-        count
+    if to - from < AT_ONCE {
+        to
     } else {
         from + AT_ONCE
     }
 }
 
-/// The points from one on, so many of them, made in parallel.
+/// The points of a piece of a batch.
+fn piece_points(
+    alloc: Global,
+    schedule: &Schedule,
+    from: usize,
+    to: usize,
+    piece: usize,
+) -> Result<Vec<Point>, Refusal>
+    requires some { from + piece * PIECE < to }
+    requires within { to ≤ length schedule.now.acts.items + 1 }
+    ensures points { IfOk result (λ points. map found_of points.items
+        ≡ map (found_at schedule.now.layout schedule.now.acts.items schedule.now.evictions) (piece_range from to piece)) }
+    ensures errors { IfErr result (λ e. e ≡ Refusal.NoMemory) }
+{
+    let first = from + piece * PIECE;
+    let end = first + PIECE.min(to - first);
+    let layout = schedule.layout;
+    match schedule.evictions {
+        Evictions::None => stopped_points(alloc, layout, &schedule.acts, first, end),
+        evictions => evicted_points(alloc, layout, &schedule.acts, evictions, first, end),
+    }
+}
+
+/// The points of pieces, one after another.
+fn joined(alloc: Global, pieces: Vec<Vec<Point>>) -> Result<Vec<Point>, Refusal>
+    ensures points { IfOk result (λ points. points.items ≡ flat_map (λ piece. piece.items) pieces.items) }
+    ensures errors { IfErr result (λ e. e ≡ Refusal.NoMemory) }
+{
+    let mut points = Vec::new(alloc);
+    for piece in pieces {
+        append(&mut points, piece)?;
+    }
+    Ok(points)
+}
+
+/// The points from one on, up to another, made in parallel.
 fn some_points<R: Threads + Sync>(
     rt: &R,
     alloc: Global,
@@ -66,30 +109,24 @@ fn some_points<R: Threads + Sync>(
         (range_with_len from (to - from))) }
     ensures errors { IfErr result (λ e. e ≡ Refusal.NoMemory) }
 {
-    let made: Result<Result<Vec<Point>, Refusal>, _> = (from..to)
+    let pieces = (to - from).div_ceil(PIECE);
+    let made: Result<Result<Vec<Vec<Point>>, Refusal>, _> = (0..pieces)
         .into_par_iter()
-        // A point is much work: `rayon` would make a whole batch in one thread.
+        // A piece is much work: `rayon` would make a whole batch in one thread.
         .with_min_len(1)
-        .map_init(
-            || Spare::none(),
-            |spare: &mut Spare, point: usize| -> Result<Point, Refusal>
-                requires { point ≤ length schedule.now.acts.items }
-                ensures found { IfOk result (λ found. found_of found ≡ found_at schedule.entry.now.layout
-                    schedule.entry.now.acts.items schedule.entry.now.evictions point) }
+        .map(
+            |piece: usize| -> Result<Vec<Point>, Refusal>
+                requires { (from + piece * PIECE < to) × (to ≤ length schedule.now.acts.items + 1) }
+                ensures points { IfOk result (λ points. map found_of points.items
+                    ≡ map (found_at schedule.entry.now.layout schedule.entry.now.acts.items schedule.entry.now.evictions)
+                    (piece_range from to piece)) }
                 ensures errors { IfErr result (λ e. e ≡ Refusal.NoMemory) }
-            {
-                crash(
-                    alloc,
-                    spare,
-                    schedule.layout,
-                    &schedule.acts[..point],
-                    schedule.evictions,
-                )
-            },
+            { piece_points(alloc, schedule, from, to, piece) },
         )
         .collect(rt, alloc);
     match made {
-        Ok(points) => points,
+        Ok(Ok(pieces)) => joined(alloc, pieces),
+        Ok(Err(refusal)) => Err(refusal),
         Err(_) => Err(Refusal::NoMemory),
     }
 }
@@ -102,26 +139,30 @@ fn append(points: &mut Vec<Point>, mut batch: Vec<Point>) -> Result<(), Refusal>
     points.append(&mut batch).map_err(|_| Refusal::NoMemory)
 }
 
-/// All points of a schedule.
+/// The points of a schedule from one on, up to another.
 fn all_points<R: Threads + Sync, W: Watch>(
     rt: &R,
     alloc: Global,
     schedule: &Schedule,
+    from: usize,
+    to: usize,
     watch: &mut W,
 ) -> Result<Vec<Point>, Refusal>
+    requires ordered { from ≤ to }
+    requires within { to ≤ length schedule.now.acts.items + 1 }
     ensures points { IfOk result (λ points. map found_of points.items
         ≡ map (found_at schedule.now.layout schedule.now.acts.items schedule.now.evictions)
-        (range_with_len 0 (length schedule.now.acts.items + 1))) }
+        (range_with_len from (to - from))) }
     ensures errors { IfErr result (λ e. e ≡ Refusal.NoMemory) }
 {
-    let count = schedule.acts.len() + 1;
+    let count = to - from;
     let mut points = Vec::new(alloc);
     'made: while points.len() < count {
-        let from = points.len();
-        let to = end_of_batch(from, count);
-        let more = some_points(rt, alloc, schedule, from, to)?;
+        let begun = from + points.len();
+        let end = end_of_batch(begun, to);
+        let more = some_points(rt, alloc, schedule, begun, end)?;
         append(&mut points, more)?;
-        watch.note(to as u64, count as u64);
+        watch.note((end - from) as u64, count as u64);
     }
     Ok(points)
 }
@@ -135,10 +176,10 @@ fn report_of(points: Vec<Point>) -> Report
     Report { points, bad }
 }
 
-/// What a crash at each point of a script comes to: before its first act that is accepted, and after each. For each a
-/// new world makes the acts up to there, then the environment keeps the words that are to be evicted, everything stops,
-/// and recovery goes on to its end. Points are made in several threads. A script without a queue has none. It is
-/// refused for want of memory alone (NoMemory).
+/// What a crash at each point of a script comes to: before its first act that is accepted, and after each. For each the
+/// environment keeps the words that are to be evicted, everything stops in a world that made the acts up to there, and
+/// recovery goes on to its end. Points are made in several threads. A script without a queue has none. It is refused
+/// for want of memory alone (NoMemory).
 pub fn points<R: Threads + Sync>(
     rt: &R,
     alloc: Global,
@@ -150,19 +191,23 @@ pub fn points<R: Threads + Sync>(
     ensures bad { IfOk result (λ report. report.bad ≡ 0) }
     ensures errors { IfErr result (λ e. e ≡ Refusal.NoMemory) }
 {
-    watched_points(rt, alloc, script, evictions, &mut Unwatched)
+    let wanted = Wanted {
+        evictions,
+        part: WHOLE,
+    };
+    watched_points(rt, alloc, script, wanted, &mut Unwatched)
 }
 
-/// The same, and `watch` is told how many points are made.
+/// The same of a part of the points, and `watch` is told how many are made. A part past the last point has none.
 pub fn watched_points<R: Threads + Sync, W: Watch>(
     rt: &R,
     alloc: Global,
     script: &Script,
-    evictions: Evictions,
+    wanted: Wanted,
     watch: &mut W,
 ) -> Result<Report, Refusal>
     ensures points { IfOk result (λ report. map found_of report.points.items
-        ≡ points_of script.now.queue script.now.commands evictions) }
+        ≡ part_of wanted.part (points_of script.now.queue script.now.commands wanted.evictions)) }
     ensures bad { IfOk result (λ report. report.bad ≡ 0) }
     ensures errors { IfErr result (λ e. e ≡ Refusal.NoMemory) }
 {
@@ -171,10 +216,11 @@ pub fn watched_points<R: Threads + Sync, W: Watch>(
     };
     let layout = queue.layout()?;
     let acts = accepted_acts(alloc, layout, script.commands())?;
+    let (from, to) = wanted.part.ends(acts.len() + 1);
     let schedule = Schedule {
         layout,
         acts,
-        evictions,
+        evictions: wanted.evictions,
     };
-    Ok(report_of(all_points(rt, alloc, &schedule, watch)?))
+    Ok(report_of(all_points(rt, alloc, &schedule, from, to, watch)?))
 }

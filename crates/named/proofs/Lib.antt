@@ -24,4 +24,6 @@ pub mod Readings
 pub mod Queues
 pub mod Lastings
 pub mod Migrated
+pub mod Renewed
+pub mod RenewedAt
 pub mod Acting

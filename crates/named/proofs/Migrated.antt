@@ -1,18 +1,15 @@
 -- Sound words are refused for want of memory alone; a migrated broker begins with what the old words hold and tell.
-use Rattle.std.proofs.Common.{◌≡◌, ◌<◌, ◌≤◌, ◌⊎◌, ℕ, List, Option, Some, None, Result, Ok, Err, slice_get, inl, inr, refl, sym, ap, subst, ◌∙◌, arith}
+use Rattle.std.proofs.Common.{◌≡◌, ◌<◌, ◌⊎◌, ℕ, List, Option, Some, Result, Ok, Err, inl, inr, refl, sym, ap, subst, ◌∙◌, arith}
 use Rattle.std.specs.Prelude.{IfErr, IfOk}
 use Rattle.std.proofs.lemmas.Option.{slice_get_within}
 use Rattle.words.specs.declared.refusal.Refusal.{Refusal}
 use Rattle.words.specs.declared.refusal.Refusal.TheVariants.{NoWord, BadMagic, BadCount, Truncated, TrailingBytes, NoMemory, BadClients, BadRecords, StaleNumber, Busy, NoRoom, NotReady, NoClient, Idle, AlreadyReady, BadName, Exists, DirectoryFull, Gap, Old, NoQueue, WrongKind, TooLong, BadJson, BadRequest, ReadFailed, WriteFailed, BadLine, Damaged, BadItem}
-use Rattle.words.specs.declared.refusal.Rule.{Rule}
 use Rattle.words.specs.declared.refusal.Rule.TheVariants.{Size, Records, Chain, Claims, Ends, Rows, Entries, Image, Directory as directory_rule}
 use Rattle.words.specs.declared.call.Kind.{Kind}
 use Rattle.words.specs.declared.call.Kind.TheVariants.{Durable, Log}
 use Rattle.words.specs.declared.told.Told.{Told}
 use Rattle.persist.specs.Memory.{Words, words_at_rest}
 use Rattle.arena.specs.Broker.{block_in}
-use Rattle.arena.specs.Content.{content_in, kept_content}
-use Rattle.arena.specs.Limits.{AreCounts}
 use Rattle.arena.specs.Shape.{Counts, Shape, shape_of}
 use Rattle.arena.specs.declared.form.Form.TheVariants.{OfItems, OfValues}
 use Rattle.recover.specs.Kept.{kept_in}
@@ -26,12 +23,11 @@ use Rattle.directory.specs.declared.queue.Queue.{Queue}
 use Rattle.directory.proofs.Kept.{directory_at}
 use Rattle.interleave.specs.Booted.{booted_world, queue_at_boot}
 use Rattle.interleave.specs.Queue.{told_in}
-use Rattle.interleave.specs.State.{State}
 use Rattle.interleave.specs.Values.{value_of_place}
 use Rattle.interleave.proofs.ValueLaws.{shown_at}
 use Rattle.migration.specs.Words.{HasSoundQueue, HaveQueueOf, broker_migrated}
 use Rattle.migration.proofs.Brokers.{broker_sound, counts_same, directory_same, queue_kept, slot_same}
-use Rattle.named.specs.Booting.{AreBootWords, AreBootWordsIn, IsBlockDamaged, IsBlockSound, IsBooted, MayRefuse, MayRefuseIn, world_booted}
+use Rattle.named.specs.Booting.{AreBootWords, AreBootWordsIn, IsBlockDamaged, IsBooted, MayRefuse, MayRefuseIn, world_booted}
 use Rattle.named.specs.Brokers.{Brokered, block_words, world_at}
 use Rattle.named.specs.Migrating.{BeginsAs, IsMigrated}
 use Rattle.named.proofs.Booted.{obeyed}
@@ -112,7 +108,7 @@ no_damage : (ws : List ℕ) → AreBootWords ws → (e : Refusal) → IsBrokerDa
 no_damage ws sound e (inl head) = undamaged_broker ws sound.broker e head
 no_damage ws sound e (inr block) = undamaged _ _ (sound.blocks block.slot block.queue block.has) e block.damaged
 
-refused_for_memory : (ws : List ℕ) → AreBootWords ws → (e : Refusal) → MayRefuse ws e → e ≡ NoMemory
+pub refused_for_memory : (ws : List ℕ) → AreBootWords ws → (e : Refusal) → MayRefuse ws e → e ≡ NoMemory
 refused_for_memory ws sound NoMemory h = refl
 refused_for_memory ws sound (Damaged rule) h = absurd (no_damage ws sound (Damaged rule) h)
 refused_for_memory ws sound NoWord h = absurd (no_damage ws sound NoWord h)
@@ -150,10 +146,10 @@ pub refused_as_old : {T : Type 0} (old new : List ℕ) (r : Result T Refusal) �
 refused_as_old old new (Ok x) was sound h = tt
 refused_as_old old new (Err e) was sound h = subst (MayRefuseIn OfValues old) (sym (refused_for_memory new sound e h)) was
 
-same_some : (x y : Option Queue) → ◌≡◌ {A = Option (Option Queue)} (Some x) (Some y) → x ≡ y
+pub same_some : (x y : Option Queue) → ◌≡◌ {A = Option (Option Queue)} (Some x) (Some y) → x ≡ y
 same_some x y e = cc
 
-told_at_boot : (kind : Kind) (told : List Told) → told_in (queue_at_boot kind told) ≡ told
+pub told_at_boot : (kind : Kind) (told : List Told) → told_in (queue_at_boot kind told) ≡ told
 told_at_boot Durable told = refl
 told_at_boot Log told = refl
 

@@ -118,7 +118,7 @@ module _ (b : Brokered) (holds : IsWell b) where
       open_sound b.counts b.words at slot queue.kind (holds.slots at slot here) (holds.kinds at slot (Some queue) here has)
 
   -- the head tells of the broker's counts
-  head_is : counts_in b.words.kept ≡ b.counts
+  pub head_is : counts_in b.words.kept ≡ b.counts
   head_is =
       ap (λ (n : ℕ). let c : Counts = record { clients = n; records = slice_index b.words.kept 1 } in c) holds.head.clients.kept
       ∙ ap (λ (n : ℕ). let c : Counts = record { clients = b.counts.clients; records = n } in c) holds.head.records.kept

@@ -3,6 +3,7 @@ pub mod Blocks
 pub mod Slots
 pub mod Each
 pub mod Brokers
+pub mod Finding
 pub mod Acting
 pub mod Asked
 pub mod Stopping
@@ -14,3 +15,4 @@ pub mod Booting
 pub mod GoingOn
 pub mod Promises
 pub mod Migrating
+pub mod Renewing

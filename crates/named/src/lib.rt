@@ -11,6 +11,7 @@ mod looks;
 mod migrating;
 mod names;
 mod recovery;
+mod renewing;
 mod rotating;
 mod slot;
 mod slots;

@@ -2,6 +2,7 @@
 
 ghost use Rattle.std.specs.Prelude.{◌≡◌, ◌≢◌, ◌↔◌, ◌⊎◌, ◌<◌, ◌≤◌, ◌+◌, ℕ, true, length, replicate, slice_set, Ok, Err, IfOk, IfErr, OnOk, OnErr, IfSome, IfNone, IsSome, None, if◌then◌else◌};
 ghost use Rattle.directory.specs.Directory.{IsDirectory, IsNamed, HasName};
+ghost use Rattle.named.specs.Finding.{IsPlaced};
 ghost use Rattle.persist.specs.Memory.{asked_through, seen_whole};
 ghost use Rattle.arena.specs.Broker.{broker_size};
 ghost use Rattle.directory.specs.Creation.{access_of, successor, IsNextAskedFor};
@@ -73,6 +74,14 @@ impl Broker {
     {
         self.check_ready()?;
         Ok(self.directory.find(name))
+    }
+
+    /// The slot with the queue of this name. It is refused while recovery is under way (NotReady), and where there is no
+    /// such queue (NoQueue).
+    pub fn slot_of(&self, name: &Name) -> Result<SlotId, Refusal>
+        ensures { IsPlaced self.now name.now result }
+    {
+        self.find(name)?.ok_or(Refusal::NoQueue)
     }
 
     /// Whether a creation is under way. One that a crash ended is not.

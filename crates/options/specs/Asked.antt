@@ -1,5 +1,5 @@
 -- What the words of a command line ask.
-use Rattle.std.specs.Prelude.{◌≡◌, ◌⊎◌, List, [], Option, Some, codes, option_map, option_and_then}
+use Rattle.std.specs.Prelude.{◌≡◌, ◌⊎◌, ◌↔◌, IsTrue, List, [], Option, Some, codes, option_map, option_and_then}
 use Rattle.words.specs.declared.limits.TheConstants.{MAX_CLIENTS, MAX_RECORDS}
 use Rattle.clap.specs.Words.{Row, Text, IsAmong, fault_of, first_of, kind_of, subcommand_of}
 use Rattle.clap.specs.declared.error.Error.{Error}
@@ -59,6 +59,7 @@ pub record Asks (command : Option Text) (given : Text → Option Text) (o : Opti
   pub clients : o.clients ≡ number_of DEFAULT_CLIENTS (given (codes "clients"))
   pub records : o.records ≡ number_of DEFAULT_RECORDS (given (codes "records"))
   pub image : option_map (λ s. s.now) o.image ≡ given (codes "image")
+  pub renew : IsTrue o.renew ↔ (given (codes "renew") ≡ Some (codes "true"))
   pub mode : IsModeOf command given o.mode
 
 -- the words ask this, and clap finds no fault with them

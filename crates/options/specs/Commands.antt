@@ -2,18 +2,23 @@
 use Rattle.std.specs.Prelude.{Some, true, codes}
 use Rattle.clap.specs.Words.{App, Rule, Text, new_app, new_rule, with_rule, with_subcommand}
 use Rattle.clap.specs.Simple.{on_top}
-use Rattle.clap.specs.declared.builder.action.ArgAction.TheVariants.{Set}
+use Rattle.clap.specs.declared.builder.action.ArgAction.TheVariants.{Set, SetTrue}
 
 -- `--name VALUE`
 abbrev pub option_rule : Text → Rule
 option_rule name = record (new_rule name) { long = Some name; action = Some Set; value_names = 1 }
 
+-- `--name`, which takes no value
+abbrev pub flag_rule : Text → Rule
+flag_rule name = record (new_rule name) { long = Some name; action = Some SetTrue }
+
 -- a command with the options of a broker and its queues
 abbrev pub with_queue_rules : App → App
-with_queue_rules a = with_rule (with_rule (with_rule a
+with_queue_rules a = with_rule (with_rule (with_rule (with_rule a
     (option_rule (codes "clients")))
     (option_rule (codes "records")))
-    (option_rule (codes "image"))
+    (option_rule (codes "image")))
+    (flag_rule (codes "renew"))
 
 abbrev pub pipe_app : App
 pipe_app = with_queue_rules (new_app (codes "pipe"))

@@ -4,8 +4,8 @@ use Rattle.clap.specs.Words.{Text, IsAmong, fault_of, kind_of, subcommand_of}
 use Rattle.clap.specs.declared.error.Error.{Error}
 use Rattle.clap.specs.declared.error.kind.ErrorKind.TheVariants.{OutOfMemory, ValueValidation}
 use Rattle.options.specs.Asked.{name_in, values_in}
-use Rattle.options.specs.declared.limits.TheConstants.{DEFAULT_DRAW, MAX_DRAW}
-use Rattle.options.specs.Numbers.{Fits, number_of}
+use Rattle.options.specs.declared.limits.TheConstants.{DEFAULT_DRAW, MAX_DRAW, MAX_POINT}
+use Rattle.options.specs.Numbers.{Fits, decimal_value, number_of}
 use Rattle.options.specs.PqxCommands.{pqx_app}
 use Rattle.options.specs.declared.pqx.Choice.{Choice}
 use Rattle.options.specs.declared.pqx.Choice.TheVariants.{None as no_word, All as all_words, Drawn as drawn_words}
@@ -13,7 +13,8 @@ use Rattle.options.specs.declared.pqx.PointOptions.{PointOptions}
 use Rattle.options.specs.declared.pqx.CheckOptions.{CheckOptions}
 use Rattle.options.specs.declared.pqx.RunOptions.{RunOptions}
 use Rattle.options.specs.declared.pqx.PqxAsked.{PqxAsked}
-use Rattle.options.specs.declared.pqx.PqxAsked.TheVariants.{Run, Points, Alone, Check, BrokerRun}
+use Rattle.options.specs.declared.pqx.BrokerPointOptions.{BrokerPointOptions}
+use Rattle.options.specs.declared.pqx.PqxAsked.TheVariants.{Run, Points, Alone, Check, BrokerRun, BrokerPoints}
 
 -- the words that are kept are those of the choice that is given, and none where none is
 abbrev pub Chooses : Option Text → Choice → Type 0
@@ -26,17 +27,34 @@ abbrev pub IsChoice : Option Text → Type 0
 IsChoice None = ⊤
 IsChoice (Some text) = (text ≡ codes "none") ⊎ (text ≡ codes "all") ⊎ (text ≡ codes "drawn")
 
--- no task is given, or the one that there is
+-- no task is given, or one of the two
 abbrev pub IsTask : Option Text → Type 0
 IsTask None = ⊤
-IsTask (Some text) = text ≡ codes "run"
+IsTask (Some text) = (text ≡ codes "run") ⊎ (text ≡ codes "points")
+
+-- to follow a whole broker's script there are no words to choose
+abbrev pub AreTaken : Option Text → (Text → Option Text) → Type 0
+AreTaken None given = ⊤
+AreTaken (Some text) given =
+    text ≡ codes "run" → (given (codes "evict") ≡ None) × (given (codes "draw") ≡ None)
 
 -- the options of a report on points say this
 pub record AsksPoints (given : Text → Option Text) (o : PointOptions) : Type 0 where
   pub choice : Chooses (given (codes "evict")) o.choice
   pub fit : Fits 0 MAX_DRAW (given (codes "draw"))
   pub draw : o.draw ≡ number_of DEFAULT_DRAW (given (codes "draw"))
+  pub from_fits : Fits 0 MAX_POINT (given (codes "from"))
+  pub from : o.from ≡ number_of 0 (given (codes "from"))
+  pub count_fits : Fits 0 MAX_POINT (given (codes "count"))
+  pub count : o.count ≡ option_map decimal_value (given (codes "count"))
   pub page : option_map (λ s. s.now) o.page ≡ given (codes "page")
+
+-- those of one on a whole broker's points say this
+pub record AsksBrokerPoints (given : Text → Option Text) (o : BrokerPointOptions) : Type 0 where
+  pub task : given (codes "task") ≡ Some (codes "points")
+  pub choice : Chooses (given (codes "evict")) o.choice
+  pub fit : Fits 0 MAX_DRAW (given (codes "draw"))
+  pub draw : o.draw ≡ number_of DEFAULT_DRAW (given (codes "draw"))
 
 -- the options of a transcript say this
 pub record AsksRun (given : Text → Option Text) (o : RunOptions) : Type 0 where
@@ -54,12 +72,17 @@ Asks command given (Points o) = (command ≡ Some (codes "points")) × AsksPoint
 Asks command given Alone = command ≡ Some (codes "alone")
 Asks command given (Check o) = (command ≡ Some (codes "check")) × AsksCheck given o
 Asks command given BrokerRun = (command ≡ Some (codes "broker")) × IsTask (given (codes "task"))
+    × (given (codes "task") ≢ Some (codes "points")) × AreTaken (given (codes "task")) given
+Asks command given (BrokerPoints o) = (command ≡ Some (codes "broker")) × AsksBrokerPoints given o
 
--- each option and word that has one of some values, or a number, was given such a one
+-- each option and word that has one of some values, or a number, was given such a one, where it is taken at all
 pub record AllFit (given : Text → Option Text) : Type 0 where
   pub choice : IsChoice (given (codes "evict"))
   pub draw : Fits 0 MAX_DRAW (given (codes "draw"))
+  pub from : Fits 0 MAX_POINT (given (codes "from"))
+  pub count : Fits 0 MAX_POINT (given (codes "count"))
   pub task : IsTask (given (codes "task"))
+  pub taken : AreTaken (given (codes "task")) given
 
 -- the words ask this, and clap finds no fault with them
 pub record IsPqxAsked (words : List Text) (o : PqxAsked) : Type 0 where

@@ -1,22 +1,21 @@
 -- The commands of `pqx`, and the options that they take, as clap sees them.
-use Rattle.std.specs.Prelude.{Some, true, codes}
+use Rattle.std.specs.Prelude.{true, codes}
 use Rattle.clap.specs.Words.{App, Rule, Text, new_app, new_rule, with_rule, with_subcommand}
-use Rattle.clap.specs.declared.builder.action.ArgAction.TheVariants.{SetTrue}
 use Rattle.clap.specs.Simple.{on_top}
-use Rattle.options.specs.Commands.{option_rule}
+use Rattle.options.specs.Commands.{flag_rule, option_rule}
+
+-- a command with the options of a part of a report
+abbrev pub with_part_rules : App → App
+with_part_rules a = with_rule (with_rule a (option_rule (codes "from"))) (option_rule (codes "count"))
 
 abbrev pub points_app : App
-points_app = with_rule (with_rule (with_rule (new_app (codes "points"))
+points_app = with_rule (with_part_rules (with_rule (with_rule (new_app (codes "points"))
     (option_rule (codes "evict")))
-    (option_rule (codes "draw")))
+    (option_rule (codes "draw"))))
     (option_rule (codes "page"))
 
 abbrev pub run_app : App
 run_app = with_rule (new_app (codes "run")) (option_rule (codes "page"))
-
--- `--name`, which takes no value
-abbrev pub flag_rule : Text → Rule
-flag_rule name = record (new_rule name) { long = Some name; action = Some SetTrue }
 
 abbrev pub check_app : App
 check_app = with_rule (with_rule (new_app (codes "check"))
@@ -28,7 +27,10 @@ abbrev pub word_rule : Text → Rule
 word_rule name = record (new_rule name) { value_names = 1; required = true }
 
 abbrev pub broker_app : App
-broker_app = with_rule (new_app (codes "broker")) (word_rule (codes "task"))
+broker_app = with_rule (with_rule (with_rule (new_app (codes "broker"))
+    (word_rule (codes "task")))
+    (option_rule (codes "evict")))
+    (option_rule (codes "draw"))
 
 -- `pqx` itself, which wants a command, and tells its version
 abbrev pub top_app : App

@@ -3,7 +3,7 @@
 ghost use Rattle.std.specs.Prelude.{◌≡◌, IfOk, false};
 ghost use Rattle.clap.specs.Words.{app_of, rule_of};
 ghost use Rattle.clap.specs.declared.builder.command.Command.TheViews.{out-Command};
-ghost use Rattle.options.specs.Commands.{option_rule, pipe_app, pqd_app, serve_app, with_queue_rules};
+ghost use Rattle.options.specs.Commands.{flag_rule, option_rule, pipe_app, pqd_app, serve_app, with_queue_rules};
 
 use crate::program::VERSION;
 use clap::{Arg, ArgAction, Command};
@@ -18,6 +18,17 @@ pub(crate) fn option<'a>(alloc: Global, name: &'a str, value: &'a str, help: &'a
         .long(name)
         .value_name(value)
         .action(ArgAction::Set)
+        .help(help)
+}
+
+/// An option that has no value.
+pub(crate) fn flag<'a>(alloc: Global, name: &'a str, help: &'a str) -> Arg<'a>
+    ensures rule { rule_of result ≡ flag_rule name.entry.now }
+    ensures local { result.global ≡ false }
+{
+    Arg::new(alloc, name)
+        .long(name)
+        .action(ArgAction::SetTrue)
         .help(help)
 }
 
@@ -45,10 +56,15 @@ fn with_queue_options<'a>(alloc: Global, command: Command<'a>) -> Result<Command
         "FILE",
         "Keeps the memory in this file; without it nothing outlives the program",
     );
-    command.arg(clients)?.arg(records)?.arg(image)
+    let renew = flag(
+        alloc,
+        "renew",
+        "Begins each queue of the file in fresh records: of T clients, K of each",
+    );
+    command.arg(clients)?.arg(records)?.arg(image)?.arg(renew)
 }
 
-/// `pipe [--clients T] [--records K] [--image FILE]`
+/// `pipe [--clients T] [--records K] [--image FILE] [--renew]`
 fn pipe<'a>(alloc: Global) -> Result<Command<'a>, AllocError>
     ensures app { IfOk result (λ c. app_of c ≡ pipe_app) }
     ensures local { IfOk result (λ c. (out-Command c).has_globals ≡ false) }
@@ -59,7 +75,7 @@ fn pipe<'a>(alloc: Global) -> Result<Command<'a>, AllocError>
     with_queue_options(alloc, command)
 }
 
-/// `serve [--clients T] [--records K] [--image FILE] [--port P] [--workers N]`
+/// `serve [--clients T] [--records K] [--image FILE] [--renew] [--port P] [--workers N]`
 fn serve<'a>(alloc: Global) -> Result<Command<'a>, AllocError>
     ensures app { IfOk result (λ c. app_of c ≡ serve_app) }
     ensures local { IfOk result (λ c. (out-Command c).has_globals ≡ false) }

@@ -18,6 +18,6 @@ pub use limits::{
     MAX_PORT, MAX_WORKERS, limits_are_fixed,
 };
 pub use line::command_line;
-pub use pqx::{CheckOptions, Choice, PointOptions, PqxAsked, RunOptions};
+pub use pqx::{BrokerPointOptions, CheckOptions, Choice, PointOptions, PqxAsked, RunOptions};
 pub use pqx_line::pqx_command_line;
 pub use program::{ended, explained, refusal_of, words};

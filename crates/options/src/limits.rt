@@ -2,7 +2,7 @@
 
 ghost use Rattle.std.specs.Prelude.{◌≡◌};
 ghost use Rattle.options.specs.declared.limits.TheConstants.{DEFAULT_CLIENTS, DEFAULT_RECORDS, DEFAULT_PORT, DEFAULT_WORKERS};
-ghost use Rattle.options.specs.declared.limits.TheConstants.{DEFAULT_DRAW, MAX_DRAW, MAX_PORT, MAX_WORKERS};
+ghost use Rattle.options.specs.declared.limits.TheConstants.{DEFAULT_DRAW, MAX_DRAW, MAX_POINT, MAX_PORT, MAX_WORKERS};
 
 use crate::number::NumberOption;
 use words::{MAX_CLIENTS, MAX_RECORDS};
@@ -31,6 +31,9 @@ pub const DEFAULT_DRAW: u64 = 1;
 /// The greatest such state.
 pub const MAX_DRAW: u64 = 18_446_744_073_709_551_615;
 
+/// The greatest point of a script that `pqx points` may be asked for, and the most points.
+pub const MAX_POINT: u64 = 18_446_744_073_709_551_615;
+
 /// What is asked for where an option is not given, and the greatest that may be: the numbers of the command line, which
 /// its pages and docs/WIRE.md have.
 pub fn limits_are_fixed()
@@ -39,6 +42,7 @@ pub fn limits_are_fixed()
     ensures port { (DEFAULT_PORT ≡ 7070) × (MAX_PORT ≡ 65535) }
     ensures workers { (DEFAULT_WORKERS ≡ 4) × (MAX_WORKERS ≡ 16) }
     ensures draw { (DEFAULT_DRAW ≡ 1) × (MAX_DRAW ≡ 18446744073709551615) }
+    ensures point { MAX_POINT ≡ 18446744073709551615 }
 {}
 
 /// `--clients T`

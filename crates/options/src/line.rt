@@ -1,6 +1,6 @@
 //! What the words of a command line ask.
 
-ghost use Rattle.std.specs.Prelude.{◌≡◌, IfOk, IfErr, OnErr, Some, map};
+ghost use Rattle.std.specs.Prelude.{◌≡◌, ◌↔◌, IfOk, IfErr, IsTrue, OnErr, Some, codes, map};
 ghost use Rattle.clap.specs.Words.{first_value, found_of, kind_of, subcommand_rows_of};
 ghost use Rattle.options.specs.Asked.{AllFit, Asks, IsAsked, IsKnown, ListeningFits, ListensBy, Refuses};
 ghost use Rattle.options.specs.Asked.{name_in, values_in};
@@ -13,6 +13,16 @@ use clap::error::ErrorKind;
 use clap::{ArgMatches, Command, Error};
 use std::alloc::{AllocError, Global};
 use std::convert::AsStr;
+
+/// Whether a flag is given: clap gives it the value `true` then, and else `false`.
+fn is_set(given: &ArgMatches<'_>, flag: &str) -> bool
+    ensures { IsTrue result ↔ (first_value (found_of given.now) flag.now ≡ Some (codes "true")) }
+{
+    match given.get_str(flag) {
+        Some(value) => value == "true",
+        None => false,
+    }
+}
 
 /// Where `serve` listens.
 fn listening(given: &ArgMatches<'_>) -> Result<Listening, Misfit>
@@ -41,6 +51,7 @@ fn options<'a>(command: &str, given: &ArgMatches<'a>) -> Result<Options<'a>, Mis
         clients,
         records,
         image: given.get_str("image"),
+        renew: is_set(given, "renew"),
         mode,
     })
 }

@@ -14,8 +14,20 @@ pub struct PointOptions<'a> {
     pub choice: Choice,
     /// The state at which draws begin.
     pub draw: u64,
+    /// The first point that is wanted.
+    pub from: u64,
+    /// How many points are wanted, if not all from there on.
+    pub count: Option<u64>,
     /// The path of the file for the report's page, if there is to be one.
     pub page: Option<&'a str>,
+}
+
+/// What a report on the points of a whole broker is of.
+#[derive(Clone, Copy, Debug, PartialEq, Eq)]
+pub struct BrokerPointOptions {
+    pub choice: Choice,
+    /// The state at which draws begin.
+    pub draw: u64,
 }
 
 /// What the transcript of a script is asked to be.
@@ -47,4 +59,6 @@ pub enum PqxAsked<'a> {
     Check(CheckOptions<'a>),
     /// The transcript of a script of a whole broker.
     BrokerRun,
+    /// What a crash of the whole broker at each point of such a script comes to.
+    BrokerPoints(BrokerPointOptions),
 }

@@ -1,13 +1,14 @@
 //! The commands of `pqx`, and the options that they take.
 
-ghost use Rattle.std.specs.Prelude.{◌≡◌, IfOk, false};
-ghost use Rattle.clap.specs.Words.{app_of, new_app};
+ghost use Rattle.std.specs.Prelude.{◌≡◌, IfOk, codes, false};
+ghost use Rattle.clap.specs.Words.{app_of, new_app, rule_of};
 ghost use Rattle.clap.specs.declared.builder.command.Command.TheViews.{out-Command};
-ghost use Rattle.options.specs.PqxCommands.{broker_app, check_app, points_app, run_app, pqx_app, scripts_app, top_app};
+ghost use Rattle.options.specs.PqxCommands.{broker_app, check_app, points_app, run_app, pqx_app, scripts_app, top_app, with_part_rules};
+ghost use Rattle.options.specs.PqxCommands.{word_rule};
 
-use crate::commands::option;
+use crate::commands::{flag, option};
 use crate::program::VERSION;
-use clap::{Arg, ArgAction, Command};
+use clap::{Arg, Command};
 use std::alloc::{AllocError, Global};
 
 /// What help says of scripts.
@@ -40,8 +41,8 @@ with #, says nothing. In this one the creation of a queue is cut off when its na
   recover            recovery goes on to its end, and each client of each queue is told of its last call
   list               prints the queues: a alone
 
-The other lines: create-step, create-step M, find NAME, rotate, evict W, recover M, NAME: told C; and NAME: before each
-line of a queue's script that is about the queue.
+The other lines: create-step, create-step M, find NAME, rotate, evict W, recover M, image, set W N, boot,
+NAME: told C; and NAME: before each line of a queue's script that is about the queue.
 docs/SCRIPT.md has all of them, and every line that is printed.";
 
 /// What help says of recordings.
@@ -67,10 +68,7 @@ fn check<'a>(alloc: Global) -> Result<Command<'a>, AllocError>
             "Finds an order that explains the recording that standard input has, or says why there is none",
         )
         .after_help(RECORDINGS);
-    let order = Arg::new(alloc, "order")
-        .long("order")
-        .action(ArgAction::SetTrue)
-        .help("Prints the entries of the order, too");
+    let order = flag(alloc, "order", "Prints the entries of the order, too");
     let page = option(
         alloc,
         "page",
@@ -80,24 +78,65 @@ fn check<'a>(alloc: Global) -> Result<Command<'a>, AllocError>
     command.arg(order)?.arg(page)
 }
 
-/// `broker run`
+/// What is done with a broker's script.
+fn task<'a>(alloc: Global) -> Arg<'a>
+    ensures rule { rule_of result ≡ word_rule (codes "task") }
+    ensures local { result.global ≡ false }
+{
+    Arg::new(alloc, "task")
+        .value_name("TASK")
+        .required(true)
+        .help("What is done with the script: run or points")
+}
+
+/// `broker run`, `broker points [--evict none|all|drawn] [--draw N]`
 fn broker<'a>(alloc: Global) -> Result<Command<'a>, AllocError>
     ensures app { IfOk result (λ c. app_of c ≡ broker_app) }
     ensures local { IfOk result (λ c. (out-Command c).has_globals ≡ false) }
 {
     let command = Command::new(alloc, "broker")
         .about(
-            "With run, follows the script of a whole broker that standard input has, and prints what happens",
+            "Follows the script of a whole broker that standard input has, or crashes the broker at each of its points",
         )
         .after_help(BROKERS);
-    let task = Arg::new(alloc, "task")
-        .value_name("TASK")
-        .required(true)
-        .help("What is done with the script: run");
-    command.arg(task)
+    let task = task(alloc);
+    let evict = option(
+        alloc,
+        "evict",
+        "WORDS",
+        "With points, which words are kept just before each crash: none, all or drawn [default: none]",
+    );
+    let draw = option(
+        alloc,
+        "draw",
+        "N",
+        "Where the draws of --evict drawn begin [default: 1]",
+    );
+    command.arg(task)?.arg(evict)?.arg(draw)
 }
 
-/// `points [--evict none|all|drawn] [--draw N] [--page FILE]`
+/// The command with the options of a part of a report.
+fn with_part_options<'a>(alloc: Global, command: Command<'a>) -> Result<Command<'a>, AllocError>
+    ensures app { IfOk result (λ c. app_of c ≡ with_part_rules (app_of command.entry)) }
+    ensures local { (out-Command command.entry).has_globals ≡ false
+        → IfOk result (λ c. (out-Command c).has_globals ≡ false) }
+{
+    let from = option(
+        alloc,
+        "from",
+        "P",
+        "Prints the points from this one on, numbered as they are [default: 0]",
+    );
+    let count = option(
+        alloc,
+        "count",
+        "N",
+        "Prints at most so many points [default: all that are left]",
+    );
+    command.arg(from)?.arg(count)
+}
+
+/// `points [--evict none|all|drawn] [--draw N] [--from P] [--count N] [--page FILE]`
 fn points<'a>(alloc: Global) -> Result<Command<'a>, AllocError>
     ensures app { IfOk result (λ c. app_of c ≡ points_app) }
     ensures local { IfOk result (λ c. (out-Command c).has_globals ≡ false) }
@@ -125,7 +164,7 @@ fn points<'a>(alloc: Global) -> Result<Command<'a>, AllocError>
         "FILE",
         "Shows the same on a page, which is written to this file",
     );
-    command.arg(evict)?.arg(draw)?.arg(page)
+    with_part_options(alloc, command.arg(evict)?.arg(draw)?)?.arg(page)
 }
 
 /// `run [--page FILE]`

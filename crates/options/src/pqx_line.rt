@@ -1,15 +1,16 @@
 //! What the words of a command line ask of `pqx`.
 
-ghost use Rattle.std.specs.Prelude.{◌≡◌, IfOk, IfErr, OnErr, Some, map, option_map};
+ghost use Rattle.std.specs.Prelude.{◌≡◌, IfOk, IfErr, OnErr, Some, codes, map, option_map};
 ghost use Rattle.std.specs.Result.{OkIff};
 ghost use Rattle.clap.specs.Words.{first_value, found_of, kind_of, subcommand_rows_of};
 ghost use Rattle.options.specs.Asked.{name_in, values_in};
-ghost use Rattle.options.specs.declared.limits.TheConstants.{DEFAULT_DRAW, MAX_DRAW};
-ghost use Rattle.options.specs.Numbers.{Fits, number_of};
-ghost use Rattle.options.specs.PqxAsked.{AllFit, Asks, AsksCheck, AsksPoints, AsksRun, Chooses, IsChoice, IsPqxAsked, IsTask, RefusesPqx};
+ghost use Rattle.options.specs.declared.limits.TheConstants.{DEFAULT_DRAW, MAX_DRAW, MAX_POINT};
+ghost use Rattle.options.specs.Numbers.{Fits, decimal_value, number_of};
+ghost use Rattle.options.specs.PqxAsked.{AllFit, AreTaken, Asks, AsksBrokerPoints, AsksCheck, AsksPoints, AsksRun};
+ghost use Rattle.options.specs.PqxAsked.{Chooses, IsChoice, IsPqxAsked, IsTask, RefusesPqx};
 
 use crate::limits::DEFAULT_DRAW;
-use crate::pqx::{CheckOptions, Choice, PointOptions, PqxAsked, RunOptions};
+use crate::pqx::{BrokerPointOptions, CheckOptions, Choice, PointOptions, PqxAsked, RunOptions};
 use crate::pqx_commands::pqx;
 use clap::error::ErrorKind;
 use clap::{ArgMatches, Command, Error};
@@ -21,7 +22,10 @@ use std::convert::AsStr;
 enum Misfit {
     Evict,
     Draw,
+    From,
+    Count,
     Task,
+    Taken,
 }
 
 /// What such an option takes.
@@ -29,7 +33,12 @@ fn text_of(misfit: Misfit) -> &'static str {
     match misfit {
         Misfit::Evict => "the option '--evict' takes none, all or drawn",
         Misfit::Draw => "the option '--draw' takes a whole number from 0 to 18446744073709551615",
-        Misfit::Task => "broker takes run",
+        Misfit::From => "the option '--from' takes a whole number from 0 to 18446744073709551615",
+        Misfit::Count => {
+            "the option '--count' takes a whole number from 0 to 18446744073709551615"
+        }
+        Misfit::Task => "broker takes run or points",
+        Misfit::Taken => "broker run takes neither '--evict' nor '--draw'",
     }
 }
 
@@ -60,6 +69,31 @@ fn draw(given: Option<&str>) -> Result<u64, Misfit>
     text.parse::<u64>().map_err(|_| Misfit::Draw)
 }
 
+/// The first point that is given, or the very first where none is.
+fn first_point(given: Option<&str>) -> Result<u64, Misfit>
+    ensures { OkIff result (Fits 0 MAX_POINT (option_map (λ s. s.now) given.entry))
+        (number_of 0 (option_map (λ s. s.now) given.entry)) }
+{
+    let Some(text) = given else {
+        return Ok(0);
+    };
+    text.parse::<u64>().map_err(|_| Misfit::From)
+}
+
+/// How many points are wanted, if that is given.
+fn point_count(given: Option<&str>) -> Result<Option<u64>, Misfit>
+    ensures { OkIff result (Fits 0 MAX_POINT (option_map (λ s. s.now) given.entry))
+        (option_map decimal_value (option_map (λ s. s.now) given.entry)) }
+{
+    let Some(text) = given else {
+        return Ok(None);
+    };
+    match text.parse::<u64>() {
+        Ok(count) => Ok(Some(count)),
+        Err(_) => Err(Misfit::Count),
+    }
+}
+
 /// What a report on points is asked to be.
 fn point_options<'a>(given: &ArgMatches<'a>) -> Result<PointOptions<'a>, Misfit>
     ensures asked { IfOk result (AsksPoints (first_value (found_of given.now))) }
@@ -67,9 +101,13 @@ fn point_options<'a>(given: &ArgMatches<'a>) -> Result<PointOptions<'a>, Misfit>
 {
     let choice = choice(given.get_str("evict"))?;
     let draw = draw(given.get_str("draw"))?;
+    let from = first_point(given.get_str("from"))?;
+    let count = point_count(given.get_str("count"))?;
     Ok(PointOptions {
         choice,
         draw,
+        from,
+        count,
         page: given.get_str("page"),
     })
 }
@@ -93,14 +131,41 @@ fn check_options<'a>(given: &ArgMatches<'a>) -> CheckOptions<'a>
     }
 }
 
-/// What is done with a script of a whole broker.
-fn broker_task<'a>(given: Option<&str>) -> Result<PqxAsked<'a>, Misfit>
-    ensures asked { IfOk result (λ asked. (asked ≡ PqxAsked.BrokerRun)
-        × IsTask (option_map (λ s. s.now) given.entry)) }
-    ensures misfit { OnErr result (¬ (IsTask (option_map (λ s. s.now) given.entry))) }
+/// What a report on the points of a whole broker is asked to be.
+fn broker_points(given: &ArgMatches<'_>) -> Result<BrokerPointOptions, Misfit>
+    requires { first_value (found_of given.now) (codes "task") ≡ Some (codes "points") }
+    ensures asked { IfOk result (AsksBrokerPoints (first_value (found_of given.now))) }
+    ensures misfit { OnErr result (¬ (AllFit (first_value (found_of given.now)))) }
 {
-    match given {
-        None | Some("run") => Ok(PqxAsked::BrokerRun),
+    let choice = choice(given.get_str("evict"))?;
+    let draw = draw(given.get_str("draw"))?;
+    Ok(BrokerPointOptions { choice, draw })
+}
+
+/// The transcript of a whole broker's script, where nothing is said of words that are kept.
+fn broker_run<'a>(given: &ArgMatches<'a>) -> Result<PqxAsked<'a>, Misfit>
+    requires { first_value (found_of given.now) (codes "task") ≡ Some (codes "run") }
+    ensures asked { IfOk result (Asks (Some (codes "broker")) (first_value (found_of given.now))) }
+    ensures misfit { OnErr result (¬ (AllFit (first_value (found_of given.now)))) }
+{
+    if given.get_str("evict").is_some() {
+        return Err(Misfit::Taken);
+    }
+    if given.get_str("draw").is_some() {
+        return Err(Misfit::Taken);
+    }
+    Ok(PqxAsked::BrokerRun)
+}
+
+/// What is asked of a script of a whole broker.
+fn broker_task<'a>(given: &ArgMatches<'a>) -> Result<PqxAsked<'a>, Misfit>
+    ensures asked { IfOk result (Asks (Some (codes "broker")) (first_value (found_of given.now))) }
+    ensures misfit { OnErr result (¬ (AllFit (first_value (found_of given.now)))) }
+{
+    match given.get_str("task") {
+        Some("points") => Ok(PqxAsked::BrokerPoints(broker_points(given)?)),
+        Some("run") => broker_run(given),
+        None => Ok(PqxAsked::BrokerRun),
         Some(_) => Err(Misfit::Task),
     }
 }
@@ -114,7 +179,7 @@ fn asked_by<'a>(command: &str, given: &ArgMatches<'a>) -> Result<PqxAsked<'a>, M
         "points" => Ok(PqxAsked::Points(point_options(given)?)),
         "alone" => Ok(PqxAsked::Alone),
         "check" => Ok(PqxAsked::Check(check_options(given))),
-        "broker" => broker_task(given.get_str("task")),
+        "broker" => broker_task(given),
         _ => Ok(PqxAsked::Run(run_options(given))),
     }
 }

@@ -11,7 +11,7 @@ use devices::{CountedReader, CountedWriter};
 use log::Log;
 use named::Broker;
 use options::{Listening, Mode, Options, command_line};
-use server::{net, opened, pipe};
+use server::{net, opened, pipe, renewed};
 use std::fs::File;
 use std::io;
 use std::net::{Net, SocketAddr, TcpListener};
@@ -39,7 +39,8 @@ impl From<Refusal> for Fault {
     }
 }
 
-/// The broker that the options ask for: the one that the image's file keeps, where there is such a file.
+/// The broker that the options ask for: the one that the image's file keeps, where there is such a file, in fresh
+/// records if they say so.
 fn broker_for(rt: &HostRuntime, asked: &Options<'_>) -> Result<Broker, Refusal>
     ensures { IfOk result IsUncalled }
 {
@@ -48,7 +49,10 @@ fn broker_for(rt: &HostRuntime, asked: &Options<'_>) -> Result<Broker, Refusal>
         None => None,
     };
     let bytes = kept.as_ref().map(|bytes| bytes.as_slice());
-    opened(rt.alloc(), asked.clients, asked.records, bytes)
+    match bytes {
+        Some(image) if asked.renew => renewed(rt.alloc(), asked.clients, asked.records, image),
+        _ => opened(rt.alloc(), asked.clients, asked.records, bytes),
+    }
 }
 
 /// Serves standard input to standard output. The image that it leaves.

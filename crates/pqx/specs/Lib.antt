@@ -1,3 +1,3 @@
--- What a fault says, and what is evicted.
+-- What a fault says, and what is wanted.
 pub mod Faults
-pub mod Evictions
+pub mod Wanting

@@ -1,20 +1,20 @@
-//! Follows scripts of single steps on a queue, and crashes them everywhere; follows scripts of whole brokers; finds an
-//! order for recordings of any queue.
+//! Follows scripts of single steps on a queue or on a whole broker, and crashes them everywhere; finds an order for
+//! recordings of any queue.
 #![tactic(auto)]
 
 ghost use Rattle.std.specs.Prelude.{◌≡◌};
 ghost use Rattle.pqx.specs.Faults.{fault_of};
 
 mod checking;
-mod evictions;
 mod progress;
+mod wanting;
 
 use crate::checking::check;
-use crate::evictions::evictions;
 use crate::progress::Progress;
+use crate::wanting::{evictions, wanted};
 use devices::{CountedReader, CountedWriter};
-use explore::Evictions;
-use options::{PointOptions, PqxAsked, RunOptions, pqx_command_line};
+use explore::Wanted;
+use options::{BrokerPointOptions, PointOptions, PqxAsked, RunOptions, pqx_command_line};
 use std::process::ExitCode;
 use std::thread::Threads;
 use std::{fs, io};
@@ -41,11 +41,11 @@ impl From<Refusal> for Fault {
     }
 }
 
-/// Prints what a crash at each point comes to.
+/// Prints what a crash at each wanted point comes to.
 fn print_points<H: Threads + Sync>(
     threads: &H,
     rt: &HostRuntime,
-    evictions: Evictions,
+    wanted: Wanted,
 ) -> Result<(), Refusal> {
     let mut reader = CountedReader::new(rt.reader());
     let mut writer = CountedWriter::new(io::writer(rt));
@@ -55,7 +55,7 @@ fn print_points<H: Threads + Sync>(
         rt.alloc(),
         &mut reader,
         &mut writer,
-        evictions,
+        wanted,
         &mut progress,
     );
     progress.clear();
@@ -66,7 +66,7 @@ fn print_points<H: Threads + Sync>(
 fn show_points<H: Threads + Sync>(
     threads: &H,
     rt: &HostRuntime,
-    evictions: Evictions,
+    wanted: Wanted,
     path: &str,
 ) -> Result<(), Refusal> {
     let mut reader = CountedReader::new(rt.reader());
@@ -77,7 +77,7 @@ fn show_points<H: Threads + Sync>(
         rt.alloc(),
         &mut reader,
         &mut writer,
-        evictions,
+        wanted,
         &mut progress,
     );
     progress.clear();
@@ -90,11 +90,32 @@ fn report<H: Threads + Sync>(
     rt: &HostRuntime,
     points: PointOptions<'_>,
 ) -> Result<(), Refusal> {
-    let evictions = evictions(points.choice, points.draw);
+    let wanted = wanted(points);
     match points.page {
-        None => print_points(threads, rt, evictions),
-        Some(path) => show_points(threads, rt, evictions, path),
+        None => print_points(threads, rt, wanted),
+        Some(path) => show_points(threads, rt, wanted, path),
     }
+}
+
+/// Reports on the points of a whole broker's script.
+fn report_on_broker<H: Threads + Sync>(
+    threads: &H,
+    rt: &HostRuntime,
+    points: BrokerPointOptions,
+) -> Result<(), Refusal> {
+    let mut reader = CountedReader::new(rt.reader());
+    let mut writer = CountedWriter::new(io::writer(rt));
+    let mut progress = Progress::new(rt);
+    let printed = broker_points::run_points(
+        threads,
+        rt.alloc(),
+        &mut reader,
+        &mut writer,
+        evictions(points.choice, points.draw),
+        &mut progress,
+    );
+    progress.clear();
+    printed
 }
 
 /// Follows a script, and writes the page of that to a file, if it is to.
@@ -121,6 +142,7 @@ fn answer<H: Threads + Sync>(
         PqxAsked::Alone => explore::run_alone(rt.alloc(), &mut reader, &mut writer)?,
         PqxAsked::Points(points) => report(threads, rt, points)?,
         PqxAsked::BrokerRun => broker_script::run(rt.alloc(), &mut reader, &mut writer)?,
+        PqxAsked::BrokerPoints(points) => report_on_broker(threads, rt, points)?,
         PqxAsked::Check(asked) => return check(rt, asked),
     }
     Ok(ExitCode::SUCCESS)

@@ -2,4 +2,4 @@ mod Asked
 mod Keys
 mod Lines
 mod Texts
-mod Written
+pub mod Written

@@ -1,8 +1,9 @@
 -- Each line that asks a request means it.
-use Rattle.std.proofs.Common.{◌≡◌, ◌∙◌, ℕ, List, Some, None, Ok, Err, refl, ap, IsUtf8, arith}
+use Rattle.std.proofs.Common.{◌≡◌, ◌∙◌, ◌≤◌, ℕ, List, Some, None, Ok, Err, refl, ap, IsUtf8, arith}
 use Rattle.std.specs.Prelude.{codes}
 use Rattle.std.specs.Option.{option_map_or}
-use Rattle.serde_json.specs.Data.{no_members}
+use Rattle.serde_json.specs.Data.{no_members, object, depth}
+use Rattle.serde_json.specs.Read.{max_depth}
 use Rattle.words.specs.declared.call.Kind.{Kind}
 use Rattle.words.specs.declared.call.Kind.TheVariants.{Durable, Log}
 use Rattle.words.specs.declared.refusal.Refusal.TheVariants.{BadJson, BadRequest}
@@ -63,9 +64,21 @@ in_order text Crash = refl
 in_order text Recover = refl
 in_order text Stop = refl
 
+shallow : (text : List ℕ) (request : Request) → depth (object (members_asking text request)) ≤ max_depth
+shallow text (Create q k) = omega arith
+shallow text ListAll = omega arith
+shallow text (Put c q v None) = omega arith
+shallow text (Put c q v (Some n)) = omega arith
+shallow text (Take c q None) = omega arith
+shallow text (Take c q (Some n)) = omega arith
+shallow text (Told c q) = omega arith
+shallow text Crash = omega arith
+shallow text Recover = omega arith
+shallow text Stop = omega arith
+
 pub asked_by_line : (text : List ℕ) (request : Request) → IsUtf8 text → MayAsk text request → meaning (line_asking text request) ≡ Ok request
 asked_by_line text request utf8 may =
     let are_plain : ArePlain (members_asking text request) = plain text request utf8 may in
     text_meant (line_asking text request) (object_utf8 (members_asking text request) are_plain)
-    ∙ ap (λ found. option_map_or value_meaning found (Err BadJson)) (read-compact_text (members_asking text request) are_plain (in_order text request))
+    ∙ ap (λ found. option_map_or value_meaning found (Err BadJson)) (read-compact_text (object (members_asking text request)) (are_plain, in_order text request) (shallow text request))
     ∙ ap (λ found. option_map_or Ok found (Err BadRequest)) (asked text request may)

@@ -3,4 +3,5 @@ pub mod Serving
 pub mod Refused
 pub mod StepsKeep
 pub mod Beginnings
+pub mod Anew
 pub mod Recoveries

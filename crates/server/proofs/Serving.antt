@@ -1,10 +1,9 @@
 -- What was served with a desk that has its session for itself.
 use Rattle.std.proofs.Common.{◌≡◌, ℕ, Bool, List, [], Option, Result, Ok, Err, IfOk, Vec, Global, subst}
-use Rattle.std.specs.Prelude.{IfSome}
 use Rattle.words.specs.declared.refusal.Refusal.{Refusal}
 use Rattle.engine.specs.Lines.{lines_of}
 use Rattle.engine.specs.Replies.{Served}
-use Rattle.engine.specs.Serving.{Serves}
+use Rattle.engine.specs.Serving.{HasInput, Serves}
 use Rattle.requests.specs.Line.{meaning}
 use Rattle.named.specs.Brokers.{Brokered}
 use Rattle.session.specs.Sessions.{Sessioned}
@@ -17,9 +16,9 @@ use Rattle.server.specs.Piping.{IsServed, LeavesImage, ServesInput}
 
 -- nothing had been served before
 pub are_made : (whole : Bool) (input : Option (List ℕ)) (W : List ℕ → Type 0) (old made : Served) → old ≡ []
-    → IfSome input (λ text. Serves meaning whole (lines_of text) old made W) → ServesInput whole input W made
+    → HasInput input (λ text. Serves meaning whole (lines_of text) old made W) → ServesInput whole input W made
 are_made whole input W old made none serves =
-    subst (λ (l : Served). IfSome input (λ text. Serves meaning whole (lines_of text) l made W)) none serves
+    subst (λ (l : Served). HasInput input (λ text. Serves meaning whole (lines_of text) l made W)) none serves
 
 -- the requests that were made, where the session that was opened is the first one
 unfoldable pub is_served : (AreMade : Served → Type 0) (first opened last : Sessioned) (made : Served) → opened ≡ first

@@ -5,21 +5,24 @@ use Rattle.words.specs.declared.refusal.Refusal.TheVariants.{NoMemory}
 use Rattle.persist.specs.Image.{reading, reading_v1}
 use Rattle.persist.specs.Memory.{Words, words_at_rest}
 use Rattle.arena.specs.Content.{kept_content as content_of}
-use Rattle.arena.specs.Shape.{Shape, shape_of}
+use Rattle.arena.specs.Shape.{Counts, Shape, shape_of}
 use Rattle.arena.specs.declared.form.Form.{Form}
 use Rattle.arena.specs.declared.form.Form.TheVariants.{OfItems, OfValues}
 use Rattle.directory.specs.Directory.{HasQueue}
 use Rattle.directory.specs.Queue.{directory_of}
 use Rattle.directory.specs.Sound.{counts_in}
 use Rattle.directory.specs.declared.queue.Queue.{Queue}
+use Rattle.recover.specs.Kept.{kept_in}
 use Rattle.recover.specs.Told.{tells_by}
 use Rattle.migration.specs.Words.{broker_migrated}
+use Rattle.renewal.specs.Broker.{broker_renewed}
 use Rattle.interleave.specs.Queue.{told_in}
 use Rattle.interleave.specs.State.{State, kept_content, order_in}
 use Rattle.interleave.specs.Values.{value_of_place}
 use Rattle.named.specs.Booting.{AreBootWords, AreBootWordsIn, IsBooted, MayRefuseIn, kept_block}
 use Rattle.named.specs.Brokers.{Brokered, world_at}
 use Rattle.named.specs.Migrating.{IsMigrated}
+use Rattle.named.specs.Renewing.{AreToldAsBefore, IsRenewed, IsWhyUnrenewed}
 use Rattle.named.specs.Stopping.{IsRecoveryStep}
 use Rattle.interleave.specs.Telling.{IsToldAtReady}
 
@@ -102,3 +105,39 @@ IsWhyUnread form (Ok words) refusal = (refusal ≡ NoMemory) ⊎ MayRefuseIn for
 abbrev pub IsWhyUnopened : Bool → List ℕ → Refusal → Type 0
 IsWhyUnopened false image refusal = IsWhyUnread OfItems (reading image) refusal
 IsWhyUnopened true image refusal = IsWhyUnread OfValues (reading_v1 image) refusal
+
+-- a queue in fresh records that recovered: of this shape, it holds what the old block's words hold, each client was
+-- told what they tell, and no call took effect yet
+pub record IsQueueRenewed (s : Shape) (old : List ℕ) (to : Shape) (now : Option State) : Type 0 where
+  pub world : State
+  pub is : now ≡ Some world
+  pub shape : world.shape ≡ to
+  pub holds : kept_content world ≡ content_of s (kept_in s old)
+  pub told : AreToldAsBefore s old world
+  pub at_ready : IsToldAtReady world
+  pub none_yet : order_in world ≡ []
+
+-- the broker in fresh records, of these counts, that began on what one kept, and is ready: it has that one's queues
+pub record IsOpenedAnew (old : List ℕ) (to : Counts) (b : Brokered) : Type 0 where
+  pub opened : IsOpened (words_at_rest (broker_renewed to old)) b
+  pub renewed : IsRenewed old to opened.start
+  pub counts : b.counts ≡ to
+  pub directory : b.directory ≡ directory_of old
+  pub queues : (slot : ℕ) (queue : Queue) → HasQueue (directory_of old) slot queue
+      → IsQueueRenewed (shape_of queue.kind (counts_in old)) (kept_block (counts_in old) slot old)
+      (shape_of queue.kind to) (world_at b slot)
+
+-- the broker that an image keeps, in fresh records, by whether that has the first form
+pub record IsRenewedBy (first : Bool) (image : List ℕ) (to : Counts) (b : Brokered) : Type 0 where
+  pub start : Brokered
+  pub begun : HasBegunFrom first image start
+  pub anew : IsOpenedAnew start.words.kept to b
+
+-- why there is none: the image is refused, or its broker is not renewed
+pub record IsUnrenewedBy (first : Bool) (image : List ℕ) (to : Counts) (refusal : Refusal) : Type 0 where
+  pub start : Brokered
+  pub begun : HasBegunFrom first image start
+  pub why : IsWhyUnrenewed start.words.kept to refusal
+
+abbrev pub IsWhyNotRenewed : Bool → List ℕ → Counts → Refusal → Type 0
+IsWhyNotRenewed first image to refusal = IsWhyUnopened first image refusal ⊎ IsUnrenewedBy first image to refusal

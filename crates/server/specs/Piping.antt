@@ -1,10 +1,10 @@
 -- What was served of an input of JSON lines, where nothing had been served before.
-use Rattle.std.specs.Prelude.{◌≡◌, ◌⊎◌, ℕ, Bool, List, [], Option, IfSome}
+use Rattle.std.specs.Prelude.{◌≡◌, ◌⊎◌, ℕ, Bool, List, [], Option}
 use Rattle.words.specs.declared.refusal.Refusal.{Refusal}
 use Rattle.words.specs.declared.refusal.Refusal.TheVariants.{Busy, NoMemory, ReadFailed, WriteFailed}
 use Rattle.engine.specs.Lines.{lines_of}
 use Rattle.engine.specs.Replies.{Served}
-use Rattle.engine.specs.Serving.{Serves, ServesWhatWasRead}
+use Rattle.engine.specs.Serving.{HasInput, Serves, ServesWhatWasRead}
 use Rattle.named.specs.Brokers.{Brokered}
 use Rattle.session.specs.Sessions.{Sessioned}
 use Rattle.desk.specs.Serving.{AreAnswered}
@@ -12,16 +12,16 @@ use Rattle.owning.specs.Serving.{GoesOnRight, Leads}
 use Rattle.requests.specs.Line.{meaning}
 use Rattle.server.specs.Image.{IsImageOf, IsOpenedOver}
 
--- The lines of the input, where it is known, have their replies, of whose text this is written: these requests were
--- made.
+-- There is an input, which is the reader's where that is known. Its lines have their replies, of whose text this is
+-- written: these requests were made.
 abbrev pub ServesInput : Bool → Option (List ℕ) → (List ℕ → Type 0) → Served → Type 0
 ServesInput whole input IsWritten made =
-    IfSome input (λ text. Serves meaning whole (lines_of text) [] made IsWritten)
+    HasInput input (λ text. Serves meaning whole (lines_of text) [] made IsWritten)
 
 -- So have the whole lines of what was read of it.
 abbrev pub ServesInputRead : Option (List ℕ) → Option (List ℕ) → (List ℕ → Type 0) → Served → Type 0
 ServesInputRead input left IsWritten made =
-    IfSome input (λ text. ServesWhatWasRead meaning text left [] made IsWritten)
+    HasInput input (λ text. ServesWhatWasRead meaning text left [] made IsWritten)
 
 -- Requests were made, one after another, of a session over the broker, which came to another one by them; each was
 -- answered as that says, with an answer that it may have. What was settled stays so, no number took effect twice, and

@@ -35,7 +35,7 @@ pub(crate) fn image_left<J: Naming>(
     ensures image { IfOk result (λ bytes. IsImageAfter J.first bytes.items) }
     ensures errors { IfErr result IsBusyOrNoMemory }
 {
-    let seats = seats.into_seats(alloc)?;
+    let (seats, _operator) = seats.into_parts(alloc)?;
     let session = shared.close(seats);
     session.broker().to_image()
 }

@@ -10,5 +10,5 @@ mod piping;
 
 pub use json_lines::JsonLines;
 pub use listening::net;
-pub use opening::opened;
+pub use opening::{opened, renewed};
 pub use piping::pipe;

@@ -150,11 +150,11 @@ fn served<J: Naming + Send + Sync, R: Threads + Wait + Net + Clock + Log + Sync>
     ensures image { IfOk result (λ bytes. IsImageAfter J.first bytes.items) }
     ensures errors { IfErr result IsBusyOrNoMemory }
 {
-    let (shared, seats) = match opened.named::<J>(alloc) {
+    let (shared, seats, operator) = match opened.named::<J>(alloc) {
         Ok(named) => named,
         Err(not) => return Err(not.refusal),
     };
-    let seats = Seating::new(alloc, seats)?;
+    let seats = Seating::new(alloc, seats, operator)?;
     if work(rt, alloc, &shared, &seats, workers.max(1), listener).is_err() {
         return Err(Refusal::NoMemory);
     }

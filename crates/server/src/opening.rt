@@ -7,7 +7,7 @@ ghost use Rattle.arena.specs.Limits.{AreCounts};
 ghost use Rattle.named.specs.Brokers.{IsNew};
 ghost use Rattle.named.specs.Promises.{KeepsPromises};
 ghost use Rattle.session.specs.Sessions.{IsUncalled};
-ghost use Rattle.server.specs.Opening.{HasBegunFrom, HasBegunOn, IsOpened, IsOpenedBy, IsWhyUnopened};
+ghost use Rattle.server.specs.Opening.{HasBegunFrom, HasBegunOn, IsOpened, IsOpenedBy, IsRenewedBy, IsWhyNotRenewed, IsWhyUnopened};
 
 use named::Broker;
 use persist::{Memory, is_first_form};
@@ -71,4 +71,19 @@ pub fn opened(
         return Broker::make(alloc, clients, records);
     };
     recovered(begun(alloc, bytes)?)
+}
+
+/// The broker that an image keeps, as [`opened`] reads it, with each queue in fresh records, for so many clients and so
+/// many records of each, once it has recovered. An image is refused as there, first; then its broker as
+/// [`Broker::renewed`] says.
+pub fn renewed(alloc: Global, clients: u32, records: u32, image: &[u8]) -> Result<Broker, Refusal>
+    ensures renewed { IfOk result
+        (IsRenewedBy (has_first_form image.now) image.now (record { clients = clients; records = records })) }
+    ensures unrenewed { IfErr result
+        (IsWhyNotRenewed (has_first_form image.now) image.now (record { clients = clients; records = records })) }
+    ensures uncalled { IfOk result IsUncalled }
+    ensures promises { IfOk result KeepsPromises }
+{
+    let start = begun(alloc, image)?;
+    recovered(start.renewed(clients, records)?)
 }

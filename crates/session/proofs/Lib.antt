@@ -19,3 +19,5 @@ pub mod SlotLaws
 pub mod Starts
 pub mod Uncalled
 pub mod Worlds
+pub mod Renewed
+pub mod Settled

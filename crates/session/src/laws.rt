@@ -19,13 +19,13 @@ ghost use Rattle.words.specs.declared.limits.TheConstants.{MAX_CALL_NUMBER, MAX_
 ghost use Rattle.words.specs.declared.told.Verdict.{Verdict};
 ghost use Rattle.interleave.specs.Holds.{Holds};
 ghost use Rattle.interleave.specs.State.{State, number_to_start};
-ghost use Rattle.interleave.specs.Verdicts.{IsReplyOf};
+ghost use Rattle.interleave.specs.Verdicts.{IsReplyOf, kept_told};
 ghost use Rattle.words.specs.declared.call.Kind.{Kind};
-ghost use Rattle.session.specs.Keeping.{IsSettled, SessionGoesOn};
+ghost use Rattle.session.specs.Keeping.{IsSettled, SessionGoesOn, verdict_heard};
 ghost use Rattle.session.specs.Numbers.{by_number};
 ghost use Rattle.session.specs.Promises.{KeepsNumbers};
 ghost use Rattle.session.specs.Requests.{request_answer};
-ghost use Rattle.session.specs.Sessions.{HasDurableQueue, IsUncalled, Sessioned};
+ghost use Rattle.session.specs.Sessions.{HasDurableQueue, IsRight, IsUncalled, Sessioned, kept_at};
 
 /// Each act's `goes_on` says that a settled number stays settled, and these chain: so it is over any list of acts, with
 /// crashes, recoveries, evictions and rotations. A settled number never runs again, and each answer to it, however
@@ -43,6 +43,15 @@ pub fn answers_last()
 pub fn numbers_have_one_reply()
     ensures { (w : State) (client : Client) (number : ℕ) (reply other : Reply) → Holds w → w.shape.kind ≡ Kind.Log
         → client.0 < MAX_CLIENTS → IsReplyOf w client number reply → IsReplyOf w client number other → reply ≡ other }
+{}
+
+/// What is settled the kept words tell: by the verdict that they tell a client of a log queue each of its settled
+/// numbers is settled. A broker that begins on these words tells the client just that.
+pub fn settled_is_told()
+    ensures { (s : Sessioned) (slot : ℕ) (w : State) (client : Client) (number : ℕ) (reply : Reply) → IsRight s
+        → world_at s.broker slot ≡ Some w → w.shape.kind ≡ Kind.Log → client.0 < w.shape.clients
+        → IsSettled (kept_at s slot client) number reply
+        → IsSettled (verdict_heard (Ok (kept_told w client))) number reply }
 {}
 
 /// A number that the table of numbers lets run is not stale, unless it is above the greatest number: the queue takes it

@@ -10,5 +10,5 @@ mod running;
 mod session;
 mod stopping;
 
-pub use laws::{answers_last, numbers_have_one_reply, uncalled_brokers};
+pub use laws::{answers_last, numbers_have_one_reply, settled_is_told, uncalled_brokers};
 pub use session::Session;

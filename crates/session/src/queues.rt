@@ -5,6 +5,7 @@ ghost use Rattle.directory.specs.Creation.{successor};
 ghost use Rattle.interleave.specs.Calls.{is_no_memory};
 ghost use Rattle.named.specs.Brokers.{is_down, quiet, room_at, world_at, IsBegun, IsNotCreated, IsStepCreated, MayCreate};
 ghost use Rattle.named.specs.GoingOn.{BrokerGoesOn};
+ghost use Rattle.named.specs.Renewing.{IsRenewedAt, IsWhyNotRenewedAt, MayRenew};
 ghost use Rattle.named.specs.Rotating.{rotate_result, IsRotated};
 ghost use Rattle.named.specs.Slots.{IsWhyUnread};
 ghost use Rattle.session.specs.Keeping.{SessionGoesOn};
@@ -82,5 +83,19 @@ impl Session {
         ensures promises { KeepsNumbers self.new }
     {
         self.broker.rotate()
+    }
+
+    /// The queue in a slot begins in fresh records, as [`named::Broker::renew`] makes it: the broker is down then. What
+    /// is kept of each client stays: its last number is answered as before, once the broker is ready.
+    pub fn renew(&mut self, queue: SlotId) -> Result<(), Refusal>
+        ensures may { OnOk result (MayRenew self.old.broker queue.0) }
+        ensures renewed { OnOk result (IsRenewedAt self.old.broker self.new.broker queue.0) }
+        ensures errors { IfErr result (IsWhyNotRenewedAt self.old.broker queue.0) }
+        ensures same { OnErr result (self.new ≡ self.old) }
+        ensures kept { self.new.kept ≡ self.old.kept }
+        ensures goes_on { SessionGoesOn self.old self.new }
+        ensures promises { KeepsNumbers self.new }
+    {
+        self.broker.renew(queue)
     }
 }

@@ -1,8 +1,7 @@
-//! Worlds of both kinds of queue on drawn acts: one after another, each on what the one before keeps, and histories
-//! that follow one another.
+//! Worlds of both kinds of queue on drawn acts: one after another, each on what the one before keeps, in fresh records.
 #![tactic(auto)]
 
 #[cfg(test)]
 mod drawn;
 #[cfg(test)]
-mod rotations;
+mod renewals;

@@ -2,7 +2,9 @@
 
 use anyhow::Result;
 use devices::{CountedWriter, FaultyReader};
-use explore::{Evictions, Watch, points, run, run_alone, run_page, run_points, watched_points};
+use explore::{
+    Evictions, WHOLE, Wanted, Watch, points, run, run_alone, run_page, run_points, watched_points,
+};
 use grammar::{Script, parse_script};
 use playing::{alone, transcript};
 use std::alloc::Global;
@@ -58,12 +60,15 @@ fn worked<R: Threads + Sync>(
     let mut writer = CountedWriter::new(written);
     let mut reader = FaultyReader::new(text.as_bytes(), usize::MAX);
     let mut watch = Last { done: 0 };
-    let evictions = Evictions::Drawn { state: 1 };
+    let wanted = Wanted {
+        evictions: Evictions::Drawn { state: 1 },
+        part: WHOLE,
+    };
     match work {
         Work::Run => run(alloc, &mut reader, &mut writer)?,
-        Work::Points => run_points(rt, alloc, &mut reader, &mut writer, evictions, &mut watch)?,
+        Work::Points => run_points(rt, alloc, &mut reader, &mut writer, wanted, &mut watch)?,
         Work::Page => {
-            let page = run_page(rt, alloc, &mut reader, &mut writer, evictions, &mut watch)?;
+            let page = run_page(rt, alloc, &mut reader, &mut writer, wanted, &mut watch)?;
             return Ok(page.len());
         }
         Work::Alone => run_alone(alloc, &mut reader, &mut writer)?,
@@ -106,8 +111,12 @@ fn tell_of<R: Threads + Sync + Print + AllocGlobal>(rt: &R, script: &Script) -> 
     )?;
     println!(rt; "points: {}, bad: {}", report.points.len(), report.bad)?;
     let mut watch = Last { done: 0 };
+    let wanted = Wanted {
+        evictions: Evictions::None,
+        part: WHOLE,
+    };
     let report = made(rt, "explore::watched_points", || {
-        watched_points(rt, alloc, script, Evictions::None, &mut watch)
+        watched_points(rt, alloc, script, wanted, &mut watch)
     })?;
     println!(rt;
         "points: {}, bad: {}, watched: {}",

@@ -104,11 +104,11 @@ fn exchanged<J: Naming, T: Wait>(
 ) -> Result<Exchange, Fail>
     requires { IsNameOf J.roll J.clients J.first opened }
 {
-    let (shared, seats) = match opened.named::<J>(alloc) {
+    let (shared, seats, operator) = match opened.named::<J>(alloc) {
         Ok(named) => named,
         Err(not) => return Err(Fail::new(not.refusal)),
     };
-    let seats = Seating::new(alloc, seats)?;
+    let seats = Seating::new(alloc, seats, operator)?;
     let mut desk = CountingDesk {
         desk: BrokerDesk::new(alloc, &shared, &seats)?,
         made: 0,

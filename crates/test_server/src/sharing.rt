@@ -28,6 +28,10 @@ const CONNECTIONS: usize = 4;
 /// How many puts each makes, all of one client.
 const PUTS: u32 = 1_000;
 
+/// How many rounds are played at most until a connection finds the seat in use: on one processor the connections of a
+/// round may happen to put one after another.
+const ROUNDS: u32 = 100;
+
 /// How many records the client has.
 const RECORDS: u32 = 4_096;
 
@@ -92,11 +96,11 @@ fn shared_by_all<J: Naming + Send + Sync, R: Threads + Wait + Clock + Abort + Sy
 ) -> Result<u64, Fail>
     requires { IsNameOf J.roll J.clients J.first opened }
 {
-    let (shared, seats) = match opened.named::<J>(alloc) {
+    let (shared, seats, operator) = match opened.named::<J>(alloc) {
         Ok(named) => named,
         Err(not) => return Err(Fail::new(not.refusal)),
     };
-    let seats = Seating::new(alloc, seats)?;
+    let seats = Seating::new(alloc, seats, operator)?;
     let mut desk = BrokerDesk::new(alloc, &shared, &seats)?;
     let create = Request::Create {
         queue: Name::make(b"a").ok(),
@@ -129,9 +133,12 @@ fn taken<J: Naming, R: Wait>(rt: &R, desk: &mut BrokerDesk<'_, J>) -> Result<u64
     Err(Fail::new("more values than there may be"))
 }
 
-#[test]
-fn a_seat_is_used_by_one_connection_at_a_time(rt: HostRuntime) -> Result<(), Fail> {
-    let alloc = rt.alloc();
+/// All connections put at once in a new broker. How many values the queue then has is how many were told Done. Whether a
+/// connection found the seat in use.
+fn is_found_in_use<R: Threads + Wait + Clock + Abort + Sync>(
+    rt: &R,
+    alloc: Global,
+) -> Result<bool, Fail> {
     let tally = Tally {
         there: AtomicU64::new(0),
         done: AtomicU64::new(0),
@@ -142,14 +149,23 @@ fn a_seat_is_used_by_one_connection_at_a_time(rt: HostRuntime) -> Result<(), Fai
     let Ok(opened) = Opened::new(alloc, session) else {
         return Err(Fail::new("it is in use"));
     };
-    let values = shared_by_all::<Brand, _>(&rt, alloc, opened, &tally)?;
+    let values = shared_by_all::<Brand, _>(rt, alloc, opened, &tally)?;
     let (done, busy) = (
         tally.done.load(Ordering::SeqCst),
         tally.busy.load(Ordering::SeqCst),
     );
     assert_eq!(rt; tally.other.load(Ordering::SeqCst), 0, "other answers");
     assert_eq!(rt; done.saturating_add(busy), 4_000, "answers");
-    assert!(rt; done > 0 && busy > 0, "{done} done, {busy} busy");
     assert_eq!(rt; values, done, "values");
-    Ok(())
+    Ok(busy > 0)
+}
+
+#[test]
+fn a_seat_is_used_by_one_connection_at_a_time(rt: HostRuntime) -> Result<(), Fail> {
+    for _ in 0..ROUNDS {
+        if is_found_in_use(&rt, rt.alloc())? {
+            return Ok(());
+        }
+    }
+    Err(Fail::new("no connection found the seat in use"))
 }

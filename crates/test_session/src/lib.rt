@@ -1,5 +1,5 @@
 //! Sessions of numbered operations: crashes at each step of a call and of a recovery, what the environment keeps,
-//! images, and drawn requests beside a plain account.
+//! images, fresh records, and drawn requests beside a plain account.
 #![tactic(auto)]
 
 #[cfg(test)]
@@ -12,6 +12,8 @@ mod drawn;
 mod evicted;
 #[cfg(test)]
 mod plain;
+#[cfg(test)]
+mod renewals;
 #[cfg(test)]
 mod repeats;
 #[cfg(test)]

@@ -5,25 +5,16 @@ ghost use Rattle.std.specs.Prelude.{◌≡◌, IfOk};
 
 use crate::seats::{all, only, seen_beside};
 use anyhow::Result;
-use arena::SlotId;
 use std::sync::Wait;
 use test_growths::{MOST_TRIES, say_again};
-use words::{Call, Refusal};
-use workers::{Answer, Gate, Naming, OpenGate, Seat, Shared};
-
-/// A call as it is asked for.
-#[derive(Clone, Copy, Debug)]
-pub(crate) struct Asked {
-    pub(crate) queue: SlotId,
-    pub(crate) number: Option<u64>,
-    pub(crate) call: Call,
-}
+use words::Refusal;
+use workers::{Answer, Gate, Naming, OpenGate, Request, Seat, Shared};
 
 /// Prints what a call came to.
-fn show<R: Print>(rt: &R, asked: Asked, answer: Answer) -> Result<()> {
+fn show<R: Print>(rt: &R, asked: &Request, answer: Answer) -> Result<()> {
     println!(rt;
-        "{:?} {:?} {:?}: {answer:?}",
-        asked.queue, asked.number, asked.call
+        "{} {:?} {:?}: {answer:?}",
+        asked.name, asked.number, asked.call
     )?;
     Ok(())
 }
@@ -55,7 +46,7 @@ fn finish<J: Naming, R: Wait + Print + AllocGlobal>(
     rt: &R,
     shared: &Shared<J>,
     seat: Seat<J>,
-    asked: Asked,
+    asked: &Request,
 ) -> Result<Seat<J>>
     requires client { seat.client ≡ record { 0 = 0 } }
     requires clients { J.clients ≡ 1 }
@@ -79,7 +70,7 @@ pub(crate) fn call<J: Naming, G: Gate, R: Wait + Print + AllocGlobal>(
     rt: &R,
     shared: &Shared<J>,
     seat: Seat<J>,
-    asked: Asked,
+    asked: &Request,
     gate: &G,
 ) -> Result<Seat<J>>
     requires client { seat.client ≡ record { 0 = 0 } }
@@ -89,7 +80,7 @@ pub(crate) fn call<J: Naming, G: Gate, R: Wait + Print + AllocGlobal>(
     let mut seat = seat;
     for _ in 0..MOST_TRIES {
         let before = seen_beside(rt, shared, &seat.list)?;
-        let (next, answer) = shared.call(rt, seat, asked.queue, asked.number, asked.call, gate);
+        let (next, answer) = shared.call(rt, seat, *asked, gate);
         seat = next;
         match answer {
             Answer::Refused(Refusal::NoMemory) => {

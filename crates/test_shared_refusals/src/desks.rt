@@ -5,9 +5,9 @@ ghost use Rattle.workers.specs.Opening.{IsNameOf};
 
 use crate::pipes::opened_at_last;
 use anyhow::Result;
-use arena::SlotId;
 use desk::{BrokerDesk, Seating};
 use devices::{CountedWriter, FaultyReader};
+use directory::Name;
 use engine::serve;
 use server::JsonLines;
 use session::Session;
@@ -107,9 +107,9 @@ static LINES: [(Asks, &str); 24] = [
 fn seen_beside<J: Naming, R: Wait + AllocGlobal>(rt: &R, shared: &Shared<J>) -> Result<String> {
     let mut text = empty_text(rt.alloc())?;
     write!(text, "{:?}", shared.list(rt))?;
-    for slot in 0..3u8 {
+    for name in [b"a", b"b", b"c"] {
         for client in 0..2u8 {
-            let told = shared.told(rt, Client(client), SlotId(slot));
+            let told = shared.told(rt, Client(client), &Name::make(name)?).0;
             write!(text, " {told:?}")?;
         }
     }
@@ -235,19 +235,19 @@ enum Came {
 fn play_named<J: Naming, R: Wait + Print + AllocGlobal>(rt: &R, opened: Opened) -> Result<Came>
     requires { IsNameOf J.roll J.clients J.first opened }
 {
-    let Ok((shared, seats)) = opened.named::<J>(rt.alloc()) else {
+    let Ok((shared, seats, operator)) = opened.named::<J>(rt.alloc()) else {
         say_again(rt, "Opened::named", true)?;
         return Ok(Came::Nowhere);
     };
-    let Ok(seating) = Seating::new(rt.alloc(), seats) else {
+    let Ok(seating) = Seating::new(rt.alloc(), seats, operator) else {
         say_again(rt, "Seating::new", true)?;
         return Ok(Came::Nowhere);
     };
-    let Ok(seats) = seating.into_seats(rt.alloc()) else {
-        say_again(rt, "Seating::into_seats", true)?;
+    let Ok((seats, operator)) = seating.into_parts(rt.alloc()) else {
+        say_again(rt, "Seating::into_parts", true)?;
         return Ok(Came::Nowhere);
     };
-    let Ok(seating) = Seating::new(rt.alloc(), seats) else {
+    let Ok(seating) = Seating::new(rt.alloc(), seats, operator) else {
         say_again(rt, "Seating::new", true)?;
         return Ok(Came::Nowhere);
     };

@@ -4,7 +4,7 @@ ghost use Rattle.std.specs.Prelude.{◌≡◌, IfOk, IfSome};
 ghost use Rattle.workers.specs.Seats.{AreAllInOrder};
 
 use anyhow::Result;
-use arena::SlotId;
+use directory::Name;
 use std::fmt::Write;
 use std::sync::Wait;
 use test_growths::{MOST_TRIES, empty_text};
@@ -14,10 +14,10 @@ use workers::{Entry, Naming, Seat, Shared};
 /// The only client.
 pub(crate) const CLIENT: Client = Client(0);
 
-/// The slots of the two queues.
-pub(crate) const LOG: SlotId = SlotId(0);
+/// The names of the two queues.
+pub(crate) static LOG: &[u8] = b"a";
 
-pub(crate) const DURABLE: SlotId = SlotId(1);
+pub(crate) static DURABLE: &[u8] = b"b";
 
 /// The only seat.
 pub(crate) fn only<J: Naming>(mut seats: Vec<Seat<J>>) -> Option<Seat<J>>
@@ -54,8 +54,8 @@ pub(crate) fn seen_beside<J: Naming, R: Wait + AllocGlobal>(
 ) -> Result<String> {
     let mut text = empty_text(rt.alloc())?;
     let queues = shared.list(rt);
-    let numbered = shared.told(rt, CLIENT, LOG);
-    let plain = shared.told(rt, CLIENT, DURABLE);
+    let numbered = shared.told(rt, CLIENT, &Name::make(LOG)?).0;
+    let plain = shared.told(rt, CLIENT, &Name::make(DURABLE)?).0;
     write!(text, "{queues:?} {numbered:?} {plain:?} {list:?}")?;
     Ok(text)
 }

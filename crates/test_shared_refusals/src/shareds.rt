@@ -4,19 +4,20 @@
 ghost use Rattle.std.specs.Prelude.{◌≡◌, IfOk};
 ghost use Rattle.workers.specs.Opening.{IsNameOf};
 
-use crate::calls::{Asked, call};
+use crate::calls::call;
 use crate::seats::{CLIENT, DURABLE, LOG, all, only, seen_beside};
 use crate::sessions::uncalled;
 use anyhow::Result;
+use directory::Name;
 use session::Session;
 use std::marker::Brand;
-use std::sync::Wait;
+use std::sync::{Mutex, Wait};
 use test_growths::sessions::Act;
 use test_growths::{MOST_TRIES, play, say_again, seen};
 use test_support::item;
 use test_support::steps::LOG_CLAIM_KEPT;
 use words::{Call, Client, Kind, Refusal};
-use workers::{Gate, Naming, OpenGate, Opened, Seat, Shared};
+use workers::{Gate, Naming, OpenGate, Opened, Operator, Request, Seat, Shared};
 
 /// The queues before the session is shared.
 static QUEUES: [(u32, Act); 4] = [
@@ -27,28 +28,48 @@ static QUEUES: [(u32, Act); 4] = [
 ];
 
 /// A call of the log queue.
-fn numbered(number: u64, call: Call) -> Asked {
-    Asked {
-        queue: LOG,
+fn numbered(number: u64, call: Call) -> Result<Request, Refusal> {
+    let name = Name::make(LOG)?;
+    Ok(Request {
+        name,
         number: Some(number),
         call,
-    }
+    })
 }
 
 /// A call of the durable queue.
-fn plain(call: Call) -> Asked {
-    Asked {
-        queue: DURABLE,
+fn plain(call: Call) -> Result<Request, Refusal> {
+    let name = Name::make(DURABLE)?;
+    Ok(Request {
+        name,
         number: None,
         call,
-    }
+    })
+}
+
+/// The operator, where calls and gates find him.
+type Post<J> = Mutex<Option<Operator<J>>>;
+
+/// Whether everything stopped.
+fn has_stopped<J: Naming, R: Wait>(rt: &R, shared: &Shared<J>, post: &Post<J>) -> bool {
+    let mut post = post.lock(rt);
+    let Some(operator) = post.take() else {
+        return false;
+    };
+    let (operator, stopped) = shared.crash(rt, operator);
+    *post = Some(operator);
+    stopped.is_ok()
 }
 
 /// Stops everything.
-fn crash<J: Naming, R: Wait + Print + AllocGlobal>(rt: &R, shared: &Shared<J>) -> Result<()> {
+fn crash<J: Naming, R: Wait + Print + AllocGlobal>(
+    rt: &R,
+    shared: &Shared<J>,
+    post: &Post<J>,
+) -> Result<()> {
     for _ in 0..MOST_TRIES {
         let before = seen_beside(rt, shared, &[])?;
-        if shared.crash(rt).is_ok() {
+        if has_stopped(rt, shared, post) {
             println!(rt; "everything stops")?;
             return Ok(());
         }
@@ -62,9 +83,9 @@ fn crash<J: Naming, R: Wait + Print + AllocGlobal>(rt: &R, shared: &Shared<J>) -
 /// broker is still not ready, and the next recovery goes on.
 fn recover<J: Naming, R: Wait + Print + AllocGlobal>(rt: &R, shared: &Shared<J>) -> Result<()> {
     for _ in 0..MOST_TRIES {
-        if shared.recover(rt).is_ok() {
-            let numbered = shared.told(rt, CLIENT, LOG)?;
-            let plain = shared.told(rt, CLIENT, DURABLE)?;
+        if shared.recover(rt).0.is_ok() {
+            let numbered = shared.told(rt, CLIENT, &Name::make(LOG)?).0?;
+            let plain = shared.told(rt, CLIENT, &Name::make(DURABLE)?).0?;
             println!(rt; "the client is told: {numbered}, {plain}")?;
             return Ok(());
         }
@@ -103,6 +124,7 @@ fn rotate<J: Naming, R: Wait + Print + AllocGlobal>(
 #[derive(Drop)]
 struct Stopping<'a, J: Naming> {
     shared: &'a Shared<J>,
+    post: &'a Post<J>,
     steps: u64,
 }
 
@@ -112,7 +134,7 @@ impl<'a, J: Naming> Gate for Stopping<'a, J> {
             return;
         }
         for _ in 0..MOST_TRIES {
-            if self.shared.crash(rt).is_ok() {
+            if has_stopped(rt, self.shared, self.post) {
                 return;
             }
         }
@@ -123,29 +145,53 @@ impl<'a, J: Naming> Gate for Stopping<'a, J> {
 fn first_calls<J: Naming, R: Wait + Print + AllocGlobal>(
     rt: &R,
     shared: &Shared<J>,
+    post: &Post<J>,
     seat: Seat<J>,
 ) -> Result<Seat<J>>
     requires client { seat.client ≡ record { 0 = 0 } }
     requires clients { J.clients ≡ 1 }
     ensures { IfOk result (λ next. next.client ≡ seat.client) }
 {
-    let seat = call(rt, shared, seat, numbered(1, Call::Enq(item(7))), &OpenGate)?;
-    let seat = call(rt, shared, seat, numbered(2, Call::Enq(item(8))), &OpenGate)?;
-    let seat = call(rt, shared, seat, plain(Call::Enq(item(5))), &OpenGate)?;
-    crash(rt, shared)?;
+    let seat = call(
+        rt,
+        shared,
+        seat,
+        &numbered(1, Call::Enq(item(7)))?,
+        &OpenGate,
+    )?;
+    let seat = call(
+        rt,
+        shared,
+        seat,
+        &numbered(2, Call::Enq(item(8)))?,
+        &OpenGate,
+    )?;
+    let seat = call(rt, shared, seat, &plain(Call::Enq(item(5)))?, &OpenGate)?;
+    crash(rt, shared, post)?;
     recover(rt, shared)?;
     let gate = Stopping {
         shared,
+        post,
         steps: u64::from(LOG_CLAIM_KEPT),
     };
-    let seat = call(rt, shared, seat, numbered(3, Call::Deq), &gate)?;
+    let seat = call(rt, shared, seat, &numbered(3, Call::Deq)?, &gate)?;
     recover(rt, shared)?;
-    let seat = call(rt, shared, seat, numbered(3, Call::Deq), &OpenGate)?;
-    let seat = call(rt, shared, seat, numbered(4, Call::Enq(item(9))), &OpenGate)?;
-    let gate = Stopping { shared, steps: 7 };
-    let seat = call(rt, shared, seat, plain(Call::Deq), &gate)?;
+    let seat = call(rt, shared, seat, &numbered(3, Call::Deq)?, &OpenGate)?;
+    let seat = call(
+        rt,
+        shared,
+        seat,
+        &numbered(4, Call::Enq(item(9)))?,
+        &OpenGate,
+    )?;
+    let gate = Stopping {
+        shared,
+        post,
+        steps: 7,
+    };
+    let seat = call(rt, shared, seat, &plain(Call::Deq)?, &gate)?;
     recover(rt, shared)?;
-    call(rt, shared, seat, plain(Call::Deq), &OpenGate)
+    call(rt, shared, seat, &plain(Call::Deq)?, &OpenGate)
 }
 
 /// Prints what the seat remembers.
@@ -160,17 +206,17 @@ fn show_list<J: Naming, R: Print>(rt: &R, seat: &Seat<J>) -> Result<()> {
 fn acts<J: Naming, R: Wait + Print + AllocGlobal>(rt: &R, opened: Opened) -> Result<Option<Session>>
     requires { IsNameOf J.roll J.clients J.first opened }
 {
-    let (shared, seats) = match opened.named::<J>(rt.alloc()) {
+    let (shared, seats, operator) = match opened.named::<J>(rt.alloc()) {
         Ok(named) => named,
         Err(not) => return Ok(Some(not.session)),
     };
     let seat = only(seats).ok_or(Refusal::NoClient)?;
-    let seat = first_calls(rt, &shared, seat)?;
+    let seat = first_calls(rt, &shared, &Mutex::new(Some(operator)), seat)?;
     show_list(rt, &seat)?;
     let (created, _receipt) = shared.create(rt, b"c", Kind::Log);
     println!(rt; "a queue: {created:?}")?;
     let seat = rotate(rt, &shared, seat)?;
-    let seat = call(rt, &shared, seat, numbered(5, Call::Deq), &OpenGate)?;
+    let seat = call(rt, &shared, seat, &numbered(5, Call::Deq)?, &OpenGate)?;
     show_list(rt, &seat)?;
     let session = shared.close(all(rt, seat)?);
     println!(rt; "{}", seen(rt.alloc(), &session)?)?;

@@ -3,70 +3,64 @@
 ghost use Rattle.std.specs.Prelude.{◌≡◌};
 
 use crate::gates::{Held, tell, wait_for};
-use arena::SlotId;
+use directory::Name;
 use std::sync::Wait;
 use std::sync::atomic::{AtomicU64, Ordering};
 use std::thread::{Threads, join};
 use std::time::Clock;
 use test_support::sessions::A;
 use words::{Call, Refusal, Reply};
-use workers::{Answer, End, Entry, Naming, OpenGate, Seat, Shared};
+use workers::{Answer, End, Entry, Naming, OpenGate, Operator, Request, Seat, Shared};
 
 /// The client's call took effect, or was answered from what is kept.
 pub(crate) const DONE: Answer = Answer::Reply(Reply::Done);
 
-/// A call in a queue, with a number or without one.
-#[derive(Clone, Copy)]
-pub(crate) struct Ask {
-    pub(crate) queue: SlotId,
-    pub(crate) number: Option<u64>,
-    pub(crate) call: Call,
+/// A call in the queue `a`, which is durable.
+pub(crate) fn plain(call: Call) -> Result<Request, Refusal> {
+    let name = Name::make(b"a")?;
+    Ok(Request {
+        name,
+        number: None,
+        call,
+    })
 }
 
-impl Ask {
-    /// A call in the queue `a`, which is durable.
-    pub(crate) fn plain(call: Call) -> Self {
-        Ask {
-            queue: A,
-            number: None,
-            call,
-        }
-    }
+/// A call in the queue `a`, which is a log queue.
+pub(crate) fn numbered(number: u64, call: Call) -> Result<Request, Refusal> {
+    let name = Name::make(b"a")?;
+    Ok(Request {
+        name,
+        number: Some(number),
+        call,
+    })
+}
 
-    /// A call in the queue `a`, which is a log queue.
-    pub(crate) fn numbered(number: u64, call: Call) -> Self {
-        Ask {
-            queue: A,
-            number: Some(number),
-            call,
-        }
+/// What a seat remembers of a call in the queue `a`.
+fn entry(ask: Request, place: Option<usize>, end: End) -> Entry {
+    let Request { name, number, call } = ask;
+    Entry {
+        name,
+        queue: A,
+        number,
+        call,
+        place,
+        end,
     }
+}
 
-    /// What a seat remembers of it.
-    fn entry(self, place: Option<usize>, end: End) -> Entry {
-        Entry {
-            queue: self.queue,
-            number: self.number,
-            call: self.call,
-            place,
-            end,
-        }
-    }
+/// What it remembers, where the call ran from this place and was answered.
+pub(crate) fn ran(ask: Request, place: usize, reply: Reply) -> Entry {
+    entry(ask, Some(place), End::Answered(reply))
+}
 
-    /// What a seat remembers of it, where it ran from this place and was answered.
-    pub(crate) fn ran(self, place: usize, reply: Reply) -> Entry {
-        self.entry(Some(place), End::Answered(reply))
-    }
+/// What it remembers, where the call ran from this place until a crash.
+pub(crate) fn cut_off(ask: Request, place: usize) -> Entry {
+    entry(ask, Some(place), End::Interrupted)
+}
 
-    /// What a seat remembers of it, where it ran from this place until a crash.
-    pub(crate) fn cut_off(self, place: usize) -> Entry {
-        self.entry(Some(place), End::Interrupted)
-    }
-
-    /// What a seat remembers of it, where it was answered from what is kept.
-    pub(crate) fn repeated(self, reply: Reply) -> Entry {
-        self.entry(None, End::Answered(reply))
-    }
+/// What it remembers, where the call was answered from what is kept.
+pub(crate) fn repeated(ask: Request, reply: Reply) -> Entry {
+    entry(ask, None, End::Answered(reply))
 }
 
 /// A call that no gate holds back.
@@ -74,17 +68,17 @@ pub(crate) fn asked<J: Naming, R: Wait>(
     rt: &R,
     shared: &Shared<J>,
     seat: Seat<J>,
-    ask: Ask,
+    ask: Request,
 ) -> (Seat<J>, Answer)
     ensures { result.0.client ≡ seat.client }
 {
-    shared.call(rt, seat, ask.queue, ask.number, ask.call, &OpenGate)
+    shared.call(rt, seat, ask, &OpenGate)
 }
 
 /// A call that a gate holds back after so many steps.
 #[derive(Clone, Copy)]
 pub(crate) struct Hold {
-    pub(crate) ask: Ask,
+    pub(crate) ask: Request,
     pub(crate) steps: u64,
 }
 
@@ -96,7 +90,7 @@ pub(crate) fn held_beside<J: Naming + Send + Sync, R: Threads + Wait + Clock + S
     zero: Seat<J>,
     hold: Hold,
     one: Seat<J>,
-    other: Ask,
+    other: Request,
 ) -> ((Seat<J>, Answer), (Seat<J>, Answer), bool)
     ensures zero { result.0.0.client ≡ zero.client }
     ensures one { result.1.0.client ≡ one.client }
@@ -112,7 +106,7 @@ pub(crate) fn held_beside<J: Naming + Send + Sync, R: Threads + Wait + Clock + S
     let Hold { ask, steps: _ } = hold;
     let (first, second) = join(
         rt,
-        || shared.call(rt, zero, ask.queue, ask.number, ask.call, &gate),
+        || shared.call(rt, zero, ask, &gate),
         || {
             wait_for(rt, &there);
             let (one, answer) = asked(rt, shared, one, other);
@@ -125,9 +119,15 @@ pub(crate) fn held_beside<J: Naming + Send + Sync, R: Threads + Wait + Clock + S
 }
 
 /// The system stops, and recovers.
-pub(crate) fn restarted<J: Naming, R: Wait>(rt: &R, shared: &Shared<J>) -> Result<(), Refusal> {
-    shared.crash(rt)?;
-    shared.recover(rt)
+pub(crate) fn restarted<J: Naming, R: Wait>(
+    rt: &R,
+    shared: &Shared<J>,
+    operator: Operator<J>,
+) -> Result<(), Refusal> {
+    let (_operator, stopped) = shared.crash(rt, operator);
+    stopped?;
+    let (recovered, _receipt) = shared.recover(rt);
+    recovered
 }
 
 /// A seat's call is held back until the system has stopped and recovered: the seat with its answer, and whether it was
@@ -135,6 +135,7 @@ pub(crate) fn restarted<J: Naming, R: Wait>(rt: &R, shared: &Shared<J>) -> Resul
 pub(crate) fn held_over_a_crash<J: Naming + Send + Sync, R: Threads + Wait + Clock + Sync>(
     rt: &R,
     shared: &Shared<J>,
+    operator: Operator<J>,
     seat: Seat<J>,
     hold: Hold,
 ) -> ((Seat<J>, Answer), bool)
@@ -151,10 +152,10 @@ pub(crate) fn held_over_a_crash<J: Naming + Send + Sync, R: Threads + Wait + Clo
     let Hold { ask, steps: _ } = hold;
     let (first, restart) = join(
         rt,
-        || shared.call(rt, seat, ask.queue, ask.number, ask.call, &gate),
+        || shared.call(rt, seat, ask, &gate),
         || {
             wait_for(rt, &there);
-            let restart = restarted(rt, shared);
+            let restart = restarted(rt, shared, operator);
             tell(&done);
             restart
         },

@@ -3,7 +3,9 @@
 ghost use Rattle.std.specs.Prelude.{◌≡◌};
 ghost use Rattle.workers.specs.Opening.{IsNameOf};
 
-use crate::asking::{Ask, Hold, asked, held_over_a_crash};
+use crate::asking::{
+    Hold, asked, cut_off as entry_cut_off, held_over_a_crash, numbered, ran, repeated,
+};
 use crate::lists::{Lengths, lengths};
 use crate::seats::{alone, only};
 use crate::staging::{Played, begun, ended, opened};
@@ -20,12 +22,12 @@ use test_support::item;
 use test_support::sessions::{A, with_queue};
 use test_support::steps::{LOG_ENQUEUE_ANNOUNCED, LOG_LINK_KEPT};
 use words::{Call, Client, Kind, Refusal, Reply, Told, Value};
-use workers::{Answer, Naming, OpenGate, Opened};
+use workers::{Answer, Naming, OpenGate, Opened, Request};
 
 /// A crash, and recovery, while the only client's call stands still after so many steps. Then the client is told this.
 #[derive(Clone, Copy)]
 struct CutOff {
-    ask: Ask,
+    ask: Request,
     steps: u64,
     told: Told,
 }
@@ -39,18 +41,18 @@ fn cut_off<J: Naming + Send + Sync, R: Threads + Wait + Clock + Abort + Sync>(
 ) -> Result<Played, Fail>
     requires { IsNameOf J.roll J.clients J.first opened }
 {
-    let (shared, seats) = begun::<J>(alloc, opened)?;
+    let (shared, seats, operator) = begun::<J>(alloc, opened)?;
     let (ask, steps) = (case.ask, case.steps);
     let seat = only(seats).ok_or("one seat")?;
     let hold = Hold { ask, steps };
-    let ((seat, answer), in_time) = held_over_a_crash(rt, &shared, seat, hold);
+    let ((seat, answer), in_time) = held_over_a_crash(rt, &shared, operator, seat, hold);
     assert!(rt; in_time, "after {steps} steps");
     assert_eq!(rt; answer, Answer::Interrupted, "after {steps} steps");
     assert!(rt;
-        seat.list.as_slice() == [ask.cut_off(0)].as_slice(),
+        seat.list.as_slice() == [entry_cut_off(ask, 0)].as_slice(),
         "after {steps} steps"
     );
-    let told = shared.told(rt, Client(0), A)?;
+    let told = shared.told(rt, Client(0), &ask.name).0?;
     assert_eq!(rt; told, case.told, "after {steps} steps");
     let (seat, answer) = shared.finish(rt, seat, &OpenGate);
     assert_eq!(rt;
@@ -64,7 +66,7 @@ fn cut_off<J: Naming + Send + Sync, R: Threads + Wait + Clock + Abort + Sync>(
 /// The only client makes this call, which is answered so: it runs, or is answered from what is kept.
 #[derive(Clone, Copy)]
 struct Next {
-    ask: Ask,
+    ask: Request,
     reply: Reply,
     runs: bool,
 }
@@ -78,15 +80,15 @@ fn goes_on<J: Naming + Send + Sync, R: Threads + Wait + Clock + Abort + Sync>(
 ) -> Result<Played, Fail>
     requires { IsNameOf J.roll J.clients J.first opened }
 {
-    let (shared, seats) = begun::<J>(alloc, opened)?;
+    let (shared, seats, _operator) = begun::<J>(alloc, opened)?;
     let seat = only(seats).ok_or("one seat")?;
     let (seat, answer) = asked(rt, &shared, seat, next.ask);
     assert_eq!(rt; answer, Answer::Reply(next.reply));
     // Three events came before: the call that was cut off, the crash and the recovery.
     let entry = if next.runs {
-        next.ask.ran(3, next.reply)
+        ran(next.ask, 3, next.reply)
     } else {
-        next.ask.repeated(next.reply)
+        repeated(next.ask, next.reply)
     };
     assert!(rt; seat.list.as_slice() == [entry].as_slice());
     ended(alloc, shared, alone(alloc, seat)?, since)
@@ -138,10 +140,10 @@ fn number_cut_off<R: Threads + Wait + Clock + Abort + Sync>(
     alloc: Global,
     steps: u32,
 ) -> Result<(), Fail> {
-    let ask = || Ask::numbered(1, Call::Enq(item(9)));
+    let ask = numbered(1, Call::Enq(item(9)))?;
     let is_taken = steps >= LOG_LINK_KEPT;
     let cut_off = CutOff {
-        ask: ask(),
+        ask,
         steps: u64::from(steps),
         told: wanted(steps),
     };
@@ -151,7 +153,7 @@ fn number_cut_off<R: Threads + Wait + Clock + Abort + Sync>(
     let values: &[Value] = if is_taken { &nine } else { &[] };
     assert!(rt; holds(&session, values)?, "after {steps} steps");
     let next = Next {
-        ask: ask(),
+        ask,
         reply: Reply::Done,
         runs: !is_taken,
     };

@@ -18,7 +18,7 @@ use std::thread::{Threads, join};
 use std::time::Clock;
 use test_support::sessions::with_queue;
 use words::{Kind, Refusal};
-use workers::{Created, Naming, Opened, Shared};
+use workers::{Created, Naming, Opened, Operator, Shared};
 
 /// The slot of the queue whose name is this letter, if it is there.
 fn found<J: Naming, R: Wait>(
@@ -93,15 +93,22 @@ fn created_beside<J: Naming, R: Wait + Clock>(
 
 /// The system stops and recovers again and again, until both threads have made their queues; whether it always could.
 /// Mostly it stops again at once, so that few creations come to their end.
-fn restarts<J: Naming, R: Wait + Clock>(rt: &R, shared: &Shared<J>, signals: &Signals) -> bool {
-    let mut right = true;
+fn restarts<J: Naming, R: Wait + Clock>(
+    rt: &R,
+    shared: &Shared<J>,
+    operator: Operator<J>,
+    signals: &Signals,
+) -> bool {
+    let (mut right, mut operator) = (true, operator);
     for turn in 0..TURNS {
         if signals.over.load(Ordering::SeqCst) == 2 {
             return right;
         }
-        right &= shared.crash(rt).is_ok();
+        let (after, stopped) = shared.crash(rt, operator);
+        operator = after;
+        right &= stopped.is_ok();
         tell(&signals.begun);
-        right &= shared.recover(rt) == Ok(());
+        right &= shared.recover(rt).0 == Ok(());
         if turn % 64 == 63 {
             rest(rt, 1);
         }
@@ -135,7 +142,7 @@ fn created_beside_crashes<J: Naming + Send + Sync, R: Threads + Wait + Clock + A
 ) -> Result<Played, Fail>
     requires { IsNameOf J.roll J.clients J.first opened }
 {
-    let (shared, seats) = begun::<J>(alloc, opened)?;
+    let (shared, seats, operator) = begun::<J>(alloc, opened)?;
     let signals = Signals {
         begun: AtomicU64::new(0),
         over: AtomicU64::new(0),
@@ -149,7 +156,7 @@ fn created_beside_crashes<J: Naming + Send + Sync, R: Threads + Wait + Clock + A
                 || created_beside(rt, &shared, &signals, &SECOND),
             )
         },
-        || restarts(rt, &shared, &signals),
+        || restarts(rt, &shared, operator, &signals),
     );
     assert!(rt; right, "restarts");
     for place in 0..4 {

@@ -5,12 +5,13 @@ ghost use Rattle.workers.specs.Opening.{IsNameOf};
 ghost use Rattle.test_threads.specs.Orders.{IsClientAt};
 ghost use Rattle.workers.specs.Seats.{AreAllInOrder};
 
-use crate::asking::{Ask, asked};
+use crate::asking::asked;
 use crate::gates::{TURNS, rest};
 use crate::lists::{Lengths, lengths};
 use crate::staging::{Played, begun, ended, opened};
 use crate::taken::are_once;
 use arena::{SLOTS, SlotId};
+use directory::Name;
 use rand_pcg::Pcg32;
 use session::Session;
 use std::alloc::Global;
@@ -24,7 +25,7 @@ use std::time::Clock;
 use test_support::sessions::{create, new_session};
 use test_support::{below, item};
 use words::{Call, Kind, MAX_CLIENTS, Refusal};
-use workers::{Answer, End, Entry, Naming, Opened, Seat, Shared};
+use workers::{Answer, End, Entry, Naming, Opened, Operator, Request, Seat, Shared};
 
 /// How many calls each client makes.
 const CALLS: u32 = 2_000;
@@ -56,7 +57,7 @@ fn with_all_queues(alloc: Global) -> Result<Session, Refusal> {
 }
 
 /// A drawn call in a drawn queue, with the client's next number in a log queue: it puts this value, or takes one.
-fn drawn(rng: &mut Pcg32, numbers: &mut [u64; LOGS], value: u32) -> Ask {
+fn drawn(rng: &mut Pcg32, numbers: &mut [u64; LOGS], value: u32) -> Result<Request, Refusal> {
     let slot = below(rng, SLOTS as u32) as usize;
     let call = match below(rng, 2) {
         0 => Call::Enq(item(value)),
@@ -69,11 +70,8 @@ fn drawn(rng: &mut Pcg32, numbers: &mut [u64; LOGS], value: u32) -> Ask {
         }
         None => None,
     };
-    Ask {
-        queue: SlotId(slot as u8),
-        number,
-        call,
-    }
+    let name = Name::make(&[NAMES[slot % SLOTS]])?;
+    Ok(Request { name, number, call })
 }
 
 /// The call in a durable queue, which is sent once: whether it was answered, or a crash or a recovery came between.
@@ -81,7 +79,7 @@ fn sent_once<J: Naming, R: Wait + Clock>(
     rt: &R,
     shared: &Shared<J>,
     seat: Seat<J>,
-    ask: Ask,
+    ask: Request,
 ) -> (Seat<J>, bool)
     ensures { result.0.client ≡ seat.client }
 {
@@ -102,7 +100,7 @@ fn sent_until_answered<J: Naming, R: Wait + Clock>(
     rt: &R,
     shared: &Shared<J>,
     seat: Seat<J>,
-    ask: &Ask,
+    ask: &Request,
 ) -> (Seat<J>, bool)
     ensures { result.0.client ≡ seat.client }
 {
@@ -124,7 +122,7 @@ fn sent<J: Naming, R: Wait + Clock>(
     rt: &R,
     shared: &Shared<J>,
     seat: Seat<J>,
-    ask: Ask,
+    ask: Request,
 ) -> (Seat<J>, bool)
     ensures { result.0.client ≡ seat.client }
 {
@@ -147,7 +145,9 @@ fn all_sent<J: Naming, R: Wait + Clock>(
     let (mut seat, mut right, mut numbers) = (seat, true, [0u64; LOGS]);
     for call in 0..CALLS {
         let value = client.saturating_mul(CALLS).saturating_add(call);
-        let ask = drawn(&mut rng, &mut numbers, value);
+        let Ok(ask) = drawn(&mut rng, &mut numbers, value) else {
+            return (seat, false);
+        };
         let (after, was_right) = sent(rt, shared, seat, ask);
         seat = after;
         right &= was_right;
@@ -159,16 +159,19 @@ fn all_sent<J: Naming, R: Wait + Clock>(
 fn restarts<J: Naming, R: Wait + Clock>(
     rt: &R,
     shared: &Shared<J>,
+    operator: Operator<J>,
     done: &AtomicU64,
     clients: u64,
 ) -> bool {
-    let (mut rng, mut right) = (Pcg32::new(1, 32), true);
+    let (mut rng, mut right, mut operator) = (Pcg32::new(1, 32), true, operator);
     for _ in 0..TURNS {
         rest(rt, below(&mut rng, 20).saturating_add(5));
         if done.load(Ordering::SeqCst) == clients {
             return right;
         }
-        right &= shared.crash(rt).is_ok() && shared.recover(rt) == Ok(());
+        let (after, stopped) = shared.crash(rt, operator);
+        operator = after;
+        right &= stopped.is_ok() && shared.recover(rt).0 == Ok(());
     }
     false
 }
@@ -226,7 +229,7 @@ fn crowded<J: Naming + Send + Sync, R: Threads + Wait + Clock + Abort + Sync>(
 ) -> Result<Played, Fail>
     requires { IsNameOf J.roll J.clients J.first opened }
 {
-    let (shared, seats) = begun::<J>(alloc, opened)?;
+    let (shared, seats, operator) = begun::<J>(alloc, opened)?;
     let (done, wrong) = (AtomicU64::new(0), AtomicU64::new(0));
     let clients = seats.len() as u64;
     let (seats, right) = join(
@@ -235,7 +238,7 @@ fn crowded<J: Naming + Send + Sync, R: Threads + Wait + Clock + Abort + Sync>(
             requires { AreAllInOrder (λ seat. seat.client) J.clients seats.items }
             ensures { IfSome result (λ seats. AreAllInOrder (λ seat. seat.client) J.clients seats.items) }
         { all_play(rt, &shared, seats, &done, &wrong) },
-        || restarts(rt, &shared, &done, clients),
+        || restarts(rt, &shared, operator, &done, clients),
     );
     assert!(rt; right, "restarts");
     assert_eq!(rt; wrong.load(Ordering::SeqCst), 0, "clients");

@@ -3,7 +3,7 @@
 ghost use Rattle.std.specs.Prelude.{◌≡◌};
 ghost use Rattle.workers.specs.Opening.{IsNameOf};
 
-use crate::asking::{Ask, Hold, held_beside};
+use crate::asking::{Hold, held_beside, plain, ran};
 use crate::lists::{Lengths, lengths};
 use crate::seats::{put_together, taken_apart};
 use crate::staging::{Played, begun, ended, opened};
@@ -50,11 +50,6 @@ static STORIES: [Story; 2] = [
     },
 ];
 
-/// It without a number.
-fn asked_for(wish: Wish) -> Ask {
-    Ask::plain(wish.call())
-}
-
 fn held<J: Naming + Send + Sync, R: Threads + Wait + Clock + Abort + Sync>(
     rt: &R,
     alloc: Global,
@@ -64,29 +59,22 @@ fn held<J: Naming + Send + Sync, R: Threads + Wait + Clock + Abort + Sync>(
 ) -> Result<Played, Fail>
     requires { IsNameOf J.roll J.clients J.first opened }
 {
-    let (shared, seats) = begun::<J>(alloc, opened)?;
+    let (shared, seats, _operator) = begun::<J>(alloc, opened)?;
     let (zero, one) = taken_apart(seats).ok_or("two seats")?;
-    let (wish, other) = story.calls;
+    let (ask, other) = (plain(story.calls.0.call())?, plain(story.calls.1.call())?);
     let hold = Hold {
-        ask: asked_for(wish),
+        ask,
         steps: u64::from(story.steps),
     };
-    let ((zero, first), (one, second), in_time) = held_beside(
-        rt,
-        &shared,
-        zero,
-        hold,
-        one,
-        asked_for(other),
-    );
+    let ((zero, first), (one, second), in_time) = held_beside(rt, &shared, zero, hold, one, other);
     assert!(rt; in_time);
     let (held, whole) = story.replies;
     assert_eq!(rt; second, Answer::Reply(whole.reply()));
     assert_eq!(rt; first, Answer::Reply(held.reply()));
     let place = since[0];
-    assert!(rt; zero.list.as_slice() == [asked_for(wish).ran(place, held.reply())].as_slice());
+    assert!(rt; zero.list.as_slice() == [ran(ask, place, held.reply())].as_slice());
     let next = place.saturating_add(1);
-    assert!(rt; one.list.as_slice() == [asked_for(other).ran(next, whole.reply())].as_slice());
+    assert!(rt; one.list.as_slice() == [ran(other, next, whole.reply())].as_slice());
     ended(alloc, shared, put_together(alloc, zero, one)?, since)
 }
 

@@ -1,6 +1,7 @@
 //! Whether seats' lists fit the histories of a session that was taken back.
 
 use arena::{SLOTS, SlotId};
+use directory::Name;
 use history::{Event, Events};
 use session::Session;
 use std::alloc::{AllocError, Global};
@@ -58,10 +59,11 @@ fn remembered(
     events: Option<&Events>,
     client: Client,
     queue: SlotId,
+    name: Option<Name>,
     since: usize,
 ) -> Result<Vec<Entry>, AllocError> {
     let mut calls = Vec::new(alloc);
-    let Some(events) = events else {
+    let (Some(events), Some(name)) = (events, name) else {
         return Ok(calls);
     };
     for place in 0..events.len() {
@@ -73,6 +75,7 @@ fn remembered(
             } => {
                 if who == client && place >= since {
                     calls.push(Entry {
+                        name,
                         queue,
                         number: if number == 0 { None } else { Some(number) },
                         call,
@@ -114,6 +117,12 @@ fn events_of(session: &Session, queue: SlotId) -> Option<&Events> {
     }
 }
 
+/// The name of the queue in a slot, if it has one.
+fn name_of(session: &Session, slot: usize) -> Option<Name> {
+    let place = session.broker().list().ok()?.get(slot)?;
+    place.map(|queue| queue.name)
+}
+
 /// Whether a client's list has just what the histories of all queues have of it, each from its place on.
 fn fits(
     alloc: Global,
@@ -126,7 +135,8 @@ fn fits(
     for slot in 0..SLOTS {
         let queue = SlotId(slot as u8);
         let events = events_of(session, queue);
-        let calls = remembered(alloc, events, client, queue, since[slot])?;
+        let name = name_of(session, slot);
+        let calls = remembered(alloc, events, client, queue, name, since[slot])?;
         right &= match ran(alloc, list, queue)? {
             Some(ran) => ran.as_slice() == calls.as_slice(),
             None => false,

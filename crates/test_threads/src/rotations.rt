@@ -4,7 +4,7 @@ ghost use Rattle.std.specs.Prelude.{◌≡◌, IfOk};
 ghost use Rattle.workers.specs.Opening.{IsNameOf};
 ghost use Rattle.workers.specs.Seats.{AreAllInOrder};
 
-use crate::asking::{Ask, DONE, asked};
+use crate::asking::{DONE, asked, numbered, ran, repeated};
 use crate::lists::{Lengths, lengths};
 use crate::seats::{put_together, taken_apart};
 use crate::staging::{Played, begun, ended, opened};
@@ -19,7 +19,7 @@ use test_support::brokers::taken;
 use test_support::sessions::{A, with_queue};
 use test_support::{are_items, item};
 use words::{Call, Client, Kind, Refusal, Reply, Told};
-use workers::{Answer, Naming, Opened, Seat, Shared};
+use workers::{Answer, Naming, Opened, Operator, Seat, Shared};
 
 /// What a client is told of a number that took effect.
 fn told_of(number: u64, reply: Reply) -> Result<Told, Refusal> {
@@ -31,27 +31,33 @@ fn rotated<J: Naming, R: Wait + Abort>(
     rt: &R,
     alloc: Global,
     shared: &Shared<J>,
+    operator: Operator<J>,
     seats: Vec<Seat<J>>,
 ) -> Result<Vec<Seat<J>>, Fail>
     requires { AreAllInOrder (λ seat. seat.client) J.clients seats.items }
     ensures { IfOk result (λ seats. AreAllInOrder (λ seat. seat.client) J.clients seats.items) }
 {
     let (zero, one) = taken_apart(seats).ok_or("two seats")?;
-    let (zero, first) = asked(rt, shared, zero, Ask::numbered(1, Call::Enq(item(5))));
-    let (one, second) = asked(rt, shared, one, Ask::numbered(1, Call::Enq(item(6))));
-    let (zero, third) = asked(rt, shared, zero, Ask::numbered(2, Call::Deq));
+    let take = numbered(2, Call::Deq)?;
+    let (zero, first) = asked(rt, shared, zero, numbered(1, Call::Enq(item(5)))?);
+    let (one, second) = asked(rt, shared, one, numbered(1, Call::Enq(item(6)))?);
+    let (zero, third) = asked(rt, shared, zero, take);
     assert!(rt; first == DONE && second == DONE);
     assert_eq!(rt; third, Answer::Reply(Reply::Got(item(5))));
-    shared.crash(rt)?;
-    shared.recover(rt)?;
+    let (_operator, stopped) = shared.crash(rt, operator);
+    stopped?;
+    shared.recover(rt).0?;
     let (seats, rotated) = shared.rotate(rt, put_together(alloc, zero, one)?);
     assert!(rt; rotated.is_ok());
     assert!(rt; seats.iter().all(|seat| seat.list.is_empty()));
     assert_eq!(rt;
-        shared.told(rt, Client(0), A),
+        shared.told(rt, Client(0), &take.name).0,
         told_of(2, Reply::Got(item(5)))
     );
-    assert_eq!(rt; shared.told(rt, Client(1), A), told_of(1, Reply::Done));
+    assert_eq!(rt;
+        shared.told(rt, Client(1), &take.name).0,
+        told_of(1, Reply::Done)
+    );
     Ok(seats)
 }
 
@@ -66,20 +72,20 @@ fn gone_on<J: Naming, R: Wait + Abort>(
     ensures { IfOk result (λ seats. AreAllInOrder (λ seat. seat.client) J.clients seats.items) }
 {
     let (zero, one) = taken_apart(seats).ok_or("two seats")?;
-    let last = || Ask::numbered(2, Call::Deq);
-    let next = || Ask::numbered(3, Call::Enq(item(8)));
-    let (zero, again) = asked(rt, shared, zero, last());
+    let last = numbered(2, Call::Deq)?;
+    let next = numbered(3, Call::Enq(item(8)))?;
+    let (zero, again) = asked(rt, shared, zero, last);
     assert_eq!(rt; again, Answer::Reply(Reply::Got(item(5))));
-    let (one, takes) = asked(rt, shared, one, last());
+    let (one, takes) = asked(rt, shared, one, last);
     assert_eq!(rt; takes, Answer::Reply(Reply::Got(item(6))));
-    let (zero, puts) = asked(rt, shared, zero, next());
+    let (zero, puts) = asked(rt, shared, zero, next);
     assert_eq!(rt; puts, DONE);
     let of_zero = [
-        last().repeated(Reply::Got(item(5))),
-        next().ran(2, Reply::Done),
+        repeated(last, Reply::Got(item(5))),
+        ran(next, 2, Reply::Done),
     ];
     assert!(rt; zero.list.as_slice() == of_zero.as_slice());
-    assert!(rt; one.list.as_slice() == [last().ran(0, Reply::Got(item(6)))].as_slice());
+    assert!(rt; one.list.as_slice() == [ran(last, 0, Reply::Got(item(6)))].as_slice());
     Ok(put_together(alloc, zero, one)?)
 }
 
@@ -92,8 +98,8 @@ fn whole<J: Naming + Send + Sync, R: Threads + Wait + Clock + Abort + Sync>(
 ) -> Result<Played, Fail>
     requires { IsNameOf J.roll J.clients J.first opened }
 {
-    let (shared, seats) = begun::<J>(alloc, opened)?;
-    let seats = rotated(rt, alloc, &shared, seats)?;
+    let (shared, seats, operator) = begun::<J>(alloc, opened)?;
+    let seats = rotated(rt, alloc, &shared, operator, seats)?;
     let seats = gone_on(rt, alloc, &shared, seats)?;
     ended(alloc, shared, seats, since)
 }

@@ -10,7 +10,7 @@ use std::alloc::Global;
 use std::test::Fail;
 use test_support::are_explained;
 use words::Refusal;
-use workers::{Entry, Naming, Opened, Seat, Shared};
+use workers::{Entry, Naming, Opened, Operator, Seat, Shared};
 
 /// What is left of a shared session: the session that was taken back, and the lists of the clients.
 #[derive(Drop)]
@@ -27,16 +27,16 @@ pub(crate) fn opened(alloc: Global, session: Session) -> Result<Opened, Refusal>
     }
 }
 
-/// The shared session under its name, and all seats.
+/// The shared session under its name, all seats, and the operator.
 pub(crate) fn begun<J: Naming>(
     alloc: Global,
     opened: Opened,
-) -> Result<(Shared<J>, Vec<Seat<J>>), Fail>
+) -> Result<(Shared<J>, Vec<Seat<J>>, Operator<J>), Fail>
     requires { IsNameOf J.roll J.clients J.first opened }
     ensures { IfOk result (λ r. AreAllInOrder (λ seat. seat.client) J.clients r.1.items) }
 {
     match opened.named::<J>(alloc) {
-        Ok(both) => Ok(both),
+        Ok(named) => Ok(named),
         Err(_) => Err(Fail::new("no seats")),
     }
 }

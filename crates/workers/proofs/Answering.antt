@@ -22,25 +22,27 @@ under_way_begun old r began begun is way = subst (λ result. IsListBegun old r r
 pub begun_open : (old : List Entry) (r : Request) (begun : List Entry) → IsAddedOpen old r begun
     → ends_open begun ≡ true
 begun_open old r begun way =
-    ap ends_open way.is ∙ ends_open_push old (entry_of r.queue r.number r.call (Some way.place) Open)
+    ap ends_open way.is ∙ ends_open_push old (entry_of way.queue r (Some way.place) Open)
 
 -- with its answer the list has one entry more
 pub remembers : (old : List Entry) (r : Request) (begun new : List Entry) (answer : Answer) → IsAddedOpen old r begun
-    → Finishes begun answer new → Remembers old r.queue r.number r.call answer new
+    → Finishes begun answer new → Remembers old r answer new
 remembers old r begun new (Reply reply) way is = record {
+  queue = way.queue;
   place = Some way.place;
   ran = tt;
   is = is ∙ (ap (with_end (Answered reply)) way.is
-      ∙ with_end_push (Answered reply) old (entry_of r.queue r.number r.call (Some way.place) Open));
+      ∙ with_end_push (Answered reply) old (entry_of way.queue r (Some way.place) Open));
 }
 remembers old r begun new (Refused refusal) way is = absurd is
 remembers old r begun new answer_interrupted way is = record {
+  queue = way.queue;
   place = Some way.place;
   ran = refl;
   is = is ∙ (ap (with_end Interrupted) way.is
-      ∙ with_end_push Interrupted old (entry_of r.queue r.number r.call (Some way.place) Open));
+      ∙ with_end_push Interrupted old (entry_of way.queue r (Some way.place) Open));
 }
-remembers old r begun new Unfinished way is = record { place = Some way.place; ran = refl; is = is ∙ way.is }
+remembers old r begun new Unfinished way is = record { queue = way.queue; place = Some way.place; ran = refl; is = is ∙ way.is }
 
 -- a settled number is answered as its start is
 pub settled_runs_not : (reply : AnyReply) (r : Result (Option AnyReply) Refusal) → r ≡ Ok None → IsSettledStart reply r → ⊥

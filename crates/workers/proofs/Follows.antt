@@ -1,9 +1,8 @@
 -- How a row that follows the histories of a session goes on to, act by act, and so do all rows.
-use Rattle.std.proofs.Common.{◌≡◌, ◌≢◌, ◌++◌, ℕ, zero, suc, ◌<◌, ◌≤◌, true, false, List, [], ◌∷◌, length, length-append, Option, Some, None, slice_get, slice_set, inl, inr, refl, sym, ap, ◌∙◌, subst, arith, true≢false}
+use Rattle.std.proofs.Common.{◌≡◌, ◌≢◌, ◌++◌, ℕ, zero, suc, ◌<◌, ◌≤◌, true, false, List, [], ◌∷◌, length, length-append, Option, Some, None, slice_get, slice_set, Bool, inl, inr, refl, sym, ap, ◌∙◌, subst, arith, true≢false}
 use Rattle.std.proofs.lemmas.Bool.{cases_eq}
 use Rattle.std.proofs.lemmas.List.{append-nil, length_push}
 use Rattle.std.proofs.lemmas.Option.{same_Some}
-use Rattle.words.specs.declared.call.Call.{Call}
 use Rattle.words.specs.declared.call.Client.{Client}
 use Rattle.words.specs.declared.call.Reply.{Reply}
 use Rattle.arena.specs.declared.broker.SlotId.{SlotId}
@@ -24,6 +23,7 @@ use Rattle.workers.specs.Lists.{HasEndedAs, HasNoNumberZero, HasNotReturned, IsC
 use Rattle.workers.specs.declared.entry.End.{End}
 use Rattle.workers.specs.declared.entry.End.TheVariants.{Answered, Interrupted, Open}
 use Rattle.workers.specs.declared.entry.Entry.{Entry}
+use Rattle.workers.specs.declared.entry.Request.{Request}
 use Rattle.workers.proofs.Carried.{CallsNow, HasNext, IsCarriedFor, IsCrashed, IsLost, IsNotOf, IsStillFor, RepliesStay}
 use Rattle.workers.proofs.Histories.{cut_off_if_lost, cut_off_longer, end_or_none, list_answered, list_called, list_elsewhere, list_ended_elsewhere, list_interrupted, list_longer, ran_within}
 use Rattle.workers.proofs.Lists.{all_ended, last_is_open, length_with_end, with_end_at}
@@ -54,7 +54,8 @@ kept_stays old new client e replies is = record {
 }
 
 -- an open call of a row is cut off by a crash
-open_cut_off : (since slot : ℕ) (client : Client) (old new : List Event) (row : List Entry) → IsStillFor client old new
+open_cut_off : {crashes : Bool} (since slot : ℕ) (client : Client) (old new : List Event) (row : List Entry)
+    → IsStillFor crashes client old new
     → IsListOf since slot old client row → IsCrashed old new → (k place : ℕ) (e : Entry) → slice_get row k ≡ Some e
     → RanAt e slot place → e.end ≡ Open → IsCutOff new client place
 open_cut_off since slot client old new row still of (inl empty) k place e at ran opens =
@@ -82,8 +83,8 @@ open_cut_off since slot client old new row still of (inr crashed) k place e at r
     ]
 
 -- an act that is not of the client
-pub followed_carried : (since : ℕ → ℕ) (client : Client) (old new : Sessioned) (row : List Entry)
-    → IsCarriedFor client old new → IsFollowed since old client row → IsFollowed since new client row
+pub followed_carried : {crashes : Bool} (since : ℕ → ℕ) (client : Client) (old new : Sessioned) (row : List Entry)
+    → IsCarriedFor crashes client old new → IsFollowed since old client row → IsFollowed since new client row
 followed_carried since client old new row carried is = record {
   recorded = record {
     ran = λ slot.
@@ -99,7 +100,7 @@ followed_carried since client old new row carried is = record {
         (is.stopped was k slot place e at ran opens)
     | inr crashed ↦
         open_cut_off (since slot) slot client (events_at old.broker slot) (events_at new.broker slot) row
-        (carried.events slot) (is.recorded.ran slot) (crashed slot) k place e at ran opens
+        (carried.events slot) (is.recorded.ran slot) (crashed.1 slot) k place e at ran opens
   ];
 }
 
@@ -143,18 +144,16 @@ numbered_with_end end row numbered k e at none = elim (with_end_at end row k e a
 
 -- a call of the client's begins
 pub followed_called : (since : ℕ → ℕ) (client : Client) (old new : Sessioned) (row : List Entry) (slot : ℕ)
-    (queue : SlotId) (number : Option ℕ) (call : Call)
-    → HasNext old new slot (call_event client (number_or_zero number) call)
+    (queue : SlotId) (r : Request) → HasNext old new slot (call_event client (number_or_zero r.number) r.call)
     → since slot ≤ length (events_at old.broker slot) → ends_open row ≡ false → queue.0 ≡ slot
-    → (number ≡ Some 0 → ⊥) → IsFollowed since old client row
-    → IsFollowed since new client
-    (row ++ entry_of queue number call (Some (length (events_at old.broker slot))) Open ∷ [])
-followed_called since client old new row slot queue number call next late ended here above is = record {
+    → (r.number ≡ Some 0 → ⊥) → IsFollowed since old client row
+    → IsFollowed since new client (row ++ entry_of queue r (Some (length (events_at old.broker slot))) Open ∷ [])
+followed_called since client old new row slot queue r next late ended here above is = record {
   recorded = record {
     ran = by_slot (λ other es. IsListOf (since other) other es client (row ++ added ∷ [])) old new slot
-        (call_event client (number_or_zero number) call) next
-        (list_called (since slot) slot client (events_at old.broker slot) (events_at new.broker slot) row queue number
-        call late (is.recorded.ran slot) here next.here)
+        (call_event client (number_or_zero r.number) r.call) next
+        (list_called (since slot) slot client (events_at old.broker slot) (events_at new.broker slot) row queue r
+        late (is.recorded.ran slot) here next.here)
         (λ other apart.
         list_elsewhere (since other) other client (events_at old.broker other) row added
         (λ place ran. apart (sym ran.0 ∙ here)) (is.recorded.ran other));
@@ -169,14 +168,14 @@ followed_called since client old new row slot queue number call next late ended 
 }
   where
     added : Entry
-    added = entry_of queue number call (Some (length (events_at old.broker slot))) Open
+    added = entry_of queue r (Some (length (events_at old.broker slot))) Open
 
 -- a call that was answered with the reply that was kept for its number
-pub followed_kept : (since : ℕ → ℕ) (client : Client) (s : Sessioned) (row : List Entry) (queue : SlotId) (number : ℕ)
-    (call : Call) (reply : Reply) → IsReplyAt s queue.0 client number reply → ends_open row ≡ false
-    → (number ≡ 0 → ⊥) → IsFollowed since s client row
-    → IsFollowed since s client (row ++ entry_of queue (Some number) call None (Answered reply) ∷ [])
-followed_kept since client s row queue number call reply right ended above is = record {
+pub followed_kept : (since : ℕ → ℕ) (client : Client) (s : Sessioned) (row : List Entry) (queue : SlotId) (r : Request)
+    (number : ℕ) → r.number ≡ Some number → (reply : Reply) → IsReplyAt s queue.0 client number reply
+    → ends_open row ≡ false → (r.number ≡ Some 0 → ⊥) → IsFollowed since s client row
+    → IsFollowed since s client (row ++ entry_of queue r None (Answered reply) ∷ [])
+followed_kept since client s row queue r number number_is reply right ended above is = record {
   recorded = record {
     ran = λ slot.
         list_elsewhere (since slot) slot client (events_at s.broker slot) row added (λ place ran. cc (ran.1))
@@ -185,7 +184,7 @@ followed_kept since client s row queue number call reply right ended above is = 
       | inl was ↦ is.recorded.kept k e was none
       | inr it ↦ subst (IsKeptReply s client) it.1 kept_now
     ];
-    numbered = numbered_push row added (λ none. above (cc none)) is.recorded.numbered;
+    numbered = numbered_push row added above is.recorded.numbered;
   };
   only_last = only_last_push row added is.only_last ended;
   stopped = λ down k slot place e at ran opens. elim (get_push_cases row added k e at) [
@@ -195,10 +194,10 @@ followed_kept since client s row queue number call reply right ended above is = 
 }
   where
     added : Entry
-    added = entry_of queue (Some number) call None (Answered reply)
+    added = entry_of queue r None (Answered reply)
 
     kept_now : IsKeptReply s client added
-    kept_now = record { number = number; number_is = refl; reply = reply; end_is = refl; right = right }
+    kept_now = record { number = number; number_is = number_is; reply = reply; end_is = refl; right = right }
 
 -- where the last call has another end, the others are ended still
 only_last_ended : (row : List Entry) (end : End) → OnlyLastIsOpen row → OnlyLastIsOpen (with_end end row)
@@ -328,13 +327,13 @@ followed_empty since s client ends = record {
 }
 
 -- a history that goes on is not shorter
-pub still_grows : (client : Client) (old new : List Event) → IsStillFor client old new → length old ≤ length new
+pub still_grows : {crashes : Bool} (client : Client) (old new : List Event) → IsStillFor crashes client old new → length old ≤ length new
 still_grows client old new still =
     omega (arith, ap (λ (es : List Event). length es) still.is, length-append old still.rest)
 
 -- an act that is of no client
-pub rows_carried : (since : ℕ → ℕ) (old new : Sessioned) (rows : List (List Entry))
-    → ((t : ℕ) → IsCarriedFor (record { 0 = t }) old new) → AreFollowed since old rows → AreFollowed since new rows
+pub rows_carried : {crashes : Bool} (since : ℕ → ℕ) (old new : Sessioned) (rows : List (List Entry))
+    → ((t : ℕ) → IsCarriedFor crashes (record { 0 = t }) old new) → AreFollowed since old rows → AreFollowed since new rows
 rows_carried since old new rows carried are = record {
   begun = λ slot.
       let begun = are.begun slot in
@@ -345,17 +344,17 @@ rows_carried since old new rows carried are = record {
   each = λ t row at. followed_carried since (record { 0 = t }) old new row (carried t) (are.each t row at);
 }
 
--- the row that was written
-set_here : (rows : List (List Entry)) (t : ℕ) (was row : List Entry)
+-- what was written stands there
+pub set_here : {A : Type 0} (rows : List A) (t : ℕ) (was row : A)
     → slice_get (slice_set rows t was) t ≡ Some row → was ≡ row
 set_here [] t was row at = cc at
 set_here (x ∷ rows) zero was row at = same_Some was row at
 set_here (x ∷ rows) (suc t) was row at = set_here rows t was row at
 
 -- an act of one client, whose row is written
-pub row_changed : (since : ℕ → ℕ) (old new : Sessioned) (rows : List (List Entry)) (t : ℕ) (row' : List Entry)
+pub row_changed : {crashes : Bool} (since : ℕ → ℕ) (old new : Sessioned) (rows : List (List Entry)) (t : ℕ) (row' : List Entry)
     → ((slot : ℕ) → since slot ≤ length (events_at new.broker slot))
-    → ((u : ℕ) → u ≢ t → IsCarriedFor (record { 0 = u }) old new) → IsFollowed since new (record { 0 = t }) row'
+    → ((u : ℕ) → u ≢ t → IsCarriedFor crashes (record { 0 = u }) old new) → IsFollowed since new (record { 0 = t }) row'
     → AreFollowed since old rows → AreFollowed since new (slice_set rows t row')
 row_changed since old new rows t row' begun carried its are = record {
   begun = begun;
@@ -373,29 +372,29 @@ row_changed since old new rows t row' begun carried its are = record {
 }
 
 -- a history to which nothing came, or what is not of the client
-still_same : (u : Client) (events : List Event) → IsStillFor u events events
+still_same : {crashes : Bool} (u : Client) (events : List Event) → IsStillFor crashes u events events
 still_same u events = record { rest = []; is = sym (append-nil events); none = λ k x at. cc at }
 
-one_of_none : (u : Client) (event : Event) → IsNotOf u event → (k : ℕ) (x : Event)
-    → slice_get (event ∷ []) k ≡ Some x → IsNotOf u x
-one_of_none u event apart zero x at = subst (IsNotOf u) (same_Some event x at) apart
-one_of_none u event apart (suc k) x at = cc at
+one_of_none : (crashes : Bool) (u : Client) (event : Event) → IsNotOf crashes u event → (k : ℕ) (x : Event)
+    → slice_get (event ∷ []) k ≡ Some x → IsNotOf crashes u x
+one_of_none crashes u event apart zero x at = subst (IsNotOf crashes u) (same_Some event x at) apart
+one_of_none crashes u event apart (suc k) x at = cc at
 
 -- an event that is not of the client
-pub next_carried : (old new : Sessioned) (slot : ℕ) (event : Event) (u : Client) → HasNext old new slot event
-    → IsNotOf u event → IsCarriedFor u old new
-next_carried old new slot event u next apart = record {
-  events = by_slot (λ other es. IsStillFor u (events_at old.broker other) es) old new slot event next (record {
+pub next_carried : {crashes : Bool} (old new : Sessioned) (slot : ℕ) (event : Event) (u : Client) → HasNext old new slot event
+    → IsNotOf crashes u event → IsCarriedFor crashes u old new
+next_carried {crashes} old new slot event u next apart = record {
+  events = by_slot (λ other es. IsStillFor crashes u (events_at old.broker other) es) old new slot event next (record {
     rest = event ∷ [];
     is = next.here;
-    none = one_of_none u event apart;
+    none = one_of_none crashes u event apart;
   }) (λ other ne. still_same u (events_at old.broker other));
   replies = next.replies;
   down = λ down. absurd (true≢false (sym down ∙ next.up));
 }
 
 -- nothing happened
-pub same_carried : (u : Client) (s : Sessioned) → IsCarriedFor u s s
+pub same_carried : {crashes : Bool} (u : Client) (s : Sessioned) → IsCarriedFor crashes u s s
 same_carried u s = record {
   events = λ slot. still_same u (events_at s.broker slot);
   replies = λ slot number client reply right. right;

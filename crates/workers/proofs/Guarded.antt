@@ -1,6 +1,8 @@
 -- What lies under the lock stays well over each act.
-use Rattle.std.proofs.Common.{◌≡◌, ◌≢◌, ◌++◌, ◌∷◌, [], inl, inr, ℕ, ◌≤◌, Bool, true, false, length, List, Option, Some, None, Result, Ok, Err, refl, sym, ap, ◌∙◌, subst, arith}
+use Rattle.std.proofs.Common.{◌≡◌, ◌≢◌, ◌++◌, ◌∷◌, [], inl, inr, ℕ, suc, ◌≤◌, Bool, true, false, length, List, Option, Some, None, Result, Ok, Err, slice_get, refl, sym, ap, ◌∙◌, subst, arith}
+use Rattle.std.proofs.lemmas.Bool.{cases_eq}
 use Rattle.std.proofs.lemmas.List.{length-set}
+use Rattle.std.proofs.lemmas.Option.{same_Some}
 use Rattle.std.specs.Prelude.{IfErr, IfSome, is_some, not, ◌&&◌, IsSome, slice_set}
 use Rattle.words.specs.declared.call.Client.{Client}
 use Rattle.arena.specs.declared.broker.SlotId.{SlotId}
@@ -12,34 +14,38 @@ use Rattle.named.specs.Slots.{answered}
 use Rattle.named.specs.GoingOn.{BrokerGoesOn}
 use Rattle.named.proofs.Begun.{listed_open}
 use Rattle.named.proofs.Comings.{came_further}
+use Rattle.named.proofs.Kept.{get_set_other}
 use Rattle.named.proofs.Queues.{its_queue}
 use Rattle.interleave.specs.Calls.{is_no_memory}
 use Rattle.interleave.specs.State.{State, recover_result, recover_result_with}
 use Rattle.recover.specs.declared.recovery.Recovery.{Recovery}
-use Rattle.named.specs.Stopping.{IsQueueOn, IsReadOn, IsRecoveryStep, creation_after, found_by}
+use Rattle.named.specs.Stopping.{IsQueueOn, IsReadOn, IsRecoveryStep, IsStopped, creation_after, found_by}
 use Rattle.named.specs.declared.recovery.BrokerRecovery.{BrokerRecovery}
 use Rattle.named.specs.declared.recovery.BrokerRecovery.TheVariants.{ReadDirectory, RecoverQueue}
 use Rattle.words.specs.declared.refusal.Refusal.{Refusal}
 use Rattle.workers.specs.Deeds.{CameBy}
-use Rattle.workers.specs.Deeds.CameBy.{act, creation as opened_by}
+use Rattle.workers.specs.Deeds.CameBy.{act, crash, creation as opened_by}
 use Rattle.workers.specs.declared.deeds.Deed.{Deed}
-use Rattle.workers.specs.declared.deeds.Deed.TheVariants.{Creation as creation_deed}
+use Rattle.workers.specs.declared.deeds.Deed.TheVariants.{Crash, Creation as creation_deed}
 use Rattle.workers.specs.Creating.{IsCreationKnown, creating_after_crash, is_under_way}
 use Rattle.directory.specs.Creation.{successor}
-use Rattle.directory.specs.Directory.{Directory}
+use Rattle.directory.specs.Directory.{Directory, HasQueue}
+use Rattle.directory.specs.declared.queue.Queue.{Queue}
 use Rattle.directory.specs.declared.creation.Creation.{Creation}
 use Rattle.directory.specs.declared.recovery.DirectoryRecovery.{DirectoryRecovery}
 use Rattle.stepper.specs.declared.resume.After.{After}
 use Rattle.stepper.specs.declared.resume.After.TheVariants.{Done, More}
 use Rattle.workers.specs.Recovered.{IsRecoveryRefusal}
 use Rattle.workers.specs.Following.{AreFollowed, Guarded, IsFollowed, IsGuardedWell, beginnings}
-use Rattle.workers.specs.Lists.{events_at}
+use Rattle.workers.specs.Lists.{AreNamed, events_at}
 use Rattle.workers.specs.declared.entry.Entry.{Entry}
 use Rattle.workers.specs.declared.locked.Creating.{Creating}
 use Rattle.workers.specs.declared.locked.Creating.TheVariants.{Interrupted, Nothing, UnderWay}
 use Rattle.workers.specs.Seats.{AreEmpty}
 use Rattle.workers.proofs.Carried.{IsCarriedFor}
-use Rattle.workers.proofs.Follows.{followed_empty, row_changed, rows_carried}
+use Rattle.workers.proofs.Follows.{followed_empty, row_changed, rows_carried, set_here}
+use Rattle.workers.proofs.Names.{named_on}
+use Rattle.workers.proofs.Unstopped.{unstopped}
 
 -- what was settled once stays so over two acts
 pub session_further : (old now new : Sessioned) → SessionGoesOn old now → SessionGoesOn now new → SessionGoesOn old new
@@ -73,6 +79,7 @@ with_deeds all first g deeds kept same well came = record {
   beginning = well.beginning;
   clients = well.clients;
   followed = well.followed;
+  named = well.named;
   promises = well.promises;
   creation = well.creation;
   goes_on = well.goes_on;
@@ -80,9 +87,41 @@ with_deeds all first g deeds kept same well came = record {
   done = subst (λ (rows : List (List Deed)). CameBy first.broker rows g.session.broker) (sym same) came;
 }
 
+-- a crash comes to the operator's row
+stopped_once : (first old new : Brokered) (deeds : List (List Deed)) (stops : List Deed) → slice_get deeds 0 ≡ Some stops
+    → CameBy first deeds old → IsStopped old new → CameBy first (slice_set deeds 0 (stops ++ Crash ∷ [])) new
+stopped_once first old new [] stops at before stopped = cc at
+stopped_once first old new (row ∷ deeds) stops at before stopped =
+    subst (λ (r : List Deed). CameBy first ((r ++ Crash ∷ []) ∷ deeds) new) (same_Some row stops at)
+    (crash before stopped)
+
 module _ (all : ℕ) (first : Sessioned) (old : Guarded) (well : IsGuardedWell all first old) where
-  -- an act of no seat
-  pub guarded_still : (new : Sessioned) (creating : Creating) → ((u : Client) → IsCarriedFor u old.session new)
+  -- an act of no seat, beside which this was done
+  guarded_by : {crashes : Bool} (new : Sessioned) (deeds : List (List Deed)) (creating : Creating)
+      → ((u : Client) → IsCarriedFor crashes u old.session new) → KeepsNumbers new → IsOn old.session new
+      → IsCreationKnown new.broker creating → CameBy first.broker deeds new.broker → IsGuardedWell all first (record {
+        session = new;
+        rows = old.rows;
+        deeds = deeds;
+        creating = creating;
+        rotated = old.rotated;
+      })
+  guarded_by new deeds creating carried keeps on known done = record {
+    beginning = well.beginning;
+    clients = well.clients;
+    followed =
+        rows_carried (beginnings first old.rotated) old.session new old.rows (λ t. carried (record { 0 = t }))
+        well.followed;
+    named = λ t row at. named_on old.session.broker new.broker on.queues row (well.named t row at);
+    promises = keeps;
+    creation = known;
+    goes_on = session_further first old.session new well.goes_on on.numbers;
+    came = came_further first.broker old.rotated old.session.broker new.broker well.came on.queues;
+    done = done;
+  }
+
+  -- no crash came
+  pub guarded_still : (new : Sessioned) (creating : Creating) → ((u : Client) → IsCarriedFor false u old.session new)
       → KeepsNumbers new → IsOn old.session new → IsCreationKnown new.broker creating
       → IsGuardedWell all first (record {
         session = new;
@@ -91,24 +130,30 @@ module _ (all : ℕ) (first : Sessioned) (old : Guarded) (well : IsGuardedWell a
         creating = creating;
         rotated = old.rotated;
       })
-  guarded_still new creating carried keeps on known = record {
-    beginning = well.beginning;
-    clients = well.clients;
-    followed =
-        rows_carried (beginnings first old.rotated) old.session new old.rows (λ t. carried (record { 0 = t }))
-        well.followed;
-    promises = keeps;
-    creation = known;
-    goes_on = session_further first old.session new well.goes_on on.numbers;
-    came = came_further first.broker old.rotated old.session.broker new.broker well.came on.queues;
-    done = act well.done on.queues;
-  }
+  guarded_still new creating carried keeps on known =
+      guarded_by new old.deeds creating carried keeps on known
+      (act well.done on.queues (unstopped (record { 0 = 0 }) old.session new (carried (record { 0 = 0 }))))
+
+  -- one came, as the operator knows
+  pub guarded_stopped : (new : Sessioned) (creating : Creating) (stops : List Deed) → slice_get old.deeds 0 ≡ Some stops
+      → ((u : Client) → IsCarriedFor true u old.session new) → KeepsNumbers new → IsOn old.session new
+      → IsCreationKnown new.broker creating → IsStopped old.session.broker new.broker
+      → IsGuardedWell all first (record {
+        session = new;
+        rows = old.rows;
+        deeds = slice_set old.deeds 0 (stops ++ Crash ∷ []);
+        creating = creating;
+        rotated = old.rotated;
+      })
+  guarded_stopped new creating stops at carried keeps on known stopped =
+      guarded_by new (slice_set old.deeds 0 (stops ++ Crash ∷ [])) creating carried keeps on known
+      (stopped_once first.broker old.session.broker new.broker old.deeds stops at well.done stopped)
 
   -- an act of the seat at t, whose row changes with it
   pub guarded_of : (new : Sessioned) (t : ℕ) (row : List Entry)
       → ((slot : ℕ) → beginnings first old.rotated slot ≤ length (events_at new.broker slot))
-      → ((u : ℕ) → u ≢ t → IsCarriedFor (record { 0 = u }) old.session new)
-      → IsFollowed (beginnings first old.rotated) new (record { 0 = t }) row
+      → ((u : ℕ) → u ≢ t → IsCarriedFor false (record { 0 = u }) old.session new)
+      → IsFollowed (beginnings first old.rotated) new (record { 0 = t }) row → AreNamed new.broker.directory row
       → KeepsNumbers new → IsOn old.session new → IsCreationKnown new.broker old.creating
       → IsGuardedWell all first (record {
         session = new;
@@ -117,16 +162,26 @@ module _ (all : ℕ) (first : Sessioned) (old : Guarded) (well : IsGuardedWell a
         creating = old.creating;
         rotated = old.rotated;
       })
-  guarded_of new t row begun carried its keeps on known = record {
+  guarded_of new t row begun carried its named keeps on known = record {
     beginning = well.beginning;
     clients = length-set old.rows t row ∙ well.clients;
     followed =
         row_changed (beginnings first old.rotated) old.session new old.rows t row begun carried its well.followed;
+    named = λ u other at. elim (cases_eq u t) [
+      | inl same ↦
+          let here : slice_get (slice_set old.rows t row) t ≡ Some other =
+          subst (λ (n : ℕ). slice_get (slice_set old.rows t row) n ≡ Some other) same at in
+          subst (AreNamed new.broker.directory) (set_here old.rows t row other here) named
+      | inr apart ↦
+          named_on old.session.broker new.broker on.queues other
+          (well.named u other (sym (get_set_other old.rows t row u apart) ∙ at))
+    ];
     promises = keeps;
     creation = known;
     goes_on = session_further first old.session new well.goes_on on.numbers;
     came = came_further first.broker old.rotated old.session.broker new.broker well.came on.queues;
-    done = act well.done on.queues;
+    done = act well.done on.queues
+        (unstopped (record { 0 = suc t }) old.session new (carried (suc t) (λ same. absurd (omega (arith, same)))));
   }
 
 -- rows that have no calls yet, since histories of these lengths
@@ -139,6 +194,12 @@ rows_begun since s rows lengths empty = record {
       subst (λ (r : List Entry). IsFollowed since s (record { 0 = t }) r) (sym (empty.each t row at))
       (followed_empty since s (record { 0 = t }) lengths);
 }
+
+-- they have no call in another queue either
+pub named_begun : (places : Directory) (rows : List (List Entry)) → AreEmpty (λ row. row) rows → (t : ℕ)
+    (row : List Entry) → slice_get rows t ≡ Some row → AreNamed places row
+named_begun places rows empty t row at =
+    subst (AreNamed places) (sym (empty.each t row at)) (λ k e none. cc none)
 
 -- whether a creation is under way, by the recovery and the creation that a broker has
 creating_by : (b : Brokered) (recovery : Option BrokerRecovery) (creation : Option Creation) → b.recovery ≡ recovery
@@ -235,19 +296,26 @@ module _ (old new : Brokered) (known : IsCreationKnown old UnderWay) where
                 (subst (λ (o : Option State). IsSome o) (sym made.1.world) refl),
           )
 
-  -- so it is one of the deeds
-  pub done_by_last : (first : Brokered) (result : Result (Option SlotId) Refusal) (slot : SlotId) → result ≡ Ok (Some slot)
-      → Steps result → {deeds : List (List Deed)} → CameBy first deeds old
-      → CameBy first (deeds ++ (creation_deed slot ∷ []) ∷ []) new
-  done_by_last first result slot is step {deeds} before =
+  -- so it is one of the deeds: what it opened is this queue
+  pub done_by_last : (first : Brokered) (result : Result (Option SlotId) Refusal) (slot : SlotId) (queue : Queue)
+      → result ≡ Ok (Some slot) → HasQueue new.directory slot.0 queue → Steps result → {deeds : List (List Deed)}
+      → CameBy first deeds old → CameBy first (deeds ++ (creation_deed slot queue ∷ []) ∷ []) new
+  done_by_last first result slot queue is has step {deeds} before =
       by_creation result step (λ made_of made. last made_of (successor made_of) made)
     where
       last : (made_of : Creation) (after : After Creation SlotId) → IsStepCreated old new made_of result after
-          → CameBy first (deeds ++ (creation_deed slot ∷ []) ∷ []) new
+          → CameBy first (deeds ++ (creation_deed slot queue ∷ []) ∷ []) new
       last made_of (More next) made = absurd (none_is_more slot (sym made.0 ∙ is))
       last made_of (Done other) made =
           let same : other ≡ slot = cc (sym made.0 ∙ is) in
-          subst (λ (x : SlotId). CameBy first (deeds ++ (creation_deed x ∷ []) ∷ []) new) same (opened_by before made.1)
+          let there : slice_get (slice_set old.directory slot.0 (Some made_of.queue)) slot.0 ≡ Some (Some queue) =
+          subst (λ (x : SlotId). slice_get (slice_set old.directory x.0 (Some made_of.queue)) slot.0 ≡ Some (Some queue))
+          same (subst (λ (places : Directory). slice_get places slot.0 ≡ Some (Some queue)) made.1.directory has) in
+          let queue_is : made_of.queue ≡ queue =
+          same_Some made_of.queue queue (set_here old.directory slot.0 (Some made_of.queue) (Some queue) there) in
+          subst (λ (q : Queue). CameBy first (deeds ++ (creation_deed slot q ∷ []) ∷ []) new) queue_is
+          (subst (λ (x : SlotId). CameBy first (deeds ++ (creation_deed x made_of.queue ∷ []) ∷ []) new) same
+          (opened_by before made.1))
 
   -- none is refused
   pub step_is_made : (result : Result (Option SlotId) Refusal) (refusal : Refusal) → result ≡ Err refusal → Steps result

@@ -1,5 +1,5 @@
 -- What one history says of a client's calls and of its list, as the history grows and as the list does.
-use Rattle.std.proofs.Common.{◌≡◌, ◌⊎◌, ◌++◌, ℕ, zero, suc, ◌<◌, ◌≤◌, List, [], ◌∷◌, length, Option, Some, slice_get, inl, inr, refl, sym, ap, ◌∙◌, subst, arith}
+use Rattle.std.proofs.Common.{◌≡◌, ◌⊎◌, ◌++◌, Bool, ℕ, zero, suc, ◌<◌, ◌≤◌, List, [], ◌∷◌, length, Some, slice_get, inl, inr, refl, sym, ap, ◌∙◌, subst, arith}
 use Rattle.std.proofs.lemmas.Bool.{cases_lt}
 use Rattle.std.proofs.lemmas.List.{length_push}
 use Rattle.std.proofs.lemmas.Option.{same_Some, slice_get_within}
@@ -18,6 +18,7 @@ use Rattle.workers.specs.Lists.{HasEndedAs, HasEntryAt, HasNotReturned, HasRetur
 use Rattle.workers.specs.declared.entry.End.{End}
 use Rattle.workers.specs.declared.entry.End.TheVariants.{Answered, Interrupted, Open}
 use Rattle.workers.specs.declared.entry.Entry.{Entry}
+use Rattle.workers.specs.declared.entry.Request.{Request}
 use Rattle.workers.proofs.Carried.{CallsNow, IsNotOf, IsStillFor}
 use Rattle.workers.proofs.Endings.{NoReturnIn, closed_grown, cut_off_grown, end_or_none_before, ended_grown, get_added, not_returned_grown, returned_grown}
 use Rattle.workers.proofs.Lists.{last_or_before, with_end_at, with_end_before, with_end_last}
@@ -47,11 +48,12 @@ cut_off_if_lost since events client e place right is_open lost = elim (end_or_no
     open_not_returned = subst (HasEndedAs events client place) is_open right.ended
 
 -- a history that went on by no call and no return of the client
-no_return : (client : Client) (old new : List Event) → (still : IsStillFor client old new)
+no_return : {crashes : Bool} (client : Client) (old new : List Event) → (still : IsStillFor crashes client old new)
     → NoReturnIn client still.rest
 no_return client old new still k reply at = still.none k (return_event client reply) at refl
 
-module _ (client : Client) (old new : List Event) (still : IsStillFor client old new) (place : ℕ) where
+module _ {crashes : Bool} (client : Client) (old new : List Event) (still : IsStillFor crashes client old new)
+    (place : ℕ) where
   pub returned_longer : (reply : Reply) → HasReturned old client place reply → HasReturned new client place reply
   returned_longer reply returned =
       subst (λ (es : List Event). HasReturned es client place reply) (sym still.is)
@@ -80,9 +82,10 @@ ran_within since slot events client list of k place e at ran =
     slice_get_within events place _ (of.right k place e at ran).call
 
 -- a call began there before, if none of the client was added
-begins_still : (client : Client) (old rest : List Event) → ((k : ℕ) (x : Event) → slice_get rest k ≡ Some x
-    → IsNotOf client x) → (place : ℕ) → BeginsAt (old ++ rest) client place → BeginsAt old client place
-begins_still client old rest none place begins = elim (cases_lt place (length old)) [
+begins_still : (crashes : Bool) (client : Client) (old rest : List Event)
+    → ((k : ℕ) (x : Event) → slice_get rest k ≡ Some x → IsNotOf crashes client x) → (place : ℕ)
+    → BeginsAt (old ++ rest) client place → BeginsAt old client place
+begins_still crashes client old rest none place begins = elim (cases_lt place (length old)) [
   | inl lt ↦ begins_before old rest client place lt begins
   | inr le ↦
       let added = get_added old rest place (call_event client begins.0 begins.1.0) le begins.1.1 in
@@ -90,9 +93,9 @@ begins_still client old rest none place begins = elim (cases_lt place (length ol
 ]
 
 -- so a client's list fits what went on without it
-pub list_longer : (since slot : ℕ) (client : Client) (old new : List Event) (list : List Entry)
-    → IsStillFor client old new → IsListOf since slot old client list → IsListOf since slot new client list
-list_longer since slot client old new list still of = record {
+pub list_longer : {crashes : Bool} (since slot : ℕ) (client : Client) (old new : List Event) (list : List Entry)
+    → IsStillFor crashes client old new → IsListOf since slot old client list → IsListOf since slot new client list
+list_longer {crashes} since slot client old new list still of = record {
   right = λ k place e at ran.
       let was = of.right k place e at ran in
       record {
@@ -103,7 +106,7 @@ list_longer since slot client old new list still of = record {
       };
   ascend = of.ascend;
   all = λ place late begins.
-      of.all place late (begins_still client old still.rest still.none place
+      of.all place late (begins_still crashes client old still.rest still.none place
       (subst (λ (es : List Event). BeginsAt es client place) still.is begins));
 }
 
@@ -143,16 +146,16 @@ no_return_called client number call (suc k) reply at = cc at
 
 -- a call that has just begun is an open entry at the end of the list
 module _ (since slot : ℕ) (client : Client) (old : List Event) (list : List Entry) (queue : SlotId)
-    (number : Option ℕ) (call : Call) (late : since ≤ length old) (of : IsListOf since slot old client list)
+    (r : Request) (late : since ≤ length old) (of : IsListOf since slot old client list)
     (here : queue.0 ≡ slot) where
   abbrev call_now : Event
-  call_now = call_event client (number_or_zero number) call
+  call_now = call_event client (number_or_zero r.number) r.call
 
   abbrev grown : List Event
   grown = old ++ call_now ∷ []
 
   abbrev added : Entry
-  added = entry_of queue number call (Some (length old)) Open
+  added = entry_of queue r (Some (length old)) Open
 
   added_right : IsRunRight since grown client added (length old)
   added_right = record {
@@ -172,7 +175,7 @@ module _ (since slot : ℕ) (client : Client) (old : List Event) (list : List En
           late = right.late;
           call = get_longer old (call_now ∷ []) place _ right.call;
           ended =
-              ended_grown client old (call_now ∷ []) place (no_return_called client (number_or_zero number) call) e.end
+              ended_grown client old (call_now ∷ []) place (no_return_called client (number_or_zero r.number) r.call) e.end
               right.ended;
         }
     | inr new ↦
@@ -215,14 +218,14 @@ module _ (since slot : ℕ) (client : Client) (old : List Event) (list : List En
 
 -- a call begins
 pub list_called : (since slot : ℕ) (client : Client) (old new : List Event) (list : List Entry) (queue : SlotId)
-    (number : Option ℕ) (call : Call) → since ≤ length old → IsListOf since slot old client list → queue.0 ≡ slot
-    → new ≡ old ++ call_event client (number_or_zero number) call ∷ []
-    → IsListOf since slot new client (list ++ entry_of queue number call (Some (length old)) Open ∷ [])
-list_called since slot client old new list queue number call late of here is =
+    (r : Request) → since ≤ length old → IsListOf since slot old client list → queue.0 ≡ slot
+    → new ≡ old ++ call_event client (number_or_zero r.number) r.call ∷ []
+    → IsListOf since slot new client (list ++ entry_of queue r (Some (length old)) Open ∷ [])
+list_called since slot client old new list queue r late of here is =
     subst
     (λ (es : List Event). IsListOf since slot es client
-    (list ++ entry_of queue number call (Some (length old)) Open ∷ []))
-    (sym is) (called_grown since slot client old list queue number call late of here)
+    (list ++ entry_of queue r (Some (length old)) Open ∷ []))
+    (sym is) (called_grown since slot client old list queue r late of here)
 
 -- the list, where its last entry has another end: what that entry's place and the others' ends have to be
 module _ (since slot : ℕ) (client : Client) (old new : List Event) (list : List Entry) (end : End)

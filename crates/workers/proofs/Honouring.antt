@@ -7,6 +7,12 @@ use Rattle.roll.proofs.Places.{get_set_else}
 use Rattle.workers.specs.Deeds.{AreAmong}
 use Rattle.workers.specs.declared.deeds.Deed.{Deed}
 
+-- what stands at a place is written there again
+pub set_same : {A : Type 0} (xs : List A) (k : ℕ) (x : A) → slice_get xs k ≡ Some x → set xs k x ≡ xs
+set_same [] k x at = cc at
+set_same (y ∷ ys) zero x at = ap (λ z. z ∷ ys) (sym (same_Some y x at))
+set_same (y ∷ ys) (suc k) x at = ap (λ zs. y ∷ zs) (set_same ys k x at)
+
 module _ {R : Type 0} (place : R → ℕ) (deed : R → Deed) (rows : List (List Deed)) where
   -- so many are crossed out, and of the rows nothing else is
   pub record AreOut (now : List (List Deed)) (receipts left : List R) : Type 0 where

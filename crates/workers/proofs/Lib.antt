@@ -10,7 +10,9 @@ pub mod Histories
 pub mod Honouring
 pub mod Idling
 pub mod QueueKinds
+pub mod Readying
 pub mod Lists
+pub mod Names
 pub mod Seating
 pub mod SlotsOn
 pub mod Starts
@@ -20,3 +22,4 @@ pub mod Telling
 pub mod Turning
 pub mod Turns
 pub mod Refusing
+pub mod Unstopped

@@ -3,7 +3,7 @@ use Rattle.std.proofs.Common.{◌≡◌, ◌∙◌, ◌⊎◌, inl, inr, ◌+◌
 use Rattle.std.proofs.Common.{slice_index_or, unwrap_or}
 use Rattle.std.specs.Prelude.{◌==◌, IfErr, IsSome, IsTrue, ◌||◌, is_some, nat_lt, slice_index, if◌then◌else◌}
 use Rattle.std.specs.List.{list_any}
-use Rattle.std.proofs.lemmas.Bool.{eq-eqb, lt-ltb}
+use Rattle.std.proofs.lemmas.Bool.{eq-eqb, lt-ltb, ltb-false}
 use Rattle.std.proofs.lemmas.Bool.Decides.{nat_tests}
 use Rattle.std.proofs.lemmas.Option.{slice_get-get_or, slice_get_within, unwrap_or-slice_get}
 use Rattle.words.specs.declared.call.Call.{Call}
@@ -19,7 +19,7 @@ use Rattle.words.specs.declared.told.Outcome.{Outcome}
 use Rattle.words.specs.declared.told.Outcome.TheVariants.{NotTaken, Taken}
 use Rattle.words.specs.declared.told.Verdict.{Verdict}
 use Rattle.arena.specs.declared.broker.SlotId.{SlotId}
-use Rattle.directory.specs.Directory.{HasName, HasQueue}
+use Rattle.directory.specs.Directory.{HasName, HasQueue, IsNamed}
 use Rattle.directory.specs.declared.queue.Queue.{Queue as AnyQueue}
 use Rattle.interleave.specs.Calls.{idle_result, is_no_memory}
 use Rattle.interleave.specs.Queue.{number_check}
@@ -28,6 +28,7 @@ use Rattle.interleave.specs.Verdicts.{number_of_call, number_under_way}
 use Rattle.interleave.specs.declared.queue.Queue.{Queue as ClientsQueue}
 use Rattle.interleave.specs.declared.queue.Queue.TheVariants.{Durable, Log}
 use Rattle.named.specs.Brokers.{Brokered, answer_at, answer_if, has_client, world_at}
+use Rattle.named.specs.Finding.{IsPlaced}
 use Rattle.logqueue.specs.Numbers.{is_stale}
 use Rattle.protocol.specs.declared.UnderWay.{UnderWay}
 use Rattle.named.specs.Brokers.{is_down as is_broker_down}
@@ -44,8 +45,9 @@ use Rattle.session.specs.Sessions.{IsLogClient, Sessioned, kept_at}
 use Rattle.session.proofs.Worlds.{clients_there, holds_there, up_there}
 use Rattle.workers.specs.Following.{Guarded, IsGuardedWell}
 use Rattle.workers.specs.Lists.{ends_open, events_at, events_of}
-use Rattle.workers.specs.Refusals.{IsSettledStart, IsWhyRefused, WasSettled, is_rotation_refusal, kind_asked}
+use Rattle.workers.specs.Refusals.{IsSettledStart, IsWhyNotTold, IsWhyRefused, WasSettled, is_rotation_refusal, is_settled_refusal, kind_asked}
 use Rattle.workers.specs.declared.entry.Entry.{Entry}
+use Rattle.workers.specs.declared.entry.Request.{Request}
 use Rattle.workers.proofs.Beginning.{all_clients, is_client, none_calls}
 use Rattle.workers.proofs.Carried.{CallsNow}
 use Rattle.workers.proofs.QueueKinds.{kind_of_queue}
@@ -62,6 +64,20 @@ taken_still first now was name came has = record {
     named = has.here.named;
   };
 }
+
+-- a queue of this name that there was when the seats were given is in the slot that has the name now
+module _ (all : ℕ) (first : Sessioned) (g : Guarded) (well : IsGuardedWell all first g) (slot : ℕ) (name : List ℕ)
+    (named : IsNamed g.session.broker.directory slot name) (was : ℕ) (q : AnyQueue)
+    (has : HasQueue first.broker.directory was q) (called : q.name ≡ name) where
+  still : HasQueue g.session.broker.directory was q
+  still = queues_came first.broker g.rotated g.session.broker well.came was q has
+
+  pub slot_still : was ≡ slot
+  slot_still =
+      well.promises.broker.well.listed.once was slot q named.queue still named.has (called ∙ sym named.named)
+
+  pub queue_there : HasQueue g.session.broker.directory slot q
+  queue_there = subst (λ (n : ℕ). HasQueue g.session.broker.directory n q) slot_still still
 
 -- a refusal, if it is one, has this reason
 abbrev pub Within : {T : Type 0} → (Refusal → Type 0) → Result T Refusal → Type 0
@@ -113,21 +129,20 @@ some_call w client some = go (slice_get w.calls client.0) refl
 
 module _ (all : ℕ) (first : Sessioned) (g : Guarded) (well : IsGuardedWell all first g) (client : Client)
     (list : List Entry) (known : slice_get g.rows client.0 ≡ Some list) (ended : ends_open list ≡ false)
-    (queue : SlotId) (asked : Option ℕ) where
+    (queue : SlotId) (r : Request) (named : IsNamed g.session.broker.directory queue.0 r.name) where
   abbrev s : Sessioned
   s = g.session
 
+  abbrev asked : Option ℕ
+  asked = r.number
+
   -- stale is a number that the start has said to be too great
   abbrev Why : Refusal → Type 0
-  Why e = (e ≡ StaleNumber → MAX_CALL_NUMBER < number_or_zero asked) → IsWhyRefused first list queue asked e
-
-  -- the queue that there was in the slot is there
-  there_still : (q : AnyQueue) → HasQueue first.broker.directory queue.0 q → HasQueue s.broker.directory queue.0 q
-  there_still = queues_came first.broker g.rotated s.broker well.came queue.0
+  Why e = (e ≡ StaleNumber → MAX_CALL_NUMBER < number_or_zero asked) → IsWhyRefused first list r e
 
   closed : world_at s.broker queue.0 ≡ None → Why NoQueue
-  closed none stale q has =
-      let is_open = listed_open s.broker queue.0 q well.promises.broker.well (there_still q has) in
+  closed none stale has =
+      let is_open = listed_open s.broker queue.0 named.queue well.promises.broker.well named.has in
       absurd (cc (is_open, none))
 
   calling : CallsNow (events_at s.broker queue.0) client → Why Busy
@@ -162,8 +177,9 @@ module _ (all : ℕ) (first : Sessioned) (g : Guarded) (well : IsGuardedWell all
 
     -- it is of the kind that a call is for, if there was such a queue
     other_kind : (kind : Kind) → kind ≡ kind_asked asked → is_kind kind w.shape.kind ≡ false → Why WrongKind
-    other_kind kind is other stale q has same =
-        let its = kind_of_queue s.broker well.promises.broker.well queue.0 w q here (there_still q has) in
+    other_kind kind is other stale slot q has called same =
+        let there = queue_there all first g well queue.0 r.name named slot q has called in
+        let its = kind_of_queue s.broker well.promises.broker.well queue.0 w q here there in
         no_other (kind_asked asked) (ap (λ (k : Kind). is_kind k w.shape.kind) (sym is)
         ∙ other) (its ∙ same)
       where
@@ -266,9 +282,9 @@ module _ (all : ℕ) (first : Sessioned) (g : Guarded) (well : IsGuardedWell all
 
   pub why_refused : (new : Sessioned) (call : Call) (refusal : Refusal)
       → IsBegunBy s new queue.0 client (number_or_zero asked) call (Err refusal) (answer_to s queue.0 client asked)
-      → ((let r : Result (Option Reply) Refusal = Err refusal in r) ≡ Err StaleNumber
+      → ((let o : Result (Option Reply) Refusal = Err refusal in o) ≡ Err StaleNumber
       → MAX_CALL_NUMBER < number_or_zero asked)
-      → IsWhyRefused first list queue asked refusal
+      → IsWhyRefused first list r refusal
   why_refused new call refusal act above =
       begin_within new call (Err refusal) (answer_to s queue.0 client asked) act comes_within
       (λ stale. above (ap (λ (e : Refusal). let r : Result (Option Reply) Refusal = Err e in r) stale))
@@ -303,12 +319,20 @@ settled_number (Some verdict) n reply settled = go (n == 0)
     go false = settled_outcome verdict.outcome verdict.number n reply cases
 
 module _ (all : ℕ) (first : Sessioned) (g : Guarded) (well : IsGuardedWell all first g) (client : Client)
-    (queue : SlotId) (asked : Option ℕ) (reply : Reply) (was : WasSettled first queue client asked reply) where
+    (queue : SlotId) (r : Request) (named : IsNamed g.session.broker.directory queue.0 r.name) (reply : Reply)
+    (was : WasSettled first client r reply) where
   abbrev b : Brokered
   b = g.session.broker
 
+  -- it was in this slot
+  slot_is : was.slot ≡ queue.0
+  slot_is = slot_still all first g well queue.0 r.name named was.slot was.named.queue was.named.has was.named.named
+
+  was_its : IsLogClient first.broker queue.0 client
+  was_its = subst (λ (n : ℕ). IsLogClient first.broker n client) slot_is was.its
+
   its : IsLogClient b queue.0 client
-  its = well.goes_on.clients queue.0 client was.its
+  its = well.goes_on.clients queue.0 client was_its
 
   settled_answer : IsSettledStart reply (answer_to g.session queue.0 client (Some was.n))
   settled_answer = go (has_client b client) has b.recovery (world_at b queue.0) its.here
@@ -330,7 +354,8 @@ module _ (all : ℕ) (first : Sessioned) (g : Guarded) (well : IsGuardedWell all
       by_kind true _ true = refl
       by_kind true _ false =
           settled_number (kept_at g.session queue.0 client) was.n reply
-          (well.goes_on.answers queue.0 client was.n reply was.its was.settled)
+          (well.goes_on.answers queue.0 client was.n reply was_its
+          (subst (λ (n : ℕ). IsSettled (kept_at first n client) was.n reply) slot_is was.settled))
 
       go : (h : Bool) → h ≡ true → (o : Option BrokerRecovery) → (world : Option State) → world ≡ Some its.world
           → IsSettledStart reply (answer_if (answer_if (let_in h o) (answered (queue_admission log_kind client) world))
@@ -343,19 +368,73 @@ module _ (all : ℕ) (first : Sessioned) (g : Guarded) (well : IsGuardedWell all
           by_kind (is_kind log_kind w.shape.kind) (ap (λ (v : State). is_kind log_kind v.shape.kind) same
           ∙ ap (is_kind log_kind) its.log) (is_some (number_under_way w client))
 
-  begun_settled : (new : Sessioned) (number : ℕ) (call : Call) (r comes : Result (Option Reply) Refusal)
-      → IsBegunBy g.session new queue.0 client number call r comes → IsSettledStart reply comes → IsSettledStart reply r
-  begun_settled new number call r (Err refusal) act why = subst (IsSettledStart reply) (sym act.0) why
-  begun_settled new number call r (Ok (Some kept)) act why = subst (IsSettledStart reply) (sym act.0) why
-  begun_settled new number call r (Ok None) act why = absurd (cc (why))
+  begun_settled : (new : Sessioned) (number : ℕ) (call : Call) (o comes : Result (Option Reply) Refusal)
+      → IsBegunBy g.session new queue.0 client number call o comes → IsSettledStart reply comes → IsSettledStart reply o
+  begun_settled new number call o (Err refusal) act why = subst (IsSettledStart reply) (sym act.0) why
+  begun_settled new number call o (Ok (Some kept)) act why = subst (IsSettledStart reply) (sym act.0) why
+  begun_settled new number call o (Ok None) act why = absurd (cc (why))
 
-  pub settled_start : (new : Sessioned) (number : ℕ) (call : Call) (r : Result (Option Reply) Refusal)
-      → IsBegunBy g.session new queue.0 client number call r (answer_to g.session queue.0 client asked)
-      → IsSettledStart reply r
-  settled_start new number call r act =
-      begun_settled new number call r (answer_to g.session queue.0 client (Some was.n))
-      (subst (λ (o : Option ℕ). IsBegunBy g.session new queue.0 client number call r
-      (answer_to g.session queue.0 client o)) was.number_is act) settled_answer
+  pub settled_start : (new : Sessioned) (number : ℕ) (call : Call) (o : Result (Option Reply) Refusal)
+      → IsBegunBy g.session new queue.0 client number call o (answer_to g.session queue.0 client r.number)
+      → IsSettledStart reply o
+  settled_start new number call o act =
+      begun_settled new number call o (answer_to g.session queue.0 client (Some was.n))
+      (subst (λ (n : Option ℕ). IsBegunBy g.session new queue.0 client number call o
+      (answer_to g.session queue.0 client n)) was.number_is act) settled_answer
+
+-- where no slot is found for a call, that is why it is refused
+pub unplaced : (all : ℕ) (first : Sessioned) (g : Guarded) → IsGuardedWell all first g → (list : List Entry)
+    (r : Request) (refusal : Refusal) → IsPlaced g.session.broker r.name (Err refusal)
+    → IsWhyRefused first list r refusal
+unplaced all first g well list r NotReady placed = tt
+unplaced all first g well list r NoQueue placed = λ has.
+    placed.1 (taken_still first.broker g.session.broker g.rotated r.name well.came has)
+unplaced all first g well list r _ placed = absurd placed
+
+-- and the number of a queue that there was may be refused so
+pub unplaced_settled : (all : ℕ) (first : Sessioned) (g : Guarded) → IsGuardedWell all first g → (client : Client)
+    (r : Request) (reply : Reply) → WasSettled first client r reply → (refusal : Refusal)
+    → IsPlaced g.session.broker r.name (Err refusal) → is_settled_refusal refusal ≡ true
+unplaced_settled all first g well client r reply was NotReady placed = refl
+unplaced_settled all first g well client r reply was NoQueue placed =
+    absurd (placed.1 (taken_still first.broker g.session.broker g.rotated r.name well.came
+    (record { slot = was.slot; here = was.named })))
+unplaced_settled all first g well client r reply was _ placed = absurd placed
+
+-- nor is a client told
+pub unplaced_told : (all : ℕ) (first : Sessioned) (g : Guarded) → IsGuardedWell all first g → (name : List ℕ)
+    (client : Client) (refusal : Refusal) → IsPlaced g.session.broker name (Err refusal)
+    → IsWhyNotTold all first name client refusal
+unplaced_told all first g well name client NotReady placed = tt
+unplaced_told all first g well name client NoQueue placed = λ has.
+    placed.1 (taken_still first.broker g.session.broker g.rotated name well.came has)
+unplaced_told all first g well name client _ placed = absurd placed
+
+-- in the queue of a name a client is told, but where there is none of this number, or the broker recovers
+pub told_refused : {T : Type 0} (f : State → Result T Refusal) (all : ℕ) (first : Sessioned) (g : Guarded)
+    → IsGuardedWell all first g → (name : List ℕ) (slot : ℕ) → IsNamed g.session.broker.directory slot name
+    → (client : Client) → ((w : State) → Within (IsWhyNotTold all first name client) (f w))
+    → Within (IsWhyNotTold all first name client) (answer_at f g.session.broker slot client)
+told_refused {T} f all first g well name slot named client own = go (has_client b client) refl b.recovery (world_at b slot) refl
+  where
+    b : Brokered
+    b = g.session.broker
+
+    let_in : Bool → Option BrokerRecovery → Result Unit Refusal
+    let_in h o = if h then (if is_some o then Err NotReady else Ok tt) else Err NoClient
+
+    go : (h : Bool) → has_client b client ≡ h → (o : Option BrokerRecovery) → (world : Option State)
+        → world_at b slot ≡ world
+        → Within (IsWhyNotTold all first name client) (answer_if (let_in h o) (answered f world))
+    go false none o world there =
+        let least = ltb-false client.0 b.counts.clients none in
+        let same = all_clients all first g well in
+        omega (arith, least, same)
+    go true has (Some r) world there = tt
+    go true has None None there =
+        let is_open = listed_open b slot named.queue well.promises.broker.well named.has in
+        absurd (cc (is_open, there))
+    go true has None (Some w) there = own w
 
 -- a rotation is refused as it may be
 pub rotation_refused : (full : Bool) (b : Brokered) (refusal : Refusal)

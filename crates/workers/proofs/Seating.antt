@@ -6,7 +6,7 @@ use Rattle.events.proofs.Lists.{get_push_cases}
 use Rattle.named.specs.GoingOn.{CameOf}
 use Rattle.session.specs.Sessions.{Sessioned}
 use Rattle.workers.specs.Following.{Guarded, IsGuardedWell, beginnings}
-use Rattle.workers.specs.Lists.{IsRecorded, events_at}
+use Rattle.workers.specs.Lists.{AreNamed, IsRecorded, events_at}
 use Rattle.workers.specs.Seats.{AreSeatsRecorded, AreAllInOrder, AreEmpty}
 use Rattle.workers.specs.declared.entry.Entry.{Entry}
 
@@ -79,4 +79,7 @@ accounted_by_rows list clients first g s seats is well each = record {
   each = λ k seat at.
       subst (λ (t : Sessioned). IsRecorded (beginnings first g.rotated) t (client_of k) (list seat)) (sym is)
       (well.followed.each k (list seat) (each k seat at)).recorded;
+  named = λ k seat at.
+      subst (λ (t : Sessioned). AreNamed t.broker.directory (list seat)) (sym is)
+      (well.named k (list seat) (each k seat at));
 }

@@ -83,26 +83,27 @@ stays_if_opened was now v none is empty =
     (record { events_are = ap events_of is ∙ empty; replies = λ client number reply it. absurd it })
 
 -- the events of a slot, and the clients that they are not of
-pub record IsSlotCarried (client : Client) (was now : Option State) : Type 0 where
+pub record IsSlotCarried (crashes : Bool) (client : Client) (was now : Option State) : Type 0 where
   pub rest : List Event
   pub on : IsOnBy was rest now
-  pub none : (k : ℕ) (x : Event) → slice_get rest k ≡ Some x → IsNotOf client x
+  pub none : (k : ℕ) (x : Event) → slice_get rest k ≡ Some x → IsNotOf crashes client x
 
 -- no event, or one that is not the client's
-pub nothing_of : (client : Client) (was now : Option State) → IsOnBy was [] now → IsSlotCarried client was now
+pub nothing_of : {crashes : Bool} (client : Client) (was now : Option State) → IsOnBy was [] now
+    → IsSlotCarried crashes client was now
 nothing_of client was now on = record { rest = []; on = on; none = λ k x at. absurd (none_some at) }
 
-pub one_not_of : (client : Client) (was now : Option State) (event : Event) → IsNotOf client event
-    → IsOnBy was (event ∷ []) now → IsSlotCarried client was now
-one_not_of client was now event other on = record { rest = event ∷ []; on = on; none = only }
+pub one_not_of : {crashes : Bool} (client : Client) (was now : Option State) (event : Event)
+    → IsNotOf crashes client event → IsOnBy was (event ∷ []) now → IsSlotCarried crashes client was now
+one_not_of {crashes} client was now event other on = record { rest = event ∷ []; on = on; none = only }
   where
-    only : (k : ℕ) (x : Event) → slice_get (event ∷ []) k ≡ Some x → IsNotOf client x
-    only zero x at = subst (IsNotOf client) (cc (at)) other
+    only : (k : ℕ) (x : Event) → slice_get (event ∷ []) k ≡ Some x → IsNotOf crashes client x
+    only zero x at = subst (IsNotOf crashes client) (cc (at)) other
     only (suc k) x at = absurd (none_some at)
 
-pub carried_each : (old new : Sessioned) (client : Client)
-    → ((slot : ℕ) → IsSlotCarried client (world_at old.broker slot) (world_at new.broker slot))
-    → IsDownRightly old new → IsCarriedFor client old new
+pub carried_each : {crashes : Bool} (old new : Sessioned) (client : Client)
+    → ((slot : ℕ) → IsSlotCarried crashes client (world_at old.broker slot) (world_at new.broker slot))
+    → IsDownRightly crashes old new → IsCarriedFor crashes client old new
 carried_each old new client each down = record {
   events = λ slot. record { rest = (each slot).rest; is = (each slot).on.events_are; none = (each slot).none };
   replies = λ slot number c reply is. (each slot).on.replies c number reply is;
@@ -110,12 +111,14 @@ carried_each old new client each down = record {
 }
 
 -- the broker is down as it was
-pub still_down : (old new : Sessioned) → new.broker.recovery ≡ old.broker.recovery → IsDownRightly old new
+pub still_down : {crashes : Bool} (old new : Sessioned) → new.broker.recovery ≡ old.broker.recovery
+    → IsDownRightly crashes old new
 still_down old new same down = inl (ap (λ (r : Option BrokerRecovery). is_some r) (sym same) ∙ down)
 
 -- all queues as they were
-pub same_carried : (old new : Sessioned) → ((slot : ℕ) → world_at new.broker slot ≡ world_at old.broker slot)
-    → new.broker.recovery ≡ old.broker.recovery → (client : Client) → IsCarriedFor client old new
+pub same_carried : {crashes : Bool} (old new : Sessioned) → ((slot : ℕ) → world_at new.broker slot ≡ world_at old.broker slot)
+    → new.broker.recovery ≡ old.broker.recovery → (client : Client)
+    → IsCarriedFor crashes client old new
 same_carried old new same recovery client =
     carried_each old new client
     (λ slot.
@@ -123,7 +126,8 @@ same_carried old new same recovery client =
     (stays_if_same (world_at old.broker slot) (world_at new.broker slot) (same slot)))
     (still_down old new recovery)
 
-pub nothing_carried : (old new : Sessioned) → new ≡ old → (client : Client) → IsCarriedFor client old new
+pub nothing_carried : {crashes : Bool} (old new : Sessioned) → new ≡ old → (client : Client)
+    → IsCarriedFor crashes client old new
 nothing_carried old new same =
     same_carried old new (λ slot. ap (λ (s : Sessioned). world_at s.broker slot) same)
     (ap (λ (s : Sessioned). s.broker.recovery) same)
@@ -141,11 +145,11 @@ module _ (old new : Sessioned) (slot : ℕ) (others : IsSameBeside slot old.brok
   ]
 
   -- and no event came
-  pub quiet_carried : IsOnBy (world_at old.broker slot) [] (world_at new.broker slot) → (client : Client)
-      → IsCarriedFor client old new
-  quiet_carried on client =
+  pub quiet_carried : {crashes : Bool} → IsOnBy (world_at old.broker slot) [] (world_at new.broker slot) → (client : Client)
+      → IsCarriedFor crashes client old new
+  quiet_carried {crashes} on client =
       carried_each old new client
-      (each_on (IsSlotCarried client) (nothing_of client (world_at old.broker slot) (world_at new.broker slot) on)
+      (each_on (IsSlotCarried crashes client) (nothing_of client (world_at old.broker slot) (world_at new.broker slot) on)
       (λ was now e. nothing_of client was now (stays_if_quiet was now e)))
       (still_down old new others.recovery)
 

@@ -177,7 +177,7 @@ module _ (old new : Sessioned) (slot : ℕ) (client : Client) (number : ℕ) (ca
     adds_none w (Ok u) e none = absurd (cc (none))
     adds_none w (Err other) e none = refused_adds_none full w client number call other e
 
-    start_refused : (u : Client) → IsCarriedFor u old new
+    start_refused : (u : Client) → IsCarriedFor false u old new
     start_refused =
         quiet_carried old new slot started.beside
         (stays_by_client full (Start client number call) old.broker new.broker slot client keeps.broker.well
@@ -185,7 +185,7 @@ module _ (old new : Sessioned) (slot : ℕ) (client : Client) (number : ℕ) (ca
         (λ w here admitted. adds_none w (start_result full w client number) refl (refused_at w here admitted)))
 
   pub begun_refused : (refusal : Refusal) (answer : Result (Option Reply) Refusal) → KeepsNumbers old
-      → IsBegunBy old new slot client number call (Err refusal) answer → (u : Client) → IsCarriedFor u old new
+      → IsBegunBy old new slot client number call (Err refusal) answer → (u : Client) → IsCarriedFor false u old new
   begun_refused refusal (Err other) keeps begun = nothing_carried old new begun.1
   begun_refused refusal (Ok (Some reply)) keeps begun = nothing_carried old new begun.1
   begun_refused refusal (Ok None) keeps begun = start_refused refusal keeps begun.0

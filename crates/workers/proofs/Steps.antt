@@ -89,7 +89,7 @@ refused_leaves full w client refusal is = go (waiting_result (is_down w) (slice_
 
 module _ (old new : Sessioned) (slot : ℕ) (client : Client) (keeps : KeepsNumbers old) where
   -- the call goes on, and nothing is told yet
-  pub advanced_more : IsAdvanced old.broker new.broker slot client (Ok None) → (u : Client) → IsCarriedFor u old new
+  pub advanced_more : IsAdvanced old.broker new.broker slot client (Ok None) → (u : Client) → IsCarriedFor false u old new
   advanced_more advanced =
       let at = answered_at (λ w. step_result false w client) old.broker slot client None (sym advanced.act.answers) in
       quiet_carried old new slot advanced.beside
@@ -136,7 +136,7 @@ module _ (old new : Sessioned) (slot : ℕ) (client : Client) (keeps : KeepsNumb
         go (Ok u) (Some w) is says =
             is ∙ ap (λ (v : State). Some v) (refused_leaves full w client refusal (sym says))
 
-    pub advanced_refused : (u : Client) → IsCarriedFor u old new
+    pub advanced_refused : (u : Client) → IsCarriedFor false u old new
     advanced_refused =
         quiet_carried old new slot advanced.beside
         (stays_if_same (world_at old.broker slot) (world_at new.broker slot) left_alone)

@@ -1,6 +1,6 @@
 -- What creations, crashes, recovery and rotations make of the histories.
 use Rattle.std.proofs.Common.{◌≡◌, ◌≢◌, inl, inr, ◌++◌, ℕ, Bool, true, false, List, [], ◌∷◌, Option, Some, None, Result}
-use Rattle.std.proofs.Common.{Ok, Err, IfOk, IfSome, OnErr, slice_get, refl, sym, ap, subst, ◌∙◌}
+use Rattle.std.proofs.Common.{Ok, Err, IfOk, IfSome, slice_get, refl, sym, ap, subst, ◌∙◌}
 use Rattle.std.specs.Prelude.{◌||◌, IsSome, is_some, if◌then◌else◌}
 use Rattle.std.specs.List.{list_any}
 use Rattle.std.proofs.lemmas.Bool.{cases_eq}
@@ -48,7 +48,7 @@ use Rattle.workers.proofs.SlotsOn.{same_carried, still_down, stays_if_opened, st
 -- a creation that begins leaves the queues
 pub created_carried : (old new : Sessioned)
     → new ≡ record old { broker = record old.broker { creation = new.broker.creation } } → (client : Client)
-    → IsCarriedFor client old new
+    → IsCarriedFor false client old new
 created_carried old new others =
     same_carried old new (λ slot. ap (λ (s : Sessioned). world_at s.broker slot) others)
     (ap (λ (s : Sessioned). s.broker.recovery) others)
@@ -67,12 +67,12 @@ none_there b slot well free = go (slice_get b.slots slot) refl
 
 -- a slot is what is said of it, and the others are as they were
 slot_and_others : (old new : Sessioned) (client : Client) (slot : ℕ)
-    → IsSlotCarried client (world_at old.broker slot) (world_at new.broker slot)
+    → IsSlotCarried false client (world_at old.broker slot) (world_at new.broker slot)
     → ((other : ℕ) → other ≢ slot → quiet (world_at new.broker other) ≡ quiet (world_at old.broker other))
-    → (at : ℕ) → IsSlotCarried client (world_at old.broker at) (world_at new.broker at)
+    → (at : ℕ) → IsSlotCarried false client (world_at old.broker at) (world_at new.broker at)
 slot_and_others old new client slot here others at = elim (cases_eq at slot) [
   | inl same ↦
-      subst (λ (n : ℕ). IsSlotCarried client (world_at old.broker n) (world_at new.broker n)) (sym same) here
+      subst (λ (n : ℕ). IsSlotCarried false client (world_at old.broker n) (world_at new.broker n)) (sym same) here
   | inr ne ↦
       nothing_of client (world_at old.broker at) (world_at new.broker at)
       (stays_if_quiet (world_at old.broker at) (world_at new.broker at) (others at ne))
@@ -81,7 +81,7 @@ slot_and_others old new client slot here others at = elim (cases_eq at slot) [
 -- all are as they were
 all_quiet : (old new : Sessioned) (client : Client)
     → ((slot : ℕ) → quiet (world_at new.broker slot) ≡ quiet (world_at old.broker slot)) → (at : ℕ)
-    → IsSlotCarried client (world_at old.broker at) (world_at new.broker at)
+    → IsSlotCarried false client (world_at old.broker at) (world_at new.broker at)
 all_quiet old new client same at =
     nothing_of client (world_at old.broker at) (world_at new.broker at)
     (stays_if_quiet (world_at old.broker at) (world_at new.broker at) (same at))
@@ -93,7 +93,7 @@ module _ (old new : Sessioned) (keeps : KeepsNumbers old) (up : old.broker.recov
     → quiet (world_at new.broker other) ≡ quiet (world_at old.broker other)) where
   made_carried : (creation : Creation) → old.broker.creation ≡ Some creation
       → IsStepCreated old.broker new.broker creation result (successor creation) → (client : Client)
-      → IsCarriedFor client old new
+      → IsCarriedFor false client old new
   made_carried creation is step client = go (successor creation) refl step
     where
       where_apart : (answer : Option SlotId) → result ≡ Ok answer → (other : ℕ) → IfSome answer (λ slot. other ≢ slot.0)
@@ -104,7 +104,7 @@ module _ (old new : Sessioned) (keeps : KeepsNumbers old) (up : old.broker.recov
           (sym e) apart)
 
       go : (a : After Creation SlotId) → successor creation ≡ a
-          → IsStepCreated old.broker new.broker creation result a → IsCarriedFor client old new
+          → IsStepCreated old.broker new.broker creation result a → IsCarriedFor false client old new
       go (More next) e made =
           carried_each old new client (all_quiet old new client (λ slot. where_apart None made.0 slot tt))
           (still_down old new (ap (λ (b : Brokered). b.recovery) made.1))
@@ -121,12 +121,12 @@ module _ (old new : Sessioned) (keeps : KeepsNumbers old) (up : old.broker.recov
   pub creation_carried : IsSome old.broker.creation
       → (old.broker.recovery ≡ None → IfSome old.broker.creation
       (λ creation. IsStepCreated old.broker new.broker creation result (successor creation)))
-      → (client : Client) → IsCarriedFor client old new
+      → (client : Client) → IsCarriedFor false client old new
   creation_carried some step = go old.broker.creation refl some (step up)
     where
       go : (o : Option Creation) → old.broker.creation ≡ o → IsSome o
           → IfSome o (λ creation. IsStepCreated old.broker new.broker creation result (successor creation))
-          → (client : Client) → IsCarriedFor client old new
+          → (client : Client) → IsCarriedFor false client old new
       go None e none made = absurd (cc (none))
       go (Some creation) e there made = made_carried creation e made
 
@@ -154,19 +154,19 @@ module _ (old new : Sessioned) (keeps : KeepsNumbers old) (up : old.broker.recov
 
 -- a crash comes to each history
 pub crashed_carried : (old new : Sessioned) → KeepsNumbers old → IsStopped old.broker new.broker → (client : Client)
-    → IsCarriedFor client old new
-crashed_carried old new keeps stopped client = carried_each old new client each (λ down. inr crashes)
+    → IsCarriedFor true client old new
+crashed_carried old new keeps stopped client = carried_each old new client each (λ down. inr (refl, crashes))
   where
-    each : (slot : ℕ) → IsSlotCarried client (world_at old.broker slot) (world_at new.broker slot)
+    each : (slot : ℕ) → IsSlotCarried true client (world_at old.broker slot) (world_at new.broker slot)
     each slot = go (world_at old.broker slot) refl (stopped.worlds slot)
       where
         go : (o : Option State) → world_at old.broker slot ≡ o → world_at new.broker slot ≡ acted after_stop o
-            → IsSlotCarried client (world_at old.broker slot) (world_at new.broker slot)
+            → IsSlotCarried true client (world_at old.broker slot) (world_at new.broker slot)
         go None there is =
             nothing_of client (world_at old.broker slot) (world_at new.broker slot)
             (stays_if_same (world_at old.broker slot) (world_at new.broker slot) (is ∙ sym there))
         go (Some w) there is =
-            one_not_of client (world_at old.broker slot) (world_at new.broker slot) crash_event tt
+            one_not_of client (world_at old.broker slot) (world_at new.broker slot) crash_event refl
             (goes_by_act false w Crash (crash_event ∷ []) (world_at old.broker slot) (world_at new.broker slot)
             (world_holds old.broker slot w keeps.broker.well there) there is refl)
 
@@ -180,20 +180,13 @@ crashed_carried old new keeps stopped client = carried_each old new client each 
 
 -- one that is refused leaves them
 pub crash_refused_carried : (old new : Sessioned) → IsSameButRoom old.broker new.broker → (client : Client)
-    → IsCarriedFor client old new
+    → IsCarriedFor false client old new
 crash_refused_carried old new same =
     same_carried old new same.worlds (ap (λ (b : Brokered). b.recovery) same.same)
 
--- whether it was or not
-pub crash_carried : (old new : Sessioned) (result : Result Unit Refusal) → KeepsNumbers old
-    → (result ≡ Ok tt → IsStopped old.broker new.broker) → OnErr result (IsSameButRoom old.broker new.broker)
-    → (client : Client) → IsCarriedFor client old new
-crash_carried old new (Ok u) keeps stopped same = crashed_carried old new keeps (stopped refl)
-crash_carried old new (Err refusal) keeps stopped same = crash_refused_carried old new same
-
 -- a step of a queue's recovery: its last one tells, and a Ready comes to the history
 recovered_slot : (full : Bool) (w : State) (client : Client) (was now : Option State) → Holds w → was ≡ Some w
-    → now ≡ Some (after_recover full w) → IsSlotCarried client was now
+    → now ≡ Some (after_recover full w) → IsSlotCarried false client was now
 recovered_slot full w client was now holds there is = go full refl w.recovery refl
   where
     on : (events : List Event) → (after_recover full w).log.events ≡ w.log.events ++ events → IsOnBy was events now
@@ -205,7 +198,7 @@ recovered_slot full w client was now holds there is = go full refl w.recovery re
         on events (ap (λ (x : Bool). (after_recover x w).log.events) same ∙ adds)
 
     by_told : full ≡ false → (a : After Recovery (List Told))
-        → (after_recover false w).log.events ≡ w.log.events ++ ready_events a → IsSlotCarried client was now
+        → (after_recover false w).log.events ≡ w.log.events ++ ready_events a → IsSlotCarried false client was now
     by_told same (More r) adds = nothing_of client was now (made false same [] adds)
     by_told same (Done told) adds =
         one_not_of client was now (ready_event told) tt (made false same (ready_event told ∷ []) adds)
@@ -214,7 +207,7 @@ recovered_slot full w client was now holds there is = go full refl w.recovery re
     stays None = refl
     stays (Some r) = refl
 
-    go : (f : Bool) → full ≡ f → (o : Option Recovery) → w.recovery ≡ o → IsSlotCarried client was now
+    go : (f : Bool) → full ≡ f → (o : Option Recovery) → w.recovery ≡ o → IsSlotCarried false client was now
     go true same o e =
         nothing_of client was now (made true same [] (stays w.recovery ∙ sym (append-nil w.log.events)))
     go false same None e =
@@ -228,12 +221,12 @@ recovered_slot full w client was now holds there is = go full refl w.recovery re
 -- a step of recovery: a queue that it is the first to find has no history yet
 module _ (old new : Sessioned) (keeps : KeepsNumbers old) (result : Result Bool Refusal) where
   found_slots : (client : Client) (opened : Option SlotId) → IsFound old.broker new.broker opened → (at : ℕ)
-      → IsSlotCarried client (world_at old.broker at) (world_at new.broker at)
+      → IsSlotCarried false client (world_at old.broker at) (world_at new.broker at)
   found_slots client None known = all_quiet old new client known.worlds
   found_slots client (Some slot) found = go (world_at old.broker slot.0) refl found
     where
       go : (o : Option State) → world_at old.broker slot.0 ≡ o → IsFoundIn old.broker new.broker slot o → (at : ℕ)
-          → IsSlotCarried client (world_at old.broker at) (world_at new.broker at)
+          → IsSlotCarried false client (world_at old.broker at) (world_at new.broker at)
       go (Some w) there known = all_quiet old new client known.worlds
       go None there first =
           slot_and_others old new client slot.0
@@ -242,13 +235,13 @@ module _ (old new : Sessioned) (keeps : KeepsNumbers old) (result : Result Bool 
           first.others
 
   recovered_slots : (client : Client) (slot : ℕ) → IsQueueRecovered old.broker new.broker slot result → (at : ℕ)
-      → IsSlotCarried client (world_at old.broker at) (world_at new.broker at)
+      → IsSlotCarried false client (world_at old.broker at) (world_at new.broker at)
   recovered_slots client slot step =
       slot_and_others old new client slot (go (world_at old.broker slot) refl step.world) step.others
     where
       go : (o : Option State) → world_at old.broker slot ≡ o
           → world_at new.broker slot ≡ acted (after_recover (is_no_memory result)) o
-          → IsSlotCarried client (world_at old.broker slot) (world_at new.broker slot)
+          → IsSlotCarried false client (world_at old.broker slot) (world_at new.broker slot)
       go None there is =
           nothing_of client (world_at old.broker slot) (world_at new.broker slot)
           (stays_if_same (world_at old.broker slot) (world_at new.broker slot) (is ∙ sym there))
@@ -257,14 +250,14 @@ module _ (old new : Sessioned) (keeps : KeepsNumbers old) (result : Result Bool 
           (world_holds old.broker slot w keeps.broker.well there) there is
 
   pub recovered_carried : IsRecoveryStep old.broker new.broker result old.broker.recovery → (client : Client)
-      → IsCarriedFor client old new
+      → IsCarriedFor false client old new
   recovered_carried step client = go old.broker.recovery refl step
     where
-      was_down : (r : BrokerRecovery) → old.broker.recovery ≡ Some r → IsDownRightly old new
+      was_down : (r : BrokerRecovery) → old.broker.recovery ≡ Some r → IsDownRightly false old new
       was_down r e down = inl (ap (λ (o : Option BrokerRecovery). is_some o) e)
 
       go : (o : Option BrokerRecovery) → old.broker.recovery ≡ o
-          → IsRecoveryStep old.broker new.broker result o → IsCarriedFor client old new
+          → IsRecoveryStep old.broker new.broker result o → IsCarriedFor false client old new
       go None e same =
           same_carried old new (λ slot. ap (λ (b : Brokered). world_at b slot) same.1)
           (ap (λ (b : Brokered). b.recovery) same.1) client

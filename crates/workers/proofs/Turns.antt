@@ -7,6 +7,8 @@ use Rattle.words.specs.declared.call.Client.{Client}
 use Rattle.words.specs.declared.call.Reply.{Reply}
 use Rattle.words.specs.declared.refusal.Refusal.{Refusal}
 use Rattle.words.specs.declared.refusal.Refusal.TheVariants.{NoMemory}
+use Rattle.arena.specs.declared.broker.SlotId.{SlotId}
+use Rattle.directory.specs.Directory.{IsNamed}
 use Rattle.events.specs.declared.event.Event.{Event}
 use Rattle.events.specs.declared.event.Event.TheVariants.{Call as call_event, Return as return_event}
 use Rattle.session.specs.Promises.{IsReplyAt, IsReplyIfNumbered, KeepsNumbers}
@@ -15,12 +17,14 @@ use Rattle.session.specs.Sessions.{Sessioned}
 use Rattle.workers.specs.Answers.{entry_begun, entry_of}
 use Rattle.workers.specs.Creating.{IsCreationKnown}
 use Rattle.workers.specs.Following.{Guarded, IsFollowed, IsGuardedWell, beginnings}
-use Rattle.workers.specs.Lists.{LastIsOf, ends_open, events_at, with_end}
+use Rattle.workers.specs.Lists.{AreNamed, LastIsOf, ends_open, events_at, with_end}
+use Rattle.workers.specs.declared.entry.End.{End}
 use Rattle.workers.specs.declared.entry.End.TheVariants.{Answered, Interrupted, Open}
 use Rattle.workers.specs.declared.entry.Entry.{Entry}
 use Rattle.workers.specs.declared.entry.Request.{Request}
 use Rattle.workers.proofs.Carried.{HasNext, IsCarriedFor, IsNotOf}
 use Rattle.workers.proofs.Follows.{followed_answered, followed_called, followed_carried, followed_interrupted, followed_kept, next_carried, same_carried, still_grows}
+use Rattle.workers.proofs.Names.{name_on, named_on, named_push, named_with_end}
 use Rattle.workers.proofs.Guarded.{IsOn, guarded_of, guarded_still, known_if_same}
 use Rattle.workers.proofs.Starts.{begun_kept, begun_refused, begun_run, never_zero}
 use Rattle.workers.proofs.Steps.{advanced_answered, advanced_lost, advanced_more, advanced_refused}
@@ -61,7 +65,7 @@ module _ (all : ℕ) (first : Sessioned) (old : Guarded) (well : IsGuardedWell a
       (known_if_same old.session.broker new.broker old.creating beside.0 beside.1 well.creation)
 
   stepped_still : (result : Result (Option Reply) Refusal) → IsAdvanced old.session.broker new.broker slot client result
-      → ((u : Client) → IsCarriedFor u old.session new) → IsGuardedWell all first as_it_was
+      → ((u : Client) → IsCarriedFor false u old.session new) → IsGuardedWell all first as_it_was
   stepped_still result made carried =
       guarded_still all first old well new old.creating carried keeps on
       (known_if_same old.session.broker new.broker old.creating made.beside.recovery made.beside.creation well.creation)
@@ -76,13 +80,13 @@ module _ (all : ℕ) (first : Sessioned) (old : Guarded) (well : IsGuardedWell a
 
 -- where an act of a client adds an event, the lists of all others stay
 others_carried : (old new : Sessioned) (slot : ℕ) (event : Event) (client : Client)
-    → ((other : Client) → other ≢ client → IsNotOf other event) → HasNext old new slot event → (u : ℕ) → u ≢ client.0
-    → IsCarriedFor (record { 0 = u }) old new
+    → ((other : Client) → other ≢ client → IsNotOf false other event) → HasNext old new slot event → (u : ℕ) → u ≢ client.0
+    → IsCarriedFor false (record { 0 = u }) old new
 others_carried old new slot event client of next u apart =
     next_carried old new slot event (record { 0 = u }) next (of (record { 0 = u }) (other_client u client apart))
 
 -- a history stays as long as it was
-still_begun : (since : ℕ → ℕ) (old new : Sessioned) (u : Client) → IsCarriedFor u old new
+still_begun : (since : ℕ → ℕ) (old new : Sessioned) (u : Client) → IsCarriedFor false u old new
     → ((slot : ℕ) → since slot ≤ length (events_at old.broker slot)) → (slot : ℕ)
     → since slot ≤ length (events_at new.broker slot)
 still_begun since old new u carried begun slot =
@@ -122,70 +126,87 @@ module _ (all : ℕ) (first : Sessioned) (old : Guarded) (well : IsGuardedWell a
   was_followed : IsFollowed since old.session client list
   was_followed = well.followed.each client.0 list at
 
+  was_named : AreNamed old.session.broker.directory list
+  was_named = well.named client.0 list at
+
+  -- the calls of the row are the same, but for the end of the last one
+  named_ended : (end : End) → AreNamed new.broker.directory (with_end end list)
+  named_ended end =
+      named_with_end new.broker.directory end list (named_on old.session.broker new.broker on.queues list was_named)
+
   -- an event of the client came, and its row fits the longer history
-  guarded_by_event : (slot : ℕ) (event : Event) → ((other : Client) → other ≢ client → IsNotOf other event)
+  guarded_by_event : (slot : ℕ) (event : Event) → ((other : Client) → other ≢ client → IsNotOf false other event)
       → HasNext old.session new slot event → (row : List Entry) → IsFollowed since new client row
-      → IsCreationKnown new.broker old.creating → IsGuardedWell all first (with_row row)
-  guarded_by_event slot event of next row its known =
+      → AreNamed new.broker.directory row → IsCreationKnown new.broker old.creating
+      → IsGuardedWell all first (with_row row)
+  guarded_by_event slot event of next row its named known =
       guarded_of all first old well new client.0 row
       (next_begun since old.session new slot event next well.followed.begun)
-      (others_carried old.session new slot event client of next) its keeps on known
+      (others_carried old.session new slot event client of next) its named keeps on known
 
   -- a call begins
-  module _ (r : Request) (next : ℕ) (ended : ends_open list ≡ false)
-      (next_is : next ≡ length (events_at old.session.broker r.queue.0)) where
+  module _ (queue : SlotId) (r : Request) (named : IsNamed old.session.broker.directory queue.0 r.name) (next : ℕ)
+      (ended : ends_open list ≡ false) (next_is : next ≡ length (events_at old.session.broker queue.0)) where
     abbrev Begun : Result (Option Reply) Refusal → Type 0
     Begun result =
-        IsBegunBy old.session new r.queue.0 client (number_or_zero r.number) r.call result
-        (answer_to old.session r.queue.0 client r.number)
+        IsBegunBy old.session new queue.0 client (number_or_zero r.number) r.call result
+        (answer_to old.session queue.0 client r.number)
 
     known_begun : (result : Result (Option Reply) Refusal) → Begun result → IsCreationKnown new.broker old.creating
     known_begun result begun =
         let beside =
-        begun_beside old.session new r.queue.0 client (number_or_zero r.number) r.call result
-        (answer_to old.session r.queue.0 client r.number) begun in
+        begun_beside old.session new queue.0 client (number_or_zero r.number) r.call result
+        (answer_to old.session queue.0 client r.number) begun in
         known_if_same old.session.broker new.broker old.creating beside.0 beside.1 well.creation
 
-    begun_by_run : Begun (Ok None) → IsGuardedWell all first (with_row (list ++ entry_begun r next None ∷ []))
-    begun_by_run begun =
-        let came = begun_run old.session new r.queue.0 client r.number r.call well.promises begun in
-        guarded_by_event r.queue.0 (call_event client (number_or_zero r.number) r.call) (λ other apart same. apart (sym same)) came
-        (list ++ entry_begun r next None ∷ [])
-        (subst
-        (λ (n : ℕ). IsFollowed since new client (list ++ entry_of r.queue r.number r.call (Some n) Open ∷ []))
-        (sym next_is)
-        (followed_called since client old.session new list r.queue.0 r.queue r.number r.call came
-        (well.followed.begun r.queue.0) ended refl
-        (never_zero old.session new r.queue.0 client r.number r.call None begun) was_followed))
-        (known_begun (Ok None) begun)
+    -- its queue has its name
+    named_begun : (began : Option Reply) → AreNamed new.broker.directory (list ++ entry_begun queue r next began ∷ [])
+    named_begun began =
+        named_push new.broker.directory list (entry_begun queue r next began) (named_as began)
+        (named_on old.session.broker new.broker on.queues list was_named)
+      where
+        named_as : (began : Option Reply)
+            → IsNamed new.broker.directory (entry_begun queue r next began).queue.0 (entry_begun queue r next began).name
+        named_as None = name_on old.session.broker new.broker on.queues queue.0 r.name named
+        named_as (Some reply) = name_on old.session.broker new.broker on.queues queue.0 r.name named
 
-    begun_by_kept : (reply : Reply) → Begun (Ok (Some reply)) → IsReplyIfNumbered new r.queue.0 client r.number reply
-        → IsGuardedWell all first (with_row (list ++ entry_begun r next (Some reply) ∷ []))
+    begun_by_run : Begun (Ok None) → IsGuardedWell all first (with_row (list ++ entry_begun queue r next None ∷ []))
+    begun_by_run begun =
+        let came = begun_run old.session new queue.0 client r.number r.call well.promises begun in
+        guarded_by_event queue.0 (call_event client (number_or_zero r.number) r.call) (λ other apart same. apart (sym same)) came
+        (list ++ entry_begun queue r next None ∷ [])
+        (subst
+        (λ (n : ℕ). IsFollowed since new client (list ++ entry_of queue r (Some n) Open ∷ []))
+        (sym next_is)
+        (followed_called since client old.session new list queue.0 queue r came
+        (well.followed.begun queue.0) ended refl
+        (never_zero old.session new queue.0 client r.number r.call None begun) was_followed))
+        (named_begun None) (known_begun (Ok None) begun)
+
+    begun_by_kept : (reply : Reply) → Begun (Ok (Some reply)) → IsReplyIfNumbered new queue.0 client r.number reply
+        → IsGuardedWell all first (with_row (list ++ entry_begun queue r next (Some reply) ∷ []))
     begun_by_kept reply begun right =
-        let kept = begun_kept old.session new r.queue.0 client r.number r.call reply begun in
+        let kept = begun_kept old.session new queue.0 client r.number r.call reply begun in
         let number = kept.1.0 in
         let is = kept.1.1 in
         let its : IsFollowed since new client list =
         subst (λ (s : Sessioned). IsFollowed since s client list) (sym kept.0) was_followed in
-        let right_of : IsReplyAt new r.queue.0 client number reply =
-        subst (λ (n : Option ℕ). IsReplyIfNumbered new r.queue.0 client n reply) is right in
-        guarded_of all first old well new client.0 (list ++ entry_begun r next (Some reply) ∷ [])
+        let right_of : IsReplyAt new queue.0 client number reply =
+        subst (λ (n : Option ℕ). IsReplyIfNumbered new queue.0 client n reply) is right in
+        guarded_of all first old well new client.0 (list ++ entry_begun queue r next (Some reply) ∷ [])
         (subst (λ (s : Sessioned). (slot : ℕ) → since slot ≤ length (events_at s.broker slot)) (sym kept.0)
         well.followed.begun)
         (λ u apart.
-        subst (λ (s : Sessioned). IsCarriedFor (record { 0 = u }) old.session s) (sym kept.0)
+        subst (λ (s : Sessioned). IsCarriedFor false (record { 0 = u }) old.session s) (sym kept.0)
         (same_carried (record { 0 = u }) old.session))
-        (subst
-        (λ (n : Option ℕ). IsFollowed since new client (list ++ entry_of r.queue n r.call None (Answered reply) ∷ []))
-        (sym is) (followed_kept since client new list r.queue number r.call reply right_of ended
-        (λ none.
-        never_zero old.session new r.queue.0 client r.number r.call (Some reply) begun
-        (is ∙ ap (λ (n : ℕ). Some n) none)) its))
+        (followed_kept since client new list queue r number is reply right_of ended
+        (never_zero old.session new queue.0 client r.number r.call (Some reply) begun) its)
+        (named_begun (Some reply))
         keeps on (known_begun (Ok (Some reply)) begun)
 
     pub guarded_begun : (began : Option Reply) → Begun (Ok began)
-        → IfSome began (IsReplyIfNumbered new r.queue.0 client r.number)
-        → IsGuardedWell all first (with_row (list ++ entry_begun r next began ∷ []))
+        → IfSome began (IsReplyIfNumbered new queue.0 client r.number)
+        → IsGuardedWell all first (with_row (list ++ entry_begun queue r next began ∷ []))
     guarded_begun None begun right = begun_by_run begun
     guarded_begun (Some reply) begun right = begun_by_kept reply begun right
 
@@ -206,7 +227,7 @@ module _ (all : ℕ) (first : Sessioned) (old : Guarded) (well : IsGuardedWell a
         (with_end (Answered reply) list)
         (followed_answered since client old.session new list slot reply well.promises came.0 came.1 opens last
         was_followed)
-        (known_advanced (Ok (Some reply)) made)
+        (named_ended (Answered reply)) (known_advanced (Ok (Some reply)) made)
 
     -- a crash ended it: the step was refused, and not for want of memory
     pub guarded_interrupted : (refusal : Refusal) → refusal ≢ NoMemory
@@ -220,4 +241,4 @@ module _ (all : ℕ) (first : Sessioned) (old : Guarded) (well : IsGuardedWell a
         (λ u apart. carried (record { 0 = u }))
         (followed_interrupted since client new list slot lost.1 opens last
         (followed_carried since client old.session new list (carried client) was_followed))
-        keeps on (known_advanced (Err refusal) made)
+        (named_ended Interrupted) keeps on (known_advanced (Err refusal) made)

@@ -1,6 +1,5 @@
 -- What a call leaves in its seat's list.
 use Rattle.std.specs.Prelude.{◌≡◌, ◌++◌, IsSome, ℕ, List, [], ◌∷◌, Option, Some, None, Result, Ok, Err}
-use Rattle.words.specs.declared.call.Call.{Call}
 use Rattle.words.specs.declared.call.Reply.{Reply}
 use Rattle.words.specs.declared.refusal.Refusal.{Refusal}
 use Rattle.arena.specs.declared.broker.SlotId.{SlotId}
@@ -15,19 +14,20 @@ use Rattle.workers.specs.declared.entry.Took.{Took}
 use Rattle.workers.specs.declared.entry.Took.TheVariants.{More, NoMemory as took_no_memory, Answered as took_answered, Interrupted as took_interrupted}
 
 -- the entry of a call that was asked for
-abbrev pub entry_of : SlotId → Option ℕ → Call → Option ℕ → End → Entry
-entry_of queue number call place end = record {
+abbrev pub entry_of : SlotId → Request → Option ℕ → End → Entry
+entry_of queue r place end = record {
+  name = r.name;
   queue = queue;
-  number = number;
-  call = call;
+  number = r.number;
+  call = r.call;
   place = place;
   end = end;
 }
 
 -- the entry of a call that begins: it is open from the next place, or it has the reply that was kept
-abbrev pub entry_begun : Request → ℕ → Option Reply → Entry
-entry_begun r next (Some reply) = entry_of r.queue r.number r.call None (Answered reply)
-entry_begun r next None = entry_of r.queue r.number r.call (Some next) Open
+abbrev pub entry_begun : SlotId → Request → ℕ → Option Reply → Entry
+entry_begun queue r next (Some reply) = entry_of queue r None (Answered reply)
+entry_begun queue r next None = entry_of queue r (Some next) Open
 
 -- a call that is not answered ran
 abbrev pub RanIfOpen : End → Option ℕ → Type 0
@@ -35,19 +35,19 @@ RanIfOpen (Answered reply) place = Unit {0}
 RanIfOpen Interrupted place = IsSome place
 RanIfOpen Open place = IsSome place
 
--- the list has one entry more, of this call
-pub record HasOneMore (old : List Entry) (queue : SlotId) (number : Option ℕ) (call : Call) (end : End)
-    (new : List Entry) : Type 0 where
+-- the list has one entry more, of this call, in some slot
+pub record HasOneMore (old : List Entry) (r : Request) (end : End) (new : List Entry) : Type 0 where
+  pub queue : SlotId
   pub place : Option ℕ
   pub ran : RanIfOpen end place
-  pub is : new ≡ old ++ entry_of queue number call place end ∷ []
+  pub is : new ≡ old ++ entry_of queue r place end ∷ []
 
 -- exactly one entry more, with what was asked for and what is answered; or none, where it is refused
-abbrev pub Remembers : List Entry → SlotId → Option ℕ → Call → Answer → List Entry → Type 0
-Remembers old queue number call (answer_reply reply) new = HasOneMore old queue number call (Answered reply) new
-Remembers old queue number call (Refused refusal) new = new ≡ old
-Remembers old queue number call answer_interrupted new = HasOneMore old queue number call Interrupted new
-Remembers old queue number call Unfinished new = HasOneMore old queue number call Open new
+abbrev pub Remembers : List Entry → Request → Answer → List Entry → Type 0
+Remembers old r (answer_reply reply) new = HasOneMore old r (Answered reply) new
+Remembers old r (Refused refusal) new = new ≡ old
+Remembers old r answer_interrupted new = HasOneMore old r Interrupted new
+Remembers old r Unfinished new = HasOneMore old r Open new
 
 -- the open call has its answer
 abbrev pub Finishes : List Entry → Answer → List Entry → Type 0
@@ -65,12 +65,12 @@ IsListAfter old took_no_memory new = new ≡ old
 
 -- the list has one entry more, of an open call that ran from some place
 pub record IsAddedOpen (old : List Entry) (r : Request) (new : List Entry) : Type 0 where
+  pub queue : SlotId
   pub place : ℕ
-  pub is : new ≡ old ++ entry_of r.queue r.number r.call (Some place) Open ∷ []
+  pub is : new ≡ old ++ entry_of queue r (Some place) Open ∷ []
 
 -- what a start leaves: nothing, where it is refused; the kept reply, or the open call
 abbrev pub IsListBegun : List Entry → Request → Result (Option Reply) Refusal → List Entry → Type 0
 IsListBegun old r (Err refusal) new = new ≡ old
-IsListBegun old r (Ok (Some reply)) new =
-    new ≡ old ++ entry_of r.queue r.number r.call None (Answered reply) ∷ []
+IsListBegun old r (Ok (Some reply)) new = HasOneMore old r (Answered reply) new
 IsListBegun old r (Ok None) new = IsAddedOpen old r new

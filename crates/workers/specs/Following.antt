@@ -9,7 +9,7 @@ use Rattle.session.specs.Sessions.{Sessioned}
 use Rattle.workers.specs.Creating.{IsCreationKnown}
 use Rattle.workers.specs.Deeds.{CameBy}
 use Rattle.workers.specs.Opening.{IsNotInUse}
-use Rattle.workers.specs.Lists.{IsCutOff, IsRecorded, OnlyLastIsOpen, RanAt, events_at}
+use Rattle.workers.specs.Lists.{AreNamed, IsCutOff, IsRecorded, OnlyLastIsOpen, RanAt, events_at}
 use Rattle.workers.specs.declared.deeds.Deed.{Deed}
 use Rattle.workers.specs.declared.entry.End.TheVariants.{Open}
 use Rattle.workers.specs.declared.entry.Entry.{Entry}
@@ -52,12 +52,14 @@ pub record IsBeginning (all : ℕ) (first : Sessioned) : Type 0 where
   pub promises : KeepsNumbers first
 
 -- what holds of it whenever the lock is free, where there are so many clients, and the session was this one when the
--- seats were given: what was settled then is so still, the clients of its log queues are such clients still, and the
--- queues that it had then are there, each with a history that went on from where it began, or ended with a rotation
+-- seats were given: each call is in the queue of its name; what was settled then is so still, the clients of its log
+-- queues are such clients still, and the queues that it had then are there, each with a history that went on from where
+-- it began, or ended with a rotation
 pub record IsGuardedWell (all : ℕ) (first : Sessioned) (g : Guarded) : Type 0 where
   pub beginning : IsBeginning all first
   pub clients : length g.rows ≡ all
   pub followed : AreFollowed (beginnings first g.rotated) g.session g.rows
+  pub named : (t : ℕ) (row : List Entry) → slice_get g.rows t ≡ Some row → AreNamed g.session.broker.directory row
   pub promises : KeepsNumbers g.session
   pub creation : IsCreationKnown g.session.broker g.creating
   pub goes_on : SessionGoesOn first g.session

@@ -2,6 +2,7 @@
 use Rattle.std.specs.Prelude.{◌≡◌, ◌<◌, ◌≤◌, ℕ, suc, Bool, true, false, length, List, [], ◌∷◌, Option, Some, None, slice_get}
 use Rattle.words.specs.declared.call.Client.{Client}
 use Rattle.words.specs.declared.call.Reply.{Reply}
+use Rattle.directory.specs.Directory.{Directory, IsNamed}
 use Rattle.events.specs.History.{BeginsAt, CallAt, CrashAt, IsEnd, ReturnAt}
 use Rattle.events.specs.declared.event.Event.{Event}
 use Rattle.interleave.specs.State.{State}
@@ -106,6 +107,10 @@ pub record IsKeptReply (s : Sessioned) (client : Client) (e : Entry) : Type 0 wh
 -- a number of the list is from 1 on: a call without one has none
 abbrev pub HasNoNumberZero : List Entry → Type 0
 HasNoNumberZero list = (k : ℕ) (e : Entry) → slice_get list k ≡ Some e → e.number ≡ Some 0 → ⊥
+
+-- each call of the list was made in the queue of its name
+abbrev pub AreNamed : Directory → List Entry → Type 0
+AreNamed places list = (k : ℕ) (e : Entry) → slice_get list k ≡ Some e → IsNamed places e.queue.0 e.name
 
 -- the client's list fits the histories of all queues, since these places
 pub record IsRecorded (since : ℕ → ℕ) (s : Sessioned) (client : Client) (list : List Entry) : Type 0 where

@@ -7,6 +7,18 @@ use Rattle.words.specs.declared.refusal.Refusal.TheVariants.{AlreadyReady, NoMem
 abbrev pub IsRecoveryRefusal : Refusal → Type 0
 IsRecoveryRefusal refusal = (refusal ≡ AlreadyReady) ⊎ (refusal ≡ NoMemory)
 
+-- whether the broker is ready once a step of it answered this
+abbrev pub is_ready_after : Result Bool Refusal → Bool
+is_ready_after (Ok ready) = ready
+is_ready_after (Err AlreadyReady) = true
+is_ready_after (Err _) = false
+
+-- and once its caller is told this
+abbrev pub is_ready_by : Result Unit Refusal → Bool
+is_ready_by (Ok done) = true
+is_ready_by (Err AlreadyReady) = true
+is_ready_by (Err _) = false
+
 -- once a step of it answered this, where steps of its own came before (`begun`) or none did: nothing yet; that the
 -- broker is ready, by this step, or by one of another thread; or why the step was refused
 abbrev pub told_of_recovery : Bool → Result Bool Refusal → Option (Result Unit Refusal)

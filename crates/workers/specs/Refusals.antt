@@ -1,5 +1,5 @@
 -- Which refusals the calls of a shared session get, and why, as far as that is so for good.
-use Rattle.std.specs.Prelude.{◌≡◌, ◌<◌, ℕ, Bool, true, false, IsSome, List, None, Option, Result, Ok, Err, Some}
+use Rattle.std.specs.Prelude.{◌≡◌, ◌<◌, ◌≤◌, ℕ, Bool, true, false, IsSome, List, None, Option, Result, Ok, Err, Some}
 use Rattle.words.specs.declared.call.Client.{Client}
 use Rattle.words.specs.declared.call.Kind.{Kind}
 use Rattle.words.specs.declared.call.Kind.TheVariants.{Durable as durable_kind, Log as log_kind}
@@ -8,9 +8,8 @@ use Rattle.words.specs.declared.limits.TheConstants.{MAX_CALL_NUMBER}
 use Rattle.words.specs.declared.refusal.Refusal.{Refusal}
 use Rattle.words.specs.declared.refusal.Refusal.TheVariants.{BadName, Busy, DirectoryFull, Exists, Gap, NoClient, NoMemory}
 use Rattle.words.specs.declared.refusal.Refusal.TheVariants.{NoQueue, NoRoom, NotReady, Old, StaleNumber, WrongKind}
-use Rattle.arena.specs.declared.broker.SlotId.{SlotId}
-use Rattle.directory.specs.Directory.{HasQueue}
-use Rattle.directory.specs.declared.queue.Queue.{Queue as AnyQueue}
+use Rattle.directory.specs.Directory.{HasName, HasQueue, IsNamed}
+use Rattle.directory.specs.declared.queue.Queue.{Queue}
 use Rattle.named.specs.Brokers.{is_down}
 use Rattle.session.specs.Keeping.{IsSettled}
 use Rattle.session.specs.Requests.{number_or_zero}
@@ -19,8 +18,9 @@ use Rattle.workers.specs.Lists.{ends_open}
 use Rattle.workers.specs.declared.entry.Answer.{Answer}
 use Rattle.workers.specs.declared.entry.Answer.TheVariants.{Refused, Reply as answer_reply, Interrupted as answer_interrupted, Unfinished}
 use Rattle.workers.specs.declared.entry.Entry.{Entry}
+use Rattle.workers.specs.declared.entry.Request.{Request}
 use Rattle.workers.specs.declared.shared.Created.{Created}
-use Rattle.workers.specs.declared.shared.Created.TheVariants.{Queue, Refused as creation_refused, Interrupted as creation_interrupted}
+use Rattle.workers.specs.declared.shared.Created.TheVariants.{Queue as created_queue, Refused as creation_refused, Interrupted as creation_interrupted}
 
 -- whether a creation may be refused so
 abbrev pub is_creation_refusal : Refusal → Bool
@@ -50,36 +50,34 @@ abbrev pub kind_asked : Option ℕ → Kind
 kind_asked (Some number) = log_kind
 kind_asked None = durable_kind
 
--- the slot had no queue when the session was this one; it had none of the kind that a call is for
-abbrev pub HadNoQueue : Sessioned → SlotId → Type 0
-HadNoQueue first queue = (q : AnyQueue) → HasQueue first.broker.directory queue.0 q → ⊥
-
-abbrev pub HadOtherKind : Sessioned → SlotId → Option ℕ → Type 0
-HadOtherKind first queue number =
-    (q : AnyQueue) → HasQueue first.broker.directory queue.0 q → q.kind ≡ kind_asked number → ⊥
+-- the queue of this name was of another kind than a call is for, when the session was this one
+abbrev pub HadOtherKind : Sessioned → Request → Type 0
+HadOtherKind first r =
+    (slot : ℕ) (q : Queue) → HasQueue first.broker.directory slot q → q.name ≡ r.name → q.kind ≡ kind_asked r.number → ⊥
 
 -- Why a call may be refused, as far as that is so for good, where the session was this one when the seats were given,
--- and the seat has this list. Busy: the seat has an open call, if the broker was ready then. NoQueue, WrongKind: the
--- slot had no queue then, or one of the other kind. Of a client that there is not no seat is given
-abbrev pub IsWhyRefused : Sessioned → List Entry → SlotId → Option ℕ → Refusal → Type 0
-IsWhyRefused first list queue number Busy = is_down first.broker ≡ false → ends_open list ≡ true
-IsWhyRefused first list queue number NoMemory = Unit {0}
-IsWhyRefused first list queue number NotReady = Unit {0}
-IsWhyRefused first list queue number NoQueue = HadNoQueue first queue
-IsWhyRefused first list queue number WrongKind = HadOtherKind first queue number
-IsWhyRefused first list queue number Old = IsSome number
-IsWhyRefused first list queue number Gap = IsSome number
-IsWhyRefused first list queue number StaleNumber = MAX_CALL_NUMBER < number_or_zero number
-IsWhyRefused first list queue number NoRoom = Unit {0}
-IsWhyRefused first list queue number _ = ⊥
+-- and the seat has this list. Busy: the seat has an open call, if the broker was ready then. NoQueue, WrongKind: there
+-- was no queue of the name then, or one of the other kind. Of a client that there is not no seat is given
+abbrev pub IsWhyRefused : Sessioned → List Entry → Request → Refusal → Type 0
+IsWhyRefused first list r Busy = is_down first.broker ≡ false → ends_open list ≡ true
+IsWhyRefused first list r NoMemory = Unit {0}
+IsWhyRefused first list r NotReady = Unit {0}
+IsWhyRefused first list r NoQueue = HasName first.broker.directory r.name → ⊥
+IsWhyRefused first list r WrongKind = HadOtherKind first r
+IsWhyRefused first list r Old = IsSome r.number
+IsWhyRefused first list r Gap = IsSome r.number
+IsWhyRefused first list r StaleNumber = MAX_CALL_NUMBER < number_or_zero r.number
+IsWhyRefused first list r NoRoom = Unit {0}
+IsWhyRefused first list r _ = ⊥
 
--- the client's number was settled with this reply when the session was this one
-pub record WasSettled (first : Sessioned) (queue : SlotId) (client : Client) (number : Option ℕ) (reply : Reply)
-    : Type 0 where
-  pub its : IsLogClient first.broker queue.0 client
+-- the client's number was settled with this reply, in the queue of this name, when the session was this one
+pub record WasSettled (first : Sessioned) (client : Client) (r : Request) (reply : Reply) : Type 0 where
+  pub slot : ℕ
+  pub named : IsNamed first.broker.directory slot r.name
+  pub its : IsLogClient first.broker slot client
   pub n : ℕ
-  pub number_is : number ≡ Some n
-  pub settled : IsSettled (kept_at first queue.0 client) n reply
+  pub number_is : r.number ≡ Some n
+  pub settled : IsSettled (kept_at first slot client) n reply
 
 -- whether a settled number may be refused so
 abbrev pub is_settled_refusal : Refusal → Bool
@@ -101,7 +99,15 @@ abbrev pub IsSettledStart : Reply → Result (Option Reply) Refusal → Type 0
 IsSettledStart reply (Ok began) = began ≡ Some reply
 IsSettledStart reply (Err refusal) = is_settled_refusal refusal ≡ true
 
--- whether what a client was last told may be
+-- Why what a client was last told may be, where there are so many clients. NoQueue: there was no queue of this name when
+-- the seats were given
+abbrev pub IsWhyNotTold : ℕ → Sessioned → List ℕ → Client → Refusal → Type 0
+IsWhyNotTold clients first name client NoClient = clients ≤ client.0
+IsWhyNotTold clients first name client NotReady = Unit {0}
+IsWhyNotTold clients first name client NoQueue = HasName first.broker.directory name → ⊥
+IsWhyNotTold clients first name client _ = ⊥
+
+-- whether it may be refused so
 abbrev pub is_told_refusal : Refusal → Bool
 is_told_refusal NoClient = true
 is_told_refusal NotReady = true
@@ -117,12 +123,12 @@ is_rotation_refusal _ = false
 
 -- whether a creation was refused; where it was, the refusal is as P says
 abbrev pub is_refused : Created → Bool
-is_refused (Queue slot) = false
+is_refused (created_queue slot) = false
 is_refused (creation_refused refusal) = true
 is_refused creation_interrupted = false
 
 abbrev pub IfNotCreated : Created → (Refusal → Type 0) → Type 0
-IfNotCreated (Queue slot) P = Unit {0}
+IfNotCreated (created_queue slot) P = Unit {0}
 IfNotCreated (creation_refused refusal) P = P refusal
 IfNotCreated creation_interrupted P = Unit {0}
 

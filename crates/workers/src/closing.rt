@@ -14,11 +14,13 @@ use crate::deeds::{Deed, Receipt, honoured};
 use crate::entry::Entry;
 use crate::locked::Locked;
 use crate::naming::Naming;
+use crate::operator::Operator;
 use crate::seat::{Seat, known, seat_of};
 use crate::shared::Shared;
 use roll::{Roll, Token};
 use session::Session;
 use std::sync::Wait;
+use waiting::lock;
 use words::Refusal;
 
 /// The seat with an empty list, as the keeper knows it.
@@ -123,7 +125,7 @@ impl<J: Naming> Shared<J> {
         ensures deed { IfOk result.1 (λ receipt. receipt.deed ≡ AnyDeed.Rotation) }
         ensures errors { IfErr result.1 (λ refusal. IsTrue (is_rotation_refusal refusal)) }
     {
-        self.locked.lock(rt).rotate(&self.roll, &self.deeds, seats)
+        lock(rt, &self.locked).rotate(&self.roll, &self.deeds, seats)
     }
 
     /// Takes the session back, and the seats with their lists: what a caller wants of these he copies before. The seats
@@ -140,17 +142,23 @@ impl<J: Naming> Shared<J> {
         session
     }
 
-    /// As [`Shared::close`], and the receipts that are handed in are honoured: what each says was done since the seats
-    /// were given, and no two are of the same deed.
-    pub fn close_with(self, seats: Vec<Seat<J>>, receipts: Vec<Receipt<J>>) -> Session
+    /// As [`Shared::close`]. Everything stopped as often as the operator knows since the seats were given, and the
+    /// receipts that are handed in are honoured: what each says was done, and no two are of the same deed.
+    pub fn close_with(
+        self,
+        seats: Vec<Seat<J>>,
+        operator: Operator<J>,
+        receipts: Vec<Receipt<J>>,
+    ) -> Session
         requires { AreAllInOrder (λ seat. seat.client) J.clients seats.items }
         ensures lists { AreSeatsRecorded (λ seat. seat.list.items) J.first seats.items result }
-        ensures receipts { AreHonoured (λ receipt. receipt.deed) J.first.broker receipts.items result.broker }
+        ensures deeds { AreHonoured (λ receipt. receipt.deed) J.first.broker operator receipts.items result.broker }
         ensures goes_on { SessionGoesOn J.first result }
         ensures promises { KeepsNumbers result }
     {
-        let (session, keeper, register) = self.locked.into_inner().into_parts();
+        let (session, keeper, mut register) = self.locked.into_inner().into_parts();
         all_known(&self.roll, keeper, seats);
+        register.hear(&self.deeds, operator);
         honoured(&self.deeds, register, receipts);
         session
     }

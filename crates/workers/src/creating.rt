@@ -1,25 +1,29 @@
 //! Crashes, recoveries, and creations, under the lock.
 
-ghost use Rattle.std.specs.Prelude.{◌≡◌, Err, IfErr, IfOk, IfSome, IsErr, IsSome, IsTrue, OnErr, OnOk};
-ghost use Rattle.directory.specs.Directory.{HasName};
+ghost use Rattle.std.specs.Prelude.{◌≡◌, ◌≢◌, ◌++◌, ◌∷◌, [], Err, IfErr, IfOk, IfSome, IsErr, IsSome, IsTrue, OnErr, OnOk, true};
+ghost use Rattle.directory.specs.Directory.{HasName, HasQueue};
 ghost use Rattle.directory.specs.Name.{IsName};
 ghost use Rattle.named.specs.Brokers.{world_at, MayCreate};
 ghost use Rattle.named.specs.Stopping.{IsRecoveryStep, IsStopped};
 ghost use Rattle.workers.specs.Creating.{creating_after_crash};
-ghost use Rattle.workers.specs.Deeds.{IsReceipted};
+ghost use Rattle.workers.specs.Deeds.{IsReadyReceipted, IsReceipted};
 ghost use Rattle.workers.specs.Made.{IsMade};
 ghost use Rattle.workers.specs.Refusals.{is_creation_refusal};
-ghost use Rattle.workers.specs.Recovered.{IsRecoveryRefusal};
+ghost use Rattle.workers.specs.Recovered.{is_ready_after, IsRecoveryRefusal};
 ghost use Rattle.workers.specs.declared.deeds.Deed.{Deed as AnyDeed};
 ghost use Rattle.workers.specs.declared.locked.Creating.{Creating as AnyCreating};
 
 use crate::deeds::{Deed, Receipt};
 use crate::locked::{Creating, Locked};
 use crate::naming::Naming;
+use crate::operator::Operator;
 use crate::shared::Created;
-use directory::Name;
+use arena::SlotId;
+use directory::Queue;
+use events::copied;
 use roll::Roll;
-use words::{Kind, Refusal};
+use session::Session;
+use words::Refusal;
 
 impl Creating {
     /// After a crash.
@@ -33,36 +37,56 @@ impl Creating {
     }
 }
 
+/// Whether the broker is ready once a step of its recovery answered this.
+fn is_ready_after(step: &Result<bool, Refusal>) -> bool
+    ensures { result ≡ is_ready_after step.now }
+{
+    matches!(step, Ok(true) | Err(Refusal::AlreadyReady))
+}
+
+/// Whether the slot has this queue.
+fn has(session: &Session, slot: SlotId, queue: &Queue) -> bool
+    ensures { result ≡ true → HasQueue session.now.broker.directory slot.0 queue.now }
+{
+    let Ok(places) = session.broker().list() else {
+        return false;
+    };
+    match places.get(usize::from(slot.0)) {
+        Some(Some(there)) => there.name == queue.name && there.kind == queue.kind,
+        _ => false,
+    }
+}
+
 impl<J: Naming> Locked<J> {
     /// Begins to create a queue. One that a crash ended is not over until its caller has seen that.
-    pub(crate) fn create(&mut self, name: &[u8], kind: Kind) -> Result<(), Refusal>
-        ensures may { OnOk result (MayCreate self.old.session.broker name.now) }
-        ensures bad_name { (IsName name.now → ⊥) → result ≡ Err Refusal.BadName }
-        ensures taken { HasName J.first.broker.directory name.now → IsErr result }
+    pub(crate) fn create(&mut self, queue: &Queue) -> Result<(), Refusal>
+        ensures may { OnOk result (MayCreate self.old.session.broker queue.now.name) }
+        ensures good_name { IsName queue.now.name → result ≢ Err Refusal.BadName }
+        ensures taken { HasName J.first.broker.directory queue.now.name → IsErr result }
         ensures errors { IfErr result (λ refusal. IsTrue (is_creation_refusal refusal)) }
         ensures same { OnErr result (self.new ≡ self.old) }
     {
         if matches!(self.creating, Creating::Interrupted) {
-            let _good = Name::make(name)?;
             let _ready = self.session.broker().list()?;
             return Err(Refusal::Busy);
         }
-        self.session.create(name, kind)?;
+        self.session.create(queue.name.as_bytes(), queue.kind)?;
         self.creating = Creating::UnderWay;
         Ok(())
     }
 
-    /// One step of the creation, for its caller: what became of it, once it is over.
+    /// One step of the creation of this queue, for its caller: what became of it, once it is over.
     pub(crate) fn create_step(
         &mut self,
         deeds: &Roll<Deed>,
+        queue: &Queue,
     ) -> Option<(Created, Option<Receipt<J>>)>
         requires { deeds.now ≡ J.roll.deeds }
         ensures made { IfSome result (λ done. IsMade J.first.broker.directory self.new.session.broker done.0) }
-        ensures receipt { IfSome result (λ done. IsReceipted (λ receipt. receipt.deed) done.0 done.1) }
+        ensures receipt { IfSome result (λ done. IsReceipted (λ receipt. receipt.deed) queue.now done.0 done.1) }
     {
         match self.creating {
-            Creating::UnderWay => self.make_step(deeds),
+            Creating::UnderWay => self.make_step(deeds, queue),
             Creating::Interrupted => {
                 self.creating = Creating::Nothing;
                 Some((Created::Interrupted, None))
@@ -71,18 +95,27 @@ impl<J: Naming> Locked<J> {
         }
     }
 
-    /// One step of the creation that is under way.
-    fn make_step(&mut self, deeds: &Roll<Deed>) -> Option<(Created, Option<Receipt<J>>)>
+    /// One step of the creation that is under way. What it opened is looked at, since no clause says here that it is
+    /// the caller's: another one is never begun before the caller has seen the end of his own.
+    fn make_step(
+        &mut self,
+        deeds: &Roll<Deed>,
+        queue: &Queue,
+    ) -> Option<(Created, Option<Receipt<J>>)>
         requires under_way { self.old.creating ≡ AnyCreating.UnderWay }
         requires deeds { deeds.now ≡ J.roll.deeds }
         ensures made { IfSome result (λ done. IsMade J.first.broker.directory self.new.session.broker done.0) }
-        ensures receipt { IfSome result (λ done. IsReceipted (λ receipt. receipt.deed) done.0 done.1) }
+        ensures receipt { IfSome result (λ done. IsReceipted (λ receipt. receipt.deed) queue.now done.0 done.1) }
     {
         match self.session.create_step() {
             Ok(None) => None,
             Ok(Some(slot)) => {
                 self.creating = Creating::Nothing;
-                let receipt = self.register.enter(deeds, Deed::Creation(slot));
+                if !has(&self.session, slot, queue) {
+                    return Some((Created::Interrupted, None));
+                }
+                let deed = Deed::Creation(slot, copied(queue));
+                let receipt = self.register.enter(deeds, deed);
                 Some((Created::Queue(slot), Some(receipt)))
             }
             // The broker has it under way, and is ready.
@@ -91,23 +124,40 @@ impl<J: Naming> Locked<J> {
     }
 
     /// The whole system stops: calls under way end, and so does a creation.
-    pub(crate) fn crash(&mut self, deeds: &Roll<Deed>) -> Result<Receipt<J>, Refusal>
+    pub(crate) fn crash(
+        &mut self,
+        deeds: &Roll<Deed>,
+        operator: Operator<J>,
+    ) -> (Operator<J>, Result<(), Refusal>)
         requires { deeds.now ≡ J.roll.deeds }
-        ensures stopped { OnOk result (IsStopped self.old.session.broker self.new.session.broker) }
-        ensures deed { IfOk result (λ receipt. receipt.deed ≡ AnyDeed.Crash) }
-        ensures errors { IfErr result (λ refusal. refusal ≡ Refusal.NoMemory) }
+        ensures stopped { OnOk result.1 (IsStopped self.old.session.broker self.new.session.broker) }
+        ensures stops { OnOk result.1 (result.0 ≡ operator ++ AnyDeed.Crash ∷ []) }
+        ensures same { OnErr result.1 (result.0 ≡ operator) }
+        ensures errors { IfErr result.1 (λ refusal. refusal ≡ Refusal.NoMemory) }
     {
-        self.session.crash()?;
+        if let Err(refusal) = self.session.crash() {
+            return (operator, Err(refusal));
+        }
         self.creating = self.creating.stopped();
-        Ok(self.register.enter(deeds, Deed::Crash))
+        (self.register.enter_stop(deeds, operator), Ok(()))
     }
 
-    /// One step of recovery: whether the broker is ready by it.
-    pub(crate) fn recover_step(&mut self) -> Result<bool, Refusal>
-        ensures step { IsRecoveryStep self.old.session.broker self.new.session.broker result
+    /// One step of recovery: whether the broker is ready by it. Where it is ready, a receipt of that.
+    pub(crate) fn recover_step(
+        &mut self,
+        deeds: &Roll<Deed>,
+    ) -> (Result<bool, Refusal>, Option<Receipt<J>>)
+        requires { deeds.now ≡ J.roll.deeds }
+        ensures step { IsRecoveryStep self.old.session.broker self.new.session.broker result.0
             self.old.session.broker.recovery }
-        ensures errors { IfErr result IsRecoveryRefusal }
+        ensures errors { IfErr result.0 IsRecoveryRefusal }
+        ensures receipt { IsReadyReceipted (λ receipt. receipt.deed) (is_ready_after result.0) result.1 }
     {
-        self.session.recover_step()
+        let step = self.session.recover_step();
+        if !is_ready_after(&step) {
+            return (step, None);
+        }
+        let receipt = self.register.enter(deeds, Deed::Readiness);
+        (step, Some(receipt))
     }
 }

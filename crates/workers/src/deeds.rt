@@ -3,25 +3,34 @@
 ghost use Rattle.std.specs.Prelude.{◌≡◌, ◌≤◌, ◌++◌, ◌∷◌, [], slice_get, slice_set, Some, vec_capacity};
 ghost use Rattle.workers.specs.Deeds.{AreAmong};
 ghost use Rattle.roll.specs.Rule.{IsHolder, IsKeeper, place_of, rows_of};
+ghost use Rattle.workers.specs.declared.deeds.Deed.{Deed as AnyDeed};
 
 use crate::naming::Naming;
+use crate::operator::Operator;
 use arena::SlotId;
+use directory::{Name, Queue};
+use events::copied;
 use roll::{Roll, Token};
 use std::marker::PhantomData;
+use words::{Client, Told};
 
-/// What was done to a shared broker as a whole.
+/// What was done to a shared broker as a whole, or seen of it.
 #[derive(Clone, Copy, Debug, PartialEq, Eq)]
 pub enum Deed {
     /// Everything stopped.
     Crash,
-    /// A queue was created in this slot.
-    Creation(SlotId),
+    /// This queue was created in this slot.
+    Creation(SlotId, Queue),
     /// The histories of all queues ended, and others began.
     Rotation,
+    /// The broker was ready.
+    Readiness,
+    /// The client was told that this is what it was last told, in the queue of this name.
+    Telling(Client, Name, Told),
 }
 
-/// A receipt of what was done. [`crate::Shared::close_with`] honours it: what it says was done, and each receipt is of a
-/// deed of its own. It may be dropped.
+/// A receipt of what was done, but for crashes, which the [`Operator`] counts. [`crate::Shared::close_with`] honours it:
+/// what it says was done, and each receipt is of a deed of its own. It may be dropped.
 #[derive(Drop)]
 pub struct Receipt<J: Naming> {
     /// What was done.
@@ -77,6 +86,17 @@ impl Register {
         Register { keeper, row }
     }
 
+    /// The operator, before anything is done.
+    pub(crate) fn appoint<J: Naming>(&mut self, roll: &Roll<Deed>) -> Operator<J>
+        requires roll { roll.now ≡ J.roll.deeds }
+        requires keeper { IsKeeper J.roll.deeds [] self.old.keeper }
+        ensures keeper { IsKeeper J.roll.deeds ([] ∷ []) self.new.keeper }
+        ensures operator { result ≡ [] }
+    {
+        self.row.clear();
+        Operator::new(roll.enroll(&mut self.keeper, &self.row))
+    }
+
     /// Enters what was done, and hands out the receipt of it.
     pub(crate) fn enter<J: Naming>(&mut self, roll: &Roll<Deed>, deed: Deed) -> Receipt<J>
         requires roll { roll.now ≡ J.roll.deeds }
@@ -85,12 +105,42 @@ impl Register {
         ensures keeper { IsKeeper J.roll.deeds (rows_of self.old.keeper ++ (deed ∷ []) ∷ []) self.new.keeper }
     {
         self.row.clear();
-        self.row.push_reserved(deed);
+        self.row.push_reserved(copied(&deed));
         let token = roll.enroll(&mut self.keeper, &self.row);
         Receipt {
             deed,
             token,
             of: PhantomData,
         }
+    }
+
+    /// Everything stopped once more, as the operator knows.
+    pub(crate) fn enter_stop<J: Naming>(
+        &mut self,
+        roll: &Roll<Deed>,
+        operator: Operator<J>,
+    ) -> Operator<J>
+        requires roll { roll.now ≡ J.roll.deeds }
+        requires keeper { IsKeeper J.roll.deeds (rows_of self.old.keeper) self.old.keeper }
+        ensures before { slice_get (rows_of self.old.keeper) 0 ≡ Some operator }
+        ensures keeper { IsKeeper J.roll.deeds
+            (slice_set (rows_of self.old.keeper) 0 (operator ++ AnyDeed.Crash ∷ [])) self.new.keeper }
+        ensures stops { result ≡ operator ++ AnyDeed.Crash ∷ [] }
+    {
+        self.row.clear();
+        self.row.push_reserved(Deed::Crash);
+        let token = roll.extend(&mut self.keeper, operator.into_token(), &self.row);
+        Operator::new(token)
+    }
+
+    /// What the operator knows, the keeper knows too.
+    pub(crate) fn hear<J: Naming>(&mut self, roll: &Roll<Deed>, operator: Operator<J>)
+        requires roll { roll.now ≡ J.roll.deeds }
+        requires keeper { IsKeeper J.roll.deeds (rows_of self.old.keeper) self.old.keeper }
+        ensures known { slice_get (rows_of self.old.keeper) 0 ≡ Some operator }
+        ensures keeper { IsKeeper J.roll.deeds (rows_of self.old.keeper) self.new.keeper }
+    {
+        self.row.clear();
+        roll.extend(&mut self.keeper, operator.into_token(), &self.row);
     }
 }

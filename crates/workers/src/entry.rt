@@ -5,6 +5,7 @@ ghost use Rattle.workers.specs.Answers.{entry_begun};
 ghost use Rattle.workers.specs.Lists.{ends_open, is_open, with_end, LastIsOf};
 
 use arena::SlotId;
+use directory::Name;
 use words::{Call, Refusal, Reply};
 
 /// What became of a call.
@@ -18,10 +19,11 @@ pub enum End {
     Answered(Reply),
 }
 
-/// A call of a seat. It ran from the place of its Call event in the history of its queue, or, with no place, it was
-/// answered with the reply that was kept for its number.
+/// A call of a seat, in the queue of this name, which is in this slot. It ran from the place of its Call event in the
+/// history of its queue, or, with no place, it was answered with the reply that was kept for its number.
 #[derive(Clone, Copy, Debug, PartialEq, Eq)]
 pub struct Entry {
+    pub name: Name,
     pub queue: SlotId,
     pub number: Option<u64>,
     pub call: Call,
@@ -43,25 +45,27 @@ pub enum Answer {
     Unfinished,
 }
 
-/// A call as it is asked for: in which queue, and with a number in a log queue.
-#[derive(Clone, Copy)]
-pub(crate) struct Request {
-    pub(crate) queue: SlotId,
-    pub(crate) number: Option<u64>,
-    pub(crate) call: Call,
+/// A call as it is asked for: in the queue of this name, and with a number in a log queue.
+#[derive(Clone, Copy, Debug, PartialEq, Eq)]
+pub struct Request {
+    pub name: Name,
+    pub number: Option<u64>,
+    pub call: Call,
 }
 
 impl Request {
-    /// The entry of the call that begins at this place, or that was answered with the reply that was kept.
-    pub(crate) fn entry(&self, next: usize, kept: &Option<Reply>) -> Entry
-        ensures { result ≡ entry_begun self.now next kept.now }
+    /// The entry of the call that begins at this place of the queue in the slot, or that was answered with the reply
+    /// that was kept.
+    pub(crate) fn entry(&self, queue: SlotId, next: usize, kept: &Option<Reply>) -> Entry
+        ensures { result ≡ entry_begun queue self.now next kept.now }
     {
         let (place, end) = match kept {
             Some(reply) => (None, End::Answered(*reply)),
             None => (Some(next), End::Open),
         };
         Entry {
-            queue: self.queue,
+            name: self.name,
+            queue,
             number: self.number,
             call: self.call,
             place,

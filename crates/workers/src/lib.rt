@@ -12,14 +12,16 @@ mod locked;
 mod looks;
 mod naming;
 mod opening;
+mod operator;
 mod seat;
 mod shared;
 
 pub use deeds::{Deed, Receipt};
-pub use entry::{Answer, End, Entry};
+pub use entry::{Answer, End, Entry, Request};
 pub use gate::{Gate, OpenGate};
 pub use laws::{calls_are_counted, interrupted_calls_are_told};
 pub use naming::Naming;
 pub use opening::{NotOpened, Opened, is_in_use};
+pub use operator::Operator;
 pub use seat::Seat;
 pub use shared::{Created, Shared};

@@ -1,6 +1,7 @@
 //! What lies under the lock.
 
-ghost use Rattle.std.specs.Prelude.{◌≡◌, ◌≢◌, ◌<◌, [], false, length, true, IfErr, vec_capacity, vec_len};
+ghost use Rattle.std.specs.Prelude.{◌≡◌, ◌≢◌, ◌<◌, ◌∷◌, [], false, length, true, IfErr, vec_capacity, vec_len};
+ghost use Rattle.directory.specs.Directory.{IsNamed};
 ghost use Rattle.roll.specs.Rule.{IsKeeper, rows_of};
 ghost use Rattle.session.specs.Requests.{answer_to, number_or_zero, IsBegunBy};
 ghost use Rattle.workers.specs.Answers.{IsListAfter, IsListBegun};
@@ -90,7 +91,7 @@ impl<J: Naming> Locked<J> {
     /// What is to lie under the lock, where no seat has been used yet.
     pub(crate) fn new(session: Session, keeper: Token<Entry>, register: Register) -> Self
         requires keeper { IsKeeper J.roll.lists (rows_of keeper) keeper }
-        requires register { IsKeeper J.roll.deeds [] register.keeper }
+        requires register { IsKeeper J.roll.deeds ([] ∷ []) register.keeper }
         requires clients { length (rows_of keeper) ≡ J.clients }
         requires first { session ≡ J.first }
         requires beginning { IsBeginning J.clients session }
@@ -116,7 +117,42 @@ impl<J: Naming> Locked<J> {
         (self.session, self.keeper, self.register)
     }
 
-    /// Begins a call of the seat's client. Its entry is written in the same event, so that list and history never part.
+    /// Begins a call of the seat's client in the queue of a slot. Its entry is written in the same event, so that list
+    /// and history never part.
+    fn begin_in(
+        &mut self,
+        roll: &Roll<Entry>,
+        seat: Seat<J>,
+        queue: SlotId,
+        request: &Request,
+    ) -> (Seat<J>, Result<Option<Reply>, Refusal>)
+        requires roll { roll.now ≡ J.roll.lists }
+        requires idle { ends_open seat.list.items ≡ false }
+        requires room { vec_len seat.list < vec_capacity seat.list }
+        requires named { IsNamed self.old.session.broker.directory queue.0 request.now.name }
+        ensures client { result.0.client ≡ seat.client }
+        ensures begun { IsListBegun seat.list.items request.now result.1 result.0.list.items }
+        ensures act { IsBegunBy self.old.session self.new.session queue.0 seat.client
+            (number_or_zero request.now.number) request.now.call result.1
+            (answer_to self.old.session queue.0 seat.client request.now.number) }
+        ensures errors { IfErr result.1 (IsWhyRefused J.first seat.list.items request.now) }
+        ensures settled { (reply : Reply) → WasSettled J.first seat.client request.now reply
+            → IsSettledStart reply result.1 }
+    {
+        let next = events_in(&self.session, queue);
+        match self
+            .session
+            .begin(seat.client, queue, request.number, request.call)
+        {
+            Ok(began) => {
+                let entry = request.entry(queue, next, &began);
+                (with_entry(roll, &mut self.keeper, seat, entry), Ok(began))
+            }
+            Err(refusal) => (known(roll, &mut self.keeper, seat), Err(refusal)),
+        }
+    }
+
+    /// Finds the queue of a call, and begins it there, in one event.
     pub(crate) fn begin(
         &mut self,
         roll: &Roll<Entry>,
@@ -128,25 +164,14 @@ impl<J: Naming> Locked<J> {
         requires room { vec_len seat.list < vec_capacity seat.list }
         ensures client { result.0.client ≡ seat.client }
         ensures begun { IsListBegun seat.list.items request.now result.1 result.0.list.items }
-        ensures act { IsBegunBy self.old.session self.new.session request.now.queue.0 seat.client
-            (number_or_zero request.now.number) request.now.call result.1
-            (answer_to self.old.session request.now.queue.0 seat.client request.now.number) }
-        ensures errors { IfErr result.1
-            (IsWhyRefused J.first seat.list.items request.now.queue request.now.number) }
-        ensures settled { (reply : Reply) → WasSettled J.first request.now.queue seat.client request.now.number reply
+        ensures errors { IfErr result.1 (IsWhyRefused J.first seat.list.items request.now) }
+        ensures settled { (reply : Reply) → WasSettled J.first seat.client request.now reply
             → IsSettledStart reply result.1 }
     {
-        let queue = request.queue;
-        let next = events_in(&self.session, queue);
-        match self
-            .session
-            .begin(seat.client, queue, request.number, request.call)
-        {
-            Ok(began) => {
-                let entry = request.entry(next, &began);
-                (with_entry(roll, &mut self.keeper, seat, entry), Ok(began))
-            }
-            Err(refusal) => (known(roll, &mut self.keeper, seat), Err(refusal)),
+        let _ = &self.session;
+        match self.session.broker().slot_of(&request.name) {
+            Ok(queue) => self.begin_in(roll, seat, queue, request),
+            Err(refusal) => (seat, Err(refusal)),
         }
     }
 

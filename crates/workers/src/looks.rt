@@ -1,14 +1,18 @@
 //! What threads see of the queues.
 
-ghost use Rattle.std.specs.Prelude.{◌≡◌, ◌<◌, ℕ, length, IfErr, IfOk, IsTrue, slice_get};
+ghost use Rattle.std.specs.Prelude.{◌≡◌, ◌<◌, ℕ, length, IfErr, IfOk, slice_get};
 ghost use Rattle.arena.specs.declared.broker.TheConstants.{SLOTS};
+ghost use Rattle.workers.specs.Deeds.{IsTellingReceipted, IsTold};
 ghost use Rattle.workers.specs.Looking.{IsFoundOf, IsListedOf};
-ghost use Rattle.workers.specs.Refusals.{is_told_refusal};
+ghost use Rattle.workers.specs.Refusals.{IsWhyNotTold};
 
+use crate::deeds::{Deed, Receipt};
 use crate::locked::Locked;
 use crate::naming::Naming;
 use arena::{SLOTS, SlotId};
 use directory::{Name, Places};
+use events::copied;
+use roll::Roll;
 use words::{Client, Refusal, Told};
 
 /// The same places.
@@ -42,11 +46,33 @@ impl<J: Naming> Locked<J> {
         Ok(copy_of(self.session.broker().list()?))
     }
 
-    /// What the client was last told in the queue of a slot.
-    pub(crate) fn told(&self, client: Client, queue: SlotId) -> Result<Told, Refusal>
-        ensures { IfErr result (λ refusal. IsTrue (is_told_refusal refusal)) }
+    /// What the client was last told in the queue of a name.
+    fn last_told(&self, client: Client, name: &Name) -> Result<Told, Refusal>
+        ensures is { IfOk result (IsTold self.now.session.broker client name.now) }
+        ensures errors { IfErr result (IsWhyNotTold J.clients J.first name.now client) }
     {
         let _ = &self.session;
+        let queue = self.session.broker().slot_of(name)?;
         self.session.broker().told(queue, client)
+    }
+
+    /// That, with a receipt of it.
+    pub(crate) fn told(
+        &mut self,
+        deeds: &Roll<Deed>,
+        client: Client,
+        name: &Name,
+    ) -> (Result<Told, Refusal>, Option<Receipt<J>>)
+        requires { deeds.now ≡ J.roll.deeds }
+        ensures receipt { IsTellingReceipted (λ receipt. receipt.deed) client name.now result.0 result.1 }
+        ensures errors { IfErr result.0 (IsWhyNotTold J.clients J.first name.now client) }
+    {
+        match self.last_told(client, name) {
+            Ok(told) => {
+                let deed = Deed::Telling(client, copied(name), copied(&told));
+                (Ok(told), Some(self.register.enter(deeds, deed)))
+            }
+            Err(refusal) => (Err(refusal), None),
+        }
     }
 }

@@ -9,6 +9,7 @@ use crate::deeds::{Deed, Register};
 use crate::entry::Entry;
 use crate::locked::Locked;
 use crate::naming::Naming;
+use crate::operator::Operator;
 use crate::seat::{Seat, seat_of};
 use crate::shared::Shared;
 use arena::{SLOTS, SlotId};
@@ -120,12 +121,17 @@ impl Opened {
         }
     }
 
-    /// The shared session under its name, and a seat for each client, in client order, which remembers no call yet. It
-    /// is refused for want of memory (NoMemory). The name is one that the caller's caller picked for this value.
-    pub fn named<J: Naming>(self, alloc: Global) -> Result<(Shared<J>, Vec<Seat<J>>), NotOpened>
+    /// The shared session under its name, a seat for each client, in client order, which remembers no call yet, and the
+    /// operator, who has stopped nothing yet. It is refused for want of memory (NoMemory). The name is one that the
+    /// caller's caller picked for this value.
+    pub fn named<J: Naming>(
+        self,
+        alloc: Global,
+    ) -> Result<(Shared<J>, Vec<Seat<J>>, Operator<J>), NotOpened>
         requires name { IsNameOf J.roll J.clients J.first self }
         ensures order { IfOk result (λ r. AreAllInOrder (λ seat. seat.client) J.clients r.1.items) }
         ensures empty { IfOk result (λ r. AreEmpty (λ seat. seat.list.items) r.1.items) }
+        ensures operator { IfOk result (λ r. r.2 ≡ []) }
         ensures errors { IfErr result (λ not. (not.refusal ≡ Refusal.NoMemory) × (not.session ≡ self.session)) }
     {
         let Opened {
@@ -133,7 +139,7 @@ impl Opened {
             roll,
             mut keeper,
             deeds,
-            register,
+            mut register,
         } = self;
         let clients = session.broker().clients();
         let mut seats = Vec::new(alloc);
@@ -148,12 +154,13 @@ impl Opened {
             let token = roll.enroll(&mut keeper, &list);
             seats.push_reserved(seat_of(Client(client as u8), list, token));
         }
+        let operator = register.appoint(&deeds);
         let locked = Mutex::new(Locked::new(session, keeper, register));
         let shared = Shared {
             roll,
             deeds,
             locked,
         };
-        Ok((shared, seats))
+        Ok((shared, seats, operator))
     }
 }

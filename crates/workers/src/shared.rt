@@ -1,13 +1,13 @@
 //! A broker that threads share.
 
-ghost use Rattle.std.specs.Prelude.{◌≡◌, ◌<◌, false, IfErr, IfOk, IfSome, IsTrue, true, vec_capacity, vec_len};
+ghost use Rattle.std.specs.Prelude.{◌≡◌, ◌≢◌, ◌<◌, ◌++◌, ◌∷◌, [], false, IfErr, IfOk, IfSome, IsTrue, OnErr, OnOk, true, vec_capacity, vec_len};
 ghost use Rattle.workers.specs.Answers.{Finishes, IsListAfter, IsListBegun, Remembers};
-ghost use Rattle.workers.specs.Deeds.{IsReceipted};
+ghost use Rattle.workers.specs.Deeds.{IsReadyReceipted, IsReceipted, IsTellingReceipted};
 ghost use Rattle.workers.specs.Lists.{ends_open};
 ghost use Rattle.workers.specs.Looking.{IsCreatedBeside, IsFoundOf, IsListedOf};
-ghost use Rattle.workers.specs.Refusals.{is_creation_refusal, is_refused, is_told_refusal};
+ghost use Rattle.workers.specs.Refusals.{is_creation_refusal, is_refused, IsWhyNotTold};
 ghost use Rattle.workers.specs.Refusals.{IfNotCreated, IfNotMade};
-ghost use Rattle.workers.specs.Recovered.{told_of_recovery, IsRecoveryRefusal};
+ghost use Rattle.workers.specs.Recovered.{is_ready_after, is_ready_by, told_of_recovery, IsRecoveryRefusal};
 ghost use Rattle.workers.specs.Refusals.{IsSettledAnswer, IsSettledStart, IsWhyRefused, WasSettled};
 ghost use Rattle.directory.specs.Directory.{HasName};
 ghost use Rattle.directory.specs.Name.{IsName};
@@ -20,12 +20,14 @@ use crate::entry::{Answer, Entry, Request, Took};
 use crate::gate::Gate;
 use crate::locked::Locked;
 use crate::naming::Naming;
+use crate::operator::Operator;
 use crate::seat::Seat;
 use arena::SlotId;
-use directory::{Name, Places};
+use directory::{Name, Places, Queue};
 use roll::Roll;
 use std::sync::{Mutex, Wait};
-use words::{Call, Client, Kind, Refusal, Reply, Told};
+use waiting::lock;
+use words::{Client, Kind, Refusal, Reply, Told};
 
 /// A session that threads share. Each act takes the lock, makes one step and releases it, so that a client that stands
 /// still between two steps of its call holds nobody up: others help its call along where they must. Every call may wait
@@ -53,6 +55,7 @@ pub enum Created {
 /// What the caller of a recovery is told once its step answered this, after steps of its own or at its first one.
 fn told_of_recovery(begun: bool, step: Result<bool, Refusal>) -> Option<Result<(), Refusal>>
     ensures told { result ≡ told_of_recovery begun step }
+    ensures ready { IfSome result (λ told. is_ready_by told ≡ is_ready_after step) }
     ensures errors { IfErr step IsRecoveryRefusal → IfSome result (λ told. IfErr told IsRecoveryRefusal) }
 {
     match step {
@@ -76,11 +79,11 @@ impl<J: Naming> Shared<J> {
         requires room { vec_len seat.list < vec_capacity seat.list }
         ensures client { result.0.client ≡ seat.client }
         ensures begun { IsListBegun seat.list.items request result.1 result.0.list.items }
-        ensures errors { IfErr result.1 (IsWhyRefused J.first seat.list.items request.queue request.number) }
-        ensures settled { (reply : Reply) → WasSettled J.first request.queue seat.client request.number reply
+        ensures errors { IfErr result.1 (IsWhyRefused J.first seat.list.items request) }
+        ensures settled { (reply : Reply) → WasSettled J.first seat.client request reply
             → IsSettledStart reply result.1 }
     {
-        self.locked.lock(rt).begin(&self.roll, seat, &request)
+        lock(rt, &self.locked).begin(&self.roll, seat, &request)
     }
 
     /// One step of the seat's open call.
@@ -89,7 +92,7 @@ impl<J: Naming> Shared<J> {
         ensures client { result.0.client ≡ seat.client }
         ensures step { IsListAfter seat.list.items result.1 result.0.list.items }
     {
-        self.locked.lock(rt).step(&self.roll, seat)
+        lock(rt, &self.locked).step(&self.roll, seat)
     }
 
     /// Goes on with the seat's open call until it is answered, interrupted or refused memory.
@@ -115,27 +118,26 @@ impl<J: Naming> Shared<J> {
         unreachable!()
     }
 
-    /// Makes a call of the seat's client: with a number in a log queue, where it is answered from what is kept if it is
-    /// the client's last number, and without one in a durable queue. The seat remembers just this call, with the answer
-    /// that is given. It passes the gate after its start and after each step that does not answer. It is refused,
-    /// before all else, where the seat has an open call (Busy), for want of memory for its entry (NoMemory), and as
-    /// [`session::Session::begin`] is; then nothing is remembered. A number that was settled when the seats were given
-    /// runs no more: it has its reply, or is Old. A step that is refused memory leaves the call under way (Unfinished),
-    /// for [`Shared::finish`].
+    /// Makes a call of the seat's client in the queue of a name: with a number in a log queue, where it is answered
+    /// from what is kept if it is the client's last number, and without one in a durable queue. The seat remembers just
+    /// this call, with the answer that is given, in the slot that has the name. It passes the gate after its start and
+    /// after each step that does not answer. It is refused, before all else, where the seat has an open call (Busy),
+    /// for want of memory for its entry (NoMemory), while the broker recovers (NotReady), where there is no such queue
+    /// (NoQueue), and as [`session::Session::begin`] is; then nothing is remembered. A number that was settled when the
+    /// seats were given runs no more: it has its reply, or is Old. A step that is refused memory leaves the call under
+    /// way (Unfinished), for [`Shared::finish`].
     pub fn call<R: Wait, G: Gate>(
         &self,
         rt: &R,
         seat: Seat<J>,
-        queue: SlotId,
-        number: Option<u64>,
-        call: Call,
+        request: Request,
         gate: &G,
     ) -> (Seat<J>, Answer)
         ensures client { result.0.client ≡ seat.client }
-        ensures entry { Remembers seat.list.items queue number call result.1 result.0.list.items }
+        ensures entry { Remembers seat.list.items request result.1 result.0.list.items }
         ensures busy { ends_open seat.list.items ≡ true → result ≡ (seat, AnyAnswer.Refused Refusal.Busy) }
-        ensures errors { IfNotMade result.1 (IsWhyRefused J.first seat.list.items queue number) }
-        ensures settled { (reply : Reply) → WasSettled J.first queue seat.client number reply
+        ensures errors { IfNotMade result.1 (IsWhyRefused J.first seat.list.items request) }
+        ensures settled { (reply : Reply) → WasSettled J.first seat.client request reply
             → IsSettledAnswer reply result.1 }
     {
         if seat.is_open() {
@@ -145,11 +147,6 @@ impl<J: Naming> Shared<J> {
         if !room {
             return (seat, Answer::Refused(Refusal::NoMemory));
         }
-        let request = Request {
-            queue,
-            number,
-            call,
-        };
         let (seat, began) = self.begin(rt, seat, request);
         match began {
             Ok(None) => {
@@ -180,42 +177,54 @@ impl<J: Naming> Shared<J> {
     /// created comes with a receipt of that.
     pub fn create<R: Wait>(&self, rt: &R, name: &[u8], kind: Kind) -> (Created, Option<Receipt<J>>)
         ensures bad_name { (IsName name.now → ⊥) → result.0 ≡ AnyCreated.Refused Refusal.BadName }
+        ensures good_name { IsName name.now → result.0 ≢ AnyCreated.Refused Refusal.BadName }
         ensures taken { HasName J.first.broker.directory name.now → IsTrue (is_refused result.0) }
-        ensures receipt { IsReceipted (λ receipt. receipt.deed) result.0 result.1 }
+        ensures receipt { IsReceipted (λ receipt. receipt.deed) (record { name = name.now; kind = kind }) result.0
+            result.1 }
         ensures free { IsCreatedBeside J.first.broker.directory result.0 }
         ensures errors { IfNotCreated result.0 (λ refusal. IsTrue (is_creation_refusal refusal)) }
     {
-        if let Err(refusal) = self.locked.lock(rt).create(name, kind) {
+        let queue = match Name::make(name) {
+            Ok(name) => Queue { name, kind },
+            Err(refusal) => return (Created::Refused(refusal), None),
+        };
+        if let Err(refusal) = lock(rt, &self.locked).create(&queue) {
             return (Created::Refused(refusal), None);
         }
         for _ in rt.forever() {
-            if let Some(created) = self.locked.lock(rt).create_step(&self.deeds) {
+            if let Some(created) = lock(rt, &self.locked).create_step(&self.deeds, &queue) {
                 return created;
             }
         }
         unreachable!()
     }
 
-    /// The whole system stops: each call under way is interrupted, as its seat hears when it goes on. It is refused for
-    /// want of memory (NoMemory), and then nothing stopped.
-    pub fn crash<R: Wait>(&self, rt: &R) -> Result<Receipt<J>, Refusal>
-        ensures deed { IfOk result (λ receipt. receipt.deed ≡ AnyDeed.Crash) }
-        ensures errors { IfErr result (λ refusal. refusal ≡ Refusal.NoMemory) }
+    /// The whole system stops, as its operator wants: each call under way is interrupted, as its seat hears when it goes
+    /// on. It is refused for want of memory (NoMemory), and then nothing stopped.
+    pub fn crash<R: Wait>(
+        &self,
+        rt: &R,
+        operator: Operator<J>,
+    ) -> (Operator<J>, Result<(), Refusal>)
+        ensures stops { OnOk result.1 (result.0 ≡ operator ++ AnyDeed.Crash ∷ []) }
+        ensures same { OnErr result.1 (result.0 ≡ operator) }
+        ensures errors { IfErr result.1 (λ refusal. refusal ≡ Refusal.NoMemory) }
     {
-        self.locked.lock(rt).crash(&self.deeds)
+        lock(rt, &self.locked).crash(&self.deeds, operator)
     }
 
     /// Recovers the broker, one act a step, until it is ready; other threads may take steps too. It is refused where no
     /// recovery is under way at its first step (AlreadyReady), and for want of memory (NoMemory): then the steps that
-    /// were made stand, and another `recover` goes on.
-    pub fn recover<R: Wait>(&self, rt: &R) -> Result<(), Refusal>
-        ensures { IfErr result IsRecoveryRefusal }
+    /// were made stand, and another `recover` goes on. What says that the broker is ready comes with a receipt of that.
+    pub fn recover<R: Wait>(&self, rt: &R) -> (Result<(), Refusal>, Option<Receipt<J>>)
+        ensures receipt { IsReadyReceipted (λ receipt. receipt.deed) (is_ready_by result.0) result.1 }
+        ensures errors { IfErr result.0 IsRecoveryRefusal }
     {
         let mut begun = false;
         for _ in rt.forever() {
-            let step = self.locked.lock(rt).recover_step();
+            let (step, receipt) = lock(rt, &self.locked).recover_step(&self.deeds);
             if let Some(told) = told_of_recovery(begun, step) {
-                return told;
+                return (told, receipt);
             }
             begun = true;
         }
@@ -228,7 +237,7 @@ impl<J: Naming> Shared<J> {
         ensures found { IfOk result (IsFoundOf J.first.broker.directory name.now) }
         ensures errors { IfErr result (λ refusal. refusal ≡ Refusal.NotReady) }
     {
-        self.locked.lock(rt).find(name)
+        lock(rt, &self.locked).find(name)
     }
 
     /// What each slot has, as it is now: a copy. The queues that there were when the seats were given are among them
@@ -237,13 +246,21 @@ impl<J: Naming> Shared<J> {
         ensures queues { IfOk result (IsListedOf J.first.broker.directory) }
         ensures errors { IfErr result (λ refusal. refusal ≡ Refusal.NotReady) }
     {
-        self.locked.lock(rt).list()
+        lock(rt, &self.locked).list()
     }
 
-    /// What the client was last told in the queue of a slot. It is refused as [`named::Broker::told`] is.
-    pub fn told<R: Wait>(&self, rt: &R, client: Client, queue: SlotId) -> Result<Told, Refusal>
-        ensures errors { IfErr result (λ refusal. IsTrue (is_told_refusal refusal)) }
+    /// What the client was last told in the queue of a name. It is refused, in this order, while the broker recovers
+    /// (NotReady), where there is no such queue (NoQueue), and where there is no such client (NoClient). It comes with a
+    /// receipt.
+    pub fn told<R: Wait>(
+        &self,
+        rt: &R,
+        client: Client,
+        name: &Name,
+    ) -> (Result<Told, Refusal>, Option<Receipt<J>>)
+        ensures receipt { IsTellingReceipted (λ receipt. receipt.deed) client name.now result.0 result.1 }
+        ensures errors { IfErr result.0 (IsWhyNotTold J.clients J.first name.now client) }
     {
-        self.locked.lock(rt).told(client, queue)
+        lock(rt, &self.locked).told(&self.deeds, client, name)
     }
 }

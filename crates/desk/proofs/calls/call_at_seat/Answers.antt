@@ -1,7 +1,9 @@
-use Rattle.desk.proofs.Settling.{refused_after}
+use Rattle.desk.proofs.Settling.{settled_for, settled_on_wire}
 use Rattle.desk.proofs.calls.call_at_seat.Goals as goal
 
-pub returns-in-Err-slot_of-clause-entry : goal.returns-in-Err-slot_of-clause-entry
-returns-in-Err-slot_of-clause-entry g c =
-    refused_after g.J.Naming.first.broker.directory c.args.seat.list.items c.settled-seat.result.0.list.items c.args.asked
-    c.in-Err-slot_of.refusal (rw c.in_default.is at c.settled-seat.ensures.settled) c.in-Err-slot_of.ensures.errors
+pub returns-clause-settled : goal.returns-clause-settled
+returns-clause-settled g c = λ name reply is was.
+    let there = c.settled-seat.ensures.client in
+    rw c.on_wire.ensures (settled_on_wire reply c.call-seat.result.1 (c.call-seat.ensures.settled reply
+    (settled_for g.J.Naming.first c.args.seat.client c.settled-seat.result.0.client c.args.asked name c.in-Some.name
+    reply there is c.in-Some.is was)))

@@ -1,6 +1,6 @@
-use Rattle.std.proofs.Common.{◌≡◌, ◌≤◌, ℕ, List, [], length, Some}
+use Rattle.std.proofs.Common.{◌≡◌, ◌≤◌, [], length}
 use Rattle.engine.specs.Input.{held}
-use Rattle.engine.proofs.Between.{IsBetween}
+use Rattle.engine.proofs.Unknown.{IsSoFar}
 use Rattle.engine.proofs.serving.serve.Given as goal
 
 -- no device failed, no reply is held, and there is room for more input
@@ -12,7 +12,6 @@ invariant-loop g l = record {
   writes : g.W.Writer.failures l.writer ≡ g.W.Writer.failures l.fn.writer;
   empty : l.output.items ≡ [];
   room : length (held l.input) ≤ 513;
-  so_far : (input : List ℕ) → g.R.Reader.left l.fn.reader ≡ Some input
-      → IsBetween g.P.Reading.meaning input (held l.input) (g.R.Reader.left l.reader) (g.D.Desk.served l.fn.desk) (g.D.Desk.served l.desk)
-      (g.W.Writer.written l.fn.writer) (g.W.Writer.written l.writer);
+  so_far : IsSoFar g.P.Reading.meaning (held l.input) (g.R.Reader.left l.fn.reader) (g.R.Reader.left l.reader)
+      (g.D.Desk.served l.fn.desk) (g.D.Desk.served l.desk) (g.W.Writer.written l.fn.writer) (g.W.Writer.written l.writer);
 }

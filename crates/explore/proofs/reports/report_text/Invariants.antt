@@ -1,10 +1,11 @@
-use Rattle.std.proofs.Common.{◌≡◌, ◌++◌, drop, map, string_bytes}
+use Rattle.std.proofs.Common.{◌≡◌, ◌+◌, ◌++◌, drop, map, string_bytes}
 use Rattle.explore.specs.Points.{found_of}
 use Rattle.explore.specs.Reports.{numbered_text}
 use Rattle.explore.proofs.reports.report_text.Given as goal
 
 -- what is written, and the lines of the points that are left, are all
-abbrev pub invariant-loop-number : goal.invariant-loop-number
-invariant-loop-number l =
-    string_bytes l.text ++ numbered_text l.clients l.number (map found_of (drop l.number l.fn.report.points.items))
-    ≡ numbered_text l.clients 0 (map found_of l.fn.report.points.items)
+abbrev pub invariant-loop-place : goal.invariant-loop-place
+invariant-loop-place l =
+    string_bytes l.text
+    ++ numbered_text l.clients (l.from + l.place) (map found_of (drop l.place l.fn.report.points.items))
+    ≡ numbered_text l.clients l.from (map found_of l.fn.report.points.items)

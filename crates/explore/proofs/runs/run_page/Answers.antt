@@ -5,5 +5,5 @@ use Rattle.explore.proofs.runs.run_page.Goals as goal
 
 pub returns-clause-beginning : goal.returns-clause-beginning
 returns-clause-beginning g c failed =
-    begins (points_text c.args.evictions) _ _ _ c.in_ok-script.script c.deref.result.now c.in_ok-script.ensures.script
+    begins (points_text c.args.wanted) _ _ _ c.in_ok-script.script c.deref.result.now c.in_ok-script.ensures.script
     c.in-Err.ensures.beginning (c.deref.ensures.value ∙ c.in_ok-found.ensures.text)

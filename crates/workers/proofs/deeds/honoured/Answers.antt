@@ -1,9 +1,10 @@
-use Rattle.std.proofs.Common.{rules, ◌≡◌, [], List, ap, sym, ◌∙◌, subst}
-use Rattle.std.specs.Prelude.{slice_set}
-use Rattle.roll.specs.Rule.{keeper, place_of, rows_of}
-use Rattle.workers.specs.declared.deeds.Deed.{Deed}
-use Rattle.workers.proofs.Honouring.{all_out, one_out}
+use Rattle.std.proofs.Common.{rules, ◌≡◌, [], ap, sym, ◌∙◌}
+use Rattle.roll.specs.Rule.{keeper}
+use Rattle.workers.proofs.Honouring.{all_out, none_out, one_out}
 use Rattle.workers.proofs.deeds.honoured.Goals as goal
+
+pub loop-receipt-init : goal.loop-receipt-init
+loop-receipt-init g c = (c.requires.keeper, none_out _ _ _ _)
 
 pub loop-receipt-preserved : goal.loop-receipt-preserved
 loop-receipt-preserved g c =

@@ -16,5 +16,5 @@ returns-in-Err-clause-play c memory =
     c.args.number c.args.call (Err c.in-Err.refusal) c.start.new.self c.in-Err.ensures.act c.self.invariant.well
     c.requires.ready c.requires.open memory in
     start_refused c.args.self.now
-    (record { broker = c.start.new.self; steps = c.self.inside.steps; creation = c.self.inside.creation; recovery = c.self.inside.recovery })
+    (record { broker = c.start.new.self; steps = c.self.inside.steps; creation = c.self.inside.creation; recovery = c.self.inside.recovery; image = c.self.inside.image.items })
     c.args.slot.0 c.args.client c.args.number c.args.call c.in-Err.refusal alone (ap (λ p. p.steps) c.self.view_is)

@@ -16,5 +16,5 @@ returns-in-Err-clause-same c other =
     (Err c.in-Err.refusal) c.step.new.self c.in-Err.ensures.act c.self.invariant.well
     c.requires.ready c.requires.open (λ e. other (cc)) in
     step_refused c.args.self.now
-    (record { broker = c.step.new.self; steps = c.self.inside.steps; creation = c.self.inside.creation; recovery = c.self.inside.recovery })
+    (record { broker = c.step.new.self; steps = c.self.inside.steps; creation = c.self.inside.creation; recovery = c.self.inside.recovery; image = c.self.inside.image.items })
     c.args.slot.0 c.args.client c.in-Err.refusal alone (ap (λ p. p.steps) c.self.view_is)

@@ -1,53 +1,20 @@
-use Rattle.std.proofs.Common.{sym, ap, ◌∙◌, [], Err, Ok}
-use Rattle.roll.specs.Rule.{keeper, rows_of}
-use Rattle.session.specs.Requests.{answer_to, number_or_zero}
-use Rattle.workers.proofs.Guarded.{with_rows}
-use Rattle.workers.proofs.Refusing.{settled_start, why_refused}
-use Rattle.workers.proofs.Turns.{guarded_begun, guarded_unbegun}
+use Rattle.std.proofs.Common.{subst, Err}
+use Rattle.named.specs.Brokers.{Brokered}
+use Rattle.named.specs.Finding.{IsPlaced}
+use Rattle.workers.proofs.Refusing.{unplaced, unplaced_settled}
 use Rattle.workers.proofs.locked.Locked.begin.Goals as goal
-
-pub invariant_of-self : goal.invariant_of-self
-invariant_of-self g c =
-    let e = c.in-Ok.ensures in
-    let w = c.with_entry.ensures in
-    let list = c.args.seat.list.items in (
-      (w.keeper.0, w.keeper.1 ∙ sym (ap (λ m. (keeper m.0.rows, [])) w.keeper.1)),
-      with_rows g.J.Naming.clients g.J.Naming.first _ (rows_of c.with_entry.new.keeper) (ap (λ m. m.0.rows) w.keeper.1)
-          (rw c.entry-entry.ensures
-          (guarded_begun g.J.Naming.clients g.J.Naming.first _ c.self.invariant.1 c.begin.new.self e.promises (record { numbers = e.goes_on; queues = e.queues })
-          c.args.seat.client list w.before c.args.request.now c.events_in-next.result c.requires.idle
-          c.events_in-next.ensures c.in-Ok.began e.begun e.reply)),
-      c.self.invariant.2,
-    )
-
-pub invariant_of-self-in-Err : goal.invariant_of-self-in-Err
-invariant_of-self-in-Err g c =
-    let e = c.in-Err.ensures in
-    let k = c.known.ensures in
-    let r = c.args.request.now in (
-      (k.keeper.0, k.keeper.1 ∙ sym (ap (λ m. (keeper m.0.rows, [])) k.keeper.1)),
-      with_rows g.J.Naming.clients g.J.Naming.first _ (rows_of c.known.new.keeper) (ap (λ m. m.0.rows) k.keeper.1)
-          (guarded_unbegun g.J.Naming.clients g.J.Naming.first _ c.self.invariant.1 c.begin.new.self e.promises
-          (record { numbers = e.goes_on; queues = e.queues }) r.queue.0 c.args.seat.client (number_or_zero r.number) r.call
-          c.in-Err.refusal (answer_to c.self.inside.session r.queue.0 c.args.seat.client r.number) e.begun),
-      c.self.invariant.2,
-    )
 
 pub returns-in-Err-clause-errors : goal.returns-in-Err-clause-errors
 returns-in-Err-clause-errors g c =
     let r = c.args.request.now in
-    let e = c.in-Err.ensures in
-    why_refused g.J.Naming.clients g.J.Naming.first _ c.self.invariant.1 c.args.seat.client c.args.seat.list.items
-    c.known.ensures.known c.requires.idle r.queue r.number c.begin.new.self r.call c.in-Err.refusal e.begun e.stale
+    let refusal = c.in-Err.refusal in
+    let placed = subst (λ (b : Brokered). IsPlaced b r.name (Err refusal)) c.broker.ensures.broker c.in-Err.ensures in
+    unplaced g.J.Naming.clients g.J.Naming.first _ c.self.invariant.1 c.args.seat.list.items r refusal placed
 
 pub returns-in-Err-clause-settled : goal.returns-in-Err-clause-settled
 returns-in-Err-clause-settled g c = λ reply was.
     let r = c.args.request.now in
-    settled_start g.J.Naming.clients g.J.Naming.first _ c.self.invariant.1 c.args.seat.client r.queue r.number reply was
-    c.begin.new.self (number_or_zero r.number) r.call (Err c.in-Err.refusal) c.in-Err.ensures.begun
-
-pub returns-in-Ok-clause-settled : goal.returns-in-Ok-clause-settled
-returns-in-Ok-clause-settled g c = λ reply was.
-    let r = c.args.request.now in
-    settled_start g.J.Naming.clients g.J.Naming.first _ c.self.invariant.1 c.args.seat.client r.queue r.number reply was
-    c.begin.new.self (number_or_zero r.number) r.call (Ok c.in-Ok.began) c.in-Ok.ensures.begun
+    let refusal = c.in-Err.refusal in
+    let placed = subst (λ (b : Brokered). IsPlaced b r.name (Err refusal)) c.broker.ensures.broker c.in-Err.ensures in
+    unplaced_settled g.J.Naming.clients g.J.Naming.first _ c.self.invariant.1 c.args.seat.client r reply was refusal
+    placed

@@ -1,4 +1,4 @@
-use Rattle.std.proofs.Common.{ap, ◌∙◌}
+use Rattle.std.proofs.Common.{rules, ap, ◌∙◌, ◌≡◌}
 use Rattle.workers.specs.declared.locked.Creating.TheVariants.{UnderWay}
 use Rattle.session.specs.Sessions.{Sessioned}
 use Rattle.workers.proofs.Guarded.{guarded_still, known_if_begun}
@@ -21,6 +21,8 @@ invariant_of-self-2 g c =
 
 pub returns-clause-taken : goal.returns-clause-taken
 returns-clause-taken g c = λ has.
-    absurd (c.in_ok-create.ensures.may.is_new
-    (taken_still g.J.Naming.first.broker c.self.inside.session.broker c.self.inside.rotated c.args.name.now
-    c.self.invariant.1.came has))
+    let there =
+    taken_still g.J.Naming.first.broker c.self.inside.session.broker c.self.inside.rotated c.args.queue.now.name
+    c.self.invariant.1.came has in
+    let bytes : c.as_bytes.result.now ≡ c.args.queue.now.name = search rules in
+    absurd (c.in_ok-create.ensures.may.is_new (rw bytes there))

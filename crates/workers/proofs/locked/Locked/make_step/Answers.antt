@@ -28,6 +28,24 @@ invariant_of-self g c =
       c.self.invariant.2,
     )
 
+pub invariant_of-self-then-not-has : goal.invariant_of-self-then-not-has
+invariant_of-self-then-not-has g c =
+    let e = c.create_step.ensures in
+    let old = c.self.inside.session in
+    let new = c.create_step.new.self in
+    let well = c.self.invariant.1 in
+    let under_way = ap (λ (s : Guarded). s.creating) c.self.view_is ∙ c.requires.under_way in
+    let known = subst (λ (creating : Creating). IsCreationKnown old.broker creating) under_way well.creation in
+    let has = under_way_is old.broker known in
+    let is = c.in-Ok-Some.is ∙ ap Ok c.in-Ok-Some.field-0-is in (
+      c.self.invariant.0,
+      guarded_still g.J.Naming.clients g.J.Naming.first _ well new Nothing
+          (λ u. creation_carried old new well.promises has.0 c.create_step.result e.others has.1 e.step u) e.promises
+          (record { numbers = e.goes_on; queues = e.queues })
+          (known_after_last old.broker new.broker known c.create_step.result c.in-Ok-Some.slot is e.step).0,
+      c.self.invariant.2,
+    )
+
 pub invariant_of-self-in-Ok-Some : goal.invariant_of-self-in-Ok-Some
 invariant_of-self-in-Ok-Some g c =
     let e = c.create_step.ensures in
@@ -46,13 +64,13 @@ invariant_of-self-in-Ok-Some g c =
           (λ u. creation_carried old new well.promises has.0 c.create_step.result e.others has.1 e.step u) e.promises
           (record { numbers = e.goes_on; queues = e.queues })
           (known_after_last old.broker new.broker known c.create_step.result c.in-Ok-Some.slot is e.step).0)
-          (done_by_last old.broker new.broker known g.J.Naming.first.broker c.create_step.result c.in-Ok-Some.slot is e.step
-          well.done),
+          (rw c.copied.ensures (done_by_last old.broker new.broker known g.J.Naming.first.broker c.create_step.result c.in-Ok-Some.slot
+          c.args.queue.now is (c.has.ensures c.if-not-has.false) e.step well.done)),
       (k.0, k.1 ∙ sym (ap (λ m. (keeper m.0.rows, [])) k.1)),
     )
 
-pub returns-in-Ok-Some-clause-made : goal.returns-in-Ok-Some-clause-made
-returns-in-Ok-Some-clause-made g c =
+pub returns-else-not-has-clause-made : goal.returns-else-not-has-clause-made
+returns-else-not-has-clause-made g c =
     let e = c.create_step.ensures in
     let old = c.self.inside.session in
     let new = c.create_step.new.self in

@@ -1,4 +1,4 @@
-use Rattle.std.proofs.Common.{[], ap, sym, subst, ◌∙◌, length, List, false}
+use Rattle.std.proofs.Common.{[], ◌∷◌, ap, sym, subst, ◌∙◌, length, List, false}
 use Rattle.named.specs.GoingOn.{CameOf}
 use Rattle.named.proofs.Comings.{came_of_itself}
 use Rattle.roll.specs.Rule.{keeper}
@@ -9,7 +9,7 @@ use Rattle.session.specs.Sessions.{Sessioned}
 use Rattle.session.specs.Keeping.{SessionGoesOn}
 use Rattle.workers.specs.Following.{IsBeginning, beginnings}
 use Rattle.workers.specs.Lists.{events_at}
-use Rattle.workers.proofs.Guarded.{rows_begun, session_stays}
+use Rattle.workers.proofs.Guarded.{named_begun, rows_begun, session_stays}
 use Rattle.workers.proofs.locked.Locked.new.Goals as goal
 
 pub invariant_of-result : goal.invariant_of-result
@@ -21,13 +21,14 @@ invariant_of-result g c =
         clients = r.clients;
         followed = rows_begun (beginnings g.J.Naming.first false) c.args.session _
             (λ slot. ap (λ (s : Sessioned). length (events_at s.broker slot)) (sym r.first)) r.empty;
+        named = named_begun c.args.session.broker.directory _ r.empty;
         promises = r.beginning.promises;
         creation = r.beginning.quiet.creating;
         goes_on = subst (λ (s : Sessioned). SessionGoesOn s c.args.session) r.first (session_stays c.args.session);
         came = subst (λ (s : Sessioned). CameOf s.broker false c.args.session.broker) r.first (came_of_itself c.args.session.broker);
         done = subst (λ (rows : List (List Deed)). CameBy g.J.Naming.first.broker rows c.args.session.broker)
             (sym (ap (λ m. m.0.rows) r.register.1))
-            (subst (λ (s : Sessioned). CameBy s.broker [] c.args.session.broker) r.first nothing);
+            (subst (λ (s : Sessioned). CameBy s.broker ([] ∷ []) c.args.session.broker) r.first nothing);
       },
       (r.register.0, r.register.1 ∙ sym (ap (λ m. (keeper m.0.rows, [])) r.register.1)),
     )

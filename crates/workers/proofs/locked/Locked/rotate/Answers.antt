@@ -8,7 +8,7 @@ use Rattle.workers.specs.Deeds.{CameBy}
 use Rattle.workers.specs.Deeds.CameBy.{rotation}
 use Rattle.workers.specs.declared.deeds.Deed.{Deed}
 use Rattle.workers.specs.Following.{beginnings}
-use Rattle.workers.proofs.Guarded.{known_if_same, rows_begun, session_further}
+use Rattle.workers.proofs.Guarded.{known_if_same, named_begun, rows_begun, session_further}
 use Rattle.workers.proofs.Refusing.{rotation_refused}
 use Rattle.workers.proofs.Stops.{rotated_empty}
 use Rattle.workers.proofs.locked.Locked.rotate.Goals as goal
@@ -27,6 +27,7 @@ invariant_of-self-2 g c =
         clients = a.clients;
         followed = rows_begun (beginnings g.J.Naming.first true) new (rows_of c.all_emptied-seats.new.keeper)
             (λ slot. sym (ap (λ (es : List Event). length es) (rotated_empty old.broker new.broker e.rotated slot))) a.rows;
+        named = named_begun new.broker.directory (rows_of c.all_emptied-seats.new.keeper) a.rows;
         promises = e.promises;
         creation = known_if_same old.broker new.broker c.self.inside.creating
             (ap (λ (b : Brokered). b.recovery) e.rotated.same) (ap (λ (b : Brokered). b.creation) e.rotated.same)

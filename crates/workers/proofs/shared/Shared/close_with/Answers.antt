@@ -1,4 +1,4 @@
-use Rattle.std.proofs.Common.{◌≡◌, List, Some, ap, sym, subst}
+use Rattle.std.proofs.Common.{◌≡◌, List, Some, ap, sym, subst, ◌∙◌}
 use Rattle.std.specs.Prelude.{slice_get}
 use Rattle.roll.specs.Rule.{rows_of}
 use Rattle.session.specs.Sessions.{Sessioned}
@@ -18,14 +18,17 @@ returns-clause-lists g c =
     (λ k seat at. subst (λ (rows : List (List Entry)). slice_get rows k ≡ Some seat.list.items) same
     (c.all_known.ensures.each k seat at))
 
-pub returns-clause-receipts : goal.returns-clause-receipts
-returns-clause-receipts g c =
+pub returns-clause-deeds : goal.returns-clause-deeds
+returns-clause-deeds g c =
     let parts = c.into_parts-session.ensures in
+    let heard = c.hear.ensures in
     record {
-      deeds = rows_of c.into_parts-session.result.2.keeper;
+      deeds = rows_of c.hear.new.self.keeper;
       came = subst (λ (rows : List (List Deed)). CameBy g.J.Naming.first.broker rows c.into_parts-session.result.0.broker)
-          (sym (ap (λ me. me.0.rows) parts.register.1))
+          (sym (ap (λ me. me.0.rows) heard.keeper.1 ∙ ap (λ me. me.0.rows) parts.register.1))
           (subst (λ (s : Sessioned). CameBy g.J.Naming.first.broker c.into_inner.result.deeds s.broker) (sym parts.session)
           parts.well.done);
+      stopped = subst (λ (rows : List (List Deed)). slice_get rows 0 ≡ Some c.args.operator)
+          (sym (ap (λ me. me.0.rows) heard.keeper.1)) heard.known;
       among = c.honoured.ensures;
     }

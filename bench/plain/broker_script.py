@@ -1,0 +1,246 @@
+"""Scripts of a whole broker and their transcripts, by docs/SCRIPT.md, on the plain machine of a broker."""
+
+import hashlib
+import re
+
+import script
+from broker import NAME
+from broker_machine import BrokerMachine, booted
+from image import Broken, image_of
+from script import number_of, numbers_of, printed, read
+
+CREATION_STEPS = 12
+KINDS = {b"durable": "durable", b"log": "log"}
+# Lines of a queue's script that are about the whole memory, and those on one queue, by the numbers of each kind.
+WHOLE = {b"evict": "W", b"crash": ""}
+CODES = {"BadCount": "3 BadCount"}
+
+
+def name_in(word):
+    text = word.decode("latin-1")
+    return text if NAME.fullmatch(text) else None
+
+
+def broker_in(words):
+    return numbers_of(words[1:], "TK") if words[0] == b"broker" else None
+
+
+def creation_in(words):
+    """`create NAME KIND`, `create NAME KIND M`."""
+    if len(words) not in (3, 4) or name_in(words[1]) is None or words[2] not in KINDS:
+        return None
+    most = CREATION_STEPS if len(words) == 3 else number_of(words[3], *script.LIMITS["M"])
+    return most and ("create", name_in(words[1]), KINDS[words[2]], most)
+
+
+def steps_in(words, what, most):
+    """A line that goes on by a step, or to the end, or by at most so many."""
+    if len(words) > 1:
+        numbers = numbers_of(words[1:], "M")
+        return numbers and (what, numbers[0])
+    return what, most
+
+
+def on_queue(words):
+    """A line on one queue: of which kinds it is, and what it says."""
+    name = name_in(words[0][:-1])
+    if name is None or len(words) < 2:
+        return None
+    if words[1] == b"told":
+        numbers = numbers_of(words[2:], "C")
+        return numbers and ("told", name, numbers[0])
+    if words[1] not in script.SHAPES or words[1] in WHOLE:
+        return None
+    line = b" ".join(words[1:]).decode("latin-1")
+    shapes = zip(("durable", "log"), script.SHAPES[words[1]])
+    read = {kind: numbers_of(words[2:], shape) for kind, shape in shapes}
+    read = {kind: numbers for kind, numbers in read.items() if numbers is not None}
+    return ("on", name, line, words[1].decode(), read) if read else None
+
+
+def statement_in(words):
+    """What a line says after the first one, or None."""
+    if words[0].endswith(b":"):
+        return on_queue(words)
+    if words[0] == b"create":
+        return creation_in(words)
+    if words[0] == b"create-step":
+        return steps_in(words, "create-step", 1)
+    if words[0] == b"recover":
+        return steps_in(words, "recover", -1)
+    if words[0] == b"find":
+        return ("find", name_in(words[1])) if len(words) == 2 and name_in(words[1]) is not None else None
+    if words[0] == b"set":
+        numbers = numbers_of(words[1:], "WW")
+        return numbers and ("set", *numbers)
+    if words[0] in WHOLE:
+        numbers = numbers_of(words[1:], WHOLE[words[0]])
+        return None if numbers is None else (words[0].decode(), *numbers)
+    plain = (b"list", b"rotate", b"image", b"boot")
+    return (words[0].decode(),) if len(words) == 1 and words[0] in plain else None
+
+
+def may_follow(before, statement):
+    """Whether a line on a queue that lines before it create is on some kind of queue that they create."""
+    if statement[0] != "on":
+        return True
+    kinds = {each[2] for each in before if each[0] == "create" and each[1] == statement[1]}
+    return not kinds or bool(kinds & set(statement[4]))
+
+
+def next_statement(_, before, words):
+    """What a line says behind these, or None."""
+    statement = statement_in(words)
+    return statement if statement is not None and may_follow(before, statement) else None
+
+
+def parsed(text):
+    """The broker and the statements, or the number of the first bad line."""
+    return read(text, broker_in, next_statement)
+
+
+class Player:
+    """A broker that follows a script, and the words of the image that is remembered."""
+
+    def __init__(self, clients, records):
+        self.machine = BrokerMachine(clients, records)
+        self.remembered = []
+
+    def play(self, statement):
+        """What a line prints."""
+        return getattr(self, statement[0].replace("-", "_"))(*statement[1:])
+
+    def create(self, name, kind, most):
+        refusal = self.machine.create(name, kind)
+        return [f"refused {refusal}"] if refusal else self.go_on(most)
+
+    def create_step(self, most):
+        if self.machine.recovery:
+            return ["refused 12 NotReady"]
+        return self.go_on(most) if self.machine.creation else ["refused 14 Idle"]
+
+    def go_on(self, most):
+        for _ in range(most):
+            done = self.machine.create_step()
+            if done:
+                name, slot, steps = done
+                return [f"created {name} slot {slot} steps {steps}"]
+        return ["creating"]
+
+    def placed(self, name):
+        """The queue of this name, or why there is none."""
+        if self.machine.recovery:
+            return None, "12 NotReady"
+        slot = self.machine.find(name)
+        return (slot, None) if slot is not None else (None, "21 NoQueue")
+
+    def find(self, name):
+        slot, refusal = self.placed(name)
+        return [f"refused {refusal}" if refusal else f"found {name} slot {slot}"]
+
+    def list(self):
+        if self.machine.recovery:
+            return ["refused 12 NotReady"]
+        queues = [(slot, queue) for slot, queue in enumerate(self.machine.queues) if queue]
+        return [f"queues {len(queues)}"] + [f"slot {slot} {queue[0]} {queue[1].kind}" for slot, queue in queues]
+
+    def on(self, name, line, word, read):
+        slot, refusal = self.placed(name)
+        if refusal:
+            return [f"{name}: refused {refusal}"]
+        machine = self.machine.queues[slot][1]
+        if machine.kind not in read:
+            return [f"{name}: refused 22 WrongKind"]
+        return [f"{name}: {said}" for said in script.play(machine, line, word, read[machine.kind])]
+
+    def told(self, name, client):
+        slot, refusal = self.placed(name)
+        if refusal:
+            return [f"{name}: refused {refusal}"]
+        told = self.machine.queues[slot][2]
+        return [f"{name}: told {client} {told[client]}" if client < len(told) else f"{name}: refused 13 NoClient"]
+
+    def evict(self, word):
+        if word >= self.machine.size:
+            return ["refused 1 NoWord"]
+        return [f"evict {word} " + ("kept" if self.machine.keep(word) else "same")]
+
+    def crash(self):
+        self.machine.crash()
+        return ["crash"]
+
+    def recover(self, most):
+        if not self.machine.recovery:
+            return ["refused 15 AlreadyReady"]
+        while most != 0:
+            steps = self.machine.recover_step()
+            if steps:
+                return [f"ready steps {steps}", *self.tellings()]
+            most -= 1
+        return ["recovering"]
+
+    def tellings(self):
+        return [
+            f"{queue[0]}: told {client} {said}"
+            for queue in self.machine.queues if queue for client, said in enumerate(queue[2])
+        ]
+
+    def rotate(self):
+        if self.machine.recovery:
+            return ["refused 12 NotReady"]
+        if self.machine.is_busy():
+            return ["refused 10 Busy"]
+        self.machine.rotate()
+        return ["rotated"]
+
+    def image(self):
+        self.remembered = self.machine.words()
+        data = image_of(self.remembered)
+        return [f"image bytes {len(data)} digest {hashlib.sha256(data).hexdigest()[:8]}"]
+
+    def set(self, word, value):
+        if word >= len(self.remembered):
+            return ["refused 1 NoWord"]
+        was, self.remembered[word] = self.remembered[word], value
+        return [f"set {word} was {was}"]
+
+    def boot(self):
+        try:
+            self.machine = booted(list(self.remembered))
+        except Broken as broken:
+            rule = str(broken)
+            return [f"refused {CODES.get(rule, f'29 Damaged {rule}')}"]
+        return ["booted"]
+
+
+def check_orders(text):
+    """The first order in a transcript that does not explain what came before it on its queue, or None. Of a queue whose
+    history began anew, by a rotation or a boot, only the calls before that are looked at."""
+    lines = re.split(rb"(?m)^(?:rotated|booted)\n", text)[0].splitlines()
+    names = {line.split(b":")[0] for line in lines if re.match(rb"[a-z0-9_-]+: ", line)}
+    for name in sorted(names):
+        own = [line.removeprefix(name + b": ") for line in lines if line == b"crash" or line.startswith(name + b": ")]
+        broken = script.check_orders(b"\n".join(own))
+        if broken:
+            return f"{name.decode()}: {broken}"
+    return None
+
+
+def transcript(text):
+    """Standard output, standard error and the status of `pqx broker run`."""
+
+    def lines(broker, statements):
+        player = Player(*broker)
+        yield f"size {player.machine.size}"
+        for statement in statements:
+            yield from player.play(statement)
+
+    return printed(parsed(text), lines)
+
+
+if __name__ == "__main__":
+    import sys
+    output, said, status = transcript(sys.stdin.buffer.read())
+    sys.stdout.buffer.write(output)
+    sys.stderr.buffer.write(said)
+    sys.exit(status)

@@ -1,0 +1,4 @@
+pub mod Leading
+pub mod Drawing
+pub mod Explaining
+pub mod Sweeps

@@ -1,0 +1,22 @@
+use Rattle.named.proofs.GoingOn.{broker_goes_further}
+use Rattle.broker_script.specs.Recovering.{Recovers}
+use Rattle.broker_script.specs.Transcript.{Crashes}
+use Rattle.broker_script.proofs.Staying.{recovered_on, recovered_ready}
+use Rattle.broker_points.specs.Points.{nowhere, further}
+use Rattle.broker_points.proofs.point.stop_and_recover.Goals as goal
+
+pub returns-clause-leads : goal.returns-clause-leads
+returns-clause-leads c =
+    further c.in_ok-_stopped._stopped.items c.in_ok-_stopped.ensures.follows
+    (further c.in_ok-_told._told.items c.in_ok-_told.ensures.follows nowhere)
+
+pub returns-clause-ready : goal.returns-clause-ready
+returns-clause-ready c =
+    let recovery : Recovers c.follow.new.self c.in_ok-_told._told.items c.follow-2.new.self = c.in_ok-_told.ensures.follows in
+    recovered_ready recovery
+
+pub returns-clause-goes_on : goal.returns-clause-goes_on
+returns-clause-goes_on c =
+    let crash : Crashes c.args.player.now c.in_ok-_stopped._stopped.items c.follow.new.self = c.in_ok-_stopped.ensures.follows in
+    let recovery : Recovers c.follow.new.self c.in_ok-_told._told.items c.follow-2.new.self = c.in_ok-_told.ensures.follows in
+    broker_goes_further c.args.player.now.broker c.follow.new.self.broker c.follow-2.new.self.broker crash.goes_on (recovered_on recovery)

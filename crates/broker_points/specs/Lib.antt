@@ -1,0 +1,4 @@
+pub mod Points
+pub mod Reports
+pub mod Sweep
+pub mod Run

@@ -1,0 +1,146 @@
+//! Images of the memory of a broker that follows a script: the one that is remembered, and a broker that begins on it.
+
+ghost use Rattle.std.specs.Prelude.{◌≡◌, ◌≢◌, ◌⊎◌, ◌∷◌, [], Ok, Err, IfOk, IfErr, OnOk, IsOk, length};
+ghost use Rattle.persist.specs.Image.{reading};
+ghost use Rattle.persist.specs.Memory.{words_at_rest};
+ghost use Rattle.named.specs.Booting.{AreBootWords, IsBooted, MayRefuse};
+ghost use Rattle.named.specs.Promises.{KeepsPromises};
+ghost use Rattle.broker_script.specs.Imaging.{boot_line, digest_of, Boots, Images, IsOfBadCount, SetsWord};
+ghost use Rattle.broker_script.specs.Play.{new_played};
+
+use crate::acts::push;
+use crate::lines::{one, refused};
+use crate::player::{Player, no_steps};
+use crate::printed::Printed;
+use named::Broker;
+use persist::{KeptWords, Memory};
+use playing::Line;
+use sha2::{Digest, Sha256};
+use std::alloc::Global;
+use words::{Item, Refusal};
+
+/// The first four bytes of the SHA-256 of these.
+fn digest(bytes: &[u8]) -> Item
+    ensures { result ≡ digest_of bytes.now }
+{
+    let mut hasher = Sha256::new();
+    hasher.update(bytes);
+    let whole = hasher.finalize();
+    Item::make(&whole[..4]).unwrap()
+}
+
+/// The kept words of a memory.
+fn kept_words(alloc: Global, memory: &Memory) -> Result<Vec<u64>, Refusal>
+    ensures words { IfOk result (λ words. words.items ≡ memory.now.words.kept) }
+    ensures errors { IfErr result (λ e. e ≡ Refusal.NoMemory) }
+{
+    let mut words = Vec::new(alloc);
+    for word in 0..memory.size() {
+        push(&mut words, memory.kept(word))?;
+    }
+    Ok(words)
+}
+
+/// The words of an image.
+fn words_of(alloc: Global, image: &[u8]) -> Result<Vec<u64>, Refusal>
+    requires { IsOk (reading image.now) }
+    ensures words { IfOk result (λ words. reading image.now ≡ Ok words.items) }
+    ensures errors { IfErr result (λ e. e ≡ Refusal.NoMemory) }
+{
+    let Ok(memory) = Memory::from_image(alloc, image) else {
+        return Err(Refusal::NoMemory);
+    };
+    kept_words(alloc, &memory)
+}
+
+/// A broker that begins on these words.
+fn booted(alloc: Global, image: &[u64]) -> Result<Broker, Refusal>
+    ensures booted { IfOk result (IsBooted (words_at_rest image.now)) }
+    ensures sound { OnOk result (AreBootWords image.now) }
+    ensures errors { IfErr result (λ e. (e ≡ Refusal.NoMemory) ⊎ (IsOfBadCount image.now e ⊎ MayRefuse image.now e)) }
+    ensures none { length image.now ≡ 0 → (result ≡ Err Refusal.BadCount) ⊎ (result ≡ Err Refusal.NoMemory) }
+    ensures promises { IfOk result KeepsPromises }
+{
+    let Ok(words) = image.to_vec(alloc) else {
+        return Err(Refusal::NoMemory);
+    };
+    Broker::boot(alloc, Memory::of(alloc, words)?)
+}
+
+/// A line that says why no broker began, and which rule the words break; want of memory is no line.
+fn unbooted(alloc: Global, refusal: Refusal) -> Result<Vec<Printed>, Refusal>
+    ensures line { IfOk result (λ lines. (refusal ≢ Refusal.NoMemory) × (lines.items ≡ boot_line (Err refusal) ∷ [])) }
+    ensures errors { IfErr result (λ e. e ≡ Refusal.NoMemory) }
+{
+    match refusal {
+        Refusal::Damaged(rule) => one(alloc, Printed::Unsound(rule)),
+        _ => refused(alloc, refusal),
+    }
+}
+
+impl Player {
+    /// Remembers these words.
+    fn keep_words(&mut self, words: Vec<u64>)
+        ensures { self.new ≡ record self.old { image = words.items } }
+    {
+        self.image = words;
+    }
+
+    /// Shows the image of the broker's memory, and remembers its words.
+    pub(crate) fn remember(&mut self, alloc: Global) -> Result<Vec<Printed>, Refusal>
+        ensures images { IfOk result (λ lines. Images self.old lines.items self.new) }
+        ensures errors { IfErr result (λ e. e ≡ Refusal.NoMemory) }
+    {
+        let image = self.broker.to_image()?;
+        let line = Printed::Image {
+            size: image.len(),
+            digest: digest(&image),
+        };
+        let words = words_of(alloc, &image)?;
+        self.keep_words(words);
+        one(alloc, line)
+    }
+
+    /// Changes a word of the remembered image, and shows which value it had.
+    pub(crate) fn set_word(
+        &mut self,
+        alloc: Global,
+        word: u64,
+        value: u64,
+    ) -> Result<Vec<Printed>, Refusal>
+        ensures sets { IfOk result (λ lines. SetsWord self.old word value lines.items self.new) }
+        ensures errors { IfErr result (λ e. e ≡ Refusal.NoMemory) }
+    {
+        if word as usize >= self.image.len() {
+            return one(alloc, Printed::Whole(Line::Refused(Refusal::NoWord)));
+        }
+        let was = self.image[word as usize];
+        self.image[word as usize] = value;
+        one(alloc, Printed::WasSet { word, was })
+    }
+
+    /// Goes on with this broker, on which no step was made.
+    fn begin_with(&mut self, broker: Broker)
+        requires { KeepsPromises broker }
+        ensures { self.new ≡ record (new_played broker) { image = self.old.image } }
+    {
+        self.broker = broker;
+        self.steps = no_steps();
+        self.creation = 0;
+        self.recovery = 0;
+    }
+
+    /// A broker begins on the remembered image, in place of the one before.
+    pub(crate) fn boot(&mut self, alloc: Global) -> Result<Vec<Printed>, Refusal>
+        ensures boots { IfOk result (λ lines. Boots self.old lines.items self.new) }
+        ensures errors { IfErr result (λ e. e ≡ Refusal.NoMemory) }
+    {
+        match booted(alloc, &self.image) {
+            Ok(broker) => {
+                self.begin_with(broker);
+                one(alloc, Printed::Booted)
+            }
+            Err(refusal) => unbooted(alloc, refusal),
+        }
+    }
+}

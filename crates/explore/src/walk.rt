@@ -1,0 +1,123 @@
+//! Points that one worker makes, one after another.
+
+ghost use Rattle.std.specs.Prelude.{◌≡◌, ◌<◌, ◌≤◌, ◌+◌, ◌-◌, ◌++◌, ◌∷◌, [], OnOk, IfOk, IfErr, length, map, take};
+ghost use Rattle.std.specs.List.{range_with_len};
+ghost use Rattle.interleave.specs.Holds.{Holds};
+ghost use Rattle.interleave.specs.State.{State, after_acts};
+ghost use Rattle.explore.specs.Points.{found_of, found_at, found_stopped};
+
+use crate::evictions::Evictions;
+use crate::point::{Point, crash};
+use crate::spare::Spare;
+use crate::stop::{Seen, no_history, nothing_seen, stop};
+use arena::Layout;
+use events::History;
+use interleave::{Act, World};
+use persist::Memory;
+use playing::{attempt, attempt_all};
+use std::alloc::Global;
+use words::Refusal;
+
+/// Adds a point.
+fn push(points: &mut Vec<Point>, point: Point) -> Result<(), Refusal>
+    ensures points { OnOk result (points.new.items ≡ points.old.items ++ point ∷ []) }
+    ensures errors { IfErr result (λ e. e ≡ Refusal.NoMemory) }
+{
+    points.push(point).map_err(|_| Refusal::NoMemory)
+}
+
+/// Adds what is found if a world stops now.
+fn add_stop(
+    points: &mut Vec<Point>,
+    alloc: Global,
+    world: &World,
+    copy: &mut Memory,
+    history: &mut History,
+    seen: &mut Seen,
+) -> Result<(), Refusal>
+    requires holds { Holds world.now.now }
+    requires size { length copy.old.words.kept ≡ length world.now.now.words.kept }
+    ensures points { OnOk result (map found_of points.new.items
+        ≡ map found_of points.old.items ++ found_stopped world.now.now ∷ []) }
+    ensures size { length copy.new.words.kept ≡ length copy.old.words.kept }
+    ensures errors { IfErr result (λ e. e ≡ Refusal.NoMemory) }
+{
+    let found = stop(alloc, world, copy, history, seen, points.last())?;
+    push(points, found)
+}
+
+/// Makes the act at this place, if there is one.
+fn go_on(world: &mut World, acts: &[Act], point: usize) -> Result<(), Refusal>
+    ensures world { OnOk result ((w : State) → world.old.now ≡ after_acts w (take point acts.now)
+        → world.new.now ≡ after_acts w (take (point + 1) acts.now)) }
+    ensures errors { IfErr result (λ e. e ≡ Refusal.NoMemory) }
+{
+    if point < acts.len() {
+        attempt(world, acts[point])?;
+    }
+    Ok(())
+}
+
+/// The points from one on, up to another, where no word is evicted. One world makes the acts, and at each point a copy
+/// of what it keeps recovers.
+pub(crate) fn stopped_points(
+    alloc: Global,
+    layout: Layout,
+    acts: &[Act],
+    from: usize,
+    to: usize,
+) -> Result<Vec<Point>, Refusal>
+    requires ordered { from < to }
+    requires within { to ≤ length acts.now + 1 }
+    ensures points { IfOk result (λ points. map found_of points.items
+        ≡ map (found_at layout acts.now Evictions.None) (range_with_len from (to - from))) }
+    ensures errors { IfErr result (λ e. e ≡ Refusal.NoMemory) }
+{
+    let mut world = World::make(alloc, layout)?;
+    attempt_all(&mut world, &acts[..from])?;
+    let mut copy = Memory::new(alloc, layout.size())?;
+    let mut history = no_history(alloc);
+    let mut seen = nothing_seen(alloc);
+    let mut points = Vec::new(alloc);
+    for point in from..to {
+        // Its clauses make known what holds of the world.
+        let _ = world.history();
+        add_stop(
+            &mut points,
+            alloc,
+            &world,
+            &mut copy,
+            &mut history,
+            &mut seen,
+        )?;
+        go_on(&mut world, acts, point)?;
+    }
+    Ok(points)
+}
+
+/// The same where words are evicted. An eviction may make a call take effect, and which one is the world's to know: so
+/// each point has a world of its own, which makes all acts.
+pub(crate) fn evicted_points(
+    alloc: Global,
+    layout: Layout,
+    acts: &[Act],
+    evictions: Evictions,
+    from: usize,
+    to: usize,
+) -> Result<Vec<Point>, Refusal>
+    requires ordered { from < to }
+    requires within { to ≤ length acts.now + 1 }
+    ensures points { IfOk result (λ points. map found_of points.items
+        ≡ map (found_at layout acts.now evictions) (range_with_len from (to - from))) }
+    ensures errors { IfErr result (λ e. e ≡ Refusal.NoMemory) }
+{
+    let mut spare = Spare::none();
+    let mut points = Vec::new(alloc);
+    for point in from..to {
+        push(
+            &mut points,
+            crash(alloc, &mut spare, layout, &acts[..point], evictions)?,
+        )?;
+    }
+    Ok(points)
+}

@@ -1,0 +1,13 @@
+pub mod Chunks
+pub mod Frames
+pub mod Replays
+pub mod Heads
+pub mod Writes
+pub mod FramesRead
+pub mod HeadsRead
+pub mod JournalsRead
+pub mod Cuts
+pub mod Appends
+pub mod FramesWritten
+pub mod HeadsWritten
+pub mod OnlyJournals

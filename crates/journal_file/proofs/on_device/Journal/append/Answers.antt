@@ -1,0 +1,96 @@
+use Rattle.std.proofs.Common.{◌≡◌, ◌+◌, ◌++◌, true, false, length, take, drop, arith, rules, ap, ◌∙◌, subst}
+use Rattle.std.specs.Io.KnownBytes.{append_known}
+use Rattle.journal.specs.Journal.{End, applied}
+use Rattle.journal.proofs.FramesRead.{length-applied}
+use Rattle.journal_file.specs.Appended.{AppendsPart}
+use Rattle.journal_file.specs.OnDevice.{HasMore, HasNoMore, OnDevice}
+use Rattle.journal_file.proofs.Steps.{append_done, append_failed, on, refused, size_of_words, written}
+use Rattle.journal_file.proofs.on_device.Journal.append.Goals as goal
+
+pub returns-in-Err-clause-errors : goal.returns-in-Err-clause-errors
+returns-in-Err-clause-errors g c =
+    let i = c.self.inside in
+    let a = g.F.Appender in
+    let inv = c.self.invariant in
+    let was : g.F.Appender.failed c.self.inside.device ≡ false = search rules in
+    refused c.in-Err.refusal c.args.changes.now i.writer.size c.args.self.now.words _ _ _
+    (size_of_words inv.0 inv.1 inv.2 inv.3 _ inv.4 was ∙ ap (λ (j : OnDevice). length j.words) c.self.view_is)
+    (ap (λ (end : End). on i.words.items end i.size i.kept (a.appended i.device) (a.kept i.device) (a.failed i.device)) c.in-Err.ensures.stays ∙ c.self.view_is)
+    c.in-Err.ensures.errors
+
+pub invariant_of-self-then-is_err : goal.invariant_of-self-then-is_err
+invariant_of-self-then-is_err g c =
+    let i = c.self.inside in
+    let a = g.F.Appender in
+    let inv = c.self.invariant in
+    let was : g.F.Appender.failed c.self.inside.device ≡ false = search rules in
+    let is : g.F.Appender.failed c.append.new.self ≡ true = search rules in
+    let part : AppendsPart (g.F.Appender.appended c.self.inside.device) (g.F.Appender.appended c.append.new.self) c.deref.result.now = search rules in (
+      inv.0,
+      inv.1,
+      inv.2,
+      inv.3,
+      append_failed (record { kept = i.kept; changes = c.args.changes.now }) i.words.items i.writer c.frame.new.self i.size i.kept (a.appended i.device) (a.appended c.append.new.self)
+          (a.kept i.device) (a.kept c.append.new.self) (a.failed i.device) (a.failed c.append.new.self) c.deref.result.now c.frame.new.out.items c.new-frame.result.items
+          was is c.append.ensures.kept c.in_default.ensures.batch c.deref.ensures.value c.in_default.ensures.ok c.new-frame.ensures.items part inv.0 inv.1 inv.2 inv.3 inv.4,
+    )
+
+pub returns-then-is_err-clause-no_more : goal.returns-then-is_err-clause-no_more
+returns-then-is_err-clause-no_more g c =
+    let i = c.self.inside in
+    let a = g.F.Appender in
+    let was : g.F.Appender.failed c.self.inside.device ≡ false = search rules in
+    let is : g.F.Appender.failed c.append.new.self ≡ true = search rules in
+    let part : AppendsPart (g.F.Appender.appended c.self.inside.device) (g.F.Appender.appended c.append.new.self) c.deref.result.now = search rules in
+    subst (λ (j : OnDevice). HasNoMore j (on i.words.items c.frame.new.self i.size i.kept (a.appended c.append.new.self) (a.kept c.append.new.self) (a.failed c.append.new.self))) c.self.view_is
+    (append_failed (record { kept = i.kept; changes = c.args.changes.now }) i.words.items i.writer c.frame.new.self i.size i.kept (a.appended i.device) (a.appended c.append.new.self)
+    (a.kept i.device) (a.kept c.append.new.self) (a.failed i.device) (a.failed c.append.new.self) c.deref.result.now c.frame.new.out.items c.new-frame.result.items
+    was is c.append.ensures.kept c.in_default.ensures.batch c.deref.ensures.value c.in_default.ensures.ok c.new-frame.ensures.items part)
+
+pub apply-requires : goal.apply-requires
+apply-requires g c = λ k d inside.
+    let inv = c.self.invariant in
+    let was : g.F.Appender.failed c.self.inside.device ≡ false = search rules in
+    let there : length c.deref_mut.result.now ≡ length c.self.inside.words.items = search rules in
+    let one = c.in_default.ensures.batch in
+    omega (arith, there, (one.within k d inside).word, size_of_words inv.0 inv.1 inv.2 inv.3 _ inv.4 was)
+
+pub invariant_of-self-2 : goal.invariant_of-self-2
+invariant_of-self-2 g c =
+    let i = c.self.inside in
+    let a = g.F.Appender in
+    let inv = c.self.invariant in
+    let was : g.F.Appender.failed c.self.inside.device ≡ false = search rules in
+    let is : g.F.Appender.failed c.append.new.self ≡ false = search rules in
+    let all : g.F.Appender.appended c.append.new.self ≡ append_known (g.F.Appender.appended c.self.inside.device) c.deref.result.now = search rules in
+    let items : c.deref_mut.result.now ≡ c.self.inside.words.items = search rules in
+    let long : c.self.inside.words.len ≡ length c.self.inside.words.items = search rules in
+    let longer : c.self.inside.size + c.len.result ≡ c.self.inside.size + length c.deref.result.now = search rules in (
+      inv.0,
+      inv.1,
+      _,
+      inv.3,
+      append_done (record { kept = i.kept; changes = c.args.changes.now }) i.words.items (take i.words.len (c.apply.new.words ++ drop (length c.apply.new.words) i.words.items)) i.writer c.frame.new.self i.size (i.size + c.len.result) i.kept
+          (a.appended i.device) (a.appended c.append.new.self) (a.kept i.device) (a.kept c.append.new.self) (a.failed i.device) (a.failed c.append.new.self) c.deref.result.now c.frame.new.out.items c.new-frame.result.items
+          was is c.append.ensures.kept c.in_default.ensures.batch c.deref.ensures.value c.in_default.ensures.ok c.new-frame.ensures.items all
+          (written i.words.len i.words.items c.apply.new.words (applied c.args.changes.now i.words.items) long (length-applied c.args.changes.now i.words.items) (c.apply.ensures ∙ ap (applied c.args.changes.now) items))
+          c.in_default.ensures.goes_on longer inv.0 inv.1 inv.2 inv.3 inv.4,
+    )
+
+pub returns-clause-journal : goal.returns-clause-journal
+returns-clause-journal g c =
+    let i = c.self.inside in
+    let a = g.F.Appender in
+    let was : g.F.Appender.failed c.self.inside.device ≡ false = search rules in
+    let is : g.F.Appender.failed c.append.new.self ≡ false = search rules in
+    let all : g.F.Appender.appended c.append.new.self ≡ append_known (g.F.Appender.appended c.self.inside.device) c.deref.result.now = search rules in
+    let items : c.deref_mut.result.now ≡ c.self.inside.words.items = search rules in
+    let long : c.self.inside.words.len ≡ length c.self.inside.words.items = search rules in
+    let longer : c.self.inside.size + c.len.result ≡ c.self.inside.size + length c.deref.result.now = search rules in
+    subst (λ (j : OnDevice). HasMore (record { kept = j.kept; changes = c.args.changes.now }) j
+    (on (take i.words.len (c.apply.new.words ++ drop (length c.apply.new.words) i.words.items)) c.frame.new.self (i.size + c.len.result) i.kept (a.appended c.append.new.self) (a.kept c.append.new.self) (a.failed c.append.new.self))) c.self.view_is
+    (append_done (record { kept = i.kept; changes = c.args.changes.now }) i.words.items (take i.words.len (c.apply.new.words ++ drop (length c.apply.new.words) i.words.items)) i.writer c.frame.new.self i.size (i.size + c.len.result) i.kept
+    (a.appended i.device) (a.appended c.append.new.self) (a.kept i.device) (a.kept c.append.new.self) (a.failed i.device) (a.failed c.append.new.self) c.deref.result.now c.frame.new.out.items c.new-frame.result.items
+    was is c.append.ensures.kept c.in_default.ensures.batch c.deref.ensures.value c.in_default.ensures.ok c.new-frame.ensures.items all
+    (written i.words.len i.words.items c.apply.new.words (applied c.args.changes.now i.words.items) long (length-applied c.args.changes.now i.words.items) (c.apply.ensures ∙ ap (applied c.args.changes.now) items))
+    c.in_default.ensures.goes_on longer)

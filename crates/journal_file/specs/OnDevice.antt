@@ -1,0 +1,65 @@
+-- Journals on a device.
+use Rattle.std.specs.Prelude.{◌≡◌, ℕ, ◌≤◌, Bool, true, false, List, [], ◌∷◌, ◌++◌, Option, length, take, IfSome}
+use Rattle.journal.specs.Frame.{Batch}
+use Rattle.journal.specs.Journal.{End, IsJournal, end_of, journal_of, words_after}
+
+-- a journal with its device, as contracts see it
+pub record OnDevice : Type 0 where
+  -- the words after all its batches
+  pub words : List ℕ
+  -- where it goes on
+  pub end : End
+  -- how many bytes it has, and how many of them were there when all were last kept
+  pub size : ℕ
+  pub kept : ℕ
+  -- what its device has, how many bytes of that no stop takes away, and whether it has failed
+  pub appended : Option (List ℕ)
+  pub lasting : ℕ
+  pub failed : Bool
+
+-- it goes on behind the last of these batches, and the device has their journal
+pub record GoesOn (key base : List ℕ) (batches : List Batch) (j : OnDevice) : Type 0 where
+  pub end : j.end ≡ end_of key base batches
+  pub text : IfSome j.appended (λ bytes. bytes ≡ journal_of key base batches)
+
+-- bytes are the journal of these batches, and a part of a frame more
+pub record HasPart (key base : List ℕ) (batches : List Batch) (bytes : List ℕ) : Type 0 where
+  pub more : List Batch
+  pub one : length more ≤ 1
+  pub journal : IsJournal key base (batches ++ more)
+  pub n : ℕ
+  pub whole : length (journal_of key base batches) ≤ n
+  pub text : bytes ≡ take n (journal_of key base (batches ++ more))
+
+-- it is the journal of this key, these words and these batches, of which so many were there when all was last kept
+pub record IsOf (key base : List ℕ) (batches : List Batch) (count : ℕ) (j : OnDevice) : Type 0 where
+  pub journal : IsJournal key base batches
+  pub words : j.words ≡ words_after batches base
+  pub size : j.size ≡ length (journal_of key base batches)
+  pub some : count ≤ length batches
+  pub kept : j.kept ≡ length (journal_of key base (take count batches))
+  pub lasting : IfSome j.appended (λ bytes. j.kept ≤ j.lasting)
+  pub going : j.failed ≡ false → GoesOn key base batches j
+  pub over : j.failed ≡ true → IfSome j.appended (HasPart key base batches)
+
+-- it is a journal
+abbrev pub IsSomeJournal : OnDevice → Type 0
+IsSomeJournal j = (key base : List ℕ) × (batches : List Batch) × (count : ℕ) × IsOf key base batches count j
+
+-- it has this batch more
+abbrev pub HasMore : Batch → OnDevice → OnDevice → Type 0
+HasMore batch old new =
+    (key base : List ℕ) (batches : List Batch) (count : ℕ)
+    → IsOf key base batches count old → IsOf key base (batches ++ batch ∷ []) count new
+
+-- all its batches are there now as all was last kept
+abbrev pub KeepsAll : OnDevice → OnDevice → Type 0
+KeepsAll old new =
+    (key base : List ℕ) (batches : List Batch) (count : ℕ)
+    → IsOf key base batches count old → IsOf key base batches (length batches) new
+
+-- it has no batch more
+abbrev pub HasNoMore : OnDevice → OnDevice → Type 0
+HasNoMore old new =
+    (key base : List ℕ) (batches : List Batch) (count : ℕ)
+    → IsOf key base batches count old → IsOf key base batches count new

@@ -1,0 +1,114 @@
+use Rattle.std.proofs.Common.{rules, length, ◌≡◌, ◌≤◌, ℕ, List, Err, refl, sym, ap, subst, ◌∙◌, arith}
+use Rattle.std.specs.Prelude.{IfErr}
+use Rattle.words.specs.declared.refusal.Refusal.TheVariants.{NoRoom}
+use Rattle.persist.specs.Memory.{Words}
+use Rattle.arena.specs.Shape.{Counts}
+use Rattle.directory.specs.Sound.{AreBrokerWords, counts_in}
+use Rattle.renewal.specs.Broker.{IsBrokerRenewalOf, broker_renewed}
+use Rattle.named.specs.Booting.{AreBootWords}
+use Rattle.named.specs.Brokers.{Brokered}
+use Rattle.named.specs.Renewing.{AreCountsFor, IsWhyUnrenewed}
+use Rattle.named.proofs.Promises.{boots_well}
+use Rattle.named.proofs.Renewed.{may_be_renewed, not_both, not_refused, renewed_if, unfit, unfit_as, unrenewed_if}
+use Rattle.named.proofs.broker.Broker.renewed.Goals as goal
+
+pub unreachable-requires : goal.unreachable-requires
+unreachable-requires c =
+    let b : Brokered = record { counts = c.self.inside.layout; words = c.self.inside.memory.words; slots = c.self.inside.slots.items; directory = c.self.inside.directory; creation = c.self.inside.creation; recovery = c.self.inside.recovery } in
+    let kept : c.crash.new.self.words.kept ≡ b.words.kept = ap (λ (ws : Words). ws.kept) c.crash.ensures.words in
+    let sound : AreBrokerWords c.crash.new.self.words.kept = subst AreBrokerWords (sym kept) (boots_well b c.self.invariant.well).broker in
+    not_refused c.sound.result c.in_default.field-0 (c.sound.ensures.ok.1 sound) c.in_default.is
+
+pub renewed_broker-requires : goal.renewed_broker-requires
+renewed_broker-requires c =
+    let b : Brokered = record { counts = c.self.inside.layout; words = c.self.inside.memory.words; slots = c.self.inside.slots.items; directory = c.self.inside.directory; creation = c.self.inside.creation; recovery = c.self.inside.recovery } in
+    let kept : c.crash.new.self.words.kept ≡ b.words.kept = ap (λ (ws : Words). ws.kept) c.crash.ensures.words in
+    let crashed : c.crash.new.self.words.cached ≡ c.crash.new.self.words.kept =
+    subst (λ (ws : Words). ws.cached ≡ ws.kept) (sym c.crash.ensures.words) refl in
+    let asked : c.in_ok-to.to.clients ≡ c.args.clients = ap (λ (k : Counts). k.clients) c.in_ok-to.ensures.made in
+    let more : c.in-Ok.kept.layout.clients ≤ c.in_ok-to.to.clients = omega (arith, c.if-clients.false, c.clients.ensures.value, asked) in
+    may_be_renewed c.crash.new.self.words c.in-Ok.kept.layout c.in-Ok.kept.directory c.in_ok-to.to (ap length crashed)
+    (subst AreBootWords (sym kept) (boots_well b c.self.invariant.well)) c.in-Ok.ensures.layout c.in-Ok.ensures.directory more
+
+pub returns-in_err-words-clause-errors : goal.returns-in_err-words-clause-errors
+returns-in_err-words-clause-errors c =
+    let old : List ℕ = c.args.self.words.kept in
+    let to : Counts = record { clients = c.args.clients; records = c.args.records } in
+    let kept : c.crash.new.self.words.kept ≡ old =
+    ap (λ (ws : Words). ws.kept) c.crash.ensures.words ∙ ap (λ (x : Brokered). x.words.kept) c.self.view_is in
+    let counts : c.in-Ok.kept.layout ≡ counts_in old = c.in-Ok.ensures.layout ∙ ap counts_in kept in
+    let more : (counts_in old).clients ≤ c.args.clients =
+    omega (arith, c.if-clients.false, c.clients.ensures.value, ap (λ (k : Counts). k.clients) counts) in
+    let may : AreCountsFor old to = record { clients = more; counts = c.in_ok-to.ensures.ok.0 refl } in
+    let e = c.in_err-words.field-0.0 in
+    let why : IsWhyUnrenewed old to e =
+    unfit old to e may c.in_err-words.ensures.errors
+    (λ room. unfit_as c.crash.new.self.words.kept old c.in_ok-to.to to (sym kept) (sym c.in_ok-to.ensures.made) (c.renewed_broker.ensures.no_room.0 (c.in_err-words.was ∙ ap Err room))) in
+    let answer : c.from_residual-in_err-words.result ≡ Err e = search rules in
+    subst (λ r. IfErr r (IsWhyUnrenewed old to)) (sym answer) why
+
+pub returns-in_err-words-clause-no_room : goal.returns-in_err-words-clause-no_room
+returns-in_err-words-clause-no_room c = λ may over.
+    let old : List ℕ = c.args.self.words.kept in
+    let to : Counts = record { clients = c.args.clients; records = c.args.records } in
+    let kept : c.crash.new.self.words.kept ≡ old =
+    ap (λ (ws : Words). ws.kept) c.crash.ensures.words ∙ ap (λ (x : Brokered). x.words.kept) c.self.view_is in
+    let refused = c.renewed_broker.ensures.no_room.1 (unfit_as old c.crash.new.self.words.kept to c.in_ok-to.to kept c.in_ok-to.ensures.made over) in
+    let answer : c.from_residual-in_err-words.result ≡ Err c.in_err-words.field-0.0 = search rules in
+    cc (answer, refused, c.in_err-words.was)
+
+pub returns-in_default-of-clause-no_room : goal.returns-in_default-of-clause-no_room
+returns-in_default-of-clause-no_room c = λ may over.
+    let old : List ℕ = c.args.self.words.kept in
+    let to : Counts = record { clients = c.args.clients; records = c.args.records } in
+    let kept : c.crash.new.self.words.kept ≡ old =
+    ap (λ (ws : Words). ws.kept) c.crash.ensures.words ∙ ap (λ (x : Brokered). x.words.kept) c.self.view_is in
+    let refused = c.renewed_broker.ensures.no_room.1 (unfit_as old c.crash.new.self.words.kept to c.in_ok-to.to kept c.in_ok-to.ensures.made over) in
+    absurd (not_both c.renewed_broker.result c.in_ok-words.words NoRoom c.in_ok-words.was refused)
+
+pub returns-clause-no_room : goal.returns-clause-no_room
+returns-clause-no_room c = λ may over.
+    let old : List ℕ = c.args.self.words.kept in
+    let to : Counts = record { clients = c.args.clients; records = c.args.records } in
+    let kept : c.crash.new.self.words.kept ≡ old =
+    ap (λ (ws : Words). ws.kept) c.crash.ensures.words ∙ ap (λ (x : Brokered). x.words.kept) c.self.view_is in
+    let refused = c.renewed_broker.ensures.no_room.1 (unfit_as old c.crash.new.self.words.kept to c.in_ok-to.to kept c.in_ok-to.ensures.made over) in
+    absurd (not_both c.renewed_broker.result c.in_ok-words.words NoRoom c.in_ok-words.was refused)
+
+pub returns-clause-renewed : goal.returns-clause-renewed
+returns-clause-renewed c =
+    let old : List ℕ = c.args.self.words.kept in
+    let to : Counts = record { clients = c.args.clients; records = c.args.records } in
+    let b : Brokered = record { counts = c.self.inside.layout; words = c.self.inside.memory.words; slots = c.self.inside.slots.items; directory = c.self.inside.directory; creation = c.self.inside.creation; recovery = c.self.inside.recovery } in
+    let boots : AreBootWords old = subst (λ (x : Brokered). AreBootWords x.words.kept) c.self.view_is (boots_well b c.self.invariant.well) in
+    let kept : c.crash.new.self.words.kept ≡ old =
+    ap (λ (ws : Words). ws.kept) c.crash.ensures.words ∙ ap (λ (x : Brokered). x.words.kept) c.self.view_is in
+    let counts : c.in-Ok.kept.layout ≡ counts_in old = c.in-Ok.ensures.layout ∙ ap counts_in kept in
+    let more : (counts_in old).clients ≤ c.args.clients =
+    omega (arith, c.if-clients.false, c.clients.ensures.value, ap (λ (k : Counts). k.clients) counts) in
+    let may : AreCountsFor old to = record { clients = more; counts = c.in_ok-to.ensures.ok.0 refl } in
+    let new : List ℕ = c.in_ok-words.words.items in
+    let same : IsBrokerRenewalOf old to new =
+    subst (λ (k : Counts). IsBrokerRenewalOf old k new) c.in_ok-to.ensures.made
+    (subst (λ (ws : List ℕ). IsBrokerRenewalOf ws c.in_ok-to.to new) kept c.in_ok-words.ensures.same) in
+    let is : new ≡ broker_renewed to old =
+    c.in_ok-words.ensures.renewed ∙ ap (λ (k : Counts). broker_renewed k c.crash.new.self.words.kept) c.in_ok-to.ensures.made ∙ ap (broker_renewed to) kept in
+    renewed_if old to new c.in-Ok-of.renewed.words c.boot.result boots.broker.head.counts.few_clients may same is c.in-Ok-of.ensures.made c.boot.ensures.booted
+
+pub returns-clause-errors : goal.returns-clause-errors
+returns-clause-errors c =
+    let old : List ℕ = c.args.self.words.kept in
+    let to : Counts = record { clients = c.args.clients; records = c.args.records } in
+    let b : Brokered = record { counts = c.self.inside.layout; words = c.self.inside.memory.words; slots = c.self.inside.slots.items; directory = c.self.inside.directory; creation = c.self.inside.creation; recovery = c.self.inside.recovery } in
+    let boots : AreBootWords old = subst (λ (x : Brokered). AreBootWords x.words.kept) c.self.view_is (boots_well b c.self.invariant.well) in
+    let kept : c.crash.new.self.words.kept ≡ old =
+    ap (λ (ws : Words). ws.kept) c.crash.ensures.words ∙ ap (λ (x : Brokered). x.words.kept) c.self.view_is in
+    let counts : c.in-Ok.kept.layout ≡ counts_in old = c.in-Ok.ensures.layout ∙ ap counts_in kept in
+    let more : (counts_in old).clients ≤ c.args.clients =
+    omega (arith, c.if-clients.false, c.clients.ensures.value, ap (λ (k : Counts). k.clients) counts) in
+    let may : AreCountsFor old to = record { clients = more; counts = c.in_ok-to.ensures.ok.0 refl } in
+    let same : IsBrokerRenewalOf old to c.in_ok-words.words.items =
+    subst (λ (k : Counts). IsBrokerRenewalOf old k c.in_ok-words.words.items) c.in_ok-to.ensures.made
+    (subst (λ (ws : List ℕ). IsBrokerRenewalOf ws c.in_ok-to.to c.in_ok-words.words.items) kept c.in_ok-words.ensures.same) in
+    unrenewed_if old to c.in_ok-words.words.items c.in-Ok-of.renewed.words c.boot.result may boots.broker.head.counts.few_clients same c.in-Ok-of.ensures.made
+    c.boot.ensures.errors

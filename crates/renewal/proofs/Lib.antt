@@ -1,0 +1,13 @@
+pub mod Lists
+pub mod Chained
+pub mod Roles
+pub mod Members
+pub mod Sound
+pub mod Tellings
+pub mod Kept
+pub mod Words
+pub mod Waiting
+pub mod Brokers
+pub mod Slots
+pub mod Fronts
+pub mod OneQueue

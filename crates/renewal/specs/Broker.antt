@@ -1,0 +1,64 @@
+-- What the words of a whole broker become, each queue in fresh records, and all for these counts.
+use Rattle.std.specs.Prelude.{◌≡◌, ℕ, ◌*◌, ◌≤◌, List, [], ◌∷◌, ◌++◌, map, replicate, length, slice_index, Option, Some, None}
+use Rattle.std.specs.List.{flat_map, range_with_len}
+use Rattle.persist.specs.Memory.{Words}
+use Rattle.arena.specs.Broker.{block_in, block_size_of}
+use Rattle.arena.specs.Content.{kept_content}
+use Rattle.arena.specs.Form.{running}
+use Rattle.arena.specs.Shape.{Counts, shape_of}
+use Rattle.arena.specs.declared.broker.TheConstants.{DIRECTORY_WORDS, HEAD_WORDS, SLOTS}
+use Rattle.recover.specs.Kept.{kept_in}
+use Rattle.recover.specs.Sound.{AreSoundWords}
+use Rattle.directory.specs.Directory.{Directory, HasQueue}
+use Rattle.directory.specs.Queue.{directory_of, slot_in}
+use Rattle.directory.specs.Sound.{AreBrokerWords, counts_in}
+use Rattle.directory.specs.declared.queue.Queue.{Queue}
+use Rattle.renewal.specs.Words.{FitFresh, IsRenewalOf, block_renewed, renewal_of}
+
+-- the block of a slot, which is all 0 where the slot has no queue
+abbrev pub slot_renewed : Counts → Counts → Option Queue → List ℕ → List ℕ
+slot_renewed to c None old = replicate (block_size_of to.clients to.records) 0
+slot_renewed to c (Some queue) old =
+    block_renewed (renewal_of (shape_of queue.kind to) (shape_of queue.kind c) (kept_in (shape_of queue.kind c) old))
+
+abbrev pub slot_block_renewed : Counts → Counts → List ℕ → ℕ → List ℕ
+slot_block_renewed to c ws slot = slot_renewed to c (slot_in ws slot) (block_in running c slot ws)
+
+-- the new counts, the directory as it was, and then the block of each slot
+abbrev pub front_renewed : Counts → List ℕ → List ℕ
+front_renewed to ws =
+    (to.clients ∷ to.records ∷ []) ++ map (slice_index ws) (range_with_len HEAD_WORDS (SLOTS * DIRECTORY_WORDS))
+
+unfoldable pub broker_renewed : Counts → List ℕ → List ℕ
+broker_renewed to ws =
+    front_renewed to ws ++ flat_map (slot_block_renewed to (counts_in ws) ws) (range_with_len 0 SLOTS)
+
+-- the items of a slot's queue, if it has one, fit into fresh records of these counts
+abbrev pub SlotFits : Counts → Counts → Option Queue → List ℕ → Type 0
+SlotFits to c None old = Unit {0}
+SlotFits to c (Some queue) old =
+    FitFresh (shape_of queue.kind to)
+    (length (kept_content (shape_of queue.kind c) (kept_in (shape_of queue.kind c) old)))
+
+abbrev pub BlockFits : Counts → List ℕ → ℕ → Type 0
+BlockFits to ws slot = SlotFits to (counts_in ws) (slot_in ws slot) (block_in running (counts_in ws) slot ws)
+
+-- the kept words of a broker with these counts and this directory obey every rule, and there will be as many clients or
+-- more
+pub record MayBeRenewedTo (ws : Words) (counts : Counts) (directory : Directory) (to : Counts) : Type 0 where
+  pub room : length ws.cached ≡ length ws.kept
+  pub broker : AreBrokerWords ws.kept
+  pub counts_are : counts ≡ counts_in ws.kept
+  pub directory_is : directory ≡ directory_of ws.kept
+  pub blocks : (slot : ℕ) (queue : Queue) → HasQueue (directory_of ws.kept) slot queue
+      → AreSoundWords (shape_of queue.kind (counts_in ws.kept)) (block_in running (counts_in ws.kept) slot ws.kept)
+  pub clients : (counts_in ws.kept).clients ≤ to.clients
+
+-- new words are those of a broker of these counts that has the queues of the old ones in the same slots
+pub record IsBrokerRenewalOf (old : List ℕ) (to : Counts) (new : List ℕ) : Type 0 where
+  pub sound : AreBrokerWords new
+  pub counts : counts_in new ≡ to
+  pub directory : directory_of new ≡ directory_of old
+  pub queues : (slot : ℕ) (queue : Queue) → HasQueue (directory_of old) slot queue
+      → IsRenewalOf (shape_of queue.kind (counts_in old)) (block_in running (counts_in old) slot old)
+      (shape_of queue.kind to) (block_in running to slot new)

@@ -1,0 +1,49 @@
+-- What the words of a whole broker become where one queue is written in fresh records.
+use Rattle.std.specs.Prelude.{◌≡◌, ◌≢◌, ℕ, ◌+◌, ◌-◌, ◌<◌, List, ◌++◌, map, length, slice_index}
+use Rattle.std.specs.List.{range_with_len}
+use Rattle.words.specs.declared.refusal.Refusal.{Refusal}
+use Rattle.words.specs.declared.refusal.Refusal.TheVariants.{NoMemory, NoQueue, NoRoom}
+use Rattle.arena.specs.Broker.{block_from, block_in, block_size_of}
+use Rattle.arena.specs.Form.{running}
+use Rattle.arena.specs.Shape.{Counts, shape_of}
+use Rattle.arena.specs.declared.broker.TheConstants.{SLOTS}
+use Rattle.directory.specs.Directory.{HasQueue}
+use Rattle.directory.specs.Queue.{directory_of}
+use Rattle.directory.specs.Sound.{AreBrokerWords, counts_in}
+use Rattle.directory.specs.declared.queue.Queue.{Queue}
+use Rattle.renewal.specs.Broker.{BlockFits, slot_block_renewed}
+use Rattle.renewal.specs.Words.{IsRenewalOf}
+
+-- so many words from this one on
+abbrev pub stretch : List ℕ → ℕ → ℕ → List ℕ
+stretch ws from count = map (slice_index ws) (range_with_len from count)
+
+-- the words with another block in a slot
+abbrev pub block_replaced : Counts → ℕ → List ℕ → List ℕ → List ℕ
+block_replaced c slot block ws =
+    let from = block_from c slot in
+    let end = from + block_size_of c.clients c.records in
+    stretch ws 0 from ++ (block ++ stretch ws end (length ws - end))
+
+-- the block of this slot is that of its queue in fresh records, and all other words are as they were
+unfoldable pub queue_renewed : ℕ → List ℕ → List ℕ
+queue_renewed slot ws = block_replaced (counts_in ws) slot (slot_block_renewed (counts_in ws) (counts_in ws) ws slot) ws
+
+-- the new words are those of a broker with the same queues, of which the one in this slot is in fresh records
+pub record IsQueueRenewalOf (old : List ℕ) (slot : ℕ) (new : List ℕ) : Type 0 where
+  pub sound : AreBrokerWords new
+  pub counts : counts_in new ≡ counts_in old
+  pub directory : directory_of new ≡ directory_of old
+  pub queue : Queue
+  pub has : HasQueue (directory_of old) slot queue
+  pub renewed : IsRenewalOf (shape_of queue.kind (counts_in old)) (block_in running (counts_in old) slot old)
+      (shape_of queue.kind (counts_in old)) (block_in running (counts_in old) slot new)
+  pub others : (other : ℕ) → other < SLOTS → other ≢ slot
+      → block_in running (counts_in old) other new ≡ block_in running (counts_in old) other old
+
+-- why the words are not written so, the first reason that applies
+abbrev pub IsWhyNotRenewed : List ℕ → ℕ → Refusal → Type 0
+IsWhyNotRenewed ws slot NoQueue = (queue : Queue) → HasQueue (directory_of ws) slot queue → ⊥
+IsWhyNotRenewed ws slot NoRoom = BlockFits (counts_in ws) ws slot → ⊥
+IsWhyNotRenewed ws slot NoMemory = Unit {0}
+IsWhyNotRenewed ws slot _ = ⊥

@@ -1,0 +1,5 @@
+use Rattle.session.proofs.Settled.{settled_told}
+use Rattle.session.proofs.laws.settled_is_told.Goals as goal
+
+pub returns : goal.returns
+returns c = settled_told
