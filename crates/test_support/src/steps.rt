@@ -6,12 +6,6 @@ use directory::CREATION_STEPS;
 /// The slot is open.
 pub const CREATED: u32 = CREATION_STEPS as u32;
 
-/// The gate of the slot is stored open. It is not kept yet.
-pub const GATE_STORED: u32 = CREATED - 2;
-
-/// A flush has asked for the gate. It is not kept yet.
-pub const GATE_ASKED: u32 = CREATED - 1;
-
 /// The node of a durable queue's enqueue is linked. The link is not kept yet.
 pub const DURABLE_LINKED: u32 = 19;
 
@@ -26,9 +20,6 @@ pub const LOG_LINK_KEPT: u32 = 36;
 
 /// A log queue's dequeue is announced.
 pub const LOG_DEQUEUE_ANNOUNCED: u32 = 12;
-
-/// It has claimed its node, and a flush has asked for the claim. It is not kept yet.
-pub const LOG_CLAIM_ASKED: u32 = 22;
 
 /// Its claim is kept: it takes effect.
 pub const LOG_CLAIM_KEPT: u32 = 23;
