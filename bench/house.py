@@ -1,5 +1,6 @@
 #!/usr/bin/env python3
-"""house.py [TOP]: counts of the repository at TOP (here): lines, clauses, citations of lower crates' lemmas, depth.
+"""house.py [TOP]: counts of the repository at TOP (here): lines, clauses, citations of lower crates' lemmas, modules with a
+crate's name, depth.
 
 A clause is joined over its lines; its length is that of the joined text. Printed, not tested.
 """
@@ -66,4 +67,9 @@ for most in (120, 200, 300):
     print(f"clauses over {most} columns:", sum(len(it) > most for it in all_clauses))
 print("longest clause:", max(map(len, all_clauses)))
 print("citations of lower crates' lemmas:", len(cited), "of modules:", len({module for _, module in cited}))
+modules = [
+    f"{crate}::{path.stem}" for crate in crates for path in sorted((top / "crates" / crate / "src").rglob("*.rt"))
+    if path.stem in crates
+]
+print("modules with a crate's name, which `rt ci` refuses:", ", ".join(modules) or "none")
 print("crates:", len(crates), "depth:", max(map(depth, crates)))

@@ -1,6 +1,6 @@
 //! Connections of clients, and the server that they are made to.
 
-use crate::waiting::patience;
+use crate::patience::patience;
 use log::Log;
 use server::{net, opened};
 use std::alloc::{AllocError, Global};

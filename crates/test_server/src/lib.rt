@@ -10,6 +10,8 @@ mod connections;
 #[cfg(test)]
 mod failing;
 #[cfg(test)]
+mod patience;
+#[cfg(test)]
 mod playing;
 #[cfg(test)]
 mod sharing;
@@ -17,5 +19,3 @@ mod sharing;
 mod slow;
 #[cfg(test)]
 mod story;
-#[cfg(test)]
-mod waiting;

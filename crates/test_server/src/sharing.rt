@@ -3,8 +3,8 @@
 ghost use Rattle.std.specs.Prelude.{◌≡◌};
 ghost use Rattle.workers.specs.Opening.{IsNameOf};
 
+use crate::patience::{TURNS, rest};
 use crate::playing::fresh;
-use crate::waiting::{TURNS, rest};
 use desk::{BrokerDesk, Seating};
 use directory::Name;
 use engine::Desk;

@@ -1,4 +1,4 @@
-//! The waiting of the tests.
+//! How long the tests wait.
 
 use std::thread;
 use std::time::{Clock, Duration};
