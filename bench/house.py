@@ -1,6 +1,6 @@
 #!/usr/bin/env python3
-"""house.py [TOP]: counts of the repository at TOP (here): lines, clauses, citations of lower crates' lemmas, modules with a
-crate's name, depth.
+"""house.py [TOP]: counts of the repository at TOP (here): lines, clauses, citations of lower crates' lemmas, modules with the
+name of a crate below, depth.
 
 A clause is joined over its lines; its length is that of the joined text. Printed, not tested.
 """
@@ -45,6 +45,11 @@ def depth(crate):
     return 1 + max((depth(it) for it in crates[crate] if it in crates), default=0)
 
 
+def below(crate):
+    """The crates that it stands on, of ours."""
+    return {lower for it in crates[crate] if it in crates for lower in {it, *below(it)}}
+
+
 all_clauses = [it for crate in crates for text in texts(crate, "src", "rt") for it in clauses(text)]
 cited = [
     (crate, module)
@@ -69,7 +74,7 @@ print("longest clause:", max(map(len, all_clauses)))
 print("citations of lower crates' lemmas:", len(cited), "of modules:", len({module for _, module in cited}))
 modules = [
     f"{crate}::{path.stem}" for crate in crates for path in sorted((top / "crates" / crate / "src").rglob("*.rt"))
-    if path.stem in crates
+    if path.stem in below(crate)
 ]
-print("modules with a crate's name, which `rt ci` refuses:", ", ".join(modules) or "none")
+print("modules with the name of a crate below, which `rt ci` refuses:", ", ".join(modules) or "none")
 print("crates:", len(crates), "depth:", max(map(depth, crates)))
