@@ -2,7 +2,7 @@ use Rattle.std.proofs.Common.{rules, ℕ, ◌≡◌, ◌∙◌, ◌+◌, ◌<◌
 use Rattle.std.specs.Prelude.{IfErr, is_none}
 use Rattle.std.proofs.lemmas.Option.{slice_get_read}
 use Rattle.words.specs.declared.refusal.Refusal.{Refusal}
-use Rattle.persist.specs.Noted.{IsNoted, answer_in, change_in}
+use Rattle.persist.specs.Noted.{answer_in}
 use Rattle.persist.specs.declared.access.Noted.{Noted}
 use Rattle.directory.specs.declared.creation.Creation.{Creation}
 use Rattle.named.specs.Brokers.{Brokered, IsWell, is_ready_at, room_at, room_of, with_slot}
