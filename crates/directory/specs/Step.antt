@@ -1,5 +1,7 @@
 -- One access to a place of a broker, and what it leaves.
-use Rattle.std.specs.Prelude.{◌≡◌, ℕ, slice_index}
+use Rattle.std.specs.Prelude.{◌≡◌, ℕ, Option, slice_index}
+use Rattle.persist.specs.Noted.{change_made_by}
+use Rattle.persist.specs.declared.access.Change.{Change}
 use Rattle.persist.specs.Memory.{Words, Access, Load, Store, Cas, Flush, Fence, Lent, Request, Word, after, lent_after}
 use Rattle.arena.specs.Broker.{broker_word}
 use Rattle.arena.specs.Shape.{Counts}
@@ -23,6 +25,10 @@ at_word c (Fence place) = Fence (broker_word c place)
 -- the words after exactly one access, this one
 abbrev pub after_one : Counts → Access BrokerPlace → Words → Words
 after_one c access ws = after (at_word c access) ws
+
+-- the change of a kept word that it makes
+abbrev pub change_by : Counts → Access BrokerPlace → Words → Option Change
+change_by c access ws = change_made_by (at_word c access) ws
 
 -- and how they are lent then
 abbrev pub lent_after_one : Counts → Access BrokerPlace → Lent → Lent

@@ -3,13 +3,13 @@
 ghost use Rattle.std.specs.Prelude.{◌≡◌, ◌<◌, ◌≤◌, length};
 ghost use Rattle.arena.specs.Broker.{broker_size};
 ghost use Rattle.directory.specs.Name.{IsName};
-ghost use Rattle.directory.specs.Step.{after_one, lent_after_one, IsAskedFor};
+ghost use Rattle.directory.specs.Step.{after_one, change_by, lent_after_one, IsAskedFor};
 ghost use Rattle.directory.specs.Creation.{access_of, new_creation, next_of, place_in, successor, value_for, word_after, IsNextAskedFor};
 
 use crate::places::{fence_at, flush_at, store_at};
 use crate::queue::{Queue, kind_code};
 use arena::{BrokerLayout, BrokerPlace, OPEN_GATE, SLOTS, SlotId};
-use persist::WordMemory;
+use persist::{Change, Noted, WordMemory};
 use stepper::After;
 
 /// A word of a slot that a creation keeps, by a flush and a fence. They are kept in this order.
@@ -54,41 +54,49 @@ impl Creation {
         }
     }
 
-    /// One step: exactly one access. The last one answers the slot: there are [`crate::CREATION_STEPS`].
+    /// One step: exactly one access. The last one answers the slot: there are [`crate::CREATION_STEPS`]. Beside it
+    /// stands the change of a kept value, where the access was a fence that made one.
     pub fn step<M: WordMemory>(
         self,
         layout: &BrokerLayout,
         memory: &mut M,
-    ) -> After<Creation, SlotId>
+    ) -> Noted<After<Creation, SlotId>>
         requires slot { self.slot.0 < SLOTS }
         requires room { broker_size layout.now ≤ length (M.words memory.old).cached }
         requires asked { IsAskedFor layout.now (access_of self) (M.lent memory.old).request }
         ensures one_access { M.words memory.new ≡ after_one layout.now (access_of self) (M.words memory.old) }
         ensures lent { M.lent memory.new ≡ lent_after_one layout.now (access_of self) (M.lent memory.old) }
-        ensures next { result ≡ successor self }
-        ensures asked { IsNextAskedFor layout.now result (M.lent memory.new).request }
+        ensures next { result.answer ≡ successor self }
+        ensures asked { IsNextAskedFor layout.now result.answer (M.lent memory.new).request }
+        ensures change { result.change ≡ change_by layout.now (access_of self) (M.words memory.old) }
     {
-        self.access(layout, memory);
-        match self.at.next() {
+        let change = self.access(layout, memory);
+        let answer = match self.at.next() {
             Some(at) => After::More(Creation { at, ..self }),
             None => After::Done(self.slot),
-        }
+        };
+        Noted { answer, change }
     }
 
-    /// Makes the access of its point.
-    fn access<M: WordMemory>(&self, layout: &BrokerLayout, memory: &mut M)
+    /// Makes the access of its point, and answers the change of a kept value.
+    fn access<M: WordMemory>(&self, layout: &BrokerLayout, memory: &mut M) -> Option<Change>
         requires slot { self.now.slot.0 < SLOTS }
         requires room { broker_size layout.now ≤ length (M.words memory.old).cached }
         requires asked { IsAskedFor layout.now (access_of self.now) (M.lent memory.old).request }
         ensures one_access { M.words memory.new ≡ after_one layout.now (access_of self.now) (M.words memory.old) }
         ensures lent { M.lent memory.new ≡ lent_after_one layout.now (access_of self.now) (M.lent memory.old) }
+        ensures change { result ≡ change_by layout.now (access_of self.now) (M.words memory.old) }
     {
         match self.at {
             CreationPoint::Store(word) => {
                 let value = self.value(word);
-                store_at(layout, memory, self.place(word), value)
+                store_at(layout, memory, self.place(word), value);
+                None
             }
-            CreationPoint::Flush(word) => flush_at(layout, memory, self.place(word)),
+            CreationPoint::Flush(word) => {
+                flush_at(layout, memory, self.place(word));
+                None
+            }
             CreationPoint::Fence(word) => fence_at(layout, memory, self.place(word)),
         }
     }

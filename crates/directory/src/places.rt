@@ -3,10 +3,10 @@
 ghost use Rattle.std.specs.Prelude.{◌≡◌, ◌≤◌, length};
 ghost use Rattle.arena.specs.Broker.{broker_size, broker_word, IsBrokerPlace};
 ghost use Rattle.persist.specs.Memory.{Load, Store, Flush, Fence, Word};
-ghost use Rattle.directory.specs.Step.{after_one, lent_after_one, value_found};
+ghost use Rattle.directory.specs.Step.{after_one, change_by, lent_after_one, value_found};
 
 use arena::{BrokerLayout, BrokerPlace};
-use persist::WordMemory;
+use persist::{Change, WordMemory};
 
 /// Loads the word of a place.
 pub(crate) fn load_at<M: WordMemory>(
@@ -48,11 +48,16 @@ pub(crate) fn flush_at<M: WordMemory>(layout: &BrokerLayout, memory: &mut M, pla
     memory.flush(layout.word(place)).unwrap()
 }
 
-/// Keeps the cached value of a place's word, which was asked for.
-pub(crate) fn fence_at<M: WordMemory>(layout: &BrokerLayout, memory: &mut M, place: BrokerPlace)
+/// Keeps the cached value of a place's word, which was asked for. It answers the change, where the kept value changed.
+pub(crate) fn fence_at<M: WordMemory>(
+    layout: &BrokerLayout,
+    memory: &mut M,
+    place: BrokerPlace,
+) -> Option<Change>
     requires asked { (M.lent memory.old).request ≡ Word (broker_word layout.now place) }
     ensures one_access { M.words memory.new ≡ after_one layout.now (Fence place) (M.words memory.old) }
     ensures lent { M.lent memory.new ≡ lent_after_one layout.now (Fence place) (M.lent memory.old) }
+    ensures change { result ≡ change_by layout.now (Fence place) (M.words memory.old) }
 {
-    let _change = memory.fence().unwrap();
+    memory.fence().unwrap()
 }

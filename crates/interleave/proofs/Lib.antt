@@ -22,6 +22,7 @@ pub mod CrashLaws
 pub mod StartLaws
 pub mod AloneLaws
 pub mod EveryAct
+pub mod Noting
 pub mod HoldsKept
 pub mod AskedKept
 pub mod KeptTells

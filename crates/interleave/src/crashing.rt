@@ -2,8 +2,9 @@
 
 ghost use Rattle.std.specs.Prelude.{◌≡◌, ◌<◌, ◌≤◌, ◌+◌, ◌++◌, ◌∷◌, [], true, false, is_some, length, IfSome, Some, None, Ok, IfErr};
 ghost use Rattle.persist.specs.Memory.{Words, words_after_crash};
+ghost use Rattle.persist.specs.Noted.{answer_in, change_in, IsNoted};
 ghost use Rattle.events.specs.declared.event.Event.TheVariants.{Ready as ready_event};
-ghost use Rattle.stepper.specs.Step.{after_one, lent_after_one, value_found};
+ghost use Rattle.stepper.specs.Step.{after_one, change_by, lent_after_one, value_found};
 ghost use Rattle.recover.specs.Table.{access_of, recovery_after};
 ghost use Rattle.recover.specs.declared.recovery.Recovery.{Recovery as AnyRecovery};
 ghost use Rattle.protocol.specs.Machine.{recovery_left, recovery_events};
@@ -17,7 +18,7 @@ ghost use Rattle.interleave.specs.Rules.{recovering, IsByRule};
 ghost use Rattle.interleave.specs.State.{after_stop, crash_result, queue_at_ready, is_ready};
 
 use crate::lent::Core;
-use persist::WordMemory;
+use persist::{Noted, WordMemory};
 use words::Refusal;
 
 impl Core {
@@ -74,8 +75,9 @@ impl Core {
         self.queue.recovered(told);
     }
 
-    /// Recovery makes a step, and once it is at its end the clients are told what it read. It answers whether it is.
-    fn recover_once<M: WordMemory>(&mut self, memory: &mut M) -> bool
+    /// Recovery makes a step, and once it is at its end the clients are told what it read. It answers whether it is,
+    /// and the change of a kept value.
+    fn recover_once<M: WordMemory>(&mut self, memory: &mut M) -> Noted<bool>
         requires down { is_some self.old.trace.recovery ≡ true }
         requires room { 0 < self.old.trace.room }
         requires may { IfSome self.old.trace.recovery (λ r. MayRecover self.old.shape (M.words memory.old) r) }
@@ -92,16 +94,40 @@ impl Core {
             (M.words memory.new ≡ after_one s access (M.words memory.old))
             × (self.new.trace.recovery ≡ recovery_left next)
             × (self.new.trace.log.events ≡ recovery_events self.old.trace.log.events next)
-            × (self.new.queue ≡ queue_at_ready self.old.queue next) × (result ≡ is_ready next)
+            × (self.new.queue ≡ queue_at_ready self.old.queue next) × (result.answer ≡ is_ready next)
             × (M.lent memory.new ≡ lent_after_one s access (M.lent memory.old)) }
+        ensures change { (r : AnyRecovery) → self.old.trace.recovery ≡ Some r → let s = self.old.shape in
+            result.change ≡ change_by s (access_of s.kind r.at) (M.words memory.old) }
         ensures room { self.old.trace.room ≤ self.new.trace.room + 1 }
-        ensures stays { result ≡ false → self.old.trace.room ≤ self.new.trace.room }
+        ensures stays { result.answer ≡ false → self.old.trace.room ≤ self.new.trace.room }
     {
-        if !self.trace.recover(&self.layout, memory) {
-            return false;
+        let recovered = self.trace.recover(&self.layout, memory);
+        if recovered.answer {
+            self.end_recovery();
         }
-        self.end_recovery();
-        true
+        recovered
+    }
+
+    /// As [`Core::recover_step`], with the change of a kept word that the step made.
+    pub fn recover_step_noted<M: WordMemory>(
+        &mut self,
+        memory: &mut M,
+    ) -> Result<Noted<bool>, Refusal>
+        requires holds { Holds (state_of self.old (M.words memory.old)) }
+        requires asked { IfRecoveryAsked self.old.shape self.old.trace.recovery (M.lent memory.old).request }
+        ensures by_rule { IsByRule recovering (roomy_over self.old (M.words memory.old)) (answer_in result)
+            (roomy_over self.new (M.words memory.new)) }
+        ensures stays { answer_in result ≡ Ok false → self.old.trace.room ≤ self.new.trace.room }
+        ensures holds { Holds (state_of self.new (M.words memory.new)) }
+        ensures lent { M.lent memory.new ≡ lent_after_recover (is_no_memory (answer_in result))
+            (state_of self.old (M.words memory.old)) (M.lent memory.old) }
+        ensures noted { IsNoted (change_in result) (M.words memory.old).kept (M.words memory.new).kept }
+    {
+        if !self.is_down() {
+            return Err(Refusal::AlreadyReady);
+        }
+        self.reserve(1)?;
+        Ok(self.recover_once(memory))
     }
 
     /// One step of recovery: exactly one access. It answers whether the queue is ready now, and then each client is
@@ -118,10 +144,6 @@ impl Core {
         ensures lent { M.lent memory.new ≡ lent_after_recover (is_no_memory result)
             (state_of self.old (M.words memory.old)) (M.lent memory.old) }
     {
-        if !self.is_down() {
-            return Err(Refusal::AlreadyReady);
-        }
-        self.reserve(1)?;
-        Ok(self.recover_once(memory))
+        Ok(self.recover_step_noted(memory)?.answer)
     }
 }

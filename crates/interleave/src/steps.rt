@@ -1,6 +1,7 @@
 //! One step of a call.
 
 ghost use Rattle.std.specs.Prelude.{◌≡◌, ◌≤◌, ◌<◌, ◌+◌, length, is_some, slice_get, slice_index_or, slice_set, Some, None, Ok, true, false, IfErr};
+ghost use Rattle.persist.specs.Noted.{answer_in, change_in, IsNoted};
 ghost use Rattle.arena.specs.Layout.{size_of};
 ghost use Rattle.stepper.specs.Step.{after_one, change_by, lent_after_one, value_found, IsAskedFor, IsReadInRange};
 ghost use Rattle.helping.specs.Table.{access_of, successor, IsPoint};
@@ -17,7 +18,7 @@ ghost use Rattle.interleave.specs.Rules.{stepping, IsByRule};
 
 use crate::lent::Core;
 use helping::Op;
-use persist::{EvictableWords, WordMemory};
+use persist::{EvictableWords, Noted, WordMemory};
 use protocol::UnderWay;
 use stepper::{After, Resume, Stepped};
 use words::{Client, Refusal, Reply};
@@ -114,13 +115,13 @@ impl Core {
         }
     }
 
-    /// One step of a client's call.
+    /// One step of a client's call: its answer, and the change of a kept value.
     fn advance<M: EvictableWords>(
         &mut self,
         memory: &mut M,
         client: Client,
         under_way: &UnderWay,
-    ) -> Option<Reply>
+    ) -> Noted<Option<Reply>>
         requires safe { IsSafe self.old.shape (M.words memory.old) self.old.calls }
         requires asked { let s = self.old.shape in
             IsAskedFor s (access_of s.kind under_way.now.op) (M.lent memory.old).request }
@@ -141,14 +142,56 @@ impl Core {
         ensures told { self.new.trace.told ≡ self.old.trace.told }
         ensures log { self.new.trace.log
             ≡ (with_step (machine_over self.old (M.words memory.old)) client under_way.now).log }
-        ensures answer { result ≡ answer_of (next_of (machine_over self.old (M.words memory.old)) under_way.now) }
+        ensures answer { result.answer
+            ≡ answer_of (next_of (machine_over self.old (M.words memory.old)) under_way.now) }
+        ensures change { let s = self.old.shape in
+            result.change ≡ change_by s (access_of s.kind under_way.now.op) (M.words memory.old) }
         ensures recovery { self.new.trace.recovery ≡ self.old.trace.recovery }
         ensures room { self.old.trace.room ≤ self.new.trace.room + 1 }
-        ensures stays { result ≡ None → self.new.trace.room ≡ self.old.trace.room }
+        ensures stays { result.answer ≡ None → self.new.trace.room ≡ self.old.trace.room }
     {
         let stepped = self.step_at(memory, under_way.op);
         self.note(memory, under_way, &stepped);
-        self.go_on(client, stepped.after)
+        let change = stepped.change;
+        Noted {
+            answer: self.go_on(client, stepped.after),
+            change,
+        }
+    }
+
+    /// As [`Core::step`], with the change of a kept word that the step made.
+    #[inline(always)]
+    pub fn step_noted<M: EvictableWords>(
+        &mut self,
+        memory: &mut M,
+        client: Client,
+    ) -> Result<Noted<Option<Reply>>, Refusal>
+        requires holds { Holds (state_of self.old (M.words memory.old)) }
+        requires asked { IfCallAsked self.old.shape (slice_index_or self.old.calls client.0 None)
+            (M.lent memory.old).request }
+        ensures by_rule { IsByRule (stepping client) (roomy_over self.old (M.words memory.old)) (answer_in result)
+            (roomy_over self.new (M.words memory.new)) }
+        ensures stays { answer_in result ≡ Ok None → self.old.trace.room ≤ self.new.trace.room }
+        ensures holds { Holds (state_of self.new (M.words memory.new)) }
+        ensures lent { M.lent memory.new ≡ lent_after_step (is_no_memory (answer_in result))
+            (state_of self.old (M.words memory.old)) client (M.lent memory.old) }
+        ensures noted { IsNoted (change_in result) (M.words memory.old).kept (M.words memory.new).kept }
+    {
+        let under_way = self.waiting(client)?;
+        self.reserve(1)?;
+        let Noted { answer, change } = self.advance(memory, client, &under_way);
+        let Some(reply) = answer else {
+            return Ok(Noted {
+                answer: None,
+                change,
+            });
+        };
+        let begun = &under_way.begun;
+        self.queue.returned(begun.client, begun.number);
+        Ok(Noted {
+            answer: Some(reply),
+            change,
+        })
     }
 
     /// One step of a client's call: exactly one access. It answers the reply where that was the last. The words are
@@ -171,13 +214,6 @@ impl Core {
         ensures lent { M.lent memory.new ≡ lent_after_step (is_no_memory result)
             (state_of self.old (M.words memory.old)) client (M.lent memory.old) }
     {
-        let under_way = self.waiting(client)?;
-        self.reserve(1)?;
-        let Some(reply) = self.advance(memory, client, &under_way) else {
-            return Ok(None);
-        };
-        let begun = &under_way.begun;
-        self.queue.returned(begun.client, begun.number);
-        Ok(Some(reply))
+        Ok(self.step_noted(memory, client)?.answer)
     }
 }

@@ -5,7 +5,7 @@ ghost use Rattle.std.specs.Prelude.{◌≡◌, ◌<◌, ◌≤◌, ◌+◌, ◌+
 ghost use Rattle.events.specs.Effects.{with_effect, without_pending, with_settled, settled_effects};
 ghost use Rattle.interleave.specs.Effects.{effects_with_look, AreInSequence};
 ghost use Rattle.events.specs.declared.event.Event.TheVariants.{Call as call_event, Return as return_event, Crash as crash_event, Ready as ready_event};
-ghost use Rattle.stepper.specs.Step.{after_one, lent_after_one, value_found};
+ghost use Rattle.stepper.specs.Step.{after_one, change_by, lent_after_one, value_found};
 ghost use Rattle.recover.specs.Table.{access_of, boot_recovery, recovery_after};
 ghost use Rattle.recover.specs.declared.recovery.Recovery.{Recovery as AnyRecovery};
 ghost use Rattle.interleave.specs.Asked.{IfRecoveryAsked};
@@ -16,7 +16,7 @@ ghost use Rattle.interleave.specs.Trace.{with_effects};
 use crate::effects::{forget, settle};
 use arena::Layout;
 use events::{Effect, Event, Events, History, Sequence, copied, keep_settled};
-use persist::WordMemory;
+use persist::{Noted, WordMemory};
 use protocol::Issued;
 use recover::{Recovery, boot};
 use std::alloc::{AllocError, Global};
@@ -201,8 +201,8 @@ impl Trace {
         self.recovery = Some(boot());
     }
 
-    /// Recovery makes a step. It answers whether it has now told every client.
-    pub(crate) fn recover<M: WordMemory>(&mut self, layout: &Layout, memory: &mut M) -> bool
+    /// Recovery makes a step. It answers whether it has now told every client, and the change of a kept value.
+    pub(crate) fn recover<M: WordMemory>(&mut self, layout: &Layout, memory: &mut M) -> Noted<bool>
         requires down { is_some self.old.recovery ≡ true }
         requires may { IfSome self.old.recovery (λ r. MayRecover layout.now (M.words memory.old) r) }
         requires asked { IfRecoveryAsked layout.now self.old.recovery (M.lent memory.old).request }
@@ -212,12 +212,17 @@ impl Trace {
         ensures step { (r : AnyRecovery) → self.old.recovery ≡ Some r → let s = layout.now in
             let access = access_of s.kind r.at in (M.words memory.new ≡ after_one s access (M.words memory.old))
             × (M.lent memory.new ≡ lent_after_one s access (M.lent memory.old))
-            × HasReached result self.new.recovery (recovery_after s r (value_found s access (M.words memory.old))) }
+            × HasReached result.answer self.new.recovery (recovery_after s r (value_found s access (M.words memory.old))) }
+        ensures change { (r : AnyRecovery) → self.old.recovery ≡ Some r → let s = layout.now in
+            result.change ≡ change_by s (access_of s.kind r.at) (M.words memory.old) }
         ensures room { self.new.room ≡ self.old.room }
     {
         match self.recovery.as_mut() {
             Some(recovery) => recovery.step(layout, memory),
-            None => false,
+            None => Noted {
+                answer: false,
+                change: None,
+            },
         }
     }
 

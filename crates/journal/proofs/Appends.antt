@@ -6,7 +6,8 @@ use Rattle.std.proofs.lemmas.List.Sums.{fold-append}
 use Rattle.std.proofs.lemmas.List.Elements.{All-head, All-nil, All-push, All-set, All-tail}
 use Rattle.persist.specs.declared.access.Change.{Change}
 use Rattle.journal.specs.Frame.{Batch, IsBatchIn, IsChangeIn, frame_of, frame_sum, frames_of, last_sum}
-use Rattle.journal.specs.Journal.{End, IsJournal, applied, change_made, changes_of, end_behind, end_of, end_sum, head_of, head_sum, journal_of, words_after}
+use Rattle.persist.specs.Noted.{applied, change_made}
+use Rattle.journal.specs.Journal.{End, IsJournal, changes_of, end_behind, end_of, end_sum, head_of, head_sum, journal_of, words_after}
 use Rattle.journal.specs.Reading.{reading}
 use Rattle.journal.proofs.FramesRead.{length-applied}
 use Rattle.journal.proofs.JournalsRead.{whole_journal_is_read}

@@ -16,7 +16,8 @@ use Rattle.persist.specs.declared.memory.TheConstants.{MAX_WORDS}
 use Rattle.journal.specs.declared.format.TheConstants.{MAX_CHANGES}
 use Rattle.journal.specs.Sum.{sum_of}
 use Rattle.journal.specs.Frame.{Batch, IsBatchIn, IsChangeIn, change_bytes, frame_sum, frames_of, front_of, last_sum}
-use Rattle.journal.specs.Journal.{applied, words_after}
+use Rattle.persist.specs.Noted.{applied}
+use Rattle.journal.specs.Journal.{words_after}
 use Rattle.journal.specs.Reading.{are_within, before_in, behind, changes_in, count_in, front_in, goes_on, replay, sum_in, value_in, values_set, word_in}
 use Rattle.journal.proofs.Chunks.{chunks_again}
 use Rattle.journal.proofs.Frames.{goes_on_from, whole_from}

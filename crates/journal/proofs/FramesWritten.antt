@@ -14,7 +14,8 @@ use Rattle.persist.specs.Image.{AreBytes}
 use Rattle.persist.specs.declared.access.Change.{Change}
 use Rattle.journal.specs.Sum.{sum_of}
 use Rattle.journal.specs.Frame.{Batch, IsBatchIn, IsChangeIn, change_bytes, frame_of, frame_size, frame_sum, frames_of, front_of, last_sum}
-use Rattle.journal.specs.Journal.{applied, words_after}
+use Rattle.persist.specs.Noted.{applied}
+use Rattle.journal.specs.Journal.{words_after}
 use Rattle.journal.specs.Reading.{Replay, are_within, before_in, behind, changes_in, count_in, front_in, goes_on, kept_in, replay, replayed, sum_in, value_in, values_set, word_in}
 use Rattle.journal.proofs.Frames.{GoesOn, behind_shorter, goes_on_parts, goes_on_short}
 use Rattle.journal.proofs.FramesRead.{length-applied}

@@ -1,9 +1,10 @@
 -- Journals: the words that a file begins on, and all changes since, as bytes.
-use Rattle.std.specs.Prelude.{◌≡◌, ◌⊎◌, ℕ, ◌<◌, List, [], ◌∷◌, ◌++◌, length, codes, slice_set, fold, All}
+use Rattle.std.specs.Prelude.{◌≡◌, ◌⊎◌, ℕ, ◌<◌, List, [], ◌∷◌, ◌++◌, length, codes, All}
 use Rattle.std.specs.List.{flat_map}
 use Rattle.persist.specs.declared.access.Change.{Change}
 use Rattle.persist.specs.declared.memory.TheConstants.{MAX_WORDS}
 use Rattle.persist.specs.Image.{AreWords, image_of}
+use Rattle.persist.specs.Noted.{applied}
 use Rattle.journal.specs.declared.format.TheConstants.{KEY_BYTES, MAX_CHANGES}
 use Rattle.journal.specs.Sum.{sum_of}
 use Rattle.journal.specs.Frame.{Batch, IsBatchIn, frame_sum, frames_of, last_sum}
@@ -55,14 +56,7 @@ AreNoBatch changes = (length changes ≡ 0) ⊎ (MAX_CHANGES < length changes)
 abbrev pub AreOfWords : ℕ → List Change → Type 0
 AreOfWords size changes = All (λ change. change.word < size) changes
 
--- words after a change, and after changes in their order
-abbrev pub change_made : List ℕ → Change → List ℕ
-change_made words change = slice_set words change.word change.new
-
-abbrev pub applied : List Change → List ℕ → List ℕ
-applied changes words = fold change_made words changes
-
--- and after all batches
+-- words after all batches
 abbrev pub words_after : List Batch → List ℕ → List ℕ
 words_after [] words = words
 words_after (batch ∷ batches) words = words_after batches (applied batch.changes words)

@@ -5,7 +5,8 @@ ghost use Rattle.persist.specs.Image.{AreBytes};
 ghost use Rattle.persist.specs.declared.access.Change.{Change};
 ghost use Rattle.journal.specs.declared.format.TheConstants.{KEY_BYTES};
 ghost use Rattle.journal.specs.Frame.{Batch, IsBatchIn, frame_of};
-ghost use Rattle.journal.specs.Journal.{IsJournal, applied, changes_of, end_behind, end_of, end_sum, journal_of, words_after};
+ghost use Rattle.persist.specs.Noted.{applied};
+ghost use Rattle.journal.specs.Journal.{IsJournal, changes_of, end_behind, end_of, end_sum, journal_of, words_after};
 ghost use Rattle.journal.specs.Reading.{Read, goes_on, reading};
 ghost use Rattle.journal.specs.Stops.{IsReadOf, LeavesBatches, LeftByStop};
 

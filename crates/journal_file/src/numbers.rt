@@ -1,7 +1,8 @@
 //! Changes made in words, and copies of words.
 
 ghost use Rattle.std.specs.Prelude.{◌≡◌, length, IfOk};
-ghost use Rattle.journal.specs.Journal.{AreOfWords, applied};
+ghost use Rattle.persist.specs.Noted.{applied};
+ghost use Rattle.journal.specs.Journal.{AreOfWords};
 
 use persist::Change;
 use std::alloc::{AllocError, Global};

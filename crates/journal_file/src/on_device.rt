@@ -51,7 +51,8 @@ impl<F: Appender + Drop> Model for Journal<F> {
 
 impl<F: Appender + Drop> Journal<F> {
     ghost use Rattle.persist.specs.Image.{AreWords};
-    ghost use Rattle.journal.specs.Journal.{AreNoBatch, AreOfWords, MayNotBegin, applied};
+    ghost use Rattle.persist.specs.Noted.{applied};
+    ghost use Rattle.journal.specs.Journal.{AreNoBatch, AreOfWords, MayNotBegin};
     ghost use Rattle.journal.specs.Reading.{reading};
     ghost use Rattle.journal_file.specs.Appended.{IsFresh};
     ghost use Rattle.journal_file.specs.OnDevice.{HasMore, HasNoMore, IsOf, IsSomeJournal, KeepsAll};

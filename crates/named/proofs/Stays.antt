@@ -29,6 +29,20 @@ start_alike full w client number call = from_check (number_to_start w client num
         both false true = (refl, refl)
         both false false = (refl, refl)
 
+-- and a start leaves every word
+pub start_kept : (full : Bool) (w : State) (client : Client) (number : ℕ) (call : Call) → (after_start full w client number call).words.kept ≡ w.words.kept
+start_kept full w client number call = from_check (number_to_start w client number)
+  where
+    from_check : (r : Result ℕ Refusal) → (start_with full w client call r).words.kept ≡ w.words.kept
+    from_check (Err refusal) = refl
+    from_check (Ok n) = both (used_by w client == w.shape.records) full
+      where
+        both : (a b : Bool)
+            → (if a then after_bump_load w else (if b then after_bump_load w else after_call_began w client n call)).words.kept ≡ w.words.kept
+        both true b = refl
+        both false true = refl
+        both false false = refl
+
 pub step_alike : (full : Bool) (w : State) (client : Client) → IsShapedAlike w (after_step full w client)
 step_alike full w client = from_waiting (waiting_result (is_down w) (slice_get w.calls client.0))
   where

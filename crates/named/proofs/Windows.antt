@@ -1,6 +1,7 @@
 -- An act through a window on a block: the queue acted on the words of its block and through its own ports alone.
-use Rattle.std.proofs.Common.{◌≡◌, ◌≢◌, ℕ, ◌+◌, ◌<◌, ◌≤◌, ◌⊎◌, inl, inr, Bool, List, Option, None, Result, Ok, Err, length, slice_index_or, slice_set, refl, sym, ap, subst, ◌∙◌, arith}
-use Rattle.std.specs.Prelude.{IfErr, IfOk}
+use Rattle.std.proofs.Common.{◌≡◌, ◌≢◌, ℕ, ◌+◌, ◌<◌, ◌≤◌, ◌⊎◌, inl, inr, Bool, List, Option, None, Some, Result, Ok, Err, drop, length, slice_index_or, slice_set, refl, sym, ap, subst, ◌∙◌, arith}
+use Rattle.std.specs.Prelude.{IfErr, IfOk, IfSome}
+use Rattle.std.proofs.lemmas.List.{length-drop, length-take}
 use Rattle.words.specs.declared.call.Call.{Call}
 use Rattle.words.specs.declared.call.Client.{Client}
 use Rattle.words.specs.declared.call.Reply.{Reply}
@@ -8,6 +9,9 @@ use Rattle.words.specs.declared.limits.TheConstants.{QUEUE_PORTS, RECOVERY_PORT}
 use Rattle.words.specs.declared.refusal.Refusal.{Refusal}
 use Rattle.words.specs.declared.refusal.Refusal.TheVariants.{NoMemory}
 use Rattle.persist.specs.Memory.{Around, IsSameOutside, Lent, MemoryState, Request, Words, asked_through, lent_part, seen_in, words_in}
+use Rattle.persist.specs.Noted.{IsNoted, change_behind}
+use Rattle.persist.specs.declared.access.Change.{Change}
+use Rattle.persist.proofs.Noting.{part_noted}
 use Rattle.persist.proofs.Parts.{bare_part, outside_left}
 use Rattle.persist.proofs.Requests.{asked_elsewhere}
 use Rattle.interleave.specs.Asked.{AreAsked, lent_after_alone, lent_after_recover, lent_after_step}
@@ -190,6 +194,20 @@ module _ (old new : MemoryState) (was : BlockState) (core : CoreState) (name por
       (λ requests here there. (asked_alone answer.1 world client first (requests_in old was) held (own_request ∙ ap (requests_in old was) (sym its)) asked_before
       requests (ap requests its ∙ here) (λ t ne. there t (λ e. ne (e ∙ sym its)))).0))
 
+  -- what changed in the window changed in the whole memory, as that numbers it, and nothing else did
+  pub noted_in : (change : Option Change) (last : Lent) → lent_part name2 port2 from2 len2 new ≡ last → last.around ≡ first.around
+      → IsNoted change ws.kept (words_in from2 len2 new.words).kept → IsNoted (change_behind was.from change) old.words.kept new.words.kept
+  noted_in change last lent stays noted =
+      part_noted was.from was.len change old.words new.words (outside_left name (was.port + port) was.from was.len name2 port2 from2 len2 old new around) room
+      (subst (λ (x : Words). IsNoted change x.kept (words_in was.from was.len new.words).kept) window.words
+      (subst (λ (x : Words). IsNoted change ws.kept x.kept) (sym (bare_part name (was.port + port) was.from was.len name2 port2 from2 len2 old new around)) noted))
+    where
+      around : (lent_part name2 port2 from2 len2 new).around ≡ (lent_part name (was.port + port) was.from was.len old).around
+      around = ap (λ (l : Lent). l.around) lent ∙ stays ∙ ap (λ (l : Lent). l.around) window.lent
+
+      room : was.from + was.len ≤ length old.words.kept
+      room = omega (arith, window.well.inside, window.well.some, window.well.holds.safe.words.same, length-take was.len (drop was.from old.words.kept), length-drop was.from old.words.kept, length-take was.len (drop was.from old.words.cached), length-drop was.from old.words.cached)
+
   -- an act by a rule
   pub act_in : {A : Type 0} (rule : Rule A) (result : Result A Refusal)
       → IsByRule rule (roomy_over was.core ws) result (roomy_over core (words_in from2 len2 new.words))
@@ -236,3 +254,9 @@ pub alone_lender : (w : State) (client : Client) (first : Lent) (left : Lent) (r
     → IfOk result (λ answer. left ≡ lent_after_alone answer.1 w client first) → left.around.lender ≡ first.around.lender
 alone_lender w client first left (Err refusal) same on = ap (λ (l : Lent). l.around.lender) same
 alone_lender w client first left (Ok answer) same on = ap (λ (l : Lent). l.around.lender) on ∙ ap (λ (a : Around). a.lender) (around_alone answer.1 w client first)
+
+-- the number of a word that changed in a part fits, as the whole numbers it
+pub number_fits : (from len : ℕ) (change : Option Change) (old new : List ℕ) → IsNoted change old new → length old ≤ len → from + len ≤ 18446744073709551615
+    → IfSome change (λ c. from + c.word ≤ 18446744073709551615)
+number_fits from len None old new noted short fits = tt
+number_fits from len (Some c) old new noted short fits = omega (arith, noted.real.within, short, fits)

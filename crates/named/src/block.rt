@@ -1,8 +1,9 @@
 //! A queue in its block of the memory of a broker.
 
-ghost use Rattle.std.specs.Prelude.{◌≡◌, ◌+◌, ◌-◌, ◌≤◌, ◌<◌, length, IfOk, IfErr, OnOk, OnErr, Ok, Err, None, false, true};
+ghost use Rattle.std.specs.Prelude.{◌≡◌, ◌+◌, ◌-◌, ◌≤◌, ◌<◌, length, IfOk, IfErr, IfSome, OnOk, OnErr, Ok, Err, None, false, true};
 ghost use Rattle.events.specs.Effects.{order_of};
 ghost use Rattle.persist.specs.Changes.{change_at, change_of};
+ghost use Rattle.persist.specs.Noted.{answer_in, change_behind, change_in, IsNoted};
 ghost use Rattle.persist.specs.declared.memory.TheConstants.{PORTS};
 ghost use Rattle.persist.specs.Memory.{Words, words_in, words_after_crash, words_after_eviction};
 ghost use Rattle.recover.specs.Table.{boot_recovery};
@@ -18,7 +19,7 @@ ghost use Rattle.named.specs.Blocks.{state_in, IsActIn, IsAloneIn, IsAskedIn, Is
 use arena::Layout;
 use events::{History, Order};
 use interleave::Core;
-use persist::{Change, Memory};
+use persist::{Change, Memory, Noted};
 use std::alloc::Global;
 use std::marker::Model;
 use words::{Call, Client, Kind, QUEUE_PORTS, RECOVERY_PORT, Refusal, Reply, Told, Value};
@@ -38,6 +39,20 @@ fn renumbered(change: Option<Change>, word: usize) -> Option<Change>
     ensures { result ≡ change_at word change }
 {
     change.map(|change| Change { word, ..change })
+}
+
+/// What a queue answered, with its change's word numbered as the whole memory numbers it: the block begins there.
+fn numbered_from<T>(acted: Result<Noted<T>, Refusal>, block: usize) -> Result<Noted<T>, Refusal>
+    requires { IfSome (change_in acted) (λ change. block + change.word ≤ usize.MAX) }
+    ensures answer { answer_in result ≡ answer_in acted }
+    ensures change { change_in result ≡ change_behind block (change_in acted) }
+{
+    let Noted { answer, change } = acted?;
+    let change = change.map(|change| Change {
+        word: block + change.word,
+        ..change
+    });
+    Ok(Noted { answer, change })
 }
 
 impl Model for Block {
@@ -127,16 +142,18 @@ impl Block {
         &mut self,
         memory: &mut Memory,
         client: Client,
-    ) -> Result<Option<Reply>, Refusal>
+    ) -> Result<Noted<Option<Reply>>, Refusal>
         requires well { IsWellIn memory.old.words self.old }
         requires asked { IsAskedIn memory.old self.old }
         requires client { client.0 < QUEUE_PORTS }
-        ensures act { IsActIn (stepping client) memory.old self.old result memory.new self.new }
-        ensures stays { result ≡ Ok None → self.old.core.trace.room ≤ self.new.core.trace.room }
+        ensures act { IsActIn (stepping client) memory.old self.old (answer_in result) memory.new self.new }
+        ensures stays { answer_in result ≡ Ok None → self.old.core.trace.room ≤ self.new.core.trace.room }
         ensures recovery { self.new.core.trace.recovery ≡ self.old.core.trace.recovery }
+        ensures noted { IsNoted (change_in result) memory.old.words.kept memory.new.words.kept }
     {
         let mut window = memory.window(self.from, self.len, self.port + client.0 as usize)?;
-        self.core.step(&mut window, client)
+        let stepped = self.core.step_noted(&mut window, client);
+        numbered_from(stepped, self.from)
     }
 
     /// A client starts a call.
@@ -151,6 +168,7 @@ impl Block {
         requires asked { IsAskedIn memory.old self.old }
         ensures act { IsActIn (starting client number call) memory.old self.old result memory.new self.new }
         ensures recovery { self.new.core.trace.recovery ≡ self.old.core.trace.recovery }
+        ensures kept { memory.new.words.kept ≡ memory.old.words.kept }
     {
         let mut window = memory.window(self.from, self.len, self.port)?;
         self.core.start(&mut window, client, number, call)
@@ -269,14 +287,16 @@ impl Block {
     }
 
     /// One step of the queue's recovery, through a window on the block. It answers whether the queue is ready now.
-    pub(crate) fn recover_step(&mut self, memory: &mut Memory) -> Result<bool, Refusal>
+    pub(crate) fn recover_step(&mut self, memory: &mut Memory) -> Result<Noted<bool>, Refusal>
         requires well { IsWellIn memory.old.words self.old }
         requires asked { IsAskedIn memory.old self.old }
-        ensures act { IsActIn recovering memory.old self.old result memory.new self.new }
-        ensures stays { result ≡ Ok false → self.old.core.trace.room ≤ self.new.core.trace.room }
+        ensures act { IsActIn recovering memory.old self.old (answer_in result) memory.new self.new }
+        ensures stays { answer_in result ≡ Ok false → self.old.core.trace.room ≤ self.new.core.trace.room }
+        ensures noted { IsNoted (change_in result) memory.old.words.kept memory.new.words.kept }
     {
         let mut window = memory.window(self.from, self.len, self.port + RECOVERY_PORT)?;
-        self.core.recover_step(&mut window)
+        let recovered = self.core.recover_step_noted(&mut window);
+        numbered_from(recovered, self.from)
     }
 
     /// Whether a client has a call under way.

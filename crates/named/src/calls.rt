@@ -1,6 +1,7 @@
 //! Calls in the queues of a broker.
 
 ghost use Rattle.std.specs.Prelude.{◌≡◌, ◌≤◌, Ok, None};
+ghost use Rattle.persist.specs.Noted.{answer_in, change_in, IsNoted};
 ghost use Rattle.interleave.specs.Rules.{starting, stepping};
 ghost use Rattle.named.specs.Acting.{IsActAt, IsAloneAt, IsSameBeside};
 ghost use Rattle.named.specs.Brokers.{admission, room_at};
@@ -9,6 +10,7 @@ ghost use Rattle.named.specs.Promises.{KeepsPromises};
 
 use crate::broker::Broker;
 use arena::{SLOTS, SlotId};
+use persist::Noted;
 use words::{Call, Client, Refusal, Reply};
 
 impl Broker {
@@ -34,6 +36,7 @@ impl Broker {
     ) -> Result<(), Refusal>
         ensures act { IsActAt (starting client number call) slot.0 client self.old result self.new }
         ensures beside { IsSameBeside slot.0 self.old self.new }
+        ensures unchanged { self.new.words.kept ≡ self.old.words.kept }
         ensures goes_on { BrokerGoesOn self.old self.new }
         ensures promises { KeepsPromises self.new }
     {
@@ -50,6 +53,22 @@ impl Broker {
         ensures act { IsActAt (stepping client) slot.0 client self.old result self.new }
         ensures stays { result ≡ Ok None → room_at self.old slot.0 ≤ room_at self.new slot.0 }
         ensures beside { IsSameBeside slot.0 self.old self.new }
+        ensures goes_on { BrokerGoesOn self.old self.new }
+        ensures promises { KeepsPromises self.new }
+    {
+        Ok(self.step_noted(slot, client)?.answer)
+    }
+
+    /// As [`Broker::step`], with the change of a kept word that the step made, by its number in the whole memory.
+    pub fn step_noted(
+        &mut self,
+        slot: SlotId,
+        client: Client,
+    ) -> Result<Noted<Option<Reply>>, Refusal>
+        ensures act { IsActAt (stepping client) slot.0 client self.old (answer_in result) self.new }
+        ensures stays { answer_in result ≡ Ok None → room_at self.old slot.0 ≤ room_at self.new slot.0 }
+        ensures beside { IsSameBeside slot.0 self.old self.new }
+        ensures noted { IsNoted (change_in result) self.old.words.kept self.new.words.kept }
         ensures goes_on { BrokerGoesOn self.old self.new }
         ensures promises { KeepsPromises self.new }
     {

@@ -4,9 +4,10 @@ ghost use Rattle.std.specs.Prelude.{◌≡◌, ◌≢◌, ◌↔◌, ◌⊎◌, 
 ghost use Rattle.directory.specs.Directory.{IsDirectory, IsNamed, HasName};
 ghost use Rattle.named.specs.Finding.{IsPlaced};
 ghost use Rattle.persist.specs.Memory.{asked_through, seen_whole};
+ghost use Rattle.persist.specs.Noted.{answer_in, change_in, IsNoted};
 ghost use Rattle.arena.specs.Broker.{broker_size};
 ghost use Rattle.directory.specs.Creation.{access_of, successor, IsNextAskedFor};
-ghost use Rattle.directory.specs.Step.{after_one, IsAskedFor};
+ghost use Rattle.directory.specs.Step.{after_one, change_by, IsAskedFor};
 ghost use Rattle.named.specs.Brokers.{is_creating, is_down, world_at, quiet, IsBegun, IsNotCreated, MayCreate, IsStepCreated};
 ghost use Rattle.named.specs.GoingOn.{BrokerGoesOn};
 ghost use Rattle.named.specs.Promises.{KeepsPromises};
@@ -15,7 +16,7 @@ use crate::broker::{Broker, CREATION_PORT};
 use crate::slot::Slot;
 use arena::{BrokerLayout, SLOTS, SlotId};
 use directory::{Creation, Name, Places, Queue};
-use persist::Memory;
+use persist::{Memory, Noted};
 use stepper::After;
 use words::{Kind, Refusal};
 
@@ -24,13 +25,14 @@ fn step_creation(
     creation: Creation,
     layout: &BrokerLayout,
     memory: &mut Memory,
-) -> After<Creation, SlotId>
+) -> Noted<After<Creation, SlotId>>
     requires slot { creation.slot.0 < SLOTS }
     requires room { broker_size layout.now ≤ length memory.old.words.cached }
     requires asked { IsAskedFor layout.now (access_of creation) (seen_whole (asked_through memory.old CREATION_PORT)) }
     ensures one_access { memory.new.words ≡ after_one layout.now (access_of creation) memory.old.words }
-    ensures next { result ≡ successor creation }
-    ensures asked { IsNextAskedFor layout.now result (seen_whole (asked_through memory.new CREATION_PORT)) }
+    ensures next { result.answer ≡ successor creation }
+    ensures change { result.change ≡ change_by layout.now (access_of creation) memory.old.words }
+    ensures asked { IsNextAskedFor layout.now result.answer (seen_whole (asked_through memory.new CREATION_PORT)) }
     ensures others { (port : ℕ) → port ≢ CREATION_PORT
         → asked_through memory.new port ≡ asked_through memory.old port }
 {
@@ -133,17 +135,39 @@ impl Broker {
         ensures goes_on { BrokerGoesOn self.old self.new }
         ensures promises { KeepsPromises self.new }
     {
+        Ok(self.create_step_noted()?.answer)
+    }
+
+    /// As [`Broker::create_step`], with the change of a kept word that the step made.
+    pub fn create_step_noted(&mut self) -> Result<Noted<Option<SlotId>>, Refusal>
+        ensures down { is_down self.old ≡ true → answer_in result ≡ Err Refusal.NotReady }
+        ensures idle { self.old.recovery ≡ None → self.old.creation ≡ None → answer_in result ≡ Err Refusal.Idle }
+        ensures same { OnErr (answer_in result) (self.new ≡ self.old) }
+        ensures step { self.old.recovery ≡ None → IfSome self.old.creation
+            (λ creation. IsStepCreated self.old self.new creation (answer_in result) (successor creation)) }
+        ensures others { (other : ℕ) → IfOk (answer_in result) (λ opened. IfSome opened (λ slot. other ≢ slot.0))
+            → quiet (world_at self.new other) ≡ quiet (world_at self.old other) }
+        ensures noted { IsNoted (change_in result) self.old.words.kept self.new.words.kept }
+        ensures goes_on { BrokerGoesOn self.old self.new }
+        ensures promises { KeepsPromises self.new }
+    {
         self.check_ready()?;
         let under_way = self.creation;
         let Some(creation) = under_way else {
             return Err(Refusal::Idle);
         };
         let queue = creation.queue;
-        let after = step_creation(creation, &self.layout, &mut self.memory);
+        let Noted {
+            answer: after,
+            change,
+        } = step_creation(creation, &self.layout, &mut self.memory);
         match after {
             After::More(next) => {
                 self.creation = Some(next);
-                Ok(None)
+                Ok(Noted {
+                    answer: None,
+                    change,
+                })
             }
             After::Done(slot) => {
                 let alloc = *self.slots.allocator();
@@ -151,7 +175,10 @@ impl Broker {
                 self.creation = None;
                 self.directory.open(slot, queue);
                 self.slots[slot.0 as usize] = opened;
-                Ok(Some(slot))
+                Ok(Noted {
+                    answer: Some(slot),
+                    change,
+                })
             }
         }
     }

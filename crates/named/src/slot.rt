@@ -4,6 +4,7 @@ ghost use Rattle.std.specs.Prelude.{◌≡◌, ◌<◌, ◌≤◌, ◌+◌, ◌*
 ghost use Rattle.arena.specs.Broker.{broker_size};
 ghost use Rattle.arena.specs.Shape.{shape_of};
 ghost use Rattle.persist.specs.Changes.{change_of};
+ghost use Rattle.persist.specs.Noted.{answer_in, change_in, IsNoted};
 ghost use Rattle.persist.specs.declared.memory.TheConstants.{PORTS};
 ghost use Rattle.persist.specs.Memory.{Words, words_after_crash, words_after_eviction};
 ghost use Rattle.recover.specs.Table.{boot_recovery};
@@ -20,7 +21,7 @@ ghost use Rattle.named.specs.Slots.{acted, answered, kind_in, room_in, world_evi
 
 use crate::block::Block;
 use arena::{BrokerLayout, SLOTS, SlotId};
-use persist::{Change, EvictableWords, Memory};
+use persist::{Change, EvictableWords, Memory, Noted};
 use std::alloc::Global;
 use words::{Call, Client, Kind, QUEUE_PORTS, Refusal, Reply, Value};
 
@@ -55,6 +56,7 @@ impl Slot {
         ensures act { IsActInSlot (starting client number call) memory.old.words self.old result
             memory.new.words self.new }
         ensures within { IsWithinSlot memory.old self.old memory.new self.new }
+        ensures kept { memory.new.words.kept ≡ memory.old.words.kept }
     {
         match self {
             Slot::Closed => Err(Refusal::NoQueue),
@@ -67,13 +69,15 @@ impl Slot {
         &mut self,
         memory: &mut Memory,
         client: Client,
-    ) -> Result<Option<Reply>, Refusal>
+    ) -> Result<Noted<Option<Reply>>, Refusal>
         requires well { IsSlotWell memory.old.words self.old }
         requires asked { IsSlotAsked memory.old self.old }
         requires client { client.0 < QUEUE_PORTS }
-        ensures act { IsActInSlot (stepping client) memory.old.words self.old result memory.new.words self.new }
-        ensures stays { result ≡ Ok None → room_in self.old ≤ room_in self.new }
+        ensures act { IsActInSlot (stepping client) memory.old.words self.old (answer_in result)
+            memory.new.words self.new }
+        ensures stays { answer_in result ≡ Ok None → room_in self.old ≤ room_in self.new }
         ensures within { IsWithinSlot memory.old self.old memory.new self.new }
+        ensures noted { IsNoted (change_in result) memory.old.words.kept memory.new.words.kept }
     {
         match self {
             Slot::Closed => Err(Refusal::NoQueue),
@@ -229,22 +233,23 @@ impl Slot {
     }
 
     /// One step of recovery of the slot's queue. It answers whether that is ready now.
-    pub(crate) fn recover_step(&mut self, memory: &mut Memory) -> Result<bool, Refusal>
+    pub(crate) fn recover_step(&mut self, memory: &mut Memory) -> Result<Noted<bool>, Refusal>
         requires well { IsSlotWell memory.old.words self.old }
         requires asked { IsSlotAsked memory.old self.old }
         ensures world { world_in memory.new.words self.new
-            ≡ acted (after_recover (is_no_memory result)) (world_in memory.old.words self.old) }
-        ensures result { result
-            ≡ answered (recover_result (is_no_memory result)) (world_in memory.old.words self.old) }
-        ensures full { is_no_memory result ≡ true → room_in self.old ≡ 0 }
+            ≡ acted (after_recover (is_no_memory (answer_in result))) (world_in memory.old.words self.old) }
+        ensures result { answer_in result
+            ≡ answered (recover_result (is_no_memory (answer_in result))) (world_in memory.old.words self.old) }
+        ensures full { is_no_memory (answer_in result) ≡ true → room_in self.old ≡ 0 }
         ensures room { room_in self.old ≤ room_in self.new + 1 }
-        ensures spare { IfErr result (λ e. room_in self.old ≤ room_in self.new) }
-        ensures stays { result ≡ Ok false → room_in self.old ≤ room_in self.new }
+        ensures spare { IfErr (answer_in result) (λ e. room_in self.old ≤ room_in self.new) }
+        ensures stays { answer_in result ≡ Ok false → room_in self.old ≤ room_in self.new }
         ensures well { IsSlotWell memory.new.words self.new }
         ensures asked { IsSlotAsked memory.new self.new }
         ensures beside { AskAlikeBesideSlot self.old memory.old memory.new }
         ensures outside { IsSameOutsideSlot self.old memory.old.words memory.new.words }
         ensures same { IsSameSlot self.old self.new }
+        ensures noted { IsNoted (change_in result) memory.old.words.kept memory.new.words.kept }
     {
         match self {
             Slot::Closed => Err(Refusal::NoQueue),

@@ -1,6 +1,7 @@
 //! A crash of a broker, and the steps of its recovery.
 
 ghost use Rattle.std.specs.Prelude.{◌≡◌, ◌≢◌, ◌↔◌, ◌⊎◌, ◌<◌, ◌≤◌, ◌+◌, ℕ, true, is_none, length, replicate, slice_get, slice_set, Some, Ok, Err, IfOk, IfErr, OnOk, OnErr, IfSome, IfNone, IsSome, None, if◌then◌else◌};
+ghost use Rattle.persist.specs.Noted.{answer_in, change_in, IsNoted};
 ghost use Rattle.interleave.specs.Calls.{is_no_memory};
 ghost use Rattle.interleave.specs.State.{crash_result};
 ghost use Rattle.directory.specs.Queue.{IsOpenSlot, slot_in};
@@ -19,6 +20,7 @@ use crate::slot::Slot;
 use crate::slots::{reserve_each, stop_each};
 use arena::{SLOTS, SlotId};
 use directory::{Creation, Directory, DirectoryRecovery, MAX_DIRECTORY_STEPS, Places};
+use persist::Noted;
 use stepper::After;
 use words::Refusal;
 
@@ -132,6 +134,7 @@ impl Broker {
     fn read_directory(&mut self, at: DirectoryRecovery) -> bool
         requires { self.old.recovery ≡ Some (BrokerRecovery.ReadDirectory at) }
         ensures read { IsDirectoryRead self.old self.new at (Ok result) }
+        ensures kept { self.new.words.kept ≡ self.old.words.kept }
         ensures room { (slot : ℕ) → room_at self.old slot ≤ room_at self.new slot + 1 }
         ensures told { TellAtReady self.old self.new }
         ensures falls { steps_left self.new < steps_left self.old }
@@ -144,24 +147,34 @@ impl Broker {
     }
 
     /// A step of recovery of the queue in a slot. It answers whether the broker is ready now.
-    fn recover_queue(&mut self, slot: SlotId) -> Result<bool, Refusal>
+    fn recover_queue(&mut self, slot: SlotId) -> Result<Noted<bool>, Refusal>
         requires { self.old.recovery ≡ Some (BrokerRecovery.RecoverQueue slot) }
-        ensures recovered { IsQueueRecovered self.old self.new slot.0 result }
-        ensures full { is_no_memory result ≡ true → HasFullQueue self.old }
+        ensures recovered { IsQueueRecovered self.old self.new slot.0 (answer_in result) }
+        ensures full { is_no_memory (answer_in result) ≡ true → HasFullQueue self.old }
         ensures room { (other : ℕ) → room_at self.old other ≤ room_at self.new other + 1 }
         ensures spare { OnErr result ((other : ℕ) → room_at self.old other ≤ room_at self.new other) }
+        ensures noted { IsNoted (change_in result) self.old.words.kept self.new.words.kept }
         ensures told { TellAtReady self.old self.new }
-        ensures falls { IfOk result (λ ready. steps_left self.new < steps_left self.old) }
+        ensures falls { IfOk result (λ noted. steps_left self.new < steps_left self.old) }
         ensures promises { KeepsPromises self.new }
     {
-        let ready = self.slots[slot.0 as usize].recover_step(&mut self.memory)?;
+        let Noted {
+            answer: ready,
+            change,
+        } = self.slots[slot.0 as usize].recover_step(&mut self.memory)?;
         if !ready {
-            return Ok(false);
+            return Ok(Noted {
+                answer: false,
+                change,
+            });
         }
         // A queue that is left out here would stay down while the broker says that it is ready.
         self.recovery = recovery_from(&self.directory, slot.0 as usize + 1);
         self.creation = creation_left(self.creation, &self.recovery);
-        Ok(self.recovery.is_none())
+        Ok(Noted {
+            answer: self.recovery.is_none(),
+            change,
+        })
     }
 
     /// One step of recovery: exactly one access. The directory is read first, in 8 to 32 steps; then the open queues
@@ -179,9 +192,28 @@ impl Broker {
         ensures downtime { IsDowntime self.old self.new }
         ensures promises { KeepsPromises self.new }
     {
+        Ok(self.recover_step_noted()?.answer)
+    }
+
+    /// As [`Broker::recover_step`], with the change of a kept word that the step made.
+    pub fn recover_step_noted(&mut self) -> Result<Noted<bool>, Refusal>
+        ensures step { IsRecoveryStep self.old self.new (answer_in result) self.old.recovery }
+        ensures full { is_no_memory (answer_in result) ≡ true → HasFullQueue self.old }
+        ensures room { (slot : ℕ) → room_at self.old slot ≤ room_at self.new slot + 1 }
+        ensures spare { OnErr result ((slot : ℕ) → room_at self.old slot ≤ room_at self.new slot) }
+        ensures noted { IsNoted (change_in result) self.old.words.kept self.new.words.kept }
+        ensures told { TellAtReady self.old self.new }
+        ensures few { steps_left self.old ≤ MAX_DIRECTORY_STEPS + most_kept self.old }
+        ensures falls { IfOk result (λ noted. steps_left self.new < steps_left self.old) }
+        ensures downtime { IsDowntime self.old self.new }
+        ensures promises { KeepsPromises self.new }
+    {
         match self.recovery {
             None => Err(Refusal::AlreadyReady),
-            Some(BrokerRecovery::ReadDirectory { at }) => Ok(self.read_directory(at)),
+            Some(BrokerRecovery::ReadDirectory { at }) => Ok(Noted {
+                answer: self.read_directory(at),
+                change: None,
+            }),
             Some(BrokerRecovery::RecoverQueue { slot }) => self.recover_queue(slot),
         }
     }

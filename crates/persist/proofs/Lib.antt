@@ -8,3 +8,4 @@ pub mod Sound
 pub mod Shown
 pub mod Images
 pub mod Requests
+pub mod Noting

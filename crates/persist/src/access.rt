@@ -14,6 +14,13 @@ pub struct Change {
     pub new: u64,
 }
 
+/// What an act answers, and the change of a kept value that it made, if it made one.
+#[derive(Clone, Copy, Debug, PartialEq, Eq, Hash)]
+pub struct Noted<T> {
+    pub answer: T,
+    pub change: Option<Change>,
+}
+
 /// What a compare-and-swap answers.
 #[derive(Clone, Copy, Debug, PartialEq, Eq, Hash)]
 pub enum Swap {

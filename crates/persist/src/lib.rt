@@ -9,9 +9,9 @@ mod memory;
 mod port;
 mod window;
 
-pub use access::{Change, EvictableWords, KeptWords, Swap, WordMemory};
+pub use access::{Change, EvictableWords, KeptWords, Noted, Swap, WordMemory};
 pub use image::{HEADER_BYTES, NUMBER_BYTES, is_first_form};
-pub use laws::words_have_one_image;
+pub use laws::{changes_are_noted, words_have_one_image};
 pub use memory::{MAX_WORDS, Memory, PORTS};
 pub use port::Port;
 pub use window::{View, Window};

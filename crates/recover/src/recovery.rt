@@ -2,14 +2,14 @@
 
 ghost use Rattle.std.specs.Prelude.{◌≡◌, ◌<◌, ◌≤◌, length};
 ghost use Rattle.arena.specs.Layout.{size_of};
-ghost use Rattle.stepper.specs.Step.{after_one, lent_after_one, value_found, IsAskedFor, IsReadInRange};
+ghost use Rattle.stepper.specs.Step.{after_one, change_by, lent_after_one, value_found, IsAskedFor, IsReadInRange};
 ghost use Rattle.recover.specs.Table.{access_of, after_report, boot_recovery, recovery_after, recovery_reached, IsPoint};
 
 use crate::ends::RecoveryLoadHead;
 use crate::point::{RecoveryPoint, Report};
 use crate::telling::RecoveryLoadAnnouncement;
 use arena::Layout;
-use persist::WordMemory;
+use persist::{Noted, WordMemory};
 use stepper::{After, Resume};
 use words::{Client, MAX_CLIENTS, Reports, Told};
 
@@ -32,8 +32,9 @@ pub fn boot() -> Recovery
 }
 
 impl Recovery {
-    /// One step: exactly one access. It answers whether the queue is ready now, and each client was told.
-    pub fn step<M: WordMemory>(&mut self, layout: &Layout, memory: &mut M) -> bool
+    /// One step: exactly one access. It answers whether the queue is ready now, and each client was told; beside it
+    /// stands the change of a kept value, where the access was a fence that made one.
+    pub fn step<M: WordMemory>(&mut self, layout: &Layout, memory: &mut M) -> Noted<bool>
         requires room { size_of layout.now ≤ length (M.words memory.old).cached }
         requires point { IsPoint layout.now self.old.at }
         requires read { let s = layout.now in let access = access_of s.kind self.old.at in
@@ -45,14 +46,25 @@ impl Recovery {
         ensures lent { let s = layout.now in
             M.lent memory.new ≡ lent_after_one s (access_of s.kind self.old.at) (M.lent memory.old) }
         ensures next { let s = layout.now in let access = access_of s.kind self.old.at in
-            recovery_reached result self.new ≡ recovery_after s self.old (value_found s access (M.words memory.old)) }
+            recovery_reached result.answer self.new
+            ≡ recovery_after s self.old (value_found s access (M.words memory.old)) }
+        ensures change { let s = layout.now in
+            result.change ≡ change_by s (access_of s.kind self.old.at) (M.words memory.old) }
     {
-        match self.at.step(layout, memory).after {
+        let stepped = self.at.step(layout, memory);
+        let change = stepped.change;
+        match stepped.after {
             After::More(at) => {
                 self.at = at;
-                false
+                Noted {
+                    answer: false,
+                    change,
+                }
             }
-            After::Done(report) => self.tell(layout, report),
+            After::Done(report) => Noted {
+                answer: self.tell(layout, report),
+                change,
+            },
         }
     }
 

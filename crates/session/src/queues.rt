@@ -2,6 +2,7 @@
 
 ghost use Rattle.std.specs.Prelude.{◌≡◌, ◌≢◌, ◌<◌, ◌≤◌, ℕ, true, Err, None, IfErr, IfOk, IfSome, IsSome, OnErr, OnOk};
 ghost use Rattle.directory.specs.Creation.{successor};
+ghost use Rattle.persist.specs.Noted.{answer_in, change_in, IsNoted};
 ghost use Rattle.interleave.specs.Calls.{is_no_memory};
 ghost use Rattle.named.specs.Brokers.{is_down, quiet, room_at, world_at, IsBegun, IsNotCreated, IsStepCreated, MayCreate};
 ghost use Rattle.named.specs.GoingOn.{BrokerGoesOn};
@@ -13,6 +14,7 @@ ghost use Rattle.session.specs.Promises.{KeepsNumbers};
 
 use crate::session::Session;
 use arena::SlotId;
+use persist::Noted;
 use words::{Kind, Refusal};
 
 impl Session {
@@ -46,7 +48,26 @@ impl Session {
         ensures queues { BrokerGoesOn self.old.broker self.new.broker }
         ensures promises { KeepsNumbers self.new }
     {
-        self.broker.create_step()
+        Ok(self.create_step_noted()?.answer)
+    }
+
+    /// As [`Session::create_step`], with the change of a kept word that the step made.
+    pub fn create_step_noted(&mut self) -> Result<Noted<Option<SlotId>>, Refusal>
+        ensures down { is_down self.old.broker ≡ true → answer_in result ≡ Err Refusal.NotReady }
+        ensures idle { self.old.broker.recovery ≡ None → self.old.broker.creation ≡ None
+            → answer_in result ≡ Err Refusal.Idle }
+        ensures same { OnErr (answer_in result) (self.new ≡ self.old) }
+        ensures step { self.old.broker.recovery ≡ None → IfSome self.old.broker.creation
+            (λ creation. IsStepCreated self.old.broker self.new.broker creation (answer_in result) (successor creation)) }
+        ensures others { (other : ℕ) → IfOk (answer_in result) (λ opened. IfSome opened (λ slot. other ≢ slot.0))
+            → quiet (world_at self.new.broker other) ≡ quiet (world_at self.old.broker other) }
+        ensures kept { self.new.kept ≡ self.old.kept }
+        ensures noted { IsNoted (change_in result) self.old.broker.words.kept self.new.broker.words.kept }
+        ensures goes_on { SessionGoesOn self.old self.new }
+        ensures queues { BrokerGoesOn self.old.broker self.new.broker }
+        ensures promises { KeepsNumbers self.new }
+    {
+        self.broker.create_step_noted()
     }
 
     /// Makes room in the history of a queue, as [`named::Broker::reserve`] does.

@@ -2,6 +2,7 @@
 
 ghost use Rattle.std.specs.Prelude.{◌≡◌, ◌<◌, Ok, Err, Some, None, IfOk, IfSome, OnErr};
 ghost use Rattle.words.specs.declared.limits.TheConstants.{MAX_CALL_NUMBER};
+ghost use Rattle.persist.specs.Noted.{answer_in, change_in, IsNoted};
 ghost use Rattle.interleave.specs.Verdicts.{taken_as};
 ghost use Rattle.named.specs.Brokers.{answer_at, world_at};
 ghost use Rattle.named.specs.GoingOn.{BrokerGoesOn};
@@ -14,6 +15,7 @@ use crate::numbers::answer;
 use crate::running::run;
 use crate::session::Session;
 use arena::SlotId;
+use persist::Noted;
 use words::{Call, Client, Kind, Refusal, Reply};
 
 impl Session {
@@ -117,6 +119,7 @@ impl Session {
         ensures stale { result ≡ Err Refusal.StaleNumber → MAX_CALL_NUMBER < number_or_zero number }
         ensures reply { IfOk result (λ answer. IfSome answer (IsReplyIfNumbered self.new queue.0 client number)) }
         ensures same { self.new.kept ≡ self.old.kept }
+        ensures unchanged { self.new.broker.words.kept ≡ self.old.broker.words.kept }
         ensures goes_on { SessionGoesOn self.old self.new }
         ensures queues { BrokerGoesOn self.old.broker self.new.broker }
         ensures promises { KeepsNumbers self.new }
@@ -151,9 +154,29 @@ impl Session {
         ensures queues { BrokerGoesOn self.old.broker self.new.broker }
         ensures promises { KeepsNumbers self.new }
     {
+        Ok(self.advance_noted(client, queue)?.answer)
+    }
+
+    /// As [`Session::advance`], with the change of a kept word that the step made.
+    pub fn advance_noted(
+        &mut self,
+        client: Client,
+        queue: SlotId,
+    ) -> Result<Noted<Option<Reply>>, Refusal>
+        ensures advanced { IsAdvanced self.old.broker self.new.broker queue.0 client (answer_in result) }
+        ensures reply { IfOk (answer_in result) (λ answer. IfSome answer (IsReplyIfNumbered self.new queue.0 client
+            (call_number (world_at self.old.broker queue.0) client))) }
+        ensures kept { IsKeptNow self.old.kept self.new.kept queue.0 client.0
+            (last_after (call_number (world_at self.old.broker queue.0) client) (answer_in result)
+            (kept_at self.old queue.0 client)) }
+        ensures noted { IsNoted (change_in result) self.old.broker.words.kept self.new.broker.words.kept }
+        ensures goes_on { SessionGoesOn self.old self.new }
+        ensures queues { BrokerGoesOn self.old.broker self.new.broker }
+        ensures promises { KeepsNumbers self.new }
+    {
         let number = self.calling(client, queue)?;
-        let answer = self.broker.step(queue, client)?;
+        let Noted { answer, change } = self.broker.step_noted(queue, client)?;
         self.kept.hear(queue, client, number, &answer);
-        Ok(answer)
+        Ok(Noted { answer, change })
     }
 }

@@ -2,6 +2,7 @@
 
 ghost use Rattle.std.specs.Prelude.{◌≡◌, ◌<◌, ◌≤◌, ◌+◌, ℕ, true, Ok, IfOk, OnErr};
 ghost use Rattle.persist.specs.Memory.{words_after_eviction};
+ghost use Rattle.persist.specs.Noted.{answer_in, change_in, IsNoted};
 ghost use Rattle.interleave.specs.Calls.{is_no_memory};
 ghost use Rattle.interleave.specs.State.{crash_result};
 ghost use Rattle.named.specs.Blocks.{IsSameWords};
@@ -18,7 +19,7 @@ ghost use Rattle.session.specs.Promises.{KeepsNumbers};
 use crate::kept::Kept;
 use crate::session::Session;
 use directory::MAX_DIRECTORY_STEPS;
-use persist::Change;
+use persist::{Change, Noted};
 use words::Refusal;
 
 impl Session {
@@ -74,10 +75,34 @@ impl Session {
         ensures downtime { IsDowntime self.old.broker self.new.broker }
         ensures promises { KeepsNumbers self.new }
     {
-        let ready = self.broker.recover_step()?;
+        Ok(self.recover_step_noted()?.answer)
+    }
+
+    /// As [`Session::recover_step`], with the change of a kept word that the step made.
+    pub fn recover_step_noted(&mut self) -> Result<Noted<bool>, Refusal>
+        ensures step { IsRecoveryStep self.old.broker self.new.broker (answer_in result) self.old.broker.recovery }
+        ensures full { is_no_memory (answer_in result) ≡ true → HasFullQueue self.old.broker }
+        ensures room { (slot : ℕ) → room_at self.old.broker slot ≤ room_at self.new.broker slot + 1 }
+        ensures spare { OnErr result ((slot : ℕ) → room_at self.old.broker slot ≤ room_at self.new.broker slot) }
+        ensures noted { IsNoted (change_in result) self.old.broker.words.kept self.new.broker.words.kept }
+        ensures told { TellAtReady self.old.broker self.new.broker }
+        ensures few { steps_left self.old.broker ≤ MAX_DIRECTORY_STEPS + most_kept self.old.broker }
+        ensures falls { IfOk result (λ noted. steps_left self.new.broker < steps_left self.old.broker) }
+        ensures kept { AreKeptAfter self.old self.new (answer_in result) }
+        ensures goes_on { SessionGoesOn self.old self.new }
+        ensures downtime { IsDowntime self.old.broker self.new.broker }
+        ensures promises { KeepsNumbers self.new }
+    {
+        let Noted {
+            answer: ready,
+            change,
+        } = self.broker.recover_step_noted()?;
         if ready {
             self.kept = Kept::told(&self.broker);
         }
-        Ok(ready)
+        Ok(Noted {
+            answer: ready,
+            change,
+        })
     }
 }

@@ -1,5 +1,5 @@
 use Rattle.std.proofs.Common.{◌≡◌, take}
-use Rattle.journal.specs.Journal.{applied}
+use Rattle.persist.specs.Noted.{applied}
 use Rattle.journal_file.proofs.numbers.apply.Given as goal
 
 -- the changes so far are made

@@ -1,6 +1,7 @@
 use Rattle.std.proofs.Common.{◌≡◌, ◌+◌, ◌++◌, true, false, length, take, drop, arith, rules, ap, ◌∙◌, subst}
 use Rattle.std.specs.Io.KnownBytes.{append_known}
-use Rattle.journal.specs.Journal.{End, applied}
+use Rattle.persist.specs.Noted.{applied}
+use Rattle.journal.specs.Journal.{End}
 use Rattle.journal.proofs.FramesRead.{length-applied}
 use Rattle.journal_file.specs.Appended.{AppendsPart}
 use Rattle.journal_file.specs.OnDevice.{HasMore, HasNoMore, OnDevice}

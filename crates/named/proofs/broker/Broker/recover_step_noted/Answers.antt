@@ -1,4 +1,5 @@
 use Rattle.std.proofs.Common.{rules, ◌≡◌, ◌+◌, ◌≤◌, Ok, Some, subst}
+use Rattle.persist.specs.Noted.{answer_in}
 use Rattle.arena.specs.declared.broker.SlotId.{SlotId}
 use Rattle.directory.specs.declared.recovery.DirectoryRecovery.{DirectoryRecovery}
 use Rattle.named.specs.Brokers.{Brokered, IsWell}
@@ -8,7 +9,7 @@ use Rattle.named.proofs.Downtimes.{directory_downtime, queue_downtime}
 use Rattle.named.proofs.GoingOn.{nothing_downtime}
 use Rattle.named.proofs.Lastings.{few_left}
 use Rattle.named.proofs.Promises.{promises_kept}
-use Rattle.named.proofs.broker.Broker.recover_step.Goals as goal
+use Rattle.named.proofs.broker.Broker.recover_step_noted.Goals as goal
 
 pub returns-in-Some-RecoverQueue-clause-few : goal.returns-in-Some-RecoverQueue-clause-few
 returns-in-Some-RecoverQueue-clause-few c =
@@ -31,4 +32,4 @@ pub returns-in-Some-RecoverQueue-clause-downtime : goal.returns-in-Some-RecoverQ
 returns-in-Some-RecoverQueue-clause-downtime c =
     let slot : SlotId = c.in-Some-RecoverQueue.slot in
     let is : c.args.self.now.recovery ≡ Some (RecoverQueue slot) = search rules in
-    queue_downtime c.args.self.now c.recover_queue.new.self slot.0 c.recover_queue.result (subst IsWell c.self.view_is c.self.invariant.well) c.recover_queue.ensures.recovered
+    queue_downtime c.args.self.now c.recover_queue.new.self slot.0 (answer_in c.recover_queue.result) (subst IsWell c.self.view_is c.self.invariant.well) c.recover_queue.ensures.recovered

@@ -1,5 +1,6 @@
 use Rattle.std.proofs.Common.{◌≡◌, ◌≤◌, arith, Ok, slice_get, slice_set, Some, sym, subst, ap, ◌∙◌, refl}
 use Rattle.std.proofs.lemmas.Option.{slice_get_read, slice_get_within}
+use Rattle.persist.specs.Noted.{answer_in}
 use Rattle.protocol.specs.declared.acts.Act.TheVariants.{Step}
 use Rattle.interleave.specs.Rules.{stepping}
 use Rattle.interleave.proofs.AloneLaws.{get_set}
@@ -13,7 +14,7 @@ use Rattle.named.proofs.Askings.{admitted_client, slot_asked_here}
 use Rattle.named.proofs.GoingOn.{broker_stays}
 use Rattle.named.proofs.Kept.{slot_is_well}
 use Rattle.named.proofs.Promises.{promises_kept, promises_well}
-use Rattle.named.proofs.broker.Broker.step.Goals as goal
+use Rattle.named.proofs.broker.Broker.step_noted.Goals as goal
 
 pub step-requires : goal.step-requires
 step-requires c =
@@ -43,8 +44,8 @@ returns-clause-act c =
     slice_get_read b.slots 8 c.args.slot.0 was (sym c.self.invariant.well.count) c.if-slot-ge-SLOTS.false c.index_mut.ensures.value in
     let new : Brokered = record b { words = c.step.new.memory.words; slots = slice_set b.slots c.args.slot.0 c.step.new.self } in
     let admitted : admission b c.args.client ≡ Ok tt = ap (λ (x : Brokered). admission x c.args.client) c.self.view_is ∙ sym c.admit.ensures ∙ c.in_ok-admit.was in
-    subst (λ (x : Brokered). IsActAt (stepping c.args.client) c.args.slot.0 c.args.client x c.step.result new) c.self.view_is
-    (act_at b c.self.inside.memory c.step.new.memory c.args.slot.0 was c.step.new.self c.self.invariant here c.if-slot-ge-SLOTS.false c.step.ensures.within (stepping c.args.client) c.args.client c.step.result admitted c.step.ensures.act)
+    subst (λ (x : Brokered). IsActAt (stepping c.args.client) c.args.slot.0 c.args.client x (answer_in c.step.result) new) c.self.view_is
+    (act_at b c.self.inside.memory c.step.new.memory c.args.slot.0 was c.step.new.self c.self.invariant here c.if-slot-ge-SLOTS.false c.step.ensures.within (stepping c.args.client) c.args.client (answer_in c.step.result) admitted c.step.ensures.act)
 
 pub returns-clause-goes_on : goal.returns-clause-goes_on
 returns-clause-goes_on c =
@@ -55,7 +56,7 @@ returns-clause-goes_on c =
     let new : Brokered = record b { words = c.step.new.memory.words; slots = slice_set b.slots c.args.slot.0 c.step.new.self } in
     let admitted : admission b c.args.client ≡ Ok tt = ap (λ (x : Brokered). admission x c.args.client) c.self.view_is ∙ sym c.admit.ensures ∙ c.in_ok-admit.was in
     subst (λ (x : Brokered). BrokerGoesOn x new) c.self.view_is
-    (goes_on_at b c.self.inside.memory c.step.new.memory c.args.slot.0 was c.step.new.self c.self.invariant here c.if-slot-ge-SLOTS.false c.step.ensures.within (stepping c.args.client) c.args.client c.step.result admitted c.step.ensures.act (Step c.args.client) (λ w. refl))
+    (goes_on_at b c.self.inside.memory c.step.new.memory c.args.slot.0 was c.step.new.self c.self.invariant here c.if-slot-ge-SLOTS.false c.step.ensures.within (stepping c.args.client) c.args.client (answer_in c.step.result) admitted c.step.ensures.act (Step c.args.client) (λ w. refl))
 
 pub returns-clause-beside : goal.returns-clause-beside
 returns-clause-beside c =

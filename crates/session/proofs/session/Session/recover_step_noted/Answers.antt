@@ -1,31 +1,32 @@
 use Rattle.std.proofs.Common.{◌≡◌, ◌≤◌, ◌+◌, Bool, true, Result, Ok, ap, subst, ◌∙◌}
 use Rattle.words.specs.declared.refusal.Refusal.{Refusal}
+use Rattle.persist.specs.Noted.{answer_in}
 use Rattle.named.specs.Lasting.{most_kept, steps_left}
 use Rattle.session.specs.Keeping.{SessionGoesOn}
 use Rattle.session.specs.Sessions.{Sessioned}
 use Rattle.session.proofs.Answered.{ready_goes_on, right_ready, right_unready, unready_goes_on}
 use Rattle.session.proofs.Promised.{numbers_kept}
 use Rattle.session.proofs.GoneOn.{downtime_on}
-use Rattle.session.proofs.session.Session.recover_step.Goals as goal
+use Rattle.session.proofs.session.Session.recover_step_noted.Goals as goal
 
 -- the step is refused
 pub invariant_of-self : goal.invariant_of-self
 invariant_of-self c =
     let s : Sessioned = record { broker = c.self.inside.broker; kept = c.self.inside.kept } in
-    right_unready s c.recover_step.new.self c.recover_step.result c.self.invariant c.recover_step.ensures.promises.well
-    c.recover_step.ensures.step (λ ready. absurd (cc (c.in_err-ready.was, ready)))
+    right_unready s c.recover_step_noted.new.self (answer_in c.recover_step_noted.result) c.self.invariant c.recover_step_noted.ensures.promises.well
+    c.recover_step_noted.ensures.step (λ ready. absurd (cc (ap (answer_in {T = Bool}) c.in_err-ready.was, ready)))
 
 pub returns-in_err-ready-clause-few : goal.returns-in_err-ready-clause-few
 returns-in_err-ready-clause-few c =
-    subst (λ (x : Sessioned). steps_left x.broker ≤ 32 + most_kept x.broker) c.self.view_is c.recover_step.ensures.few
+    subst (λ (x : Sessioned). steps_left x.broker ≤ 32 + most_kept x.broker) c.self.view_is c.recover_step_noted.ensures.few
 
 pub returns-in_err-ready-clause-goes_on : goal.returns-in_err-ready-clause-goes_on
 returns-in_err-ready-clause-goes_on c =
     let s : Sessioned = record { broker = c.self.inside.broker; kept = c.self.inside.kept } in
-    let new : Sessioned = record s { broker = c.recover_step.new.self } in
+    let new : Sessioned = record s { broker = c.recover_step_noted.new.self } in
     subst (λ (x : Sessioned). SessionGoesOn x new) c.self.view_is
-    (unready_goes_on s c.recover_step.new.self c.recover_step.result c.self.invariant
-    c.recover_step.ensures.promises.well c.recover_step.ensures.step)
+    (unready_goes_on s c.recover_step_noted.new.self (answer_in c.recover_step_noted.result) c.self.invariant
+    c.recover_step_noted.ensures.promises.well c.recover_step_noted.ensures.step)
 
 pub returns-in_err-ready-clause-promises : goal.returns-in_err-ready-clause-promises
 returns-in_err-ready-clause-promises c = numbers_kept _ (invariant_of-self c)
@@ -34,25 +35,25 @@ returns-in_err-ready-clause-promises c = numbers_kept _ (invariant_of-self c)
 pub invariant_of-self-then-ready : goal.invariant_of-self-then-ready
 invariant_of-self-then-ready c =
     let s : Sessioned = record { broker = c.self.inside.broker; kept = c.self.inside.kept } in
-    let ready : c.recover_step.result ≡ Ok true =
-    c.in_ok-ready.was ∙ ap (λ (x : Bool). let r : Result Bool Refusal = Ok x in r) c.if-ready.true in
-    right_ready s c.recover_step.new.self c.recover_step.result c.self.invariant c.recover_step.ensures.promises.well
-    c.recover_step.ensures.step ready c.told-self-inside.result c.told-self-inside.ensures.heard
+    let ready : (answer_in c.recover_step_noted.result) ≡ Ok true =
+    ap (answer_in {T = Bool}) c.in_ok-ready.was ∙ ap (λ (x : Bool). let r : Result Bool Refusal = Ok x in r) c.if-ready.true in
+    right_ready s c.recover_step_noted.new.self (answer_in c.recover_step_noted.result) c.self.invariant c.recover_step_noted.ensures.promises.well
+    c.recover_step_noted.ensures.step ready c.told-self-inside.result c.told-self-inside.ensures.heard
     c.told-self-inside.ensures.heard.no_client
 
 pub returns-then-ready-clause-few : goal.returns-then-ready-clause-few
 returns-then-ready-clause-few c =
-    subst (λ (x : Sessioned). steps_left x.broker ≤ 32 + most_kept x.broker) c.self.view_is c.recover_step.ensures.few
+    subst (λ (x : Sessioned). steps_left x.broker ≤ 32 + most_kept x.broker) c.self.view_is c.recover_step_noted.ensures.few
 
 pub returns-then-ready-clause-goes_on : goal.returns-then-ready-clause-goes_on
 returns-then-ready-clause-goes_on c =
     let s : Sessioned = record { broker = c.self.inside.broker; kept = c.self.inside.kept } in
-    let new : Sessioned = record { broker = c.recover_step.new.self; kept = c.told-self-inside.result } in
-    let ready : c.recover_step.result ≡ Ok true =
-    c.in_ok-ready.was ∙ ap (λ (x : Bool). let r : Result Bool Refusal = Ok x in r) c.if-ready.true in
+    let new : Sessioned = record { broker = c.recover_step_noted.new.self; kept = c.told-self-inside.result } in
+    let ready : (answer_in c.recover_step_noted.result) ≡ Ok true =
+    ap (answer_in {T = Bool}) c.in_ok-ready.was ∙ ap (λ (x : Bool). let r : Result Bool Refusal = Ok x in r) c.if-ready.true in
     subst (λ (x : Sessioned). SessionGoesOn x new) c.self.view_is
-    (ready_goes_on s c.recover_step.new.self c.recover_step.result c.self.invariant c.recover_step.ensures.promises.well
-    c.recover_step.ensures.step ready c.told-self-inside.result c.told-self-inside.ensures.heard
+    (ready_goes_on s c.recover_step_noted.new.self (answer_in c.recover_step_noted.result) c.self.invariant c.recover_step_noted.ensures.promises.well
+    c.recover_step_noted.ensures.step ready c.told-self-inside.result c.told-self-inside.ensures.heard
     c.told-self-inside.ensures.heard.no_client)
 
 pub returns-then-ready-clause-promises : goal.returns-then-ready-clause-promises
@@ -62,29 +63,29 @@ returns-then-ready-clause-promises c = numbers_kept _ (invariant_of-self-then-re
 pub invariant_of-self-else-ready : goal.invariant_of-self-else-ready
 invariant_of-self-else-ready c =
     let s : Sessioned = record { broker = c.self.inside.broker; kept = c.self.inside.kept } in
-    right_unready s c.recover_step.new.self c.recover_step.result c.self.invariant c.recover_step.ensures.promises.well
-    c.recover_step.ensures.step (λ ready. absurd (cc (c.in_ok-ready.was, c.if-ready.false, ready)))
+    right_unready s c.recover_step_noted.new.self (answer_in c.recover_step_noted.result) c.self.invariant c.recover_step_noted.ensures.promises.well
+    c.recover_step_noted.ensures.step (λ ready. absurd (cc (ap (answer_in {T = Bool}) c.in_ok-ready.was, c.if-ready.false, ready)))
 
 pub returns-else-ready-clause-few : goal.returns-else-ready-clause-few
 returns-else-ready-clause-few c =
-    subst (λ (x : Sessioned). steps_left x.broker ≤ 32 + most_kept x.broker) c.self.view_is c.recover_step.ensures.few
+    subst (λ (x : Sessioned). steps_left x.broker ≤ 32 + most_kept x.broker) c.self.view_is c.recover_step_noted.ensures.few
 
 pub returns-else-ready-clause-goes_on : goal.returns-else-ready-clause-goes_on
 returns-else-ready-clause-goes_on c =
     let s : Sessioned = record { broker = c.self.inside.broker; kept = c.self.inside.kept } in
-    let new : Sessioned = record s { broker = c.recover_step.new.self } in
+    let new : Sessioned = record s { broker = c.recover_step_noted.new.self } in
     subst (λ (x : Sessioned). SessionGoesOn x new) c.self.view_is
-    (unready_goes_on s c.recover_step.new.self c.recover_step.result c.self.invariant
-    c.recover_step.ensures.promises.well c.recover_step.ensures.step)
+    (unready_goes_on s c.recover_step_noted.new.self (answer_in c.recover_step_noted.result) c.self.invariant
+    c.recover_step_noted.ensures.promises.well c.recover_step_noted.ensures.step)
 
 pub returns-else-ready-clause-promises : goal.returns-else-ready-clause-promises
 returns-else-ready-clause-promises c = numbers_kept _ (invariant_of-self-else-ready c)
 
 pub returns-in_err-ready-clause-downtime : goal.returns-in_err-ready-clause-downtime
-returns-in_err-ready-clause-downtime c = downtime_on _ _ _ c.self.view_is c.recover_step.ensures.downtime
+returns-in_err-ready-clause-downtime c = downtime_on _ _ _ c.self.view_is c.recover_step_noted.ensures.downtime
 
 pub returns-then-ready-clause-downtime : goal.returns-then-ready-clause-downtime
-returns-then-ready-clause-downtime c = downtime_on _ _ _ c.self.view_is c.recover_step.ensures.downtime
+returns-then-ready-clause-downtime c = downtime_on _ _ _ c.self.view_is c.recover_step_noted.ensures.downtime
 
 pub returns-else-ready-clause-downtime : goal.returns-else-ready-clause-downtime
-returns-else-ready-clause-downtime c = downtime_on _ _ _ c.self.view_is c.recover_step.ensures.downtime
+returns-else-ready-clause-downtime c = downtime_on _ _ _ c.self.view_is c.recover_step_noted.ensures.downtime

@@ -18,7 +18,8 @@ use Rattle.interleave.specs.declared.queue.Queue.{Queue}
 use Rattle.interleave.proofs.CrashLaws.{left_by_recovery, recovery_some, of_some}
 use Rattle.interleave.proofs.HoldsKept.{recovery_reads, recovery_next, holds_after_recover}
 use Rattle.interleave.proofs.MachineFacts.{room_held}
-use Rattle.interleave.proofs.lent.Core.recover_step.Goals as goal
+use Rattle.interleave.proofs.Noting.{act_noted}
+use Rattle.interleave.proofs.lent.Core.recover_step_noted.Goals as goal
 
 pub reserve-requires : goal.reserve-requires
 reserve-requires g c = room_held c.requires.holds
@@ -55,7 +56,7 @@ returns-clause-by_rule g c =
     let some = recovery_some w.recovery (sym c.is_down.ensures ∙ c.if-not-is_down.false) in
     let r : Recovery = some.0 in
     let e : w.recovery ≡ Some r = some.1 in
-    let steps : IsRecoveredFrom old ws new left c.recover_once.result (g.M.WordMemory.lent c.args.memory.now) (g.M.WordMemory.lent c.recover_once.new.memory) = subst (λ (k : CoreState). IsRecoveredFrom k ws new left c.recover_once.result (g.M.WordMemory.lent c.args.memory.now) (g.M.WordMemory.lent c.recover_once.new.memory)) same c.recover_once.ensures.step in
+    let steps : IsRecoveredFrom old ws new left c.recover_once.result.answer (g.M.WordMemory.lent c.args.memory.now) (g.M.WordMemory.lent c.recover_once.new.memory) = subst (λ (k : CoreState). IsRecoveredFrom k ws new left c.recover_once.result.answer (g.M.WordMemory.lent c.args.memory.now) (g.M.WordMemory.lent c.recover_once.new.memory)) same c.recover_once.ensures.step in
     let step = steps r e in
     let is = recovery_next w r c.requires.holds e in
     let ms : Words = after_one w.shape (recovery_access w.shape.kind r.at) ws in
@@ -82,3 +83,9 @@ pub returns-clause-holds : goal.returns-clause-holds
 returns-clause-holds g c =
     let old : State = state_of c.args.self.now (g.M.WordMemory.words c.args.memory.now) in
     subst Holds (sym (returns-clause-by_rule g c).leaves) (holds_after_recover false old c.requires.holds)
+
+pub returns-clause-noted : goal.returns-clause-noted
+returns-clause-noted g c =
+    let some = recovery_some c.args.self.now.trace.recovery (sym c.is_down.ensures ∙ c.if-not-is_down.false) in
+    let still : c.reserve.new.self.trace.recovery ≡ Some some.0 = ap (λ (k : CoreState). k.trace.recovery) c.reserve.ensures.same ∙ some.1 in
+    act_noted _ _ (g.M.WordMemory.words c.args.memory.now) _ _ c.requires.holds.safe.words.same (c.recover_once.ensures.step some.0 still).0 (c.recover_once.ensures.change some.0 still)
