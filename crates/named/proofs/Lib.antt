@@ -17,6 +17,7 @@ pub mod Stopped
 pub mod Nexts
 pub mod Recovers
 pub mod Founds
+pub mod Roomy
 pub mod Rotated
 pub mod Booted
 pub mod Promises

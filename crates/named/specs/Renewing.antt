@@ -22,7 +22,7 @@ use Rattle.renewal.specs.OneQueue.{IsQueueRenewalOf, queue_renewed}
 use Rattle.interleave.specs.Queue.{told_in, told_to}
 use Rattle.interleave.specs.State.{State, kept_content, kept_tells}
 use Rattle.named.specs.Booting.{IsBooted, kept_block}
-use Rattle.named.specs.Brokers.{Brokered, is_down, world_at}
+use Rattle.named.specs.Brokers.{Brokered, is_down, room_at, world_at}
 use Rattle.named.specs.Rotating.{rotate_result}
 
 -- what a client of the world was told last
@@ -98,6 +98,10 @@ pub record IsRenewedAt (old new : Brokered) (slot : ℕ) : Type 0 where
   pub directory : new.directory ≡ old.directory
   pub worlds : (at : ℕ) (w : State) → world_at old at ≡ Some w → BeginsOn w (world_at new at)
   pub closed : (at : ℕ) → world_at old at ≡ None → world_at new at ≡ None
+
+-- each queue's history has room for so many acts
+abbrev pub HasRoomInEach : Brokered → ℕ → Type 0
+HasRoomInEach b acts = (at : ℕ) → IsSome (world_at b at) → acts ≤ room_at b at
 
 -- why the queue is not renewed, the first reason that applies
 abbrev pub IsWhyNotRenewedAt : Brokered → ℕ → Refusal → Type 0

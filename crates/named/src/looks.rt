@@ -51,6 +51,13 @@ impl Broker {
         self.layout.clients()
     }
 
+    /// How many records each client has in each queue, from 1 to [`words::MAX_RECORDS`].
+    pub fn records(&self) -> u32
+        ensures { result ≡ self.now.counts.records }
+    {
+        self.layout.queue(Kind::Log).records()
+    }
+
     /// What the client was last told in the queue of a slot: what the last recovery read, and at first what the base
     /// tells. It is refused, in this order, where there is no such client (NoClient), while the broker recovers
     /// (NotReady), and where the slot is closed (NoQueue).

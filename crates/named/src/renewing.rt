@@ -2,10 +2,11 @@
 
 ghost use Rattle.std.specs.Prelude.{◌≡◌, ◌≤◌, ◌<◌, ℕ, Err, IfErr, IfOk, OnErr, OnOk};
 ghost use Rattle.named.specs.Promises.{KeepsPromises};
-ghost use Rattle.named.specs.Renewing.{AllFit, AreCountsFor, IsRenewed, IsRenewedAt, IsWhyNotRenewedAt, IsWhyUnrenewed, MayRenew};
+ghost use Rattle.named.specs.Renewing.{AllFit, AreCountsFor, HasRoomInEach, IsRenewed, IsRenewedAt, IsWhyNotRenewedAt, IsWhyUnrenewed, MayRenew};
+ghost use Rattle.named.specs.Stopping.{IsSameButRoom};
 
 use crate::broker::Broker;
-use crate::slots::have_calls;
+use crate::slots::{have_calls, reserve_each};
 use arena::{BrokerLayout, SlotId};
 use directory::sound as sound_directory;
 use persist::Memory;
@@ -68,15 +69,26 @@ impl Broker {
         Broker::boot(alloc, memory)
     }
 
+    /// Makes room in every queue's history for so many acts. It is refused for want of memory (NoMemory).
+    fn make_room(&mut self, acts: usize) -> Result<(), Refusal>
+        ensures same { IsSameButRoom self.old self.new }
+        ensures room { OnOk result (HasRoomInEach self.new acts) }
+        ensures errors { IfErr result (λ e. e ≡ Refusal.NoMemory) }
+        ensures promises { KeepsPromises self.new }
+    {
+        reserve_each(&mut self.slots, acts)
+    }
+
     /// The whole system stops at rest, and the queue of a slot has fresh records when recovery begins: as many as it
     /// has now, and hardly any used. All queues stay. The histories of all of them end, as by [`Broker::rotate`], and
-    /// others begin on what they hold and tell; the broker is down, as after [`Broker::crash`]. It is refused, in this
-    /// order, while recovery is under way (NotReady), where the slot is closed (NoQueue), where a creation is under way
-    /// or a call in any queue (Busy), where the items do not fit beside two records of each client (NoRoom), and for
-    /// want of memory (NoMemory), and then nothing changed.
+    /// others begin on what they hold and tell; the broker is down, as after [`Broker::crash`], with room in each
+    /// history for what recovery adds to it. It is refused, in this order, while recovery is under way (NotReady), where
+    /// the slot is closed (NoQueue), where a creation is under way or a call in any queue (Busy), where the items do not
+    /// fit beside two records of each client (NoRoom), and for want of memory (NoMemory), and then nothing changed.
     pub fn renew(&mut self, slot: SlotId) -> Result<(), Refusal>
         ensures may { OnOk result (MayRenew self.old slot.0) }
         ensures renewed { OnOk result (IsRenewedAt self.old self.new slot.0) }
+        ensures room { OnOk result (HasRoomInEach self.new 1) }
         ensures errors { IfErr result (IsWhyNotRenewedAt self.old slot.0) }
         ensures same { OnErr result (self.new ≡ self.old) }
         ensures promises { KeepsPromises self.new }
@@ -86,7 +98,9 @@ impl Broker {
         if self.creation.is_some() || have_calls(&self.slots) {
             return Err(Refusal::Busy);
         }
-        *self = self.with_renewed(slot)?;
+        let mut renewed = self.with_renewed(slot)?;
+        renewed.make_room(1)?;
+        *self = renewed;
         Ok(())
     }
 }

@@ -6,7 +6,7 @@ ghost use Rattle.persist.specs.Noted.{answer_in, change_in, IsNoted};
 ghost use Rattle.interleave.specs.Calls.{is_no_memory};
 ghost use Rattle.named.specs.Brokers.{is_down, quiet, room_at, world_at, IsBegun, IsNotCreated, IsStepCreated, MayCreate};
 ghost use Rattle.named.specs.GoingOn.{BrokerGoesOn};
-ghost use Rattle.named.specs.Renewing.{IsRenewedAt, IsWhyNotRenewedAt, MayRenew};
+ghost use Rattle.named.specs.Renewing.{HasRoomInEach, IsRenewedAt, IsWhyNotRenewedAt, MayRenew};
 ghost use Rattle.named.specs.Rotating.{rotate_result, IsRotated};
 ghost use Rattle.named.specs.Slots.{IsWhyUnread};
 ghost use Rattle.session.specs.Keeping.{SessionGoesOn};
@@ -111,6 +111,7 @@ impl Session {
     pub fn renew(&mut self, queue: SlotId) -> Result<(), Refusal>
         ensures may { OnOk result (MayRenew self.old.broker queue.0) }
         ensures renewed { OnOk result (IsRenewedAt self.old.broker self.new.broker queue.0) }
+        ensures room { OnOk result (HasRoomInEach self.new.broker 1) }
         ensures errors { IfErr result (IsWhyNotRenewedAt self.old.broker queue.0) }
         ensures same { OnErr result (self.new ≡ self.old) }
         ensures kept { self.new.kept ≡ self.old.kept }
