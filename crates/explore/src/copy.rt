@@ -74,7 +74,7 @@ pub(crate) fn recover(copy: &mut Memory, world: &World) -> Recovered
                 told: copied(recovery.told()),
             };
         }
-        ready = recovery.step(layout, copy);
+        ready = recovery.step(layout, copy).answer;
     }
     Recovered {
         steps: most,

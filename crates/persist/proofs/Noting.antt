@@ -1,11 +1,12 @@
 -- What an access and an eviction leave is what their changes make of the kept words, in a part of a memory too.
-use Rattle.std.proofs.Common.{◌≡◌, ℕ, ◌+◌, ◌<◌, ◌≤◌, List, ◌++◌, length, Option, Some, None, Bool, true, false, if◌then◌else◌, ◌==◌, slice_index, slice_set, take, drop, refl, sym, ap, ◌∙◌, arith}
+use Rattle.std.proofs.Common.{◌≡◌, ℕ, ◌+◌, ◌<◌, ◌≤◌, List, [], ◌∷◌, ◌++◌, length, Option, Some, None, Bool, true, false, if◌then◌else◌, ◌==◌, slice_index, slice_set, take, drop, refl, sym, ap, ◌∙◌, arith}
 use Rattle.std.proofs.lemmas.Bool.{eqb-true}
+use Rattle.std.proofs.lemmas.List.Sums.{fold-append}
 use Rattle.std.proofs.lemmas.Bool.Decides.{nat_tests}
-use Rattle.std.proofs.lemmas.List.{set-get_or, take-append-drop, drop-drop, get_or_past, length-take}
+use Rattle.std.proofs.lemmas.List.{set-get_or, take-append-drop, drop-drop, get_or_past, length-set, length-take}
 use Rattle.persist.specs.Changes.{change_of}
 use Rattle.persist.specs.Memory.{Access, Words, Load, Store, Cas, Flush, Fence, IsSameOutside, after, words_after_eviction, words_after_store, words_in}
-use Rattle.persist.specs.Noted.{IsNoted, change_behind, change_made_by}
+use Rattle.persist.specs.Noted.{IsNoted, applied, change_behind, change_made, change_made_by, changes_in}
 use Rattle.persist.specs.declared.access.Change.{Change}
 use Rattle.persist.proofs.Parts.{index_within, set_within, set_before, set_after}
 
@@ -68,3 +69,14 @@ part_noted from len (Some c) old new outside room noted =
           (noted.applied ∙ sym (set_within old.kept from len c.word c.new within))
           (outside.kept_after ∙ sym (set_after old.kept from len c.word c.new within));
     }
+
+-- a change behind others
+pub more_noted : (first old new : List ℕ) (changes : List Change) (change : Option Change) → old ≡ applied changes first → IsNoted change old new
+    → new ≡ applied (changes ++ changes_in change) first
+more_noted first old new changes change was noted =
+    noted.applied ∙ ap (applied (changes_in change)) was ∙ sym (fold-append change_made first changes (changes_in change))
+
+-- and there are as many words as before
+pub applied_length : (first : List ℕ) (changes : List Change) → length (applied changes first) ≡ length first
+applied_length first [] = refl
+applied_length first (change ∷ changes) = applied_length (change_made first change) changes ∙ length-set first change.word change.new

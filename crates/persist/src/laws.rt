@@ -1,10 +1,10 @@
 //! What holds of every image of a memory, and of every change of its kept words.
 
-ghost use Rattle.std.specs.Prelude.{◌≡◌, ◌+◌, ◌≤◌, ℕ, List, Ok, Option, length};
+ghost use Rattle.std.specs.Prelude.{◌≡◌, ◌+◌, ◌++◌, ◌≤◌, ℕ, List, Ok, Option, length};
 ghost use Rattle.persist.specs.Changes.{change_of};
 ghost use Rattle.persist.specs.Image.{AreWords, AreBytes, image_of, reading};
 ghost use Rattle.persist.specs.Memory.{Access, Words, IsSameOutside, after, words_after_eviction, words_in};
-ghost use Rattle.persist.specs.Noted.{change_behind, change_made_by, IsNoted};
+ghost use Rattle.persist.specs.Noted.{applied, change_behind, change_made_by, changes_in, IsNoted};
 ghost use Rattle.persist.specs.declared.access.Change.{Change};
 
 /// The words of any memory are read from their image. Bytes that are read have the words of some memory, and are the
@@ -16,7 +16,8 @@ pub fn words_have_one_image()
 {}
 
 /// An access, and an eviction, change the kept words by the change that they answer, and in no other way. So does what
-/// acts on a part alone, by the change of the word as the whole numbers it.
+/// acts on a part alone, by the change of the word as the whole numbers it. So who puts the changes of acts one behind
+/// the other has what they make of the kept words, and each is of one of these words.
 pub fn changes_are_noted()
     ensures accessed { (access : Access ℕ) (ws : Words) → length ws.kept ≡ length ws.cached
         → IsNoted (change_made_by access ws) ws.kept (after access ws).kept }
@@ -25,4 +26,8 @@ pub fn changes_are_noted()
     ensures within { (from len : ℕ) (change : Option Change) (old new : Words) → IsSameOutside from len old new
         → from + len ≤ length old.kept → IsNoted change (words_in from len old).kept (words_in from len new).kept
         → IsNoted (change_behind from change) old.kept new.kept }
+    ensures more { (first old new : List ℕ) (changes : List Change) (change : Option Change)
+        → old ≡ applied changes first → IsNoted change old new
+        → new ≡ applied (changes ++ changes_in change) first }
+    ensures length { (first : List ℕ) (changes : List Change) → length (applied changes first) ≡ length first }
 {}

@@ -58,7 +58,8 @@ impl Session {
             → answer_in result ≡ Err Refusal.Idle }
         ensures same { OnErr (answer_in result) (self.new ≡ self.old) }
         ensures step { self.old.broker.recovery ≡ None → IfSome self.old.broker.creation
-            (λ creation. IsStepCreated self.old.broker self.new.broker creation (answer_in result) (successor creation)) }
+            (λ creation. IsStepCreated self.old.broker self.new.broker creation (answer_in result)
+            (successor creation)) }
         ensures others { (other : ℕ) → IfOk (answer_in result) (λ opened. IfSome opened (λ slot. other ≢ slot.0))
             → quiet (world_at self.new.broker other) ≡ quiet (world_at self.old.broker other) }
         ensures kept { self.new.kept ≡ self.old.kept }

@@ -78,7 +78,7 @@ loop-steps-preserved c =
     let w : State = c.args.world.now.now in
     let r : Recovery = c.loop-steps.recovery in
     let runs = subst (λ (b : Bool). Runs (after_stop w) c.most_to_ready-most.result c.loop-steps.steps b r c.loop-steps.copy.words (lent_whole 0 0 c.loop-steps.copy)) c.if-ready.false c.loop-steps.invariant in
-    one_step (after_stop w) c.most_to_ready-most.result c.loop-steps.steps r c.step-ready.new.self c.step-ready.result
+    one_step (after_stop w) c.most_to_ready-most.result c.loop-steps.steps r c.step-ready.new.self c.step-ready.result.answer
     c.loop-steps.copy.words c.step-ready.new.memory.words (lent_whole 0 0 c.loop-steps.copy)
     (lent_whole 0 0 c.step-ready.new.memory) c.layout-layout.result.now runs c.loop-steps-test.true c.layout-layout.ensures
     c.step-ready.ensures.one_access c.step-ready.ensures.lent c.step-ready.ensures.next
