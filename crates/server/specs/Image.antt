@@ -5,10 +5,10 @@ use Rattle.words.specs.declared.refusal.Refusal.TheVariants.{Busy, NoMemory}
 use Rattle.persist.specs.Image.{image_of, reading}
 use Rattle.named.specs.Booting.{AreBootWords}
 use Rattle.named.specs.Brokers.{Brokered}
-use Rattle.named.specs.GoingOn.{CameOf}
 use Rattle.session.specs.Keeping.{AreKeptAsHeard, SessionGoesOn}
 use Rattle.session.specs.Promises.{KeepsNumbers}
 use Rattle.session.specs.Sessions.{Sessioned}
+use Rattle.workers.specs.Coming.{CameThrough}
 
 -- the session over the broker as it begins: it keeps what each client was told
 pub record IsOpenedOver (broker : Brokered) (s : Sessioned) : Type 0 where
@@ -23,12 +23,12 @@ pub record IsImageOf (b : Brokered) (bytes : List ℕ) : Type 0 where
 
 -- The bytes are the image of what the session came to. What was settled as it began is so still, no number took effect
 -- twice, and the queues that there were are there, each with a history that went on from where it began, or ended with
--- a rotation.
+-- a rotation or a renewal.
 pub record IsImageAfter (first : Sessioned) (bytes : List ℕ) : Type 0 where
   pub last : Sessioned
   pub goes_on : SessionGoesOn first last
   pub rotated : Bool
-  pub came : CameOf first.broker rotated last.broker
+  pub came : CameThrough first.broker rotated last.broker
   pub promises : KeepsNumbers last
   pub image : IsImageOf last.broker bytes
 

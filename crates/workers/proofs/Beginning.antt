@@ -15,33 +15,27 @@ use Rattle.interleave.specs.Verdicts.{number_of_call, number_under_way}
 use Rattle.interleave.specs.State.{State}
 use Rattle.protocol.specs.declared.UnderWay.{UnderWay}
 use Rattle.named.specs.Brokers.{Brokered, IsWell, answer_at, answer_if, has_client, is_down, world_at}
-use Rattle.named.specs.GoingOn.{BrokerGoesOn, CameOf, IsGoneOn}
-use Rattle.named.specs.GoingOn.CameOf.{rotated, unrotated}
+use Rattle.named.specs.GoingOn.{BrokerGoesOn, IsGoneOn}
 use Rattle.named.specs.Slots.{answered}
 use Rattle.named.specs.declared.recovery.BrokerRecovery.{BrokerRecovery}
-use Rattle.named.proofs.Comings.{came_unrotated}
 use Rattle.session.specs.Sessions.{Sessioned}
 use Rattle.session.proofs.Worlds.{clients_there, holds_there, up_there}
+use Rattle.workers.specs.Coming.{CameThrough}
 use Rattle.workers.specs.Following.{Guarded, IsGuardedWell, beginnings}
 use Rattle.workers.specs.Lists.{HasEndedAs, ends_open, events_at, events_of, is_open}
 use Rattle.workers.specs.Opening.{IsCalling}
 use Rattle.workers.specs.declared.entry.End.{End}
 use Rattle.workers.specs.declared.entry.End.TheVariants.{Answered, Interrupted, Open}
 use Rattle.workers.specs.declared.entry.Entry.{Entry}
+use Rattle.workers.proofs.Comings.{counts_through, through_unrotated}
 use Rattle.workers.proofs.Carried.{CallsNow}
 use Rattle.workers.proofs.Lists.{all_ended}
 use Rattle.workers.proofs.Steps.{not_now}
 
--- there are as many clients as there were
-pub counts_came : (first now : Brokered) (was : Bool) → CameOf first was now → now.counts ≡ first.counts
-counts_came first now false (unrotated goes_on) = goes_on.counts
-counts_came first now true (rotated {was = w} {ended = ended} {begun = begun} before explained rotation goes_on) =
-    goes_on.counts ∙ ap (λ (b : Brokered). b.counts) rotation.same ∙ counts_came first ended w before
-
 module _ (all : ℕ) (first : Sessioned) (g : Guarded) (well : IsGuardedWell all first g) where
   pub all_clients : g.session.broker.counts.clients ≡ all
   all_clients =
-      ap (λ c. c.clients) (counts_came first.broker g.session.broker g.rotated well.came) ∙ well.beginning.counts
+      ap (λ c. c.clients) (counts_through first.broker g.session.broker g.rotated well.came) ∙ well.beginning.counts
 
   -- each row is that of a client
   pub is_client : (client : Client) (list : List Entry) → slice_get g.rows client.0 ≡ Some list
@@ -156,8 +150,8 @@ module _ (all : ℕ) (first : Sessioned) (g : Guarded) (well : IsGuardedWell all
       go true is place before open_from = omega (arith, before)
       go false is place before open_from =
           by_world (world_at first.broker slot) refl
-          (came_unrotated first.broker g.session.broker
-          (subst (λ (r : Bool). CameOf first.broker r g.session.broker) is well.came)) place before open_from
+          (through_unrotated first.broker g.session.broker
+          (subst (λ (r : Bool). CameThrough first.broker r g.session.broker) is well.came)) place before open_from
 
   pub none_calls : CallsNow now client → ⊥
   none_calls calls = elim (cases_lt calls.place (beginnings first g.rotated slot)) [

@@ -13,7 +13,6 @@ use Rattle.named.specs.Brokers.{Brokered, IsStepCreated, IsWell, is_creating, is
 use Rattle.named.specs.Slots.{answered}
 use Rattle.named.specs.GoingOn.{BrokerGoesOn}
 use Rattle.named.proofs.Begun.{listed_open}
-use Rattle.named.proofs.Comings.{came_further}
 use Rattle.named.proofs.Kept.{get_set_other}
 use Rattle.named.proofs.Queues.{its_queue}
 use Rattle.interleave.specs.Calls.{is_no_memory}
@@ -42,6 +41,7 @@ use Rattle.workers.specs.declared.entry.Entry.{Entry}
 use Rattle.workers.specs.declared.locked.Creating.{Creating}
 use Rattle.workers.specs.declared.locked.Creating.TheVariants.{Interrupted, Nothing, UnderWay}
 use Rattle.workers.specs.Seats.{AreEmpty}
+use Rattle.workers.proofs.Comings.{through_further}
 use Rattle.workers.proofs.Carried.{IsCarriedFor}
 use Rattle.workers.proofs.Follows.{followed_empty, row_changed, rows_carried, set_here}
 use Rattle.workers.proofs.Names.{named_on}
@@ -116,7 +116,7 @@ module _ (all : ℕ) (first : Sessioned) (old : Guarded) (well : IsGuardedWell a
     promises = keeps;
     creation = known;
     goes_on = session_further first old.session new well.goes_on on.numbers;
-    came = came_further first.broker old.rotated old.session.broker new.broker well.came on.queues;
+    came = through_further first.broker old.rotated old.session.broker new.broker well.came on.queues;
     done = done;
   }
 
@@ -179,7 +179,7 @@ module _ (all : ℕ) (first : Sessioned) (old : Guarded) (well : IsGuardedWell a
     promises = keeps;
     creation = known;
     goes_on = session_further first old.session new well.goes_on on.numbers;
-    came = came_further first.broker old.rotated old.session.broker new.broker well.came on.queues;
+    came = through_further first.broker old.rotated old.session.broker new.broker well.came on.queues;
     done = act well.done on.queues
         (unstopped (record { 0 = suc t }) old.session new (carried (suc t) (λ same. absurd (omega (arith, same)))));
   }

@@ -2,6 +2,7 @@ pub mod SeenStill
 pub mod Answering
 pub mod Beginning
 pub mod Carried
+pub mod Comings
 pub mod Counting
 pub mod Endings
 pub mod Follows
@@ -22,4 +23,6 @@ pub mod Telling
 pub mod Turning
 pub mod Turns
 pub mod Refusing
+pub mod Renewals
+pub mod Roomy
 pub mod Unstopped

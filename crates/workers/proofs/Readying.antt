@@ -25,7 +25,7 @@ not_below false n is = refl
 not_below true n is = let less = ltb-true n n is in absurd (omega (arith, less))
 
 -- the queue that recovers is not ready
-waits_there : (b : Brokered) → IsWell b → (slot : SlotId) → b.recovery ≡ Some (RecoverQueue slot) → (w : State)
+pub waits_there : (b : Brokered) → IsWell b → (slot : SlotId) → b.recovery ≡ Some (RecoverQueue slot) → (w : State)
     → world_at b slot.0 ≡ Some w → is_some w.recovery ≡ true
 waits_there b well slot turn w here = go (slice_get b.slots slot.0) refl here
   where

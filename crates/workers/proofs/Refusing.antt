@@ -32,12 +32,10 @@ use Rattle.named.specs.Finding.{IsPlaced}
 use Rattle.logqueue.specs.Numbers.{is_stale}
 use Rattle.protocol.specs.declared.UnderWay.{UnderWay}
 use Rattle.named.specs.Brokers.{is_down as is_broker_down}
-use Rattle.named.specs.GoingOn.{CameOf}
 use Rattle.named.specs.Rotating.{has_calls_in, rotate_result}
 use Rattle.named.specs.Slots.{answered}
 use Rattle.named.specs.declared.recovery.BrokerRecovery.{BrokerRecovery}
 use Rattle.named.proofs.Begun.{listed_open}
-use Rattle.named.proofs.Comings.{queues_came}
 use Rattle.session.specs.Keeping.{IsSettled}
 use Rattle.session.specs.Numbers.{by_last, by_number, by_outcome, missed}
 use Rattle.session.specs.Requests.{IsBegunBy, answer_to, as_begun, is_kind, number_or_zero, queue_admission, request_admission}
@@ -47,20 +45,22 @@ use Rattle.workers.specs.Following.{Guarded, IsGuardedWell}
 use Rattle.workers.specs.Lists.{ends_open, events_at, events_of}
 use Rattle.workers.specs.Refusals.{IsSettledStart, IsWhyNotTold, IsWhyRefused, WasSettled, is_rotation_refusal, is_settled_refusal, kind_asked}
 use Rattle.workers.specs.declared.entry.Entry.{Entry}
+use Rattle.workers.specs.Coming.{CameThrough}
 use Rattle.workers.specs.declared.entry.Request.{Request}
+use Rattle.workers.proofs.Comings.{queues_through}
 use Rattle.workers.proofs.Beginning.{all_clients, is_client, none_calls}
 use Rattle.workers.proofs.Carried.{CallsNow}
 use Rattle.workers.proofs.QueueKinds.{kind_of_queue}
 use Rattle.workers.proofs.Steps.{calls_now}
 
 -- a name that a queue had at the beginning is taken for good
-pub taken_still : (first now : Brokered) (was : Bool) (name : List ℕ) → CameOf first was now → HasName first.directory name
+pub taken_still : (first now : Brokered) (was : Bool) (name : List ℕ) → CameThrough first was now → HasName first.directory name
     → HasName now.directory name
 taken_still first now was name came has = record {
   slot = has.slot;
   here = record {
     queue = has.here.queue;
-    has = queues_came first was now came has.slot has.here.queue has.here.has;
+    has = queues_through first was now came has.slot has.here.queue has.here.has;
     named = has.here.named;
   };
 }
@@ -70,7 +70,7 @@ module _ (all : ℕ) (first : Sessioned) (g : Guarded) (well : IsGuardedWell all
     (named : IsNamed g.session.broker.directory slot name) (was : ℕ) (q : AnyQueue)
     (has : HasQueue first.broker.directory was q) (called : q.name ≡ name) where
   still : HasQueue g.session.broker.directory was q
-  still = queues_came first.broker g.rotated g.session.broker well.came was q has
+  still = queues_through first.broker g.rotated g.session.broker well.came was q has
 
   pub slot_still : was ≡ slot
   slot_still =

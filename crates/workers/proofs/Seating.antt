@@ -3,8 +3,8 @@ use Rattle.std.proofs.Common.{length, ◌≤◌, ◌≡◌, ◌⊎◌, ℕ, ◌+
 use Rattle.std.proofs.Common.{⊎_elim, length-append, subst}
 use Rattle.words.specs.declared.call.Client.{Client}
 use Rattle.events.proofs.Lists.{get_push_cases}
-use Rattle.named.specs.GoingOn.{CameOf}
 use Rattle.session.specs.Sessions.{Sessioned}
+use Rattle.workers.specs.Coming.{CameThrough}
 use Rattle.workers.specs.Following.{Guarded, IsGuardedWell, beginnings}
 use Rattle.workers.specs.Lists.{AreNamed, IsRecorded, events_at}
 use Rattle.workers.specs.Seats.{AreSeatsRecorded, AreAllInOrder, AreEmpty}
@@ -75,7 +75,7 @@ accounted_by_rows list clients first g s seats is well each = record {
   begun = subst (λ (t : Sessioned). (slot : ℕ) → beginnings first g.rotated slot ≤ length (events_at t.broker slot)) (sym is)
       well.followed.begun;
   rotated = g.rotated;
-  came = subst (λ (t : Sessioned). CameOf first.broker g.rotated t.broker) (sym is) well.came;
+  came = subst (λ (t : Sessioned). CameThrough first.broker g.rotated t.broker) (sym is) well.came;
   each = λ k seat at.
       subst (λ (t : Sessioned). IsRecorded (beginnings first g.rotated) t (client_of k) (list seat)) (sym is)
       (well.followed.each k (list seat) (each k seat at)).recorded;

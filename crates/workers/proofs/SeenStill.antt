@@ -7,13 +7,13 @@ use Rattle.arena.specs.declared.broker.SlotId.{SlotId}
 use Rattle.directory.specs.Directory.{Directory, HasName, HasQueue, IsDirectory, IsFree, IsNamed}
 use Rattle.directory.specs.declared.queue.Queue.{Queue}
 use Rattle.named.specs.Brokers.{Brokered}
-use Rattle.named.specs.GoingOn.{CameOf}
 use Rattle.named.proofs.Begun.{get_there}
-use Rattle.named.proofs.Comings.{queues_came}
+use Rattle.workers.specs.Coming.{CameThrough}
+use Rattle.workers.proofs.Comings.{queues_through}
 use Rattle.workers.specs.Looking.{IsFoundOf, IsListedOf}
 
 -- a slot that has a queue now had that queue, or was free
-module _ (first now : Brokered) (was : Bool) (came : CameOf first was now) (listed : IsDirectory first.directory)
+module _ (first now : Brokered) (was : Bool) (came : CameThrough first was now) (listed : IsDirectory first.directory)
     (listed_now : IsDirectory now.directory) where
   pub had_or_free : (slot : ℕ) (queue : Queue) → HasQueue now.directory slot queue
       → HasQueue first.directory slot queue ⊎ IsFree first.directory slot
@@ -27,7 +27,7 @@ module _ (first now : Brokered) (was : Bool) (came : CameOf first was now) (list
       go None is = absurd (get_there first.directory slot below is)
       go (Some None) is = inr is
       go (Some (Some q)) is =
-          let still = queues_came first was now came slot q is in
+          let still = queues_through first was now came slot q is in
           let same : q ≡ queue = cc (still, has) in
           inl (is ∙ ap (λ (x : Queue). let r : Option (Option Queue) = Some (Some x) in r) same)
 
@@ -42,7 +42,7 @@ module _ (first now : Brokered) (was : Bool) (came : CameOf first was now) (list
       go None is = absurd (get_there first.directory slot below is)
       go (Some None) is = is
       go (Some (Some q)) is =
-          let still = queues_came first was now came slot q is in
+          let still = queues_through first was now came slot q is in
           absurd (cc (still, free))
 
   -- by its name
@@ -53,7 +53,7 @@ module _ (first now : Brokered) (was : Bool) (came : CameOf first was now) (list
           slot = slot;
           here = record {
             queue = here.queue;
-            has = queues_came first was now came slot here.queue here.has;
+            has = queues_through first was now came slot here.queue here.has;
             named = here.named;
           };
         }));
@@ -66,7 +66,7 @@ module _ (first now : Brokered) (was : Bool) (came : CameOf first was now) (list
     there = λ slot here.
         let same : found.0 ≡ slot =
         listed_now.once found.0 slot some.queue here.queue some.has
-        (queues_came first was now came slot here.queue here.has) (some.named ∙ sym here.named) in
+        (queues_through first was now came slot here.queue here.has) (some.named ∙ sym here.named) in
         ap (λ (n : ℕ). let r : Option SlotId = Some (record { 0 = n }) in r) same;
     right = λ slot is.
         let same : found ≡ slot = cc (is) in
@@ -98,7 +98,7 @@ module _ (first now : Brokered) (was : Bool) (came : CameOf first was now) (list
           listed_now.once i j p q (there i (Some p) has_p) (there j (Some q) has_q) named;
     };
     queues = λ slot queue has.
-        let still = queues_came first was now came slot queue has in
+        let still = queues_through first was now came slot queue has in
         same slot (omega (arith, slice_get_within now.directory slot (Some queue) still, listed_now.count)) ∙ still;
   }
     where

@@ -11,11 +11,12 @@ use Rattle.interleave.specs.Queue.{told_in, told_to}
 use Rattle.named.specs.Brokers.{Brokered, IsOpened, answer_at, is_down}
 use Rattle.named.specs.GoingOn.{BrokerGoesOn}
 use Rattle.named.specs.Promises.{KeepsPromises}
+use Rattle.named.specs.Renewing.{IsRenewedAt}
 use Rattle.named.specs.Rotating.{IsRotated}
 use Rattle.named.specs.Stopping.{IsStopped}
 use Rattle.arena.specs.declared.broker.SlotId.{SlotId}
 use Rattle.workers.specs.declared.deeds.Deed.{Deed}
-use Rattle.workers.specs.declared.deeds.Deed.TheVariants.{Crash, Creation as creation_deed, Readiness, Rotation, Telling}
+use Rattle.workers.specs.declared.deeds.Deed.TheVariants.{Crash, Creation as creation_deed, Readiness, Renewal, Rotation, Telling}
 use Rattle.workers.specs.declared.shared.Created.{Created}
 use Rattle.workers.specs.declared.shared.Created.TheVariants.{Interrupted, Queue as created_queue, Refused}
 use Rattle.workers.specs.Lists.{events_at}
@@ -32,9 +33,10 @@ pub record IsUnstopped (old new : Brokered) : Type 0 where
   pub crashes : (slot place : ℕ) → CrashAt (events_at new slot) place → CrashAt (events_at old slot) place
 
 -- The one broker came of the other, and meanwhile this was done in this order, each at its moment: everything stopped
--- (Crash), a creation opened its slot (Creation), the histories ended and others began (Rotation), the broker was found
--- to be ready (Readiness), a client was told what it was last told (Telling). Between them the queues and their
--- histories go on, by acts of any kind but crashes. The first row is the operator's: a Crash for each time that
+-- (Crash), a creation opened its slot (Creation), the histories ended and others began (Rotation), so they did with the
+-- queue of a slot in fresh records, while nobody called, and recovery began (Renewal), the broker was found to be ready
+-- (Readiness), a client was told what it was last told (Telling). Between them the queues and their histories go on, by
+-- acts of any kind but crashes. The first row is the operator's: a Crash for each time that
 -- everything stopped. Every other deed has a row of its own behind it, as a roll has it
 pub data CameBy (first : Brokered) : List (List Deed) → Brokered → Type 0 where
   nothing : CameBy first ([] ∷ []) first
@@ -49,6 +51,9 @@ pub data CameBy (first : Brokered) : List (List Deed) → Brokered → Type 0 wh
   rotation : {deeds : List (List Deed)} {old new : Brokered} (before : CameBy first deeds old)
       (explained : KeepsPromises old) (rotated : IsRotated old new)
       → CameBy first (deeds ++ (Rotation ∷ []) ∷ []) new
+  renewal : {deeds : List (List Deed)} {old new : Brokered} {slot : SlotId} (before : CameBy first deeds old)
+      (explained : KeepsPromises old) (renewed : IsRenewedAt old new slot.0)
+      → CameBy first (deeds ++ (Renewal slot ∷ []) ∷ []) new
   readiness : {deeds : List (List Deed)} {now : Brokered} (before : CameBy first deeds now)
       (ready : now.recovery ≡ None) → CameBy first (deeds ++ (Readiness ∷ []) ∷ []) now
   telling : {deeds : List (List Deed)} {now : Brokered} {client : Client} {name : List ℕ} {told : Told}

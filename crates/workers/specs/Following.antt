@@ -2,10 +2,10 @@
 use Rattle.std.specs.Prelude.{◌≡◌, ◌≤◌, ℕ, Bool, true, false, length, List, Some, slice_get}
 use Rattle.words.specs.declared.call.Client.{Client}
 use Rattle.named.specs.Brokers.{is_down}
-use Rattle.named.specs.GoingOn.{CameOf}
 use Rattle.session.specs.Keeping.{SessionGoesOn}
 use Rattle.session.specs.Promises.{KeepsNumbers}
 use Rattle.session.specs.Sessions.{Sessioned}
+use Rattle.workers.specs.Coming.{CameThrough}
 use Rattle.workers.specs.Creating.{IsCreationKnown}
 use Rattle.workers.specs.Deeds.{CameBy}
 use Rattle.workers.specs.Opening.{IsNotInUse}
@@ -15,7 +15,8 @@ use Rattle.workers.specs.declared.entry.End.TheVariants.{Open}
 use Rattle.workers.specs.declared.entry.Entry.{Entry}
 use Rattle.workers.specs.declared.locked.Creating.{Creating}
 
--- where the seats' lists begin in each history: at what it had when the seats were given, or, since a rotation, at 0
+-- where the seats' lists begin in each history: at what it had when the seats were given; or at 0, since a rotation or a
+-- renewal ended that one
 abbrev pub beginnings : Sessioned → Bool → ℕ → ℕ
 beginnings first true slot = 0
 beginnings first false slot = length (events_at first.broker slot)
@@ -54,7 +55,7 @@ pub record IsBeginning (all : ℕ) (first : Sessioned) : Type 0 where
 -- what holds of it whenever the lock is free, where there are so many clients, and the session was this one when the
 -- seats were given: each call is in the queue of its name; what was settled then is so still, the clients of its log
 -- queues are such clients still, and the queues that it had then are there, each with a history that went on from where
--- it began, or ended with a rotation
+-- it began, or ended with a rotation or a renewal
 pub record IsGuardedWell (all : ℕ) (first : Sessioned) (g : Guarded) : Type 0 where
   pub beginning : IsBeginning all first
   pub clients : length g.rows ≡ all
@@ -63,5 +64,5 @@ pub record IsGuardedWell (all : ℕ) (first : Sessioned) (g : Guarded) : Type 0 
   pub promises : KeepsNumbers g.session
   pub creation : IsCreationKnown g.session.broker g.creating
   pub goes_on : SessionGoesOn first g.session
-  pub came : CameOf first.broker g.rotated g.session.broker
+  pub came : CameThrough first.broker g.rotated g.session.broker
   pub done : CameBy first.broker g.deeds g.session.broker

@@ -1,5 +1,6 @@
 pub mod Lists
 pub mod Accounts
+pub mod Coming
 pub mod Following
 pub mod Answers
 pub mod Made
@@ -11,3 +12,5 @@ pub mod Seats
 pub mod Looking
 pub mod Recovered
 pub mod Refusals
+pub mod Renewing
+pub mod Usage

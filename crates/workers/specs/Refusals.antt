@@ -8,6 +8,7 @@ use Rattle.words.specs.declared.limits.TheConstants.{MAX_CALL_NUMBER}
 use Rattle.words.specs.declared.refusal.Refusal.{Refusal}
 use Rattle.words.specs.declared.refusal.Refusal.TheVariants.{BadName, Busy, DirectoryFull, Exists, Gap, NoClient, NoMemory}
 use Rattle.words.specs.declared.refusal.Refusal.TheVariants.{NoQueue, NoRoom, NotReady, Old, StaleNumber, WrongKind}
+use Rattle.arena.specs.declared.broker.SlotId.{SlotId}
 use Rattle.directory.specs.Directory.{HasName, HasQueue, IsNamed}
 use Rattle.directory.specs.declared.queue.Queue.{Queue}
 use Rattle.named.specs.Brokers.{is_down}
@@ -120,6 +121,21 @@ is_rotation_refusal NotReady = true
 is_rotation_refusal Busy = true
 is_rotation_refusal NoMemory = true
 is_rotation_refusal _ = false
+
+-- Why a queue is not renewed, as far as that is so for good. NoQueue: the slot had no queue when the seats were given
+abbrev pub IsWhyNotRenewed : Sessioned → SlotId → Refusal → Type 0
+IsWhyNotRenewed first slot NotReady = Unit {0}
+IsWhyNotRenewed first slot NoQueue = (q : Queue) → HasQueue first.broker.directory slot.0 q → ⊥
+IsWhyNotRenewed first slot Busy = Unit {0}
+IsWhyNotRenewed first slot NoRoom = Unit {0}
+IsWhyNotRenewed first slot NoMemory = Unit {0}
+IsWhyNotRenewed first slot _ = ⊥
+
+-- why it is not told what a queue holds
+abbrev pub IsWhyNoUsage : Sessioned → SlotId → Refusal → Type 0
+IsWhyNoUsage first slot NoQueue = (q : Queue) → HasQueue first.broker.directory slot.0 q → ⊥
+IsWhyNoUsage first slot NoMemory = Unit {0}
+IsWhyNoUsage first slot _ = ⊥
 
 -- whether a creation was refused; where it was, the refusal is as P says
 abbrev pub is_refused : Created → Bool

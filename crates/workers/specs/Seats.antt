@@ -1,8 +1,8 @@
 -- Seats in the order of their clients.
 use Rattle.std.specs.Prelude.{◌≡◌, ◌≤◌, ℕ, Bool, length, List, Some, slice_get, []}
 use Rattle.words.specs.declared.call.Client.{Client}
-use Rattle.named.specs.GoingOn.{CameOf}
 use Rattle.session.specs.Sessions.{Sessioned}
+use Rattle.workers.specs.Coming.{CameThrough}
 use Rattle.workers.specs.Following.{beginnings}
 use Rattle.workers.specs.Lists.{AreNamed, IsRecorded, events_at}
 use Rattle.workers.specs.declared.entry.Entry.{Entry}
@@ -25,7 +25,7 @@ pub record AreRows {S : Type 0} (list : S → List Entry) (rows : List (List Ent
 pub record AreSeatsRecorded {S : Type 0} (list : S → List Entry) (first : Sessioned) (seats : List S) (s : Sessioned)
     : Type 0 where
   pub rotated : Bool
-  pub came : CameOf first.broker rotated s.broker
+  pub came : CameThrough first.broker rotated s.broker
   pub begun : (slot : ℕ) → beginnings first rotated slot ≤ length (events_at s.broker slot)
   pub each : (k : ℕ) (seat : S) → slice_get seats k ≡ Some seat
       → IsRecorded (beginnings first rotated) s (record { 0 = k }) (list seat)

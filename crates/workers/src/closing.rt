@@ -45,7 +45,7 @@ fn emptied<J: Naming>(roll: &Roll<Entry>, keeper: &mut Token<Entry>, seat: Seat<
 
 /// All seats with empty lists, as the keeper knows them. Each is taken from the front of the vector and put behind the
 /// others, so that this takes no memory.
-fn all_emptied<J: Naming>(
+pub(crate) fn all_emptied<J: Naming>(
     roll: &Roll<Entry>,
     keeper: &mut Token<Entry>,
     mut seats: Vec<Seat<J>>,

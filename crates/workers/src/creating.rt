@@ -1,14 +1,17 @@
 //! Crashes, recoveries, and creations, under the lock.
 
-ghost use Rattle.std.specs.Prelude.{◌≡◌, ◌≢◌, ◌++◌, ◌∷◌, [], Err, IfErr, IfOk, IfSome, IsErr, IsSome, IsTrue, OnErr, OnOk, true};
+ghost use Rattle.std.specs.Prelude.{◌≡◌, ◌≢◌, ◌<◌, ◌++◌, ◌∷◌, [], Err, IfErr, IfOk, IfSome, IsErr, IsSome, IsTrue, None, OnErr, OnOk, true};
 ghost use Rattle.directory.specs.Directory.{HasName, HasQueue};
 ghost use Rattle.directory.specs.Name.{IsName};
 ghost use Rattle.named.specs.Brokers.{world_at, MayCreate};
+ghost use Rattle.named.specs.GoingOn.{BrokerGoesOn};
+ghost use Rattle.named.specs.Lasting.{steps_left};
 ghost use Rattle.named.specs.Stopping.{IsRecoveryStep, IsStopped};
 ghost use Rattle.workers.specs.Creating.{creating_after_crash};
 ghost use Rattle.workers.specs.Deeds.{IsReadyReceipted, IsReceipted};
 ghost use Rattle.workers.specs.Made.{IsMade};
 ghost use Rattle.workers.specs.Refusals.{is_creation_refusal};
+ghost use Rattle.workers.specs.Renewing.{HasRoomToRecover};
 ghost use Rattle.workers.specs.Recovered.{is_ready_after, IsRecoveryRefusal};
 ghost use Rattle.workers.specs.declared.deeds.Deed.{Deed as AnyDeed};
 ghost use Rattle.workers.specs.declared.locked.Creating.{Creating as AnyCreating};
@@ -152,6 +155,13 @@ impl<J: Naming> Locked<J> {
             self.old.session.broker.recovery }
         ensures errors { IfErr result.0 IsRecoveryRefusal }
         ensures receipt { IsReadyReceipted (λ receipt. receipt.deed) (is_ready_after result.0) result.1 }
+        ensures goes_on { BrokerGoesOn self.old.session.broker self.new.session.broker }
+        ensures ready { is_ready_after result.0 ≡ true → self.new.session.broker.recovery ≡ None }
+        ensures room { HasRoomToRecover self.old.session.broker → HasRoomToRecover self.new.session.broker }
+        ensures never_full { HasRoomToRecover self.old.session.broker
+            → IfErr result.0 (λ refusal. refusal ≡ Refusal.AlreadyReady) }
+        ensures falls { IfOk result.0
+            (λ ready. steps_left self.new.session.broker < steps_left self.old.session.broker) }
     {
         let step = self.session.recover_step();
         if !is_ready_after(&step) {

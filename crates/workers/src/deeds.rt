@@ -23,6 +23,8 @@ pub enum Deed {
     Creation(SlotId, Queue),
     /// The histories of all queues ended, and others began.
     Rotation,
+    /// The queue of this slot began in fresh records, and all histories ended.
+    Renewal(SlotId),
     /// The broker was ready.
     Readiness,
     /// The client was told that this is what it was last told, in the queue of this name.

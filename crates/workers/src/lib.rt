@@ -13,6 +13,7 @@ mod looks;
 mod naming;
 mod opening;
 mod operator;
+mod renewing;
 mod seat;
 mod shared;
 
@@ -20,6 +21,7 @@ pub use deeds::{Deed, Receipt};
 pub use entry::{Answer, End, Entry, Request};
 pub use gate::{Gate, OpenGate};
 pub use laws::{calls_are_counted, interrupted_calls_are_told};
+pub use looks::Usage;
 pub use naming::Naming;
 pub use opening::{NotOpened, Opened, is_in_use};
 pub use operator::Operator;

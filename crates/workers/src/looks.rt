@@ -4,7 +4,11 @@ ghost use Rattle.std.specs.Prelude.{◌≡◌, ◌<◌, ℕ, length, IfErr, IfOk
 ghost use Rattle.arena.specs.declared.broker.TheConstants.{SLOTS};
 ghost use Rattle.workers.specs.Deeds.{IsTellingReceipted, IsTold};
 ghost use Rattle.workers.specs.Looking.{IsFoundOf, IsListedOf};
-ghost use Rattle.workers.specs.Refusals.{IsWhyNotTold};
+ghost use Rattle.interleave.specs.State.{kept_content};
+ghost use Rattle.named.specs.Brokers.{world_at};
+ghost use Rattle.named.specs.Slots.{IfWorld};
+ghost use Rattle.workers.specs.Refusals.{IsWhyNotTold, IsWhyNoUsage};
+ghost use Rattle.workers.specs.Usage.{IsUsageOf};
 
 use crate::deeds::{Deed, Receipt};
 use crate::locked::Locked;
@@ -14,6 +18,17 @@ use directory::{Name, Places};
 use events::copied;
 use roll::Roll;
 use words::{Client, Refusal, Told};
+
+/// What a queue holds, and how many records it has for that.
+#[derive(Clone, Copy, Debug, PartialEq, Eq)]
+pub struct Usage {
+    /// How many items it holds.
+    pub items: usize,
+    /// How many clients it has.
+    pub clients: u32,
+    /// How many records each of them has, used and free.
+    pub records: u32,
+}
 
 /// The same places.
 fn copy_of(places: &Places) -> Places
@@ -74,5 +89,21 @@ impl<J: Naming> Locked<J> {
             }
             Err(refusal) => (Err(refusal), None),
         }
+    }
+
+    /// What the queue of a slot holds.
+    pub(crate) fn usage(&self, slot: SlotId) -> Result<Usage, Refusal>
+        ensures items { IfOk result (λ usage. IfWorld (world_at self.now.session.broker slot.0)
+            (λ w. usage.items ≡ length (kept_content w))) }
+        ensures counts { IfOk result (IsUsageOf J.clients J.first) }
+        ensures errors { IfErr result (IsWhyNoUsage J.first slot) }
+    {
+        let _ = &self.session;
+        let items = self.session.broker().content(slot)?.len();
+        Ok(Usage {
+            items,
+            clients: self.session.broker().clients(),
+            records: self.session.broker().records(),
+        })
     }
 }

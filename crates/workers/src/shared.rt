@@ -8,7 +8,8 @@ ghost use Rattle.workers.specs.Looking.{IsCreatedBeside, IsFoundOf, IsListedOf};
 ghost use Rattle.workers.specs.Refusals.{is_creation_refusal, is_refused, IsWhyNotTold};
 ghost use Rattle.workers.specs.Refusals.{IfNotCreated, IfNotMade};
 ghost use Rattle.workers.specs.Recovered.{is_ready_after, is_ready_by, told_of_recovery, IsRecoveryRefusal};
-ghost use Rattle.workers.specs.Refusals.{IsSettledAnswer, IsSettledStart, IsWhyRefused, WasSettled};
+ghost use Rattle.workers.specs.Refusals.{IsSettledAnswer, IsSettledStart, IsWhyNoUsage, IsWhyRefused, WasSettled};
+ghost use Rattle.workers.specs.Usage.{IsUsageOf};
 ghost use Rattle.directory.specs.Directory.{HasName};
 ghost use Rattle.directory.specs.Name.{IsName};
 ghost use Rattle.workers.specs.declared.entry.Answer.{Answer as AnyAnswer};
@@ -19,6 +20,7 @@ use crate::deeds::{Deed, Receipt};
 use crate::entry::{Answer, Entry, Request, Took};
 use crate::gate::Gate;
 use crate::locked::Locked;
+use crate::looks::Usage;
 use crate::naming::Naming;
 use crate::operator::Operator;
 use crate::seat::Seat;
@@ -262,5 +264,14 @@ impl<J: Naming> Shared<J> {
         ensures errors { IfErr result.0 (IsWhyNotTold J.clients J.first name.now client) }
     {
         lock(rt, &self.locked).told(&self.deeds, client, name)
+    }
+
+    /// What the queue of a slot holds now, and how many clients and records it has. It walks the queue. It is refused, in
+    /// this order, where the slot has no queue (NoQueue), and for want of memory (NoMemory).
+    pub fn usage<R: Wait>(&self, rt: &R, slot: SlotId) -> Result<Usage, Refusal>
+        ensures counts { IfOk result (IsUsageOf J.clients J.first) }
+        ensures errors { IfErr result (IsWhyNoUsage J.first slot) }
+    {
+        lock(rt, &self.locked).usage(slot)
     }
 }

@@ -1,7 +1,7 @@
 use Rattle.std.proofs.Common.{◌∙◌, sym, subst, ap, slice_get}
 use Rattle.directory.specs.Directory.{Directory, IsDirectory}
 use Rattle.named.specs.Brokers.{Brokered}
-use Rattle.named.specs.GoingOn.{CameOf}
+use Rattle.workers.specs.Coming.{CameThrough}
 use Rattle.workers.proofs.SeenStill.{listed_still}
 use Rattle.workers.proofs.locked.Locked.list.Goals as goal
 
@@ -10,7 +10,7 @@ returns-clause-queues g c =
     let first = g.J.Naming.first.broker in
     let well = c.self.invariant.1 in
     let same = sym c.broker.ensures.broker in
-    let came = subst (λ (b : Brokered). CameOf first c.self.inside.rotated b) same well.came in
+    let came = subst (λ (b : Brokered). CameThrough first c.self.inside.rotated b) same well.came in
     let listed = subst (λ (b : Brokered). IsDirectory b.directory) same well.promises.broker.well.listed in
     listed_still first c.broker.result.now c.self.inside.rotated came well.beginning.promises.broker.well.listed listed
     c.copy_of.result c.copy_of.ensures.count

@@ -1,7 +1,6 @@
 use Rattle.std.proofs.Common.{[], ◌∷◌, ap, sym, subst, ◌∙◌, length, List, false}
-use Rattle.named.specs.GoingOn.{CameOf}
-use Rattle.named.proofs.Comings.{came_of_itself}
 use Rattle.roll.specs.Rule.{keeper}
+use Rattle.workers.specs.Coming.{CameThrough}
 use Rattle.workers.specs.Deeds.{CameBy}
 use Rattle.workers.specs.Deeds.CameBy.{nothing}
 use Rattle.workers.specs.declared.deeds.Deed.{Deed}
@@ -9,6 +8,7 @@ use Rattle.session.specs.Sessions.{Sessioned}
 use Rattle.session.specs.Keeping.{SessionGoesOn}
 use Rattle.workers.specs.Following.{IsBeginning, beginnings}
 use Rattle.workers.specs.Lists.{events_at}
+use Rattle.workers.proofs.Comings.{through_itself}
 use Rattle.workers.proofs.Guarded.{named_begun, rows_begun, session_stays}
 use Rattle.workers.proofs.locked.Locked.new.Goals as goal
 
@@ -25,7 +25,7 @@ invariant_of-result g c =
         promises = r.beginning.promises;
         creation = r.beginning.quiet.creating;
         goes_on = subst (λ (s : Sessioned). SessionGoesOn s c.args.session) r.first (session_stays c.args.session);
-        came = subst (λ (s : Sessioned). CameOf s.broker false c.args.session.broker) r.first (came_of_itself c.args.session.broker);
+        came = subst (λ (s : Sessioned). CameThrough s.broker false c.args.session.broker) r.first (through_itself c.args.session.broker);
         done = subst (λ (rows : List (List Deed)). CameBy g.J.Naming.first.broker rows c.args.session.broker)
             (sym (ap (λ m. m.0.rows) r.register.1))
             (subst (λ (s : Sessioned). CameBy s.broker ([] ∷ []) c.args.session.broker) r.first nothing);

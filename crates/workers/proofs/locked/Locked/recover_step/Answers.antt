@@ -1,9 +1,12 @@
-use Rattle.std.proofs.Common.{[], ap, sym, true, ◌≡◌, ◌∙◌}
+use Rattle.std.proofs.Common.{[], ap, sym, subst, true, ◌≡◌, ◌∙◌}
 use Rattle.roll.specs.Rule.{keeper, rows_of}
 use Rattle.workers.specs.Deeds.CameBy.{readiness}
+use Rattle.workers.specs.Following.{Guarded}
 use Rattle.workers.specs.Recovered.{is_ready_after}
+use Rattle.workers.specs.Renewing.{HasRoomToRecover}
 use Rattle.workers.proofs.Guarded.{guarded_still, known_after_recovery, recovery_errors, with_deeds}
 use Rattle.workers.proofs.Readying.{ready_after}
+use Rattle.workers.proofs.Roomy.{never_full, only_ready, room_after}
 use Rattle.workers.proofs.Stops.{recovered_carried}
 use Rattle.workers.proofs.locked.Locked.recover_step.Goals as goal
 
@@ -46,3 +49,30 @@ invariant_of-self-2 g c =
           (ready_after old.broker new.broker c.recover_step-step.result well.promises.broker.well e.step over)),
       (k.0, k.1 ∙ sym (ap (λ m. (keeper m.0.rows, [])) k.1)),
     )
+
+pub returns-then-not-is_ready_after-clause-room : goal.returns-then-not-is_ready_after-clause-room
+returns-then-not-is_ready_after-clause-room g c = λ has.
+    room_after c.self.inside.session.broker c.recover_step-step.new.self.broker c.recover_step-step.result
+    c.self.invariant.1.promises.broker.well
+    (subst (λ (x : Guarded). HasRoomToRecover x.session.broker) (sym c.self.view_is) has) c.recover_step-step.ensures.step
+
+pub returns-then-not-is_ready_after-clause-never_full : goal.returns-then-not-is_ready_after-clause-never_full
+returns-then-not-is_ready_after-clause-never_full g c = λ has.
+    let old = c.self.inside.session.broker in
+    let new = c.recover_step-step.new.self.broker in
+    let well = c.self.invariant.1.promises.broker.well in
+    let step = c.recover_step-step.ensures.step in
+    only_ready c.recover_step-step.result (recovery_errors old new c.recover_step-step.result well step)
+    (never_full old new c.recover_step-step.result well
+    (subst (λ (x : Guarded). HasRoomToRecover x.session.broker) (sym c.self.view_is) has) step)
+
+pub returns-clause-ready : goal.returns-clause-ready
+returns-clause-ready g c = λ over.
+    ready_after c.self.inside.session.broker c.recover_step-step.new.self.broker c.recover_step-step.result
+    c.self.invariant.1.promises.broker.well c.recover_step-step.ensures.step over
+
+pub returns-clause-room : goal.returns-clause-room
+returns-clause-room g c = λ has.
+    room_after c.self.inside.session.broker c.recover_step-step.new.self.broker c.recover_step-step.result
+    c.self.invariant.1.promises.broker.well
+    (subst (λ (x : Guarded). HasRoomToRecover x.session.broker) (sym c.self.view_is) has) c.recover_step-step.ensures.step

@@ -1,13 +1,13 @@
 use Rattle.std.proofs.Common.{[], ap, sym, subst, ◌∙◌, true, length, List}
 use Rattle.events.specs.declared.event.Event.{Event}
 use Rattle.named.specs.Brokers.{Brokered}
-use Rattle.named.proofs.Comings.{came_over_rotation}
 use Rattle.interleave.specs.Calls.{is_no_memory}
 use Rattle.roll.specs.Rule.{keeper, rows_of}
 use Rattle.workers.specs.Deeds.{CameBy}
 use Rattle.workers.specs.Deeds.CameBy.{rotation}
 use Rattle.workers.specs.declared.deeds.Deed.{Deed}
 use Rattle.workers.specs.Following.{beginnings}
+use Rattle.workers.proofs.Comings.{through_rotation}
 use Rattle.workers.proofs.Guarded.{known_if_same, named_begun, rows_begun, session_further}
 use Rattle.workers.proofs.Refusing.{rotation_refused}
 use Rattle.workers.proofs.Stops.{rotated_empty}
@@ -33,7 +33,7 @@ invariant_of-self-2 g c =
             (ap (λ (b : Brokered). b.recovery) e.rotated.same) (ap (λ (b : Brokered). b.creation) e.rotated.same)
             well.creation;
         goes_on = session_further g.J.Naming.first old new well.goes_on e.goes_on;
-        came = came_over_rotation g.J.Naming.first.broker c.self.inside.rotated old.broker new.broker well.came well.promises.broker e.rotated;
+        came = through_rotation g.J.Naming.first.broker c.self.inside.rotated old.broker new.broker well.came well.promises.broker e.rotated;
         done = subst (λ (rows : List (List Deed)). CameBy g.J.Naming.first.broker rows new.broker)
             (sym (ap (λ m. m.0.rows) k.1)) (rotation well.done well.promises.broker e.rotated);
       },

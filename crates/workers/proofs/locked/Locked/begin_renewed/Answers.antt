@@ -1,0 +1,49 @@
+use Rattle.std.proofs.Common.{[], ap, sym, subst, ◌∙◌, true, length, List}
+use Rattle.events.specs.declared.event.Event.{Event}
+use Rattle.roll.specs.Rule.{keeper, rows_of}
+use Rattle.workers.specs.Deeds.{CameBy}
+use Rattle.workers.specs.Deeds.CameBy.{renewal}
+use Rattle.workers.specs.declared.deeds.Deed.{Deed}
+use Rattle.workers.specs.Following.{beginnings}
+use Rattle.workers.proofs.Comings.{through_renewal}
+use Rattle.workers.proofs.Guarded.{named_begun, rows_begun, session_further}
+use Rattle.workers.proofs.Renewals.{known_if_renewed, renewal_refused, renewed_empty}
+use Rattle.workers.proofs.Roomy.{room_when_renewed}
+use Rattle.workers.proofs.locked.Locked.begin_renewed.Goals as goal
+
+pub invariant_of-self-2 : goal.invariant_of-self-2
+invariant_of-self-2 g c =
+    let e = c.in_default.ensures in
+    let a = c.all_emptied-seats.ensures in
+    let k = c.enter.ensures.keeper in
+    let well = c.self.invariant.1 in
+    let old = c.self.inside.session in
+    let new = c.renew.new.self in (
+      a.keeper,
+      record {
+        beginning = well.beginning;
+        clients = a.clients;
+        followed = rows_begun (beginnings g.J.Naming.first true) new (rows_of c.all_emptied-seats.new.keeper)
+            (λ at. sym (ap (λ (es : List Event). length es)
+            (renewed_empty old.broker new.broker c.args.slot.0 e.promises.broker.well e.renewed at))) a.rows;
+        named = named_begun new.broker.directory (rows_of c.all_emptied-seats.new.keeper) a.rows;
+        promises = e.promises;
+        creation = known_if_renewed old.broker new.broker c.self.inside.creating c.args.slot.0 e.may e.renewed well.creation;
+        goes_on = session_further g.J.Naming.first old new well.goes_on e.goes_on;
+        came = through_renewal g.J.Naming.first.broker c.self.inside.rotated old.broker new.broker c.args.slot.0 well.came
+            well.promises.broker e.renewed;
+        done = subst (λ (rows : List (List Deed)). CameBy g.J.Naming.first.broker rows new.broker)
+            (sym (ap (λ m. m.0.rows) k.1)) (renewal well.done well.promises.broker e.renewed);
+      },
+      (k.0, k.1 ∙ sym (ap (λ m. (keeper m.0.rows, [])) k.1)),
+    )
+
+pub returns-in-Err-clause-errors : goal.returns-in-Err-clause-errors
+returns-in-Err-clause-errors g c =
+    renewal_refused g.J.Naming.clients g.J.Naming.first _ c.self.invariant.1 c.args.slot c.in-Err.refusal
+    c.in-Err.ensures.errors
+
+pub returns-clause-room : goal.returns-clause-room
+returns-clause-room g c =
+    let e = c.in_default.ensures in
+    room_when_renewed c.self.inside.session.broker c.renew.new.self.broker c.args.slot.0 e.renewed e.room

@@ -1,0 +1,126 @@
+//! How a queue begins in fresh records, while nobody calls.
+
+ghost use Rattle.std.specs.Prelude.{◌≡◌, IfErr, IfOk, None, OnErr, OnOk};
+ghost use Rattle.named.specs.GoingOn.{BrokerGoesOn};
+ghost use Rattle.named.specs.Renewing.{IsRenewedAt};
+ghost use Rattle.workers.specs.Refusals.{IsWhyNotRenewed};
+ghost use Rattle.workers.specs.Renewing.{HasRoomToRecover, IsRenewedOn};
+ghost use Rattle.workers.specs.Seats.{AreAllInOrder, AreEmpty};
+ghost use Rattle.workers.specs.declared.deeds.Deed.{Deed as AnyDeed};
+
+use crate::closing::all_emptied;
+use crate::deeds::{Deed, Receipt};
+use crate::entry::Entry;
+use crate::locked::Locked;
+use crate::naming::Naming;
+use crate::seat::Seat;
+use crate::shared::Shared;
+use arena::SlotId;
+use roll::Roll;
+use std::sync::Wait;
+use waiting::lock;
+use words::Refusal;
+
+impl<J: Naming> Locked<J> {
+    /// The queue of a slot begins in fresh records. The histories of all queues end, and with them the lists of all
+    /// seats, and the broker is to recover.
+    fn begin_renewed(
+        &mut self,
+        roll: &Roll<Entry>,
+        deeds: &Roll<Deed>,
+        seats: Vec<Seat<J>>,
+        slot: SlotId,
+    ) -> (Vec<Seat<J>>, Result<Receipt<J>, Refusal>)
+        requires roll { roll.now ≡ J.roll.lists }
+        requires deeds { deeds.now ≡ J.roll.deeds }
+        requires order { AreAllInOrder (λ seat. seat.client) J.clients seats.items }
+        ensures order { AreAllInOrder (λ seat. seat.client) J.clients result.0.items }
+        ensures empty { OnOk result.1 (AreEmpty (λ seat. seat.list.items) result.0.items) }
+        ensures same { OnErr result.1 (result.0.items ≡ seats.items) }
+        ensures errors { IfErr result.1 (IsWhyNotRenewed J.first slot) }
+        ensures deed { IfOk result.1 (λ receipt. receipt.deed ≡ AnyDeed.Renewal slot) }
+        ensures renewed { OnOk result.1 (IsRenewedAt self.old.session.broker self.new.session.broker slot.0) }
+        ensures room { OnOk result.1 (HasRoomToRecover self.new.session.broker) }
+        ensures unchanged { OnErr result.1 (self.new ≡ self.old) }
+    {
+        if let Err(refusal) = self.session.renew(slot) {
+            return (seats, Err(refusal));
+        }
+        self.rotated = true;
+        let seats = all_emptied(roll, &mut self.keeper, seats);
+        (seats, Ok(self.register.enter(deeds, Deed::Renewal(slot))))
+    }
+
+    /// Recovers the broker until it is ready.
+    fn recover_all(&mut self, deeds: &Roll<Deed>)
+        requires deeds { deeds.now ≡ J.roll.deeds }
+        requires room { HasRoomToRecover self.old.session.broker }
+        ensures ready { self.new.session.broker.recovery ≡ None }
+        ensures goes_on { BrokerGoesOn self.old.session.broker self.new.session.broker }
+    {
+        let mut ready = false;
+        while !ready {
+            let (step, _receipt) = self.recover_step(deeds);
+            match step {
+                Ok(now) => ready = now,
+                // There is room, so no step is refused but one of a broker that is ready.
+                Err(_) => return,
+            }
+        }
+    }
+
+    /// The queue of a slot begins in fresh records, and the broker recovers until it is ready.
+    fn renew(
+        &mut self,
+        roll: &Roll<Entry>,
+        deeds: &Roll<Deed>,
+        seats: Vec<Seat<J>>,
+        slot: SlotId,
+    ) -> (Vec<Seat<J>>, Result<Receipt<J>, Refusal>)
+        requires roll { roll.now ≡ J.roll.lists }
+        requires deeds { deeds.now ≡ J.roll.deeds }
+        requires order { AreAllInOrder (λ seat. seat.client) J.clients seats.items }
+        ensures order { AreAllInOrder (λ seat. seat.client) J.clients result.0.items }
+        ensures empty { OnOk result.1 (AreEmpty (λ seat. seat.list.items) result.0.items) }
+        ensures same { OnErr result.1 (result.0.items ≡ seats.items) }
+        ensures errors { IfErr result.1 (IsWhyNotRenewed J.first slot) }
+        ensures deed { IfOk result.1 (λ receipt. receipt.deed ≡ AnyDeed.Renewal slot) }
+        ensures renewed { OnOk result.1 (IsRenewedOn self.old.session.broker self.new.session.broker slot.0) }
+        ensures ready { OnOk result.1 (self.new.session.broker.recovery ≡ None) }
+        ensures unchanged { OnErr result.1 (self.new ≡ self.old) }
+    {
+        let (seats, begun) = self.begin_renewed(roll, deeds, seats, slot);
+        match begun {
+            Ok(receipt) => {
+                self.recover_all(deeds);
+                (seats, Ok(receipt))
+            }
+            Err(refusal) => (seats, Err(refusal)),
+        }
+    }
+}
+
+impl<J: Naming> Shared<J> {
+    /// The queue of a slot begins in fresh records, as [`session::Session::renew`] makes it, and the broker recovers, in
+    /// one act: nobody calls meanwhile, and nobody is told NotReady. All queues hold what they held, what was settled
+    /// is settled, and no call is interrupted. The histories of all queues end, and others begin; the seats' lists
+    /// begin anew with them. The seats are all that were given, in client order, and come back so. It is refused, in
+    /// this order, while the broker recovers (NotReady), where the slot has no queue (NoQueue), where a call in any
+    /// queue or a creation is under way (Busy), where the items do not fit beside two records of each client (NoRoom),
+    /// and for want of memory (NoMemory), and then nothing changed.
+    pub fn renew<R: Wait>(
+        &self,
+        rt: &R,
+        seats: Vec<Seat<J>>,
+        slot: SlotId,
+    ) -> (Vec<Seat<J>>, Result<Receipt<J>, Refusal>)
+        requires { AreAllInOrder (λ seat. seat.client) J.clients seats.items }
+        ensures order { AreAllInOrder (λ seat. seat.client) J.clients result.0.items }
+        ensures empty { OnOk result.1 (AreEmpty (λ seat. seat.list.items) result.0.items) }
+        ensures same { OnErr result.1 (result.0.items ≡ seats.items) }
+        ensures deed { IfOk result.1 (λ receipt. receipt.deed ≡ AnyDeed.Renewal slot) }
+        ensures errors { IfErr result.1 (IsWhyNotRenewed J.first slot) }
+    {
+        lock(rt, &self.locked).renew(&self.roll, &self.deeds, seats, slot)
+    }
+}
