@@ -1,9 +1,9 @@
 #!/usr/bin/env bash
 # The built pqx and pqd say what the plain programs of bench/plain say: of what bench/fuzz.sh draws for some seconds
-# with one seed, of each byte at each place of requests and scripts (bench/plain/every_byte.py), and of scripts that a
-# crash cuts off at each step (bench/plain/every_crash.py). And plain programs that are wrong in one place are seen to
-# differ, by the same seed: so the comparison can fail. It takes the programs that the last `rt ci`, or `rt run` in
-# their folders, left, or those that PQD and PQX name.
+# with one seed, of each byte at each place of requests and scripts (bench/plain/every_byte.py), of scripts that a crash
+# cuts off at each step (bench/plain/every_crash.py), and of scripts that bend images (bench/plain/bent_images.py). And
+# plain programs that are wrong in one place are seen to differ, by the same seed: so the comparison can fail. It takes
+# the programs that the last `rt ci`, or `rt run` in their folders, left, or those that PQD and PQX name.
 set -eu
 cd "$(dirname "$0")/.."
 . tests/cases.sh
@@ -35,6 +35,12 @@ status=0
 python3 -B bench/plain/every_crash.py "$pqx" > "$work/out" 2> "$work/err" || status=$?
 cat "$work/out"
 compare 'every crash' 0 "$status" tests/every-crash.out /dev/null
+
+# Images near sound ones: so many that break no rule, and that break each rule first.
+status=0
+python3 -B bench/plain/bent_images.py "$pqx" > "$work/out" 2> "$work/err" || status=$?
+cat "$work/out"
+compare 'bent images' 0 "$status" tests/bent-images.out /dev/null
 
 # A copy of the plain programs with one place changed: FILE OLD NEW. The old text stands there once.
 change() {

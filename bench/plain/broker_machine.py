@@ -6,6 +6,7 @@ from form import FORM
 from image import Broken, blocks_of
 from layout import block_size
 from machine import Machine
+from renewal import renewed
 from steps import storing
 
 SLOT_WORDS = 4
@@ -120,6 +121,18 @@ class BrokerMachine:
         for queue in self.queues:
             if queue:
                 queue[1].effects = []
+
+    def renewed(self, slot):
+        """The machine that begins on these words, with the queue of a slot in fresh records; None where there is no
+        room."""
+        words = self.words()
+        block = blocks_of(words, FORM)[slot][1]
+        block.check()
+        fresh = renewed(block, self.clients, self.records)
+        if fresh is None:
+            return None
+        at = BLOCKS + slot * self.block
+        return booted(words[:at] + fresh + words[at + self.block:])
 
     # Crashes and recovery.
 

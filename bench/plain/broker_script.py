@@ -68,8 +68,9 @@ def statement_in(words):
         return steps_in(words, "create-step", 1)
     if words[0] == b"recover":
         return steps_in(words, "recover", -1)
-    if words[0] == b"find":
-        return ("find", name_in(words[1])) if len(words) == 2 and name_in(words[1]) is not None else None
+    if words[0] in (b"find", b"renew"):
+        is_named = len(words) == 2 and name_in(words[1]) is not None
+        return (words[0].decode(), name_in(words[1])) if is_named else None
     if words[0] == b"set":
         numbers = numbers_of(words[1:], "WW")
         return numbers and ("set", *numbers)
@@ -193,6 +194,16 @@ class Player:
         self.machine.rotate()
         return ["rotated"]
 
+    def renew(self, name):
+        slot, refusal = self.placed(name)
+        if refusal or self.machine.is_busy():
+            return [f"refused {refusal or '10 Busy'}"]
+        renewed = self.machine.renewed(slot)
+        if renewed is None:
+            return ["refused 11 NoRoom"]
+        self.machine = renewed
+        return ["renewed"]
+
     def image(self):
         self.remembered = self.machine.words()
         data = image_of(self.remembered)
@@ -215,8 +226,8 @@ class Player:
 
 def check_orders(text):
     """The first order in a transcript that does not explain what came before it on its queue, or None. Of a queue whose
-    history began anew, by a rotation or a boot, only the calls before that are looked at."""
-    lines = re.split(rb"(?m)^(?:rotated|booted)\n", text)[0].splitlines()
+    history began anew, by a rotation, a renewal or a boot, only the calls before that are looked at."""
+    lines = re.split(rb"(?m)^(?:rotated|renewed|booted)\n", text)[0].splitlines()
     names = {line.split(b":")[0] for line in lines if re.match(rb"[a-z0-9_-]+: ", line)}
     for name in sorted(names):
         own = [line.removeprefix(name + b": ") for line in lines if line == b"crash" or line.startswith(name + b": ")]

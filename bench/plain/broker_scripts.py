@@ -68,10 +68,9 @@ class Writer:
 
     def act(self):
         draw = self.draw
-        what = draw.choices(
-            ["creation", "create-step", "call", "step", "end", "evict", "crash", "recover", "image", "rotate", "show"],
-            [8, 6, 30, 45, 10, 14, 4, 6, 8, 3, 8],
-        )[0]
+        acts = {"creation": 8, "create-step": 6, "call": 30, "step": 45, "end": 10, "evict": 14, "crash": 4}
+        acts |= {"recover": 6, "image": 8, "rotate": 3, "renew": 5, "show": 8}
+        what = draw.choices(list(acts), list(acts.values()))[0]
         if what == "creation":
             return self.creation()
         if what == "create-step":
@@ -93,6 +92,8 @@ class Writer:
             return self.image()
         if what == "rotate":
             return [["rotate"]]
+        if what == "renew":
+            return [["renew", self.name()], *draw.choice([[["recover"]], [["recover"]], [["recover", 9]], []])]
         return [draw.choice([
             ["list"], ["find", self.name()], [self.name() + ":", "told", self.client()],
             [self.name() + ":", "content"], [self.name() + ":", "order"], ["set", self.word(), 1], ["boot"],

@@ -54,7 +54,7 @@ SCRIPTS = [
 BROKER_SCRIPTS = [
     b"#\n\nbroker 1 2\nboot\nset 0 1\ncreate a log\ncreate _-9 durable 1\ncreate-step\ncreate-step 11\nfind a\nlist\n"
     b"a: enq 0 1 05\na: step 0 37\na: told 0\n_-9: deq 0\n_-9: end 0\nimage\nset 5 2\nboot\nset 5 1\nboot\nrecover 1\n"
-    b"recover\nrotate\nevict 5\ncrash\n",
+    b"recover\nrenew a\nrecover\nrotate\nevict 5\ncrash\n",
 ]
 # Of the scripts those are tried whose change puts one of these bytes, or none, and of the others one of so many.
 NEAR = b"\n 0#9"

@@ -4,7 +4,7 @@ use Rattle.std.specs.Prelude.{Option, Some, None, MatchOption}
 use Rattle.broker_script.specs.Grammar.{SaysStatement}
 use Rattle.broker_script.specs.Rows.{IsNoCreation, IsOfNoQueue, IsOfNoImage, IsOfNoBroker}
 use Rattle.broker_script.specs.declared.statements.Statement.{Statement}
-use Rattle.broker_script.specs.declared.statements.Statement.TheVariants.{Create, BeginCreation, CreateStep, CreateSteps, Find, List as list_queues, Rotate, Image, SetWord, Boot, Whole, On, Told}
+use Rattle.broker_script.specs.declared.statements.Statement.TheVariants.{Create, BeginCreation, CreateStep, CreateSteps, Find, List as list_queues, Rotate, Renew, Image, SetWord, Boot, Whole, On, Told}
 
 none_of : (line : List ℕ) → IsNoCreation line → IsOfNoQueue line → IsOfNoImage line → IsOfNoBroker line → (statement : Statement)
     → SaysStatement line statement → ⊥
@@ -15,6 +15,7 @@ none_of line creation queue image broker (CreateSteps most) = creation.steps mos
 none_of line creation queue image broker (Find name) = queue.find name
 none_of line creation queue image broker list_queues = broker.list
 none_of line creation queue image broker Rotate = broker.rotate
+none_of line creation queue image broker (Renew name) = queue.renew name
 none_of line creation queue image broker Image = image.image
 none_of line creation queue image broker (SetWord word value) = image.set word value
 none_of line creation queue image broker Boot = image.boot

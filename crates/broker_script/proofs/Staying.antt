@@ -30,16 +30,18 @@ use Rattle.broker_script.specs.Creating.{Creates, IsBegunOn, stays, opens, ends,
 use Rattle.broker_script.specs.OnQueue.{Follows, FollowsPlaced, IsRefusedOn, has_line}
 use Rattle.broker_script.specs.Play.{Played, the_world}
 use Rattle.broker_script.specs.Recovering.{Recovers, RecoversBy, ready, ends_ready, goes_on_ready, stays_by, ready_by, ends_by, goes_on_by}
+use Rattle.broker_script.specs.Renewing.{RenewsPlaced}
 use Rattle.broker_script.specs.Standing.{keeps_queues, QueuesStay}
 use Rattle.broker_script.specs.Transcript.{FollowsLine, FollowsWhole}
 use Rattle.named.specs.GoingOn.{BrokerGoesOn}
+use Rattle.named.specs.Renewing.{IsRenewedAt}
 use Rattle.named.specs.Rotating.{IsRotated, rotate_result}
 use Rattle.named.proofs.GoingOn.{broker_goes_further}
 use Rattle.playing.specs.declared.lines.Line.TheVariants.{Refused}
 use Rattle.broker_script.specs.declared.printed.Printed.{Printed}
 use Rattle.broker_script.specs.declared.printed.Printed.TheVariants.{Whole}
 use Rattle.broker_script.specs.declared.statements.Statement.{Statement}
-use Rattle.broker_script.specs.declared.statements.Statement.TheVariants.{Create, BeginCreation, CreateStep, CreateSteps, Find, List as list_queues, Rotate, Image, SetWord, Boot, Whole as whole, On, Told}
+use Rattle.broker_script.specs.declared.statements.Statement.TheVariants.{Create, BeginCreation, CreateStep, CreateSteps, Find, List as list_queues, Rotate, Renew, Image, SetWord, Boot, Whole as whole, On, Told}
 use Rattle.broker_script.proofs.Worlds.{had_memory, listed_open}
 
 -- a queue that recovers goes on
@@ -153,6 +155,18 @@ rotated old new lines (Ok u) begun same =
 rotated old new lines (Err refusal) begun same =
     same_stay old.broker.directory new.broker.directory (ap (λ (b : Brokered). b.directory) same)
 
+-- over a renewal
+renewed : (old new : Played) (slot : ℕ) (result : Result Unit Refusal)
+    → OnOk result (IsRenewedAt old.broker new.broker slot) → OnErr result (new ≡ old)
+    → QueuesStay old.broker.directory new.broker.directory
+renewed old new slot (Ok u) by same = same_stay old.broker.directory new.broker.directory by.directory
+renewed old new slot (Err refusal) by same = broker_same old new same
+
+renewed_placed : (old : Played) (lines : List Printed) (new : Played) (place : Result SlotId Refusal)
+    → RenewsPlaced old lines new place → QueuesStay old.broker.directory new.broker.directory
+renewed_placed old lines new (Ok slot) by = renewed old new slot.0 by.result by.renewed by.same
+renewed_placed old lines new (Err refusal) by = broker_same old new by.1
+
 -- over a line about the whole memory, and any line
 whole_stay : (old : Played) (command : Command) (lines : List Printed) (new : Played) → FollowsWhole old command lines new
     → QueuesStay old.broker.directory new.broker.directory
@@ -184,6 +198,7 @@ queues_stay old (Find name) lines new by keeps = broker_same old new by.same
 queues_stay old list_queues lines new by keeps = broker_same old new by.1
 queues_stay old Rotate lines new by keeps =
     rotated old new lines (rotate_result false old.broker) by.rotated by.same
+queues_stay old (Renew name) lines new by keeps = renewed_placed old lines new by.place by.followed
 queues_stay old Image lines new by keeps =
     same_stay old.broker.directory new.broker.directory (ap (λ (p : Played). p.broker.directory) by.remembered)
 queues_stay old (SetWord word value) lines new by keeps =

@@ -14,7 +14,7 @@ use Rattle.grammar.specs.declared.commands.Command.TheVariants.{Enq, NumberedEnq
 use Rattle.broker_script.specs.Grammar.{broker_words, label, statement_words, IsServedBroker, IsServedStatement}
 use Rattle.broker_script.specs.declared.statements.BrokerLine.{BrokerLine}
 use Rattle.broker_script.specs.declared.statements.Statement.{Statement}
-use Rattle.broker_script.specs.declared.statements.Statement.TheVariants.{Create, BeginCreation, CreateStep, CreateSteps, Find, List as list_queues, Rotate, Image, SetWord, Boot, Whole, On, Told}
+use Rattle.broker_script.specs.declared.statements.Statement.TheVariants.{Create, BeginCreation, CreateStep, CreateSteps, Find, List as list_queues, Rotate, Renew, Image, SetWord, Boot, Whole, On, Told}
 
 -- the words from the second one on, each as a number
 number_at : List (List ℕ) → ℕ → ℕ
@@ -63,10 +63,11 @@ plain_of row words =
     (if row == 26846649 then Find (slice_index_or words 1 []) else
     (if row == 28419532 then list_queues else
     (if row == 29998544 then Rotate else
+    (if row == 29988281 then Renew (slice_index_or words 1 []) else
     (if row == 27637124 then Image else
     (if row == 30250450 then SetWord (number_at words 1) (number_at words 2) else
     (if row == 25804220 then Boot else
-    Whole (command_in words)))))))))))
+    Whole (command_in words))))))))))))
 
 -- the words after a label
 told_of : List ℕ → List (List ℕ) → Statement
@@ -128,6 +129,7 @@ statement_back (CreateSteps most) served = ap CreateSteps (read most (omega (ari
 statement_back (Find name) served = refl
 statement_back list_queues served = refl
 statement_back Rotate served = refl
+statement_back (Renew name) served = refl
 statement_back Image served = refl
 statement_back (SetWord word value) served =
     ap₂ SetWord (read word served.0) (read value served.1)

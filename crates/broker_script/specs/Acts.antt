@@ -11,7 +11,7 @@ use Rattle.broker_script.specs.Transcript.{FollowsLine}
 use Rattle.broker_script.specs.declared.printed.Printed.{Printed}
 use Rattle.broker_script.specs.declared.printed.Printed.TheVariants.{Whole, Of, Unsound}
 use Rattle.broker_script.specs.declared.statements.Statement.{Statement}
-use Rattle.broker_script.specs.declared.statements.Statement.TheVariants.{Create, BeginCreation, CreateStep, CreateSteps, Find, List as list_queues, Rotate, Image, SetWord, Boot, Whole as whole, On, Told}
+use Rattle.broker_script.specs.declared.statements.Statement.TheVariants.{Create, BeginCreation, CreateStep, CreateSteps, Find, List as list_queues, Rotate, Renew, Image, SetWord, Boot, Whole as whole, On, Told}
 
 -- a refused act gives one line that says so
 abbrev pub is_refusal : Line → Bool
@@ -56,6 +56,7 @@ attempts_of (BeginCreation name kind most) = BeginCreation name kind 0 ∷ repli
 attempts_of CreateStep = replicate 1 CreateStep
 attempts_of (CreateSteps most) = replicate most CreateStep
 attempts_of Rotate = replicate 1 Rotate
+attempts_of (Renew name) = replicate 1 (Renew name)
 attempts_of Image = replicate 1 Image
 attempts_of (SetWord word value) = replicate 1 (SetWord word value)
 attempts_of Boot = replicate 1 Boot

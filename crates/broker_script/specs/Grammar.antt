@@ -9,7 +9,7 @@ use Rattle.grammar.specs.declared.commands.Command.TheVariants.{Enq, NumberedEnq
 use Rattle.grammar.specs.declared.limits.TheConstants.{MAX_CLIENT_NUMBER, MAX_STEPS}
 use Rattle.broker_script.specs.declared.statements.BrokerLine.{BrokerLine}
 use Rattle.broker_script.specs.declared.statements.Statement.{Statement}
-use Rattle.broker_script.specs.declared.statements.Statement.TheVariants.{Create, BeginCreation, CreateStep, CreateSteps, Find, List as list_queues, Rotate, Image, SetWord, Boot, Whole, On, Told}
+use Rattle.broker_script.specs.declared.statements.Statement.TheVariants.{Create, BeginCreation, CreateStep, CreateSteps, Find, List as list_queues, Rotate, Renew, Image, SetWord, Boot, Whole, On, Told}
 
 -- `broker T K`
 abbrev pub broker_words : BrokerLine → List (List ℕ)
@@ -19,9 +19,9 @@ broker_words broker = codes "broker" ∷ decimal broker.clients ∷ decimal brok
 abbrev pub label : List ℕ → List ℕ
 label name = name ++ codes ":"
 
--- `create NAME KIND`, `create NAME KIND M`, `create-step`, `create-step M`, `find NAME`, `list`, `rotate`, `image`,
--- `set W N`, `boot`, a line of a queue's script that is about the whole memory, `NAME: ` and one that is about the
--- queue, and `NAME: told C`
+-- `create NAME KIND`, `create NAME KIND M`, `create-step`, `create-step M`, `find NAME`, `list`, `rotate`, `renew NAME`,
+-- `image`, `set W N`, `boot`, a line of a queue's script that is about the whole memory, `NAME: ` and one that is about
+-- the queue, and `NAME: told C`
 abbrev pub statement_words : Statement → List (List ℕ)
 statement_words (Create name kind) = codes "create" ∷ name ∷ kind_word kind ∷ []
 statement_words (BeginCreation name kind most) = codes "create" ∷ name ∷ kind_word kind ∷ decimal most ∷ []
@@ -30,6 +30,7 @@ statement_words (CreateSteps most) = codes "create-step" ∷ decimal most ∷ []
 statement_words (Find name) = codes "find" ∷ name ∷ []
 statement_words list_queues = codes "list" ∷ []
 statement_words Rotate = codes "rotate" ∷ []
+statement_words (Renew name) = codes "renew" ∷ name ∷ []
 statement_words Image = codes "image" ∷ []
 statement_words (SetWord word value) = codes "set" ∷ decimal word ∷ decimal value ∷ []
 statement_words Boot = codes "boot" ∷ []
@@ -65,6 +66,7 @@ IsServedStatement (CreateSteps most) = (1 ≤ most) × (most ≤ MAX_STEPS)
 IsServedStatement (Find name) = IsName name
 IsServedStatement list_queues = Unit {0}
 IsServedStatement Rotate = Unit {0}
+IsServedStatement (Renew name) = IsName name
 IsServedStatement Image = Unit {0}
 IsServedStatement (SetWord word value) = (word < 2 ^ 64) × (value < 2 ^ 64)
 IsServedStatement Boot = Unit {0}

@@ -8,6 +8,7 @@ pub mod Creating
 pub mod Recovering
 pub mod OnQueue
 pub mod Imaging
+pub mod Renewing
 pub mod Transcript
 pub mod Standing
 pub mod Acts

@@ -9,7 +9,7 @@ use Rattle.words.specs.declared.refusal.Rule.TheVariants.{Size, Records, Chain, 
 use Rattle.grammar.specs.Grammar.{kind_word}
 use Rattle.playing.specs.Prints.{line_text}
 use Rattle.broker_script.specs.declared.printed.Printed.{Printed}
-use Rattle.broker_script.specs.declared.printed.Printed.TheVariants.{Whole, Of, Created, Creating, Found, Queues, Place, Rotated, Image as image, WasSet, Booted, Unsound}
+use Rattle.broker_script.specs.declared.printed.Printed.TheVariants.{Whole, Of, Created, Creating, Found, Queues, Place, Rotated, Renewed, Image as image, WasSet, Booted, Unsound}
 
 -- the name of a rule of sound words
 abbrev pub rule_word : Rule → List ℕ
@@ -35,6 +35,7 @@ printed_text (Queues count) = codes "queues " ++ decimal count
 printed_text (Place slot queue) =
     codes "slot " ++ decimal slot.0 ++ codes " " ++ queue.name ++ codes " " ++ kind_word queue.kind
 printed_text Rotated = codes "rotated"
+printed_text Renewed = codes "renewed"
 printed_text (image size digest) = codes "image bytes " ++ decimal size ++ codes " digest " ++ item_text digest
 printed_text (WasSet word was) = codes "set " ++ decimal word ++ codes " was " ++ decimal was
 printed_text Booted = codes "booted"

@@ -4,7 +4,7 @@ use Rattle.words.specs.declared.call.Client.{Client}
 use Rattle.words.specs.declared.call.Kind.{Kind}
 use Rattle.grammar.specs.declared.commands.Command.{Command}
 use Rattle.broker_script.specs.Grammar.{SaysStatement}
-use Rattle.broker_script.specs.declared.statements.Statement.TheVariants.{Create, BeginCreation, CreateStep, CreateSteps, Find, List as list_queues, Rotate, Image, SetWord, Boot, Whole, On, Told}
+use Rattle.broker_script.specs.declared.statements.Statement.TheVariants.{Create, BeginCreation, CreateStep, CreateSteps, Find, List as list_queues, Rotate, Renew, Image, SetWord, Boot, Whole, On, Told}
 
 -- a line begins no creation, and goes on with none
 pub record IsNoCreation (line : List ℕ) : Type 0 where
@@ -16,6 +16,7 @@ pub record IsNoCreation (line : List ℕ) : Type 0 where
 -- a line is not about one queue
 pub record IsOfNoQueue (line : List ℕ) : Type 0 where
   pub find : (name : List ℕ) → SaysStatement line (Find name) → ⊥
+  pub renew : (name : List ℕ) → SaysStatement line (Renew name) → ⊥
   pub on : (name : List ℕ) (command : Command) → SaysStatement line (On name command) → ⊥
   pub told : (name : List ℕ) (client : Client) → SaysStatement line (Told name client) → ⊥
 

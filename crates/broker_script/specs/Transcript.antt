@@ -29,11 +29,12 @@ use Rattle.broker_script.specs.OnQueue.{found_line, FollowsOn, IsToldLine}
 use Rattle.broker_script.specs.Play.{Played, new_played}
 use Rattle.broker_script.specs.Prints.{text_of}
 use Rattle.broker_script.specs.Recovering.{Recovers, RecoversBy}
+use Rattle.broker_script.specs.Renewing.{Renews}
 use Rattle.broker_script.specs.declared.printed.Printed.{Printed}
 use Rattle.broker_script.specs.declared.printed.Printed.TheVariants.{Whole, Of, Queues, Place, Rotated}
 use Rattle.broker_script.specs.declared.statements.BrokerLine.{BrokerLine}
 use Rattle.broker_script.specs.declared.statements.Statement.{Statement}
-use Rattle.broker_script.specs.declared.statements.Statement.TheVariants.{Create, BeginCreation, CreateStep, CreateSteps, Find, List as list_queues, Rotate, Image, SetWord, Boot, Whole as whole, On, Told}
+use Rattle.broker_script.specs.declared.statements.Statement.TheVariants.{Create, BeginCreation, CreateStep, CreateSteps, Find, List as list_queues, Rotate, Renew, Image, SetWord, Boot, Whole as whole, On, Told}
 
 -- the queues, in slot order
 abbrev pub place_lines : ℕ → Option (Option Queue) → List Printed
@@ -118,6 +119,7 @@ FollowsLine old (CreateSteps most) lines new = Creates most old lines new
 FollowsLine old (Find name) lines new = Finds old name lines new
 FollowsLine old list_queues lines new = (lines ≡ list_lines old.broker) × (new ≡ old)
 FollowsLine old Rotate lines new = Rotates old lines new
+FollowsLine old (Renew name) lines new = Renews old name lines new
 FollowsLine old Image lines new = Images old lines new
 FollowsLine old (SetWord word value) lines new = SetsWord old word value lines new
 FollowsLine old Boot lines new = Boots old lines new

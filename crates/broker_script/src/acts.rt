@@ -177,6 +177,7 @@ fn follow(
         }
         Statement::CreateStep
         | Statement::Rotate
+        | Statement::Renew { .. }
         | Statement::Image
         | Statement::SetWord { .. }
         | Statement::Boot => repeat(alloc, player, acts, statement, 1),

@@ -12,6 +12,7 @@ mod play;
 mod player;
 mod printed;
 mod recovering;
+mod renewing;
 mod rows;
 mod running;
 mod script;

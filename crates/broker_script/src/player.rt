@@ -128,6 +128,7 @@ impl Player {
             Statement::Find { name } => self.find(alloc, name),
             Statement::List => self.list(alloc),
             Statement::Rotate => self.rotate(alloc),
+            Statement::Renew { name } => self.renew(alloc, name),
             Statement::Image => self.remember(alloc),
             Statement::SetWord { word, value } => self.set_word(alloc, *word, *value),
             Statement::Boot => self.boot(alloc),

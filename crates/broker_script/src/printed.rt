@@ -42,6 +42,8 @@ pub enum Printed {
     },
     /// The histories of all queues ended, and others began.
     Rotated,
+    /// A queue was put into fresh records.
+    Renewed,
     /// An image was remembered: how many bytes it has, and the first four of its SHA-256.
     Image {
         size: usize,
@@ -86,7 +88,7 @@ fn rule_word(rule: Rule) -> &'static str
 }
 
 /// `a: return 0 done steps 28`, `created a slot 0 steps 12`, `creating`, `found a slot 0`, `queues 2`,
-/// `slot 0 a durable`, `rotated`, `image bytes 2396 digest 09f3c1aa`, `set 5 was 1`, `booted`,
+/// `slot 0 a durable`, `rotated`, `renewed`, `image bytes 2396 digest 09f3c1aa`, `set 5 was 1`, `booted`,
 /// `refused 29 Damaged Records`, or a line of a queue's transcript.
 impl fmt::Display for Printed {
     ghost use Rattle.std.specs.Prelude.{Some};
@@ -109,6 +111,7 @@ impl fmt::Display for Printed {
                 write!(f, "slot {} {} {kind}", slot.0, queue.name)
             }
             Printed::Rotated => write!(f, "rotated"),
+            Printed::Renewed => write!(f, "renewed"),
             Printed::Image { size, digest } => write!(f, "image bytes {size} digest {digest}"),
             Printed::WasSet { word, was } => write!(f, "set {word} was {was}"),
             Printed::Booted => write!(f, "booted"),

@@ -172,6 +172,15 @@ fn find(line: &[u8]) -> Option<Statement>
     Some(Statement::Find { name })
 }
 
+/// `renew NAME`
+fn renew(line: &[u8]) -> Option<Statement>
+    ensures { MatchOption result ((name : List ℕ) → SaysStatement line.now (Statement.Renew name) → ⊥)
+        (SaysStatement line.now) }
+{
+    let name = one_name(after_name(line, b"renew")?)?;
+    Some(Statement::Renew { name })
+}
+
 /// `list`
 fn list(line: &[u8]) -> Option<Statement>
     ensures { MatchOption result (SaysStatement line.now Statement.List → ⊥) (SaysStatement line.now) }
@@ -308,6 +317,9 @@ fn queue_line(line: &[u8]) -> Option<Statement>
     ensures { MatchOption result (IsOfNoQueue line.now) (SaysStatement line.now) }
 {
     if let Some(statement) = find(line) {
+        return Some(statement);
+    }
+    if let Some(statement) = renew(line) {
         return Some(statement);
     }
     if let Some(statement) = on(line) {

@@ -28,6 +28,8 @@ pub enum Statement {
     List,
     /// The histories of all queues end, and others begin.
     Rotate,
+    /// The queue of this name is put into fresh records, and everything stops.
+    Renew { name: Name },
     /// The image of the memory is shown, and remembered.
     Image,
     /// A word of the remembered image is changed.

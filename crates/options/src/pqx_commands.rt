@@ -41,7 +41,7 @@ with #, says nothing. In this one the creation of a queue is cut off when its na
   recover            recovery goes on to its end, and each client of each queue is told of its last call
   list               prints the queues: a alone
 
-The other lines: create-step, create-step M, find NAME, rotate, evict W, recover M, image, set W N, boot,
+The other lines: create-step, create-step M, find NAME, rotate, renew NAME, evict W, recover M, image, set W N, boot,
 NAME: told C; and NAME: before each line of a queue's script that is about the queue.
 docs/SCRIPT.md has all of them, and every line that is printed.";
 

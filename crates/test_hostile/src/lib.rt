@@ -4,8 +4,6 @@
 #[cfg(test)]
 mod brokers;
 #[cfg(test)]
-mod drawn;
-#[cfg(test)]
 mod images;
 #[cfg(test)]
 mod plain_broker;

@@ -205,18 +205,3 @@ pub(crate) fn refusal_of(alloc: Global, image: &[u8]) -> Result<(), Refusal> {
         Some(rule) => Err(Refusal::Damaged(rule)),
     }
 }
-
-/// The image of words.
-pub(crate) fn image_of(alloc: Global, words: &[u64]) -> Result<Vec<u8>, Refusal> {
-    let mut image = Vec::from_slice(alloc, b"PQW2").map_err(|_| Refusal::NoMemory)?;
-    let count = (words.len() as u64).to_le_bytes();
-    image
-        .extend_from_slice(&count)
-        .map_err(|_| Refusal::NoMemory)?;
-    for word in words {
-        image
-            .extend_from_slice(&word.to_le_bytes())
-            .map_err(|_| Refusal::NoMemory)?;
-    }
-    Ok(image)
-}

@@ -1,15 +1,13 @@
 //! What the tests do with a session, many acts at a time, and what they see of it.
 
 use arena::SlotId;
-use events::is_same_told;
 use named::Broker;
 use persist::Memory;
 use session::Session;
 use std::alloc::Global;
 use test_support::brokers::{MOST_STEPS, taken};
-use test_support::call_at;
 use test_support::sessions::A;
-use words::{Call, Client, MAX_CLIENTS, Refusal, Reply, Told, Value, Verdict};
+use words::{Call, Client, Refusal, Reply, Value, Verdict};
 
 /// A session over a broker that begins on the image of another.
 pub(crate) fn boot(alloc: Global, broker: &Broker) -> Result<Session, Refusal> {
@@ -82,46 +80,9 @@ pub(crate) fn holds(session: &Session, slot: SlotId, values: &[Value]) -> Result
     Ok(session.broker().content(slot)?.as_slice() == values)
 }
 
-/// How many calls of a slot's queue took effect.
-pub(crate) fn effects(session: &Session, slot: SlotId) -> Result<usize, Refusal> {
-    Ok(session.broker().order(slot)?.entries.as_slice().len())
-}
-
 /// How many events the history of a slot's queue has.
 pub(crate) fn events(session: &Session, slot: SlotId) -> Result<usize, Refusal> {
     Ok(session.broker().history(slot)?.events.len())
-}
-
-/// Whether what is kept of a client is the verdict that recovery told it.
-pub(crate) fn is_as_told(session: &Session, client: u8) -> Result<bool, Refusal> {
-    let kept = match last(session, client) {
-        Some(verdict) => Told::Verdict(verdict),
-        None => Told::None,
-    };
-    match session.broker().told(A, Client(client)) {
-        Ok(told) => Ok(is_same_told(&told, &kept)),
-        Err(refusal) => Err(refusal),
-    }
-}
-
-/// Whether the order has at most one entry for each number of a client: each client's entries have rising numbers.
-pub(crate) fn are_once(session: &Session, slot: SlotId) -> Result<bool, Refusal> {
-    let history = session.broker().history(slot)?;
-    let order = session.broker().order(slot)?;
-    let mut highest = [0u64; MAX_CLIENTS];
-    for entry in order.entries.as_slice() {
-        let Some((client, number)) = call_at(&history.events, entry.place) else {
-            return Ok(false);
-        };
-        let Some(last) = highest.get_mut(client) else {
-            return Ok(false);
-        };
-        if number <= *last {
-            return Ok(false);
-        }
-        *last = number;
-    }
-    Ok(true)
 }
 
 /// Whether each queue of the session's broker is explained.

@@ -1,46 +1,14 @@
-//! Clients with the same numbers, and calls without a number in another queue.
+//! Calls without a number in another queue, beside numbers.
 
-use crate::acts::{are_explained, are_once, ask, begin, comes_to, effects, holds, last, restart};
-use crate::stories::GETS;
+use crate::acts::{are_explained, ask, begin, comes_to, holds, last, restart};
 use session::Session;
 use std::alloc::Global;
 use std::test::Fail;
 use test_support::brokers::{not_taken, taken};
 use test_support::item;
-use test_support::sessions::{A, B, create, with_queue};
+use test_support::sessions::{B, create, with_queue};
 use test_support::steps::LOG_DEQUEUE_ANNOUNCED;
 use words::{Call, Client, Kind, Refusal, Reply};
-
-/// Whether both clients are cut off by a crash, after as many steps each, and both are done once.
-fn are_both_done(alloc: Global, first: u32, second: u32) -> Result<bool, Refusal> {
-    let mut session = with_queue(alloc, Kind::Log, 2, 4)?;
-    ask(&mut session, 0, 1, Call::Enq(item(5)))?;
-    ask(&mut session, 1, 1, Call::Enq(item(6)))?;
-    begin(&mut session, 0, 2, Call::Deq, first)?;
-    begin(&mut session, 1, 2, Call::Deq, second)?;
-    restart(&mut session)?;
-    let one = ask(&mut session, 0, 2, Call::Deq)?;
-    let other = ask(&mut session, 1, 2, Call::Deq)?;
-    let (five, six) = (Reply::Got(item(5)), Reply::Got(item(6)));
-    let mut right = one == five && other == six || one == six && other == five;
-    right &= comes_to(&mut session, 0, 2, Call::Deq, Ok(Some(one)))?;
-    right &= comes_to(&mut session, 1, 2, Call::Deq, Ok(Some(other)))?;
-    right &= effects(&session, A)? == 4 && holds(&session, A, &[])?;
-    Ok(right && are_once(&session, A)? && are_explained(alloc, &session)?)
-}
-
-#[test]
-fn clients_that_are_cut_off_are_both_done(rt: HostRuntime) -> Result<(), Fail> {
-    // Two steps more: a client that is overtaken takes some.
-    let steps = GETS.steps(rt.alloc())?.saturating_add(2);
-    for first in 0..=steps {
-        for second in 0..=steps {
-            let right = are_both_done(rt.alloc(), first, second);
-            assert!(rt; right == Ok(true), "{first} {second}");
-        }
-    }
-    Ok(())
-}
 
 /// A call without a number in the durable queue.
 fn plain(session: &mut Session, client: u8, call: Call) -> Result<Reply, Refusal> {

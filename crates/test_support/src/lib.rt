@@ -1,8 +1,8 @@
 //! What tests share: what they draw, how far the calls that they interrupt have come, what they do with brokers and
-//! sessions, look at, and pass over.
+//! sessions, and what they look at.
 #![tactic(auto)]
 
-ghost use Rattle.std.specs.Prelude.{◌≡◌, ◌↔◌, slice_get, true, IfErr, IfOk, IsErrOf};
+ghost use Rattle.std.specs.Prelude.{◌≡◌, slice_get, true, IfErr, IfOk};
 ghost use Rattle.named.specs.Brokers.{world_at};
 ghost use Rattle.named.specs.Slots.{IsWhyUnread};
 ghost use Rattle.test_support.specs.Calls.{caller_of};
@@ -67,16 +67,5 @@ pub fn call_at(events: &Events, place: usize) -> Option<(usize, u64)>
     match events.get(place) {
         Some(Event::Call { client, number, .. }) => Some((client.0 as usize, number)),
         _ => None,
-    }
-}
-
-/// An act that a rule refuses is passed over; want of memory is not.
-pub fn pass_over<T: Drop>(answer: Result<T, Refusal>) -> Result<(), Refusal>
-    ensures memory { IsErrOf result Refusal.NoMemory ↔ IsErrOf answer Refusal.NoMemory }
-    ensures errors { IfErr result (λ refusal. refusal ≡ Refusal.NoMemory) }
-{
-    match answer {
-        Err(Refusal::NoMemory) => Err(Refusal::NoMemory),
-        _ => Ok(()),
     }
 }

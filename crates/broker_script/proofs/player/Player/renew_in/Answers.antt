@@ -1,0 +1,26 @@
+use Rattle.std.proofs.Common.{◌≡◌, ap, ◌∙◌, subst}
+use Rattle.std.proofs.lemmas.Result.{IfOk-weaker}
+use Rattle.std.specs.Prelude.{Err}
+use Rattle.named.specs.Brokers.{Brokered}
+use Rattle.named.specs.Renewing.{IsWhyNotRenewedAt}
+use Rattle.broker_script.specs.Play.{Played}
+use Rattle.broker_script.proofs.player.Player.renew_in.Goals as goal
+
+pub returns-in-Err-clause-renews : goal.returns-in-Err-clause-renews
+returns-in-Err-clause-renews c =
+    let same = ap (λ (p : Played). p.broker) c.self.view_is in
+    let refusal = c.in-Err.refusal in
+    IfOk-weaker c.refused.result _ _ (λ lines said. record {
+      result = Err refusal;
+      line = said.1;
+      may = tt;
+      renewed = tt;
+      others = tt;
+      errors = record {
+        memory = said.0;
+        why = subst (λ (b : Brokered). IsWhyNotRenewedAt b c.args.slot.0 refusal) same c.in-Err.ensures.errors;
+      };
+      same =
+          ap (λ (p : Played). record p { broker = c.renew.new.self }) c.self.view_is
+          ∙ ap (λ (b : Brokered). record c.args.self.now { broker = b }) (c.in-Err.ensures.same ∙ same);
+    }) c.refused.ensures.line
