@@ -1,6 +1,6 @@
 -- What waits to complete a flush has asked for it, through each act.
 use Rattle.std.proofs.Common.{◌≡◌, ◌≢◌, ℕ, zero, suc, ◌+◌, ◌<◌, ◌≤◌, ◌⊎◌, inl, inr, Bool, true, false, List, Option, Some, None, Result, Ok, Err, length, replicate, slice_get, slice_index_or, slice_set, if◌then◌else◌, ◌==◌, refl, sym, ap, ◌∙◌, subst, arith, length-set}
-use Rattle.std.specs.Prelude.{is_ok, is_some, ◌&&◌, nat_lt, not}
+use Rattle.std.specs.Prelude.{is_ok, ◌&&◌, nat_lt, not}
 use Rattle.std.proofs.lemmas.Bool.{cases_eq, cases_lt, eq-eqb, ne_eqb}
 use Rattle.std.proofs.lemmas.List.{get_or_past, get_or-replicate, get_or-set_same, get_or-set_other, length-replicate}
 use Rattle.std.proofs.lemmas.Option.{get_or_from_slice_get, slice_get_within}
@@ -37,7 +37,7 @@ use Rattle.helping.specs.declared.dequeue.Claim.TheVariants.{Won, LostTo}
 use Rattle.helping.specs.declared.keeping.Keeping.TheVariants.{Link, PassedLink, Empty, DequeuePassedLink, Claim as KeepClaim, Result as KeepResult}
 use Rattle.helping.specs.declared.op.Op.{Op}
 use Rattle.helping.specs.declared.op.Op.TheVariants.{PrepareStore, PrepareFlush, PrepareFence, EnqueueLoadTail, EnqueueLoadNext, EnqueueCheckTail, EnqueueLink, EnqueueMoveTail, EnqueueHelpTail, DequeueLoadHead, DequeueLoadTail, DequeueLoadNext, DequeueCheckHead, DequeueStoreEmpty, DequeueHelpTail, DequeueLoadItem, DequeueClaim, DequeueStoreResult, DequeueMoveHead, Flush as FlushPoint, Fence as FencePoint}
-use Rattle.recover.specs.Table.{access_of as recovery_access, after_report, boot_recovery, past_head, point_at_the_end, point_past_status, recovery_after, recovery_at, successor as recovery_successor, to_answer, to_node, to_outcome, to_row, got_with, removed_with}
+use Rattle.recover.specs.Table.{access_of as recovery_access, boot_recovery, past_head, point_at_the_end, point_past_status, recovery_at, successor as recovery_successor, to_answer, to_node, to_outcome, to_row, got_with, removed_with}
 use Rattle.recover.specs.declared.keeping.RecoveryKeeping.TheVariants.{Status, Result as RecoveryKeepResult, Head, Tail}
 use Rattle.recover.specs.declared.point.RecoveryPoint.{RecoveryPoint}
 use Rattle.recover.specs.declared.point.RecoveryPoint.TheVariants.{RecoveryLoadHead, RecoveryLoadNext, RecoveryLoadInsert, RecoveryStoreStatus, RecoveryLoadMark, RecoveryStoreResult, RecoveryStoreHead, RecoveryStoreTail, RecoveryLoadAnnouncement, RecoveryLoadCell, RecoveryLoadGot, RecoveryLoadNumber, RecoveryLoadKind, RecoveryLoadStatus, RecoveryLoadRemove, RecoveryLoadEntryNode, RecoveryLoadRemovedItem, Flush as RecoveryFlush, Fence as RecoveryFence}
@@ -49,8 +49,8 @@ use Rattle.interleave.specs.Asked.{AreAsked, IfCallAsked, IfRecoveryAsked, lent_
 use Rattle.interleave.specs.Calls.{waiting_result}
 use Rattle.interleave.specs.Holds.{Holds}
 use Rattle.interleave.specs.Rotation.{after_rotate, after_rotation, rotate_result}
-use Rattle.interleave.specs.State.{State, after_alone, after_bump_load, after_call_began, after_crash, after_evict, after_one_access, after_recover, after_recovery_step, after_start, after_step, after_stop, evict_with, is_down, machine, number_to_start, recover_with, start_with, step_with, used_by}
-use Rattle.interleave.proofs.HoldsKept.{holds_after_step, ready_if_called, waiting_is}
+use Rattle.interleave.specs.State.{State, after_alone, after_bump_load, after_call_began, after_evict, after_recover, after_start, after_step, evict_with, is_down, machine, number_to_start, recover_with, start_with, step_with, used_by}
+use Rattle.interleave.proofs.HoldsKept.{holds_after_step, waiting_is}
 
 -- what a call comes to has what it completes
 abbrev IfMoreAsked : Shape → After Op Reply → Request → Type 0

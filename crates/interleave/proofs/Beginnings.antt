@@ -1,5 +1,5 @@
 -- An act leaves where the history begins.
-use Rattle.std.proofs.Common.{◌≡◌, ℕ, zero, suc, Bool, true, false, if◌then◌else◌, Option, Some, None, Result, Ok, Err, slice_get, refl, ap, ◌∙◌, ◌==◌}
+use Rattle.std.proofs.Common.{ℕ, zero, suc, Bool, true, false, if◌then◌else◌, Option, Some, None, Result, Ok, Err, slice_get, refl, ◌∙◌, ◌==◌}
 use Rattle.words.specs.declared.call.Call.{Call}
 use Rattle.words.specs.declared.call.Client.{Client}
 use Rattle.words.specs.declared.refusal.Refusal.{Refusal}
@@ -11,7 +11,7 @@ use Rattle.protocol.specs.declared.acts.Act.{Act}
 use Rattle.protocol.specs.declared.acts.Act.TheVariants.{Start, Step, Evict, Crash, Recover}
 use Rattle.interleave.specs.Calls.{waiting_result}
 use Rattle.interleave.specs.Standing.{BeginAlike}
-use Rattle.interleave.specs.State.{State, after_alone, after_attempt, after_bump_load, after_call_began, after_crash, after_evict, after_one_access, after_recover, after_recovery_step, after_start, after_step, after_stop, evict_with, is_down, number_to_start, recover_with, start_with, step_with, used_by}
+use Rattle.interleave.specs.State.{State, after_alone, after_attempt, after_bump_load, after_call_began, after_crash, after_evict, after_one_access, after_recover, after_start, after_step, evict_with, is_down, number_to_start, recover_with, start_with, step_with, used_by}
 
 pub begins_itself_alike : (w : State) → BeginAlike w w
 begins_itself_alike w = record { shape = refl; base = refl; told = refl }

@@ -1,5 +1,5 @@
 -- What was made or refused by a rule.
-use Rattle.std.proofs.Common.{◌≡◌, ◌≤◌, ℕ, Bool, Result, Ok, Err, sym, subst}
+use Rattle.std.proofs.Common.{◌≡◌, ℕ, Bool, Result, Ok, Err, sym, subst}
 use Rattle.std.specs.Prelude.{IfErr}
 use Rattle.words.specs.declared.refusal.Refusal.{Refusal}
 use Rattle.protocol.specs.declared.acts.Act.{Act}

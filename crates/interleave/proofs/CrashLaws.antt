@@ -1,5 +1,5 @@
 -- What a step of recovery makes of a world.
-use Rattle.std.proofs.Common.{◌≡◌, ℕ, List, Option, Some, None, refl, true, ap, ◌∙◌}
+use Rattle.std.proofs.Common.{◌≡◌, List, Option, Some, None, refl, true, ap, ◌∙◌}
 use Rattle.std.specs.Prelude.{is_some, IfSome}
 use Rattle.words.specs.PlainQueue.{Value}
 use Rattle.words.specs.declared.told.Told.{Told}

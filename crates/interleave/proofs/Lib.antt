@@ -12,6 +12,8 @@ pub mod Unsettled
 pub mod Prefixes
 pub mod Records
 pub mod Contents
+pub mod CallLaws
+pub mod Stepping
 pub mod InRange
 pub mod NoteLaws
 pub mod OverLaws

@@ -19,7 +19,7 @@ use Rattle.helping.specs.declared.op.Op.{Op}
 use Rattle.helping.specs.declared.op.Op.TheVariants.{DequeueLoadNext}
 use Rattle.protocol.specs.Machine.{World, Memory, Trace, put, effects_on_keep, after_keeping, after_fence, effects_after, next_of}
 use Rattle.protocol.specs.declared.UnderWay.{UnderWay}
-use Rattle.interleave.specs.Changes.{effects_at, effects_on_change, effects_on_step}
+use Rattle.interleave.specs.Changes.{effects_at, effects_on_change, effects_on_step, looking}
 use Rattle.interleave.specs.Calls.{went_on_to_nothing}
 use Rattle.interleave.specs.Effects.{effects_with_look}
 use Rattle.interleave.specs.Values.{value_of_place, memory_by_place}
@@ -105,7 +105,7 @@ effects_by_access s ws calls base told log (Fence p) fits long = effects_of_chan
 -- what is noted of a step are the machine's effects after it
 pub noted_is : (s : Shape) (ws : Words) (calls : List (Option UnderWay)) (base : List Value) (told : List Told) (log : Trace) (u : UnderWay)
     → IsPoint s u.op → size_of s ≤ length ws.kept
-    → effects_on_step (machine_of s (after_one s (access_of s.kind u.op) ws) calls base told log) u (change_by s (access_of s.kind u.op) ws) (next_of (machine_of s ws calls base told log) u)
+    → effects_on_step (machine_of s (after_one s (access_of s.kind u.op) ws) calls base told log) (looking u) (change_by s (access_of s.kind u.op) ws) (next_of (machine_of s ws calls base told log) u)
     ≡ effects_after (machine_of s ws calls base told log) u u.op
 noted_is s ws calls base told log u point long = look (is_look u.op) refl
   where
@@ -115,6 +115,6 @@ noted_is s ws calls base told log u point long = look (is_look u.op) refl
     now : World
     now = machine_of s (after_one s (access_of s.kind u.op) ws) calls base told log
 
-    look : (b : Bool) → is_look u.op ≡ b → effects_on_step now u (change_by s (access_of s.kind u.op) ws) (next_of w u) ≡ effects_after w u u.op
+    look : (b : Bool) → is_look u.op ≡ b → effects_on_step now (looking u) (change_by s (access_of s.kind u.op) ws) (next_of w u) ≡ effects_after w u u.op
     look false h = rw h (effects_by_access s ws calls base told log (access_of s.kind u.op) (access_fits s s.kind u.op refl point) long ∙ sym (not_a_look w u u.op h))
     look true h = rw h (look_is w u u.op refl h)

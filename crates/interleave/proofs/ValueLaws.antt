@@ -10,7 +10,6 @@ use Rattle.arena.specs.Layout.{size_of, word_at}
 use Rattle.arena.specs.Shape.{Shape, greatest}
 use Rattle.arena.specs.Place.{IsPlace, is_same, is_same-true}
 use Rattle.arena.specs.Laws.{at-written}
-use Rattle.arena.specs.declared.place.Part.TheVariants.{Length, First, Second, Third}
 use Rattle.arena.specs.declared.place.Place.{Place}
 use Rattle.arena.specs.declared.place.Place.TheVariants.{Head, Tail, Announcement, Bump, Item, Next, Mark, Cell, Insert, Number, EntryKind, Status, EntryNode}
 use Rattle.stepper.specs.Step.{after_one, place_of}

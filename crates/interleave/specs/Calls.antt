@@ -1,5 +1,6 @@
 -- Calls under way.
-use Rattle.std.specs.Prelude.{Bool, true, false, Option, Some, None, Result, Ok, Err}
+use Rattle.std.specs.Prelude.{Bool, true, false, List, Option, Some, None, Result, Ok, Err, IfSome, slice_index_or}
+use Rattle.words.specs.declared.call.Client.{Client}
 use Rattle.words.specs.declared.call.Reply.{Reply}
 use Rattle.words.specs.declared.refusal.Refusal.{Refusal}
 use Rattle.words.specs.declared.refusal.Refusal.TheVariants.{NoClient, NotReady, Busy, Idle, NoMemory}
@@ -27,6 +28,10 @@ waiting_result down None = Err NoClient
 waiting_result true (Some call) = Err NotReady
 waiting_result false (Some None) = Err Idle
 waiting_result false (Some (Some u)) = Ok u
+
+-- what is so of the call that a client has under way
+abbrev pub OfCall : List (Option UnderWay) → Client → (UnderWay → Type 0) → Type 0
+OfCall calls client P = IfSome (slice_index_or calls client.0 None) P
 
 -- whether memory was refused
 abbrev pub is_no_memory : {X : Type 0} → Result X Refusal → Bool

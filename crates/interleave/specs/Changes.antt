@@ -23,9 +23,12 @@ abbrev pub effects_on_change : World → Option Change → List Effect
 effects_on_change w None = w.log.effects
 effects_on_change w (Some change) = effects_at w (place_at w.shape change.word) change.new
 
--- the effects after a step that made this change, and went on so
-abbrev pub effects_on_step : World → UnderWay → Option Change → After Op Reply → List Effect
-effects_on_step w u change after =
-    if is_look u.op
-    then effects_with_look u.place (went_on_to_nothing after) (length w.log.events) w.log.effects
-    else effects_on_change w change
+-- where the call stands in the history, if its next step looks for a node
+abbrev pub looking : UnderWay → Option ℕ
+looking u = if is_look u.op then Some u.place else None
+
+-- the effects after a step, of the call at this place if it looked, that made this change, and went on so
+abbrev pub effects_on_step : World → Option ℕ → Option Change → After Op Reply → List Effect
+effects_on_step w None change after = effects_on_change w change
+effects_on_step w (Some place) change after =
+    effects_with_look place (went_on_to_nothing after) (length w.log.events) w.log.effects

@@ -1,5 +1,5 @@
 -- The state of a world, and what each act makes of it.
-use Rattle.std.specs.Prelude.{◌≡◌, ℕ, zero, suc, ◌+◌, ◌*◌, Bool, false, true, is_ok, is_some, length, List, [], ◌∷◌, Option, Some, None, Result, Ok, Err, replicate, slice_get, slice_index_or, slice_set, nat_lt, if◌then◌else◌, ◌==◌}
+use Rattle.std.specs.Prelude.{◌≡◌, ℕ, zero, suc, ◌+◌, Bool, false, true, is_ok, is_some, length, List, [], ◌∷◌, Option, Some, None, Result, Ok, Err, replicate, slice_get, slice_index_or, slice_set, nat_lt, if◌then◌else◌, ◌==◌}
 use Rattle.words.specs.PlainQueue.{Value}
 use Rattle.words.specs.declared.call.Call.{Call}
 use Rattle.words.specs.declared.call.Client.{Client}

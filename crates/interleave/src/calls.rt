@@ -1,6 +1,7 @@
 //! Calls under way.
 
-ghost use Rattle.std.specs.Prelude.{◌≡◌, ◌<◌, ◌≤◌, ◌+◌, ◌*◌, replicate, length, slice_get, slice_index_or, slice_set, Some, None};
+ghost use Rattle.std.specs.Prelude.{◌≡◌, ◌<◌, ◌≤◌, ◌+◌, ◌*◌, replicate, length, slice_get, slice_index_or, slice_set, IfErr, IfOk, Err, None, Ok, Some};
+ghost use Rattle.std.specs.Option.{option_copied};
 ghost use Rattle.interleave.specs.Calls.{idle_result, waiting_result};
 ghost use Rattle.interleave.specs.Rotation.{some_client_calls};
 ghost use Rattle.protocol.specs.declared.UnderWay.{UnderWay as AnyUnderWay};
@@ -60,19 +61,19 @@ impl Calls {
         }
     }
 
-    /// The client's call, if there is such a client.
-    pub(crate) fn get(&self, client: usize) -> Option<Option<UnderWay>>
-        ensures { result ≡ slice_get self.now client }
+    /// The client's place, if there is such a client. A call is looked at where it stands, and not copied.
+    fn place(&self, client: usize) -> Option<&Option<UnderWay>>
+        ensures { option_copied result ≡ slice_get self.now client }
     {
-        self.places[..self.clients].get(client).copied()
+        self.places[..self.clients].get(client)
     }
 
     /// The client's call, if there is such a client and it has one.
-    pub(crate) fn under_way(&self, client: usize) -> Option<UnderWay>
-        ensures { result ≡ slice_index_or self.now client None }
+    pub(crate) fn under_way(&self, client: usize) -> Option<&UnderWay>
+        ensures { option_copied result ≡ slice_index_or self.now client None }
     {
-        match self.get(client) {
-            Some(call) => call,
+        match self.place(client) {
+            Some(call) => call.as_ref(),
             None => None,
         }
     }
@@ -123,7 +124,7 @@ impl Calls {
     pub(crate) fn check_idle(&self, down: bool, client: Client) -> Result<(), Refusal>
         ensures { result ≡ idle_result down (slice_get self.now client.0) }
     {
-        match self.get(client.0 as usize) {
+        match self.place(client.0 as usize) {
             None => Err(Refusal::NoClient),
             Some(_) if down => Err(Refusal::NotReady),
             Some(None) => Ok(()),
@@ -132,10 +133,11 @@ impl Calls {
     }
 
     /// The call that a client has under way.
-    pub(crate) fn waiting(&self, down: bool, client: Client) -> Result<UnderWay, Refusal>
-        ensures { result ≡ waiting_result down (slice_get self.now client.0) }
+    pub(crate) fn waiting(&self, down: bool, client: Client) -> Result<&UnderWay, Refusal>
+        ensures ok { IfOk result (λ call. waiting_result down (slice_get self.now client.0) ≡ Ok call.now) }
+        ensures errors { IfErr result (λ e. waiting_result down (slice_get self.now client.0) ≡ Err e) }
     {
-        match self.get(client.0 as usize) {
+        match self.place(client.0 as usize) {
             None => Err(Refusal::NoClient),
             Some(_) if down => Err(Refusal::NotReady),
             Some(None) => Err(Refusal::Idle),

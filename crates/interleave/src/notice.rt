@@ -1,6 +1,7 @@
 //! What takes effect when a kept word changes.
 
 ghost use Rattle.std.specs.Prelude.{◌≡◌, ◌≤◌, length, slice_index_or, None};
+ghost use Rattle.std.specs.Option.{option_copied};
 ghost use Rattle.arena.specs.Layout.{size_of};
 ghost use Rattle.arena.specs.Shape.{owner};
 ghost use Rattle.arena.specs.Place.{IsNode, IsPlace};
@@ -44,8 +45,8 @@ pub(crate) fn kept_value<K: KeptWords>(layout: &Layout, kept: &K, node: NodeId) 
 
 impl Core {
     /// The call whose record has this number, if it is under way.
-    fn call_with(&self, number: u64) -> Option<UnderWay>
-        ensures { result ≡ slice_index_or self.now.calls (owner self.now.shape number) None }
+    fn call_with(&self, number: u64) -> Option<&UnderWay>
+        ensures { option_copied result ≡ slice_index_or self.now.calls (owner self.now.shape number) None }
     {
         let owner = number.saturating_sub(1) / self.layout.records() as u64;
         self.calls.under_way(owner as usize)
@@ -58,7 +59,8 @@ impl Core {
             (slice_index_or self.old.calls (owner self.old.shape number) None) self.old.trace.log.effects) }
     {
         if let Some(under_way) = self.call_with(number) {
-            self.trace.settle(under_way.place);
+            let place = under_way.place;
+            self.trace.settle(place);
         }
     }
 
@@ -76,13 +78,15 @@ impl Core {
         match place {
             Place::Next(_) => {
                 if let Some(under_way) = self.call_with(new) {
-                    self.trace.take(under_way.place, Reply::Done);
+                    let place = under_way.place;
+                    self.trace.take(place, Reply::Done);
                 }
             }
             Place::Mark(node) => {
                 if let Some(under_way) = self.call_with(new) {
+                    let place = under_way.place;
                     let value = kept_value(&self.layout, memory, node);
-                    self.trace.take(under_way.place, Reply::Got(value));
+                    self.trace.take(place, Reply::Got(value));
                 }
             }
             Place::Cell(token) => {

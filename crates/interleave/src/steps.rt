@@ -1,6 +1,7 @@
 //! One step of a call.
 
-ghost use Rattle.std.specs.Prelude.{◌≡◌, ◌≤◌, ◌<◌, ◌+◌, length, is_some, slice_get, slice_index_or, slice_set, Some, None, Ok, true, false, IfErr};
+ghost use Rattle.std.specs.Prelude.{◌≡◌, ◌≤◌, ◌<◌, ◌+◌, length, is_some, slice_get, slice_index_or, slice_set, Err, Some, None, Ok, IfErr, IfOk, IsSome};
+ghost use Rattle.std.specs.Option.{option_copied};
 ghost use Rattle.persist.specs.Noted.{answer_in, change_in, IsNoted};
 ghost use Rattle.arena.specs.Layout.{size_of};
 ghost use Rattle.stepper.specs.Step.{after_one, change_by, lent_after_one, value_found, IsAskedFor, IsReadInRange};
@@ -8,11 +9,11 @@ ghost use Rattle.helping.specs.Table.{access_of, successor, IsPoint};
 ghost use Rattle.protocol.specs.declared.UnderWay.{UnderWay as AnyUnderWay};
 ghost use Rattle.protocol.specs.Machine.{effects_after, events_after, next_of, with_step, with_next};
 ghost use Rattle.interleave.specs.Asked.{lent_after_step, IfCallAsked};
-ghost use Rattle.interleave.specs.Calls.{answer_of, is_no_memory, waiting_result, went_on_to_nothing};
+ghost use Rattle.interleave.specs.Calls.{answer_of, is_no_memory, waiting_result, went_on_to_nothing, OfCall};
 ghost use Rattle.interleave.specs.Core.{core_with_effects, machine_over, roomy_over, state_of};
 ghost use Rattle.interleave.specs.Effects.{AreInSequence};
 ghost use Rattle.interleave.specs.Holds.{Holds};
-ghost use Rattle.interleave.specs.Changes.{effects_on_step};
+ghost use Rattle.interleave.specs.Changes.{effects_on_step, looking};
 ghost use Rattle.interleave.specs.Ranges.{WordsFit, IsSafe};
 ghost use Rattle.interleave.specs.Rules.{stepping, IsByRule};
 
@@ -33,12 +34,29 @@ fn found_nothing(after: &After<Op, Reply>) -> bool
     }
 }
 
+/// The place of a call in the history, if its next step looks for a node.
+fn looking(under_way: &UnderWay) -> Option<usize>
+    ensures { result ≡ looking under_way.now }
+{
+    under_way.op.looks().then_some(under_way.place)
+}
+
 impl Core {
-    /// The call that a client has under way.
-    pub(crate) fn waiting(&self, client: Client) -> Result<UnderWay, Refusal>
-        ensures { result ≡ waiting_result (is_some self.now.trace.recovery) (slice_get self.now.calls client.0) }
+    /// The call that a client has under way. It is looked at where it stands: it is some 190 bytes, and each step looks.
+    pub(crate) fn waiting(&self, client: Client) -> Result<&UnderWay, Refusal>
+        ensures ok { IfOk result (λ call. waiting_result (is_some self.now.trace.recovery)
+            (slice_get self.now.calls client.0) ≡ Ok call.now) }
+        ensures errors { IfErr result (λ e. waiting_result (is_some self.now.trace.recovery)
+            (slice_get self.now.calls client.0) ≡ Err e) }
     {
         self.calls.waiting(self.trace.is_down(), client)
+    }
+
+    /// The call that a client has under way, if it has one.
+    fn call_of(&self, client: Client) -> Option<&UnderWay>
+        ensures { option_copied result ≡ slice_index_or self.now.calls client.0 None }
+    {
+        self.calls.under_way(client.0 as usize)
     }
 
     /// The one access of a waiting point.
@@ -60,28 +78,26 @@ impl Core {
         op.step(&self.layout, memory)
     }
 
-    /// Notes what a step did: a look, or a change of a kept word.
+    /// Notes what a step did: a look of the call at a place, or a change of a kept word.
     fn note<M: EvictableWords>(
         &mut self,
         memory: &M,
-        under_way: &UnderWay,
+        looking: Option<usize>,
         stepped: &Stepped<Op, Reply>,
     )
         requires fit { WordsFit self.old.shape (M.words memory.now) }
         requires sequence { AreInSequence self.old.trace.log.effects }
         requires room { let w = machine_over self.old (M.words memory.now) in
-            length (effects_on_step w under_way.now stepped.now.change stepped.now.after)
+            length (effects_on_step w looking stepped.now.change stepped.now.after)
             ≤ length self.old.trace.log.events }
         ensures { let w = machine_over self.old (M.words memory.now) in
             self.new ≡ core_with_effects self.old
-            (effects_on_step w under_way.now stepped.now.change stepped.now.after) }
+            (effects_on_step w looking stepped.now.change stepped.now.after) }
     {
-        if under_way.op.looks() {
-            self.trace
-                .look(under_way.place, found_nothing(&stepped.after));
-            return;
+        match looking {
+            Some(place) => self.trace.look(place, found_nothing(&stepped.after)),
+            None => self.note_change(memory, stepped.change),
         }
-        self.note_change(memory, stepped.change);
     }
 
     /// What a step leads to takes the call's place, and an answer is noted.
@@ -115,43 +131,42 @@ impl Core {
         }
     }
 
-    /// One step of a client's call: its answer, and the change of a kept value.
-    fn advance<M: EvictableWords>(
-        &mut self,
-        memory: &mut M,
-        client: Client,
-        under_way: &UnderWay,
-    ) -> Noted<Option<Reply>>
+    /// One step of the call that a client has under way: its answer, and the change of a kept value.
+    fn advance<M: EvictableWords>(&mut self, memory: &mut M, client: Client) -> Noted<Option<Reply>>
+        requires waits { IsSome (slice_index_or self.old.calls client.0 None) }
         requires safe { IsSafe self.old.shape (M.words memory.old) self.old.calls }
-        requires asked { let s = self.old.shape in
-            IsAskedFor s (access_of s.kind under_way.now.op) (M.lent memory.old).request }
-        requires waits { slice_get self.old.calls client.0 ≡ Some (Some under_way.now) }
+        requires asked { IfCallAsked self.old.shape (slice_index_or self.old.calls client.0 None)
+            (M.lent memory.old).request }
         requires sequence { AreInSequence self.old.trace.log.effects }
-        requires effects { let w = machine_over self.old (M.words memory.old) in
-            length (effects_after w under_way.now under_way.now.op) ≤ length self.old.trace.log.events }
+        requires effects { let w = machine_over self.old (M.words memory.old) in OfCall self.old.calls client (λ u.
+            length (effects_after w u u.op) ≤ length self.old.trace.log.events) }
         requires room { 0 < self.old.trace.room }
-        ensures words { M.words memory.new
-            ≡ after_one self.old.shape (access_of self.old.shape.kind under_way.now.op) (M.words memory.old) }
-        ensures lent { M.lent memory.new
-            ≡ lent_after_one self.old.shape (access_of self.old.shape.kind under_way.now.op) (M.lent memory.old) }
+        ensures words { let s = self.old.shape in OfCall self.old.calls client (λ u.
+            M.words memory.new ≡ after_one s (access_of s.kind u.op) (M.words memory.old)) }
+        ensures lent { let s = self.old.shape in OfCall self.old.calls client (λ u.
+            M.lent memory.new ≡ lent_after_one s (access_of s.kind u.op) (M.lent memory.old)) }
         ensures shape { self.new.shape ≡ self.old.shape }
         ensures queue { self.new.queue ≡ self.old.queue }
-        ensures calls { let w = machine_over self.old (M.words memory.old) in
-            self.new.calls ≡ slice_set self.old.calls client.0 (with_next under_way.now (next_of w under_way.now)) }
+        ensures calls { let w = machine_over self.old (M.words memory.old) in OfCall self.old.calls client (λ u.
+            self.new.calls ≡ slice_set self.old.calls client.0 (with_next u (next_of w u))) }
         ensures base { self.new.trace.base ≡ self.old.trace.base }
         ensures told { self.new.trace.told ≡ self.old.trace.told }
-        ensures log { self.new.trace.log
-            ≡ (with_step (machine_over self.old (M.words memory.old)) client under_way.now).log }
-        ensures answer { result.answer
-            ≡ answer_of (next_of (machine_over self.old (M.words memory.old)) under_way.now) }
-        ensures change { let s = self.old.shape in
-            result.change ≡ change_by s (access_of s.kind under_way.now.op) (M.words memory.old) }
+        ensures log { let w = machine_over self.old (M.words memory.old) in OfCall self.old.calls client (λ u.
+            self.new.trace.log ≡ (with_step w client u).log) }
+        ensures answer { let w = machine_over self.old (M.words memory.old) in OfCall self.old.calls client (λ u.
+            result.answer ≡ answer_of (next_of w u)) }
+        ensures change { let s = self.old.shape in OfCall self.old.calls client (λ u.
+            result.change ≡ change_by s (access_of s.kind u.op) (M.words memory.old)) }
         ensures recovery { self.new.trace.recovery ≡ self.old.trace.recovery }
         ensures room { self.old.trace.room ≤ self.new.trace.room + 1 }
         ensures stays { result.answer ≡ None → self.new.trace.room ≡ self.old.trace.room }
     {
+        let Some(under_way) = self.call_of(client) else {
+            unreachable!()
+        };
+        let looking = looking(under_way);
         let stepped = self.step_at(memory, under_way.op);
-        self.note(memory, under_way, &stepped);
+        self.note(memory, looking, &stepped);
         let change = stepped.change;
         Noted {
             answer: self.go_on(client, stepped.after),
@@ -177,21 +192,15 @@ impl Core {
             (state_of self.old (M.words memory.old)) client (M.lent memory.old) }
         ensures noted { IsNoted (change_in result) (M.words memory.old).kept (M.words memory.new).kept }
     {
-        let under_way = self.waiting(client)?;
+        let begun = &self.waiting(client)?.begun;
+        let (caller, number) = (begun.client, begun.number);
         self.reserve(1)?;
-        let Noted { answer, change } = self.advance(memory, client, &under_way);
-        let Some(reply) = answer else {
-            return Ok(Noted {
-                answer: None,
-                change,
-            });
-        };
-        let begun = &under_way.begun;
-        self.queue.returned(begun.client, begun.number);
-        Ok(Noted {
-            answer: Some(reply),
-            change,
-        })
+        let noted = self.advance(memory, client);
+        if noted.answer.is_none() {
+            return Ok(noted);
+        }
+        self.queue.returned(caller, number);
+        Ok(noted)
     }
 
     /// One step of a client's call: exactly one access. It answers the reply where that was the last. The words are

@@ -13,7 +13,7 @@ use Rattle.interleave.specs.Ranges.{WordsFit}
 use Rattle.interleave.specs.State.{machine_of, evict_with}
 use Rattle.interleave.specs.Core.{CoreState, machine_over, state_of}
 use Rattle.interleave.specs.Holds.{Holds}
-use Rattle.interleave.specs.Trace.{Traced, state_with, with_effects}
+use Rattle.interleave.specs.Trace.{Traced, with_effects}
 use Rattle.interleave.proofs.ByRule.{if_refused}
 use Rattle.interleave.proofs.EvictLaws.{no_word, refused_word, evicted_fit, noted_room, evicted_world, evicted_change}
 use Rattle.interleave.proofs.HoldsKept.{holds_after_evict}

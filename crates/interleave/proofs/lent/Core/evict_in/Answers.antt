@@ -1,11 +1,8 @@
-use Rattle.std.proofs.Common.{◌≡◌, ℕ, rules, refl, sym, ap, subst, ◌∙◌}
-use Rattle.persist.specs.Memory.{Around, Lent, MemoryState, Words, lent_whole}
-use Rattle.persist.specs.Lent.{port_lent, port_words}
-use Rattle.interleave.specs.Asked.{AreAsked, HoldsOver, requests_of}
-use Rattle.interleave.specs.Calls.{is_no_memory}
-use Rattle.interleave.specs.Core.{CoreState, state_of}
-use Rattle.interleave.specs.Holds.{Holds}
-use Rattle.interleave.specs.State.{State, after_evict}
+use Rattle.std.proofs.Common.{sym, subst}
+use Rattle.persist.specs.Memory.{MemoryState}
+use Rattle.interleave.specs.Asked.{AreAsked, requests_of}
+use Rattle.interleave.specs.Core.{state_of}
+use Rattle.interleave.specs.State.{State}
 use Rattle.interleave.proofs.AskedKept.{asked_evicted, unasked_for}
 use Rattle.interleave.proofs.lent.Core.evict_in.Goals as goal
 

@@ -1,10 +1,9 @@
-use Rattle.std.proofs.Common.{◌≡◌, ℕ, rules, refl, sym, ap, subst, ◌∙◌}
-use Rattle.persist.specs.Memory.{Around, Lent, MemoryState, Words, lent_whole}
+use Rattle.std.proofs.Common.{◌≡◌, rules, sym, ap, subst, ◌∙◌}
+use Rattle.persist.specs.Memory.{Around, Lent, MemoryState, Words}
 use Rattle.persist.specs.Lent.{port_lent}
 use Rattle.interleave.specs.Asked.{AreAsked, HoldsOver, lent_after_recover, requests_of}
 use Rattle.interleave.specs.Calls.{is_no_memory}
 use Rattle.interleave.specs.Core.{CoreState, state_of}
-use Rattle.interleave.specs.Holds.{Holds}
 use Rattle.words.specs.declared.limits.TheConstants.{RECOVERY_PORT}
 use Rattle.interleave.specs.State.{State, after_recover}
 use Rattle.interleave.proofs.AskedKept.{Returned, around_recovered, asked_recovered, returned}

@@ -22,9 +22,9 @@ loop-answer-init g c =
     let ws : Words = g.M.WordMemory.words c.args.memory.now in
     let old : State = state_of c.args.self.now ws in
     let same : state_of c.reserve.new.self ws ≡ old = ap (λ (k : CoreState). state_of k ws) c.reserve.ensures.same in
-    let u : UnderWay = c.in_ok-waiting.field-0 in
+    let u : UnderWay = c.in_ok-waiting.field-0.now in
     let here : slice_get old.calls c.args.client.0 ≡ Some (Some u) =
-    waiting_is _ (slice_get old.calls c.args.client.0) u (sym c.waiting.ensures ∙ c.in_ok-waiting.was) in
+    waiting_is _ (slice_get old.calls c.args.client.0) u c.in_ok-waiting.ensures.ok in
     record {
       world = same;
       client = refl;
@@ -119,14 +119,14 @@ pub returns-in-Some-clause-alone : goal.returns-in-Some-clause-alone
 returns-in-Some-clause-alone g c =
     let old : State = state_of c.args.self.now (g.M.WordMemory.words c.args.memory.now) in
     let w : State = state_of c.loop-answer.self (g.M.WordMemory.words c.loop-answer.memory) in
-    let u : UnderWay = c.in_ok-waiting.field-0 in
+    let u : UnderWay = c.in_ok-waiting.field-0.now in
     let paid : is_no_memory c.step.result ≡ false = ap is_no_memory c.in_ok-answer.was in
     let more : suc c.loop-answer.steps ≡ c.loop-answer.steps + 1 = omega arith in
     let result : step_result false (after_alone c.loop-answer.steps old c.args.client) c.args.client ≡ Ok (Some c.in-Some.reply) =
     ap (λ (x : State). step_result false x c.args.client) (sym c.loop-answer.invariant.world)
     ∙ ap (λ (b : Bool). step_result b w c.args.client) (sym paid)
     ∙ sym c.step.ensures.by_rule.answers ∙ c.in_ok-answer.was ∙ ap Ok c.in-Some.is in
-    let waits : waiting_in old c.args.client ≡ Ok u = sym c.waiting.ensures ∙ c.in_ok-waiting.was in
+    let waits : waiting_in old c.args.client ≡ Ok u = c.in_ok-waiting.ensures.ok in
     record {
       refused = λ refusal e. absurd (cc (waits, e));
       errors = tt;

@@ -1,8 +1,7 @@
-use Rattle.std.proofs.Common.{◌≡◌, ℕ, Result, Ok, Err, rules, refl, sym, ap, subst, ◌∙◌}
+use Rattle.std.proofs.Common.{◌≡◌, ℕ, Result, Ok, Err, rules, sym, ap, subst, ◌∙◌}
 use Rattle.persist.specs.Memory.{Around, Lent, MemoryState, Words, lent_whole}
 use Rattle.persist.specs.Lent.{port_lent}
 use Rattle.interleave.specs.Asked.{AreAsked, HoldsOver, lent_after_alone, requests_of}
-use Rattle.interleave.specs.Calls.{is_no_memory}
 use Rattle.interleave.specs.Core.{CoreState, roomy_over, state_of}
 use Rattle.interleave.specs.Holds.{Holds}
 use Rattle.std.specs.Prelude.{IfErr, IfOk}

@@ -1,91 +1,179 @@
-use Rattle.std.proofs.Common.{Ok, ap, refl, false, length, ◌≤◌, subst, ◌≡◌, Some, slice_get, sym, ◌∙◌, arith, rules}
+use Rattle.std.proofs.Common.{Ok, Option, Result, ap, refl, false, length, ◌≤◌, ◌+◌, subst, ◌≡◌, None, Some, is_some, slice_get, slice_index_or, sym, ◌∙◌, arith}
+use Rattle.std.specs.Prelude.{IsSome}
 use Rattle.persist.specs.Memory.{Words}
-use Rattle.stepper.specs.Step.{IsAskedFor}
-use Rattle.stepper.specs.declared.resume.After.{After}
-use Rattle.stepper.specs.declared.resume.After.TheVariants.{More, Done}
+use Rattle.stepper.specs.Step.{after_one, change_by, lent_after_one}
 use Rattle.words.specs.declared.call.Reply.{Reply}
-use Rattle.helping.specs.declared.op.Op.{Op}
+use Rattle.words.specs.declared.refusal.Refusal.{Refusal}
 use Rattle.helping.specs.Table.{access_of}
 use Rattle.protocol.specs.Machine.{effects_after, next_of}
 use Rattle.protocol.specs.declared.UnderWay.{UnderWay}
 use Rattle.protocol.proofs.worlds.Facts.{step_room}
+use Rattle.interleave.specs.Asked.{lent_with}
+use Rattle.interleave.specs.Calls.{answer_of}
 use Rattle.interleave.specs.Core.{CoreState, machine_over, state_of}
 use Rattle.interleave.specs.Effects.{AreInSequence}
 use Rattle.interleave.specs.Holds.{Holds, from_invariant}
-use Rattle.interleave.specs.State.{State, after_step, is_down, machine, queue_left}
-use Rattle.interleave.specs.Calls.{answer_of, waiting_result}
 use Rattle.interleave.specs.Queue.{after_return}
+use Rattle.interleave.specs.State.{after_step, machine, queue_left, step_result_with, step_with}
+use Rattle.interleave.specs.Trace.{state_with}
 use Rattle.interleave.specs.declared.queue.Queue.{Queue}
-use Rattle.interleave.proofs.AskedKept.{own_asked}
+use Rattle.interleave.proofs.CallLaws.{call_there, of_call, the_call}
 use Rattle.interleave.proofs.HoldsKept.{holds_after_step, may_step, waiting_is}
 use Rattle.interleave.proofs.MachineFacts.{room_held, sequence_held}
 use Rattle.interleave.proofs.Noting.{act_noted}
 use Rattle.interleave.proofs.Safety.{call_fits}
+use Rattle.interleave.proofs.Stepping.{queue_answered, queue_still, stepped_rest}
 use Rattle.interleave.proofs.lent.Core.step_noted.Goals as goal
 
 pub reserve-requires : goal.reserve-requires
 reserve-requires g c = room_held c.requires.holds
 
-pub advance-answer-requires-clause-asked : goal.advance-answer-requires-clause-asked
-advance-answer-requires-clause-asked g c =
+pub advance-noted-requires-clause-waits : goal.advance-noted-requires-clause-waits
+advance-noted-requires-clause-waits g c =
     let old : CoreState = c.args.self.now in
-    let u : UnderWay = c.in_ok-under_way.under_way in
-    let waits : slice_get old.calls c.args.client.0 ≡ Some (Some u) =
-    waiting_is _ (slice_get old.calls c.args.client.0) u (sym c.waiting.ensures ∙ c.in_ok-under_way.was) in
-    subst (λ (k : CoreState). IsAskedFor k.shape (access_of k.shape.kind u.op) (g.M.WordMemory.lent c.args.memory.now).request) (sym c.reserve.ensures.same)
-    (own_asked old.shape old.calls c.args.client.0 u _ waits c.requires.asked)
+    let now : CoreState = c.reserve.new.self in
+    let ws : Words = g.M.WordMemory.words c.args.memory.now in
+    let u : UnderWay = c.in_ok-begun.field-0.now in
+    let waits : slice_get old.calls c.args.client.0 ≡ Some (Some u) = waiting_is _ (slice_get old.calls c.args.client.0) u c.in_ok-begun.ensures.ok in
+    let there : slice_index_or now.calls c.args.client.0 None ≡ Some u =
+    ap (λ (k : CoreState). slice_index_or k.calls c.args.client.0 None) c.reserve.ensures.same ∙ call_there old.calls c.args.client.0 u waits in
+    subst (λ o. IsSome o) (sym there) refl
 
-pub advance-answer-requires-clause-sequence : goal.advance-answer-requires-clause-sequence
-advance-answer-requires-clause-sequence g c =
+pub advance-noted-requires-clause-sequence : goal.advance-noted-requires-clause-sequence
+advance-noted-requires-clause-sequence g c =
     subst (λ (k : CoreState). AreInSequence k.trace.log.effects) (sym c.reserve.ensures.same) (sequence_held c.requires.holds)
 
-pub advance-answer-requires-clause-effects : goal.advance-answer-requires-clause-effects
-advance-answer-requires-clause-effects g c =
+pub advance-noted-requires-clause-effects : goal.advance-noted-requires-clause-effects
+advance-noted-requires-clause-effects g c =
     let old : CoreState = c.args.self.now in
+    let now : CoreState = c.reserve.new.self in
     let ws : Words = g.M.WordMemory.words c.args.memory.now in
-    let u : UnderWay = c.in_ok-under_way.under_way in
-    let waits : slice_get old.calls c.args.client.0 ≡ Some (Some u) =
-    waiting_is _ (slice_get old.calls c.args.client.0) u (sym c.waiting.ensures ∙ c.in_ok-under_way.was) in
+    let u : UnderWay = c.in_ok-begun.field-0.now in
+    let waits : slice_get old.calls c.args.client.0 ≡ Some (Some u) = waiting_is _ (slice_get old.calls c.args.client.0) u c.in_ok-begun.ensures.ok in
+    let there : slice_index_or now.calls c.args.client.0 None ≡ Some u =
+    ap (λ (k : CoreState). slice_index_or k.calls c.args.client.0 None) c.reserve.ensures.same ∙ call_there old.calls c.args.client.0 u waits in
     let fact = step_room (machine (state_of old ws)) (from_invariant _ c.requires.holds.inv) c.args.client u (may_step (state_of old ws) c.args.client u c.requires.holds waits) in
-    subst (λ (k : CoreState). length (effects_after (machine_over k ws) u u.op) ≤ length k.trace.log.events) (sym c.reserve.ensures.same) fact
+    of_call now.calls c.args.client u (λ call. length (effects_after (machine_over now ws) call call.op) ≤ length now.trace.log.events) there
+    (subst (λ (k : CoreState). length (effects_after (machine_over k ws) u u.op) ≤ length k.trace.log.events) (sym c.reserve.ensures.same) fact)
 
 pub returned-requires : goal.returned-requires
 returned-requires g c =
     let old : CoreState = c.args.self.now in
-    let u : UnderWay = c.in_ok-under_way.under_way in
-    let waits : slice_get old.calls c.args.client.0 ≡ Some (Some u) =
-    waiting_is _ (slice_get old.calls c.args.client.0) u (sym c.waiting.ensures ∙ c.in_ok-under_way.was) in
-    omega (arith, (call_fits _ _ _ _ _ c.requires.holds.safe waits).begun.client, c.requires.holds.safe.few)
+    let u : UnderWay = c.in_ok-begun.field-0.now in
+    let waits : slice_get old.calls c.args.client.0 ≡ Some (Some u) = waiting_is _ (slice_get old.calls c.args.client.0) u c.in_ok-begun.ensures.ok in
+    omega (arith, (call_fits old.shape _ old.calls c.args.client.0 u c.requires.holds.safe waits).begun.client, c.requires.holds.safe.few)
 
--- a call that is answered returns
-queue_answered : (queue : Queue) (u : UnderWay) (next : After Op Reply) (reply : Reply) → answer_of next ≡ Some reply
-    → queue_left queue u next ≡ after_return queue u.begun.client u.begun.number
-queue_answered queue u (More op) reply e = cc
-queue_answered queue u (Done answer) reply e = refl
+pub returns-then-is_none-clause-noted : goal.returns-then-is_none-clause-noted
+returns-then-is_none-clause-noted g c =
+    let old : CoreState = c.args.self.now in
+    let now : CoreState = c.reserve.new.self in
+    let ws : Words = g.M.WordMemory.words c.args.memory.now in
+    let u : UnderWay = c.in_ok-begun.field-0.now in
+    let waits : slice_get old.calls c.args.client.0 ≡ Some (Some u) = waiting_is _ (slice_get old.calls c.args.client.0) u c.in_ok-begun.ensures.ok in
+    let there : slice_index_or now.calls c.args.client.0 None ≡ Some u =
+    ap (λ (k : CoreState). slice_index_or k.calls c.args.client.0 None) c.reserve.ensures.same ∙ call_there old.calls c.args.client.0 u waits in
+    let left : Words = g.M.WordMemory.words c.advance-noted.new.memory in
+    let words = the_call now.calls c.args.client u (λ call. left ≡ after_one now.shape (access_of now.shape.kind call.op) ws) there c.advance-noted.ensures.words in
+    let change = the_call now.calls c.args.client u (λ call. c.advance-noted.result.change ≡ change_by now.shape (access_of now.shape.kind call.op) ws) there c.advance-noted.ensures.change in
+    act_noted now.shape (access_of now.shape.kind u.op) ws left c.advance-noted.result.change c.requires.holds.safe.words.same words change
 
-pub returns-clause-holds : goal.returns-clause-holds
-returns-clause-holds g c =
-    let old : State = state_of c.args.self.now (g.M.WordMemory.words c.args.memory.now) in
-    let u : UnderWay = c.in_ok-under_way.under_way in
-    let left : CoreState = record { shape = c.self.inside.layout; queue = c.returned.new.self; calls = c.self.inside.calls; trace = c.self.inside.trace } in
-    let asked : waiting_result (is_down old) (slice_get old.calls c.args.client.0) ≡ Ok u = sym c.waiting.ensures ∙ c.in_ok-under_way.was in
-    let next : answer_of (next_of (machine_over c.args.self.now (g.M.WordMemory.words c.args.memory.now)) u) ≡ Some c.in-Some.reply =
-    ap (λ (k : CoreState). answer_of (next_of (machine_over k (g.M.WordMemory.words c.args.memory.now)) u)) (sym c.reserve.ensures.same) ∙ sym c.advance-answer.ensures.answer ∙ c.in-Some.is in
-    let queue : queue_left old.queue u (next_of (machine old) u) ≡ after_return old.queue u.begun.client u.begun.number =
-    queue_answered old.queue u (next_of (machine old) u) c.in-Some.reply next in
-    let world : state_of left (g.M.WordMemory.words c.advance-answer.new.memory) ≡ after_step false old c.args.client = rw (asked, queue) (search rules) in
-    subst Holds (sym world) (holds_after_step false old c.args.client c.requires.holds)
+pub returns-then-is_none-clause-lent : goal.returns-then-is_none-clause-lent
+returns-then-is_none-clause-lent g c =
+    let old : CoreState = c.args.self.now in
+    let now : CoreState = c.reserve.new.self in
+    let ws : Words = g.M.WordMemory.words c.args.memory.now in
+    let u : UnderWay = c.in_ok-begun.field-0.now in
+    let waits : slice_get old.calls c.args.client.0 ≡ Some (Some u) = waiting_is _ (slice_get old.calls c.args.client.0) u c.in_ok-begun.ensures.ok in
+    let there : slice_index_or now.calls c.args.client.0 None ≡ Some u =
+    ap (λ (k : CoreState). slice_index_or k.calls c.args.client.0 None) c.reserve.ensures.same ∙ call_there old.calls c.args.client.0 u waits in
+    let before = g.M.WordMemory.lent c.args.memory.now in
+    the_call now.calls c.args.client u (λ call. g.M.WordMemory.lent c.advance-noted.new.memory ≡ lent_after_one now.shape (access_of now.shape.kind call.op) before) there c.advance-noted.ensures.lent
+    ∙ ap (λ (k : CoreState). lent_after_one k.shape (access_of k.shape.kind u.op) before) c.reserve.ensures.same
+    ∙ ap (lent_with false (state_of old ws) before) (sym c.in_ok-begun.ensures.ok)
 
-pub returns-in_default-clause-holds : goal.returns-in_default-clause-holds
-returns-in_default-clause-holds g c =
-    let old : State = state_of c.args.self.now (g.M.WordMemory.words c.args.memory.now) in
-    let world : state_of c.advance-answer.new.self (g.M.WordMemory.words c.advance-answer.new.memory) ≡ after_step false old c.args.client = search rules in
-    subst Holds (sym world) (holds_after_step false old c.args.client c.requires.holds)
+pub returns-then-is_none-clause-holds : goal.returns-then-is_none-clause-holds
+returns-then-is_none-clause-holds g c =
+    let old : CoreState = c.args.self.now in
+    let now : CoreState = c.reserve.new.self in
+    let ws : Words = g.M.WordMemory.words c.args.memory.now in
+    let u : UnderWay = c.in_ok-begun.field-0.now in
+    let waits : slice_get old.calls c.args.client.0 ≡ Some (Some u) = waiting_is _ (slice_get old.calls c.args.client.0) u c.in_ok-begun.ensures.ok in
+    let there : slice_index_or now.calls c.args.client.0 None ≡ Some u =
+    ap (λ (k : CoreState). slice_index_or k.calls c.args.client.0 None) c.reserve.ensures.same ∙ call_there old.calls c.args.client.0 u waits in
+    let left : Words = g.M.WordMemory.words c.advance-noted.new.memory in
+    let new : CoreState = c.advance-noted.new.self in
+    let answer : c.advance-noted.result.answer ≡ answer_of (next_of (machine_over now ws) u) =
+    the_call now.calls c.args.client u (λ call. c.advance-noted.result.answer ≡ answer_of (next_of (machine_over now ws) call)) there c.advance-noted.ensures.answer in
+    let rest = stepped_rest now new ws left c.args.client u there c.advance-noted.ensures.shape c.advance-noted.ensures.words c.advance-noted.ensures.calls
+    c.advance-noted.ensures.base c.advance-noted.ensures.told c.advance-noted.ensures.log c.advance-noted.ensures.recovery in
+    let step = ap (λ (k : CoreState). step_with false (state_of k ws) c.args.client (Ok u)) c.reserve.ensures.same ∙ ap (step_with false (state_of old ws) c.args.client) (sym c.in_ok-begun.ensures.ok) in
+    let queue : new.queue ≡ queue_left now.queue u (next_of (machine_over now ws) u) =
+    c.advance-noted.ensures.queue ∙ sym (queue_still now.queue u (next_of (machine_over now ws) u) (ap is_some (sym answer) ∙ c.if-is_none.ensures)) in
+    let world : state_of new left ≡ after_step false (state_of old ws) c.args.client =
+    ap (λ (q : Queue). state_with new.shape left q new.calls new.trace) queue ∙ rest ∙ step in
+    subst Holds (sym world) (holds_after_step false (state_of old ws) c.args.client c.requires.holds)
 
 pub returns-clause-noted : goal.returns-clause-noted
 returns-clause-noted g c =
-    act_noted _ _ (g.M.WordMemory.words c.args.memory.now) _ _ c.requires.holds.safe.words.same c.advance-answer.ensures.words c.advance-answer.ensures.change
+    let old : CoreState = c.args.self.now in
+    let now : CoreState = c.reserve.new.self in
+    let ws : Words = g.M.WordMemory.words c.args.memory.now in
+    let u : UnderWay = c.in_ok-begun.field-0.now in
+    let waits : slice_get old.calls c.args.client.0 ≡ Some (Some u) = waiting_is _ (slice_get old.calls c.args.client.0) u c.in_ok-begun.ensures.ok in
+    let there : slice_index_or now.calls c.args.client.0 None ≡ Some u =
+    ap (λ (k : CoreState). slice_index_or k.calls c.args.client.0 None) c.reserve.ensures.same ∙ call_there old.calls c.args.client.0 u waits in
+    let left : Words = g.M.WordMemory.words c.advance-noted.new.memory in
+    let words = the_call now.calls c.args.client u (λ call. left ≡ after_one now.shape (access_of now.shape.kind call.op) ws) there c.advance-noted.ensures.words in
+    let change = the_call now.calls c.args.client u (λ call. c.advance-noted.result.change ≡ change_by now.shape (access_of now.shape.kind call.op) ws) there c.advance-noted.ensures.change in
+    act_noted now.shape (access_of now.shape.kind u.op) ws left c.advance-noted.result.change c.requires.holds.safe.words.same words change
 
-pub returns-in_default-clause-noted : goal.returns-in_default-clause-noted
-returns-in_default-clause-noted g c =
-    act_noted _ _ (g.M.WordMemory.words c.args.memory.now) _ _ c.requires.holds.safe.words.same c.advance-answer.ensures.words c.advance-answer.ensures.change
+pub returns-clause-lent : goal.returns-clause-lent
+returns-clause-lent g c =
+    let old : CoreState = c.args.self.now in
+    let now : CoreState = c.reserve.new.self in
+    let ws : Words = g.M.WordMemory.words c.args.memory.now in
+    let u : UnderWay = c.in_ok-begun.field-0.now in
+    let waits : slice_get old.calls c.args.client.0 ≡ Some (Some u) = waiting_is _ (slice_get old.calls c.args.client.0) u c.in_ok-begun.ensures.ok in
+    let there : slice_index_or now.calls c.args.client.0 None ≡ Some u =
+    ap (λ (k : CoreState). slice_index_or k.calls c.args.client.0 None) c.reserve.ensures.same ∙ call_there old.calls c.args.client.0 u waits in
+    let before = g.M.WordMemory.lent c.args.memory.now in
+    the_call now.calls c.args.client u (λ call. g.M.WordMemory.lent c.advance-noted.new.memory ≡ lent_after_one now.shape (access_of now.shape.kind call.op) before) there c.advance-noted.ensures.lent
+    ∙ ap (λ (k : CoreState). lent_after_one k.shape (access_of k.shape.kind u.op) before) c.reserve.ensures.same
+    ∙ ap (lent_with false (state_of old ws) before) (sym c.in_ok-begun.ensures.ok)
+
+pub returns-clause-by_rule : goal.returns-clause-by_rule
+returns-clause-by_rule g c =
+    let old : CoreState = c.args.self.now in
+    let now : CoreState = c.reserve.new.self in
+    let ws : Words = g.M.WordMemory.words c.args.memory.now in
+    let u : UnderWay = c.in_ok-begun.field-0.now in
+    let waits : slice_get old.calls c.args.client.0 ≡ Some (Some u) = waiting_is _ (slice_get old.calls c.args.client.0) u c.in_ok-begun.ensures.ok in
+    let there : slice_index_or now.calls c.args.client.0 None ≡ Some u =
+    ap (λ (k : CoreState). slice_index_or k.calls c.args.client.0 None) c.reserve.ensures.same ∙ call_there old.calls c.args.client.0 u waits in
+    let left : Words = g.M.WordMemory.words c.advance-noted.new.memory in
+    let new : CoreState = c.advance-noted.new.self in
+    let answer : c.advance-noted.result.answer ≡ answer_of (next_of (machine_over now ws) u) =
+    the_call now.calls c.args.client u (λ call. c.advance-noted.result.answer ≡ answer_of (next_of (machine_over now ws) call)) there c.advance-noted.ensures.answer in
+    let rest = stepped_rest now new ws left c.args.client u there c.advance-noted.ensures.shape c.advance-noted.ensures.words c.advance-noted.ensures.calls
+    c.advance-noted.ensures.base c.advance-noted.ensures.told c.advance-noted.ensures.log c.advance-noted.ensures.recovery in
+    let step = ap (λ (k : CoreState). step_with false (state_of k ws) c.args.client (Ok u)) c.reserve.ensures.same ∙ ap (step_with false (state_of old ws) c.args.client) (sym c.in_ok-begun.ensures.ok) in
+    let queue : c.returned.new.self ≡ queue_left now.queue u (next_of (machine_over now ws) u) =
+    c.returned.ensures ∙ ap (λ (q : Queue). after_return q u.begun.client u.begun.number) (ap (λ (k : CoreState). k.queue) c.self.view_is ∙ c.advance-noted.ensures.queue)
+    ∙ sym (queue_answered now.queue u (next_of (machine_over now ws) u) (ap is_some (sym answer) ∙ c.if-is_none.ensures)) in
+    let world : state_with c.self.inside.layout left c.returned.new.self c.self.inside.calls c.self.inside.trace ≡ after_step false (state_of old ws) c.args.client =
+    ap (λ (k : CoreState). state_with k.shape left c.returned.new.self k.calls k.trace) c.self.view_is
+    ∙ ap (λ (q : Queue). state_with new.shape left q new.calls new.trace) queue ∙ rest ∙ step in
+    record {
+      leaves = world;
+      answers = ap (λ (a : Option Reply). let x : Result (Option Reply) Refusal = Ok a in x) answer
+          ∙ ap (λ (k : CoreState). step_result_with false (state_of k ws) (Ok u)) c.reserve.ensures.same ∙ ap (step_result_with false (state_of old ws)) (sym c.in_ok-begun.ensures.ok);
+      full = λ full. absurd (cc (full));
+      room = subst (λ (k : CoreState). old.trace.room ≤ k.trace.room + 1) (sym c.self.view_is) (omega (arith, c.reserve.ensures.kept, c.advance-noted.ensures.room));
+      spare = tt;
+    }
+
+pub returns-clause-holds : goal.returns-clause-holds
+returns-clause-holds g c =
+    let old : CoreState = c.args.self.now in
+    let ws : Words = g.M.WordMemory.words c.args.memory.now in
+    subst Holds (sym (returns-clause-by_rule g c).leaves) (holds_after_step false (state_of old ws) c.args.client c.requires.holds)

@@ -1,4 +1,4 @@
-use Rattle.std.proofs.Common.{◌≡◌, refl, sym, subst, ap, ◌∙◌}
+use Rattle.std.proofs.Common.{◌≡◌, refl, sym, subst}
 use Rattle.persist.specs.Memory.{Words, words_after_crash}
 use Rattle.interleave.specs.Asked.{AreAsked, requests_of}
 use Rattle.interleave.specs.Booted.{booted_world}

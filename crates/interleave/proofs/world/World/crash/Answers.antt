@@ -1,4 +1,4 @@
-use Rattle.std.proofs.Common.{◌≡◌, ◌≤◌, ◌+◌, true, false, Ok, length, refl, sym, subst, ap, ◌∙◌, arith}
+use Rattle.std.proofs.Common.{◌≡◌, true, false, Ok, length, refl, sym, subst, ap, ◌∙◌, arith}
 use Rattle.persist.specs.Memory.{Words}
 use Rattle.protocol.specs.declared.acts.Act.TheVariants.{Crash}
 use Rattle.interleave.specs.Asked.{AreAsked, requests_of}
