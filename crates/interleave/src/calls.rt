@@ -39,13 +39,13 @@ fn clear(places: &mut [Option<UnderWay>])
 }
 
 /// The client's call goes on to this point, where it stands.
-fn go_on(places: &mut [Option<UnderWay>], client: Client, op: Op)
+fn go_on(places: &mut [Option<UnderWay>], client: Client, op: &Op)
     requires { client.0 < length places.old }
     ensures { (u : AnyUnderWay) → slice_get places.old client.0 ≡ Some (Some u)
-        → places.new ≡ slice_set places.old client.0 (Some (record u { op = op })) }
+        → places.new ≡ slice_set places.old client.0 (Some (record u { op = op.now })) }
 {
     if let Some(under_way) = &mut places[client.0 as usize] {
-        under_way.op = op;
+        under_way.op = *op;
     }
 }
 
@@ -96,10 +96,10 @@ impl Calls {
     }
 
     /// The call of a client that has one goes on to this point. It is written in place.
-    pub(crate) fn go_on(&mut self, client: Client, op: Op)
+    pub(crate) fn go_on(&mut self, client: Client, op: &Op)
         requires { client.0 < length self.old }
         ensures { (u : AnyUnderWay) → slice_get self.old client.0 ≡ Some (Some u)
-            → self.new ≡ slice_set self.old client.0 (Some (record u { op = op })) }
+            → self.new ≡ slice_set self.old client.0 (Some (record u { op = op.now })) }
     {
         go_on(&mut self.places, client, op);
     }

@@ -101,18 +101,18 @@ impl Core {
     }
 
     /// What a step leads to takes the call's place, and an answer is noted.
-    fn go_on(&mut self, client: Client, after: After<Op, Reply>) -> Option<Reply>
+    fn go_on(&mut self, client: Client, after: &After<Op, Reply>) -> Option<Reply>
         requires client { client.0 < length self.old.calls }
         requires room { 0 < self.old.trace.room }
         ensures shape { self.new.shape ≡ self.old.shape }
         ensures queue { self.new.queue ≡ self.old.queue }
         ensures calls { (under_way : AnyUnderWay) → slice_get self.old.calls client.0 ≡ Some (Some under_way)
-            → self.new.calls ≡ slice_set self.old.calls client.0 (with_next under_way after) }
-        ensures answer { result ≡ answer_of after }
+            → self.new.calls ≡ slice_set self.old.calls client.0 (with_next under_way after.now) }
+        ensures answer { result ≡ answer_of after.now }
         ensures base { self.new.trace.base ≡ self.old.trace.base }
         ensures told { self.new.trace.told ≡ self.old.trace.told }
         ensures log { self.new.trace.log
-            ≡ record self.old.trace.log { events = events_after self.old.trace.log.events client after } }
+            ≡ record self.old.trace.log { events = events_after self.old.trace.log.events client after.now } }
         ensures recovery { self.new.trace.recovery ≡ self.old.trace.recovery }
         ensures room { self.old.trace.room ≤ self.new.trace.room + 1 }
         ensures stays { result ≡ None → self.new.trace.room ≡ self.old.trace.room }
@@ -123,10 +123,9 @@ impl Core {
                 None
             }
             After::Done(reply) => {
-                let answer = reply;
                 self.calls.end(client);
-                self.trace.answer(client, reply);
-                Some(answer)
+                self.trace.answer(client, *reply);
+                Some(*reply)
             }
         }
     }
@@ -167,10 +166,9 @@ impl Core {
         let looking = looking(under_way);
         let stepped = self.step_at(memory, under_way.op);
         self.note(memory, looking, &stepped);
-        let change = stepped.change;
         Noted {
-            answer: self.go_on(client, stepped.after),
-            change,
+            answer: self.go_on(client, &stepped.after),
+            change: stepped.change,
         }
     }
 

@@ -17,4 +17,4 @@ returns c = λ u at.
     let places : List (Option UnderWay) = c.self.inside.places in
     let there = get_in_front n c.args.client.0 places c.args.self.now (Some u) c.self.view_is at in
     ap (take n) (c.go_on.ensures u there)
-    ∙ set_in_front n c.args.client.0 places c.args.self.now (Some (record u { op = c.args.op })) c.self.view_is c.requires
+    ∙ set_in_front n c.args.client.0 places c.args.self.now (Some (record u { op = c.args.op.now })) c.self.view_is c.requires
