@@ -89,6 +89,8 @@ fn is_answered_of(events: &Events, entries: &[Entry], client: Client) -> bool
     requires precedence { KeepsPrecedence events.now.items entries.now }
     ensures { IsTrue result ↔ IsAnsweredOf events.now.items entries.now client }
 {
+    // The search for a call goes on behind the client's last one and never back. So a pass is one walk over the events
+    // and one over the entries, where a search from the front for each call would be quadratic.
     let mut pass = Pass { call: 0, from: 0 };
     for k in 0..events.len() {
         let Some(after) = after_event(events, entries, client, k, pass) else {

@@ -40,6 +40,8 @@ fn explains(base: &[Value], told: &Reports, events: &Events, entries: &[Entry]) 
     requires { IsHistory events.now.items }
     ensures { IsTrue result ↔ Explains base.now told.now events.now.items entries.now }
 {
+    // Each pass may rely on those before it: precedence on entries that name calls, one entry a call on precedence, the
+    // passes of clients on both.
     if !names_calls(events, entries) {
         return false;
     }

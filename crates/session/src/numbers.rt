@@ -28,6 +28,7 @@ pub(crate) fn answer(last: Option<Verdict>, number: u64) -> Result<Option<Reply>
     ensures { result ≡ by_number last number }
 {
     match last {
+        // Numbers begin with 1. A durable queue's calls have 0, so that no client can ask for one of these again.
         _ if number == 0 => Err(Refusal::Old),
         Some(last) => answer_after(last, number),
         None if number == 1 => Ok(None),

@@ -80,6 +80,7 @@ impl Session {
         ensures queues { BrokerGoesOn self.old.broker self.new.broker }
         ensures promises { KeepsNumbers self.new }
     {
+        // What is kept is looked at first: a number that was answered makes no act, and takes no memory.
         if let Some(reply) = self.look_up(client, queue, Some(number))? {
             return Ok(reply);
         }
@@ -174,6 +175,7 @@ impl Session {
         ensures queues { BrokerGoesOn self.old.broker self.new.broker }
         ensures promises { KeepsNumbers self.new }
     {
+        // The number is read before the step: the one that answers ends the call, and the broker forgets its number.
         let number = self.calling(client, queue)?;
         let Noted { answer, change } = self.broker.step_noted(queue, client)?;
         self.kept.hear(queue, client, number, &answer);
