@@ -1,11 +1,13 @@
 -- Seats that are put in their clients' places, all in turn, and all taken from there.
-use Rattle.std.proofs.Common.{◌≡◌, ℕ, zero, suc, List, [], ◌∷◌, ◌++◌, length, map, Option, Some, slice_get}
-use Rattle.std.proofs.Common.{refl, sym, ap, ◌∙◌, subst}
+use Rattle.std.proofs.Common.{◌≡◌, ◌≢◌, ℕ, zero, suc, ◌<◌, List, [], ◌∷◌, ◌++◌, length, map, Option, Some, slice_get}
+use Rattle.std.proofs.Common.{refl, sym, ap, ◌∙◌, subst, ⊎_elim, arith}
+use Rattle.std.specs.Prelude.{slice_set}
 use Rattle.std.proofs.lemmas.List.{append-nil, append_assoc, length-map}
-use Rattle.std.proofs.lemmas.Option.{same_Some}
+use Rattle.std.proofs.lemmas.Option.{same_Some, slice_get_within}
 use Rattle.words.specs.declared.call.Client.{Client}
+use Rattle.events.proofs.Lists.{get_push_cases}
 use Rattle.workers.specs.Seats.{AreAllInOrder}
-use Rattle.desk.specs.Seating.{AreInPlaces}
+use Rattle.desk.specs.Seating.{AreBack, AreInPlaces}
 
 -- what stands between two parts
 pub get_middle : {X : Type 0} (xs : List X) (x : X) (ys : List X) → slice_get (xs ++ x ∷ ys) (length xs) ≡ Some x
@@ -74,3 +76,41 @@ number_of_next {S} client clients seats placed was seat rest order parts next =
     let at : slice_get seats (length placed) ≡ Some seat =
     ap (λ (l : List S). slice_get l (length placed)) is ∙ get_middle placed seat rest in
     ap (λ (c : Client). c.0) (order.each (length placed) seat at)
+
+-- what was written is read, and all else as it was
+get_here : {X : Type 0} (xs : List X) (i : ℕ) (x : X) → i < length xs → slice_get (slice_set xs i x) i ≡ Some x
+get_here [] i x h = absurd (omega (arith, h))
+get_here (y ∷ xs) zero x h = refl
+get_here (y ∷ xs) (suc i) x h = get_here xs i x (omega (arith, h))
+
+get_there : {X : Type 0} (xs : List X) (i : ℕ) (x : X) (k : ℕ) → k ≢ i
+    → slice_get (slice_set xs i x) k ≡ slice_get xs k
+get_there [] i x k ne = refl
+get_there (y ∷ xs) zero x zero ne = absurd (ne refl)
+get_there (y ∷ xs) zero x (suc k) ne = refl
+get_there (y ∷ xs) (suc i) x zero ne = refl
+get_there (y ∷ xs) (suc i) x (suc k) ne = get_there xs i x k (λ e. ne (ap suc e))
+
+-- one seat more is back in its place
+pub back_more : {S : Type 0} (client : S → Client) (clients : ℕ) (seats placed was : List S) (seat : S) (rest : List S)
+    (places : List (Option S)) → AreAllInOrder client clients seats → seats ≡ placed ++ was → was ≡ seat ∷ rest
+    → length places ≡ clients → AreBack placed places
+    → AreBack (placed ++ seat ∷ []) (slice_set places (client seat).0 (Some seat))
+back_more {S} client clients seats placed was seat rest places order parts next all back =
+    let number : (client seat).0 ≡ length placed =
+    number_of_next client clients seats placed was seat rest order parts next in
+    let is : seats ≡ placed ++ (seat ∷ rest) = parts ∙ ap (λ (l : List S). placed ++ l) next in
+    let at : slice_get seats (length placed) ≡ Some seat =
+    ap (λ (l : List S). slice_get l (length placed)) is ∙ get_middle placed seat rest in
+    let within : length placed < length seats = slice_get_within seats (length placed) seat at in
+    let here : (client seat).0 < length places = omega (arith, number, within, order.all, all) in
+    record {
+      each = λ k s there. ⊎_elim
+          (λ old. get_there places (client seat).0 (Some seat) k
+          (omega (arith, number, slice_get_within placed k s old)) ∙ back.each k s old)
+          (λ new. subst
+          (λ (x : S). slice_get (slice_set places (client seat).0 (Some seat)) k ≡ Some (Some x)) new.1
+          (ap (λ (m : ℕ). slice_get (slice_set places (client seat).0 (Some seat)) m) (new.0 ∙ sym number)
+          ∙ get_here places (client seat).0 (Some seat) here))
+          (get_push_cases placed seat k s there);
+    }

@@ -2,3 +2,4 @@ pub mod Seating
 pub mod Calls
 pub mod Requests
 pub mod Serving
+pub mod Worth

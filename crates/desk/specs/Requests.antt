@@ -1,7 +1,7 @@
 -- Which answers a request may have.
 use Rattle.std.specs.Prelude.{◌≤◌, ℕ, Bool, true, false, None, Some, Result, Ok, Err, ⊤}
 use Rattle.words.specs.declared.refusal.Refusal.{Refusal}
-use Rattle.words.specs.declared.refusal.Refusal.TheVariants.{AlreadyReady, BadName, Busy, NoClient, NoMemory, NoQueue, NotReady}
+use Rattle.words.specs.declared.refusal.Refusal.TheVariants.{AlreadyReady, BadName, Busy, NoClient, NoMemory, NoQueue, NoRoom, NotReady}
 use Rattle.wire.specs.declared.answer.Answer.{Answer}
 use Rattle.wire.specs.declared.answer.Answer.TheVariants.{Crashed, Created, Interrupted, Queues, Ready, Refused, Reply, Stopping, Told as told_answer, Unfinished}
 use Rattle.wire.specs.declared.request.Request.{Request}
@@ -58,6 +58,11 @@ is_call_answer Interrupted = true
 is_call_answer Unfinished = true
 is_call_answer (Refused refusal) = is_call_refusal refusal
 is_call_answer _ = false
+
+-- whether a put or a take found no room
+abbrev pub is_no_room : Answer → Bool
+is_no_room (Refused NoRoom) = true
+is_no_room _ = false
 
 -- whether what a client was last told may be answered so
 abbrev pub is_told_answer : Answer → Bool

@@ -6,3 +6,7 @@ use Rattle.words.specs.declared.call.Client.{Client}
 pub record AreInPlaces {S : Type 0} (client : S → Client) (clients : ℕ) (places : List (Option S)) : Type 0 where
   pub all : length places ≡ clients
   pub each : (k : ℕ) (seat : S) → slice_get places k ≡ Some (Some seat) → client seat ≡ record { 0 = k }
+
+-- each of these seats is in its place
+pub record AreBack {S : Type 0} (seats : List S) (places : List (Option S)) : Type 0 where
+  pub each : (k : ℕ) (seat : S) → slice_get seats k ≡ Some seat → slice_get places k ≡ Some (Some seat)

@@ -1,13 +1,13 @@
 //! What each request is answered.
 
 ghost use Rattle.std.specs.Prelude.{◌≡◌, ◌≤◌, IfErr, IfSome, IsErr, IsNone, IsTrue};
-ghost use Rattle.desk.specs.Calls.{asked_in};
-ghost use Rattle.desk.specs.Requests.{answer_where_done, is_answer_to, is_call_answer, is_creation_answer};
-ghost use Rattle.desk.specs.Requests.{is_list_answer, is_nameless_call_answer, NamesNoClient};
+ghost use Rattle.desk.specs.Requests.{answer_where_done, is_answer_to, is_creation_answer};
+ghost use Rattle.desk.specs.Requests.{is_list_answer, NamesNoClient};
 ghost use Rattle.workers.specs.Refusals.{is_told_refusal};
 ghost use Rattle.wire.specs.declared.answer.Answer.{Answer as AnyAnswer};
 
-use crate::calls::{answer_at_seat, nameless};
+use crate::calls::nameless;
+use crate::renewing::call;
 use crate::seating::Seating;
 use directory::Name;
 use std::sync::Wait;
@@ -39,31 +39,6 @@ fn list<J: Naming, R: Wait>(rt: &R, shared: &Shared<J>) -> Answer
         Ok(places) => Answer::Queues(places),
         Err(refusal) => Answer::Refused(refusal),
     }
-}
-
-/// A put or a take of a client. It is refused where there is no such client (NoClient), where another connection is
-/// using the client's seat (Busy), and as [`answer_at_seat`] is.
-fn call<J: Naming, R: Wait>(
-    rt: &R,
-    shared: &Shared<J>,
-    seats: &Seating<J>,
-    number: u64,
-    request: Request,
-) -> Answer
-    ensures fits { IfSome (asked_in request) (λ asked. IsTrue (is_call_answer result)) }
-    ensures nameless { IfSome (asked_in request) (λ asked.
-        IsNone asked.queue → IsTrue (is_nameless_call_answer result)) }
-    ensures client { J.clients ≤ number → result ≡ AnyAnswer.Refused Refusal.NoClient }
-{
-    let Some(client) = seats.client(number) else {
-        return Answer::Refused(Refusal::NoClient);
-    };
-    let Some((owed, seat)) = seats.take(rt, client) else {
-        return Answer::Refused(Refusal::Busy);
-    };
-    let (seat, answer) = answer_at_seat(rt, shared, seat, request);
-    seats.put(rt, owed, seat);
-    answer
 }
 
 /// What the client was last told in a queue. It is refused where there is no such client (NoClient), while the broker
@@ -110,7 +85,10 @@ pub(crate) fn answer_to<J: Naming, R: Wait>(
     ensures client { NamesNoClient J.clients request → result ≡ AnyAnswer.Refused Refusal.NoClient }
 {
     match request {
-        Request::Create { queue, kind } => create(rt, shared, queue, kind),
+        Request::Create { queue, kind } => {
+            let _work = seats.at_work(rt);
+            create(rt, shared, queue, kind)
+        }
         Request::List => list(rt, shared),
         Request::Put { client, .. } => call(rt, shared, seats, client, request),
         Request::Take { client, .. } => call(rt, shared, seats, client, request),
@@ -118,8 +96,12 @@ pub(crate) fn answer_to<J: Naming, R: Wait>(
             Ok(told) => Answer::Told(told),
             Err(refusal) => Answer::Refused(refusal),
         },
-        Request::Crash => done(seats.crash(rt, shared), Answer::Crashed),
+        Request::Crash => {
+            let _work = seats.at_work(rt);
+            done(seats.crash(rt, shared), Answer::Crashed)
+        }
         Request::Recover => {
+            let _work = seats.at_work(rt);
             let (recovered, _receipt) = shared.recover(rt);
             done(recovered, Answer::Ready)
         }

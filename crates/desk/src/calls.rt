@@ -22,7 +22,7 @@ pub struct Asked {
 }
 
 /// What a put or a take asks for. Another request asks for no call.
-fn asked_in(request: Request) -> Option<Asked>
+pub(crate) fn asked_in(request: Request) -> Option<Asked>
     ensures { result ≡ asked_in request }
 {
     match request {

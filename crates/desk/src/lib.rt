@@ -4,7 +4,9 @@
 mod answering;
 mod calls;
 mod desk;
+mod renewing;
 mod seating;
+mod worth;
 
 pub use calls::{Asked, answer_at_seat};
 pub use desk::BrokerDesk;

@@ -1,20 +1,25 @@
 //! Seats that no connection is using, and the operator.
 
-ghost use Rattle.std.specs.Prelude.{◌≡◌, ◌≤◌, ◌↔◌, ◌⊎◌, IfErr, IfOk, IfSome, IsNone, IsSome, slice_index_or, slice_set};
+ghost use Rattle.std.specs.Prelude.{◌≡◌, ◌≤◌, ◌↔◌, ◌⊎◌, length, slice_index_or, slice_set};
+ghost use Rattle.std.specs.Prelude.{IfErr, IfOk, IfSome, IsNone, IsSome};
+ghost use Rattle.workers.specs.Refusals.{IsWhyNotRenewed};
 ghost use Rattle.workers.specs.Seats.{AreAllInOrder};
-ghost use Rattle.desk.specs.Seating.{AreInPlaces};
+ghost use Rattle.workers.specs.declared.deeds.Deed.{Deed as AnyDeed};
+ghost use Rattle.desk.specs.Seating.{AreBack, AreInPlaces};
 
+use arena::SlotId;
 use std::alloc::Global;
-use std::sync::{Mutex, Wait};
+use std::sync::{Mutex, RwLock, RwLockReadGuard, RwLockWriteGuard, Wait};
 use waiting::lock;
 use words::{Client, Refusal};
-use workers::{Naming, Operator, Seat, Shared};
+use workers::{Naming, OpenGate, Operator, Receipt, Seat, Shared};
 
 /// Each client's seat in the client's place, or nothing there while a connection is using it.
 #[derive(Drop)]
 struct Places<J: Naming> {
     seats: Vec<Option<Seat<J>>>,
     ghost in_places: { AreInPlaces (λ seat. seat.client) J.clients seats.items },
+    ghost few: { length seats.items ≤ 256 },
 }
 
 impl<J: Naming> Places<J> {
@@ -38,6 +43,36 @@ impl<J: Naming> Places<J> {
         let place = seat.client.0 as usize;
         if place < self.seats.len() {
             self.seats[place] = Some(seat);
+        }
+    }
+
+    /// All seats, in the order of their clients, out of their places. It is refused for want of memory (NoMemory), and
+    /// where a connection is using a seat (Busy); then all are where they were.
+    fn take_all(&mut self) -> Result<Vec<Seat<J>>, Refusal>
+        ensures order { IfOk result (λ seats. AreAllInOrder (λ seat. seat.client) J.clients seats.items) }
+        ensures errors { IfErr result (λ e. (e ≡ Refusal.NoMemory) ⊎ (e ≡ Refusal.Busy)) }
+    {
+        let clients = self.seats.len();
+        let mut all = Vec::new(*self.seats.allocator());
+        if all.reserve(clients).is_err() {
+            return Err(Refusal::NoMemory);
+        }
+        for number in 0..clients {
+            let Some(seat) = self.take(Client(number as u8)) else {
+                self.put_all(all);
+                return Err(Refusal::Busy);
+            };
+            all.push_reserved(seat);
+        }
+        Ok(all)
+    }
+
+    /// Puts seats in their clients' places.
+    fn put_all(&mut self, seats: Vec<Seat<J>>)
+        ensures { AreAllInOrder (λ seat. seat.client) J.clients seats.items → AreBack seats.items self.new.seats.items }
+    {
+        for seat in seats {
+            self.put(seat);
         }
     }
 
@@ -65,6 +100,9 @@ impl<J: Naming> Places<J> {
 pub(crate) struct Owed {
     client: Client,
 }
+
+/// The empty places of all seats, likewise: only [`Seating::put_all`] takes it.
+struct AllOwed {}
 
 /// Where the operator stands. He stops the broker for one connection at a time.
 #[derive(Drop)]
@@ -106,6 +144,9 @@ pub struct Seating<J: Naming> {
     places: Mutex<Places<J>>,
     /// This lock is taken before the broker's.
     post: Mutex<Post<J>>,
+    /// Where queues are renewed while connections are served: a connection reads this lock while it is at work, and
+    /// whoever renews a queue writes it, and has all seats at hand. It is taken before every other lock.
+    rest: Option<RwLock<()>>,
     ghost all: { clients ≡ J.clients },
     ghost numbered: { clients ≤ 256 },
 }
@@ -134,7 +175,38 @@ impl<J: Naming> Seating<J> {
             clients,
             places,
             post,
+            rest: None,
         })
+    }
+
+    /// The same, where a queue begins in fresh records for a call that finds no room, if that is worth it.
+    pub fn renewing(self) -> Self {
+        let Seating {
+            clients,
+            places,
+            post,
+            rest: _,
+        } = self;
+        Seating {
+            clients,
+            places,
+            post,
+            rest: Some(RwLock::new(())),
+        }
+    }
+
+    /// The connection is at work, until it lets go of this: nobody renews a queue meanwhile. Where queues are not
+    /// renewed, it holds nothing.
+    pub(crate) fn at_work<R: Wait>(&self, rt: &R) -> Option<RwLockReadGuard<'_, ()>> {
+        let rest = self.rest.as_ref()?;
+        Some(rest.read(rt))
+    }
+
+    /// No connection is at work, until this is let go of; none, where queues are not renewed. Whoever asks is not at
+    /// work.
+    pub(crate) fn at_rest<R: Wait>(&self, rt: &R) -> Option<RwLockWriteGuard<'_, ()>> {
+        let rest = self.rest.as_ref()?;
+        Some(rest.write(rt))
     }
 
     /// The client of this number, if there is one.
@@ -163,6 +235,53 @@ impl<J: Naming> Seating<J> {
     {
         let Owed { client: _ } = owed;
         lock(rt, &self.places).put(seat);
+    }
+
+    /// All seats, in client order, and the places that they leave. It is refused for want of memory (NoMemory), and
+    /// where a connection is using a seat (Busy).
+    fn take_all<R: Wait>(&self, rt: &R) -> Result<(AllOwed, Vec<Seat<J>>), Refusal>
+        ensures order { IfOk result (λ r. AreAllInOrder (λ seat. seat.client) J.clients r.1.items) }
+        ensures errors { IfErr result (λ e. (e ≡ Refusal.NoMemory) ⊎ (e ≡ Refusal.Busy)) }
+    {
+        let seats = lock(rt, &self.places).take_all()?;
+        Ok((AllOwed {}, seats))
+    }
+
+    /// All seats are in their places again.
+    fn put_all<R: Wait>(&self, rt: &R, owed: AllOwed, seats: Vec<Seat<J>>)
+        requires { AreAllInOrder (λ seat. seat.client) J.clients seats.items }
+    {
+        let AllOwed {} = owed;
+        lock(rt, &self.places).put_all(seats);
+    }
+
+    /// Goes on with each client's call that was left Unfinished. A seat that a connection is using is passed over.
+    fn finish_all<R: Wait>(&self, rt: &R, shared: &Shared<J>) {
+        for number in 0..self.clients {
+            if let Some((owed, seat)) = self.take(rt, Client(number as u8)) {
+                let (seat, _answer) = shared.finish(rt, seat, &OpenGate);
+                self.put(rt, owed, seat);
+            }
+        }
+    }
+
+    /// The queue of a slot begins in fresh records, as [`Shared::renew`] makes it, once each call that was left
+    /// Unfinished is finished. It is refused as there, for want of memory (NoMemory), and where a connection is using a
+    /// seat (Busy), which is so of none while all are at rest.
+    pub(crate) fn renew<R: Wait>(
+        &self,
+        rt: &R,
+        shared: &Shared<J>,
+        slot: SlotId,
+    ) -> Result<Receipt<J>, Refusal>
+        ensures deed { IfOk result (λ receipt. receipt.deed ≡ AnyDeed.Renewal slot) }
+        ensures errors { IfErr result (IsWhyNotRenewed J.first slot) }
+    {
+        self.finish_all(rt, shared);
+        let (owed, seats) = self.take_all(rt)?;
+        let (seats, renewed) = shared.renew(rt, seats, slot);
+        self.put_all(rt, owed, seats);
+        renewed
     }
 
     /// The whole system stops. It is refused for want of memory (NoMemory).

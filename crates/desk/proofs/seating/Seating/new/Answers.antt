@@ -1,5 +1,5 @@
 use Rattle.std.proofs.Common.{arith, ◌≡◌, ◌∙◌, ap, sym, [], ◌∷◌, ◌++◌, Some, length, length-append}
-use Rattle.std.proofs.lemmas.List.{map-append, nil_from_length}
+use Rattle.std.proofs.lemmas.List.{length-map, map-append, nil_from_length}
 use Rattle.std.specs.Vec.Iter.{into_iter_items}
 use Rattle.desk.proofs.Placing.{number_of_next, parts_after, places_of_none_left}
 use Rattle.desk.proofs.seating.Seating.new.Goals as goal
@@ -24,5 +24,9 @@ loop-seat-preserved g c =
 pub invariant_of-new : goal.invariant_of-new
 invariant_of-new g c =
     let i = c.loop-seat.invariant in
-    let none : into_iter_items c.loop-seat.seat-iterator ≡ [] = nil_from_length _ (sym i.left ∙ c.in-None.ensures.steps.0) in
-    record { in_places = places_of_none_left _ _ _ _ _ _ c.requires i.parts none i.placed }
+    let none : into_iter_items c.loop-seat.seat-iterator ≡ [] =
+    nil_from_length _ (sym i.left ∙ c.in-None.ensures.steps.0) in
+    record {
+      in_places = places_of_none_left _ _ _ _ _ _ c.requires i.parts none i.placed;
+      few = omega (arith, i.counted, i.numbered, ap (λ l. length l) i.placed, length-map c.loop-seat.yielded Some);
+    }
