@@ -114,6 +114,20 @@ refuse() {
     judge "each allocation refused: $name" "$(head -n 20 <<< "$said")"
     printf '%s: %d of %d allocations refused are said\n' "$name" "$refused" "$(cat "$work/count")"
 }
+# A script with `again` behind each line, with each allocation refused in turn: it prints what it does where none is
+# refused, but that an act was refused for want of memory, which is made again; or it says that there is no memory. Lines
+# that begin with these words were made again: NAME WORDS SCRIPT WORD..
+again() {
+    local name=$1 words=$2 status=0 said= seen
+    shift 2
+    python3 -B tests/again.py "$pqx" "$work/refusing.so" "$name" "$@" > "$work/out" || status=$?
+    cat "$work/out"
+    seen=$(sed -n 's/^.* not missed: //p' "$work/out")
+    [ "$status" -eq 0 ] || said+="status $status"$'\n'
+    [ "$seen" = "$words" ] || said+="made again were: $seen"$'\n'
+    judge "again: $name" "$said"
+}
+
 refuse 'pqx run' examples/kept.script "$pqx" run
 refuse 'pqx points' crates/test_scenarios/data/points-log-enqueue.script "$pqx" points
 refuse 'pqx alone' crates/test_scenarios/data/points-log-enqueue.script "$pqx" alone

@@ -31,7 +31,7 @@ def attempts_of(statement):
         return [((what, 1), statement[1] if statement[1] >= 0 else MANY)]
     if what == "on":
         return [step_of(statement)]
-    return [] if what in ("find", "list", "told") else [(statement, 1)]
+    return [] if what in ("find", "list", "told", "again") else [(statement, 1)]
 
 
 def is_refused(printed):

@@ -11,8 +11,9 @@ from script import number_of, numbers_of, printed, read
 
 CREATION_STEPS = 12
 KINDS = {b"durable": "durable", b"log": "log"}
-# Lines of a queue's script that are about the whole memory, and those on one queue, by the numbers of each kind.
-WHOLE = {b"evict": "W", b"crash": ""}
+# Lines of a queue's script that are about the whole memory, or the act before, and those on one queue, by the numbers
+# of each kind.
+WHOLE = {b"evict": "W", b"crash": "", b"again": ""}
 CODES = {"BadCount": "3 BadCount"}
 
 
@@ -169,6 +170,10 @@ class Player:
     def crash(self):
         self.machine.crash()
         return ["crash"]
+
+    def again(self):
+        # The plain machine is refused no memory.
+        return []
 
     def recover(self, most):
         if not self.machine.recovery:

@@ -69,7 +69,7 @@ class Writer:
     def act(self):
         draw = self.draw
         acts = {"creation": 8, "create-step": 6, "call": 30, "step": 45, "end": 10, "evict": 14, "crash": 4}
-        acts |= {"recover": 6, "image": 8, "rotate": 3, "renew": 5, "show": 8}
+        acts |= {"recover": 6, "image": 8, "rotate": 3, "renew": 5, "show": 8, "again": 2}
         what = draw.choices(list(acts), list(acts.values()))[0]
         if what == "creation":
             return self.creation()
@@ -90,8 +90,8 @@ class Writer:
             return [["recover"]] if draw.random() < 0.7 else [["recover", draw.randrange(1, 60)]]
         if what == "image":
             return self.image()
-        if what == "rotate":
-            return [["rotate"]]
+        if what in ("rotate", "again"):
+            return [[what]]
         if what == "renew":
             return [["renew", self.name()], *draw.choice([[["recover"]], [["recover"]], [["recover", 9]], []])]
         return [draw.choice([

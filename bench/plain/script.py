@@ -12,7 +12,7 @@ LIMITS = {
 # Of each word that begins a line: the arguments on a durable and on a log queue.
 SHAPES = {
     b"enq": ("CV", "CNV"), b"deq": ("C", "CN"), b"step": ("CM", "CM"), b"end": ("C", "C"), b"evict": ("W", "W"),
-    b"crash": ("", ""), b"content": ("", ""), b"order": ("", ""),
+    b"crash": ("", ""), b"content": ("", ""), b"order": ("", ""), b"again": ("", ""),
 }
 
 
@@ -153,6 +153,9 @@ def play(machine, line, word, numbers):
     if word == "crash":
         machine.crash()
         return ["crash"]
+    if word == "again":
+        # The plain machine is refused no memory.
+        return []
     if word == "content":
         return ["content " + (" ".join(machine.content()) or "-")]
     order = machine.order()

@@ -35,7 +35,8 @@ class Writer:
     def act(self):
         draw = self.draw
         what = draw.choices(
-            ["call", "step", "end", "evict", "crash", "recover", "content", "order"], [30, 50, 10, 12, 4, 6, 2, 2]
+            ["call", "step", "end", "evict", "crash", "recover", "content", "order", "again"],
+            [30, 50, 10, 12, 4, 6, 2, 2, 2],
         )[0]
         if what == "call":
             return [self.call()]

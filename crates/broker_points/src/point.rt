@@ -4,6 +4,7 @@ ghost use Rattle.std.specs.Prelude.{◌≡◌, ◌++◌, ◌∷◌, [], None, tr
 ghost use Rattle.named.specs.GoingOn.{BrokerGoesOn};
 ghost use Rattle.broker_script.specs.Grammar.{IsServedBroker};
 ghost use Rattle.broker_script.specs.Standing.{keeps_queues, QueuesStay};
+ghost use Rattle.broker_script.specs.Transcript.{FollowsLine};
 ghost use Rattle.broker_points.specs.Points.{downtime, eviction, IsPointAfter, Leads};
 ghost use Rattle.broker_points.specs.Reports.{line_of_point};
 
@@ -11,7 +12,7 @@ use crate::evicting::words_kept;
 use crate::kept::{are_explained, are_kept};
 use crate::texts::line;
 use arena::{BrokerLayout, SLOTS};
-use broker_script::{BrokerLine, Player, Statement};
+use broker_script::{BrokerLine, Player, Printed, Statement};
 use directory::Places;
 use explore::Evictions;
 use grammar::Command;
@@ -50,6 +51,21 @@ fn forget(known: &mut Places, statement: &Statement)
     }
 }
 
+/// Follows a line.
+fn follow_line(
+    alloc: Global,
+    player: &mut Player,
+    statement: &Statement,
+) -> Result<Vec<Printed>, Refusal>
+    ensures follows { IfOk result (λ lines. FollowsLine player.old statement.now lines.items player.new) }
+    ensures errors { IfErr result (λ e. e ≡ Refusal.NoMemory) }
+{
+    match player.follow(alloc, statement) {
+        Ok(lines) => Ok(lines),
+        Err(_) => Err(Refusal::NoMemory),
+    }
+}
+
 /// Follows a line, and notes the queues where the broker is ready then.
 fn follow(
     alloc: Global,
@@ -62,7 +78,7 @@ fn follow(
     ensures known { OnOk result (QueuesStay known.new player.new.broker.directory) }
     ensures errors { IfErr result (λ e. e ≡ Refusal.NoMemory) }
 {
-    let _lines = player.follow(alloc, statement)?;
+    let _lines = follow_line(alloc, player, statement)?;
     forget(known, statement);
     note(known, player.broker());
     Ok(())
@@ -118,8 +134,8 @@ fn stop_and_recover(alloc: Global, player: &mut Player) -> Result<(), Refusal>
     let recover = Statement::Whole {
         command: Command::Recover,
     };
-    let _stopped = player.follow(alloc, &crash)?;
-    let _told = player.follow(alloc, &recover)?;
+    let _stopped = follow_line(alloc, player, &crash)?;
+    let _told = follow_line(alloc, player, &recover)?;
     Ok(())
 }
 

@@ -10,9 +10,12 @@ use Rattle.directory.specs.declared.queue.Queue.{Queue}
 use Rattle.playing.specs.declared.lines.Line.TheVariants.{Refused, Recovering}
 use Rattle.broker_script.specs.Creating.{Creates, IsCreatedOn, opens, ends, goes_on, stays}
 use Rattle.broker_script.specs.Play.{Played}
+use Rattle.broker_script.specs.PutOff.{no_memory, IsPutOff}
 use Rattle.broker_script.specs.Recovering.{ready_lines, Recovers, RecoversBy, IsRecoveredOn, ready, ends_ready, goes_on_ready, stays_by, ready_by, ends_by, goes_on_by}
-use Rattle.broker_script.specs.Transcript.{FollowsAll, FollowsLine, none, more}
+use Rattle.broker_script.specs.Transcript.{FollowsAll, FollowsLine, none, more, made_again}
 use Rattle.broker_script.specs.declared.statements.Statement.{Statement}
+use Rattle.broker_script.specs.declared.statements.Statement.TheVariants.{Whole as whole}
+use Rattle.grammar.specs.declared.commands.Command.TheVariants.{Again}
 use Rattle.broker_script.specs.declared.printed.Printed.{Printed}
 use Rattle.broker_script.specs.declared.printed.Printed.TheVariants.{Whole, Created, Creating}
 
@@ -131,6 +134,15 @@ all_more start now next all left statement lines given follows leads = record {
   on = λ rest after.
       subst (FollowsAll start all) (sym (append_assoc lines given rest))
       (leads.on (given ++ rest) (more next given rest follows after));
+}
+
+pub all_again : (start now next : Played) (all left : List Statement) (statement : Statement) (lines : List Printed)
+    → IsPutOff now next → AllLead start all now (statement ∷ whole Again ∷ left) lines
+    → AllLead start all next (statement ∷ left) (lines ++ no_memory ∷ [])
+all_again start now next all left statement lines put_off leads = record {
+  on = λ rest after.
+      subst (FollowsAll start all) (sym (append_assoc lines (no_memory ∷ []) rest))
+      (leads.on (no_memory ∷ rest) (made_again next rest put_off after));
 }
 
 pub all_end : (start now : Played) (all : List Statement) (lines : List Printed) → AllLead start all now [] lines

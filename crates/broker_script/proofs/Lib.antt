@@ -7,5 +7,7 @@ pub mod Acted
 pub mod Staying
 pub mod Making
 pub mod Going
+pub mod PutOffs
+pub mod Again
 pub mod Printing
 mod Imaged

@@ -14,7 +14,7 @@ use Rattle.directory.specs.Directory.{Directory, HasQueue}
 use Rattle.directory.specs.declared.limits.TheConstants.{CREATION_STEPS}
 use Rattle.directory.specs.declared.queue.Queue.{Queue}
 use Rattle.grammar.specs.declared.commands.Command.{Command}
-use Rattle.grammar.specs.declared.commands.Command.TheVariants.{Enq, NumberedEnq, Deq, NumberedDeq, Step, End, Evict, Crash, Recover, RecoverBy, Content, Order}
+use Rattle.grammar.specs.declared.commands.Command.TheVariants.{Enq, NumberedEnq, Deq, NumberedDeq, Step, End, Evict, Crash, Recover, RecoverBy, Content, Order, Again}
 use Rattle.interleave.specs.Calls.{is_no_memory}
 use Rattle.interleave.specs.State.{State, recover_result, recover_result_with}
 use Rattle.recover.specs.declared.recovery.Recovery.{Recovery}
@@ -184,6 +184,7 @@ whole_stay old (Step client most) lines new by = broker_same old new by.1
 whole_stay old (End client) lines new by = broker_same old new by.1
 whole_stay old Content lines new by = broker_same old new by.1
 whole_stay old Order lines new by = broker_same old new by.1
+whole_stay old Again lines new by = broker_same old new by.1
 
 queues_stay : (old : Played) (statement : Statement) (lines : List Printed) (new : Played)
     → FollowsLine old statement lines new → keeps_queues statement ≡ true

@@ -10,7 +10,7 @@ use Rattle.words.specs.declared.call.Kind.TheVariants.{Durable, Log}
 use Rattle.grammar.proofs.Unique.{read, command_in, command_back}
 use Rattle.grammar.specs.Grammar.{command_words, kind_word, IsServed}
 use Rattle.grammar.specs.declared.commands.Command.{Command}
-use Rattle.grammar.specs.declared.commands.Command.TheVariants.{Enq, NumberedEnq, Deq, NumberedDeq, Step, End, Evict, Crash, Recover, RecoverBy, Content, Order}
+use Rattle.grammar.specs.declared.commands.Command.TheVariants.{Enq, NumberedEnq, Deq, NumberedDeq, Step, End, Evict, Crash, Recover, RecoverBy, Content, Order, Again}
 use Rattle.broker_script.specs.Grammar.{broker_words, label, statement_words, IsServedBroker, IsServedStatement}
 use Rattle.broker_script.specs.declared.statements.BrokerLine.{BrokerLine}
 use Rattle.broker_script.specs.declared.statements.Statement.{Statement}
@@ -95,6 +95,7 @@ whole_back Recover served = ap Whole (command_back Recover served)
 whole_back (RecoverBy most) served = ap Whole (command_back (RecoverBy most) served)
 whole_back Content served = ap Whole (command_back Content served)
 whole_back Order served = ap Whole (command_back Order served)
+whole_back Again served = ap Whole (command_back Again served)
 
 on_back : (name : List ℕ) (command : Command) → IsServed command → told_of name (command_words command) ≡ On name command
 unfolding told_of row_of
@@ -110,6 +111,7 @@ on_back name Recover served = ap (On name) (command_back Recover served)
 on_back name (RecoverBy most) served = ap (On name) (command_back (RecoverBy most) served)
 on_back name Content served = ap (On name) (command_back Content served)
 on_back name Order served = ap (On name) (command_back Order served)
+on_back name Again served = ap (On name) (command_back Again served)
 
 -- words after a label, read back by it
 labelled_back : (name : List ℕ) (words : List (List ℕ)) → statement_in (label name ∷ words) ≡ told_of name words

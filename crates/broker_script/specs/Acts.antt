@@ -2,7 +2,7 @@
 use Rattle.std.specs.Prelude.{◌≡◌, ℕ, Bool, true, false, not, List, [], ◌∷◌, ◌++◌, replicate}
 use Rattle.directory.specs.declared.limits.TheConstants.{CREATION_STEPS}
 use Rattle.grammar.specs.declared.commands.Command.{Command}
-use Rattle.grammar.specs.declared.commands.Command.TheVariants.{Step, End, Recover, RecoverBy, Content, Order}
+use Rattle.grammar.specs.declared.commands.Command.TheVariants.{Step, End, Recover, RecoverBy, Content, Order, Again}
 use Rattle.playing.specs.Play.{most_alone}
 use Rattle.playing.specs.declared.lines.Line.{Line}
 use Rattle.playing.specs.declared.lines.Line.TheVariants.{Refused}
@@ -47,6 +47,7 @@ times_of Recover = most_recovery
 times_of (RecoverBy most) = most
 times_of Content = 0
 times_of Order = 0
+times_of Again = 0
 times_of _ = 1
 
 -- what a line attempts, act by act. A creation begins with no step; what only shows something attempts nothing

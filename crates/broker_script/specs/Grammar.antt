@@ -5,7 +5,7 @@ use Rattle.directory.specs.Name.{IsName}
 use Rattle.grammar.specs.Grammar.{command_words, kind_word, IsServed}
 use Rattle.grammar.specs.Lines.{words_of}
 use Rattle.grammar.specs.declared.commands.Command.{Command}
-use Rattle.grammar.specs.declared.commands.Command.TheVariants.{Enq, NumberedEnq, Deq, NumberedDeq, Step, End, Evict, Crash, Recover, RecoverBy, Content, Order}
+use Rattle.grammar.specs.declared.commands.Command.TheVariants.{Enq, NumberedEnq, Deq, NumberedDeq, Step, End, Evict, Crash, Recover, RecoverBy, Content, Order, Again}
 use Rattle.grammar.specs.declared.limits.TheConstants.{MAX_CLIENT_NUMBER, MAX_STEPS}
 use Rattle.broker_script.specs.declared.statements.BrokerLine.{BrokerLine}
 use Rattle.broker_script.specs.declared.statements.Statement.{Statement}
@@ -38,7 +38,7 @@ statement_words (Whole command) = command_words command
 statement_words (On name command) = label name ∷ command_words command
 statement_words (Told name client) = label name ∷ codes "told" ∷ decimal client.0 ∷ []
 
--- whether a line of a queue's script is about the whole memory
+-- whether a line of a queue's script is about the whole memory, or about the act before
 abbrev pub is_whole : Command → Bool
 is_whole (Enq client value) = false
 is_whole (NumberedEnq client number value) = false
@@ -52,6 +52,7 @@ is_whole Recover = true
 is_whole (RecoverBy most) = true
 is_whole Content = false
 is_whole Order = false
+is_whole Again = true
 
 -- the queues have some clients, and each of them some records, no more than the most
 abbrev pub IsServedBroker : BrokerLine → Type 0

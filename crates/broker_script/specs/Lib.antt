@@ -4,6 +4,7 @@ pub mod Scripted
 pub mod Script
 pub mod Prints
 pub mod Play
+pub mod PutOff
 pub mod Creating
 pub mod Recovering
 pub mod OnQueue

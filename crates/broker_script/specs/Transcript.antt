@@ -11,7 +11,7 @@ use Rattle.directory.specs.Directory.{Directory}
 use Rattle.directory.specs.declared.limits.TheConstants.{CREATION_STEPS}
 use Rattle.directory.specs.declared.queue.Queue.{Queue}
 use Rattle.grammar.specs.declared.commands.Command.{Command}
-use Rattle.grammar.specs.declared.commands.Command.TheVariants.{Evict, Crash, Recover, RecoverBy}
+use Rattle.grammar.specs.declared.commands.Command.TheVariants.{Evict, Crash, Recover, RecoverBy, Again}
 use Rattle.named.specs.Blocks.{IsSameWords}
 use Rattle.named.specs.Finding.{IsPlaced}
 use Rattle.named.specs.Brokers.{Brokered, IsNew, is_down, world_at}
@@ -28,6 +28,7 @@ use Rattle.broker_script.specs.Imaging.{Boots, Images, SetsWord}
 use Rattle.broker_script.specs.OnQueue.{found_line, FollowsOn, IsToldLine}
 use Rattle.broker_script.specs.Play.{Played, new_played}
 use Rattle.broker_script.specs.Prints.{text_of}
+use Rattle.broker_script.specs.PutOff.{no_memory, IsPutOff}
 use Rattle.broker_script.specs.Recovering.{Recovers, RecoversBy}
 use Rattle.broker_script.specs.Renewing.{Renews}
 use Rattle.broker_script.specs.declared.printed.Printed.{Printed}
@@ -102,7 +103,7 @@ pub record Crashes (old : Played) (lines : List Printed) (new : Played) : Type 0
 abbrev pub Nothing : Played → List Printed → Played → Type 0
 Nothing old lines new = (lines ≡ []) × (new ≡ old)
 
--- a line about the whole memory; the others say nothing here
+-- a line about the whole memory; the others say nothing here, nor does `again` after a line that was followed
 abbrev pub FollowsWhole : Played → Command → List Printed → Played → Type 0
 FollowsWhole old (Evict word) lines new = Evicts old word lines new
 FollowsWhole old Crash lines new = Crashes old lines new
@@ -127,12 +128,16 @@ FollowsLine old (whole command) lines new = FollowsWhole old command lines new
 FollowsLine old (On name command) lines new = FollowsOn old name command lines new
 FollowsLine old (Told name client) lines new = Tells old name client lines new
 
--- some lines, one after the other
+-- some lines, one after the other. Where one was put off for want of memory, and `again` comes after it, a line says so,
+-- and it is made again
 pub data FollowsAll : Played → List Statement → List Printed → Type 0 where
   none : {old : Played} → FollowsAll old [] []
   more : {old : Played} {statement : Statement} {statements : List Statement} (next : Played)
       (first rest : List Printed) (line : FollowsLine old statement first next)
       (lines : FollowsAll next statements rest) → FollowsAll old (statement ∷ statements) (first ++ rest)
+  made_again : {old : Played} {statement : Statement} {statements : List Statement} (next : Played)
+      (rest : List Printed) (put_off : IsPutOff old next) (lines : FollowsAll next (statement ∷ statements) rest)
+      → FollowsAll old (statement ∷ whole Again ∷ statements) (no_memory ∷ rest)
 
 -- the lines of a script: the size of a new broker's memory, and what the lines on it give; none where there is no
 -- broker

@@ -49,8 +49,10 @@ fn attempt(alloc: Global, player: &mut Player, act: &Statement) -> Result<bool, 
     ensures attempted { IfOk result (λ accepted. IsAttempted player.old act.now accepted player.new) }
     ensures errors { IfErr result (λ e. e ≡ Refusal.NoMemory) }
 {
-    let lines = player.follow(alloc, act)?;
-    Ok(!is_refused(&lines))
+    match player.follow(alloc, act) {
+        Ok(lines) => Ok(!is_refused(&lines)),
+        Err(_) => Err(Refusal::NoMemory),
+    }
 }
 
 /// Adds an item.
@@ -152,7 +154,7 @@ fn times_of(command: &Command) -> u32
         Command::End { .. } => MAX_STEPS_ALONE,
         // A step past the end of a recovery is refused: the greatest count will do.
         Command::Recover => u32::MAX,
-        Command::Content | Command::Order => 0,
+        Command::Content | Command::Order | Command::Again => 0,
         _ => 1,
     }
 }

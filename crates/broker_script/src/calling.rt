@@ -1,24 +1,26 @@
 //! Lines on a queue of a broker that follows a script.
 
-ghost use Rattle.std.specs.Prelude.{◌≡◌, ◌≢◌, ◌<◌, ◌∷◌, [], ℕ, false, Ok, Err, None, IsSome, IfOk, IfErr, OnOk, slice_get, slice_index};
+ghost use Rattle.std.specs.Prelude.{◌≡◌, ◌≢◌, ◌<◌, ◌∷◌, [], ℕ, false, true, Ok, Err, None, Some, IsSome, IfOk, IfErr, IsErrOf, OnOk, OnErr, option_to_list, slice_get, slice_index};
 ghost use Rattle.interleave.specs.State.{kept_content, order_in, start_result, step_result};
 ghost use Rattle.named.specs.Brokers.{world_at};
 ghost use Rattle.named.specs.Finding.{IsPlaced};
 ghost use Rattle.playing.specs.Play.{after_steps, play_after_start, play_after_step};
 ghost use Rattle.playing.specs.Steps.{call_counted, count_after};
 ghost use Rattle.playing.specs.Transcript.{order_lines, start_line, step_lines};
+ghost use Rattle.grammar.specs.Grammar.{is_shown};
 ghost use Rattle.broker_script.specs.Grammar.{is_whole};
-ghost use Rattle.broker_script.specs.OnQueue.{answer_line, has_line, FollowsOn, FollowsPlaced, IsAnsweredBy, IsFollowedIn, IsOnlyIn};
+ghost use Rattle.broker_script.specs.OnQueue.{answer_line, has_line, Follows, FollowsOn, FollowsPlaced, IsAnsweredBy, IsFollowedIn, IsOnlyIn};
 ghost use Rattle.broker_script.specs.Play.{play_at, steps_at, the_world};
+ghost use Rattle.broker_script.specs.PutOff.{IsPutOff, PutsOff};
 
-use crate::lines::{labelled, one, one_line, refused_line};
+use crate::lines::{Room, labelled, one_line, unfollowed};
 use crate::player::Player;
 use crate::printed::Printed;
 use crate::rows::is_whole;
 use arena::{SLOTS, SlotId};
 use directory::Name;
-use grammar::{Command, is_on};
-use playing::{Line, Values, add, named_call};
+use grammar::{Command, is_on, is_shown};
+use playing::{Line, Unfollowed, Values, add, named_call};
 use std::alloc::Global;
 use words::{Call, Client, Kind, MAX_STEPS_ALONE, Refusal, Reply};
 
@@ -30,18 +32,27 @@ fn has_line(kind: Kind, command: &Command) -> bool
 }
 
 /// The line of a start.
-fn started_line(
-    alloc: Global,
-    command: &Command,
-    started: Result<(), Refusal>,
-) -> Result<Vec<Line>, Refusal>
-    ensures line { IfOk result (λ lines. lines.items ≡ start_line command.now started ∷ []) }
+fn started_line(command: &Command, started: Result<(), Refusal>) -> Result<Option<Line>, Unfollowed>
+    ensures line { IfOk result (λ line. line ≡ Some (start_line command.now started)) }
     ensures memory { OnOk result (started ≢ Err Refusal.NoMemory) }
-    ensures errors { IfErr result (λ e. e ≡ Refusal.NoMemory) }
+    ensures put_off { OnErr result (started ≡ Err Refusal.NoMemory) }
 {
     match started {
-        Ok(()) => one_line(alloc, Line::Call(*command)),
-        Err(refusal) => refused_line(alloc, refusal),
+        Ok(()) => Ok(Some(Line::Call(*command))),
+        Err(refusal) => refused_line(false, refusal),
+    }
+}
+
+/// A line that says why a queue's act was refused; want of memory is no line, but puts the line off that was to be
+/// followed, or leaves it half followed.
+fn refused_line(begun: bool, refusal: Refusal) -> Result<Option<Line>, Unfollowed>
+    ensures line { IfOk result (λ line. (refusal ≢ Refusal.NoMemory) × (line ≡ Some (Line.Refused refusal))) }
+    ensures memory { OnErr result (refusal ≡ Refusal.NoMemory) }
+    ensures begun { IsErrOf result Unfollowed.PutOff → begun ≡ false }
+{
+    match refusal {
+        Refusal::NoMemory => Err(unfollowed(begun)),
+        _ => Ok(Some(Line::Refused(refusal))),
     }
 }
 
@@ -94,6 +105,7 @@ impl Player {
             → result ≡ start_result false (the_world self.old.broker slot.0) client number }
         ensures play { result ≢ Err Refusal.NoMemory
             → play_at self.new slot.0 ≡ play_after_start (play_at self.old slot.0) client number call }
+        ensures put_off { result ≡ Err Refusal.NoMemory → IsPutOff self.old self.new }
         ensures only { IsOnlyIn slot.0 self.old self.new }
     {
         match self.broker.start(slot, client, number, call) {
@@ -126,6 +138,7 @@ impl Player {
             → step_result false (the_world self.old.broker slot.0) client ≡ Err e) }
         ensures play { OnOk result (play_at self.new slot.0 ≡ play_after_step (play_at self.old slot.0) client) }
         ensures same { IfErr result (λ e. e ≢ Refusal.NoMemory → play_at self.new slot.0 ≡ play_at self.old slot.0) }
+        ensures put_off { result ≡ Err Refusal.NoMemory → IsPutOff self.old self.new }
         ensures only { IsOnlyIn slot.0 self.old self.new }
         ensures open { OnOk result (IsSome (world_at self.new.broker slot.0)) }
     {
@@ -141,27 +154,26 @@ impl Player {
     /// A client's call in the queue of a slot goes on by at most so many steps.
     fn go_on(
         &mut self,
-        alloc: Global,
         slot: SlotId,
         client: Client,
         most: u32,
-    ) -> Result<Vec<Line>, Refusal>
+    ) -> Result<Option<Line>, Unfollowed>
         requires ready { self.old.broker.recovery ≡ None }
         requires open { IsSome (world_at self.old.broker slot.0) }
-        ensures lines { IfOk result (λ lines. lines.items ≡ step_lines client most (play_at self.old slot.0)) }
+        ensures lines { IfOk result (λ line. option_to_list line ≡ step_lines client most (play_at self.old slot.0)) }
         ensures play { OnOk result (play_at self.new slot.0 ≡ after_steps client most (play_at self.old slot.0)) }
         ensures only { OnOk result (IsOnlyIn slot.0 self.old self.new) }
-        ensures errors { IfErr result (λ e. e ≡ Refusal.NoMemory) }
+        ensures put_off { PutsOff self.old result self.new }
     {
         let _ = &self.broker;
-        for _ in 0..most {
+        for made in 0..most {
             match self.step(slot, client) {
-                Err(refusal) => return refused_line(alloc, refusal),
-                Ok(Some(line)) => return one_line(alloc, line),
+                Err(refusal) => return refused_line(made > 0, refusal),
+                Ok(Some(line)) => return Ok(Some(line)),
                 Ok(None) => {}
             }
         }
-        Ok(Vec::new(alloc))
+        Ok(None)
     }
 
     /// Shows what the queue in a slot holds.
@@ -193,24 +205,21 @@ impl Player {
         Ok(lines)
     }
 
-    /// Follows a line on the queue in a slot, and answers what it gives.
-    fn follow_in(
-        &mut self,
-        alloc: Global,
-        slot: SlotId,
-        command: &Command,
-    ) -> Result<Vec<Line>, Refusal>
+    /// Follows a call's line on the queue in a slot, and answers what it gives.
+    fn call_in(&mut self, slot: SlotId, command: &Command) -> Result<Option<Line>, Unfollowed>
         requires ready { self.old.broker.recovery ≡ None }
         requires open { IsSome (world_at self.old.broker slot.0) }
         requires line { is_whole command.now ≡ false }
-        ensures followed { IfOk result (λ lines. IsFollowedIn self.old slot.0 command.now lines.items self.new) }
-        ensures errors { IfErr result (λ e. e ≡ Refusal.NoMemory) }
+        requires call { is_shown command.now ≡ false }
+        ensures followed { IfOk result (λ line.
+            IsFollowedIn self.old slot.0 command.now (option_to_list line) self.new) }
+        ensures put_off { PutsOff self.old result self.new }
     {
         let _ = &self.broker;
         match command {
             Command::Enq { client, value } => {
                 let started = self.start(slot, *client, 0, Call::Enq(*value));
-                started_line(alloc, command, started)
+                started_line(command, started)
             }
             Command::NumberedEnq {
                 client,
@@ -218,21 +227,79 @@ impl Player {
                 value,
             } => {
                 let started = self.start(slot, *client, *number, Call::Enq(*value));
-                started_line(alloc, command, started)
+                started_line(command, started)
             }
             Command::Deq { client } => {
                 let started = self.start(slot, *client, 0, Call::Deq);
-                started_line(alloc, command, started)
+                started_line(command, started)
             }
             Command::NumberedDeq { client, number } => {
                 let started = self.start(slot, *client, *number, Call::Deq);
-                started_line(alloc, command, started)
+                started_line(command, started)
             }
-            Command::Step { client, most } => self.go_on(alloc, slot, *client, *most),
-            Command::End { client } => self.go_on(alloc, slot, *client, MAX_STEPS_ALONE as u32),
+            Command::Step { client, most } => self.go_on(slot, *client, *most),
+            Command::End { client } => self.go_on(slot, *client, MAX_STEPS_ALONE as u32),
+            _ => unreachable!(),
+        }
+    }
+
+    /// What a line that only shows something gives on the queue in a slot.
+    fn shown_in(&self, alloc: Global, slot: SlotId, command: &Command) -> Result<Vec<Line>, Refusal>
+        requires open { IsSome (world_at self.now.broker slot.0) }
+        requires shown { is_shown command.now ≡ true }
+        ensures followed { IfOk result (λ lines. IsFollowedIn self.now slot.0 command.now lines.items self.now) }
+        ensures errors { IfErr result (λ e. e ≡ Refusal.NoMemory) }
+    {
+        let _ = &self.broker;
+        match command {
             Command::Content => self.show_content(alloc, slot),
             Command::Order => self.show_order(alloc, slot),
             _ => unreachable!(),
+        }
+    }
+
+    /// The same, with the queue's name before each line.
+    fn show_in(
+        &self,
+        alloc: Global,
+        slot: SlotId,
+        name: &Name,
+        command: &Command,
+    ) -> Result<Vec<Printed>, Refusal>
+        requires open { IsSome (world_at self.now.broker slot.0) }
+        requires shown { is_shown command.now ≡ true }
+        ensures followed { IfOk result (λ lines. Follows self.now slot name.now command.now lines.items self.now) }
+        ensures errors { IfErr result (λ e. e ≡ Refusal.NoMemory) }
+    {
+        let lines = self.shown_in(alloc, slot, command)?;
+        labelled(alloc, *name, lines)
+    }
+
+    /// Follows a line that the queue's kind has.
+    fn follow_in(
+        &mut self,
+        alloc: Global,
+        slot: SlotId,
+        name: &Name,
+        command: &Command,
+    ) -> Result<Vec<Printed>, Unfollowed>
+        requires ready { self.old.broker.recovery ≡ None }
+        requires open { IsSome (world_at self.old.broker slot.0) }
+        requires line { is_whole command.now ≡ false }
+        ensures followed { IfOk result (λ lines. Follows self.old slot name.now command.now lines.items self.new) }
+        ensures put_off { PutsOff self.old result self.new }
+    {
+        if is_shown(command) {
+            return match self.show_in(alloc, slot, name, command) {
+                Ok(lines) => Ok(lines),
+                Err(_) => Err(Unfollowed::PutOff),
+            };
+        }
+        let room = Room::take(alloc)?;
+        match self.call_in(slot, command) {
+            Ok(Some(line)) => Ok(room.fill(Printed::Of { name: *name, line })),
+            Ok(None) => Ok(room.leave()),
+            Err(unfollowed) => Err(unfollowed),
         }
     }
 
@@ -243,19 +310,19 @@ impl Player {
         slot: SlotId,
         name: &Name,
         command: &Command,
-    ) -> Result<Vec<Printed>, Refusal>
+    ) -> Result<Vec<Printed>, Unfollowed>
         requires ready { self.old.broker.recovery ≡ None }
         requires open { IsSome (world_at self.old.broker slot.0) }
         ensures followed { IfOk result (λ lines.
             FollowsPlaced self.old name.now command.now lines.items self.new (Ok slot)) }
-        ensures errors { IfErr result (λ e. e ≡ Refusal.NoMemory) }
+        ensures put_off { PutsOff self.old result self.new }
     {
         if !has_line(self.kind(slot), command) {
+            let room = Room::take(alloc)?;
             let line = Line::Refused(Refusal::WrongKind);
-            return one(alloc, Printed::Of { name: *name, line });
+            return Ok(room.fill(Printed::Of { name: *name, line }));
         }
-        let lines = self.follow_in(alloc, slot, command)?;
-        labelled(alloc, *name, lines)
+        self.follow_in(alloc, slot, name, command)
     }
 
     /// Follows a line on the queue of this name.
@@ -264,15 +331,16 @@ impl Player {
         alloc: Global,
         name: &Name,
         command: &Command,
-    ) -> Result<Vec<Printed>, Refusal>
+    ) -> Result<Vec<Printed>, Unfollowed>
         ensures follows { IfOk result (λ lines. FollowsOn self.old name.now command.now lines.items self.new) }
-        ensures errors { IfErr result (λ e. e ≡ Refusal.NoMemory) }
+        ensures put_off { PutsOff self.old result self.new }
     {
         match self.place(name) {
             Ok(slot) => self.follow_placed(alloc, slot, name, command),
             Err(refusal) => {
+                let room = Room::take(alloc)?;
                 let line = Line::Refused(refusal);
-                one(alloc, Printed::Of { name: *name, line })
+                Ok(room.fill(Printed::Of { name: *name, line }))
             }
         }
     }

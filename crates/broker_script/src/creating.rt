@@ -4,14 +4,15 @@ ghost use Rattle.std.specs.Prelude.{◌≡◌, ◌∷◌, [], IfOk, IfErr, IfSom
 ghost use Rattle.directory.specs.Directory.{HasQueue};
 ghost use Rattle.directory.specs.declared.queue.Queue.{Queue as Place};
 ghost use Rattle.broker_script.specs.Creating.{BeginsCreation, Creates, IsBegunOn, IsCreatedOn};
+ghost use Rattle.broker_script.specs.PutOff.{PutsOff};
 ghost use Rattle.broker_script.specs.declared.printed.Printed.TheVariants.{Created};
 
-use crate::lines::one;
+use crate::lines::Room;
 use crate::player::Player;
 use crate::printed::Printed;
 use arena::SlotId;
 use directory::{Name, Queue};
-use playing::Line;
+use playing::{Line, Unfollowed};
 use std::alloc::Global;
 use words::{Kind, Refusal};
 
@@ -32,22 +33,18 @@ impl Player {
     }
 
     /// Shows the queue that a creation opened in a slot.
-    fn show_created(&self, alloc: Global, slot: SlotId) -> Result<Vec<Printed>, Refusal>
+    fn show_created(&self, room: Room, slot: SlotId) -> Vec<Printed>
         requires ready { self.now.broker.recovery ≡ None }
         requires opened { (queue : Place) × HasQueue self.now.broker.directory slot.0 queue }
-        ensures line { IfOk result (λ lines. (queue : Place) × HasQueue self.now.broker.directory slot.0 queue
-            × (lines.items ≡ Created queue.name slot self.now.creation ∷ [])) }
-        ensures errors { IfErr result (λ e. e ≡ Refusal.NoMemory) }
+        ensures line { (queue : Place) × HasQueue self.now.broker.directory slot.0 queue
+            × (result.items ≡ Created queue.name slot self.now.creation ∷ []) }
     {
         let queue = self.queue_in(slot).unwrap();
-        one(
-            alloc,
-            Printed::Created {
-                name: queue.name,
-                slot,
-                steps: self.creation,
-            },
-        )
+        room.fill(Printed::Created {
+            name: queue.name,
+            slot,
+            steps: self.creation,
+        })
     }
 
     /// One step of the creation that is under way.
@@ -66,19 +63,27 @@ impl Player {
         }
     }
 
-    /// The creation that is under way goes on by at most so many steps.
-    pub(crate) fn create(&mut self, alloc: Global, most: u32) -> Result<Vec<Printed>, Refusal>
-        ensures creates { IfOk result (λ lines. Creates most self.old lines.items self.new) }
-        ensures errors { IfErr result (λ e. e ≡ Refusal.NoMemory) }
+    /// The creation that is under way goes on by at most so many steps, none of which takes memory.
+    fn go_on_creating(&mut self, room: Room, most: u32) -> Vec<Printed>
+        ensures creates { Creates most self.old result.items self.new }
     {
         for _ in 0..most {
             match self.create_step() {
-                Err(refusal) => return one(alloc, Printed::Whole(Line::Refused(refusal))),
+                Err(refusal) => return room.fill(Printed::Whole(Line::Refused(refusal))),
                 Ok(None) => {}
-                Ok(Some(slot)) => return self.show_created(alloc, slot),
+                Ok(Some(slot)) => return self.show_created(room, slot),
             }
         }
-        one(alloc, Printed::Creating)
+        room.fill(Printed::Creating)
+    }
+
+    /// The same, once there is room for its line.
+    pub(crate) fn create(&mut self, alloc: Global, most: u32) -> Result<Vec<Printed>, Unfollowed>
+        ensures creates { IfOk result (λ lines. Creates most self.old lines.items self.new) }
+        ensures put_off { PutsOff self.old result self.new }
+    {
+        let room = Room::take(alloc)?;
+        Ok(self.go_on_creating(room, most))
     }
 
     /// Begins a creation.
@@ -101,13 +106,14 @@ impl Player {
         name: &Name,
         kind: Kind,
         most: u32,
-    ) -> Result<Vec<Printed>, Refusal>
+    ) -> Result<Vec<Printed>, Unfollowed>
         ensures begins { IfOk result (λ lines. BeginsCreation self.old name.now kind most lines.items self.new) }
-        ensures errors { IfErr result (λ e. e ≡ Refusal.NoMemory) }
+        ensures put_off { PutsOff self.old result self.new }
     {
+        let room = Room::take(alloc)?;
         match self.begin(name, kind) {
-            Ok(()) => self.create(alloc, most),
-            Err(refusal) => one(alloc, Printed::Whole(Line::Refused(refusal))),
+            Ok(()) => Ok(self.go_on_creating(room, most)),
+            Err(refusal) => Ok(room.fill(Printed::Whole(Line::Refused(refusal)))),
         }
     }
 }

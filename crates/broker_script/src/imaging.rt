@@ -7,14 +7,15 @@ ghost use Rattle.named.specs.Booting.{AreBootWords, IsBooted, MayRefuse};
 ghost use Rattle.named.specs.Promises.{KeepsPromises};
 ghost use Rattle.broker_script.specs.Imaging.{boot_line, digest_of, Boots, Images, IsOfBadCount, SetsWord};
 ghost use Rattle.broker_script.specs.Play.{new_played};
+ghost use Rattle.broker_script.specs.PutOff.{PutsOff};
 
 use crate::acts::push;
-use crate::lines::{one, refused};
+use crate::lines::{Room, refused};
 use crate::player::{Player, no_steps};
 use crate::printed::Printed;
 use named::Broker;
 use persist::{KeptWords, Memory};
-use playing::Line;
+use playing::{Line, Unfollowed};
 use sha2::{Digest, Sha256};
 use std::alloc::Global;
 use words::{Item, Refusal};
@@ -68,13 +69,12 @@ fn booted(alloc: Global, image: &[u64]) -> Result<Broker, Refusal>
 }
 
 /// A line that says why no broker began, and which rule the words break; want of memory is no line.
-fn unbooted(alloc: Global, refusal: Refusal) -> Result<Vec<Printed>, Refusal>
+fn unbooted(room: Room, refusal: Refusal) -> Result<Vec<Printed>, Unfollowed>
     ensures line { IfOk result (λ lines. (refusal ≢ Refusal.NoMemory) × (lines.items ≡ boot_line (Err refusal) ∷ [])) }
-    ensures errors { IfErr result (λ e. e ≡ Refusal.NoMemory) }
 {
     match refusal {
-        Refusal::Damaged(rule) => one(alloc, Printed::Unsound(rule)),
-        _ => refused(alloc, refusal),
+        Refusal::Damaged(rule) => Ok(room.fill(Printed::Unsound(rule))),
+        _ => refused(room, false, refusal),
     }
 }
 
@@ -87,18 +87,23 @@ impl Player {
     }
 
     /// Shows the image of the broker's memory, and remembers its words.
-    pub(crate) fn remember(&mut self, alloc: Global) -> Result<Vec<Printed>, Refusal>
+    pub(crate) fn remember(&mut self, alloc: Global) -> Result<Vec<Printed>, Unfollowed>
         ensures images { IfOk result (λ lines. Images self.old lines.items self.new) }
-        ensures errors { IfErr result (λ e. e ≡ Refusal.NoMemory) }
+        ensures put_off { PutsOff self.old result self.new }
     {
-        let image = self.broker.to_image()?;
+        let room = Room::take(alloc)?;
+        let Ok(image) = self.broker.to_image() else {
+            return Err(Unfollowed::PutOff);
+        };
         let line = Printed::Image {
             size: image.len(),
             digest: digest(&image),
         };
-        let words = words_of(alloc, &image)?;
+        let Ok(words) = words_of(alloc, &image) else {
+            return Err(Unfollowed::PutOff);
+        };
         self.keep_words(words);
-        one(alloc, line)
+        Ok(room.fill(line))
     }
 
     /// Changes a word of the remembered image, and shows which value it had.
@@ -107,16 +112,17 @@ impl Player {
         alloc: Global,
         word: u64,
         value: u64,
-    ) -> Result<Vec<Printed>, Refusal>
+    ) -> Result<Vec<Printed>, Unfollowed>
         ensures sets { IfOk result (λ lines. SetsWord self.old word value lines.items self.new) }
-        ensures errors { IfErr result (λ e. e ≡ Refusal.NoMemory) }
+        ensures put_off { PutsOff self.old result self.new }
     {
+        let room = Room::take(alloc)?;
         if word as usize >= self.image.len() {
-            return one(alloc, Printed::Whole(Line::Refused(Refusal::NoWord)));
+            return Ok(room.fill(Printed::Whole(Line::Refused(Refusal::NoWord))));
         }
         let was = self.image[word as usize];
         self.image[word as usize] = value;
-        one(alloc, Printed::WasSet { word, was })
+        Ok(room.fill(Printed::WasSet { word, was }))
     }
 
     /// Goes on with this broker, on which no step was made.
@@ -131,16 +137,17 @@ impl Player {
     }
 
     /// A broker begins on the remembered image, in place of the one before.
-    pub(crate) fn boot(&mut self, alloc: Global) -> Result<Vec<Printed>, Refusal>
+    pub(crate) fn boot(&mut self, alloc: Global) -> Result<Vec<Printed>, Unfollowed>
         ensures boots { IfOk result (λ lines. Boots self.old lines.items self.new) }
-        ensures errors { IfErr result (λ e. e ≡ Refusal.NoMemory) }
+        ensures put_off { PutsOff self.old result self.new }
     {
+        let room = Room::take(alloc)?;
         match booted(alloc, &self.image) {
             Ok(broker) => {
                 self.begin_with(broker);
-                one(alloc, Printed::Booted)
+                Ok(room.fill(Printed::Booted))
             }
-            Err(refusal) => unbooted(alloc, refusal),
+            Err(refusal) => unbooted(room, refusal),
         }
     }
 }

@@ -1,13 +1,59 @@
 //! Lines put together.
 
-ghost use Rattle.std.specs.Prelude.{◌≡◌, ◌≢◌, ◌++◌, ◌∷◌, [], OnOk, IfOk, IfErr};
+ghost use Rattle.std.specs.Prelude.{◌≡◌, ◌≢◌, ◌++◌, ◌∷◌, [], OnOk, OnErr, IfOk, IfErr, IsErrOf, false};
 ghost use Rattle.broker_script.specs.Recovering.{of_queue};
 
 use crate::printed::Printed;
 use directory::Name;
-use playing::Line;
+use playing::{Line, Unfollowed};
 use std::alloc::Global;
+use std::marker::Model;
 use words::Refusal;
+
+/// Room for a line, which is taken before an act is made: an act that was made is never refused its line.
+#[derive(Drop)]
+pub(crate) struct Room {
+    lines: Vec<Printed>,
+}
+
+impl Model for Room {
+    ghost use Rattle.std.specs.Prelude.{◌≡◌, ◌<◌, List, [], vec_len, vec_capacity};
+    ghost use Rattle.broker_script.specs.declared.printed.Printed.{Printed};
+
+    ghost Value = { List Printed };
+
+    ghost view = { λ r. r.lines.items };
+
+    ghost invariant = { λ r. (r.lines.items ≡ []) × (vec_len r.lines < vec_capacity r.lines) };
+}
+
+impl Room {
+    /// Room for one line.
+    pub(crate) fn take(alloc: Global) -> Result<Self, Unfollowed>
+        ensures { IfErr result (λ e. e ≡ Unfollowed.PutOff) }
+    {
+        match Vec::with_capacity(alloc, 1) {
+            Ok(lines) => Ok(Room { lines }),
+            Err(_) => Err(Unfollowed::PutOff),
+        }
+    }
+
+    /// The line alone.
+    pub(crate) fn fill(self, line: Printed) -> Vec<Printed>
+        ensures { result.items ≡ line ∷ [] }
+    {
+        let mut lines = self.lines;
+        lines.push_reserved(line);
+        lines
+    }
+
+    /// No line.
+    pub(crate) fn leave(self) -> Vec<Printed>
+        ensures { result.items ≡ [] }
+    {
+        self.lines
+    }
+}
 
 /// A line alone.
 pub(crate) fn one(alloc: Global, line: Printed) -> Result<Vec<Printed>, Refusal>
@@ -33,27 +79,25 @@ pub(crate) fn one_line(alloc: Global, line: Line) -> Result<Vec<Line>, Refusal>
     }
 }
 
-/// A line that says why a queue's line was refused; want of memory is no line, but ends the transcript.
-pub(crate) fn refused_line(alloc: Global, refusal: Refusal) -> Result<Vec<Line>, Refusal>
-    ensures line { IfOk result (λ lines. (refusal ≢ Refusal.NoMemory) × (lines.items ≡ Line.Refused refusal ∷ [])) }
-    ensures errors { IfErr result (λ e. e ≡ Refusal.NoMemory) }
-{
-    if let Refusal::NoMemory = refusal {
-        return Err(refusal);
-    }
-    one_line(alloc, Line::Refused(refusal))
-}
-
-/// The same of a line about the whole memory.
-pub(crate) fn refused(alloc: Global, refusal: Refusal) -> Result<Vec<Printed>, Refusal>
+/// A line that says why an act was refused. Want of memory is no line, but puts the line off that was to be followed, of
+/// which nothing was made, or leaves it half followed.
+pub(crate) fn refused(room: Room, begun: bool, refusal: Refusal) -> Result<Vec<Printed>, Unfollowed>
     ensures line { IfOk result (λ lines.
         (refusal ≢ Refusal.NoMemory) × (lines.items ≡ Printed.Whole (Line.Refused refusal) ∷ [])) }
-    ensures errors { IfErr result (λ e. e ≡ Refusal.NoMemory) }
+    ensures memory { OnErr result (refusal ≡ Refusal.NoMemory) }
+    ensures begun { IsErrOf result Unfollowed.PutOff → begun ≡ false }
 {
-    if let Refusal::NoMemory = refusal {
-        return Err(refusal);
+    match refusal {
+        Refusal::NoMemory => Err(unfollowed(begun)),
+        _ => Ok(room.fill(Printed::Whole(Line::Refused(refusal)))),
     }
-    one(alloc, Printed::Whole(Line::Refused(refusal)))
+}
+
+/// A line is put off as long as nothing was made of it.
+pub(crate) fn unfollowed(begun: bool) -> Unfollowed
+    ensures { result ≡ Unfollowed.PutOff → begun ≡ false }
+{
+    if begun { Unfollowed::Halfway } else { Unfollowed::PutOff }
 }
 
 /// Adds lines, in their order.

@@ -1,36 +1,86 @@
 //! What a broker prints that follows a script.
 
-ghost use Rattle.std.specs.Prelude.{◌≡◌, IfOk, IfErr};
+ghost use Rattle.std.specs.Prelude.{◌≡◌, ◌++◌, ◌∷◌, [], Ok, IfOk, IfErr, List, Some, false, true, slice_get};
 ghost use Rattle.broker_script.specs.Grammar.{IsServedBroker};
 ghost use Rattle.broker_script.specs.Play.{new_played};
 ghost use Rattle.broker_script.specs.Prints.{text_of};
-ghost use Rattle.broker_script.specs.Transcript.{AreLinesOf, FollowsAll, IsPlayedOn, IsTranscript};
+ghost use Rattle.broker_script.specs.PutOff.{no_memory, IsPutOff};
+ghost use Rattle.broker_script.specs.Transcript.{AreLinesOf, FollowsAll, FollowsLine, IsPlayedOn, IsTranscript};
+ghost use Rattle.broker_script.specs.declared.printed.Printed.{Printed as printed};
+ghost use Rattle.broker_script.specs.declared.statements.Statement.{Statement};
+ghost use Rattle.grammar.specs.declared.commands.Command.{Command};
 
+use crate::acts::push;
 use crate::lines::{append, one};
 use crate::player::Player;
 use crate::printed::Printed;
 use crate::script::Script;
 use crate::statements::{BrokerLine, Statement};
 use arena::BrokerLayout;
-use playing::Line;
+use grammar::Command;
+use playing::{Line, Unfollowed, line_to_make};
 use std::alloc::Global;
 use std::fmt::Write;
 use words::Refusal;
 
+/// Whether the line at a place makes the one before again.
+fn is_again(statements: &[Statement], at: usize) -> bool
+    ensures { result ≡ true → slice_get statements.now at ≡ Some (Statement.Whole Command.Again) }
+{
+    match statements.get(at) {
+        Some(Statement::Whole { command }) => matches!(command, Command::Again),
+        _ => false,
+    }
+}
+
+/// Follows a line, and adds what it gives, or says that it is put off, if it may be made again. It answers whether it is.
+fn follow(
+    alloc: Global,
+    player: &mut Player,
+    lines: &mut Vec<Printed>,
+    statement: &Statement,
+    again: bool,
+) -> Result<bool, Refusal>
+    ensures followed { result ≡ Ok false → (given : List printed)
+        × FollowsLine player.old statement.now given player.new × (lines.new.items ≡ lines.old.items ++ given) }
+    ensures put_off { result ≡ Ok true → IsPutOff player.old player.new
+        × (lines.new.items ≡ lines.old.items ++ no_memory ∷ []) }
+    ensures again { result ≡ Ok true → again ≡ true }
+    ensures errors { IfErr result (λ e. e ≡ Refusal.NoMemory) }
+{
+    match player.follow(alloc, statement) {
+        Ok(given) => {
+            append(lines, given)?;
+            Ok(false)
+        }
+        Err(Unfollowed::Halfway) => Err(Refusal::NoMemory),
+        Err(Unfollowed::PutOff) => {
+            if !again {
+                return Err(Refusal::NoMemory);
+            }
+            push(lines, Printed::Whole(Line::Refused(Refusal::NoMemory)))?;
+            Ok(true)
+        }
+    }
+}
+
 /// Follows all lines on a new broker.
 fn follow_all(
     alloc: Global,
-    player: Player,
+    mut player: Player,
     statements: &[Statement],
 ) -> Result<Vec<Printed>, Refusal>
     ensures lines { IfOk result (λ lines. FollowsAll player statements.now lines.items) }
     ensures errors { IfErr result (λ e. e ≡ Refusal.NoMemory) }
 {
-    let mut player = player;
     let mut lines = Vec::new(alloc);
-    for statement in statements {
-        let given = player.follow(alloc, statement)?;
-        append(&mut lines, given)?;
+    // Which line is made: the one that was put off, in place of the `again` after it.
+    let mut made = 0;
+    let mut put_off = false;
+    for at in 0..statements.len() {
+        made = line_to_make(put_off, made, at);
+        let again = is_again(statements, at + 1);
+        put_off = follow(alloc, &mut player, &mut lines, &statements[made], again)?;
     }
     Ok(lines)
 }

@@ -3,6 +3,7 @@
 ghost use Rattle.std.specs.Prelude.{◌≡◌, IfOk, IfErr, replicate};
 ghost use Rattle.arena.specs.Limits.{AreCounts};
 ghost use Rattle.broker_script.specs.Play.{new_played, no_steps};
+ghost use Rattle.broker_script.specs.PutOff.{PutsOff};
 ghost use Rattle.broker_script.specs.Transcript.{FollowsLine, FollowsWhole};
 ghost use Rattle.named.specs.Brokers.{IsNew};
 ghost use Rattle.named.specs.Promises.{KeepsPromises};
@@ -13,7 +14,7 @@ use arena::SLOTS;
 use directory::CREATION_STEPS;
 use grammar::Command;
 use named::Broker;
-use playing::Steps;
+use playing::{Steps, Unfollowed};
 use std::alloc::Global;
 use std::marker::Model;
 use words::Refusal;
@@ -82,9 +83,9 @@ impl Player {
     }
 
     /// Follows a line about the whole memory, and answers what it gives.
-    fn follow_whole(&mut self, alloc: Global, command: &Command) -> Result<Vec<Printed>, Refusal>
+    fn follow_whole(&mut self, alloc: Global, command: &Command) -> Result<Vec<Printed>, Unfollowed>
         ensures follows { IfOk result (λ lines. FollowsWhole self.old command.now lines.items self.new) }
-        ensures errors { IfErr result (λ e. e ≡ Refusal.NoMemory) }
+        ensures put_off { PutsOff self.old result self.new }
     {
         match command {
             Command::Evict { word } => self.evict(alloc, *word),
@@ -110,11 +111,11 @@ impl Player {
         self.recovery
     }
 
-    /// Follows a line, and answers what it gives: of an act that is refused the one line that says why. It is itself
-    /// refused for want of memory alone (NoMemory), and then the line may be half followed.
-    pub fn follow(&mut self, alloc: Global, statement: &Statement) -> Result<Vec<Printed>, Refusal>
+    /// Follows a line, and answers what it gives: of an act that is refused the one line that says why. For want of
+    /// memory it gives none. Then nothing was made of it (PutOff), or it is half followed (Halfway).
+    pub fn follow(&mut self, alloc: Global, statement: &Statement) -> Result<Vec<Printed>, Unfollowed>
         ensures follows { IfOk result (λ lines. FollowsLine self.old statement.now lines.items self.new) }
-        ensures errors { IfErr result (λ e. e ≡ Refusal.NoMemory) }
+        ensures put_off { PutsOff self.old result self.new }
     {
         match statement {
             Statement::Create { name, kind } => {

@@ -5,27 +5,33 @@ ghost use Rattle.named.specs.Brokers.{world_at};
 ghost use Rattle.named.specs.Lasting.{steps_left};
 ghost use Rattle.playing.specs.Transcript.{told_at, told_lines};
 ghost use Rattle.broker_script.specs.Play.{the_world};
+ghost use Rattle.broker_script.specs.PutOff.{IsPutOff, PutsOff};
 ghost use Rattle.broker_script.specs.Recovering.{ready_lines, told_below, told_in_slot, IsRecoveredOn, Recovers, RecoversBy};
 ghost use Rattle.broker_script.specs.Transcript.{Crashes};
 
-use crate::lines::{append, labelled, one, refused};
+use crate::lines::{Room, append, labelled, one, refused};
 use crate::player::Player;
 use crate::printed::Printed;
 use arena::{SLOTS, SlotId};
 use directory::Queue;
-use playing::{Line, add};
+use playing::{Line, Unfollowed, add};
 use std::alloc::Global;
 use words::{Client, Refusal, Told};
 
 impl Player {
     /// The whole system stops.
-    pub(crate) fn crash(&mut self, alloc: Global) -> Result<Vec<Printed>, Refusal>
+    pub(crate) fn crash(&mut self, alloc: Global) -> Result<Vec<Printed>, Unfollowed>
         ensures crashes { IfOk result (λ lines. Crashes self.old lines.items self.new) }
-        ensures errors { IfErr result (λ e. e ≡ Refusal.NoMemory) }
+        ensures put_off { PutsOff self.old result self.new }
     {
-        self.broker.crash()?;
-        self.recovery = 0;
-        one(alloc, Printed::Whole(Line::Crash))
+        let room = Room::take(alloc)?;
+        match self.broker.crash() {
+            Ok(()) => {
+                self.recovery = 0;
+                Ok(room.fill(Printed::Whole(Line::Crash)))
+            }
+            Err(_) => Err(Unfollowed::PutOff),
+        }
     }
 
     /// What a client of the queue in a slot is told.
@@ -98,8 +104,8 @@ impl Player {
         Ok(lines)
     }
 
-    /// Shows that the broker is ready, and what each client of each queue is told.
-    fn show_ready(&self, alloc: Global) -> Result<Vec<Printed>, Refusal>
+    /// That the broker is ready, and what each client of each queue is told.
+    fn told_at_ready(&self, alloc: Global) -> Result<Vec<Printed>, Refusal>
         requires ready { self.now.broker.recovery ≡ None }
         ensures lines { IfOk result (λ lines. lines.items ≡ ready_lines self.now) }
         ensures errors { IfErr result (λ e. e ≡ Refusal.NoMemory) }
@@ -115,10 +121,23 @@ impl Player {
         Ok(lines)
     }
 
+    /// Shows that, once the last step was made.
+    fn show_ready(&self, alloc: Global) -> Result<Vec<Printed>, Unfollowed>
+        requires ready { self.now.broker.recovery ≡ None }
+        ensures lines { IfOk result (λ lines. lines.items ≡ ready_lines self.now) }
+        ensures errors { IfErr result (λ e. e ≡ Unfollowed.Halfway) }
+    {
+        match self.told_at_ready(alloc) {
+            Ok(lines) => Ok(lines),
+            Err(_) => Err(Unfollowed::Halfway),
+        }
+    }
+
     /// One step of recovery. It answers whether the broker is ready now.
     fn recover_step(&mut self) -> Result<bool, Refusal>
         ensures step { result ≢ Err Refusal.NoMemory → IsRecoveredOn self.old result self.new }
         ensures ready { result ≡ Ok true → self.new.broker.recovery ≡ None }
+        ensures put_off { result ≡ Err Refusal.NoMemory → IsPutOff self.old self.new }
         ensures falls { IfOk result (λ ready. steps_left self.new.broker < steps_left self.old.broker) }
     {
         match self.broker.recover_step() {
@@ -131,31 +150,34 @@ impl Player {
     }
 
     /// Recovery goes on to its end.
-    pub(crate) fn recover(&mut self, alloc: Global) -> Result<Vec<Printed>, Refusal>
+    pub(crate) fn recover(&mut self, alloc: Global) -> Result<Vec<Printed>, Unfollowed>
         ensures recovers { IfOk result (λ lines. Recovers self.old lines.items self.new) }
-        ensures errors { IfErr result (λ e. e ≡ Refusal.NoMemory) }
+        ensures put_off { PutsOff self.old result self.new }
     {
+        let room = Room::take(alloc)?;
+        let mut begun = false;
         loop {
             match self.recover_step() {
-                Err(refusal) => return refused(alloc, refusal),
+                Err(refusal) => return refused(room, begun, refusal),
                 Ok(true) => return self.show_ready(alloc),
-                Ok(false) => {}
+                Ok(false) => begun = true,
             }
         }
     }
 
     /// Recovery goes on by at most so many steps.
-    pub(crate) fn recover_by(&mut self, alloc: Global, most: u32) -> Result<Vec<Printed>, Refusal>
+    pub(crate) fn recover_by(&mut self, alloc: Global, most: u32) -> Result<Vec<Printed>, Unfollowed>
         ensures recovers { IfOk result (λ lines. RecoversBy most self.old lines.items self.new) }
-        ensures errors { IfErr result (λ e. e ≡ Refusal.NoMemory) }
+        ensures put_off { PutsOff self.old result self.new }
     {
-        for _ in 0..most {
+        let room = Room::take(alloc)?;
+        for made in 0..most {
             match self.recover_step() {
-                Err(refusal) => return refused(alloc, refusal),
+                Err(refusal) => return refused(room, made > 0, refusal),
                 Ok(true) => return self.show_ready(alloc),
                 Ok(false) => {}
             }
         }
-        one(alloc, Printed::Whole(Line::Recovering))
+        Ok(room.fill(Printed::Whole(Line::Recovering)))
     }
 }

@@ -238,19 +238,21 @@ fn boot(line: &[u8]) -> Option<Statement>
     }
 }
 
-/// Whether a line of a queue's script is about the whole memory.
+/// Whether a line of a queue's script is about the whole memory, or about the act before.
 pub(crate) fn is_whole(command: &Command) -> bool
     ensures { result ≡ is_whole command.now }
 {
     match command {
-        Command::Evict { .. } | Command::Crash | Command::Recover | Command::RecoverBy { .. } => {
-            true
-        }
+        Command::Evict { .. }
+        | Command::Crash
+        | Command::Recover
+        | Command::RecoverBy { .. }
+        | Command::Again => true,
         _ => false,
     }
 }
 
-/// `evict W`, `crash`, `recover`, `recover M`
+/// `evict W`, `crash`, `recover`, `recover M`, `again`
 fn whole(line: &[u8]) -> Option<Statement>
     ensures { MatchOption result ((command : Command) → SaysStatement line.now (Statement.Whole command) → ⊥)
         (SaysStatement line.now) }

@@ -2,14 +2,15 @@
 
 ghost use Rattle.std.specs.Prelude.{◌≡◌, ◌≤◌, ◌<◌, Some, None, IfOk, IfErr, length, slice_get};
 ghost use Rattle.broker_script.specs.OnQueue.{told_by, IsToldLine};
+ghost use Rattle.broker_script.specs.PutOff.{PutsOff};
 ghost use Rattle.broker_script.specs.Transcript.{list_lines, place_lines, places_below, Evicts, Finds, Rotates, Tells};
 
-use crate::lines::{append, one, refused};
+use crate::lines::{Room, append, one, refused};
 use crate::player::Player;
 use crate::printed::Printed;
 use arena::{SLOTS, SlotId};
 use directory::{Name, Queue};
-use playing::Line;
+use playing::{Line, Unfollowed};
 use std::alloc::Global;
 use words::{Client, Refusal};
 
@@ -47,35 +48,34 @@ fn places(alloc: Global, places: &[Option<Queue>]) -> Result<Vec<Printed>, Refus
 
 impl Player {
     /// The environment keeps a word.
-    pub(crate) fn evict(&mut self, alloc: Global, word: u64) -> Result<Vec<Printed>, Refusal>
+    pub(crate) fn evict(&mut self, alloc: Global, word: u64) -> Result<Vec<Printed>, Unfollowed>
         ensures evicts { IfOk result (λ lines. Evicts self.old word lines.items self.new) }
-        ensures errors { IfErr result (λ e. e ≡ Refusal.NoMemory) }
+        ensures put_off { PutsOff self.old result self.new }
     {
+        let room = Room::take(alloc)?;
         match self.broker.evict(word as usize) {
-            Ok(change) => one(
-                alloc,
-                Printed::Whole(Line::Evicted {
-                    word,
-                    changed: change.is_some(),
-                }),
-            ),
-            Err(refusal) => one(alloc, Printed::Whole(Line::Refused(refusal))),
+            Ok(change) => {
+                let changed = change.is_some();
+                Ok(room.fill(Printed::Whole(Line::Evicted { word, changed })))
+            }
+            Err(refusal) => Ok(room.fill(Printed::Whole(Line::Refused(refusal)))),
         }
     }
 
     /// The histories of all queues end, and others begin.
-    pub(crate) fn rotate(&mut self, alloc: Global) -> Result<Vec<Printed>, Refusal>
+    pub(crate) fn rotate(&mut self, alloc: Global) -> Result<Vec<Printed>, Unfollowed>
         ensures rotates { IfOk result (λ lines. Rotates self.old lines.items self.new) }
-        ensures errors { IfErr result (λ e. e ≡ Refusal.NoMemory) }
+        ensures put_off { PutsOff self.old result self.new }
     {
+        let room = Room::take(alloc)?;
         match self.broker.rotate() {
-            Ok(()) => one(alloc, Printed::Rotated),
-            Err(refusal) => refused(alloc, refusal),
+            Ok(()) => Ok(room.fill(Printed::Rotated)),
+            Err(refusal) => refused(room, false, refusal),
         }
     }
 
-    /// Shows the queues.
-    pub(crate) fn list(&self, alloc: Global) -> Result<Vec<Printed>, Refusal>
+    /// The lines of the queues.
+    fn listed(&self, alloc: Global) -> Result<Vec<Printed>, Refusal>
         ensures lines { IfOk result (λ lines. lines.items ≡ list_lines self.now.broker) }
         ensures errors { IfErr result (λ e. e ≡ Refusal.NoMemory) }
     {
@@ -90,14 +90,26 @@ impl Player {
         }
     }
 
-    /// Shows which slot a queue has.
-    pub(crate) fn find(&self, alloc: Global, name: &Name) -> Result<Vec<Printed>, Refusal>
-        ensures finds { IfOk result (λ lines. Finds self.now name.now lines.items self.now) }
-        ensures errors { IfErr result (λ e. e ≡ Refusal.NoMemory) }
+    /// Shows the queues.
+    pub(crate) fn list(&self, alloc: Global) -> Result<Vec<Printed>, Unfollowed>
+        ensures lines { IfOk result (λ lines. lines.items ≡ list_lines self.now.broker) }
+        ensures put_off { PutsOff self.now result self.now }
     {
+        match self.listed(alloc) {
+            Ok(lines) => Ok(lines),
+            Err(_) => Err(Unfollowed::PutOff),
+        }
+    }
+
+    /// Shows which slot a queue has.
+    pub(crate) fn find(&self, alloc: Global, name: &Name) -> Result<Vec<Printed>, Unfollowed>
+        ensures finds { IfOk result (λ lines. Finds self.now name.now lines.items self.now) }
+        ensures put_off { PutsOff self.now result self.now }
+    {
+        let room = Room::take(alloc)?;
         match self.place(name) {
-            Ok(slot) => one(alloc, Printed::Found { name: *name, slot }),
-            Err(refusal) => one(alloc, Printed::Whole(Line::Refused(refusal))),
+            Ok(slot) => Ok(room.fill(Printed::Found { name: *name, slot })),
+            Err(refusal) => Ok(room.fill(Printed::Whole(Line::Refused(refusal)))),
         }
     }
 
@@ -120,11 +132,12 @@ impl Player {
         alloc: Global,
         name: &Name,
         client: Client,
-    ) -> Result<Vec<Printed>, Refusal>
+    ) -> Result<Vec<Printed>, Unfollowed>
         ensures tells { IfOk result (λ lines. Tells self.now name.now client lines.items self.now) }
-        ensures errors { IfErr result (λ e. e ≡ Refusal.NoMemory) }
+        ensures put_off { PutsOff self.now result self.now }
     {
+        let room = Room::take(alloc)?;
         let line = self.told_line(name, client);
-        one(alloc, Printed::Of { name: *name, line })
+        Ok(room.fill(Printed::Of { name: *name, line }))
     }
 }

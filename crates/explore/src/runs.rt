@@ -3,8 +3,7 @@
 ghost use Rattle.std.specs.Prelude.{◌<◌, ◌↔◌, OnOk, IfErr, IsErrOf};
 ghost use Rattle.devices.specs.Devices.{IsFlushed};
 ghost use Rattle.explore.specs.Reports.{points_text, stopped_text};
-ghost use Rattle.playing.specs.Run.{Prints, PrintsBeginning, IsRunRefusal, NamesBadLine, WritesNothing};
-ghost use Rattle.playing.specs.Transcript.{script_text};
+ghost use Rattle.playing.specs.Run.{Prints, PrintsBeginning, BeginsTranscript, PrintsTranscript, IsRunRefusal, NamesBadLine, WritesNothing};
 
 use crate::part::Wanted;
 use crate::reports::{pictured_points, points_text, stopped_text};
@@ -25,7 +24,7 @@ pub fn run<R: Reader, W: Writer>(
     requires reads { R.failures reader.old < MAX_FAILURES }
     requires writes { W.failures writer.old < MAX_FAILURES }
     ensures printed { OnOk result
-        (Prints script_text (R.left reader.old) (W.written writer.old) (W.written writer.new)) }
+        (PrintsTranscript (R.left reader.old) (W.written writer.old) (W.written writer.new)) }
     ensures flushed { OnOk result (IsFlushed (W.written writer.new) (W.flushed writer.new)) }
     ensures refusals { IfErr result IsRunRefusal }
     ensures read_failed { IsErrOf result Refusal.ReadFailed ↔ (R.failures reader.old < R.failures reader.new) }
@@ -33,7 +32,7 @@ pub fn run<R: Reader, W: Writer>(
     ensures bad_line { IfErr result (NamesBadLine (R.left reader.old)) }
     ensures unwritten { IfErr result (WritesNothing (W.written writer.old) (W.written writer.new)) }
     ensures beginning { IsErrOf result Refusal.WriteFailed
-        → PrintsBeginning script_text (R.left reader.old) (W.written writer.old) (W.written writer.new) }
+        → BeginsTranscript (R.left reader.old) (W.written writer.old) (W.written writer.new) }
 {
     let script = read_script(alloc, reader)?;
     let printed = transcript(alloc, &script)?;
@@ -50,7 +49,7 @@ pub fn run_story<R: Reader, W: Writer>(
     requires reads { R.failures reader.old < MAX_FAILURES }
     requires writes { W.failures writer.old < MAX_FAILURES }
     ensures printed { OnOk result
-        (Prints script_text (R.left reader.old) (W.written writer.old) (W.written writer.new)) }
+        (PrintsTranscript (R.left reader.old) (W.written writer.old) (W.written writer.new)) }
     ensures flushed { OnOk result (IsFlushed (W.written writer.new) (W.flushed writer.new)) }
     ensures refusals { IfErr result IsRunRefusal }
     ensures read_failed { IsErrOf result Refusal.ReadFailed ↔ (R.failures reader.old < R.failures reader.new) }
@@ -58,7 +57,7 @@ pub fn run_story<R: Reader, W: Writer>(
     ensures bad_line { IfErr result (NamesBadLine (R.left reader.old)) }
     ensures unwritten { IfErr result (WritesNothing (W.written writer.old) (W.written writer.new)) }
     ensures beginning { IsErrOf result Refusal.WriteFailed
-        → PrintsBeginning script_text (R.left reader.old) (W.written writer.old) (W.written writer.new) }
+        → BeginsTranscript (R.left reader.old) (W.written writer.old) (W.written writer.new) }
 {
     let script = read_script(alloc, reader)?;
     let text = transcript(alloc, &script)?;

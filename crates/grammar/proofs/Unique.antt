@@ -14,7 +14,7 @@ use Rattle.words.specs.declared.call.Kind.{Kind}
 use Rattle.grammar.specs.Grammar.{kind_word, queue_words, command_words, IsServedQueue, IsServed}
 use Rattle.grammar.specs.Script.{Says}
 use Rattle.grammar.specs.declared.commands.Command.{Command}
-use Rattle.grammar.specs.declared.commands.Command.TheVariants.{Enq, NumberedEnq, Deq, NumberedDeq, Step, End, Evict, Crash, Recover, RecoverBy, Content, Order}
+use Rattle.grammar.specs.declared.commands.Command.TheVariants.{Enq, NumberedEnq, Deq, NumberedDeq, Step, End, Evict, Crash, Recover, RecoverBy, Content, Order, Again}
 use Rattle.grammar.specs.declared.commands.QueueLine.{QueueLine}
 use Rattle.grammar.proofs.Numbers.{own}
 use Rattle.grammar.proofs.Scripts.{same_kind}
@@ -61,7 +61,8 @@ command_of row words ns =
     (if row == 29988236 then Recover else
     (if row == 29988237 then RecoverBy (slice_index ns 0) else
     (if row == 26066360 then Content else
-    Order)))))))))))
+    (if row == 29215120 then Order else
+    Again))))))))))))
 
 read_back : (command : Command) → IsServed command → command_of (tag (command_words command)) (command_words command) (numbers (command_words command)) ≡ command
 unfolding command_of tag numbers client_of value_at
@@ -98,6 +99,7 @@ read_back (RecoverBy most) served =
     ap (λ n. RecoverBy (n)) e0
 read_back Content served = refl
 read_back Order served = refl
+read_back Again served = refl
 
 -- a command read back from its words
 pub command_in : List (List ℕ) → Command

@@ -10,7 +10,7 @@ use Rattle.words.specs.PlainQueue.{FitsValue}
 use Rattle.words.specs.Text.{value_text}
 use Rattle.grammar.specs.declared.limits.TheConstants.{MAX_CLIENT_NUMBER, MAX_STEPS}
 use Rattle.grammar.specs.declared.commands.Command.{Command}
-use Rattle.grammar.specs.declared.commands.Command.TheVariants.{Enq, NumberedEnq, Deq, NumberedDeq, Step, End, Evict, Crash, Recover, RecoverBy, Content, Order}
+use Rattle.grammar.specs.declared.commands.Command.TheVariants.{Enq, NumberedEnq, Deq, NumberedDeq, Step, End, Evict, Crash, Recover, RecoverBy, Content, Order, Again}
 use Rattle.grammar.specs.declared.commands.QueueLine.{QueueLine}
 
 abbrev pub kind_word : Kind → List ℕ
@@ -22,7 +22,7 @@ abbrev pub queue_words : QueueLine → List (List ℕ)
 queue_words queue = codes "queue" ∷ kind_word queue.kind ∷ decimal queue.clients ∷ decimal queue.records ∷ []
 
 -- `enq C V`, `enq C N V`, `deq C`, `deq C N`, `step C M`, `end C`, `evict W`, `crash`, `recover`, `recover M`,
--- `content`, `order`
+-- `content`, `order`, `again`
 abbrev pub command_words : Command → List (List ℕ)
 command_words (Enq client value) = codes "enq" ∷ decimal client.0 ∷ value_text value ∷ []
 command_words (NumberedEnq client number value) =
@@ -37,6 +37,7 @@ command_words Recover = codes "recover" ∷ []
 command_words (RecoverBy most) = codes "recover" ∷ decimal most ∷ []
 command_words Content = codes "content" ∷ []
 command_words Order = codes "order" ∷ []
+command_words Again = codes "again" ∷ []
 
 -- a command as its line has it
 abbrev pub command_text : Command → List ℕ
@@ -65,6 +66,7 @@ IsServed Recover = Unit {0}
 IsServed (RecoverBy most) = (1 ≤ most) × (most ≤ MAX_STEPS)
 IsServed Content = Unit {0}
 IsServed Order = Unit {0}
+IsServed Again = Unit {0}
 
 -- whether a queue of this kind has such a command: calls on a log queue have numbers, those on a durable one have none
 abbrev pub is_on : Kind → Command → Bool
@@ -84,6 +86,13 @@ is_on kind Recover = true
 is_on kind (RecoverBy most) = true
 is_on kind Content = true
 is_on kind Order = true
+is_on kind Again = true
+
+-- whether a command only shows something
+abbrev pub is_shown : Command → Bool
+is_shown Content = true
+is_shown Order = true
+is_shown _ = false
 
 -- a line says this queue, or this command: it has its words, within the limits
 pub record SaysQueue (line : List ℕ) (queue : QueueLine) : Type 0 where

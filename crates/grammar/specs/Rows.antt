@@ -3,7 +3,7 @@ use Rattle.std.specs.Prelude.{ℕ, List}
 use Rattle.words.specs.PlainQueue.{Value}
 use Rattle.words.specs.declared.call.Client.{Client}
 use Rattle.grammar.specs.Grammar.{SaysCommand}
-use Rattle.grammar.specs.declared.commands.Command.TheVariants.{Enq, NumberedEnq, Deq, NumberedDeq, Step, End, Evict, Crash, Recover, RecoverBy, Content, Order}
+use Rattle.grammar.specs.declared.commands.Command.TheVariants.{Enq, NumberedEnq, Deq, NumberedDeq, Step, End, Evict, Crash, Recover, RecoverBy, Content, Order, Again}
 
 -- a line starts no call, and goes on with none
 pub record IsNoCall (line : List ℕ) : Type 0 where
@@ -15,11 +15,12 @@ pub record IsNoCall (line : List ℕ) : Type 0 where
   pub step : (client : Client) (most : ℕ) → SaysCommand line (Step client most) → ⊥
   pub end : (client : Client) → SaysCommand line (End client) → ⊥
 
--- a line says nothing about the memory, and shows nothing
+-- a line says nothing about the memory, shows nothing, and makes no act again
 pub record IsNoMemoryLine (line : List ℕ) : Type 0 where
   pub evict : (word : ℕ) → SaysCommand line (Evict word) → ⊥
   pub content : SaysCommand line Content → ⊥
   pub order : SaysCommand line Order → ⊥
+  pub again : SaysCommand line Again → ⊥
 
 -- a line says nothing about crashes
 pub record IsNoCrashLine (line : List ℕ) : Type 0 where

@@ -73,6 +73,8 @@ pub enum Command {
     Content,
     /// Show in which order the calls took effect.
     Order,
+    /// Make the act before once more, if it was refused for want of memory.
+    Again,
 }
 
 /// As a script spells it: `enq 0 05`.
@@ -100,6 +102,7 @@ impl fmt::Display for Command {
             Command::RecoverBy { most } => write!(f, "recover {most}"),
             Command::Content => write!(f, "content"),
             Command::Order => write!(f, "order"),
+            Command::Again => write!(f, "again"),
         }
     }
 }

@@ -21,5 +21,5 @@ pub use line::{
 };
 pub use lines::{is_skipped, without_last_newline};
 pub use parser::parse_script;
-pub use rows::{command, is_on, kind, queue_line};
+pub use rows::{command, is_on, is_shown, kind, queue_line};
 pub use script::Script;

@@ -5,7 +5,7 @@ ghost use Rattle.words.specs.PlainQueue.{Value};
 ghost use Rattle.words.specs.declared.call.Client.{Client};
 ghost use Rattle.words.specs.declared.call.Kind.{Kind};
 ghost use Rattle.grammar.specs.Lines.{words_of};
-ghost use Rattle.grammar.specs.Grammar.{SaysQueue, SaysCommand, kind_word, is_on};
+ghost use Rattle.grammar.specs.Grammar.{SaysQueue, SaysCommand, kind_word, is_on, is_shown};
 ghost use Rattle.grammar.specs.Rows.{IsNoCall, IsNoMemoryLine, IsNoCrashLine};
 ghost use Rattle.grammar.specs.declared.commands.Command.{Command};
 ghost use Rattle.grammar.specs.declared.commands.QueueLine.{QueueLine};
@@ -186,6 +186,17 @@ fn order(line: &[u8]) -> Option<Command>
     }
 }
 
+/// `again`
+fn again(line: &[u8]) -> Option<Command>
+    ensures { MatchOption result (SaysCommand line.now Command.Again → ⊥) (SaysCommand line.now) }
+{
+    if is_name(line, b"again") {
+        Some(Command::Again)
+    } else {
+        None
+    }
+}
+
 /// The lines that start or go on with a call.
 fn call_line(line: &[u8]) -> Option<Command>
     ensures { MatchOption result (IsNoCall line.now) (SaysCommand line.now) }
@@ -208,7 +219,7 @@ fn call_line(line: &[u8]) -> Option<Command>
     end(line)
 }
 
-/// The lines about the memory, and those that show something.
+/// The lines about the memory, those that show something, and the one that makes an act again.
 fn memory_line(line: &[u8]) -> Option<Command>
     ensures { MatchOption result (IsNoMemoryLine line.now) (SaysCommand line.now) }
 {
@@ -218,7 +229,10 @@ fn memory_line(line: &[u8]) -> Option<Command>
     if let Some(command) = content(line) {
         return Some(command);
     }
-    order(line)
+    if let Some(command) = order(line) {
+        return Some(command);
+    }
+    again(line)
 }
 
 /// The lines about crashes.
@@ -257,4 +271,11 @@ pub fn is_on(kind: Kind, command: &Command) -> bool
         (Kind::Log, Command::Enq { .. } | Command::Deq { .. }) => false,
         _ => true,
     }
+}
+
+/// Whether a command only shows something.
+pub fn is_shown(command: &Command) -> bool
+    ensures { result ≡ is_shown command.now }
+{
+    matches!(command, Command::Content | Command::Order)
 }

@@ -20,7 +20,7 @@ use Rattle.interleave.proofs.AloneLaws.{get_set}
 use Rattle.playing.specs.Acts.{attempts_of, IsSteady}
 use Rattle.playing.specs.Play.{Play, after_command, after_commands, after_recovery, after_steps, most_alone, most_recovery, play_after_recovery_step, play_after_step, play_then, recover_then}
 use Rattle.grammar.specs.declared.commands.Command.{Command}
-use Rattle.grammar.specs.declared.commands.Command.TheVariants.{Enq, NumberedEnq, Deq, NumberedDeq, Step, End, Evict, Crash, Recover, RecoverBy, Content, Order}
+use Rattle.grammar.specs.declared.commands.Command.TheVariants.{Enq, NumberedEnq, Deq, NumberedDeq, Step, End, Evict, Crash, Recover, RecoverBy, Content, Order, Again}
 use Rattle.playing.proofs.InOrder.{after_more, stays}
 use Rattle.playing.proofs.Plays.{refused_same as step_refused}
 use Rattle.playing.proofs.Recoveries.{refused_same as recovery_refused}
@@ -145,6 +145,7 @@ command_attempted play Recover = recovery_attempted (most_recovery play.world) p
 command_attempted play (RecoverBy most) = recovery_attempted most play
 command_attempted play Content = refl
 command_attempted play Order = refl
+command_attempted play Again = refl
 
 -- and commands, one after the other
 pub commands_attempted : (commands : List Command) (play : Play) (s : Shape) → play.world.shape ≡ s

@@ -5,3 +5,5 @@ pub mod Shapes
 pub mod InOrder
 pub mod Attempted
 pub mod StoppedCalls
+pub mod MayGive
+pub mod Again

@@ -8,7 +8,7 @@ use Rattle.protocol.specs.declared.acts.Act.TheVariants.{Start, Step as step_act
 use Rattle.interleave.specs.State.{State, new_world, after_act, is_accepted, most_to_ready}
 use Rattle.playing.specs.Play.{most_alone}
 use Rattle.grammar.specs.declared.commands.Command.{Command}
-use Rattle.grammar.specs.declared.commands.Command.TheVariants.{Enq, NumberedEnq, Deq, NumberedDeq, Step, End, Evict, Crash, Recover, RecoverBy, Content, Order}
+use Rattle.grammar.specs.declared.commands.Command.TheVariants.{Enq, NumberedEnq, Deq, NumberedDeq, Step, End, Evict, Crash, Recover, RecoverBy, Content, Order, Again}
 
 -- what a command attempts. A step past the answer is refused, and so is one of recovery once the queue is ready
 abbrev pub attempts_of : Shape → Command → List (Act ℕ)
@@ -24,6 +24,7 @@ attempts_of s Recover = replicate (most_to_ready s) recover_act
 attempts_of s (RecoverBy most) = replicate most recover_act
 attempts_of s Content = []
 attempts_of s Order = []
+attempts_of s Again = []
 
 -- which of the acts are accepted, one attempted after another
 abbrev pub accepted_of : State → List (Act ℕ) → List (Act ℕ)

@@ -10,7 +10,7 @@ use Rattle.arena.specs.Shape.{Shape}
 use Rattle.interleave.specs.State.{State, new_world, after_start, start_result, after_step, step_result, after_evict, after_crash, after_recover, recover_result, most_to_ready}
 use Rattle.playing.specs.Steps.{call_counted, recovery_counted}
 use Rattle.grammar.specs.declared.commands.Command.{Command}
-use Rattle.grammar.specs.declared.commands.Command.TheVariants.{Enq, NumberedEnq, Deq, NumberedDeq, Step, End, Evict, Crash, Recover, RecoverBy, Content, Order}
+use Rattle.grammar.specs.declared.commands.Command.TheVariants.{Enq, NumberedEnq, Deq, NumberedDeq, Step, End, Evict, Crash, Recover, RecoverBy, Content, Order, Again}
 use Rattle.playing.specs.declared.steps.TheConstants.{CLIENT_NUMBERS}
 use Rattle.playing.specs.declared.steps.Steps.{Steps}
 
@@ -94,6 +94,7 @@ after_command play Recover = after_recovery (most_recovery play.world) play
 after_command play (RecoverBy most) = after_recovery most play
 after_command play Content = play
 after_command play Order = play
+after_command play Again = play
 
 -- a new world, in which no step was made
 abbrev pub new_play : Shape → Play

@@ -9,6 +9,7 @@ use Rattle.grammar.specs.Scripted.{Scripted}
 use Rattle.grammar.specs.Script.{Says, IsFirstBad}
 use Rattle.grammar.specs.declared.commands.Command.{Command}
 use Rattle.grammar.specs.declared.commands.QueueLine.{QueueLine}
+use Rattle.playing.specs.Transcript.{IsTranscript}
 
 -- where the bytes to read are known, they say this script
 abbrev pub SaysInput : Option (List ℕ) → Scripted → Type 0
@@ -30,6 +31,22 @@ PrintsBeginning printed None old new = Unit {0}
 PrintsBeginning printed (Some text) old new =
     (queue : Option QueueLine) × (commands : List Command)
     × Says (lines_of text) queue commands × AppendsBeginning old new (printed queue commands)
+
+-- a text says a script, and this is a transcript of it
+pub record Transcribes (text printed : List ℕ) : Type 0 where
+  pub script : Scripted
+  pub says : Says (lines_of text) script.queue script.commands
+  pub transcript : IsTranscript script.queue script.commands printed
+
+-- where the bytes to read are known, a transcript of them was written
+abbrev pub PrintsTranscript : Option (List ℕ) → Option (List ℕ) → Option (List ℕ) → Type 0
+PrintsTranscript None old new = Unit {0}
+PrintsTranscript (Some text) old new = (printed : List ℕ) × Transcribes text printed × Appends old new printed
+
+-- or only a beginning of one
+abbrev pub BeginsTranscript : Option (List ℕ) → Option (List ℕ) → Option (List ℕ) → Type 0
+BeginsTranscript None old new = Unit {0}
+BeginsTranscript (Some text) old new = (printed : List ℕ) × Transcribes text printed × AppendsBeginning old new printed
 
 -- a failed read, want of memory, or a bad line
 abbrev pub IsReadRefusal : Refusal → Type 0

@@ -1,9 +1,10 @@
 -- The lines of a world that follows a script.
-use Rattle.std.specs.Prelude.{ℕ, false, zero, suc, List, [], ◌∷◌, ◌++◌, Option, Some, None, is_some, Result, Ok, Err, length, slice_get, slice_index}
+use Rattle.std.specs.Prelude.{◌≡◌, ℕ, false, zero, suc, List, [], ◌∷◌, ◌++◌, Option, Some, None, is_some, Result, Ok, Err, length, slice_get, slice_index}
 use Rattle.std.specs.List.{flat_map}
 use Rattle.words.specs.declared.call.Client.{Client}
 use Rattle.words.specs.declared.call.Reply.{Reply}
 use Rattle.words.specs.declared.refusal.Refusal.{Refusal}
+use Rattle.words.specs.declared.refusal.Refusal.TheVariants.{NoMemory}
 use Rattle.words.specs.declared.told.Told.{Told}
 use Rattle.persist.specs.declared.access.Change.{Change}
 use Rattle.arena.specs.Layout.{size_of}
@@ -18,7 +19,7 @@ use Rattle.playing.specs.Play.{Play, play_after_step, play_after_recovery_step, 
 use Rattle.playing.specs.Prints.{text_of}
 use Rattle.playing.specs.Steps.{count_after}
 use Rattle.grammar.specs.declared.commands.Command.{Command}
-use Rattle.grammar.specs.declared.commands.Command.TheVariants.{Enq, NumberedEnq, Deq, NumberedDeq, Step, End, Evict, Crash, Recover, RecoverBy, Content, Order}
+use Rattle.grammar.specs.declared.commands.Command.TheVariants.{Enq, NumberedEnq, Deq, NumberedDeq, Step, End, Evict, Crash, Recover, RecoverBy, Content, Order, Again}
 use Rattle.grammar.specs.declared.commands.QueueLine.{QueueLine}
 use Rattle.playing.specs.declared.entries.Ordered.{Ordered}
 use Rattle.playing.specs.declared.lines.Line.{Line}
@@ -105,12 +106,28 @@ command_lines play Recover = recovery_lines (most_recovery play.world) play
 command_lines play (RecoverBy most) = recovery_lines most play
 command_lines play Content = content_line (kept_content play.world) ∷ []
 command_lines play Order = order_lines play.world.log.events (order_in play.world)
+command_lines play Again = []
 
 -- and what some commands give, one after the other
 abbrev pub lines_of_all : Play → List Command → List Line
 lines_of_all play [] = []
 lines_of_all play (command ∷ commands) =
     command_lines play command ++ lines_of_all (after_command play command) commands
+
+-- the line of an act that was refused for want of memory
+abbrev pub refused_memory : Line
+refused_memory = refused_line NoMemory
+
+-- what some commands may give. Where one was refused for want of memory, and `again` comes after it, a line says so,
+-- nothing else changed, and it is made again
+pub data MayGive : Play → List Command → List Line → Type 0 where
+  none : {play : Play} → MayGive play [] []
+  more : {play : Play} {command : Command} {commands : List Command} (rest : List Line)
+      (lines : MayGive (after_command play command) commands rest)
+      → MayGive play (command ∷ commands) (command_lines play command ++ rest)
+  made_again : {play : Play} {command : Command} {commands : List Command} (rest : List Line)
+      (lines : MayGive play (command ∷ commands) rest)
+      → MayGive play (command ∷ Again ∷ commands) (refused_memory ∷ rest)
 
 -- the lines of a queue of this shape: its size, and what the commands give
 abbrev pub queue_lines : Shape → List Command → List Line
@@ -121,6 +138,29 @@ abbrev pub script_lines : Option QueueLine → List Command → List Line
 script_lines None commands = []
 script_lines (Some queue) commands = queue_lines (shape_by queue) commands
 
--- its transcript
+-- its transcript, where no memory is refused
 abbrev pub script_text : Option QueueLine → List Command → List ℕ
 script_text queue commands = text_of (script_lines queue commands)
+
+-- lines that a script may give, and a transcript of it
+pub record MayGiveOn (s : Shape) (commands : List Command) (lines : List Line) : Type 0 where
+  pub given : List Line
+  pub gives : MayGive (new_play s) commands given
+  pub is : lines ≡ size_line (size_of s) ∷ given
+
+abbrev pub AreLinesOf : Option QueueLine → List Command → List Line → Type 0
+AreLinesOf None commands lines = lines ≡ []
+AreLinesOf (Some queue) commands lines = MayGiveOn (shape_by queue) commands lines
+
+pub record IsTranscript (queue : Option QueueLine) (commands : List Command) (text : List ℕ) : Type 0 where
+  pub lines : List Line
+  pub given : AreLinesOf queue commands lines
+  pub is : text ≡ text_of lines
+
+-- the same lines, and among them some that say that memory was refused
+pub data AreButForRefusals : List Line → List Line → Type 0 where
+  no_line : AreButForRefusals [] []
+  one_line : {line : Line} {plain lines : List Line} (rest : AreButForRefusals plain lines)
+      → AreButForRefusals (line ∷ plain) (line ∷ lines)
+  refusal : {plain lines : List Line} (rest : AreButForRefusals plain lines)
+      → AreButForRefusals plain (refused_memory ∷ lines)

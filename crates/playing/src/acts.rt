@@ -104,7 +104,7 @@ fn follow(world: &mut World, acts: &mut Vec<Act>, command: Command) -> Result<()
             some(world, acts, &Act::Recover, most)
         }
         Command::RecoverBy { most } => some(world, acts, &Act::Recover, most),
-        Command::Content | Command::Order => Ok(()),
+        Command::Content | Command::Order | Command::Again => Ok(()),
     }
 }
 

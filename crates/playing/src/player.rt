@@ -1,15 +1,17 @@
 //! A world that follows a script.
 
-ghost use Rattle.std.specs.Prelude.{◌≡◌, ◌<◌, ◌≤◌, ◌++◌, ◌∷◌, [], ℕ, suc, Ok, IfOk, IfErr, OnOk, false, true};
+ghost use Rattle.std.specs.Prelude.{◌≡◌, ◌<◌, ◌≤◌, ◌++◌, ◌∷◌, [], ℕ, suc, Ok, IfOk, IfErr, IsErrOf, OnErr, OnOk, false, true};
+ghost use Rattle.grammar.specs.Grammar.{is_shown};
 ghost use Rattle.interleave.specs.State.{start_result, evict_result, recover_result, steps_to_ready, order_in, kept_content};
 ghost use Rattle.playing.specs.Play.{most_alone, most_recovery, new_play, play_after_start, after_steps, after_eviction, play_after_crash, play_after_recovery_step, after_recovery, after_command};
 ghost use Rattle.playing.specs.Transcript.{start_line, step_lines, evict_line, ready_lines, recovery_lines, order_lines, command_lines};
 
 use crate::entries::named_call;
 use crate::lines::{Line, Values, add, add_refused};
+use crate::put_off::Unfollowed;
 use crate::steps::Steps;
 use arena::Layout;
-use grammar::Command;
+use grammar::{Command, is_shown};
 use interleave::World;
 use std::alloc::Global;
 use std::marker::Model;
@@ -246,8 +248,34 @@ impl Player {
         Ok(())
     }
 
-    /// Follows a command, and adds its lines.
-    pub(crate) fn follow(&mut self, lines: &mut Vec<Line>, command: &Command) -> Result<(), Refusal>
+    /// Shows what a command asks for: all of it or nothing.
+    fn show(&self, lines: &mut Vec<Line>, command: &Command) -> Result<(), Refusal>
+        requires { is_shown command.now ≡ true }
+        ensures lines { OnOk result (lines.new.items ≡ lines.old.items ++ command_lines self.now command.now) }
+        ensures same { OnErr result (lines.new.items ≡ lines.old.items) }
+    {
+        let mut shown = Vec::new(*lines.allocator());
+        match command {
+            Command::Content => self.show_content(&mut shown)?,
+            Command::Order => self.show_order(&mut shown)?,
+            _ => unreachable!(),
+        }
+        lines.append(&mut shown).map_err(|_| Refusal::NoMemory)
+    }
+
+    /// Makes room for an act in the history, and for its lines.
+    fn make_room(&mut self, lines: &mut Vec<Line>) -> Result<(), Refusal>
+        ensures play { self.new ≡ self.old }
+        ensures lines { lines.new.items ≡ lines.old.items }
+    {
+        self.world.reserve(1)?;
+        // At the end of recovery each client has a line.
+        let most = self.world.layout().clients() as usize + 1;
+        lines.reserve(most).map_err(|_| Refusal::NoMemory)
+    }
+
+    /// Makes what a command asks for, and adds its lines.
+    fn make(&mut self, lines: &mut Vec<Line>, command: &Command) -> Result<(), Refusal>
         ensures play { OnOk result (self.new ≡ after_command self.old command.now) }
         ensures lines { OnOk result (lines.new.items ≡ lines.old.items ++ command_lines self.old command.now) }
         ensures errors { IfErr result (λ e. e ≡ Refusal.NoMemory) }
@@ -273,6 +301,30 @@ impl Player {
             Command::RecoverBy { most } => self.recover_by(lines, *most),
             Command::Content => self.show_content(lines),
             Command::Order => self.show_order(lines),
+            Command::Again => Ok(()),
+        }
+    }
+
+    /// Follows a command, and adds its lines. For want of memory it adds none. Then nothing was made of it (PutOff), or
+    /// it is half followed (Halfway).
+    pub(crate) fn follow(
+        &mut self,
+        lines: &mut Vec<Line>,
+        command: &Command,
+    ) -> Result<(), Unfollowed>
+        ensures play { OnOk result (self.new ≡ after_command self.old command.now) }
+        ensures lines { OnOk result (lines.new.items ≡ lines.old.items ++ command_lines self.old command.now) }
+        ensures same_play { IsErrOf result Unfollowed.PutOff → self.new ≡ self.old }
+        ensures same_lines { IsErrOf result Unfollowed.PutOff → lines.new.items ≡ lines.old.items }
+    {
+        // With this room an act is refused no memory, nor its lines once it was made.
+        if self.make_room(lines).is_err() {
+            return Err(Unfollowed::PutOff);
+        }
+        if is_shown(command) {
+            self.show(lines, command).map_err(|_| Unfollowed::PutOff)
+        } else {
+            self.make(lines, command).map_err(|_| Unfollowed::Halfway)
         }
     }
 }

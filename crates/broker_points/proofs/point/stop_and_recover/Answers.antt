@@ -12,11 +12,11 @@ returns-clause-leads c =
 
 pub returns-clause-ready : goal.returns-clause-ready
 returns-clause-ready c =
-    let recovery : Recovers c.follow.new.self c.in_ok-_told._told.items c.follow-2.new.self = c.in_ok-_told.ensures.follows in
+    let recovery : Recovers c.follow_line.new.player c.in_ok-_told._told.items c.follow_line-2.new.player = c.in_ok-_told.ensures.follows in
     recovered_ready recovery
 
 pub returns-clause-goes_on : goal.returns-clause-goes_on
 returns-clause-goes_on c =
-    let crash : Crashes c.args.player.now c.in_ok-_stopped._stopped.items c.follow.new.self = c.in_ok-_stopped.ensures.follows in
-    let recovery : Recovers c.follow.new.self c.in_ok-_told._told.items c.follow-2.new.self = c.in_ok-_told.ensures.follows in
-    broker_goes_further c.args.player.now.broker c.follow.new.self.broker c.follow-2.new.self.broker crash.goes_on (recovered_on recovery)
+    let crash : Crashes c.args.player.now c.in_ok-_stopped._stopped.items c.follow_line.new.player = c.in_ok-_stopped.ensures.follows in
+    let recovery : Recovers c.follow_line.new.player c.in_ok-_told._told.items c.follow_line-2.new.player = c.in_ok-_told.ensures.follows in
+    broker_goes_further c.args.player.now.broker c.follow_line.new.player.broker c.follow_line-2.new.player.broker crash.goes_on (recovered_on recovery)

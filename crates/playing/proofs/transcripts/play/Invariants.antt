@@ -1,9 +1,13 @@
-use Rattle.std.proofs.Common.{◌≡◌, ◌++◌, drop}
-use Rattle.playing.specs.Transcript.{lines_of_all, queue_lines}
+use Rattle.std.proofs.Common.{◌≡◌, ◌≤◌, ◌<◌, true, length}
+use Rattle.playing.proofs.Again.{pending}
+use Rattle.playing.proofs.MayGive.{MayLead}
 use Rattle.playing.proofs.transcripts.play.Given as goal
 
 -- the lines so far, and what the commands that are left give, are all that there are
-abbrev pub invariant-loop-command : goal.invariant-loop-command
-invariant-loop-command l =
-    l.lines.items ++ lines_of_all l.player (drop l.command-index l.commands)
-    ≡ queue_lines l.fn.layout l.commands
+abbrev pub invariant-loop-at : goal.invariant-loop-at
+invariant-loop-at l =
+    record {
+      leads : MayLead l.fn.layout l.commands l.player (pending l.put_off l.made l.at l.commands) l.lines.items;
+      before : l.made ≤ l.at;
+      again : l.put_off ≡ true → l.at < length l.commands;
+    }

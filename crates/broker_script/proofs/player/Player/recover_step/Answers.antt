@@ -5,6 +5,7 @@ use Rattle.named.specs.GoingOn.{BrokerGoesOn}
 use Rattle.named.specs.Stopping.{IsRecoveryStep}
 use Rattle.broker_script.specs.Play.{Played}
 use Rattle.broker_script.proofs.Staying.{refused_ready}
+use Rattle.broker_script.proofs.PutOffs.{recovery_put_off}
 use Rattle.broker_script.proofs.player.Player.recover_step.Goals as goal
 
 pub returns-in-Err-clause-step : goal.returns-in-Err-clause-step
@@ -19,3 +20,9 @@ returns-in-Err-clause-step c other =
       goes_on = subst (λ (b : Brokered). BrokerGoesOn b c.recover_step.new.self) same c.in-Err.ensures.downtime.goes_on;
       counted = ap (λ (p : Played). record p { broker = c.recover_step.new.self }) c.self.view_is;
     }
+
+pub returns-in-Err-clause-put_off : goal.returns-in-Err-clause-put_off
+returns-in-Err-clause-put_off c memory =
+    recovery_put_off c.args.self.now
+    (record { broker = c.self.inside.broker; steps = c.self.inside.steps; creation = c.self.inside.creation; recovery = c.self.inside.recovery; image = c.self.inside.image.items })
+    c.self.view_is c.recover_step.new.self c.in-Err.refusal (cc) c.in-Err.ensures.step

@@ -4,6 +4,7 @@ use Rattle.std.specs.Prelude.{Err}
 use Rattle.named.specs.Brokers.{Brokered}
 use Rattle.named.specs.Renewing.{IsWhyNotRenewedAt}
 use Rattle.broker_script.specs.Play.{Played}
+use Rattle.broker_script.proofs.PutOffs.{unchanged}
 use Rattle.broker_script.proofs.player.Player.renew_in.Goals as goal
 
 pub returns-in-Err-clause-renews : goal.returns-in-Err-clause-renews
@@ -24,3 +25,10 @@ returns-in-Err-clause-renews c =
           ap (λ (p : Played). record p { broker = c.renew.new.self }) c.self.view_is
           ∙ ap (λ (b : Brokered). record c.args.self.now { broker = b }) (c.in-Err.ensures.same ∙ same);
     }) c.refused.ensures.line
+
+pub returns-in-Err-clause-put_off : goal.returns-in-Err-clause-put_off
+returns-in-Err-clause-put_off c =
+    let same = ap (λ (p : Played). p.broker) c.self.view_is in
+    unchanged c.refused.result c.args.self.now _
+    (ap (λ (p : Played). record p { broker = c.renew.new.self }) c.self.view_is
+    ∙ ap (λ (b : Brokered). record c.args.self.now { broker = b }) (c.in-Err.ensures.same ∙ same))

@@ -1,6 +1,7 @@
 use Rattle.std.proofs.Common.{ap}
 use Rattle.std.specs.Prelude.{Err}
 use Rattle.broker_script.proofs.Acted.{start_refused, started}
+use Rattle.broker_script.proofs.PutOffs.{start_put_off}
 use Rattle.broker_script.proofs.player.Player.start.Goals as goal
 
 pub returns-in-Err-clause-answer : goal.returns-in-Err-clause-answer
@@ -18,3 +19,10 @@ returns-in-Err-clause-play c memory =
     start_refused c.args.self.now
     (record { broker = c.start.new.self; steps = c.self.inside.steps; creation = c.self.inside.creation; recovery = c.self.inside.recovery; image = c.self.inside.image.items })
     c.args.slot.0 c.args.client c.args.number c.args.call c.in-Err.refusal alone (ap (λ p. p.steps) c.self.view_is)
+
+pub returns-in-Err-clause-put_off : goal.returns-in-Err-clause-put_off
+returns-in-Err-clause-put_off c memory =
+    start_put_off c.args.self.now
+    (record { broker = c.self.inside.broker; steps = c.self.inside.steps; creation = c.self.inside.creation; recovery = c.self.inside.recovery; image = c.self.inside.image.items })
+    c.self.view_is c.start.new.self c.args.slot.0 c.args.client c.args.number c.args.call c.in-Err.refusal (cc)
+    c.in-Err.ensures.act c.in-Err.ensures.beside

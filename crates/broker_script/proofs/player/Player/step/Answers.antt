@@ -1,6 +1,7 @@
 use Rattle.std.proofs.Common.{ap, sym}
 use Rattle.std.specs.Prelude.{Err}
 use Rattle.broker_script.proofs.Acted.{step_refused, stepped}
+use Rattle.broker_script.proofs.PutOffs.{step_put_off}
 use Rattle.broker_script.proofs.player.Player.step.Goals as goal
 
 pub returns-in-Err-clause-refused : goal.returns-in-Err-clause-refused
@@ -18,3 +19,10 @@ returns-in-Err-clause-same c other =
     step_refused c.args.self.now
     (record { broker = c.step.new.self; steps = c.self.inside.steps; creation = c.self.inside.creation; recovery = c.self.inside.recovery; image = c.self.inside.image.items })
     c.args.slot.0 c.args.client c.in-Err.refusal alone (ap (λ p. p.steps) c.self.view_is)
+
+pub returns-in-Err-clause-put_off : goal.returns-in-Err-clause-put_off
+returns-in-Err-clause-put_off c memory =
+    step_put_off c.args.self.now
+    (record { broker = c.self.inside.broker; steps = c.self.inside.steps; creation = c.self.inside.creation; recovery = c.self.inside.recovery; image = c.self.inside.image.items })
+    c.self.view_is c.step.new.self c.args.slot.0 c.args.client c.in-Err.refusal (cc)
+    c.in-Err.ensures.act c.in-Err.ensures.beside

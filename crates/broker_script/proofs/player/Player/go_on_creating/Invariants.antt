@@ -1,6 +1,6 @@
 use Rattle.std.proofs.Common.{◌-◌}
 use Rattle.broker_script.proofs.Going.{Leads}
-use Rattle.broker_script.proofs.player.Player.create.Given as goal
+use Rattle.broker_script.proofs.player.Player.go_on_creating.Given as goal
 
 -- what is left of the steps comes to what all of them do
 abbrev pub invariant-loop : goal.invariant-loop

@@ -1,0 +1,201 @@
+-- What is refused for want of memory changes nothing but room, and how many accesses the memory had.
+use Rattle.std.proofs.Common.{◌≡◌, ◌≢◌, refl, sym, ap, ◌∙◌, subst, inl, inr, ℕ, ◌≤◌, arith, Bool, true, false, ◌==◌, if◌then◌else◌}
+use borrow.Author.Tests.{ltb-false}
+use Rattle.std.proofs.lemmas.Bool.Decides.{eqb_tells}
+use Rattle.std.specs.Prelude.{Option, Some, None, Result, Ok, Err, IfErr, IsErrOf, OnErr, is_ok, nat_lt}
+use Rattle.words.specs.declared.call.Call.{Call}
+use Rattle.words.specs.declared.call.Client.{Client}
+use Rattle.words.specs.declared.call.Reply.{Reply}
+use Rattle.words.specs.declared.refusal.Refusal.{Refusal}
+use Rattle.words.specs.declared.refusal.Refusal.TheVariants.{NoMemory}
+use Rattle.protocol.specs.declared.UnderWay.{UnderWay}
+use Rattle.recover.specs.declared.recovery.Recovery.{Recovery}
+use Rattle.interleave.specs.Calls.{waiting_result}
+use Rattle.interleave.specs.Rules.{starting, stepping}
+use Rattle.interleave.specs.State.{State, after_bump_load, after_call_began, after_recover, after_start, after_step, number_to_start, recover_result, recover_with, start_with, step_with, used_by, is_down}
+use Rattle.named.specs.Acting.{IsActAt, IsSameBeside}
+use Rattle.named.specs.Brokers.{Brokered, admission, quiet, world_at}
+use Rattle.named.specs.Slots.{acted, answered}
+use Rattle.named.specs.Stopping.{IsQueueOn, IsQueueRecovered, IsRecoveryStep, IsSameButRoom}
+use Rattle.named.specs.declared.recovery.BrokerRecovery.{BrokerRecovery}
+use Rattle.named.specs.declared.recovery.BrokerRecovery.TheVariants.{ReadDirectory, RecoverQueue}
+use Rattle.broker_script.specs.Play.{Played}
+use Rattle.broker_script.specs.PutOff.{IsAsBefore, IsPutOff, PutsOff}
+use Rattle.playing.specs.declared.put_off.Unfollowed.{Unfollowed}
+use Rattle.playing.specs.declared.put_off.Unfollowed.TheVariants.{PutOff, Halfway}
+
+pub as_before : (b : Brokered) → IsAsBefore b b
+as_before b = record { counts = refl; worlds = λ slot. refl; directory = refl; creation = refl; recovery = refl }
+
+-- a line of which nothing was made
+pub nothing_made : (p : Played) → IsPutOff p p
+nothing_made p = record { broker = as_before p.broker; others = refl }
+
+-- but for the room nothing changed
+pub roomier : (old new : Brokered) → IsSameButRoom old new → IsAsBefore old new
+roomier old new by = record {
+  counts = ap (λ (b : Brokered). b.counts) by.same;
+  worlds = λ slot. ap quiet (by.worlds slot);
+  directory = ap (λ (b : Brokered). b.directory) by.same;
+  creation = ap (λ (b : Brokered). b.creation) by.same;
+  recovery = ap (λ (b : Brokered). b.recovery) by.same;
+}
+
+-- an act on one slot that leaves its world as it was
+pub beside_one : (slot : ℕ) (old new : Brokered) → IsSameBeside slot old new
+    → quiet (world_at new slot) ≡ quiet (world_at old slot) → IsAsBefore old new
+beside_one slot old new beside here = record {
+  counts = beside.counts;
+  worlds = λ other. elim (eqb_tells other slot) [
+    | inl same ↦ ap (λ (n : ℕ). quiet (world_at new n)) same.1 ∙ here ∙ ap (λ (n : ℕ). quiet (world_at old n)) (sym same.1)
+    | inr apart ↦ beside.others other apart.1
+  ];
+  directory = beside.directory;
+  creation = beside.creation;
+  recovery = beside.recovery;
+}
+
+-- a start that is refused memory had its one access
+bumped : (w : State) (client : Client) (number : ℕ) (call : Call) (used : Bool)
+    → quiet (Some (if used then after_bump_load w else (if true then after_bump_load w else after_call_began w client number call))) ≡ quiet (Some w)
+bumped w client number call true = refl
+bumped w client number call false = refl
+
+start_quiet : (w : State) (client : Client) (call : Call) (number : Result ℕ Refusal)
+    → quiet (Some (start_with true w client call number)) ≡ quiet (Some w)
+start_quiet w client call (Err refusal) = refl
+start_quiet w client call (Ok number) = bumped w client number call (used_by w client == w.shape.records)
+
+step_same : (w : State) (client : Client) (u : Result UnderWay Refusal) → step_with true w client u ≡ w
+step_same w client (Err refusal) = refl
+step_same w client (Ok u) = refl
+
+recover_same : (w : State) (r : Option Recovery) → recover_with true w r ≡ w
+recover_same w None = refl
+recover_same w (Some r) = refl
+
+-- so it is of what acts on an open slot, if it is admitted
+quiet_acted : (f : State → State) → ((w : State) → quiet (Some (f w)) ≡ quiet (Some w)) → (o : Option State)
+    → quiet (acted f o) ≡ quiet o
+quiet_acted f same (Some w) = same w
+quiet_acted f same None = refl
+
+quiet_after : (f : State → State) → ((w : State) → quiet (Some (f w)) ≡ quiet (Some w)) → (admitted : Bool)
+    (o : Option State) → quiet (if admitted then acted f o else o) ≡ quiet o
+quiet_after f same true o = quiet_acted f same o
+quiet_after f same false o = refl
+
+start_refused : (old new : Brokered) (slot : ℕ) (client : Client) (number : ℕ) (call : Call)
+    → IsActAt (starting client number call) slot client old (Err NoMemory) new → IsSameBeside slot old new
+    → IsAsBefore old new
+start_refused old new slot client number call act beside =
+    let f : State → State = λ w. after_start true w client number call in
+    beside_one slot old new beside (ap quiet act.world
+    ∙ quiet_after f (λ w. start_quiet w client call (number_to_start w client number)) (is_ok (admission old client)) (world_at old slot))
+
+step_refused : (old new : Brokered) (slot : ℕ) (client : Client)
+    → IsActAt (stepping client) slot client old (Err NoMemory) new → IsSameBeside slot old new → IsAsBefore old new
+step_refused old new slot client act beside =
+    let f : State → State = λ w. after_step true w client in
+    let same : (w : State) → quiet (Some (f w)) ≡ quiet (Some w) =
+    λ w. ap (λ (v : State). quiet (Some v)) (step_same w client _) in
+    beside_one slot old new beside (ap quiet act.world
+    ∙ quiet_after f same (is_ok (admission old client)) (world_at old slot))
+
+-- and of a step of recovery
+under_way : (old new : Brokered) (slot : ℕ) (answer : Result Bool Refusal) → IsQueueOn old new slot (Err NoMemory) answer
+    → (new.recovery ≡ old.recovery) × (new.creation ≡ old.creation)
+under_way old new slot (Err refusal) on = (on.1, on.2)
+under_way old new slot (Ok true) on = let e = on.0 in absurd (cc)
+under_way old new slot (Ok false) on = let e = on.0 in absurd (cc)
+
+queue_refused : (old new : Brokered) (slot : ℕ) → IsQueueRecovered old new slot (Err NoMemory) → IsAsBefore old new
+queue_refused old new slot by =
+    let f : State → State = after_recover true in
+    let same : (w : State) → quiet (Some (f w)) ≡ quiet (Some w) =
+    λ w. ap (λ (v : State). quiet (Some v)) (recover_same w w.recovery) in
+    let here : quiet (world_at new slot) ≡ quiet (world_at old slot) = ap quiet by.world ∙ quiet_acted f same (world_at old slot) in
+    let on = under_way old new slot (answered (recover_result true) (world_at old slot)) by.next in
+    record {
+      counts = by.counts;
+      worlds = λ other. elim (eqb_tells other slot) [
+        | inl same_slot ↦ ap (λ (n : ℕ). quiet (world_at new n)) same_slot.1 ∙ here ∙ ap (λ (n : ℕ). quiet (world_at old n)) (sym same_slot.1)
+        | inr apart ↦ by.others other apart.1
+      ];
+      directory = by.directory;
+      creation = on.1;
+      recovery = on.0;
+    }
+
+recovery_refused_at : (old new : Brokered) (recovery : Option BrokerRecovery)
+    → IsRecoveryStep old new (Err NoMemory) recovery → IsAsBefore old new
+recovery_refused_at old new None step = let e = step.0 in absurd (cc)
+recovery_refused_at old new (Some (ReadDirectory at)) step = let e = step.answer in absurd (cc)
+recovery_refused_at old new (Some (RecoverQueue slot)) step = queue_refused old new slot.0 step
+
+recovery_refused : (old new : Brokered) → IsRecoveryStep old new (Err NoMemory) old.recovery → IsAsBefore old new
+recovery_refused old new step = recovery_refused_at old new old.recovery step
+
+-- a player whose broker was refused memory
+module _ (p inside : Played) (is : inside ≡ p) (b : Brokered) where
+  put_off : IsAsBefore inside.broker b → IsPutOff p (record inside { broker = b })
+  put_off by = record {
+    broker = subst (λ (x : Played). IsAsBefore x.broker b) is by;
+    others = ap (λ (x : Played). record x { broker = b }) is;
+  }
+
+-- by which refusal it was
+pub start_put_off : (p inside : Played) → inside ≡ p → (b : Brokered) (slot : ℕ) (client : Client) (number : ℕ) (call : Call)
+    (refusal : Refusal) → refusal ≡ NoMemory
+    → IsActAt (starting client number call) slot client inside.broker (Err refusal) b → IsSameBeside slot inside.broker b
+    → IsPutOff p (record inside { broker = b })
+start_put_off p inside is b slot client number call refusal memory act beside =
+    put_off p inside is b (start_refused inside.broker b slot client number call
+    (subst (λ (e : Refusal). IsActAt (starting client number call) slot client inside.broker (Err e) b) memory act) beside)
+
+pub step_put_off : (p inside : Played) → inside ≡ p → (b : Brokered) (slot : ℕ) (client : Client) (refusal : Refusal)
+    → refusal ≡ NoMemory → IsActAt (stepping client) slot client inside.broker (Err refusal) b
+    → IsSameBeside slot inside.broker b → IsPutOff p (record inside { broker = b })
+step_put_off p inside is b slot client refusal memory act beside =
+    put_off p inside is b (step_refused inside.broker b slot client
+    (subst (λ (e : Refusal). IsActAt (stepping client) slot client inside.broker (Err e) b) memory act) beside)
+
+pub recovery_put_off : (p inside : Played) → inside ≡ p → (b : Brokered) (refusal : Refusal) → refusal ≡ NoMemory
+    → IsRecoveryStep inside.broker b (Err refusal) inside.broker.recovery → IsPutOff p (record inside { broker = b })
+recovery_put_off p inside is b refusal memory step =
+    put_off p inside is b (recovery_refused inside.broker b
+    (subst (λ (e : Refusal). IsRecoveryStep inside.broker b (Err e) inside.broker.recovery) memory step))
+
+pub crash_put_off : (p inside : Played) → inside ≡ p → (b : Brokered) → IsSameButRoom inside.broker b
+    → IsPutOff p (record inside { broker = b })
+crash_put_off p inside is b by = put_off p inside is b (roomier inside.broker b by)
+
+pub same_put_off : (p inside : Played) → inside ≡ p → (b : Brokered) → b ≡ inside.broker
+    → IsPutOff p (record inside { broker = b })
+same_put_off p inside is b same =
+    put_off p inside is b (subst (IsAsBefore inside.broker) (sym same) (as_before inside.broker))
+
+-- what is left of a line that gave nothing, where nothing changed
+pub unchanged : {A : Type 0} (r : Result A Unfollowed) (old new : Played) → new ≡ old → PutsOff old r new
+unchanged (Ok a) old new same = tt
+unchanged (Err PutOff) old new same = subst (λ (p : Played). IsPutOff old p) (sym same) (nothing_made old)
+unchanged (Err Halfway) old new same = tt
+
+-- where it says that it was half followed
+pub half : {A : Type 0} (r : Result A Unfollowed) (old new : Played) → IfErr r (λ e. e ≡ Halfway) → PutsOff old r new
+half (Ok a) old new is = tt
+half (Err PutOff) old new is = absurd (cc (is))
+half (Err Halfway) old new is = tt
+
+-- before the first act none was made
+pub none_made : (made : ℕ) → nat_lt 0 made ≡ false → made ≡ 0
+none_made made e = let least : made ≤ 0 = ltb-false 0 made e in omega (arith, least)
+
+-- and where an act of it was refused: for want of memory at the first one
+pub refused_first : {A : Type 0} (r : Result A Unfollowed) (old mid new : Played) (refusal : Refusal) (begun : Bool)
+    → OnErr r (refusal ≡ NoMemory) → (IsErrOf r PutOff → begun ≡ false) → (begun ≡ false → mid ≡ old)
+    → (refusal ≡ NoMemory → IsPutOff mid new) → PutsOff old r new
+refused_first (Ok a) old mid new refusal begun memory first same off = tt
+refused_first (Err PutOff) old mid new refusal begun memory first same off =
+    subst (λ (p : Played). IsPutOff p new) (same (first refl)) (off memory)
+refused_first (Err Halfway) old mid new refusal begun memory first same off = tt

@@ -1,0 +1,32 @@
+-- A line that was refused for want of memory before anything was made of it.
+use Rattle.std.specs.Prelude.{◌≡◌, ℕ, Result, Ok, Err}
+use Rattle.named.specs.Brokers.{Brokered, quiet, world_at}
+use Rattle.playing.specs.Transcript.{refused_memory}
+use Rattle.broker_script.specs.Play.{Played}
+use Rattle.broker_script.specs.declared.printed.Printed.{Printed}
+use Rattle.broker_script.specs.declared.printed.Printed.TheVariants.{Whole}
+use Rattle.playing.specs.declared.put_off.Unfollowed.{Unfollowed}
+use Rattle.playing.specs.declared.put_off.Unfollowed.TheVariants.{PutOff, Halfway}
+
+-- each queue's world, the directory, and what is under way are as before. How many accesses the memory had may differ,
+-- and so may the room in histories
+pub record IsAsBefore (old new : Brokered) : Type 0 where
+  pub counts : new.counts ≡ old.counts
+  pub worlds : (slot : ℕ) → quiet (world_at new slot) ≡ quiet (world_at old slot)
+  pub directory : new.directory ≡ old.directory
+  pub creation : new.creation ≡ old.creation
+  pub recovery : new.recovery ≡ old.recovery
+
+pub record IsPutOff (old new : Played) : Type 0 where
+  pub broker : IsAsBefore old.broker new.broker
+  pub others : new ≡ record old { broker = new.broker }
+
+-- the line that says so
+abbrev pub no_memory : Printed
+no_memory = Whole refused_memory
+
+-- what a line leaves that gave nothing
+abbrev pub PutsOff : {A : Type 0} → Played → Result A Unfollowed → Played → Type 0
+PutsOff old (Ok lines) new = Unit {0}
+PutsOff old (Err PutOff) new = IsPutOff old new
+PutsOff old (Err Halfway) new = Unit {0}
