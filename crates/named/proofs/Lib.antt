@@ -24,6 +24,7 @@ pub mod Promises
 pub mod Readings
 pub mod Queues
 pub mod Lastings
+pub mod Mosts
 pub mod Migrated
 pub mod Renewed
 pub mod RenewedAt

@@ -4,11 +4,13 @@ ghost use Rattle.std.specs.Prelude.{◌≡◌, ◌≤◌, ◌<◌, ℕ, Err, IfE
 ghost use Rattle.named.specs.Promises.{KeepsPromises};
 ghost use Rattle.named.specs.Renewing.{AllFit, AreCountsFor, HasRoomInEach, IsRenewed, IsRenewedAt, IsWhyNotRenewedAt, IsWhyUnrenewed, MayRenew};
 ghost use Rattle.named.specs.Stopping.{IsSameButRoom};
+ghost use Rattle.notes.specs.Noting.{HasNoted};
 
 use crate::broker::Broker;
 use crate::slots::{have_calls, reserve_each};
 use arena::{BrokerLayout, SlotId};
 use directory::sound as sound_directory;
+use notes::Notes;
 use persist::Memory;
 use renewal::{renewed_broker, renewed_queue};
 use words::Refusal;
@@ -79,6 +81,27 @@ impl Broker {
         reserve_each(&mut self.slots, acts)
     }
 
+    /// What [`Broker::renew`] puts in this one's place: the broker that begins in fresh records, with room in each
+    /// history for what recovery adds to it. It is refused as that is.
+    fn prepared(&self, slot: SlotId) -> Result<Broker, Refusal>
+        ensures may { OnOk result (MayRenew self.now slot.0) }
+        ensures renewed { IfOk result (λ new. IsRenewedAt self.now new slot.0) }
+        ensures room { IfOk result (λ new. HasRoomInEach new 1) }
+        ensures errors { IfErr result (IsWhyNotRenewedAt self.now slot.0) }
+        ensures promises { IfOk result KeepsPromises }
+        ensures stays { KeepsPromises self.now }
+    {
+        let _ = &self.layout;
+        self.check_ready()?;
+        self.kind(slot)?;
+        if self.creation.is_some() || have_calls(&self.slots) {
+            return Err(Refusal::Busy);
+        }
+        let mut renewed = self.with_renewed(slot)?;
+        renewed.make_room(1)?;
+        Ok(renewed)
+    }
+
     /// The whole system stops at rest, and the queue of a slot has fresh records when recovery begins: as many as it
     /// has now, and hardly any used. All queues stay. The histories of all of them end, as by [`Broker::rotate`], and
     /// others begin on what they hold and tell; the broker is down, as after [`Broker::crash`], with room in each
@@ -93,13 +116,36 @@ impl Broker {
         ensures same { OnErr result (self.new ≡ self.old) }
         ensures promises { KeepsPromises self.new }
     {
-        self.check_ready()?;
-        self.kind(slot)?;
-        if self.creation.is_some() || have_calls(&self.slots) {
-            return Err(Refusal::Busy);
+        *self = self.prepared(slot)?;
+        Ok(())
+    }
+
+    /// As [`Broker::renew`], with the changes of kept words that it made, behind those that were noted before. Room is
+    /// promised for so many more. It is refused for want of memory for these, too (NoMemory).
+    pub fn renew_noted(
+        &mut self,
+        slot: SlotId,
+        notes: &mut Notes,
+        more: usize,
+    ) -> Result<(), Refusal>
+        ensures may { OnOk result (MayRenew self.old slot.0) }
+        ensures renewed { OnOk result (IsRenewedAt self.old self.new slot.0) }
+        ensures room { OnOk result (HasRoomInEach self.new 1) }
+        ensures noted { OnOk result
+            (HasNoted notes.old.changes notes.new.changes self.old.words.kept self.new.words.kept) }
+        ensures promised { OnOk result (notes.new.promised ≡ more) }
+        ensures errors { IfErr result (IsWhyNotRenewedAt self.old slot.0) }
+        ensures same { OnErr result (self.new ≡ self.old) }
+        ensures unnoted { OnErr result (notes.new ≡ notes.old) }
+        ensures promises { KeepsPromises self.new }
+    {
+        let renewed = self.prepared(slot)?;
+        if notes
+            .note_differences(&self.memory, &renewed.memory, more)
+            .is_err()
+        {
+            return Err(Refusal::NoMemory);
         }
-        let mut renewed = self.with_renewed(slot)?;
-        renewed.make_room(1)?;
         *self = renewed;
         Ok(())
     }

@@ -6,7 +6,7 @@ ghost use Rattle.interleave.specs.Calls.{is_no_memory};
 ghost use Rattle.interleave.specs.State.{crash_result};
 ghost use Rattle.directory.specs.Queue.{IsOpenSlot, slot_in};
 ghost use Rattle.directory.specs.Directory.{Directory as AnyDirectory, HasQueue};
-ghost use Rattle.named.specs.Brokers.{IsWell, room_at};
+ghost use Rattle.named.specs.Brokers.{Brokered, IsWell, room_at};
 ghost use Rattle.named.specs.Stopping.{HasFullQueue, IsDirectoryRead, IsFound, IsNext, IsQueueRecovered, IsReadOn};
 ghost use Rattle.named.specs.Stopping.{IsReadingDirectory, IsRecoveryStep, IsSameButRoom, IsStopped, MayReadOn, creation_after};
 ghost use Rattle.named.specs.GoingOn.{BrokerGoesOn, IsDowntime};
@@ -22,7 +22,7 @@ use arena::{SLOTS, SlotId};
 use directory::{Creation, Directory, DirectoryRecovery, MAX_DIRECTORY_STEPS, Places};
 use persist::Noted;
 use stepper::After;
-use words::Refusal;
+use words::{Kind, Refusal, STEPS_BESIDES, STEPS_PER_CLIENT, STEPS_PER_RECORD};
 
 /// What recovery is about to do once the queues of the slots below this one are ready: the next queue, if there is one.
 fn recovery_from(directory: &Directory, from: usize) -> Option<BrokerRecovery>
@@ -175,6 +175,18 @@ impl Broker {
             answer: self.recovery.is_none(),
             change,
         })
+    }
+
+    /// More than the steps that any recovery of a broker with as many clients and records has left.
+    pub fn more_than_recovery_steps(&self) -> usize
+        ensures { (b : Brokered) → IsWell b → b.counts ≡ self.now.counts → steps_left b < result }
+    {
+        let clients = self.layout.clients() as usize;
+        let records = self.layout.queue(Kind::Log).records() as usize;
+        let each = STEPS_PER_RECORD as usize * (clients * records)
+            + STEPS_PER_CLIENT as usize * clients
+            + STEPS_BESIDES as usize;
+        MAX_DIRECTORY_STEPS + SLOTS * each + 1
     }
 
     /// One step of recovery: exactly one access. The directory is read first, in 8 to 32 steps; then the open queues

@@ -9,11 +9,13 @@ ghost use Rattle.named.specs.GoingOn.{BrokerGoesOn};
 ghost use Rattle.named.specs.Renewing.{HasRoomInEach, IsRenewedAt, IsWhyNotRenewedAt, MayRenew};
 ghost use Rattle.named.specs.Rotating.{rotate_result, IsRotated};
 ghost use Rattle.named.specs.Slots.{IsWhyUnread};
+ghost use Rattle.notes.specs.Noting.{HasNoted};
 ghost use Rattle.session.specs.Keeping.{SessionGoesOn};
 ghost use Rattle.session.specs.Promises.{KeepsNumbers};
 
 use crate::session::Session;
 use arena::SlotId;
+use notes::Notes;
 use persist::Noted;
 use words::{Kind, Refusal};
 
@@ -120,5 +122,28 @@ impl Session {
         ensures promises { KeepsNumbers self.new }
     {
         self.broker.renew(queue)
+    }
+
+    /// As [`Session::renew`], with the changes of kept words that it made, as [`named::Broker::renew_noted`] notes them.
+    pub fn renew_noted(
+        &mut self,
+        queue: SlotId,
+        notes: &mut Notes,
+        more: usize,
+    ) -> Result<(), Refusal>
+        ensures may { OnOk result (MayRenew self.old.broker queue.0) }
+        ensures renewed { OnOk result (IsRenewedAt self.old.broker self.new.broker queue.0) }
+        ensures room { OnOk result (HasRoomInEach self.new.broker 1) }
+        ensures noted { OnOk result (HasNoted notes.old.changes notes.new.changes self.old.broker.words.kept
+            self.new.broker.words.kept) }
+        ensures promised { OnOk result (notes.new.promised ≡ more) }
+        ensures errors { IfErr result (IsWhyNotRenewedAt self.old.broker queue.0) }
+        ensures same { OnErr result (self.new ≡ self.old) }
+        ensures unnoted { OnErr result (notes.new ≡ notes.old) }
+        ensures kept { self.new.kept ≡ self.old.kept }
+        ensures goes_on { SessionGoesOn self.old self.new }
+        ensures promises { KeepsNumbers self.new }
+    {
+        self.broker.renew_noted(queue, notes, more)
     }
 }
