@@ -3,3 +3,4 @@ pub mod Sessions
 pub mod Requests
 pub mod Keeping
 pub mod Promises
+pub mod Telling

@@ -4,6 +4,7 @@ ghost use Rattle.std.specs.Prelude.{◌≡◌};
 ghost use Rattle.session.specs.Keeping.{AreKeptAsHeard};
 ghost use Rattle.session.specs.Promises.{KeepsNumbers};
 ghost use Rattle.session.specs.Sessions.{kept_at, IsUncalled};
+ghost use Rattle.session.specs.Telling.{IsSettledTold};
 
 use crate::kept::Kept;
 use arena::SlotId;
@@ -50,6 +51,13 @@ impl Session {
         ensures promises { KeepsNumbers self.now }
     {
         &self.broker
+    }
+
+    /// What is settled its kept words tell, at every moment: it is a law of any session ([`crate::settled_is_told`]).
+    pub fn tells_settled(&self)
+        ensures { IsSettledTold self.now }
+    {
+        let _ = &self.broker;
     }
 
     /// The last number of a client in a log queue, and what became of it; nothing, where none is known. While the

@@ -251,12 +251,12 @@ under_way_is b known = go b.recovery b.creation refl refl (sym (creating_by b b.
     go None (Some creation) up some is = (up, subst (λ (o : Option Creation). IsSome o) (sym some) refl)
     go (Some recovery) creation up some is = absurd (cc (is))
 
-none_is_more : (slot : SlotId) → (let r : Result (Option SlotId) Refusal = Ok None in r) ≡ Ok (Some slot) → ⊥
+pub none_is_more : (slot : SlotId) → (let r : Result (Option SlotId) Refusal = Ok None in r) ≡ Ok (Some slot) → ⊥
 none_is_more slot e = absurd (cc (e))
 
 -- a step that is not the last one leaves it under way, and the last one opens its slot
 module _ (old new : Brokered) (known : IsCreationKnown old UnderWay) where
-  abbrev Steps : Result (Option SlotId) Refusal → Type 0
+  abbrev pub Steps : Result (Option SlotId) Refusal → Type 0
   Steps result =
       old.recovery ≡ None
       → IfSome old.creation (λ creation. IsStepCreated old new creation result (successor creation))

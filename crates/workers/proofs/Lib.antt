@@ -1,6 +1,7 @@
 pub mod SeenStill
 pub mod Answering
 pub mod Beginning
+pub mod Booking
 pub mod Carried
 pub mod Comings
 pub mod Counting
@@ -13,6 +14,7 @@ pub mod Idling
 pub mod QueueKinds
 pub mod Readying
 pub mod Lists
+pub mod Momentary
 pub mod Names
 pub mod Seating
 pub mod SlotsOn

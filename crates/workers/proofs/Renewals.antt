@@ -1,6 +1,6 @@
 -- What a renewal makes of the histories, and why it is refused.
-use Rattle.std.proofs.Common.{◌≡◌, ◌∙◌, ◌<◌, ℕ, Bool, true, false, List, [], Option, Some, None, Result, Ok, Err, refl, sym, ap, subst}
-use Rattle.std.specs.Prelude.{◌||◌, ◌&&◌, IfErr, IsSome, is_some, not, if◌then◌else◌}
+use Rattle.std.proofs.Common.{◌≡◌, ◌∙◌, ◌<◌, ℕ, Bool, true, false, [], Option, Some, None, Result, Ok, Err, refl, sym, ap, subst}
+use Rattle.std.specs.Prelude.{◌||◌, ◌&&◌, IfErr, is_some, not, if◌then◌else◌}
 use Rattle.std.specs.List.{list_any}
 use Rattle.words.specs.declared.refusal.Refusal.{Refusal}
 use Rattle.words.specs.declared.refusal.Refusal.TheVariants.{Busy, NoMemory, NoQueue, NoRoom, NotReady}
@@ -12,7 +12,6 @@ use Rattle.directory.specs.Directory.{HasQueue}
 use Rattle.directory.specs.Queue.{slot_in}
 use Rattle.directory.specs.declared.creation.Creation.{Creation}
 use Rattle.directory.specs.declared.queue.Queue.{Queue}
-use Rattle.events.specs.declared.event.Event.{Event}
 use Rattle.interleave.specs.State.{State}
 use Rattle.named.specs.Booting.{IsBooted, world_booted}
 use Rattle.named.specs.Brokers.{Brokered, IsWell, is_creating, is_down, world_at}

@@ -1,7 +1,7 @@
 -- Recovery is not refused memory where each queue that is to recover has room for the event of its end.
-use Rattle.std.proofs.Common.{◌≡◌, ◌≢◌, ◌∙◌, ◌≤◌, ◌+◌, ℕ, inl, inr, Bool, true, false, List, Option, Some, None, Result, Ok, Err, refl, sym, ap, subst, arith}
+use Rattle.std.proofs.Common.{◌≡◌, ◌∙◌, ◌≤◌, ℕ, inl, inr, Bool, true, false, List, Option, Some, None, Result, Ok, Err, refl, sym, ap, subst, arith}
 use Rattle.std.proofs.lemmas.Bool.{cases_eq}
-use Rattle.std.specs.Prelude.{IfErr, IsSome, is_some}
+use Rattle.std.specs.Prelude.{IfErr, IsSome}
 use Rattle.words.specs.declared.refusal.Refusal.{Refusal}
 use Rattle.words.specs.declared.refusal.Refusal.TheVariants.{AlreadyReady}
 use Rattle.words.specs.declared.told.Told.{Told}
@@ -10,7 +10,6 @@ use Rattle.stepper.specs.declared.resume.After.{After}
 use Rattle.stepper.specs.declared.resume.After.TheVariants.{Done, More}
 use Rattle.recover.specs.declared.recovery.Recovery.{Recovery}
 use Rattle.directory.specs.Directory.{Directory}
-use Rattle.directory.specs.declared.creation.Creation.{Creation}
 use Rattle.directory.specs.declared.recovery.DirectoryRecovery.{DirectoryRecovery}
 use Rattle.protocol.specs.Machine.{next_recovery, recovery_left}
 use Rattle.interleave.specs.Calls.{is_no_memory}

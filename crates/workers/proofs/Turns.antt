@@ -34,7 +34,7 @@ other_client : (u : ℕ) (client : Client) → u ≢ client.0 → (let other : C
 other_client u client apart same = apart (ap (λ (c : Client). c.0) same)
 
 -- a start leaves the creation and the recovery
-begun_beside : (old new : Sessioned) (slot : ℕ) (client : Client) (number : ℕ) (call : Call)
+pub begun_beside : (old new : Sessioned) (slot : ℕ) (client : Client) (number : ℕ) (call : Call)
     (result answer : Result (Option Reply) Refusal) → IsBegunBy old new slot client number call result answer
     → (new.broker.recovery ≡ old.broker.recovery) × (new.broker.creation ≡ old.broker.creation)
 begun_beside old new slot client number call result (Err refusal) begun =

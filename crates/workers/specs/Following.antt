@@ -1,5 +1,5 @@
 -- How the rows that a keeper knows follow the session beside it under the lock.
-use Rattle.std.specs.Prelude.{◌≡◌, ◌≤◌, ℕ, Bool, true, false, length, List, Some, slice_get}
+use Rattle.std.specs.Prelude.{◌≡◌, ◌≤◌, ℕ, Bool, true, false, length, List, Option, Some, slice_get}
 use Rattle.words.specs.declared.call.Client.{Client}
 use Rattle.named.specs.Brokers.{is_down}
 use Rattle.session.specs.Keeping.{SessionGoesOn}
@@ -45,6 +45,25 @@ pub record Guarded : Type 0 where
   pub deeds : List (List Deed)
   pub creating : Creating
   pub rotated : Bool
+
+-- what a contract sees of what lies under the lock: this, and, where changes of kept words are noted, for how many more
+-- there is room
+pub record Held : Type 0 where
+  pub session : Sessioned
+  pub rows : List (List Entry)
+  pub deeds : List (List Deed)
+  pub creating : Creating
+  pub rotated : Bool
+  pub promised : Option ℕ
+
+abbrev pub guarded_in : Held → Guarded
+guarded_in h = record {
+  session = h.session;
+  rows = h.rows;
+  deeds = h.deeds;
+  creating = h.creating;
+  rotated = h.rotated;
+}
 
 -- the session may be shared as it is: it has so many clients, nobody uses it, and it keeps its promises
 pub record IsBeginning (all : ℕ) (first : Sessioned) : Type 0 where

@@ -1,6 +1,8 @@
 pub mod Lists
 pub mod Accounts
 pub mod Coming
+pub mod Noting
+pub mod Moments
 pub mod Following
 pub mod Answers
 pub mod Made

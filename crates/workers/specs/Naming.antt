@@ -1,20 +1,22 @@
 -- What names a shared session, and the name of nothing: no roll, and a session that has no queue.
-use Rattle.std.specs.Prelude.{[], None}
+use Rattle.std.specs.Prelude.{[], None, Option}
 use Rattle.roll.specs.Seated.{TableId}
 use Rattle.named.specs.Memory.{words_at_rest}
 use Rattle.named.specs.Brokers.{Brokered}
 use Rattle.session.specs.Sessions.{Sessioned}
 
--- the rolls of a shared session: that of the seats' lists, and that of what was done to all of it
+-- the rolls of a shared session: that of the seats' lists, that of what was done to all of it, and, where changes of
+-- kept words are noted, that of the changes that were handed on
 pub record Rolls : Type 0 where
   pub lists : TableId
   pub deeds : TableId
+  pub changes : Option TableId
 
 abbrev pub no_table : TableId
 no_table = record { words = 0; slots = 0; views_name = 0; atom = 0; block = 0; offset = 0; slot_names = [] }
 
 abbrev pub no_roll : Rolls
-no_roll = record { lists = no_table; deeds = no_table }
+no_roll = record { lists = no_table; deeds = no_table; changes = None }
 
 abbrev pub no_broker : Brokered
 no_broker = record {

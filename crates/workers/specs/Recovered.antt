@@ -1,7 +1,9 @@
 -- What the caller of a recovery is told.
-use Rattle.std.specs.Prelude.{◌≡◌, ◌⊎◌, Bool, true, false, Option, Some, None, Result, Ok, Err}
+use Rattle.std.specs.Prelude.{◌≡◌, ◌⊎◌, ℕ, Bool, true, false, Option, Some, None, Result, Ok, Err}
 use Rattle.words.specs.declared.refusal.Refusal.{Refusal}
 use Rattle.words.specs.declared.refusal.Refusal.TheVariants.{AlreadyReady, NoMemory}
+use Rattle.named.specs.Brokers.{Brokered}
+use Rattle.named.specs.Stopping.{IsRecoveryStep}
 
 -- why a step of it is refused: none is under way, or there is no memory
 abbrev pub IsRecoveryRefusal : Refusal → Type 0
@@ -26,3 +28,9 @@ told_of_recovery begun (Ok false) = None
 told_of_recovery begun (Ok true) = Some (Ok tt)
 told_of_recovery true (Err AlreadyReady) = Some (Ok tt)
 told_of_recovery begun (Err refusal) = Some (Err refusal)
+
+-- what a step of it made: where changes are noted, nothing, if there is no memory for its change
+abbrev pub IsStepIfRoom : Option ℕ → Brokered → Brokered → Result Bool Refusal → Type 0
+IsStepIfRoom None old new result = IsRecoveryStep old new result old.recovery
+IsStepIfRoom (Some promised) old new result =
+    ((result ≡ Err NoMemory) × (new ≡ old)) ⊎ IsRecoveryStep old new result old.recovery

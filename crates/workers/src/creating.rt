@@ -1,6 +1,6 @@
 //! Crashes, recoveries, and creations, under the lock.
 
-ghost use Rattle.std.specs.Prelude.{◌≡◌, ◌≢◌, ◌<◌, ◌++◌, ◌∷◌, [], Err, IfErr, IfOk, IfSome, IsErr, IsSome, IsTrue, None, OnErr, OnOk, true};
+ghost use Rattle.std.specs.Prelude.{◌≡◌, ◌≢◌, ◌<◌, ◌+◌, ◌++◌, ◌∷◌, [], Err, IfErr, IfOk, IfSome, IsErr, IsSome, IsTrue, None, OnErr, OnOk, true};
 ghost use Rattle.directory.specs.Directory.{HasName, HasQueue};
 ghost use Rattle.directory.specs.Name.{IsName};
 ghost use Rattle.named.specs.Brokers.{world_at, MayCreate};
@@ -10,19 +10,21 @@ ghost use Rattle.named.specs.Stopping.{IsRecoveryStep, IsStopped};
 ghost use Rattle.workers.specs.Creating.{creating_after_crash};
 ghost use Rattle.workers.specs.Deeds.{IsReadyReceipted, IsReceipted};
 ghost use Rattle.workers.specs.Made.{IsMade};
+ghost use Rattle.workers.specs.Noting.{to_create, with_promised, HasPromised};
 ghost use Rattle.workers.specs.Refusals.{is_creation_refusal};
 ghost use Rattle.workers.specs.Renewing.{HasRoomToRecover};
-ghost use Rattle.workers.specs.Recovered.{is_ready_after, IsRecoveryRefusal};
+ghost use Rattle.workers.specs.Recovered.{is_ready_after, IsRecoveryRefusal, IsStepIfRoom};
 ghost use Rattle.workers.specs.declared.deeds.Deed.{Deed as AnyDeed};
 ghost use Rattle.workers.specs.declared.locked.Creating.{Creating as AnyCreating};
 
+use crate::book::{noted, promise, release, release_all};
 use crate::deeds::{Deed, Receipt};
 use crate::locked::{Creating, Locked};
 use crate::naming::Naming;
 use crate::operator::Operator;
 use crate::shared::Created;
 use arena::SlotId;
-use directory::Queue;
+use directory::{CREATION_STEPS, Queue};
 use events::copied;
 use roll::Roll;
 use session::Session;
@@ -60,8 +62,20 @@ fn has(session: &Session, slot: SlotId, queue: &Queue) -> bool
     }
 }
 
+/// Why a creation may not begin yet: another one has not ended, or the broker recovers.
+fn why_busy(session: &Session) -> Refusal
+    ensures errors { IsTrue (is_creation_refusal result) }
+    ensures named { result ≢ Refusal.BadName }
+{
+    match session.broker().list() {
+        Ok(_) => Refusal::Busy,
+        Err(refusal) => refusal,
+    }
+}
+
 impl<J: Naming> Locked<J> {
-    /// Begins to create a queue. One that a crash ended is not over until its caller has seen that.
+    /// Begins to create a queue. One that a crash ended is not over until its caller has seen that. Where changes are
+    /// noted, room for all of the creation's is promised now; while memory for that is refused, it is Busy.
     pub(crate) fn create(&mut self, queue: &Queue) -> Result<(), Refusal>
         ensures may { OnOk result (MayCreate self.old.session.broker queue.now.name) }
         ensures good_name { IsName queue.now.name → result ≢ Err Refusal.BadName }
@@ -70,10 +84,15 @@ impl<J: Naming> Locked<J> {
         ensures same { OnErr result (self.new ≡ self.old) }
     {
         if matches!(self.creating, Creating::Interrupted) {
-            let _ready = self.session.broker().list()?;
-            return Err(Refusal::Busy);
+            return Err(why_busy(&self.session));
         }
-        self.session.create(queue.name.as_bytes(), queue.kind)?;
+        if !promise(&mut self.book, CREATION_STEPS) {
+            return Err(why_busy(&self.session));
+        }
+        if let Err(refusal) = self.session.create(queue.name.as_bytes(), queue.kind) {
+            release(&mut self.book, CREATION_STEPS);
+            return Err(refusal);
+        }
         self.creating = Creating::UnderWay;
         Ok(())
     }
@@ -110,7 +129,8 @@ impl<J: Naming> Locked<J> {
         ensures made { IfSome result (λ done. IsMade J.first.broker.directory self.new.session.broker done.0) }
         ensures receipt { IfSome result (λ done. IsReceipted (λ receipt. receipt.deed) queue.now done.0 done.1) }
     {
-        match self.session.create_step() {
+        let act = self.session.create_step_noted();
+        match noted(&mut self.book, act) {
             Ok(None) => None,
             Ok(Some(slot)) => {
                 self.creating = Creating::Nothing;
@@ -142,15 +162,19 @@ impl<J: Naming> Locked<J> {
             return (operator, Err(refusal));
         }
         self.creating = self.creating.stopped();
+        release_all(&mut self.book);
         (self.register.enter_stop(deeds, operator), Ok(()))
     }
 
-    /// One step of recovery: whether the broker is ready by it. Where it is ready, a receipt of that.
-    pub(crate) fn recover_step(
+    /// One step of recovery, for whose change room was promised: whether the broker is ready by it. Where it is ready, a
+    /// receipt of that.
+    pub(crate) fn recover_promised(
         &mut self,
         deeds: &Roll<Deed>,
     ) -> (Result<bool, Refusal>, Option<Receipt<J>>)
-        requires { deeds.now ≡ J.roll.deeds }
+        requires deeds { deeds.now ≡ J.roll.deeds }
+        requires promised { HasPromised
+            (to_create self.old.creating self.old.session.broker.creation + 1) self.old.promised }
         ensures step { IsRecoveryStep self.old.session.broker self.new.session.broker result.0
             self.old.session.broker.recovery }
         ensures errors { IfErr result.0 IsRecoveryRefusal }
@@ -162,12 +186,30 @@ impl<J: Naming> Locked<J> {
             → IfErr result.0 (λ refusal. refusal ≡ Refusal.AlreadyReady) }
         ensures falls { IfOk result.0
             (λ ready. steps_left self.new.session.broker < steps_left self.old.session.broker) }
+        ensures less { self.old.promised ≡ with_promised 1 self.new.promised }
     {
-        let step = self.session.recover_step();
+        let act = self.session.recover_step_noted();
+        let step = noted(&mut self.book, act);
         if !is_ready_after(&step) {
             return (step, None);
         }
         let receipt = self.register.enter(deeds, Deed::Readiness);
         (step, Some(receipt))
+    }
+
+    /// One step of recovery. Where changes are noted, it is refused for want of memory for its change, too (NoMemory).
+    pub(crate) fn recover_step(
+        &mut self,
+        deeds: &Roll<Deed>,
+    ) -> (Result<bool, Refusal>, Option<Receipt<J>>)
+        requires { deeds.now ≡ J.roll.deeds }
+        ensures step { IsStepIfRoom self.old.promised self.old.session.broker self.new.session.broker result.0 }
+        ensures errors { IfErr result.0 IsRecoveryRefusal }
+        ensures receipt { IsReadyReceipted (λ receipt. receipt.deed) (is_ready_after result.0) result.1 }
+    {
+        if !promise(&mut self.book, 1) {
+            return (Err(Refusal::NoMemory), None);
+        }
+        self.recover_promised(deeds)
     }
 }

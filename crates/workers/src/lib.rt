@@ -2,11 +2,13 @@
 //! the steps of a call, so that a client that stands still holds nobody up.
 #![tactic(auto)]
 
+mod book;
 mod closing;
 mod creating;
 mod deeds;
 mod entry;
 mod gate;
+mod handed;
 mod laws;
 mod locked;
 mod looks;
@@ -20,10 +22,11 @@ mod shared;
 pub use deeds::{Deed, Receipt};
 pub use entry::{Answer, End, Entry, Request};
 pub use gate::{Gate, OpenGate};
+pub use handed::Handed;
 pub use laws::{calls_are_counted, interrupted_calls_are_told};
 pub use looks::Usage;
 pub use naming::Naming;
-pub use opening::{NotOpened, Opened, is_in_use};
+pub use opening::{NotOpened, Noting, Opened, is_in_use};
 pub use operator::Operator;
 pub use seat::Seat;
 pub use shared::{Created, Shared};

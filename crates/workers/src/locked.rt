@@ -5,11 +5,13 @@ ghost use Rattle.directory.specs.Directory.{IsNamed};
 ghost use Rattle.roll.specs.Rule.{IsKeeper, rows_of};
 ghost use Rattle.session.specs.Requests.{answer_to, number_or_zero, IsBegunBy};
 ghost use Rattle.workers.specs.Answers.{IsListAfter, IsListBegun};
-ghost use Rattle.workers.specs.Following.{IsBeginning, IsGuardedWell};
+ghost use Rattle.workers.specs.Following.{guarded_in, IsBeginning, IsGuardedWell};
 ghost use Rattle.workers.specs.Lists.{ends_open, events_at};
+ghost use Rattle.workers.specs.Noting.{IsBooked};
 ghost use Rattle.workers.specs.Refusals.{IsSettledStart, IsWhyRefused, WasSettled};
 ghost use Rattle.workers.specs.Seats.{AreEmpty};
 
+use crate::book::{Book, noted, promise};
 use crate::deeds::Register;
 use crate::entry::{End, Entry, Request, Took, last_queue};
 use crate::naming::Naming;
@@ -41,14 +43,17 @@ pub(crate) struct Locked<J: Naming> {
     pub(crate) creating: Creating,
     /// Whether the histories have ended since the seats were given.
     pub(crate) rotated: bool,
+    /// The changes of kept words, where they are noted.
+    pub(crate) book: Option<Book>,
     of: PhantomData<J>,
 }
 
 impl<J: Naming> Model for Locked<J> {
     ghost use Rattle.roll.specs.Rule.{IsKeeper, rows_of};
-    ghost use Rattle.workers.specs.Following.{Guarded, IsGuardedWell};
+    ghost use Rattle.workers.specs.Following.{Held, IsGuardedWell};
+    ghost use Rattle.workers.specs.Noting.{IsBooked, promised_in};
 
-    ghost Value = { Guarded };
+    ghost Value = { Held };
 
     ghost view = { λ l. record {
       session = l.session;
@@ -56,6 +61,7 @@ impl<J: Naming> Model for Locked<J> {
       deeds = rows_of l.register.keeper;
       creating = l.creating;
       rotated = l.rotated;
+      promised = promised_in l.book;
     } };
 
     ghost invariant = { λ l. IsKeeper J.roll.lists (rows_of l.keeper) l.keeper
@@ -66,7 +72,8 @@ impl<J: Naming> Model for Locked<J> {
           creating = l.creating;
           rotated = l.rotated;
         })
-        × IsKeeper J.roll.deeds (rows_of l.register.keeper) l.register.keeper };
+        × IsKeeper J.roll.deeds (rows_of l.register.keeper) l.register.keeper
+        × IsBooked J.roll.changes J.first.broker.words.kept l.session.broker l.creating l.book };
 }
 
 /// How many events the history of a slot has; 0 where the slot is closed.
@@ -89,13 +96,19 @@ fn is_want_of_memory(refusal: Refusal) -> bool
 
 impl<J: Naming> Locked<J> {
     /// What is to lie under the lock, where no seat has been used yet.
-    pub(crate) fn new(session: Session, keeper: Token<Entry>, register: Register) -> Self
+    pub(crate) fn new(
+        session: Session,
+        keeper: Token<Entry>,
+        register: Register,
+        book: Option<Book>,
+    ) -> Self
         requires keeper { IsKeeper J.roll.lists (rows_of keeper) keeper }
         requires register { IsKeeper J.roll.deeds ([] ∷ []) register.keeper }
         requires clients { length (rows_of keeper) ≡ J.clients }
         requires first { session ≡ J.first }
         requires beginning { IsBeginning J.clients session }
         requires empty { AreEmpty (λ row. row) (rows_of keeper) }
+        requires book { IsBooked J.roll.changes J.first.broker.words.kept session.broker Creating.Nothing book }
     {
         Locked {
             session,
@@ -103,6 +116,7 @@ impl<J: Naming> Locked<J> {
             register,
             creating: Creating::Nothing,
             rotated: false,
+            book,
             of: PhantomData,
         }
     }
@@ -112,7 +126,7 @@ impl<J: Naming> Locked<J> {
         ensures session { result.0 ≡ self.session }
         ensures keeper { IsKeeper J.roll.lists self.rows result.1 }
         ensures register { IsKeeper J.roll.deeds self.deeds result.2.keeper }
-        ensures well { IsGuardedWell J.clients J.first self }
+        ensures well { IsGuardedWell J.clients J.first (guarded_in self) }
     {
         (self.session, self.keeper, self.register)
     }
@@ -182,8 +196,12 @@ impl<J: Naming> Locked<J> {
         ensures client { result.0.client ≡ seat.client }
         ensures step { IsListAfter seat.list.items result.1 result.0.list.items }
     {
+        if !promise(&mut self.book, 1) {
+            return (seat, Took::NoMemory);
+        }
         let queue = last_queue(seat.list.as_slice());
-        match self.session.advance(seat.client, queue) {
+        let act = self.session.advance_noted(seat.client, queue);
+        match noted(&mut self.book, act) {
             Ok(None) => (seat, Took::More),
             Ok(Some(reply)) => {
                 let answer = reply;

@@ -2,17 +2,22 @@
 
 ghost use Rattle.std.specs.Prelude.{◌≡◌, ◌⊎◌, [], false, true, IfErr, IfOk, OnOk};
 ghost use Rattle.roll.specs.Rule.{IsKeeper};
+ghost use Rattle.workers.specs.Noting.{IsBooked};
 ghost use Rattle.workers.specs.Opening.{IsInUse, IsNameOf, IsNotInUse, HasNoCall};
 ghost use Rattle.workers.specs.Seats.{AreAllInOrder, AreEmpty};
 
+use crate::book::Book;
 use crate::deeds::{Deed, Register};
 use crate::entry::Entry;
-use crate::locked::Locked;
+use crate::handed::Handed;
+use crate::locked::{Creating, Locked};
 use crate::naming::Naming;
 use crate::operator::Operator;
 use crate::seat::{Seat, seat_of};
 use crate::shared::Shared;
 use arena::{SLOTS, SlotId};
+use notes::Notes;
+use persist::Change;
 use roll::{Roll, Token};
 use session::Session;
 use std::alloc::{AllocError, Global};
@@ -31,14 +36,16 @@ pub struct Opened {
 }
 
 impl Model for Opened {
-    ghost use Rattle.std.specs.Prelude.{[]};
-    ghost use Rattle.roll.specs.Rule.{IsKeeper};
+    ghost use Rattle.std.specs.Prelude.{[], None};
     ghost use Rattle.roll.specs.Rule.{IsKeeper};
     ghost use Rattle.workers.specs.Opening.{IsNotInUse, Unnamed};
 
     ghost Value = { Unnamed };
 
-    ghost view = { λ o. record { roll = record { lists = o.roll; deeds = o.deeds }; session = o.session } };
+    ghost view = { λ o. record {
+      roll = record { lists = o.roll; deeds = o.deeds; changes = None };
+      session = o.session;
+    } };
 
     ghost invariant = { λ o. IsKeeper o.roll [] o.keeper × IsNotInUse o.session.broker
         × IsKeeper o.deeds [] o.register.keeper };
@@ -121,6 +128,24 @@ impl Opened {
         }
     }
 
+    /// It, where changes of kept words are to be noted. It is refused for want of memory (NoMemory).
+    pub fn noting(self, alloc: Global) -> Result<Noting, NotOpened>
+        ensures session { IfOk result (λ noting. noting.session ≡ self.session) }
+        ensures errors { IfErr result (λ not. (not.refusal ≡ Refusal.NoMemory) × (not.session ≡ self.session)) }
+    {
+        match Roll::open(alloc) {
+            Ok((changes, keeper)) => Ok(Noting {
+                opened: self,
+                changes,
+                keeper,
+            }),
+            Err(_) => Err(NotOpened {
+                refusal: Refusal::NoMemory,
+                session: self.session,
+            }),
+        }
+    }
+
     /// The shared session under its name, a seat for each client, in client order, which remembers no call yet, and the
     /// operator, who has stopped nothing yet. It is refused for want of memory (NoMemory). The name is one that the
     /// caller's caller picked for this value.
@@ -129,6 +154,25 @@ impl Opened {
         alloc: Global,
     ) -> Result<(Shared<J>, Vec<Seat<J>>, Operator<J>), NotOpened>
         requires name { IsNameOf J.roll J.clients J.first self }
+        ensures order { IfOk result (λ r. AreAllInOrder (λ seat. seat.client) J.clients r.1.items) }
+        ensures empty { IfOk result (λ r. AreEmpty (λ seat. seat.list.items) r.1.items) }
+        ensures operator { IfOk result (λ r. r.2 ≡ []) }
+        ensures errors { IfErr result (λ not. (not.refusal ≡ Refusal.NoMemory) × (not.session ≡ self.session)) }
+    {
+        self.shared(alloc, None)
+    }
+
+    /// It, with this book.
+    fn shared<J: Naming>(
+        self,
+        alloc: Global,
+        book: Option<Book>,
+    ) -> Result<(Shared<J>, Vec<Seat<J>>, Operator<J>), NotOpened>
+        requires lists { self.roll.lists ≡ J.roll.lists }
+        requires deeds { self.roll.deeds ≡ J.roll.deeds }
+        requires clients { self.session.broker.counts.clients ≡ J.clients }
+        requires first { self.session ≡ J.first }
+        requires book { IsBooked J.roll.changes J.first.broker.words.kept self.session.broker Creating.Nothing book }
         ensures order { IfOk result (λ r. AreAllInOrder (λ seat. seat.client) J.clients r.1.items) }
         ensures empty { IfOk result (λ r. AreEmpty (λ seat. seat.list.items) r.1.items) }
         ensures operator { IfOk result (λ r. r.2 ≡ []) }
@@ -155,12 +199,66 @@ impl Opened {
             seats.push_reserved(seat_of(Client(client as u8), list, token));
         }
         let operator = register.appoint(&deeds);
-        let locked = Mutex::new(Locked::new(session, keeper, register));
+        let locked = Mutex::new(Locked::new(session, keeper, register, book));
         let shared = Shared {
             roll,
             deeds,
             locked,
         };
         Ok((shared, seats, operator))
+    }
+}
+
+/// A session that is about to be shared, and whose changes of kept words are to be noted. It has no name yet.
+#[derive(Drop)]
+pub struct Noting {
+    opened: Opened,
+    changes: Roll<Change>,
+    keeper: Token<Change>,
+}
+
+impl Model for Noting {
+    ghost use Rattle.std.specs.Prelude.{[], Some};
+    ghost use Rattle.roll.specs.Rule.{IsKeeper};
+    ghost use Rattle.workers.specs.Opening.{Unnamed};
+
+    ghost Value = { Unnamed };
+
+    ghost view = { λ o. record {
+      roll = record { lists = o.opened.roll.lists; deeds = o.opened.roll.deeds; changes = Some o.changes };
+      session = o.opened.session;
+    } };
+
+    ghost invariant = { λ o. IsKeeper o.changes [] o.keeper };
+}
+
+impl Noting {
+    /// As [`Opened::named`], with the one who hands the changes on, and who has handed on none yet.
+    pub fn named<J: Naming>(
+        self,
+        alloc: Global,
+    ) -> Result<(Shared<J>, Vec<Seat<J>>, Operator<J>, Handed<J>), NotOpened>
+        requires name { IsNameOf J.roll J.clients J.first self }
+        ensures order { IfOk result (λ r. AreAllInOrder (λ seat. seat.client) J.clients r.1.items) }
+        ensures empty { IfOk result (λ r. AreEmpty (λ seat. seat.list.items) r.1.items) }
+        ensures operator { IfOk result (λ r. r.2 ≡ []) }
+        ensures handed { IfOk result (λ r. r.3 ≡ []) }
+        ensures errors { IfErr result (λ not. (not.refusal ≡ Refusal.NoMemory) × (not.session ≡ self.session)) }
+    {
+        let Noting {
+            opened,
+            changes,
+            mut keeper,
+        } = self;
+        let handed = Handed::new(changes.enroll(&mut keeper, &Vec::new(alloc)));
+        let book = Book {
+            roll: changes,
+            keeper,
+            notes: Notes::new(alloc),
+        };
+        match opened.shared(alloc, Some(book)) {
+            Ok((shared, seats, operator)) => Ok((shared, seats, operator, handed)),
+            Err(not) => Err(not),
+        }
     }
 }

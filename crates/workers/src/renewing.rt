@@ -1,13 +1,16 @@
 //! How a queue begins in fresh records, while nobody calls.
 
-ghost use Rattle.std.specs.Prelude.{◌≡◌, IfErr, IfOk, None, OnErr, OnOk};
+ghost use Rattle.std.specs.Prelude.{◌≡◌, ◌+◌, IfErr, IfOk, None, OnErr, OnOk};
 ghost use Rattle.named.specs.GoingOn.{BrokerGoesOn};
+ghost use Rattle.named.specs.Lasting.{steps_left};
 ghost use Rattle.named.specs.Renewing.{IsRenewedAt};
+ghost use Rattle.workers.specs.Noting.{HasPromised};
 ghost use Rattle.workers.specs.Refusals.{IsWhyNotRenewed};
 ghost use Rattle.workers.specs.Renewing.{HasRoomToRecover, IsRenewedOn};
 ghost use Rattle.workers.specs.Seats.{AreAllInOrder, AreEmpty};
 ghost use Rattle.workers.specs.declared.deeds.Deed.{Deed as AnyDeed};
 
+use crate::book::{release_all, renew};
 use crate::closing::all_emptied;
 use crate::deeds::{Deed, Receipt};
 use crate::entry::Entry;
@@ -41,9 +44,10 @@ impl<J: Naming> Locked<J> {
         ensures deed { IfOk result.1 (λ receipt. receipt.deed ≡ AnyDeed.Renewal slot) }
         ensures renewed { OnOk result.1 (IsRenewedAt self.old.session.broker self.new.session.broker slot.0) }
         ensures room { OnOk result.1 (HasRoomToRecover self.new.session.broker) }
+        ensures promised { OnOk result.1 (HasPromised (steps_left self.new.session.broker + 1) self.new.promised) }
         ensures unchanged { OnErr result.1 (self.new ≡ self.old) }
     {
-        if let Err(refusal) = self.session.renew(slot) {
+        if let Err(refusal) = renew(&mut self.session, &mut self.book, slot) {
             return (seats, Err(refusal));
         }
         self.rotated = true;
@@ -51,16 +55,18 @@ impl<J: Naming> Locked<J> {
         (seats, Ok(self.register.enter(deeds, Deed::Renewal(slot))))
     }
 
-    /// Recovers the broker until it is ready.
+    /// Recovers the broker until it is ready. Room for the changes of all steps was promised, where changes are noted.
     fn recover_all(&mut self, deeds: &Roll<Deed>)
         requires deeds { deeds.now ≡ J.roll.deeds }
         requires room { HasRoomToRecover self.old.session.broker }
+        requires promised { HasPromised (steps_left self.old.session.broker + 1) self.old.promised }
         ensures ready { self.new.session.broker.recovery ≡ None }
         ensures goes_on { BrokerGoesOn self.old.session.broker self.new.session.broker }
+        ensures creation { self.new.session.broker.creation ≡ None }
     {
         let mut ready = false;
         while !ready {
-            let (step, _receipt) = self.recover_step(deeds);
+            let (step, _receipt) = self.recover_promised(deeds);
             match step {
                 Ok(now) => ready = now,
                 // There is room, so no step is refused but one of a broker that is ready.
@@ -93,6 +99,7 @@ impl<J: Naming> Locked<J> {
         match begun {
             Ok(receipt) => {
                 self.recover_all(deeds);
+                release_all(&mut self.book);
                 (seats, Ok(receipt))
             }
             Err(refusal) => (seats, Err(refusal)),

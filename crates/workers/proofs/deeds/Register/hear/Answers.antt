@@ -1,5 +1,5 @@
-use Rattle.std.proofs.Common.{◌≡◌, ◌∙◌, ◌++◌, [], List, ap, sym, append-nil}
-use Rattle.std.specs.Prelude.{slice_get, slice_set, Some}
+use Rattle.std.proofs.Common.{◌≡◌, ◌∙◌, ◌++◌, [], List, ap, append-nil}
+use Rattle.std.specs.Prelude.{slice_set}
 use Rattle.roll.specs.Rule.{keeper, place_of, row_of, rows_of}
 use Rattle.workers.specs.declared.deeds.Deed.{Deed}
 use Rattle.workers.proofs.Honouring.{set_same}

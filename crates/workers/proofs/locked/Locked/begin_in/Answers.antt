@@ -1,16 +1,17 @@
 use Rattle.std.proofs.Common.{sym, ap, subst, ◌∙◌, [], Err, Ok}
 use Rattle.directory.specs.Directory.{IsNamed}
-use Rattle.workers.specs.Following.{Guarded}
+use Rattle.workers.specs.Following.{Held}
 use Rattle.roll.specs.Rule.{keeper, rows_of}
 use Rattle.session.specs.Requests.{answer_to, number_or_zero}
 use Rattle.workers.proofs.Guarded.{with_rows}
 use Rattle.workers.proofs.Refusing.{settled_start, why_refused}
-use Rattle.workers.proofs.Turns.{guarded_begun, guarded_unbegun}
+use Rattle.workers.proofs.Booking.{booked_same, created_same}
+use Rattle.workers.proofs.Turns.{begun_beside, guarded_begun, guarded_unbegun}
 use Rattle.workers.proofs.locked.Locked.begin_in.Goals as goal
 
 pub invariant_of-self : goal.invariant_of-self
 invariant_of-self g c =
-    let named = subst (λ (v : Guarded). IsNamed v.session.broker.directory c.args.queue.0 c.args.request.now.name) (sym c.self.view_is) c.requires.named in
+    let named = subst (λ (v : Held). IsNamed v.session.broker.directory c.args.queue.0 c.args.request.now.name) (sym c.self.view_is) c.requires.named in
     let e = c.in-Ok.ensures in
     let w = c.with_entry.ensures in
     let list = c.args.seat.list.items in (
@@ -21,6 +22,13 @@ invariant_of-self g c =
           c.args.seat.client list w.before c.args.queue c.args.request.now named c.events_in-next.result c.requires.idle
           c.events_in-next.ensures c.in-Ok.began e.begun e.reply)),
       c.self.invariant.2,
+      booked_same g.J.Naming.roll.changes g.J.Naming.first.broker.words.kept c.self.inside.session.broker
+          c.begin.new.self.broker c.self.inside.creating c.self.inside.creating c.self.inside.book c.self.invariant.3
+          e.unchanged
+          (created_same c.self.inside.creating c.self.inside.session.broker.creation c.begin.new.self.broker.creation
+          (begun_beside c.self.inside.session c.begin.new.self c.args.queue.0 c.args.seat.client
+          (number_or_zero c.args.request.now.number) c.args.request.now.call (Ok c.in-Ok.began)
+          (answer_to c.self.inside.session c.args.queue.0 c.args.seat.client c.args.request.now.number) e.begun).1),
     )
 
 pub invariant_of-self-in-Err : goal.invariant_of-self-in-Err
@@ -34,11 +42,18 @@ invariant_of-self-in-Err g c =
           (record { numbers = e.goes_on; queues = e.queues }) c.args.queue.0 c.args.seat.client (number_or_zero r.number) r.call
           c.in-Err.refusal (answer_to c.self.inside.session c.args.queue.0 c.args.seat.client r.number) e.begun),
       c.self.invariant.2,
+      booked_same g.J.Naming.roll.changes g.J.Naming.first.broker.words.kept c.self.inside.session.broker
+          c.begin.new.self.broker c.self.inside.creating c.self.inside.creating c.self.inside.book c.self.invariant.3
+          e.unchanged
+          (created_same c.self.inside.creating c.self.inside.session.broker.creation c.begin.new.self.broker.creation
+          (begun_beside c.self.inside.session c.begin.new.self c.args.queue.0 c.args.seat.client
+          (number_or_zero r.number) r.call (Err c.in-Err.refusal)
+          (answer_to c.self.inside.session c.args.queue.0 c.args.seat.client r.number) e.begun).1),
     )
 
 pub returns-in-Err-clause-errors : goal.returns-in-Err-clause-errors
 returns-in-Err-clause-errors g c =
-    let named = subst (λ (v : Guarded). IsNamed v.session.broker.directory c.args.queue.0 c.args.request.now.name) (sym c.self.view_is) c.requires.named in
+    let named = subst (λ (v : Held). IsNamed v.session.broker.directory c.args.queue.0 c.args.request.now.name) (sym c.self.view_is) c.requires.named in
     let r = c.args.request.now in
     let e = c.in-Err.ensures in
     why_refused g.J.Naming.clients g.J.Naming.first _ c.self.invariant.1 c.args.seat.client c.args.seat.list.items
@@ -46,14 +61,14 @@ returns-in-Err-clause-errors g c =
 
 pub returns-in-Err-clause-settled : goal.returns-in-Err-clause-settled
 returns-in-Err-clause-settled g c = λ reply was.
-    let named = subst (λ (v : Guarded). IsNamed v.session.broker.directory c.args.queue.0 c.args.request.now.name) (sym c.self.view_is) c.requires.named in
+    let named = subst (λ (v : Held). IsNamed v.session.broker.directory c.args.queue.0 c.args.request.now.name) (sym c.self.view_is) c.requires.named in
     let r = c.args.request.now in
     settled_start g.J.Naming.clients g.J.Naming.first _ c.self.invariant.1 c.args.seat.client c.args.queue r named reply was
     c.begin.new.self (number_or_zero r.number) r.call (Err c.in-Err.refusal) c.in-Err.ensures.begun
 
 pub returns-in-Ok-clause-settled : goal.returns-in-Ok-clause-settled
 returns-in-Ok-clause-settled g c = λ reply was.
-    let named = subst (λ (v : Guarded). IsNamed v.session.broker.directory c.args.queue.0 c.args.request.now.name) (sym c.self.view_is) c.requires.named in
+    let named = subst (λ (v : Held). IsNamed v.session.broker.directory c.args.queue.0 c.args.request.now.name) (sym c.self.view_is) c.requires.named in
     let r = c.args.request.now in
     settled_start g.J.Naming.clients g.J.Naming.first _ c.self.invariant.1 c.args.seat.client c.args.queue r named reply was
     c.begin.new.self (number_or_zero r.number) r.call (Ok c.in-Ok.began) c.in-Ok.ensures.begun

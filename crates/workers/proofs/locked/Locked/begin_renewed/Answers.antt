@@ -6,6 +6,7 @@ use Rattle.workers.specs.Deeds.CameBy.{renewal}
 use Rattle.workers.specs.declared.deeds.Deed.{Deed}
 use Rattle.workers.specs.Following.{beginnings}
 use Rattle.workers.proofs.Comings.{through_renewal}
+use Rattle.workers.proofs.Booking.{booked_none, created_none}
 use Rattle.workers.proofs.Guarded.{named_begun, rows_begun, session_further}
 use Rattle.workers.proofs.Renewals.{known_if_renewed, renewal_refused, renewed_empty}
 use Rattle.workers.proofs.Roomy.{room_when_renewed}
@@ -18,7 +19,7 @@ invariant_of-self-2 g c =
     let k = c.enter.ensures.keeper in
     let well = c.self.invariant.1 in
     let old = c.self.inside.session in
-    let new = c.renew.new.self in (
+    let new = c.renew.new.session in (
       a.keeper,
       record {
         beginning = well.beginning;
@@ -36,6 +37,9 @@ invariant_of-self-2 g c =
             (sym (ap (λ m. m.0.rows) k.1)) (renewal well.done well.promises.broker e.renewed);
       },
       (k.0, k.1 ∙ sym (ap (λ m. (keeper m.0.rows, [])) k.1)),
+      booked_none g.J.Naming.roll.changes g.J.Naming.first.broker.words.kept old.broker new.broker c.self.inside.creating c.self.inside.creating c.self.inside.book
+          c.renew.new.book c.self.invariant.3 e.on
+          (created_none c.self.inside.creating new.broker.creation 0 e.renewed.booted.creation),
     )
 
 pub returns-in-Err-clause-errors : goal.returns-in-Err-clause-errors
@@ -46,4 +50,4 @@ returns-in-Err-clause-errors g c =
 pub returns-clause-room : goal.returns-clause-room
 returns-clause-room g c =
     let e = c.in_default.ensures in
-    room_when_renewed c.self.inside.session.broker c.renew.new.self.broker c.args.slot.0 e.renewed e.room
+    room_when_renewed c.self.inside.session.broker c.renew.new.session.broker c.args.slot.0 e.renewed e.room

@@ -31,4 +31,5 @@ invariant_of-result g c =
             (subst (λ (s : Sessioned). CameBy s.broker ([] ∷ []) c.args.session.broker) r.first nothing);
       },
       (r.register.0, r.register.1 ∙ sym (ap (λ m. (keeper m.0.rows, [])) r.register.1)),
+      r.book,
     )

@@ -8,6 +8,7 @@ use Rattle.workers.specs.Deeds.CameBy.{rotation}
 use Rattle.workers.specs.declared.deeds.Deed.{Deed}
 use Rattle.workers.specs.Following.{beginnings}
 use Rattle.workers.proofs.Comings.{through_rotation}
+use Rattle.workers.proofs.Booking.{booked_same, created_same}
 use Rattle.workers.proofs.Guarded.{known_if_same, named_begun, rows_begun, session_further}
 use Rattle.workers.proofs.Refusing.{rotation_refused}
 use Rattle.workers.proofs.Stops.{rotated_empty}
@@ -38,6 +39,10 @@ invariant_of-self-2 g c =
             (sym (ap (λ m. m.0.rows) k.1)) (rotation well.done well.promises.broker e.rotated);
       },
       (k.0, k.1 ∙ sym (ap (λ m. (keeper m.0.rows, [])) k.1)),
+      booked_same g.J.Naming.roll.changes g.J.Naming.first.broker.words.kept old.broker new.broker c.self.inside.creating c.self.inside.creating c.self.inside.book
+          c.self.invariant.3 (ap (λ (b : Brokered). b.words.kept) e.rotated.same)
+          (created_same c.self.inside.creating old.broker.creation new.broker.creation
+          (ap (λ (b : Brokered). b.creation) e.rotated.same)),
     )
 
 pub returns-in-Err-clause-errors : goal.returns-in-Err-clause-errors

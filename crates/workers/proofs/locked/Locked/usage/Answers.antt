@@ -1,4 +1,4 @@
-use Rattle.std.proofs.Common.{rules, ◌≡◌, sym, subst, Result, Ok, Err}
+use Rattle.std.proofs.Common.{rules, ◌≡◌, sym, subst, Result, Err}
 use Rattle.std.specs.Prelude.{IfErr}
 use Rattle.words.specs.declared.refusal.Refusal.{Refusal}
 use Rattle.named.specs.Brokers.{Brokered, world_at}

@@ -3,6 +3,7 @@ use Rattle.std.specs.Prelude.{slice_get}
 use Rattle.roll.specs.Rule.{rows_of}
 use Rattle.session.specs.Sessions.{Sessioned}
 use Rattle.workers.specs.declared.entry.Entry.{Entry}
+use Rattle.workers.specs.Following.{guarded_in}
 use Rattle.workers.specs.Deeds.{CameBy}
 use Rattle.workers.specs.declared.deeds.Deed.{Deed}
 use Rattle.workers.proofs.Seating.{accounted_by_rows}
@@ -13,7 +14,7 @@ returns-clause-lists g c =
     let under_lock = c.into_inner.result in
     let parts = c.into_parts-session.ensures in
     let same : rows_of c.into_parts-session.result.1 ≡ under_lock.rows = ap (λ me. me.0.rows) parts.keeper.1 in
-    accounted_by_rows (λ seat. seat.list.items) g.J.Naming.clients g.J.Naming.first under_lock _ c.args.seats.items
+    accounted_by_rows (λ seat. seat.list.items) g.J.Naming.clients g.J.Naming.first (guarded_in under_lock) _ c.args.seats.items
     parts.session parts.well
     (λ k seat at. subst (λ (rows : List (List Entry)). slice_get rows k ≡ Some seat.list.items) same
     (c.all_known.ensures.each k seat at))

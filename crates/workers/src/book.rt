@@ -1,0 +1,119 @@
+//! The changes of kept words, where they are noted.
+
+ghost use Rattle.std.specs.Prelude.{◌≡◌, ◌+◌, ℕ, List, false, true, IfErr, None, OnErr, OnOk};
+ghost use Rattle.persist.specs.Noted.{answer_in, change_in, IsNoted};
+ghost use Rattle.named.specs.Lasting.{steps_left};
+ghost use Rattle.named.specs.Renewing.{HasRoomInEach, IsRenewedAt, IsWhyNotRenewedAt, MayRenew};
+ghost use Rattle.session.specs.Keeping.{SessionGoesOn};
+ghost use Rattle.session.specs.Promises.{KeepsNumbers};
+ghost use Rattle.workers.specs.Noting.{HasPromised, IsBookOn, promised_in, with_promised};
+
+use arena::SlotId;
+use notes::Notes;
+use persist::{Change, Noted};
+use roll::{Roll, Token};
+use session::Session;
+use words::Refusal;
+
+/// The changes of kept words: the keeper of those that were handed on, and those that were noted since.
+#[derive(Drop)]
+pub(crate) struct Book {
+    pub(crate) roll: Roll<Change>,
+    pub(crate) keeper: Token<Change>,
+    pub(crate) notes: Notes,
+}
+
+/// Promises room for so many changes more, where changes are noted; if there is memory for it.
+pub(crate) fn promise(book: &mut Option<Book>, changes: usize) -> bool
+    ensures on { (words : List ℕ) → IsBookOn book.old book.new words words }
+    ensures more { result ≡ true → promised_in book.new ≡ with_promised changes (promised_in book.old) }
+    ensures same { result ≡ false → book.new ≡ book.old }
+    ensures nothing { book.old ≡ None → result ≡ true }
+{
+    match book {
+        None => true,
+        Some(book) => book.notes.promise(changes),
+    }
+}
+
+/// Takes back what was promised for so many changes.
+pub(crate) fn release(book: &mut Option<Book>, changes: usize)
+    requires { HasPromised changes (promised_in book.old) }
+    ensures on { (words : List ℕ) → IsBookOn book.old book.new words words }
+    ensures less { promised_in book.old ≡ with_promised changes (promised_in book.new) }
+{
+    if let Some(book) = book {
+        book.notes.release(changes);
+    }
+}
+
+/// Takes back all that was promised.
+pub(crate) fn release_all(book: &mut Option<Book>)
+    ensures on { (words : List ℕ) → IsBookOn book.old book.new words words }
+{
+    if let Some(book) = book {
+        book.notes.release_all();
+    }
+}
+
+/// Notes the change of an act, if it made one.
+fn note(book: &mut Option<Book>, change: Option<Change>)
+    requires { HasPromised 1 (promised_in book.old) }
+    ensures on { (was now : List ℕ) → IsNoted change was now → IsBookOn book.old book.new was now }
+    ensures less { promised_in book.old ≡ with_promised 1 (promised_in book.new) }
+{
+    if let Some(book) = book {
+        book.notes.note(change);
+    }
+}
+
+/// What an act answered, whose change is noted.
+pub(crate) fn noted<T>(
+    book: &mut Option<Book>,
+    act: Result<Noted<T>, Refusal>,
+) -> Result<T, Refusal>
+    requires { HasPromised 1 (promised_in book.old) }
+    ensures answer { result ≡ answer_in act }
+    ensures on { (was now : List ℕ) → IsNoted (change_in act) was now → IsBookOn book.old book.new was now }
+    ensures less { promised_in book.old ≡ with_promised 1 (promised_in book.new) }
+{
+    match act {
+        Ok(Noted { answer, change }) => {
+            note(book, change);
+            Ok(answer)
+        }
+        Err(refusal) => {
+            note(book, None);
+            Err(refusal)
+        }
+    }
+}
+
+/// The queue of a slot begins in fresh records, as [`session::Session::renew`] makes it. Where changes are noted, its
+/// changes are, and room is promised for those of the recovery that it begins.
+pub(crate) fn renew(
+    session: &mut Session,
+    book: &mut Option<Book>,
+    slot: SlotId,
+) -> Result<(), Refusal>
+    ensures may { OnOk result (MayRenew session.old.broker slot.0) }
+    ensures renewed { OnOk result (IsRenewedAt session.old.broker session.new.broker slot.0) }
+    ensures room { OnOk result (HasRoomInEach session.new.broker 1) }
+    ensures on { OnOk result
+        (IsBookOn book.old book.new session.old.broker.words.kept session.new.broker.words.kept) }
+    ensures promised { OnOk result (HasPromised (steps_left session.new.broker + 1) (promised_in book.new)) }
+    ensures errors { IfErr result (IsWhyNotRenewedAt session.old.broker slot.0) }
+    ensures same { OnErr result (session.new ≡ session.old) }
+    ensures unnoted { OnErr result (book.new ≡ book.old) }
+    ensures kept { session.new.kept ≡ session.old.kept }
+    ensures goes_on { SessionGoesOn session.old session.new }
+    ensures promises { KeepsNumbers session.new }
+{
+    match book {
+        None => session.renew(slot),
+        Some(book) => {
+            let more = session.broker().more_than_recovery_steps();
+            session.renew_noted(slot, &mut book.notes, more)
+        }
+    }
+}
