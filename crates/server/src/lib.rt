@@ -9,6 +9,6 @@ mod opening;
 mod piping;
 
 pub use json_lines::JsonLines;
-pub use listening::net;
+pub use listening::{Service, net};
 pub use opening::{opened, renewed};
 pub use piping::pipe;

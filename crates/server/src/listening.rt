@@ -3,6 +3,7 @@
 ghost use Rattle.std.specs.Prelude.{◌≡◌, IfErr, IfOk};
 ghost use Rattle.session.specs.Sessions.{IsUncalled};
 ghost use Rattle.workers.specs.Opening.{IsNameOf};
+ghost use Rattle.workers.specs.Seats.{AreAllInOrder};
 ghost use Rattle.server.specs.Image.{IsBusyOrNoMemory, IsImageAfter, IsImageLeftBy};
 
 use crate::connections::{Serving, serve_connections};
@@ -19,7 +20,7 @@ use std::sync::atomic::{AtomicBool, Ordering};
 use std::thread::{Threads, join, map_indices, sleep};
 use std::time::{Clock, Duration};
 use words::Refusal;
-use workers::{Naming, Opened, Shared};
+use workers::{Naming, Opened, Operator, Seat, Shared};
 
 /// How long the thread that takes connections rests after one that it could not take. Where there are no descriptors
 /// left, each fails at once.
@@ -27,6 +28,15 @@ const REST_MILLIS: u64 = 10;
 
 /// How long a connection that wakes this thread waits to be taken.
 const WAKE_SECONDS: u64 = 1;
+
+/// How connections are served.
+#[derive(Clone, Copy, Debug, PartialEq, Eq)]
+pub struct Service {
+    /// How many threads serve, each one connection at a time. One serves at least.
+    pub workers: u32,
+    /// Whether a queue begins in fresh records for a put or a take that finds no room, where that is worth it.
+    pub renew: bool,
+}
 
 /// Takes connections and hands them to the workers, until one of these has accepted a stop.
 fn accept<R: Wait + Clock + Log>(
@@ -138,12 +148,29 @@ fn work<J: Naming + Send + Sync, R: Threads + Wait + Net + Clock + Log + Sync>(
     worked
 }
 
+/// The seats of a shared broker, for connections that are served so. It is refused for want of memory (NoMemory).
+fn seated<J: Naming>(
+    alloc: Global,
+    seats: Vec<Seat<J>>,
+    operator: Operator<J>,
+    service: Service,
+) -> Result<Seating<J>, Refusal>
+    requires { AreAllInOrder (λ seat. seat.client) J.clients seats.items }
+    ensures { IfErr result (λ e. e ≡ Refusal.NoMemory) }
+{
+    let seating = Seating::new(alloc, seats, operator)?;
+    if service.renew {
+        return Ok(seating.renewing());
+    }
+    Ok(seating)
+}
+
 /// Serves, once the broker has its name.
 fn served<J: Naming + Send + Sync, R: Threads + Wait + Net + Clock + Log + Sync>(
     rt: &R,
     alloc: Global,
     opened: Opened,
-    workers: u32,
+    service: Service,
     listener: &TcpListener,
 ) -> Result<Vec<u8>, Refusal>
     requires { IsNameOf J.roll J.clients J.first opened }
@@ -154,15 +181,16 @@ fn served<J: Naming + Send + Sync, R: Threads + Wait + Net + Clock + Log + Sync>
         Ok(named) => named,
         Err(not) => return Err(not.refusal),
     };
-    let seats = Seating::new(alloc, seats, operator)?;
-    if work(rt, alloc, &shared, &seats, workers.max(1), listener).is_err() {
+    let seats = seated(alloc, seats, operator, service)?;
+    let workers = service.workers.max(1);
+    if work(rt, alloc, &shared, &seats, workers, listener).is_err() {
         return Err(Refusal::NoMemory);
     }
     image_left(alloc, shared, seats)
 }
 
-/// Serves each connection of a listener by one of so many worker threads, and by one at least, until a stop is accepted
-/// and all connections have ended; it answers the image of the broker as it is then. As many connections as there are
+/// Serves each connection of a listener by a worker thread, until a stop is accepted and all connections have ended; it
+/// answers the image of the broker as it is then. As many connections as there are
 /// workers wait to be served; those that wait at an accepted stop are closed unserved. It is refused before any is
 /// taken where a call or a creation is under way (Busy), and for want of memory (NoMemory); for want of memory also
 /// after all have ended. Where the threads to take connections and to serve them cannot be made, it does not return.
@@ -170,7 +198,7 @@ pub fn net<R: Threads + Wait + Net + Clock + Log + Sync>(
     rt: &R,
     alloc: Global,
     broker: Broker,
-    workers: u32,
+    service: Service,
     listener: &TcpListener,
 ) -> Result<Vec<u8>, Refusal>
     requires { IsUncalled broker }
@@ -178,5 +206,5 @@ pub fn net<R: Threads + Wait + Net + Clock + Log + Sync>(
     ensures errors { IfErr result IsBusyOrNoMemory }
 {
     let opened = shareable(alloc, broker)?;
-    served::<Brand, R>(rt, alloc, opened, workers, listener)
+    served::<Brand, R>(rt, alloc, opened, service, listener)
 }
