@@ -175,8 +175,8 @@ impl<J: Naming> Shared<J> {
 
     /// Creates a queue, one act a step. It is Interrupted where a crash came between, and refused as
     /// [`session::Session::create`] is; Busy also where a crash ended another creation whose caller has not seen that
-    /// yet. A name that a queue had when the seats were given is taken for good, and so is its slot. A queue that was
-    /// created comes with a receipt of that.
+    /// yet, and, where changes are noted, while memory for all of its own is refused. A name that a queue had when the
+    /// seats were given is taken for good, and so is its slot. A queue that was created comes with a receipt of that.
     pub fn create<R: Wait>(&self, rt: &R, name: &[u8], kind: Kind) -> (Created, Option<Receipt<J>>)
         ensures bad_name { (IsName name.now → ⊥) → result.0 ≡ AnyCreated.Refused Refusal.BadName }
         ensures good_name { IsName name.now → result.0 ≢ AnyCreated.Refused Refusal.BadName }

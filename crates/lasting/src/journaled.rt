@@ -1,0 +1,154 @@
+//! The journal of a shared session.
+
+ghost use Rattle.std.specs.Prelude.{◌≡◌, [], false, IfErr, IfOk, OnErr, OnOk};
+ghost use Rattle.persist.specs.Noted.{applied};
+ghost use Rattle.lasting.specs.Lasting.{HasMoments};
+ghost use Rattle.workers.specs.Moments.{IsMoment};
+
+use journal::KEY_BYTES;
+use journal_file::{Appender, Journal};
+use persist::Change;
+use std::alloc::Global;
+use std::marker::Model;
+use std::sync::Wait;
+use words::Refusal;
+use workers::{Handed, Naming, Shared};
+
+/// The journal of a shared session, with the one who hands its changes on. Changes that were handed on and could not be
+/// appended are pending, and appended first the next time.
+#[derive(Drop)]
+pub struct Journaled<J: Naming, F: Appender + Drop> {
+    handed: Handed<J>,
+    pending: Vec<Change>,
+    journal: Journal<F>,
+}
+
+impl<J: Naming, F: Appender + Drop> Model for Journaled<J, F> {
+    ghost use Rattle.lasting.specs.Lasting.{IsKept, Kept};
+
+    ghost Value = { Kept };
+
+    ghost view = { λ k. record { handed = k.handed; pending = k.pending.items; journal = k.journal } };
+
+    ghost invariant = { λ k. IsKept J.first (record { handed = k.handed; pending = k.pending.items; journal = k.journal }) };
+}
+
+impl<J: Naming, F: Appender + Drop> Journaled<J, F> {
+    ghost use Rattle.journal_file.specs.Appended.{IsFresh};
+
+    /// A journal that begins on these words, which are the kept ones that all changes handed on so far make. It is
+    /// refused as [`Journal::begin`] is, and then nobody hands changes on any more.
+    pub fn begin(
+        alloc: Global,
+        handed: Handed<J>,
+        device: F,
+        key: &[u8; KEY_BYTES],
+        words: Vec<u64>,
+    ) -> Result<Self, Refusal>
+        requires fresh { IsFresh (F.appended device) }
+        requires words { words.items ≡ applied handed J.first.broker.words.kept }
+        requires moment { IsMoment J.first words.items }
+        ensures handed { IfOk result (λ k. k.handed ≡ handed) }
+        ensures all { IfOk result (λ k. k.pending ≡ []) }
+        ensures going { IfOk result (λ k. k.journal.failed ≡ false) }
+    {
+        let journal = Journal::begin(alloc, device, key, words)?;
+        Ok(Journaled {
+            handed,
+            pending: Vec::new(alloc),
+            journal,
+        })
+    }
+
+    /// The journal. Each beginning of its batches ends at a moment of the session.
+    pub fn journal(&self) -> &Journal<F>
+        ensures journal { result.now ≡ self.now.journal }
+        ensures moments { HasMoments J.first self.now.journal }
+    {
+        &self.journal
+    }
+
+    /// Appends what is pending, if anything is. It is refused as [`Journal::append`] is, and then it stays pending.
+    fn append_pending(&mut self, alloc: Global) -> Result<(), Refusal>
+        ensures all { OnOk result (self.new.pending ≡ []) }
+        ensures words { OnOk result
+            (self.new.journal.words ≡ applied self.new.handed J.first.broker.words.kept) }
+        ensures handed { self.new.handed ≡ self.old.handed }
+    {
+        if self.pending.is_empty() {
+            return Ok(());
+        }
+        self.journal.append(alloc, &self.pending)?;
+        self.pending.clear();
+        Ok(())
+    }
+
+    /// Hands on all changes that the session noted since, and appends them as one batch, behind what is pending. At Ok
+    /// the journal has every change that was handed on. It is refused as [`Shared::hand_on`] and [`Journal::append`]
+    /// are. Then those that were handed on are pending.
+    pub fn settle<R: Wait>(
+        self,
+        rt: &R,
+        alloc: Global,
+        shared: &Shared<J>,
+    ) -> (Self, Result<(), Refusal>)
+        ensures all { OnOk result.1 (result.0.pending ≡ []) }
+        ensures words { OnOk result.1
+            (result.0.journal.words ≡ applied result.0.handed J.first.broker.words.kept) }
+    {
+        let mut kept = self;
+        if let Err(refusal) = kept.append_pending(alloc) {
+            return (kept, Err(refusal));
+        }
+        let (mut kept, handed) = kept.handed_on(rt, alloc, shared);
+        if let Err(refusal) = handed {
+            return (kept, Err(refusal));
+        }
+        let appended = kept.append_pending(alloc);
+        (kept, appended)
+    }
+
+    /// Hands on what was noted, which is pending then, as nothing was before.
+    fn handed_on<R: Wait>(
+        self,
+        rt: &R,
+        alloc: Global,
+        shared: &Shared<J>,
+    ) -> (Self, Result<(), Refusal>)
+        requires { self.pending ≡ [] }
+    {
+        let Journaled {
+            handed,
+            pending,
+            journal,
+        } = self;
+        match shared.hand_on(rt, alloc, handed) {
+            (handed, Ok(batch)) => (
+                Journaled {
+                    handed,
+                    pending: batch,
+                    journal,
+                },
+                Ok(()),
+            ),
+            (handed, Err(refusal)) => (
+                Journaled {
+                    handed,
+                    pending,
+                    journal,
+                },
+                Err(refusal),
+            ),
+        }
+    }
+
+    /// Keeps all batches that were appended, as [`Journal::keep`] does, and is refused as that is.
+    pub fn keep(&mut self) -> Result<(), Refusal>
+        ensures handed { self.new.handed ≡ self.old.handed }
+        ensures pending { self.new.pending ≡ self.old.pending }
+        ensures words { self.new.journal.words ≡ self.old.journal.words }
+        ensures kept { OnOk result (self.new.journal.kept ≡ self.old.journal.size) }
+    {
+        self.journal.keep()
+    }
+}
