@@ -1,8 +1,8 @@
 #!/usr/bin/env bash
 # Words of queues at rest in fresh records, by the plain programs of bench/plain: drawn words and those of drawn runs,
 # of both kinds of queue, with each verdict. And images that the built pqd renews, beside them. Plain programs that are
-# wrong in one place are seen to fail. It takes the program that the last `rt ci`, or `rt run` in crates/pqd, left, or
-# the one that PQD names.
+# wrong in one place are seen to fail. Then pqd serves connections beside plain lists, and renews queues meanwhile. It
+# takes the program that the last `rt ci`, or `rt run` in crates/pqd, left, or the one that PQD names.
 set -eu
 cd "$(dirname "$0")/.."
 . tests/cases.sh
@@ -19,8 +19,15 @@ renewed() {
     python3 -B tests/renewed.py "$work/plain" "$pqd" "$work" > "$work/out" 2>&1 || true
     difference 'renewed' tests/renewed.txt "$work/out"
 }
+# pqd serves with these options: OPTION..
+serving() {
+    python3 -B tests/serving_renewed.py "$pqd" "$@" > "$work/out" 2>&1 || true
+    difference 'serving' tests/serving_renewed.txt "$work/out"
+}
 judge 'renewal' "$(renewal)"
 judge 'renewed' "$(renewed)"
+judge 'serving' "$(serving --renew)"
+judge 'serving without renewals' "$([ -n "$(serving)" ] || echo 'no call finds its client without room')"
 
 # The items' order, and two in one record; what is told, by whom, and of which call.
 wrong renewal.py 'enumerate(self.items)' 'enumerate(reversed(self.items))' renewal

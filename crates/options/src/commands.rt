@@ -32,8 +32,12 @@ pub(crate) fn flag<'a>(alloc: Global, name: &'a str, help: &'a str) -> Arg<'a>
         .help(help)
 }
 
-/// The command with the options of a broker and its queues.
-fn with_queue_options<'a>(alloc: Global, command: Command<'a>) -> Result<Command<'a>, AllocError>
+/// The command with the options of a broker and its queues, and what it says of `--renew`.
+fn with_queue_options<'a>(
+    alloc: Global,
+    command: Command<'a>,
+    renews: &'a str,
+) -> Result<Command<'a>, AllocError>
     ensures app { IfOk result (λ c. app_of c ≡ with_queue_rules (app_of command.entry)) }
     ensures local { (out-Command command.entry).has_globals ≡ false
         → IfOk result (λ c. (out-Command c).has_globals ≡ false) }
@@ -56,11 +60,7 @@ fn with_queue_options<'a>(alloc: Global, command: Command<'a>) -> Result<Command
         "FILE",
         "Keeps the memory in this file; without it nothing outlives the program",
     );
-    let renew = flag(
-        alloc,
-        "renew",
-        "Begins each queue of the file in fresh records: of T clients, K of each",
-    );
+    let renew = flag(alloc, "renew", renews);
     command.arg(clients)?.arg(records)?.arg(image)?.arg(renew)
 }
 
@@ -72,7 +72,11 @@ fn pipe<'a>(alloc: Global) -> Result<Command<'a>, AllocError>
     let command = Command::new(alloc, "pipe").about(
         "Answers the requests of standard input on standard output",
     );
-    with_queue_options(alloc, command)
+    with_queue_options(
+        alloc,
+        command,
+        "Begins each queue of the file in fresh records: of T clients, K of each",
+    )
 }
 
 /// `serve [--clients T] [--records K] [--image FILE] [--renew] [--port P] [--workers N]`
@@ -95,7 +99,13 @@ fn serve<'a>(alloc: Global) -> Result<Command<'a>, AllocError>
         "N",
         "The connections that are served at once, 1 to 16 [default: 4]",
     );
-    with_queue_options(alloc, command)?.arg(port)?.arg(workers)
+    with_queue_options(
+        alloc,
+        command,
+        "Begins queues in fresh records: of the file, and then where there is no room",
+    )?
+    .arg(port)?
+    .arg(workers)
 }
 
 /// `pqd pipe`, `pqd serve`

@@ -11,7 +11,7 @@ use devices::{CountedReader, CountedWriter};
 use log::Log;
 use named::Broker;
 use options::{Listening, Mode, Options, command_line};
-use server::{net, opened, pipe, renewed};
+use server::{Service, net, opened, pipe, renewed};
 use std::fs::File;
 use std::io;
 use std::net::{Net, SocketAddr, TcpListener};
@@ -80,6 +80,7 @@ fn serve_connections<T: Threads + Wait + Net + Log + Clock + Sync>(
     rt: &HostRuntime,
     broker: Broker,
     at: Listening,
+    renew: bool,
 ) -> Result<Vec<u8>, Fault>
     requires { IsUncalled broker }
 {
@@ -93,7 +94,11 @@ fn serve_connections<T: Threads + Wait + Net + Log + Clock + Sync>(
     if println!(rt; "listening {address}").is_err() {
         return Err(Fault::Refused(Refusal::WriteFailed));
     }
-    Ok(net(threads, rt.alloc(), broker, at.workers, &listener)?)
+    let service = Service {
+        workers: at.workers,
+        renew,
+    };
+    Ok(net(threads, rt.alloc(), broker, service, &listener)?)
 }
 
 /// Serves as the options ask, and writes the image's file at the end.
@@ -105,7 +110,7 @@ fn serve<T: Threads + Wait + Net + Log + Clock + Sync>(
     let broker = broker_for(rt, &asked)?;
     let image = match asked.mode {
         Mode::Pipe => serve_input(threads, rt, broker)?,
-        Mode::Serve(at) => serve_connections(threads, rt, broker, at)?,
+        Mode::Serve(at) => serve_connections(threads, rt, broker, at, asked.renew)?,
     };
     if let Some(path) = asked.image {
         image::write(rt, path, &image)?;
