@@ -1,8 +1,9 @@
 #!/usr/bin/env bash
-# What no clause says of refused memory: each allocation of crates/test_refusals and crates/test_shared_refusals is refused in turn,
-# and the program ends as where none is, but for the lines that say what was refused. These name every call that can be
-# refused memory, and each is made again. The parts of a story are told one at a time, so that a refusal costs that part
-# alone. Then pqx and pqd are run so: each does what it would, or says that there is no memory. It takes the programs that
+# What no clause says of refused memory: each allocation of crates/test_refusals and crates/test_shared_refusals is
+# refused in turn, and the program ends as where none is, but for the lines that say what was refused. These name every
+# call that can be refused memory and that no script makes, and each is made again. The parts of a story are told one at a
+# time, so that a refusal costs that part alone. Then pqx and pqd are run so: each does what it would, or says that there
+# is no memory. Scripts with a line `again` behind each line make what was refused once more. It takes the programs that
 # the last `rt ci`, or `rt run` in their folders, left, or those that REFUSALS, SHARED_REFUSALS, PQX and PQD name.
 set -eu
 cd "$(dirname "$0")/.."
@@ -70,7 +71,7 @@ tell_all() {
 }
 
 growths=0
-program=$refusals tell_all crates/test_refusals memories histories worlds brokers scripts
+program=$refusals tell_all crates/test_refusals memories histories worlds
 program=$shared_refusals tell_all crates/test_shared_refusals sessions shareds desks
 printf 'growths refused: %d\n' "$growths"
 
@@ -131,7 +132,12 @@ again() {
 refuse 'pqx run' examples/kept.script "$pqx" run
 refuse 'pqx points' crates/test_scenarios/data/points-log-enqueue.script "$pqx" points
 refuse 'pqx alone' crates/test_scenarios/data/points-log-enqueue.script "$pqx" alone
+refuse 'pqx run --page' examples/kept.script "$pqx" run --page "$work/page"
+refuse 'pqx points --page' crates/test_scenarios/data/points-log-enqueue.script "$pqx" points --page "$work/page"
 refuse 'pqx broker run' tests/broker/image.in "$pqx" broker run
+again durable "$made_again" tests/memory/durable.script run
+again log "$made_again" tests/memory/log.script run
+again broker "$broker_made_again" tests/memory/broker.script broker run
 printf '%s\n' 'broker 1 1' 'create a log 1' image > "$work/in"
 refuse 'pqx broker points' "$work/in" "$pqx" broker points
 printf '%s\n' '{"op":"create","queue":"a","kind":"log"}' '{"op":"put","client":0,"queue":"a","number":1,"value":"09000000"}' \

@@ -1,5 +1,5 @@
-//! What programs call whose allocations are refused in turn: memories, worlds, brokers and sessions, which can be
-//! looked at as a whole. A call that was refused memory is made again, and it is said whether all that can be seen is
+//! What programs call whose allocations are refused in turn: memories, worlds and sessions, which can be looked at as
+//! a whole. A call that was refused memory is made again, and it is said whether all that can be seen is
 //! as before.
 #![tactic(auto)]
 

@@ -1,16 +1,13 @@
-//! Calls that are refused memory, up to those of brokers and scripts: a story of some hundred calls, in parts. Each
-//! call that is refused is made again, and is to leave all that can be seen as it was; then it answers what it would
-//! have answered. tests/memory.sh refuses each allocation in turn. Lines that begin with `again` say what was refused.
+//! Calls that are refused memory, and that no script makes: a story in parts. Each call that is refused is made again,
+//! and is to leave all that can be seen as it was; then it answers what it would have answered. tests/memory.sh refuses
+//! each allocation in turn, here and in scripts. Lines that begin with `again` say what was refused.
 #![tactic(auto)]
 
-mod brokers;
 mod histories;
 mod memories;
-mod scripts;
 mod worlds;
 
 use anyhow::Result;
-use std::thread::Threads;
 use test_growths::command_line;
 
 /// A part of the story.
@@ -19,32 +16,26 @@ enum Part {
     Memories,
     Histories,
     Worlds,
-    Brokers,
-    Scripts,
 }
 
 /// The parts in their order, with the names that a command line has for them.
-static PARTS: [(&str, Part); 5] = [
+static PARTS: [(&str, Part); 3] = [
     ("memories", Part::Memories),
     ("histories", Part::Histories),
     ("worlds", Part::Worlds),
-    ("brokers", Part::Brokers),
-    ("scripts", Part::Scripts),
 ];
 
 /// Tells a part.
-fn tell<R: Threads + Sync + Print + AllocGlobal>(rt: &R, part: Part) -> Result<()> {
+fn tell<R: Print + AllocGlobal>(rt: &R, part: Part) -> Result<()> {
     match part {
         Part::Memories => memories::tell(rt),
         Part::Histories => histories::tell(rt),
         Part::Worlds => worlds::tell(rt),
-        Part::Brokers => brokers::tell(rt),
-        Part::Scripts => scripts::tell(rt),
     }
 }
 
 /// Tells the part of this name, or all where there is none.
-fn tell_named<R: Threads + Sync + Print + AllocGlobal>(rt: &R, wanted: Option<&str>) -> Result<()> {
+fn tell_named<R: Print + AllocGlobal>(rt: &R, wanted: Option<&str>) -> Result<()> {
     for (name, part) in &PARTS {
         if wanted.is_none_or(|wanted| wanted == *name) {
             tell(rt, *part)?;

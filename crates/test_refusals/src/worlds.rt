@@ -9,22 +9,12 @@ use test_growths::{MOST_TRIES, made, play, say_again};
 use test_support::Wish;
 use words::{Client, Kind, Refusal};
 
-static STORY: [(u32, Act); 42] = [
+/// What no script has a world do: acts by lists, a rotation, and room that is made for some acts.
+static STORY: [(u32, Act); 20] = [
     (1, Act::Start(0, 1, Wish::Enq(7))),
     (1, Act::Alone(0)),
-    (1, Act::Start(0, 2, Wish::Enq(8))),
-    (18, Act::Step(0)),
     (1, Act::Start(1, 1, Wish::Deq)),
     (1, Act::Alone(1)),
-    (1, Act::Evict(5)),
-    (30, Act::Step(0)),
-    (1, Act::Order),
-    (1, Act::Content),
-    (1, Act::Start(1, 2, Wish::Deq)),
-    (15, Act::Step(1)),
-    (1, Act::Crash),
-    (1, Act::Start(0, 3, Wish::Deq)),
-    (3, Act::Recover),
     (1, Act::Crash),
     (60, Act::Recover),
     (1, Act::Rotate),
@@ -38,10 +28,6 @@ static STORY: [(u32, Act); 42] = [
     ),
     (1, Act::Crash),
     (60, Act::Recover),
-    (1, Act::Start(0, 3, Wish::Deq)),
-    (40, Act::Step(0)),
-    (1, Act::Start(1, 2, Wish::Enq(6))),
-    (1, Act::Alone(1)),
     (1, Act::Start(1, 3, Wish::Enq(5))),
     (1, Act::Run(Listed::Step { client: Client(1) })),
     (1, Act::Run(Listed::Crash)),
@@ -49,15 +35,8 @@ static STORY: [(u32, Act); 42] = [
     (1, Act::Reserve(20)),
     (1, Act::Start(1, 4, Wish::Enq(5))),
     (1, Act::Alone(1)),
-    (1, Act::Start(0, 4, Wish::Deq)),
-    (1, Act::Alone(0)),
-    (1, Act::Start(0, 5, Wish::Deq)),
-    (1, Act::Alone(0)),
-    (1, Act::Order),
-    (1, Act::Content),
-    (1, Act::Start(1, 5, Wish::Enq(3))),
-    (1, Act::Alone(1)),
     (1, Act::Rotate),
+    (1, Act::Order),
     (1, Act::Content),
 ];
 
