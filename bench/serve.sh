@@ -10,9 +10,9 @@
 # memory and writes an image when it stops, so its like are the peers in memory; the others write to the folder of
 # TMPDIR, beanstalkd with its own pause between two syncs.
 #
-# With --renew only pqd is measured, with 8 clients: for a minute (LASTS seconds) in which its queues are renewed over and
-# over, beside a second without, or less, of which a client has room for no more. Each connection has a queue for itself
-# (`own`), or all have one together.
+# With --renew only pqd is measured, with 8 clients: for a minute (LASTS seconds) in which its queues are renewed over
+# and over, beside a second without, or less, of which a client has room for no more. Each connection has a queue for
+# itself (`own`), or all have one together.
 set -eu
 renewed=
 if [ "${1:-}" = --renew ]; then

@@ -1,6 +1,6 @@
 /* pqd: a pair is `put` and `take`. A client has room for so many calls in a queue, so that a connection goes from queue
- * to queue, and begins at the one of its own number. Where queues are renewed it stays there (`own`), or all connections
- * use one queue (`together`). */
+ * to queue, and begins at the one of its own number. Where queues are renewed it stays there (`own`), or all
+ * connections use one queue (`together`). */
 #include "client.h"
 #include <stdio.h>
 
