@@ -1,15 +1,24 @@
 #!/usr/bin/env bash
-# serve.sh [PQD]: pairs of a put and a take a second of `pqd serve` on the loopback, beside beanstalkd and redis where
-# they are installed (`apt-get install beanstalkd redis-server`): the latency of a request, and the processor time of
-# the server a pair. By 1 and by 8 connections, with one request at a time and with 64 in flight on each. One client
-# program for all (bench/client), the servers in turn, each started anew, ROUNDS rounds (5), the best of each figure.
-# Printed, not tested.
+# serve.sh [--renew] [PQD]: pairs of a put and a take a second of `pqd serve` on the loopback, beside beanstalkd and
+# redis where they are installed (`apt-get install beanstalkd redis-server`): the latency of a request, and the
+# processor time of the server a pair. By 1 and by 8 connections, with one request at a time and with 64 in flight on
+# each. One client program for all (bench/client), the servers in turn, each started anew, ROUNDS rounds (5), the best
+# of each figure. Printed, not tested.
 #
 # A pair is, on a queue that the connection has for itself: of pqd a put and a take of a durable queue; of beanstalkd
 # put, reserve and delete of a job, the delete once the job is known; of redis RPUSH and LPOP. pqd keeps its words in
 # memory and writes an image when it stops, so its like are the peers in memory; the others write to the folder of
 # TMPDIR, beanstalkd with its own pause between two syncs.
+#
+# With --renew only pqd is measured, with 8 clients: for a minute (LASTS seconds) in which its queues are renewed over
+# and over, beside a second without, or less, of which a client has room for no more. Each connection has a queue for
+# itself (`own`), or all have one together.
 set -eu
+renewed=
+if [ "${1:-}" = --renew ]; then
+    renewed=yes
+    shift
+fi
 pqd=$(realpath -m "${1:-${PQD:-$(dirname "$0")/../crates/pqd/out/pqd}}")
 if [ ! -x "$pqd" ]; then
     echo "there is no $pqd: \`rt run\` in crates/pqd leaves it there, and bench/serve.sh PATH takes another one"
@@ -38,10 +47,10 @@ free_port() {
     python3 -c 'import socket; s = socket.socket(); s.bind(("127.0.0.1", 0)); print(s.getsockname()[1])'
 }
 
-# The port is the one that pqd prints, once it listens.
+# The port is the one that pqd prints, once it listens: CLIENTS OPTION..
 start_pqd() {
     : > "$work/listening"
-    "$pqd" serve --clients 16 --records 4096 --port 0 --workers 8 > "$work/listening" &
+    "$pqd" serve "${@:2}" --clients "$1" --records 4096 --port 0 --workers 8 > "$work/listening" &
     server=$!
     until grep -q '^listening ' "$work/listening"; do
         kill -0 "$server" 2> /dev/null || { echo "pqd does not serve" >&2; exit 1; }
@@ -58,7 +67,7 @@ start() {
     local redis=(redis-server --port "$port" --bind 127.0.0.1 --dir "$work/data" --save "")
     case $1 in
         pqd)
-            start_pqd
+            start_pqd 16
             return
             ;;
         beanstalkd) beanstalkd -l 127.0.0.1 -p "$port" > /dev/null & ;;
@@ -78,6 +87,34 @@ measure() {
     stop_server
     echo "$2 $3 $1 $figures"
 }
+
+# A load of a minute with renewals, beside one without: WHICH CONNECTIONS IN-FLIGHT WITHOUT PAIRS.
+measure_renewed() {
+    local before after
+    start_pqd 8
+    before=$("$work/pairs" "$4" "$port" "$2" "$3" "$5" 1 "$server")
+    stop_server
+    start_pqd 8 --renew
+    after=$("$work/pairs" "$1" "$port" "$2" "$3" 10000000 "${LASTS:-60}" "$server")
+    stop_server
+    echo "$1 $2 $3 $before $after"
+}
+
+if [ -n "$renewed" ]; then
+    for load in "1 1" "1 64" "8 1" "8 64"; do
+        # shellcheck disable=SC2086
+        measure_renewed own $load pqd "$pairs"
+        # shellcheck disable=SC2086
+        measure_renewed together $load together 2000
+    done | awk '
+        {
+            printf "%s, %d connection%s, %d in flight on each: %.0f pairs a second, renewed %.0f, which is %.2f; ", \
+                $1, $2, $2 == 1 ? "" : "s", $3, $4, $10, $10 / $4
+            printf "99.9%% %.1f us, renewed %.1f us; longest %.1f us, renewed %.1f us\n", $7, $13, $9, $15
+        }'
+    uptime
+    exit
+fi
 
 servers=(pqd)
 if command -v beanstalkd > /dev/null; then

@@ -144,4 +144,10 @@ printf '%s\n' '{"op":"create","queue":"a","kind":"log"}' '{"op":"put","client":0
     '{"op":"take","client":0,"queue":"a","number":2}' '{"op":"crash"}' '{"op":"recover"}' '{"op":"stop"}' > "$work/in"
 refuse 'pqd pipe' "$work/in" "$pqd" pipe
 
+# A server whose queues are renewed while it serves: PROGRAM
+serving_refused() {
+    python3 -B tests/serving_refused.py "$1" "$work/refusing.so" 2>&1 || true
+}
+judge 'each allocation refused: pqd serve --renew' "$(serving_refused "$pqd")"
+
 count

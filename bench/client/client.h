@@ -32,7 +32,7 @@ struct protocol {
     ssize_t (*reply)(struct lane *lane, const char *bytes, size_t length);
 };
 
-extern const struct protocol pqd, redis, beanstalkd;
+extern const struct protocol pqd, own, together, redis, beanstalkd;
 
 /* The length of the line that the bytes begin with, its newline included; 0 where it has no newline yet. */
 size_t line_length(const char *bytes, size_t length);

@@ -2,8 +2,8 @@
  *
  * Makes pairs of a put and a take on the loopback, at most so many on each connection and for at most so many seconds,
  * with so many requests in flight on each. Each connection has a thread. Prints pairs a second, the 50th, 99th and
- * 99.9th percentile of a request's latency in microseconds, and microseconds of processor time a pair of the process
- * PID. */
+ * 99.9th percentile of a request's latency in microseconds, microseconds of processor time a pair of the process PID,
+ * and the longest latency in microseconds. */
 #include "client.h"
 #include <arpa/inet.h>
 #include <netinet/tcp.h>
@@ -240,14 +240,15 @@ static void print(struct connection **all, int connections, int64_t elapsed, int
     uint32_t *latencies = sorted(all, connections, &count);
     for (int i = 0; i < connections; i++)
         pairs += all[i]->lane.takes;
-    printf("%.0f %.1f %.1f %.1f %.2f\n", pairs * 1e9 / elapsed, latencies[count / 2] / 1e3,
-        latencies[count * 99 / 100] / 1e3, latencies[count * 999 / 1000] / 1e3, used / 1e3 / pairs);
+    printf("%.0f %.1f %.1f %.1f %.2f %.1f\n", pairs * 1e9 / elapsed, latencies[count / 2] / 1e3,
+        latencies[count * 99 / 100] / 1e3, latencies[count * 999 / 1000] / 1e3, used / 1e3 / pairs,
+        latencies[count - 1] / 1e3);
 }
 
 static const struct protocol *protocol_named(const char *name)
 {
-    const struct protocol *each[] = { &pqd, &redis, &beanstalkd };
-    for (int i = 0; i < 3; i++)
+    const struct protocol *each[] = { &pqd, &own, &together, &redis, &beanstalkd };
+    for (int i = 0; i < 5; i++)
         if (strcmp(each[i]->name, name) == 0)
             return each[i];
     fail("no such protocol");

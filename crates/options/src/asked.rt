@@ -13,8 +13,8 @@ pub struct Options<'a> {
     pub records: u32,
     /// The path of the file that keeps the memory, if one is to keep it.
     pub image: Option<&'a str>,
-    /// Each queue that the file keeps begins in fresh records: of so many clients, and so many of each. So does one that
-    /// has no room, while connections are served.
+    /// Each queue that the file keeps begins in fresh records: of so many clients, and so many of each. So does one
+    /// that has no room, while connections are served.
     pub renew: bool,
     /// How clients reach the broker.
     pub mode: Mode,

@@ -2,7 +2,7 @@
 
 use crate::patience::patience;
 use log::Log;
-use server::{net, opened};
+use server::{Service, net, opened};
 use std::alloc::{AllocError, Global};
 use std::io::{Read, Write};
 use std::net::{Net, OpenStream, SocketAddr, TcpListener, TcpStream};
@@ -85,5 +85,9 @@ pub(crate) fn served<R: Threads + Wait + Net + Clock + Log + Sync>(
     listener: &TcpListener,
 ) -> Result<Vec<u8>, Refusal> {
     let broker = opened(alloc, clients, records, None)?;
-    net(rt, alloc, broker, workers, listener)
+    let service = Service {
+        workers,
+        renew: false,
+    };
+    net(rt, alloc, broker, service, listener)
 }

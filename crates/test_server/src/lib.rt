@@ -14,6 +14,8 @@ mod patience;
 #[cfg(test)]
 mod playing;
 #[cfg(test)]
+mod renewing;
+#[cfg(test)]
 mod sharing;
 #[cfg(test)]
 mod slow;
