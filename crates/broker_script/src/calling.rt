@@ -152,12 +152,7 @@ impl Player {
     }
 
     /// A client's call in the queue of a slot goes on by at most so many steps.
-    fn go_on(
-        &mut self,
-        slot: SlotId,
-        client: Client,
-        most: u32,
-    ) -> Result<Option<Line>, Unfollowed>
+    fn go_on(&mut self, slot: SlotId, client: Client, most: u32) -> Result<Option<Line>, Unfollowed>
         requires ready { self.old.broker.recovery ≡ None }
         requires open { IsSome (world_at self.old.broker slot.0) }
         ensures lines { IfOk result (λ line. option_to_list line ≡ step_lines client most (play_at self.old slot.0)) }

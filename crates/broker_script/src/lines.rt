@@ -97,7 +97,11 @@ pub(crate) fn refused(room: Room, begun: bool, refusal: Refusal) -> Result<Vec<P
 pub(crate) fn unfollowed(begun: bool) -> Unfollowed
     ensures { result ≡ Unfollowed.PutOff → begun ≡ false }
 {
-    if begun { Unfollowed::Halfway } else { Unfollowed::PutOff }
+    if begun {
+        Unfollowed::Halfway
+    } else {
+        Unfollowed::PutOff
+    }
 }
 
 /// Adds lines, in their order.

@@ -113,7 +113,11 @@ impl Player {
 
     /// Follows a line, and answers what it gives: of an act that is refused the one line that says why. For want of
     /// memory it gives none. Then nothing was made of it (PutOff), or it is half followed (Halfway).
-    pub fn follow(&mut self, alloc: Global, statement: &Statement) -> Result<Vec<Printed>, Unfollowed>
+    pub fn follow(
+        &mut self,
+        alloc: Global,
+        statement: &Statement,
+    ) -> Result<Vec<Printed>, Unfollowed>
         ensures follows { IfOk result (λ lines. FollowsLine self.old statement.now lines.items self.new) }
         ensures put_off { PutsOff self.old result self.new }
     {

@@ -166,7 +166,11 @@ impl Player {
     }
 
     /// Recovery goes on by at most so many steps.
-    pub(crate) fn recover_by(&mut self, alloc: Global, most: u32) -> Result<Vec<Printed>, Unfollowed>
+    pub(crate) fn recover_by(
+        &mut self,
+        alloc: Global,
+        most: u32,
+    ) -> Result<Vec<Printed>, Unfollowed>
         ensures recovers { IfOk result (λ lines. RecoversBy most self.old lines.items self.new) }
         ensures put_off { PutsOff self.old result self.new }
     {

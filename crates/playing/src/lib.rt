@@ -19,9 +19,7 @@ pub use acts::accepted_acts;
 pub use answers::Alone;
 pub use attempts::{attempt, attempt_all, most_to_ready, repeat};
 pub use entries::{Ordered, named_call};
-pub use laws::{
-    one_transcript_without_again, refusals_alone_differ, transcripts_follow_attempts,
-};
+pub use laws::{one_transcript_without_again, refusals_alone_differ, transcripts_follow_attempts};
 pub use lines::{Line, Values, add, add_refused, text};
 pub use lone_calls::alone;
 pub use put_off::{Unfollowed, line_to_make};

@@ -264,10 +264,14 @@ impl Player {
     }
 
     /// Makes room for an act in the history, and for its lines.
-    fn make_room(&mut self, lines: &mut Vec<Line>) -> Result<(), Refusal>
+    fn make_room(&mut self, lines: &mut Vec<Line>, command: &Command) -> Result<(), Refusal>
         ensures play { self.new ≡ self.old }
         ensures lines { lines.new.items ≡ lines.old.items }
     {
+        // Nothing is made where an act was made already.
+        if let Command::Again = command {
+            return Ok(());
+        }
         self.world.reserve(1)?;
         // At the end of recovery each client has a line.
         let most = self.world.layout().clients() as usize + 1;
@@ -318,7 +322,7 @@ impl Player {
         ensures same_lines { IsErrOf result Unfollowed.PutOff → lines.new.items ≡ lines.old.items }
     {
         // With this room an act is refused no memory, nor its lines once it was made.
-        if self.make_room(lines).is_err() {
+        if self.make_room(lines, command).is_err() {
             return Err(Unfollowed::PutOff);
         }
         if is_shown(command) {
