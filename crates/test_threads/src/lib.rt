@@ -16,6 +16,8 @@ mod held;
 #[cfg(test)]
 mod lists;
 #[cfg(test)]
+mod noting;
+#[cfg(test)]
 mod renewals;
 #[cfg(test)]
 mod rotations;
