@@ -1,7 +1,8 @@
 //! How the histories end, and how a shared session is taken back.
 
-ghost use Rattle.std.specs.Prelude.{◌≡◌, [], length, IfErr, IfOk, IsTrue, OnErr, OnOk, slice_set};
+ghost use Rattle.std.specs.Prelude.{◌≡◌, ◌++◌, [], length, IfErr, IfOk, IsTrue, OnErr, OnOk, slice_set};
 ghost use Rattle.named.specs.Rotating.{IsRotated};
+ghost use Rattle.notes.specs.Noting.{IsMadeBy};
 ghost use Rattle.roll.specs.Rule.{IsKeeper, rows_of};
 ghost use Rattle.session.specs.Keeping.{SessionGoesOn};
 ghost use Rattle.session.specs.Promises.{KeepsNumbers};
@@ -12,13 +13,16 @@ ghost use Rattle.workers.specs.Seats.{AreSeatsRecorded, AreAllInOrder, AreEmpty,
 
 use crate::deeds::{Deed, Receipt, honoured};
 use crate::entry::Entry;
+use crate::handed::Handed;
 use crate::locked::Locked;
 use crate::naming::Naming;
 use crate::operator::Operator;
 use crate::seat::{Seat, known, seat_of};
 use crate::shared::Shared;
+use persist::Change;
 use roll::{Roll, Token};
 use session::Session;
+use std::alloc::Global;
 use std::sync::Wait;
 use waiting::lock;
 use words::Refusal;
@@ -140,6 +144,31 @@ impl<J: Naming> Shared<J> {
         let (session, keeper, _register) = self.locked.into_inner().into_parts();
         all_known(&self.roll, keeper, seats);
         session
+    }
+
+    /// As [`Shared::close`], with a last hand-on, which nothing follows: all that was handed on makes exactly the kept
+    /// words of the session. Of the batch it is refused as [`Shared::hand_on`] is.
+    pub fn close_handing_on(
+        self,
+        alloc: Global,
+        seats: Vec<Seat<J>>,
+        handed: Handed<J>,
+    ) -> (Session, Handed<J>, Result<Vec<Change>, Refusal>)
+        requires { AreAllInOrder (λ seat. seat.client) J.clients seats.items }
+        ensures lists { AreSeatsRecorded (λ seat. seat.list.items) J.first seats.items result.0 }
+        ensures goes_on { SessionGoesOn J.first result.0 }
+        ensures promises { KeepsNumbers result.0 }
+        ensures row { IfOk result.2 (λ batch. result.1 ≡ handed ++ batch.items) }
+        ensures made { OnOk result.2
+            (IsMadeBy result.1 J.first.broker.words.kept result.0.broker.words.kept) }
+        ensures same { OnErr result.2 (result.1 ≡ handed) }
+        ensures errors { IfErr result.2 (λ e. e ≡ Refusal.NoMemory) }
+    {
+        let mut locked = self.locked.into_inner();
+        let (handed, batch) = locked.hand_on(handed, Vec::new(alloc));
+        let (session, keeper, _register) = locked.into_parts();
+        all_known(&self.roll, keeper, seats);
+        (session, handed, batch)
     }
 
     /// As [`Shared::close`]. Everything stopped as often as the operator knows since the seats were given, and the

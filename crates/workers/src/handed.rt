@@ -65,7 +65,7 @@ impl<J: Naming> Handed<J> {
 impl<J: Naming> Locked<J> {
     /// Hands on all changes that were noted, and notes the next ones in another vector. It is refused for want of memory
     /// for what a creation was promised (NoMemory).
-    fn hand_on(
+    pub(crate) fn hand_on(
         &mut self,
         handed: Handed<J>,
         fresh: Vec<Change>,
