@@ -135,9 +135,10 @@ refuse 'pqx alone' crates/test_scenarios/data/points-log-enqueue.script "$pqx" a
 refuse 'pqx run --page' examples/kept.script "$pqx" run --page "$work/page"
 refuse 'pqx points --page' crates/test_scenarios/data/points-log-enqueue.script "$pqx" points --page "$work/page"
 refuse 'pqx broker run' tests/broker/image.in "$pqx" broker run
-again durable "$made_again" tests/memory/durable.script run
-again log "$made_again" tests/memory/log.script run
-again broker "$broker_made_again" tests/memory/broker.script broker run
+again durable 'call content crash order ready refused return' tests/memory/durable.script run
+again log 'call content crash order ready refused return' tests/memory/log.script run
+words='booted call content crash created creating evict found image order queues ready recovering refused renewed'
+again broker "$words return rotated set told" tests/memory/broker.script broker run
 printf '%s\n' 'broker 1 1' 'create a log 1' image > "$work/in"
 refuse 'pqx broker points' "$work/in" "$pqx" broker points
 printf '%s\n' '{"op":"create","queue":"a","kind":"log"}' '{"op":"put","client":0,"queue":"a","number":1,"value":"09000000"}' \
