@@ -1,4 +1,4 @@
-"""Plays scripts with each allocation refused in turn, a line `again` behind each of their lines: what is printed is what
+"""Plays a script with each allocation refused in turn, a line `again` behind each of its lines: what is printed is what
 is printed where none is refused, and beside that lines `refused 6 NoMemory` alone, or pqx says that there is no memory
 and prints nothing. It prints how often each came, and which lines were made again, by the first word that they print.
 
@@ -73,7 +73,8 @@ def main():
                 found[what] = found.get(what, 0) + 1
     said, none = found.pop("said", 0), found.pop("none", 0)
     again = " ".join(sorted(found))
-    print(f"{name}: {count} allocations refused, {sum(found.values())} made again, {said} said, {none} not missed: {again}")
+    made = sum(found.values())
+    print(f"{name}: {count} allocations refused, {made} made again, {said} said, {none} not missed: {again}")
     sys.exit(wrong)
 
 

@@ -1,10 +1,10 @@
 #!/usr/bin/env bash
 # What no clause says of refused memory: each allocation of crates/test_refusals and crates/test_shared_refusals is
 # refused in turn, and the program ends as where none is, but for the lines that say what was refused. These name every
-# call that can be refused memory and that no script makes, and each is made again. The parts of a story are told one at a
-# time, so that a refusal costs that part alone. Then pqx and pqd are run so: each does what it would, or says that there
-# is no memory. Scripts with a line `again` behind each line make what was refused once more. It takes the programs that
-# the last `rt ci`, or `rt run` in their folders, left, or those that REFUSALS, SHARED_REFUSALS, PQX and PQD name.
+# call that can be refused memory and that no script makes, and each is made again. The parts of a story are told one at
+# a time, so that a refusal costs that part alone. Then pqx and pqd are run so: each does what it would, or says that
+# there is no memory. Scripts with a line `again` behind each line make what was refused once more. It takes the programs
+# that the last `rt ci`, or `rt run` in their folders, left, or those that REFUSALS, SHARED_REFUSALS, PQX and PQD name.
 set -eu
 cd "$(dirname "$0")/.."
 . tests/cases.sh
@@ -116,8 +116,8 @@ refuse() {
     printf '%s: %d of %d allocations refused are said\n' "$name" "$refused" "$(cat "$work/count")"
 }
 # A script with `again` behind each line, with each allocation refused in turn: it prints what it does where none is
-# refused, but that an act was refused for want of memory, which is made again; or it says that there is no memory. Lines
-# that begin with these words were made again: NAME WORDS SCRIPT WORD..
+# refused, but that an act was refused for want of memory, which is made again; or it says that there is no memory.
+# Lines that begin with these words were made again: NAME WORDS SCRIPT WORD..
 again() {
     local name=$1 words=$2 status=0 said= seen
     shift 2
