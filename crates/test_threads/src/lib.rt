@@ -16,8 +16,6 @@ mod held;
 #[cfg(test)]
 mod lists;
 #[cfg(test)]
-mod noting;
-#[cfg(test)]
 mod renewals;
 #[cfg(test)]
 mod rotations;
