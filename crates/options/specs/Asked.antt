@@ -1,5 +1,5 @@
 -- What the words of a command line ask.
-use Rattle.std.specs.Prelude.{◌≡◌, ◌⊎◌, ◌↔◌, IsTrue, List, [], Option, Some, codes, option_map, option_and_then}
+use Rattle.std.specs.Prelude.{◌≡◌, ◌⊎◌, ◌↔◌, IsTrue, List, [], Option, Some, None, ⊤, codes, option_map, option_and_then}
 use Rattle.words.specs.declared.limits.TheConstants.{MAX_CLIENTS, MAX_RECORDS}
 use Rattle.clap.specs.Words.{Row, Text, IsAmong, fault_of, first_of, kind_of, subcommand_of}
 use Rattle.clap.specs.declared.error.Error.{Error}
@@ -10,6 +10,9 @@ use Rattle.options.specs.Numbers.{Fits, number_of}
 use Rattle.options.specs.declared.asked.Options.{Options}
 use Rattle.options.specs.declared.asked.Listening.{Listening}
 use Rattle.options.specs.declared.asked.Mode.{Mode}
+use Rattle.options.specs.declared.asked.Journaling.{Journaling}
+use Rattle.options.specs.declared.asked.Syncing.{Syncing}
+use Rattle.options.specs.declared.asked.Syncing.TheVariants.{Always, EachSecond, Never}
 use Rattle.options.specs.declared.asked.Mode.TheVariants.{Pipe, Serve}
 
 -- the name of the command that a parse met, with what its options were given
@@ -36,10 +39,32 @@ IsKnown command = (command ≡ Some (codes "pipe")) ⊎ (command ≡ Some (codes
 abbrev pub ListeningFits : (Text → Option Text) → Type 0
 ListeningFits given = Fits 0 MAX_PORT (given (codes "port")) × Fits 1 MAX_WORKERS (given (codes "workers"))
 
--- the same of each number that any command was given
+-- the syncing is the one that is given, and each second where none is
+abbrev pub SyncsBy : Option Text → Syncing → Type 0
+SyncsBy given Always = given ≡ Some (codes "always")
+SyncsBy given EachSecond = (given ≡ None) ⊎ (given ≡ Some (codes "second"))
+SyncsBy given Never = given ≡ Some (codes "never")
+
+-- no syncing is given, or one of the three
+abbrev pub IsSyncing : Option Text → Type 0
+IsSyncing None = ⊤
+IsSyncing (Some text) = (text ≡ codes "always") ⊎ (text ≡ codes "second") ⊎ (text ≡ codes "never")
+
+-- the syncing of a journal is one of the three, and is given with a journal alone
+pub record JournalFits (given : Text → Option Text) : Type 0 where
+  pub syncing : IsSyncing (given (codes "sync"))
+  pub along : given (codes "journal") ≡ None → given (codes "sync") ≡ None
+
+-- the journal is that of its option, with the syncing of its own
+abbrev pub JournalsBy : (Text → Option Text) → Option Journaling → Type 0
+JournalsBy given None = (given (codes "journal") ≡ None) × (given (codes "sync") ≡ None)
+JournalsBy given (Some j) = (given (codes "journal") ≡ Some j.file.now) × SyncsBy (given (codes "sync")) j.syncing
+
+-- what any command was given fits: each number, and the syncing
 pub record AllFit (command : Option Text) (given : Text → Option Text) : Type 0 where
   pub clients : Fits 1 MAX_CLIENTS (given (codes "clients"))
   pub records : Fits 1 MAX_RECORDS (given (codes "records"))
+  pub journal : JournalFits given
   pub listening : command ≡ Some (codes "serve") → ListeningFits given
 
 -- a server listens where its options say, and has as many workers
@@ -59,6 +84,7 @@ pub record Asks (command : Option Text) (given : Text → Option Text) (o : Opti
   pub clients : o.clients ≡ number_of DEFAULT_CLIENTS (given (codes "clients"))
   pub records : o.records ≡ number_of DEFAULT_RECORDS (given (codes "records"))
   pub image : option_map (λ s. s.now) o.image ≡ given (codes "image")
+  pub journal : JournalsBy given o.journal
   pub renew : IsTrue o.renew ↔ (given (codes "renew") ≡ Some (codes "true"))
   pub mode : IsModeOf command given o.mode
 

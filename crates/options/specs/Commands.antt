@@ -20,11 +20,17 @@ with_queue_rules a = with_rule (with_rule (with_rule (with_rule a
     (option_rule (codes "image")))
     (flag_rule (codes "renew"))
 
+-- a command with the options of a journal
+abbrev pub with_journal_rules : App → App
+with_journal_rules a = with_rule (with_rule a
+    (option_rule (codes "journal")))
+    (option_rule (codes "sync"))
+
 abbrev pub pipe_app : App
-pipe_app = with_queue_rules (new_app (codes "pipe"))
+pipe_app = with_journal_rules (with_queue_rules (new_app (codes "pipe")))
 
 abbrev pub serve_app : App
-serve_app = with_rule (with_rule (with_queue_rules (new_app (codes "serve")))
+serve_app = with_rule (with_rule (with_journal_rules (with_queue_rules (new_app (codes "serve"))))
     (option_rule (codes "port")))
     (option_rule (codes "workers"))
 

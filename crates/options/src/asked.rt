@@ -13,6 +13,8 @@ pub struct Options<'a> {
     pub records: u32,
     /// The path of the file that keeps the memory, if one is to keep it.
     pub image: Option<&'a str>,
+    /// The journal that has every change before a reply that follows it, if one is to be kept.
+    pub journal: Option<Journaling<'a>>,
     /// Each queue that the file keeps begins in fresh records: of so many clients, and so many of each. So does one
     /// that has no room, while connections are served.
     pub renew: bool,
@@ -22,6 +24,25 @@ pub struct Options<'a> {
     ghost few_clients: { clients ≤ MAX_CLIENTS },
     ghost some_records: { 1 ≤ records },
     ghost few_records: { records ≤ MAX_RECORDS },
+}
+
+/// The journal of a broker.
+#[derive(Clone, Copy, Debug, PartialEq, Eq)]
+pub struct Journaling<'a> {
+    /// The path of its file.
+    pub file: &'a str,
+    pub syncing: Syncing,
+}
+
+/// When the system is asked to keep a journal's bytes, so that they outlive a loss of power.
+#[derive(Clone, Copy, Debug, PartialEq, Eq)]
+pub enum Syncing {
+    /// Before each reply that follows them.
+    Always,
+    /// Each second.
+    EachSecond,
+    /// Never, but at the end.
+    Never,
 }
 
 /// How clients reach the broker.

@@ -3,7 +3,8 @@
 ghost use Rattle.std.specs.Prelude.{◌≡◌, IfOk, false};
 ghost use Rattle.clap.specs.Words.{app_of, rule_of};
 ghost use Rattle.clap.specs.declared.builder.command.Command.TheViews.{out-Command};
-ghost use Rattle.options.specs.Commands.{flag_rule, option_rule, pipe_app, pqd_app, serve_app, with_queue_rules};
+ghost use Rattle.options.specs.Commands.{flag_rule, option_rule, pipe_app, pqd_app, serve_app, with_journal_rules};
+ghost use Rattle.options.specs.Commands.{with_queue_rules};
 
 use crate::program::VERSION;
 use clap::{Arg, ArgAction, Command};
@@ -30,6 +31,27 @@ pub(crate) fn flag<'a>(alloc: Global, name: &'a str, help: &'a str) -> Arg<'a>
         .long(name)
         .action(ArgAction::SetTrue)
         .help(help)
+}
+
+/// The command with the options of a journal.
+fn with_journal_options<'a>(alloc: Global, command: Command<'a>) -> Result<Command<'a>, AllocError>
+    ensures app { IfOk result (λ c. app_of c ≡ with_journal_rules (app_of command.entry)) }
+    ensures local { (out-Command command.entry).has_globals ≡ false
+        → IfOk result (λ c. (out-Command c).has_globals ≡ false) }
+{
+    let journal = option(
+        alloc,
+        "journal",
+        "FILE",
+        "Has every change in this file before a reply that follows it, so that a kill loses nothing",
+    );
+    let sync = option(
+        alloc,
+        "sync",
+        "WHEN",
+        "When the journal outlives a loss of power: always, second or never [default: second]",
+    );
+    command.arg(journal)?.arg(sync)
 }
 
 /// The command with the options of a broker and its queues, and what it says of `--renew`.
@@ -64,7 +86,7 @@ fn with_queue_options<'a>(
     command.arg(clients)?.arg(records)?.arg(image)?.arg(renew)
 }
 
-/// `pipe [--clients T] [--records K] [--image FILE] [--renew]`
+/// `pipe [--clients T] [--records K] [--image FILE] [--journal FILE [--sync WHEN]] [--renew]`
 fn pipe<'a>(alloc: Global) -> Result<Command<'a>, AllocError>
     ensures app { IfOk result (λ c. app_of c ≡ pipe_app) }
     ensures local { IfOk result (λ c. (out-Command c).has_globals ≡ false) }
@@ -72,14 +94,15 @@ fn pipe<'a>(alloc: Global) -> Result<Command<'a>, AllocError>
     let command = Command::new(alloc, "pipe").about(
         "Answers the requests of standard input on standard output",
     );
-    with_queue_options(
+    let command = with_queue_options(
         alloc,
         command,
         "Begins each queue of the file in fresh records: of T clients, K of each",
-    )
+    )?;
+    with_journal_options(alloc, command)
 }
 
-/// `serve [--clients T] [--records K] [--image FILE] [--renew] [--port P] [--workers N]`
+/// `serve [--clients T] [--records K] [--image FILE] [--journal FILE [--sync WHEN]] [--renew] [--port P] [--workers N]`
 fn serve<'a>(alloc: Global) -> Result<Command<'a>, AllocError>
     ensures app { IfOk result (λ c. app_of c ≡ serve_app) }
     ensures local { IfOk result (λ c. (out-Command c).has_globals ≡ false) }
@@ -99,13 +122,14 @@ fn serve<'a>(alloc: Global) -> Result<Command<'a>, AllocError>
         "N",
         "The connections that are served at once, 1 to 16 [default: 4]",
     );
-    with_queue_options(
+    let command = with_queue_options(
         alloc,
         command,
         "Begins queues in fresh records: of the file, and then where there is no room",
-    )?
-    .arg(port)?
-    .arg(workers)
+    )?;
+    with_journal_options(alloc, command)?
+        .arg(port)?
+        .arg(workers)
 }
 
 /// `pqd pipe`, `pqd serve`

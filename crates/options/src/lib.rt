@@ -12,7 +12,7 @@ mod pqx_commands;
 mod pqx_line;
 mod program;
 
-pub use asked::{Listening, Mode, Options};
+pub use asked::{Journaling, Listening, Mode, Options, Syncing};
 pub use limits::{
     DEFAULT_CLIENTS, DEFAULT_DRAW, DEFAULT_PORT, DEFAULT_RECORDS, DEFAULT_WORKERS, MAX_DRAW,
     MAX_PORT, MAX_WORKERS, limits_are_fixed,

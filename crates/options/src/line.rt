@@ -1,11 +1,11 @@
 //! What the words of a command line ask.
 
-ghost use Rattle.std.specs.Prelude.{◌≡◌, ◌↔◌, IfOk, IfErr, IsTrue, OnErr, Some, codes, map};
+ghost use Rattle.std.specs.Prelude.{◌≡◌, ◌↔◌, IfOk, IfErr, IsTrue, OnErr, Some, codes, map, option_map};
 ghost use Rattle.clap.specs.Words.{first_value, found_of, kind_of, subcommand_rows_of};
 ghost use Rattle.options.specs.Asked.{AllFit, Asks, IsAsked, IsKnown, ListeningFits, ListensBy, Refuses};
-ghost use Rattle.options.specs.Asked.{name_in, values_in};
+ghost use Rattle.options.specs.Asked.{IsSyncing, JournalFits, JournalsBy, SyncsBy, name_in, values_in};
 
-use crate::asked::{Listening, Mode, Options};
+use crate::asked::{Journaling, Listening, Mode, Options, Syncing};
 use crate::commands::pqd;
 use crate::limits::{CLIENTS, PORT, RECORDS, WORKERS};
 use crate::number::Misfit;
@@ -35,6 +35,38 @@ fn listening(given: &ArgMatches<'_>) -> Result<Listening, Misfit>
     })
 }
 
+/// When a journal's bytes are kept.
+fn syncing(given: Option<&str>) -> Result<Syncing, Misfit>
+    ensures chosen { IfOk result (SyncsBy (option_map (λ s. s.now) given.entry)) }
+    ensures misfit { OnErr result (¬ (IsSyncing (option_map (λ s. s.now) given.entry))) }
+{
+    let Some(text) = given else {
+        return Ok(Syncing::EachSecond);
+    };
+    match text {
+        "always" => Ok(Syncing::Always),
+        "second" => Ok(Syncing::EachSecond),
+        "never" => Ok(Syncing::Never),
+        _ => Err(Misfit::Syncing),
+    }
+}
+
+/// The journal that is asked for, if one is.
+fn journaling<'a>(given: &ArgMatches<'a>) -> Result<Option<Journaling<'a>>, Misfit>
+    ensures asked { IfOk result (JournalsBy (first_value (found_of given.now))) }
+    ensures misfit { OnErr result (¬ (JournalFits (first_value (found_of given.now)))) }
+{
+    let when = given.get_str("sync");
+    let Some(file) = given.get_str("journal") else {
+        return match when {
+            Some(_) => Err(Misfit::Unjournaled),
+            None => Ok(None),
+        };
+    };
+    let syncing = syncing(when)?;
+    Ok(Some(Journaling { file, syncing }))
+}
+
 /// What a command asks with the options that it was given.
 fn options<'a>(command: &str, given: &ArgMatches<'a>) -> Result<Options<'a>, Misfit>
     requires known { IsKnown (Some command.now) }
@@ -43,6 +75,7 @@ fn options<'a>(command: &str, given: &ArgMatches<'a>) -> Result<Options<'a>, Mis
 {
     let clients = CLIENTS.read(given.get_str("clients"))?;
     let records = RECORDS.read(given.get_str("records"))?;
+    let journal = journaling(given)?;
     let mode = match command {
         "serve" => Mode::Serve(listening(given)?),
         _ => Mode::Pipe,
@@ -51,6 +84,7 @@ fn options<'a>(command: &str, given: &ArgMatches<'a>) -> Result<Options<'a>, Mis
         clients,
         records,
         image: given.get_str("image"),
+        journal,
         renew: is_set(given, "renew"),
         mode,
     })

@@ -22,6 +22,14 @@ pub(crate) struct NumberOption {
 }
 
 impl NumberOption {
+    fn misfit(self) -> Misfit {
+        Misfit::Number {
+            name: self.name,
+            least: self.least,
+            most: self.most,
+        }
+    }
+
     /// The number that is given, or the default where none is.
     pub(crate) fn read(self, given: Option<&str>) -> Result<u32, Misfit>
         ensures number { OkIff result (Fits self.least self.most (option_map (λ s. s.now) given.entry))
@@ -32,26 +40,39 @@ impl NumberOption {
             return Ok(self.default);
         };
         let Ok(number) = text.parse::<u32>() else {
-            return Err(Misfit(self));
+            return Err(self.misfit());
         };
         if number < self.least || self.most < number {
-            return Err(Misfit(self));
+            return Err(self.misfit());
         }
         Ok(number)
     }
 }
 
-/// The option was given what is no number of its range.
+/// An option was given what it does not take.
 #[derive(Clone, Copy, Debug)]
-pub(crate) struct Misfit(NumberOption);
+pub(crate) enum Misfit {
+    /// What is no number of its range.
+    Number {
+        name: &'static str,
+        least: u32,
+        most: u32,
+    },
+    /// `--sync` was given what is none of its three words.
+    Syncing,
+    /// `--sync` was given without a journal.
+    Unjournaled,
+}
 
 impl fmt::Display for Misfit {
     fn fmt<W: fmt::Write>(&self, f: &mut fmt::Formatter<W>) -> fmt::Result {
-        let option = self.0;
-        write!(
-            f,
-            "the option '--{}' takes a whole number from {} to {}",
-            option.name, option.least, option.most
-        )
+        match self {
+            Misfit::Number { name, least, most } => write!(
+                f,
+                "the option '--{name}' takes a whole number from {least} to {most}"
+            ),
+            Misfit::Syncing => f.write_str("the option '--sync' takes always, second or never"),
+            Misfit::Unjournaled => f.write_str("the option '--sync' goes with '--journal'"),
+        }
     }
 }

@@ -1,5 +1,5 @@
-use Rattle.std.proofs.Common.{map, refl}
-use Rattle.options.specs.Asked.{Asks, Refuses}
+use Rattle.std.proofs.Common.{map, refl, inr}
+use Rattle.options.specs.Asked.{AllFit, Asks, Refuses}
 use Rattle.options.specs.Commands.{pqd_app}
 use Rattle.options.proofs.ByWords.{faultless, held_by_words, known_met, passed_on, refused}
 use Rattle.options.proofs.line.command_line.Goals as goal
@@ -22,3 +22,10 @@ returns-in-Ok-clause-asked g c = record {
   asks = held_by_words pqd_app refl refl (λ command values. Asks command values c.in-Ok.options) _ _ c.in_ok-matches.matches c.in_ok-command.ensures.app
       c.in_ok-matches.ensures.ok.2 c.in-Ok.ensures.asked;
 }
+
+pub returns-clause-refused : goal.returns-clause-refused
+returns-clause-refused g c = inr (inr (
+  c.in_ok-explained-in-Err.ensures,
+  held_by_words pqd_app refl refl (λ command values. ¬ (AllFit command values)) _ _ c.in_ok-matches.matches c.in_ok-command.ensures.app
+      c.in_ok-matches.ensures.ok.2 c.in-Err.ensures.misfit,
+))
