@@ -8,9 +8,11 @@ mod file;
 mod laws;
 mod numbers;
 mod on_device;
+mod storage;
 
 pub use appender::Appender;
 pub use faulty::FaultyAppender;
 pub use file::FileAppender;
 pub use laws::{restarts_have_what_was_kept, running_journals_are_read};
 pub use on_device::{Journal, MAX_SIZE};
+pub use storage::Storage;
