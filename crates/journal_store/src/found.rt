@@ -1,0 +1,30 @@
+//! What the bytes of a journal's file are taken for.
+
+ghost use Rattle.std.specs.Prelude.{IfOk};
+ghost use Rattle.journal_store.specs.Found.{IsFoundIn};
+
+use crate::fault::Fault;
+use journal::{Reading, hides_kept_frame};
+use std::alloc::Global;
+
+/// What a file has.
+#[derive(Debug, Drop)]
+pub struct Found {
+    /// The words that its journal leaves.
+    pub words: Vec<u64>,
+    /// How many bytes of a torn frame follow it, which are left out.
+    pub torn: usize,
+}
+
+/// The words of these bytes. A torn tail is left out, unless bytes of it were kept: then they are damaged (BadSum).
+pub(crate) fn found_in(alloc: Global, bytes: &[u8]) -> Result<Found, Fault>
+    ensures { IfOk result (IsFoundIn bytes.now) }
+{
+    let Reading { key, words, cut } = journal::read(alloc, bytes)?;
+    // A tail is never longer than the bytes.
+    let end = bytes.len().saturating_sub(cut);
+    if cut > 0 && hides_kept_frame(&key, bytes, end) {
+        return Err(Fault::BadSum);
+    }
+    Ok(Found { words, torn: cut })
+}
