@@ -1,7 +1,7 @@
 -- How a broker begins to serve on the words that an image keeps.
 use Rattle.std.specs.Prelude.{◌≡◌, ◌⊎◌, ℕ, Bool, true, false, List, [], Option, Some, None, Result, Ok, Err}
 use Rattle.words.specs.declared.refusal.Refusal.{Refusal}
-use Rattle.words.specs.declared.refusal.Refusal.TheVariants.{NoMemory}
+use Rattle.words.specs.declared.refusal.Refusal.TheVariants.{BadCount, NoMemory}
 use Rattle.persist.specs.Image.{reading, reading_v1}
 use Rattle.persist.specs.Memory.{Words, words_at_rest}
 use Rattle.arena.specs.Content.{kept_content as content_of}
@@ -19,7 +19,7 @@ use Rattle.renewal.specs.Broker.{broker_renewed}
 use Rattle.interleave.specs.Queue.{told_in}
 use Rattle.interleave.specs.State.{State, kept_content, order_in}
 use Rattle.interleave.specs.Values.{value_of_place}
-use Rattle.named.specs.Booting.{AreBootWords, AreBootWordsIn, IsBooted, MayRefuseIn, kept_block}
+use Rattle.named.specs.Booting.{AreBootWords, AreBootWordsIn, IsBooted, MayRefuse, MayRefuseIn, kept_block}
 use Rattle.named.specs.Brokers.{Brokered, world_at}
 use Rattle.named.specs.Migrating.{IsMigrated}
 use Rattle.named.specs.Renewing.{AreToldAsBefore, IsRenewed, IsWhyUnrenewed}
@@ -141,3 +141,15 @@ pub record IsUnrenewedBy (first : Bool) (image : List ℕ) (to : Counts) (refusa
 
 abbrev pub IsWhyNotRenewed : Bool → List ℕ → Counts → Refusal → Type 0
 IsWhyNotRenewed first image to refusal = IsWhyUnopened first image refusal ⊎ IsUnrenewedBy first image to refusal
+
+-- why a broker does not go on, on words that a journal left: they are no memory's, or break a rule, or memory ran out
+abbrev pub IsWhyNotReopened : List ℕ → Refusal → Type 0
+IsWhyNotReopened words refusal = (refusal ≡ BadCount) ⊎ (refusal ≡ NoMemory) ⊎ MayRefuse words refusal
+
+-- the broker in fresh records, of these counts, that goes on with what the words hold and tell
+abbrev pub IsReopenedAnew : List ℕ → Counts → Brokered → Type 0
+IsReopenedAnew words to b = AreBootWords words × IsOpenedAnew words to b
+
+-- why it does not: they are refused, or not renewed
+abbrev pub IsWhyNotReopenedAnew : List ℕ → Counts → Refusal → Type 0
+IsWhyNotReopenedAnew words to refusal = IsWhyNotReopened words refusal ⊎ IsWhyUnrenewed words to refusal

@@ -29,7 +29,7 @@ fn begun(alloc: Global, image: &[u8]) -> Result<Broker, Refusal>
 }
 
 /// The broker once it has recovered, which began on some words. It is refused for want of memory alone (NoMemory).
-fn recovered(start: Broker) -> Result<Broker, Refusal>
+pub(crate) fn recovered(start: Broker) -> Result<Broker, Refusal>
     requires begun { (ws : Words) × HasBegunOn ws start }
     requires kept { KeepsPromises start }
     ensures opened { IfOk result (λ broker. (ws : Words) → HasBegunOn ws start → IsOpened ws broker) }
