@@ -6,12 +6,13 @@ ghost use Rattle.server.specs.Sessions.{IsUncalled};
 ghost use Rattle.pqd.specs.declared.Fault.TheVariants.{Refused};
 
 mod image;
+mod keeping;
 
 use devices::{CountedReader, CountedWriter};
 use log::Log;
 use named::Broker;
 use options::{Listening, Mode, Options, command_line};
-use server::{Service, net, opened, pipe, renewed};
+use server::{Service, Unserved, net, opened, pipe, renewed};
 use std::fs::File;
 use std::io;
 use std::net::{Net, SocketAddr, TcpListener};
@@ -29,6 +30,12 @@ enum Fault {
     Refused(Refusal),
     #[error("listen failed")]
     Listen,
+    /// The journal's file is not used.
+    #[error("{0}")]
+    Journal(journal_store::Fault),
+    /// What was done could not be kept in the journal, and so no reply tells of it.
+    #[error("31 NotKept")]
+    NotKept,
 }
 
 impl From<Refusal> for Fault {
@@ -36,6 +43,21 @@ impl From<Refusal> for Fault {
 
     fn from(refusal: Refusal) -> Fault {
         Fault::Refused(refusal)
+    }
+}
+
+impl From<journal_store::Fault> for Fault {
+    fn from(fault: journal_store::Fault) -> Fault {
+        Fault::Journal(fault)
+    }
+}
+
+impl From<Unserved> for Fault {
+    fn from(unserved: Unserved) -> Fault {
+        match unserved {
+            Unserved::Refused(refusal) => Fault::Refused(refusal),
+            Unserved::NotKept => Fault::NotKept,
+        }
     }
 }
 
@@ -74,17 +96,8 @@ fn fill_places(rt: &HostRuntime) -> [io::Result<File>; 3] {
     ]
 }
 
-/// Serves connections of the loopback, once it has said where it listens. The image that it leaves.
-fn serve_connections<T: Threads + Wait + Net + Log + Clock + Sync>(
-    threads: &T,
-    rt: &HostRuntime,
-    broker: Broker,
-    at: Listening,
-    renew: bool,
-) -> Result<Vec<u8>, Fault>
-    requires { IsUncalled broker }
-{
-    let _places = fill_places(rt);
+/// A listener of the loopback's port, once it has said where it listens.
+fn listener_at(rt: &HostRuntime, at: Listening) -> Result<TcpListener, Fault> {
     let Ok(listener) = TcpListener::bind(rt, SocketAddr::from(([127u8, 0, 0, 1], at.port))) else {
         return Err(Fault::Listen);
     };
@@ -94,11 +107,43 @@ fn serve_connections<T: Threads + Wait + Net + Log + Clock + Sync>(
     if println!(rt; "listening {address}").is_err() {
         return Err(Fault::Refused(Refusal::WriteFailed));
     }
-    let service = Service {
+    Ok(listener)
+}
+
+/// How connections are served that are asked for so.
+fn service_of(at: Listening, asked: &Options<'_>) -> Service {
+    Service {
         workers: at.workers,
-        renew,
-    };
+        renew: asked.renew,
+    }
+}
+
+/// Serves connections of the loopback. The image that it leaves.
+fn serve_connections<T: Threads + Wait + Net + Log + Clock + Sync>(
+    threads: &T,
+    rt: &HostRuntime,
+    broker: Broker,
+    service: Service,
+    at: Listening,
+) -> Result<Vec<u8>, Fault>
+    requires { IsUncalled broker }
+{
+    let _places = fill_places(rt);
+    let listener = listener_at(rt, at)?;
     Ok(net(threads, rt.alloc(), broker, service, &listener)?)
+}
+
+/// Serves as the options ask, in memory. The image that it leaves.
+fn serve_in_memory<T: Threads + Wait + Net + Log + Clock + Sync>(
+    threads: &T,
+    rt: &HostRuntime,
+    asked: &Options<'_>,
+) -> Result<Vec<u8>, Fault> {
+    let broker = broker_for(rt, asked)?;
+    match asked.mode {
+        Mode::Pipe => Ok(serve_input(threads, rt, broker)?),
+        Mode::Serve(at) => serve_connections(threads, rt, broker, service_of(at, asked), at),
+    }
 }
 
 /// Serves as the options ask, and writes the image's file at the end.
@@ -107,10 +152,9 @@ fn serve<T: Threads + Wait + Net + Log + Clock + Sync>(
     rt: &HostRuntime,
     asked: Options<'_>,
 ) -> Result<(), Fault> {
-    let broker = broker_for(rt, &asked)?;
-    let image = match asked.mode {
-        Mode::Pipe => serve_input(threads, rt, broker)?,
-        Mode::Serve(at) => serve_connections(threads, rt, broker, at, asked.renew)?,
+    let image = match asked.journal {
+        Some(journaling) => keeping::serve(threads, rt, &asked, journaling)?,
+        None => serve_in_memory(threads, rt, &asked)?,
     };
     if let Some(path) = asked.image {
         image::write(rt, path, &image)?;

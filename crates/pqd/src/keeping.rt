@@ -1,0 +1,120 @@
+//! Serving with a journal.
+
+ghost use Rattle.std.specs.Prelude.{IfOk, IfSome};
+ghost use Rattle.server.specs.Sessions.{IsUncalled};
+
+use crate::{Fault, broker_for, fill_places, listener_at, service_of};
+use devices::{CountedReader, CountedWriter};
+use journal_store::{Found, Store};
+use lasting::Policy;
+use log::Log;
+use named::Broker;
+use options::{Journaling, Listening, Mode, Options, Syncing};
+use server::{Lasting, Left, Service, Unserved, net_lasting, pipe_lasting, reopened, reopened_anew};
+use std::io;
+use std::net::Net;
+use std::sync::Wait;
+use std::thread::Threads;
+use std::time::Clock;
+use words::Refusal;
+
+/// When the journal is kept that is asked for so.
+fn policy_of(syncing: Syncing) -> Policy {
+    match syncing {
+        Syncing::Always => Policy::Always,
+        Syncing::EachSecond => Policy::EachSecond,
+        Syncing::Never => Policy::Never,
+    }
+}
+
+/// Says that a torn frame is left out, of which the file is kept too.
+fn tell_torn(rt: &HostRuntime, store: &Store<'_>, torn: usize) -> Result<(), Refusal> {
+    let kept = match store.keep_torn() {
+        Ok(()) => "kept as FILE.torn",
+        Err(_) => "not kept",
+    };
+    match eprintln!(rt; "pqd: the journal ends in {torn} bytes of a torn frame, left out and {kept}") {
+        Ok(()) => Ok(()),
+        Err(_) => Err(Refusal::WriteFailed),
+    }
+}
+
+/// The broker that goes on from what the journal left, in fresh records if the options say so.
+fn broker_on(rt: &HostRuntime, asked: &Options<'_>, found: Found) -> Result<Broker, Refusal>
+    ensures { IfOk result IsUncalled }
+{
+    if asked.renew {
+        return reopened_anew(rt.alloc(), asked.clients, asked.records, found.words);
+    }
+    reopened(rt.alloc(), found.words)
+}
+
+/// The broker that goes on from the journal; or, where there is none yet, the one that the options ask for.
+fn broker_from(
+    rt: &HostRuntime,
+    asked: &Options<'_>,
+    store: &Store<'_>,
+) -> Result<Broker, Fault>
+    ensures { IfOk result IsUncalled }
+{
+    let Some(found) = store.find()? else {
+        return Ok(broker_for(rt, asked)?);
+    };
+    if found.torn > 0 {
+        tell_torn(rt, store, found.torn)?;
+    }
+    Ok(broker_on(rt, asked, found)?)
+}
+
+/// Serves standard input to standard output, with a journal. The image that it leaves.
+fn serve_input<T: Wait + Clock>(
+    waits: &T,
+    rt: &HostRuntime,
+    broker: Broker,
+    lasting: Lasting<'_, Store<'_>>,
+) -> Result<Vec<u8>, Fault>
+    requires { IsUncalled broker }
+{
+    let mut reader = CountedReader::new(rt.reader());
+    let mut writer = CountedWriter::new(io::writer(rt));
+    let left = pipe_lasting(waits, rt.alloc(), broker, lasting, &mut reader, &mut writer)?;
+    Ok(left.image)
+}
+
+/// Serves connections of the loopback, with a journal. The image that it leaves.
+fn serve_connections<T: Threads + Wait + Net + Log + Clock + Sync>(
+    threads: &T,
+    rt: &HostRuntime,
+    broker: Broker,
+    lasting: Lasting<'_, Store<'_>>,
+    service: Service,
+    at: Listening,
+) -> Result<Vec<u8>, Fault>
+    requires { IsUncalled broker }
+{
+    let _places = fill_places(rt);
+    let listener = listener_at(rt, at)?;
+    let left = net_lasting(threads, rt.alloc(), broker, service, lasting, &listener)?;
+    Ok(left.image)
+}
+
+/// Serves as the options ask: each change is in the journal before a reply that follows it. The image that it leaves.
+pub(crate) fn serve<T: Threads + Wait + Net + Log + Clock + Sync>(
+    threads: &T,
+    rt: &HostRuntime,
+    asked: &Options<'_>,
+    journaling: Journaling<'_>,
+) -> Result<Vec<u8>, Fault> {
+    let store = Store::open(rt, journaling.file)?;
+    let broker = broker_from(rt, asked, &store)?;
+    let lasting = Lasting {
+        storage: &store,
+        policy: policy_of(journaling.syncing),
+    };
+    match asked.mode {
+        Mode::Pipe => serve_input(threads, rt, broker, lasting),
+        Mode::Serve(at) => {
+            serve_connections(threads, rt, broker, lasting, service_of(at, asked), at)
+        }
+    }
+}
