@@ -47,9 +47,12 @@ class Connection:
 class Server:
     """A running `pqd serve`."""
 
-    def __init__(self, pqd, image, records=RECORDS):
+    def __init__(self, pqd, image, records=RECORDS, options=()):
         words = [pqd, "serve", "--clients", str(CLIENTS), "--records", str(records), "--port", "0", "--workers", "8"]
-        self.process = subprocess.Popen([*words, "--image", image], stdout=subprocess.PIPE)
+        self.process = subprocess.Popen([*words, "--image", image, *options], stdout=subprocess.PIPE)
+        self.listen()
+
+    def listen(self):
         line = self.process.stdout.readline().decode()
         if not line.startswith("listening "):
             raise Different(f"the server does not listen: {line}")
