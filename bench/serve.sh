@@ -6,9 +6,10 @@
 # of each figure. Printed, not tested.
 #
 # A pair is, on a queue that the connection has for itself: of pqd a put and a take of a durable queue; of beanstalkd
-# put, reserve and delete of a job, the delete once the job is known; of redis RPUSH and LPOP. pqd keeps its words in
-# memory and writes an image when it stops, so its like are the peers in memory; the others write to the folder of
-# TMPDIR, beanstalkd with its own pause between two syncs.
+# put, reserve and delete of a job, the delete once the job is known; of redis RPUSH and LPOP. Without a journal pqd keeps
+# its words in memory and writes an image when it stops, so its like are the peers in memory. The others write to the
+# folder of TMPDIR: pqd with a journal that is kept each second (`pqd-second`) or before each reply (`pqd-always`), redis
+# likewise, beanstalkd with its own pause between two syncs or none (`beanstalkd-b0`).
 #
 # With --renew only pqd is measured, with 8 clients: for a minute (LASTS seconds) in which its queues are renewed over
 # and over, beside a second without, or less, of which a client has room for no more. Each connection has a queue for
@@ -70,7 +71,12 @@ start() {
             start_pqd 16
             return
             ;;
+        pqd-second | pqd-always)
+            start_pqd 16 --journal "$work/data/journal" --sync "${1#pqd-}"
+            return
+            ;;
         beanstalkd) beanstalkd -l 127.0.0.1 -p "$port" > /dev/null & ;;
+        beanstalkd-b0) beanstalkd -l 127.0.0.1 -p "$port" -b "$work/data" -f 0 > /dev/null & ;;
         beanstalkd-b) beanstalkd -l 127.0.0.1 -p "$port" -b "$work/data" > /dev/null & ;;
         redis) "${redis[@]}" --appendonly no > /dev/null & ;;
         redis-everysec) "${redis[@]}" --appendonly yes --appendfsync everysec > /dev/null & ;;
@@ -116,9 +122,9 @@ if [ -n "$renewed" ]; then
     exit
 fi
 
-servers=(pqd)
+servers=(pqd pqd-second pqd-always)
 if command -v beanstalkd > /dev/null; then
-    servers+=(beanstalkd beanstalkd-b)
+    servers+=(beanstalkd beanstalkd-b beanstalkd-b0)
 else
     echo "without beanstalkd: apt-get install beanstalkd"
 fi
