@@ -8,9 +8,11 @@ mod journaled;
 mod laws;
 mod policy;
 mod settler;
+mod shared_journal;
 
 pub use beginning::first_words;
 pub use journaled::Journaled;
 pub use laws::{firsts_are_moments, stops_leave_a_moment};
 pub use policy::Policy;
 pub use settler::Settler;
+pub use shared_journal::SharedJournal;
