@@ -171,6 +171,7 @@ impl<F: Appender + Drop> Journal<F> {
         ensures going { OnOk result (self.new.failed ≡ false) }
         ensures no_more { OnErr result (HasNoMore self.old self.new) }
         ensures words { self.new.words ≡ self.old.words }
+        ensures size { self.new.size ≡ self.old.size }
         ensures appended { self.new.appended ≡ self.old.appended }
         ensures over { self.old.failed ≡ true → (self.new ≡ self.old) × (result ≡ Err Refusal.WriteFailed) }
         ensures errors { IfErr result (λ e. (e ≡ Refusal.WriteFailed) × (self.new.failed ≡ true)) }

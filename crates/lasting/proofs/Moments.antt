@@ -15,7 +15,11 @@ use Rattle.lasting.specs.Lasting.{AreMoments, HasMoments, IsKept, Kept, ReadsMom
 use Rattle.session.specs.Promises.{KeepsNumbers}
 use Rattle.session.specs.Sessions.{Sessioned}
 use Rattle.session.specs.Telling.{IsSettledTold}
+use Rattle.notes.specs.Noting.{IsMadeBy}
+use Rattle.session.specs.Keeping.{SessionGoesOn}
 use Rattle.workers.specs.Moments.{IsMoment}
+use Rattle.workers.specs.Seats.{AreSeatsRecorded}
+use Rattle.workers.specs.declared.entry.Entry.{Entry}
 use Rattle.workers.proofs.Comings.{through_itself}
 use Rattle.workers.proofs.Guarded.{session_stays}
 
@@ -161,3 +165,56 @@ kept_appended first k new pending changes is none those more words =
       journal = has_more first (record { kept = k.journal.kept; changes = changes }) k.journal new is.journal more
           (subst (IsMoment first) made is.now);
     }
+
+-- the journal's words are those of a moment
+pub moment_now : (first : Sessioned) (j : OnDevice) → HasMoments first j → IsMoment first j.words
+moment_now first j has =
+    subst (IsMoment first)
+    (ap (λ (bs : List Batch). words_after bs has.base) (take_all (length has.batches) has.batches (omega arith)) ∙ sym has.of.words)
+    (has.moments.each (length has.batches) (omega arith))
+
+-- a journal of no batch is kept whole
+pub kept_whole : (key base : List ℕ) (j : OnDevice) → IsOf key base [] 0 j → j.kept ≡ j.size
+kept_whole key base j of = of.kept ∙ sym of.size
+
+-- it goes on as its words and no batch
+pub kept_compacted : (first : Sessioned) (k : Kept) (key : List ℕ) (new : OnDevice) → IsKept first k
+    → IsOf key k.journal.words [] 0 new → IsKept first (record { handed = k.handed; pending = k.pending; journal = new })
+kept_compacted first k key new is of = record {
+  done = is.done;
+  split = is.split;
+  words = of.words ∙ is.words;
+  now = is.now;
+  journal = begins first key k.journal.words new (moment_now first k.journal is.journal) of;
+}
+
+-- what was handed on at the end makes the words of a moment
+pub last_moment : {S : Type 0} (list : S → List Entry) (seats : List S) (first last : Sessioned) (handed : List Change)
+    → AreSeatsRecorded list first seats last → SessionGoesOn first last → KeepsNumbers last → IsSettledTold last
+    → IsMadeBy handed first.broker.words.kept last.broker.words.kept
+    → IsMoment first (applied handed first.broker.words.kept)
+last_moment list seats first last handed lists on keeps told made =
+    subst (IsMoment first) made.words (record {
+      session = last;
+      words = refl;
+      goes_on = on;
+      ended = lists.rotated;
+      came = lists.came;
+      promises = keeps;
+      boots = keeps.broker.boots;
+      told = told;
+    })
+
+-- and it is pending, where nothing else was
+pub kept_last : {S : Type 0} (list : S → List Entry) (seats : List S) (first last : Sessioned) (k : Kept) (handed batch : List Change)
+    → IsKept first k → k.pending ≡ [] → handed ≡ k.handed ++ batch → AreSeatsRecorded list first seats last
+    → SessionGoesOn first last → KeepsNumbers last → IsSettledTold last
+    → IsMadeBy handed first.broker.words.kept last.broker.words.kept
+    → IsKept first (record { handed = handed; pending = batch; journal = k.journal })
+kept_last list seats first last k handed batch is none more lists on keeps told made = record {
+  done = k.handed;
+  split = more;
+  words = kept_all first k is none;
+  now = last_moment list seats first last handed lists on keeps told made;
+  journal = is.journal;
+}

@@ -1,18 +1,22 @@
 //! The journal of a shared session.
 
-ghost use Rattle.std.specs.Prelude.{◌≡◌, [], false, IfErr, IfOk, OnErr, OnOk};
+ghost use Rattle.std.specs.Prelude.{◌≡◌, ◌⊎◌, [], false, IfErr, IfOk, OnErr, OnOk};
 ghost use Rattle.persist.specs.Noted.{applied};
-ghost use Rattle.lasting.specs.Lasting.{HasMoments};
+ghost use Rattle.lasting.specs.Lasting.{HasMoments, IsKept};
+ghost use Rattle.session.specs.Keeping.{SessionGoesOn};
+ghost use Rattle.session.specs.Promises.{KeepsNumbers};
 ghost use Rattle.workers.specs.Moments.{IsMoment};
+ghost use Rattle.workers.specs.Seats.{AreAllInOrder, AreSeatsRecorded};
 
 use journal::KEY_BYTES;
 use journal_file::{Appender, Journal};
 use persist::Change;
+use session::Session;
 use std::alloc::Global;
 use std::marker::Model;
 use std::sync::Wait;
 use words::Refusal;
-use workers::{Handed, Naming, Shared};
+use workers::{Handed, Naming, Seat, Shared};
 
 /// The journal of a shared session, with the one who hands its changes on. Changes that were handed on and could not be
 /// appended are pending, and appended first the next time.
@@ -35,6 +39,7 @@ impl<J: Naming, F: Appender + Drop> Model for Journaled<J, F> {
 
 impl<J: Naming, F: Appender + Drop> Journaled<J, F> {
     ghost use Rattle.journal_file.specs.Appended.{IsFresh};
+    ghost use Rattle.journal_file.specs.OnDevice.{IsOf};
 
     /// A journal that begins on these words, which are the kept ones that all changes handed on so far make. It is
     /// refused as [`Journal::begin`] is, and then nobody hands changes on any more.
@@ -69,11 +74,13 @@ impl<J: Naming, F: Appender + Drop> Journaled<J, F> {
     }
 
     /// Appends what is pending, if anything is. It is refused as [`Journal::append`] is, and then it stays pending.
-    fn append_pending(&mut self, alloc: Global) -> Result<(), Refusal>
+    pub fn append_pending(&mut self, alloc: Global) -> Result<(), Refusal>
         ensures all { OnOk result (self.new.pending ≡ []) }
         ensures words { OnOk result
             (self.new.journal.words ≡ applied self.new.handed J.first.broker.words.kept) }
         ensures handed { self.new.handed ≡ self.old.handed }
+        ensures pending { OnErr result (self.new.pending ≡ self.old.pending) }
+        ensures same { OnErr result (self.new.journal.words ≡ self.old.journal.words) }
     {
         if self.pending.is_empty() {
             return Ok(());
@@ -147,8 +154,103 @@ impl<J: Naming, F: Appender + Drop> Journaled<J, F> {
         ensures handed { self.new.handed ≡ self.old.handed }
         ensures pending { self.new.pending ≡ self.old.pending }
         ensures words { self.new.journal.words ≡ self.old.journal.words }
-        ensures kept { OnOk result (self.new.journal.kept ≡ self.old.journal.size) }
+        ensures size { self.new.journal.size ≡ self.old.journal.size }
+        ensures kept { OnOk result (self.new.journal.kept ≡ self.new.journal.size) }
+        ensures going { OnOk result (self.new.journal.failed ≡ false) }
     {
         self.journal.keep()
+    }
+
+    /// Goes on as a journal of its present words and no batch, on another device, which is to have no byte yet. What is
+    /// pending stays so. It is refused as [`Journal::compacted`] is, and then all stays.
+    pub fn compact(
+        &mut self,
+        alloc: Global,
+        device: F,
+        key: &[u8; KEY_BYTES],
+    ) -> Result<(), Refusal>
+        requires { IsFresh (F.appended device) }
+        ensures handed { self.new.handed ≡ self.old.handed }
+        ensures pending { self.new.pending ≡ self.old.pending }
+        ensures words { self.new.journal.words ≡ self.old.journal.words }
+        ensures journal { OnOk result (IsOf key.now self.old.journal.words [] 0 self.new.journal) }
+        ensures kept { OnOk result (self.new.journal.kept ≡ self.new.journal.size) }
+        ensures going { OnOk result (self.new.journal.failed ≡ false) }
+        ensures same { OnErr result (self.new ≡ self.old) }
+        ensures errors { IfErr result (λ e. (e ≡ Refusal.NoMemory) ⊎ (e ≡ Refusal.WriteFailed)) }
+    {
+        let compacted = self.journal.compacted(alloc, device, key)?;
+        self.journal = compacted;
+        Ok(())
+    }
+
+    /// Takes the session back, as [`Shared::close`] does, with the changes that were not handed on yet, and nothing
+    /// follows them. Those are appended as one batch, behind what is pending, and all is kept. At Ok the journal has
+    /// exactly the kept words of the session. Else it is refused as [`Journaled::settle`] and [`Journaled::keep`] are.
+    pub fn close(
+        self,
+        alloc: Global,
+        shared: Shared<J>,
+        seats: Vec<Seat<J>>,
+    ) -> (Session, Journal<F>, Result<(), Refusal>)
+        requires { AreAllInOrder (λ seat. seat.client) J.clients seats.items }
+        ensures lists { AreSeatsRecorded (λ seat. seat.list.items) J.first seats.items result.0 }
+        ensures goes_on { SessionGoesOn J.first result.0 }
+        ensures promises { KeepsNumbers result.0 }
+        ensures words { OnOk result.2 (result.1.words ≡ result.0.broker.words.kept) }
+        ensures kept { OnOk result.2 (result.1.kept ≡ result.1.size) }
+        ensures moments { HasMoments J.first result.1 }
+    {
+        let mut kept = self;
+        let appended = kept.append_pending(alloc);
+        let Journaled {
+            handed,
+            pending: _,
+            journal,
+        } = kept;
+        let (session, handed, batch) = shared.close_handing_on(alloc, seats, handed);
+        if let Err(refusal) = appended {
+            return (session, journal, Err(refusal));
+        }
+        match batch {
+            Err(refusal) => (session, journal, Err(refusal)),
+            Ok(batch) => {
+                session.tells_settled();
+                let (journal, ended) = Journaled::ended(alloc, handed, batch, journal);
+                (session, journal, ended)
+            }
+        }
+    }
+
+    /// The journal with a last batch, and kept.
+    fn ended(
+        alloc: Global,
+        handed: Handed<J>,
+        batch: Vec<Change>,
+        journal: Journal<F>,
+    ) -> (Journal<F>, Result<(), Refusal>)
+        requires { IsKept J.first (record { handed = handed; pending = batch.items; journal = journal }) }
+        ensures words { OnOk result.1 (result.0.words ≡ applied handed J.first.broker.words.kept) }
+        ensures kept { OnOk result.1 (result.0.kept ≡ result.0.size) }
+        ensures moments { HasMoments J.first result.0 }
+    {
+        let mut last = Journaled {
+            handed,
+            pending: batch,
+            journal,
+        };
+        let ended = last.append_and_keep(alloc);
+        (last.journal, ended)
+    }
+
+    /// Appends what is pending, and keeps all.
+    fn append_and_keep(&mut self, alloc: Global) -> Result<(), Refusal>
+        ensures handed { self.new.handed ≡ self.old.handed }
+        ensures words { OnOk result
+            (self.new.journal.words ≡ applied self.new.handed J.first.broker.words.kept) }
+        ensures kept { OnOk result (self.new.journal.kept ≡ self.new.journal.size) }
+    {
+        self.append_pending(alloc)?;
+        self.keep()
     }
 }

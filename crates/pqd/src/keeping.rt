@@ -9,8 +9,8 @@ use journal_store::{Found, Store};
 use lasting::Policy;
 use log::Log;
 use named::Broker;
-use options::{Journaling, Listening, Mode, Options, Syncing};
-use server::{Lasting, Left, Service, Unserved, net_lasting, pipe_lasting, reopened, reopened_anew};
+use options::{Journaling as Asked, Listening, Mode, Options, Syncing};
+use server::{Journaling, Service, net_lasting, pipe_lasting, reopened, reopened_anew};
 use std::io;
 use std::net::Net;
 use std::sync::Wait;
@@ -67,17 +67,17 @@ fn broker_from(
 }
 
 /// Serves standard input to standard output, with a journal. The image that it leaves.
-fn serve_input<T: Wait + Clock>(
-    waits: &T,
+fn serve_input<T: Threads + Wait + Clock + Sync>(
+    threads: &T,
     rt: &HostRuntime,
     broker: Broker,
-    lasting: Lasting<'_, Store<'_>>,
+    journaling: Journaling<'_, Store<'_>>,
 ) -> Result<Vec<u8>, Fault>
     requires { IsUncalled broker }
 {
     let mut reader = CountedReader::new(rt.reader());
     let mut writer = CountedWriter::new(io::writer(rt));
-    let left = pipe_lasting(waits, rt.alloc(), broker, lasting, &mut reader, &mut writer)?;
+    let left = pipe_lasting(threads, rt.alloc(), broker, journaling, &mut reader, &mut writer)?;
     Ok(left.image)
 }
 
@@ -86,7 +86,7 @@ fn serve_connections<T: Threads + Wait + Net + Log + Clock + Sync>(
     threads: &T,
     rt: &HostRuntime,
     broker: Broker,
-    lasting: Lasting<'_, Store<'_>>,
+    journaling: Journaling<'_, Store<'_>>,
     service: Service,
     at: Listening,
 ) -> Result<Vec<u8>, Fault>
@@ -94,7 +94,7 @@ fn serve_connections<T: Threads + Wait + Net + Log + Clock + Sync>(
 {
     let _places = fill_places(rt);
     let listener = listener_at(rt, at)?;
-    let left = net_lasting(threads, rt.alloc(), broker, service, lasting, &listener)?;
+    let left = net_lasting(threads, rt.alloc(), broker, service, journaling, &listener)?;
     Ok(left.image)
 }
 
@@ -103,18 +103,18 @@ pub(crate) fn serve<T: Threads + Wait + Net + Log + Clock + Sync>(
     threads: &T,
     rt: &HostRuntime,
     asked: &Options<'_>,
-    journaling: Journaling<'_>,
+    wanted: Asked<'_>,
 ) -> Result<Vec<u8>, Fault> {
-    let store = Store::open(rt, journaling.file)?;
+    let store = Store::open(rt, wanted.file)?;
     let broker = broker_from(rt, asked, &store)?;
-    let lasting = Lasting {
+    let journaling = Journaling {
         storage: &store,
-        policy: policy_of(journaling.syncing),
+        policy: policy_of(wanted.syncing),
     };
     match asked.mode {
-        Mode::Pipe => serve_input(threads, rt, broker, lasting),
+        Mode::Pipe => serve_input(threads, rt, broker, journaling),
         Mode::Serve(at) => {
-            serve_connections(threads, rt, broker, lasting, service_of(at, asked), at)
+            serve_connections(threads, rt, broker, journaling, service_of(at, asked), at)
         }
     }
 }

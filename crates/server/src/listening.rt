@@ -6,21 +6,22 @@ ghost use Rattle.workers.specs.Opening.{IsNameOf};
 ghost use Rattle.workers.specs.Seats.{AreAllInOrder};
 ghost use Rattle.server.specs.Image.{IsBusyOrNoMemory, IsImageAfter, IsImageLeftBy};
 
-use crate::connections::{Serving, serve_connections};
+use crate::connections::{Serving, Sharing, serve_connections};
 use crate::ending::{image_left, shareable};
-use crossbeam_channel::{Receiver, Sender, bounded};
+use crate::stopping::Stopping;
+use crossbeam_channel::{Sender, bounded};
 use desk::Seating;
 use log::{Log, warn};
 use named::Broker;
+use settling::{InMemory, Settles};
 use std::alloc::{AllocError, Global};
 use std::marker::Brand;
 use std::net::{Net, SocketAddr, TcpListener, TcpStream};
 use std::sync::Wait;
-use std::sync::atomic::{AtomicBool, Ordering};
 use std::thread::{Threads, join, map_indices, sleep};
 use std::time::{Clock, Duration};
 use words::Refusal;
-use workers::{Naming, Opened, Operator, Seat, Shared};
+use workers::{Naming, Opened, Operator, Seat};
 
 /// How long the thread that takes connections rests after one that it could not take. Where there are no descriptors
 /// left, each fails at once.
@@ -38,16 +39,16 @@ pub struct Service {
     pub renew: bool,
 }
 
-/// Takes connections and hands them to the workers, until one of these has accepted a stop.
+/// Takes connections and hands them to the workers, until no more are to be taken.
 fn accept<R: Wait + Clock + Log>(
     rt: &R,
     listener: &TcpListener,
-    stopping: &AtomicBool,
+    stopping: &Stopping,
     connections: Sender<TcpStream>,
 ) {
     let mut failing = false;
     for connection in listener.incoming() {
-        if stopping.load(Ordering::SeqCst) {
+        if stopping.is_said() {
             return;
         }
         match connection {
@@ -69,9 +70,9 @@ fn accept<R: Wait + Clock + Log>(
     }
 }
 
-/// Wakes the thread that takes connections once a stop is accepted, by a connection to its own port.
-fn wake_at_stop<R: Wait + Net + Log>(rt: &R, stops: &Receiver<()>, address: Option<SocketAddr>) {
-    if stops.recv(rt).is_err() {
+/// Wakes the thread that takes connections once no more are to be taken, by a connection to its own port.
+fn wake_at_stop<R: Wait + Net + Log>(rt: &R, stopping: &Stopping, address: Option<SocketAddr>) {
+    if !stopping.is_told(rt) {
         return;
     }
     let Some(address) = address else {
@@ -87,10 +88,14 @@ fn wake_at_stop<R: Wait + Net + Log>(rt: &R, stops: &Receiver<()>, address: Opti
 
 /// So many workers serve the connections that are taken, until no more are. At an `Err` there was no memory for their
 /// threads.
-fn serve_all<J: Naming + Send + Sync, R: Threads + Wait + Log + Sync>(
+fn serve_all<
+    J: Naming + Send + Sync,
+    S: Settles + Sync,
+    R: Threads + Wait + Log + Sync,
+>(
     rt: &R,
     alloc: Global,
-    serving: &Serving<'_, J>,
+    serving: &Serving<'_, J, S>,
     workers: u32,
 ) -> Result<(), AllocError> {
     map_indices(
@@ -103,53 +108,56 @@ fn serve_all<J: Naming + Send + Sync, R: Threads + Wait + Log + Sync>(
 }
 
 /// The same, and beside them this thread waits for a stop.
-fn serve_until_stopped<J: Naming + Send + Sync, R: Threads + Wait + Net + Log + Sync>(
+fn serve_until_stopped<
+    J: Naming + Send + Sync,
+    S: Settles + Sync,
+    R: Threads + Wait + Net + Log + Sync,
+>(
     rt: &R,
     alloc: Global,
-    serving: &Serving<'_, J>,
+    serving: &Serving<'_, J, S>,
     workers: u32,
-    stops: &Receiver<()>,
     address: Option<SocketAddr>,
 ) -> Result<(), AllocError> {
     let (worked, ()) = join(
         rt,
         || serve_all(rt, alloc, serving, workers),
-        || wake_at_stop(rt, stops, address),
+        || wake_at_stop(rt, serving.stopping, address),
     );
     worked
 }
 
-/// Takes connections for so many workers, until a stop is accepted and all connections have ended. At an `Err` there
-/// was no memory.
-fn work<J: Naming + Send + Sync, R: Threads + Wait + Net + Clock + Log + Sync>(
+/// Takes connections for so many workers, until a stop is accepted, or what was done lasts no more, and all connections
+/// have ended. At an `Err` there was no memory.
+pub(crate) fn work<
+    J: Naming + Send + Sync,
+    S: Settles + Sync,
+    R: Threads + Wait + Net + Clock + Log + Sync,
+>(
     rt: &R,
     alloc: Global,
-    shared: &Shared<J>,
-    seats: &Seating<J>,
+    sharing: &Sharing<'_, J, S>,
+    stopping: &Stopping,
     workers: u32,
     listener: &TcpListener,
 ) -> Result<(), AllocError> {
     let (sender, connections) = bounded(alloc, workers as usize)?;
-    let (stops, stops_heard) = bounded(alloc, 1)?;
-    let stopping = AtomicBool::new(false);
     let serving = Serving {
-        shared,
-        seats,
-        stopping: &stopping,
+        sharing,
+        stopping,
         connections: &connections,
-        stops: &stops,
     };
     let address = listener.local_addr().ok();
     let ((), worked) = join(
         rt,
-        || accept(rt, listener, &stopping, sender),
-        || serve_until_stopped(rt, alloc, &serving, workers, &stops_heard, address),
+        || accept(rt, listener, stopping, sender),
+        || serve_until_stopped(rt, alloc, &serving, workers, address),
     );
     worked
 }
 
 /// The seats of a shared broker, for connections that are served so. It is refused for want of memory (NoMemory).
-fn seated<J: Naming>(
+pub(crate) fn seated<J: Naming>(
     alloc: Global,
     seats: Vec<Seat<J>>,
     operator: Operator<J>,
@@ -182,8 +190,16 @@ fn served<J: Naming + Send + Sync, R: Threads + Wait + Net + Clock + Log + Sync>
         Err(not) => return Err(not.refusal),
     };
     let seats = seated(alloc, seats, operator, service)?;
+    let Ok(stopping) = Stopping::new(alloc) else {
+        return Err(Refusal::NoMemory);
+    };
+    let sharing = Sharing {
+        shared: &shared,
+        seats: &seats,
+        settles: &InMemory,
+    };
     let workers = service.workers.max(1);
-    if work(rt, alloc, &shared, &seats, workers, listener).is_err() {
+    if work(rt, alloc, &sharing, &stopping, workers, listener).is_err() {
         return Err(Refusal::NoMemory);
     }
     image_left(alloc, shared, seats)

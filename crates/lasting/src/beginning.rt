@@ -1,0 +1,38 @@
+//! The words on which the journal of a session begins.
+
+ghost use Rattle.std.specs.Prelude.{◌≡◌, IfErr, IfOk};
+ghost use Rattle.workers.specs.Moments.{IsMoment};
+
+use persist::{KeptWords, Memory};
+use session::Session;
+use std::alloc::{AllocError, Global};
+use words::Refusal;
+
+/// The kept words of a memory.
+fn kept_words(alloc: Global, memory: &Memory) -> Result<Vec<u64>, AllocError>
+    ensures { IfOk result (λ words. words.items ≡ memory.now.words.kept) }
+{
+    let mut words = Vec::with_capacity(alloc, KeptWords::size(memory))?;
+    for word in 0..KeptWords::size(memory) {
+        words.push(memory.kept(word))?;
+    }
+    Ok(words)
+}
+
+/// The kept words of the session's broker, with which its journal begins once the session is shared. It is refused for
+/// want of memory (NoMemory).
+pub fn first_words(alloc: Global, session: &Session) -> Result<Vec<u64>, Refusal>
+    ensures words { IfOk result (λ words. words.items ≡ session.now.broker.words.kept) }
+    ensures moment { IsMoment session.now session.now.broker.words.kept }
+    ensures errors { IfErr result (λ e. e ≡ Refusal.NoMemory) }
+{
+    session.tells_settled();
+    let image = session.broker().to_image()?;
+    let Ok(memory) = Memory::from_image(alloc, &image) else {
+        return Err(Refusal::NoMemory);
+    };
+    match kept_words(alloc, &memory) {
+        Ok(words) => Ok(words),
+        Err(_) => Err(Refusal::NoMemory),
+    }
+}

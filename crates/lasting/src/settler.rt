@@ -1,0 +1,326 @@
+//! The journal of a shared session where its storage has it.
+
+ghost use Rattle.std.specs.Prelude.{◌≡◌, [], Err, false, is_err, true, IfOk, OnErr, OnOk};
+ghost use Rattle.persist.specs.Noted.{applied};
+ghost use Rattle.lasting.specs.Lasting.{HasMoments};
+ghost use Rattle.lasting.specs.Settling.{HasSettled, IsKeptBy};
+ghost use Rattle.session.specs.Keeping.{SessionGoesOn};
+ghost use Rattle.session.specs.Promises.{KeepsNumbers};
+ghost use Rattle.workers.specs.Moments.{IsMoment};
+ghost use Rattle.workers.specs.Seats.{AreAllInOrder, AreSeatsRecorded};
+
+use crate::journaled::Journaled;
+use crate::policy::Policy;
+use devices::Failed;
+use journal_file::{Appender, Journal, Storage};
+use session::Session;
+use std::alloc::Global;
+use std::marker::Model;
+use std::sync::Wait;
+use words::Refusal;
+use workers::{Handed, Naming, Seat, Shared};
+
+/// How many bytes of frames a journal has at least when it is compacted.
+pub const LEAST_FRAMES: u64 = 0x100_0000;
+
+/// How many times as long as the journal was when it began its frames are then.
+pub const FRAMES_BY_HEAD: u64 = 4;
+
+/// The journal of a shared session, which is kept by a policy, and goes on by itself on another device of its storage
+/// where the one in use fails or has grown long. Where that fails too, it has failed for good.
+#[derive(Drop)]
+pub struct Settler<J: Naming, F: Appender + Drop> {
+    journaled: Journaled<J, F>,
+    policy: Policy,
+    /// The journal is compacted once it has more bytes than these.
+    enough: u64,
+    failed: bool,
+}
+
+impl<J: Naming, F: Appender + Drop> Model for Settler<J, F> {
+    ghost use Rattle.lasting.specs.Settling.{Settled};
+
+    ghost Value = { Settled };
+
+    ghost view = { λ s. record { kept = s.journaled; policy = s.policy; failed = s.failed } };
+}
+
+/// How many bytes are enough for a journal that has so many now.
+fn enough_behind(size: u64) -> u64 {
+    size.saturating_add(size.saturating_mul(FRAMES_BY_HEAD).max(LEAST_FRAMES))
+}
+
+/// What a refusal of a settle leaves to hope for: want of memory may pass, and no other refusal does.
+fn may_pass(refusal: Refusal) -> bool {
+    matches!(refusal, Refusal::NoMemory)
+}
+
+impl<J: Naming, F: Appender + Drop> Settler<J, F> {
+    /// The journal of a session that nobody has called yet: it begins on these words, on a fresh device of the storage,
+    /// which takes the place of the one in use. It is refused where the storage or the device fails (WriteFailed), for
+    /// want of memory (NoMemory), and as [`Journal::begin`] is.
+    pub fn begin<S: Storage<F>>(
+        alloc: Global,
+        handed: Handed<J>,
+        words: Vec<u64>,
+        storage: &S,
+        policy: Policy,
+    ) -> Result<Self, Refusal>
+        requires words { words.items ≡ applied handed J.first.broker.words.kept }
+        requires moment { IsMoment J.first words.items }
+        ensures handed { IfOk result (λ s. s.kept.handed ≡ handed) }
+        ensures all { IfOk result (λ s. s.kept.pending ≡ []) }
+        ensures policy { IfOk result (λ s. s.policy ≡ policy) }
+        ensures going { IfOk result (λ s. s.failed ≡ false) }
+    {
+        let Ok((device, key)) = storage.fresh() else {
+            return Err(Refusal::WriteFailed);
+        };
+        let journaled = Journaled::begin(alloc, handed, device, &key, words)?;
+        if storage.replace().is_err() {
+            return Err(Refusal::WriteFailed);
+        }
+        let enough = enough_behind(journaled.journal().size());
+        Ok(Settler {
+            journaled,
+            policy,
+            enough,
+            failed: false,
+        })
+    }
+
+    /// Whether it has failed for good. Then nothing is settled any more.
+    pub fn has_failed(&self) -> bool
+        ensures { result ≡ self.now.failed }
+    {
+        self.failed
+    }
+
+    /// The journal goes on as its present words on a fresh device, which takes the place of the one in use. Where it
+    /// cannot begin there, the one in use goes on; where it is not known which one has the place, it has failed.
+    fn compact<S: Storage<F>>(&mut self, alloc: Global, storage: &S) -> Result<(), Refusal>
+        ensures handed { self.new.kept.handed ≡ self.old.kept.handed }
+        ensures pending { self.new.kept.pending ≡ self.old.kept.pending }
+        ensures words { self.new.kept.journal.words ≡ self.old.kept.journal.words }
+        ensures policy { self.new.policy ≡ self.old.policy }
+        ensures kept { OnOk result (self.new.kept.journal.kept ≡ self.new.kept.journal.size) }
+        ensures going { OnOk result (self.new.kept.journal.failed ≡ false) }
+        ensures failed { OnOk result (self.new.failed ≡ self.old.failed) }
+        ensures same { OnErr result (self.new.failed ≡ false → self.new.kept ≡ self.old.kept) }
+    {
+        let Ok((device, key)) = storage.fresh() else {
+            return Err(Refusal::WriteFailed);
+        };
+        self.journaled.compact(alloc, device, &key)?;
+        if storage.replace().is_err() {
+            self.failed = true;
+            return Err(Refusal::WriteFailed);
+        }
+        self.enough = enough_behind(self.journaled.journal().size());
+        Ok(())
+    }
+
+    /// Keeps all that was appended, where some of it is not kept yet.
+    fn keep_all(&mut self) -> Result<(), Refusal>
+        ensures handed { self.new.kept.handed ≡ self.old.kept.handed }
+        ensures pending { self.new.kept.pending ≡ self.old.kept.pending }
+        ensures words { self.new.kept.journal.words ≡ self.old.kept.journal.words }
+        ensures policy { self.new.policy ≡ self.old.policy }
+        ensures failed { self.new.failed ≡ self.old.failed }
+        ensures kept { OnOk result (self.new.kept.journal.kept ≡ self.new.kept.journal.size) }
+        ensures going { OnOk result (self.old.kept.journal.failed ≡ false → self.new.kept.journal.failed ≡ false) }
+    {
+        if self.journaled.journal().kept() == self.journaled.journal().size() {
+            return Ok(());
+        }
+        self.journaled.keep()
+    }
+
+    /// Keeps what was appended, as the policy says, on a device that has not failed.
+    fn keep_by_policy(&mut self) -> Result<(), Refusal>
+        ensures handed { self.new.kept.handed ≡ self.old.kept.handed }
+        ensures pending { self.new.kept.pending ≡ self.old.kept.pending }
+        ensures words { self.new.kept.journal.words ≡ self.old.kept.journal.words }
+        ensures policy { self.new.policy ≡ self.old.policy }
+        ensures failed { self.new.failed ≡ self.old.failed }
+        ensures kept { OnOk result (IsKeptBy self.new.policy self.new) }
+        ensures going { OnOk result (self.new.kept.journal.failed ≡ false) }
+    {
+        if self.journaled.journal().has_failed() {
+            return Err(Refusal::WriteFailed);
+        }
+        match self.policy {
+            Policy::Always => self.keep_all(),
+            Policy::EachSecond | Policy::Never => Ok(()),
+        }
+    }
+
+    /// Where a refusal came, the journal goes on on a fresh device. It fails for want of memory, which may pass, and
+    /// where that device fails too, or has no place: then for good.
+    fn go_on_anew<S: Storage<F>>(
+        &mut self,
+        alloc: Global,
+        storage: &S,
+        refusal: Refusal,
+    ) -> Result<(), Failed>
+        ensures handed { self.new.kept.handed ≡ self.old.kept.handed }
+        ensures pending { self.new.kept.pending ≡ self.old.kept.pending }
+        ensures words { self.new.kept.journal.words ≡ self.old.kept.journal.words }
+        ensures policy { self.new.policy ≡ self.old.policy }
+        ensures kept { OnOk result (self.new.kept.journal.kept ≡ self.new.kept.journal.size) }
+        ensures failed { OnOk result (self.new.failed ≡ self.old.failed) }
+    {
+        if may_pass(refusal) {
+            return Err(Failed);
+        }
+        if let Err(refusal) = self.compact(alloc, storage) {
+            self.failed = self.failed || !may_pass(refusal);
+            return Err(Failed);
+        }
+        Ok(())
+    }
+
+    /// Compacts the journal where it has grown long. Where that is refused, the one in use goes on, and it is tried
+    /// again after as much growth; it fails where it is not known which one has the place.
+    fn compact_if_long<S: Storage<F>>(&mut self, alloc: Global, storage: &S) -> Result<(), Failed>
+        requires going { self.old.failed ≡ false }
+        requires settled { HasSettled J.first self.old }
+        ensures policy { self.new.policy ≡ self.old.policy }
+        ensures settled { OnOk result (HasSettled J.first self.new) }
+        ensures failed { self.new.failed ≡ is_err result }
+    {
+        let size = self.journaled.journal().size();
+        if size <= self.enough {
+            return Ok(());
+        }
+        if self.compact(alloc, storage).is_err() {
+            self.enough = enough_behind(size);
+        }
+        if self.failed { Err(Failed) } else { Ok(()) }
+    }
+
+    /// Hands on what the session noted since, appends it behind what is pending, and keeps it as the policy says.
+    fn appended<R: Wait>(
+        self,
+        rt: &R,
+        alloc: Global,
+        shared: &Shared<J>,
+    ) -> (Self, Result<(), Refusal>)
+        ensures settled { OnOk result.1 (HasSettled J.first result.0) }
+        ensures policy { result.0.policy ≡ self.policy }
+        ensures failed { result.0.failed ≡ self.failed }
+    {
+        let Settler {
+            journaled,
+            policy,
+            enough,
+            failed,
+        } = self;
+        let (journaled, appended) = journaled.settle(rt, alloc, shared);
+        let mut settler = Settler {
+            journaled,
+            policy,
+            enough,
+            failed,
+        };
+        if appended.is_err() {
+            return (settler, appended);
+        }
+        let kept = settler.keep_by_policy();
+        (settler, kept)
+    }
+
+    /// The same once more, on a fresh device, where it was refused so.
+    fn settled_anew<R: Wait, S: Storage<F>>(
+        self,
+        rt: &R,
+        alloc: Global,
+        shared: &Shared<J>,
+        storage: &S,
+        refusal: Refusal,
+    ) -> (Self, Result<(), Failed>)
+        ensures settled { OnOk result.1 (HasSettled J.first result.0) }
+        ensures policy { result.0.policy ≡ self.policy }
+    {
+        let mut settler = self;
+        if settler.go_on_anew(alloc, storage, refusal).is_err() {
+            return (settler, Err(Failed));
+        }
+        let (mut settler, appended) = settler.appended(rt, alloc, shared);
+        if let Err(refusal) = appended {
+            settler.failed = settler.failed || !may_pass(refusal);
+            return (settler, Err(Failed));
+        }
+        (settler, Ok(()))
+    }
+
+    /// Hands on all changes that the session noted since, appends them, and keeps them where the policy is to keep
+    /// always. At Ok the journal has every change that was handed on. Where its device fails, it goes on on a fresh one
+    /// of the storage, once. It fails for want of memory, which may pass, and where that other device fails too, or has
+    /// no place: then for good. What was handed on and could not be appended is appended first the next time.
+    pub fn settle<R: Wait, S: Storage<F>>(
+        self,
+        rt: &R,
+        alloc: Global,
+        shared: &Shared<J>,
+        storage: &S,
+    ) -> (Self, Result<(), Failed>)
+        ensures settled { OnOk result.1 (HasSettled J.first result.0) }
+        ensures policy { result.0.policy ≡ self.policy }
+        ensures over { self.failed ≡ true → result ≡ (self, Err Failed) }
+    {
+        if self.failed {
+            return (self, Err(Failed));
+        }
+        let (mut settler, appended) = self.appended(rt, alloc, shared);
+        if let Err(refusal) = appended {
+            return settler.settled_anew(rt, alloc, shared, storage, refusal);
+        }
+        let settled = settler.compact_if_long(alloc, storage);
+        (settler, settled)
+    }
+
+    /// Keeps all that was appended, whatever the policy is. Where the device fails, it goes on as
+    /// [`Settler::settle`] does, and fails as that does.
+    pub fn keep_up<S: Storage<F>>(&mut self, alloc: Global, storage: &S) -> Result<(), Failed>
+        ensures handed { self.new.kept.handed ≡ self.old.kept.handed }
+        ensures pending { self.new.kept.pending ≡ self.old.kept.pending }
+        ensures words { self.new.kept.journal.words ≡ self.old.kept.journal.words }
+        ensures policy { self.new.policy ≡ self.old.policy }
+        ensures kept { OnOk result (IsKeptBy Policy.Always self.new) }
+        ensures over { self.old.failed ≡ true → (self.new ≡ self.old) × (result ≡ Err Failed) }
+    {
+        if self.failed {
+            return Err(Failed);
+        }
+        match self.keep_all() {
+            Ok(()) => Ok(()),
+            Err(refusal) => self.go_on_anew(alloc, storage, refusal),
+        }
+    }
+
+    /// Takes the session back, as [`Journaled::close`] does, once all was settled. It fails where it has failed, and
+    /// where the last batch is not appended and kept.
+    pub fn close(
+        self,
+        alloc: Global,
+        shared: Shared<J>,
+        seats: Vec<Seat<J>>,
+    ) -> (Session, Journal<F>, Result<(), Failed>)
+        requires { AreAllInOrder (λ seat. seat.client) J.clients seats.items }
+        ensures lists { AreSeatsRecorded (λ seat. seat.list.items) J.first seats.items result.0 }
+        ensures goes_on { SessionGoesOn J.first result.0 }
+        ensures promises { KeepsNumbers result.0 }
+        ensures words { OnOk result.2 (result.1.words ≡ result.0.broker.words.kept) }
+        ensures kept { OnOk result.2 (result.1.kept ≡ result.1.size) }
+        ensures moments { HasMoments J.first result.1 }
+        ensures over { self.failed ≡ true → is_err result.2 ≡ true }
+    {
+        let failed = self.failed;
+        let (session, journal, ended) = self.journaled.close(alloc, shared, seats);
+        if failed || ended.is_err() {
+            return (session, journal, Err(Failed));
+        }
+        (session, journal, Ok(()))
+    }
+}

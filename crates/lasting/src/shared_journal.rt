@@ -1,0 +1,164 @@
+//! The journal of a shared session, for the threads that share it.
+
+ghost use Rattle.std.specs.Prelude.{IsSome};
+
+use crate::settler::Settler;
+use devices::Failed;
+use journal_file::{Appender, Storage};
+use settling::Settles;
+use std::alloc::Global;
+use std::sync::atomic::{AtomicBool, Ordering};
+use std::sync::{Mutex, Wait};
+use std::thread::sleep;
+use std::time::{Clock, Duration};
+use workers::{Naming, Shared};
+
+/// How long the thread that keeps each second rests at once: a stop waits for it no longer.
+const NAP_MILLIS: u64 = 50;
+
+/// How often it rests between two times.
+const NAPS: u32 = 20;
+
+/// The place of a settler, who is there but while it settles.
+#[derive(Drop)]
+struct Place<J: Naming, F: Appender + Drop> {
+    settler: Option<Settler<J, F>>,
+    ghost there: { IsSome settler },
+}
+
+impl<J: Naming, F: Appender + Drop> Place<J, F> {
+    /// Whoever is there.
+    fn into_settler(self) -> Settler<J, F> {
+        let Place { settler } = self;
+        match settler {
+            Some(settler) => settler,
+            None => unreachable!(),
+        }
+    }
+
+    /// It settles, and answers also whether it has failed for good.
+    fn settle<R: Wait, S: Storage<F>>(
+        &mut self,
+        rt: &R,
+        alloc: Global,
+        shared: &Shared<J>,
+        storage: &S,
+    ) -> (Result<(), Failed>, bool) {
+        let Some(settler) = self.settler.take() else {
+            unreachable!()
+        };
+        let (settler, settled) = settler.settle(rt, alloc, shared, storage);
+        let failed = settler.has_failed();
+        self.settler = Some(settler);
+        (settled, failed)
+    }
+
+    /// It keeps all that was appended, and answers also whether it has failed for good.
+    fn keep_up<S: Storage<F>>(&mut self, alloc: Global, storage: &S) -> (Result<(), Failed>, bool) {
+        let Some(mut settler) = self.settler.take() else {
+            unreachable!()
+        };
+        let kept = settler.keep_up(alloc, storage);
+        let failed = settler.has_failed();
+        self.settler = Some(settler);
+        (kept, failed)
+    }
+}
+
+/// The journal of a shared session, for the threads that share it. Who settles appends what all of them have noted: the
+/// others, who wait for him, find it done. Nobody appends or keeps under the session's own lock.
+#[derive(Drop)]
+pub struct SharedJournal<'a, J: Naming, F: Appender + Drop, S: Storage<F>> {
+    alloc: Global,
+    shared: &'a Shared<J>,
+    storage: &'a S,
+    failed: AtomicBool,
+    /// This lock is taken before the session's. It is held while the device works, so that a thread sleeps for it.
+    place: Mutex<Place<J, F>>,
+}
+
+impl<'a, J: Naming, F: Appender + Drop, S: Storage<F>> SharedJournal<'a, J, F, S> {
+    /// This settler's journal, for the session.
+    pub fn new(
+        alloc: Global,
+        shared: &'a Shared<J>,
+        storage: &'a S,
+        settler: Settler<J, F>,
+    ) -> Self {
+        let failed = AtomicBool::new(settler.has_failed());
+        let place = Mutex::new(Place {
+            settler: Some(settler),
+        });
+        SharedJournal {
+            alloc,
+            shared,
+            storage,
+            failed,
+            place,
+        }
+    }
+
+    /// The settler, once nobody shares it.
+    pub fn into_settler(self) -> Settler<J, F> {
+        self.place.into_inner().into_settler()
+    }
+
+    /// Says it where the journal has failed for good.
+    fn note(&self, failed: bool) {
+        if failed {
+            self.failed.store(true, Ordering::SeqCst);
+        }
+    }
+
+    /// Keeps all that was appended, as [`Settler::keep_up`] does.
+    pub fn keep_up<R: Wait>(&self, rt: &R) -> Result<(), Failed> {
+        let (kept, failed) = self.place.lock(rt).keep_up(self.alloc, self.storage);
+        self.note(failed);
+        kept
+    }
+
+    /// Keeps about once a second what was appended, until `ended` is said, or the journal has failed for good.
+    pub fn keep_each_second<R: Wait + Clock>(&self, rt: &R, ended: &AtomicBool) {
+        for _ in rt.forever() {
+            if !rests_a_second(rt, ended) {
+                return;
+            }
+            if self.keep_up(rt).is_err() && self.has_failed() {
+                return;
+            }
+        }
+        unreachable!()
+    }
+}
+
+/// Rests for a second, or until `ended` is said; whether a second went by.
+fn rests_a_second<R: Clock>(rt: &R, ended: &AtomicBool) -> bool {
+    for _ in 0..NAPS {
+        if ended.load(Ordering::SeqCst) {
+            return false;
+        }
+        sleep(rt, Duration::from_millis(NAP_MILLIS));
+    }
+    true
+}
+
+impl<J: Naming, F: Appender + Drop, S: Storage<F>> Settles for SharedJournal<'_, J, F, S> {
+    /// Settles as [`Settler::settle`] does. Where others have settled all, it finds nothing to append and nothing to keep.
+    fn settle<R: Wait>(&self, rt: &R) -> Result<(), Failed> {
+        if self.has_failed() {
+            return Err(Failed);
+        }
+        let (settled, failed) = self.place.lock(rt).settle(
+            rt,
+            self.alloc,
+            self.shared,
+            self.storage,
+        );
+        self.note(failed);
+        settled
+    }
+
+    fn has_failed(&self) -> bool {
+        self.failed.load(Ordering::SeqCst)
+    }
+}

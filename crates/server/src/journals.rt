@@ -1,0 +1,103 @@
+//! What is served with a journal, and what is left of it.
+
+ghost use Rattle.std.specs.Prelude.{◌≡◌, ◌⊎◌, IfErr, IfOk};
+ghost use Rattle.session.specs.Sessions.{IsUncalled};
+ghost use Rattle.workers.specs.Moments.{IsMoment};
+ghost use Rattle.workers.specs.Opening.{IsInUse};
+ghost use Rattle.server.specs.Image.{IsOpenedOver};
+ghost use Rattle.server.specs.Journaled.{IsLeftAfter};
+ghost use Rattle.server.specs.declared.journals.Unserved.TheVariants.{Refused};
+
+use desk::Seating;
+use journal_file::{Appender, Journal};
+use lasting::{Policy, Settler, first_words};
+use named::Broker;
+use session::Session;
+use std::alloc::Global;
+use words::Refusal;
+use workers::{Naming, Noting, Opened, Shared};
+
+/// Where a journal is put, and when it keeps what was done.
+#[derive(Drop)]
+pub struct Journaling<'a, S> {
+    pub storage: &'a S,
+    pub policy: Policy,
+}
+
+/// What is left of a broker that was served with a journal.
+#[derive(Drop)]
+pub struct Left<F: Appender + Drop> {
+    /// The image of the broker.
+    pub image: Vec<u8>,
+    /// The journal, whose words are those of the image.
+    pub journal: Journal<F>,
+}
+
+/// Why a broker is not served with a journal, or not to its end.
+#[derive(Clone, Copy, Debug, PartialEq, Eq)]
+pub enum Unserved {
+    /// It is refused, as without one; or its journal could not begin.
+    Refused(Refusal),
+    /// The journal has failed, and what was done is not kept any more. What was replied is.
+    NotKept,
+}
+
+impl From<Refusal> for Unserved {
+    ghost from_gives = { λ refusal unserved. unserved ≡ Refused refusal };
+
+    fn from(refusal: Refusal) -> Unserved {
+        Unserved::Refused(refusal)
+    }
+}
+
+/// A session that is about to be shared, whose changes are noted, and the words on which its journal begins.
+#[derive(Drop)]
+pub(crate) struct Noted {
+    pub(crate) noting: Noting,
+    pub(crate) words: Vec<u64>,
+}
+
+/// A session over the broker, for its journal to follow. It is refused where a call or a creation is under way (Busy),
+/// and for want of memory (NoMemory).
+pub(crate) fn noted(alloc: Global, broker: Broker) -> Result<Noted, Refusal>
+    requires { IsUncalled broker }
+    ensures opened { IfOk result (λ noted. IsOpenedOver broker noted.noting.session) }
+    ensures words { IfOk result (λ noted. noted.words.items ≡ noted.noting.session.broker.words.kept) }
+    ensures moment { IfOk result (λ noted. IsMoment noted.noting.session noted.noting.session.broker.words.kept) }
+    ensures errors { IfErr result (λ e. (e ≡ Refusal.NoMemory) ⊎ ((e ≡ Refusal.Busy) × IsInUse broker)) }
+{
+    let session = Session::open(broker);
+    let words = first_words(alloc, &session)?;
+    let opened = match Opened::new(alloc, session) {
+        Ok(opened) => opened,
+        Err(not) => return Err(not.refusal),
+    };
+    match opened.noting(alloc) {
+        Ok(noting) => Ok(Noted { noting, words }),
+        Err(not) => Err(not.refusal),
+    }
+}
+
+/// What is left of the broker that connections shared, once they have all ended: the image, and the journal with its
+/// last batch, which is kept. It is refused as [`crate::ending::image_left`] is; and NotKept where the journal failed.
+pub(crate) fn journal_left<J: Naming, F: Appender + Drop>(
+    alloc: Global,
+    shared: Shared<J>,
+    seats: Seating<J>,
+    settler: Settler<J, F>,
+) -> Result<Left<F>, Unserved>
+    ensures { IfOk result (λ left. IsLeftAfter J.first left.image.items left.journal) }
+{
+    let (seats, _operator) = match seats.into_parts(alloc) {
+        Ok(parts) => parts,
+        Err(refusal) => return Err(Unserved::Refused(refusal)),
+    };
+    let (session, journal, ended) = settler.close(alloc, shared, seats);
+    if ended.is_err() {
+        return Err(Unserved::NotKept);
+    }
+    match session.broker().to_image() {
+        Ok(image) => Ok(Left { image, journal }),
+        Err(refusal) => Err(Unserved::Refused(refusal)),
+    }
+}

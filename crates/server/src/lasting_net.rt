@@ -1,0 +1,138 @@
+//! Serving connections with a journal.
+
+ghost use Rattle.std.specs.Prelude.{◌≡◌, IfOk};
+ghost use Rattle.session.specs.Sessions.{IsUncalled};
+ghost use Rattle.workers.specs.Moments.{IsMoment};
+ghost use Rattle.workers.specs.Opening.{IsNameOf};
+ghost use Rattle.server.specs.Journaled.{IsLeftAfter, IsLeftBy};
+
+use crate::connections::Sharing;
+use crate::journals::{Journaling, Left, Noted, Unserved, journal_left, noted};
+use crate::listening::{Service, seated, work};
+use crate::stopping::Stopping;
+use journal_file::{Appender, Storage};
+use lasting::{Policy, Settler, SharedJournal};
+use log::Log;
+use named::Broker;
+use settling::Settles;
+use std::alloc::{AllocError, Global};
+use std::marker::Brand;
+use std::net::{Net, TcpListener};
+use std::sync::Wait;
+use std::sync::atomic::{AtomicBool, Ordering};
+use std::thread::{Threads, join};
+use std::time::Clock;
+use words::Refusal;
+use workers::Naming;
+
+/// Keeps the journal each second until all connections have ended. Where it fails for good, no more are taken.
+fn keep_beside<J: Naming, F: Appender + Drop, S: Storage<F>, R: Wait + Clock>(
+    rt: &R,
+    journal: &SharedJournal<'_, J, F, S>,
+    stopping: &Stopping,
+    ended: &AtomicBool,
+) {
+    journal.keep_each_second(rt, ended);
+    if journal.has_failed() {
+        stopping.say();
+        stopping.tell(rt);
+    }
+}
+
+/// Takes connections and serves them, as [`work`] does, and beside that keeps the journal, where it is to be kept each
+/// second. At an `Err` there was no memory.
+fn work_beside<
+    J: Naming + Send + Sync,
+    F: Appender + Drop + Send,
+    S: Storage<F> + Sync,
+    R: Threads + Wait + Net + Clock + Log + Sync,
+>(
+    rt: &R,
+    alloc: Global,
+    sharing: &Sharing<'_, J, SharedJournal<'_, J, F, S>>,
+    policy: Policy,
+    workers: u32,
+    listener: &TcpListener,
+) -> Result<(), AllocError> {
+    let stopping = Stopping::new(alloc)?;
+    if policy != Policy::EachSecond {
+        return work(rt, alloc, sharing, &stopping, workers, listener);
+    }
+    let ended = AtomicBool::new(false);
+    let ((), worked) = join(
+        rt,
+        || keep_beside(rt, sharing.settles, &stopping, &ended),
+        || {
+            let worked = work(rt, alloc, sharing, &stopping, workers, listener);
+            ended.store(true, Ordering::SeqCst);
+            worked
+        },
+    );
+    worked
+}
+
+/// Serves, once the broker has its name.
+fn served<
+    J: Naming + Send + Sync,
+    F: Appender + Drop + Send,
+    S: Storage<F> + Sync,
+    R: Threads + Wait + Net + Clock + Log + Sync,
+>(
+    rt: &R,
+    alloc: Global,
+    noted: Noted,
+    service: Service,
+    journaling: Journaling<'_, S>,
+    listener: &TcpListener,
+) -> Result<Left<F>, Unserved>
+    requires name { IsNameOf J.roll J.clients J.first noted.noting }
+    requires words { noted.words.items ≡ J.first.broker.words.kept }
+    requires moment { IsMoment J.first J.first.broker.words.kept }
+    ensures { IfOk result (λ left. IsLeftAfter J.first left.image.items left.journal) }
+{
+    let Noted { noting, words } = noted;
+    let (shared, seats, operator, handed) = match noting.named::<J>(alloc) {
+        Ok(named) => named,
+        Err(not) => return Err(Unserved::Refused(not.refusal)),
+    };
+    let seats = seated(alloc, seats, operator, service)?;
+    let policy = journaling.policy;
+    let settler = Settler::begin(alloc, handed, words, journaling.storage, policy)?;
+    let journal = SharedJournal::new(alloc, &shared, journaling.storage, settler);
+    let sharing = Sharing {
+        shared: &shared,
+        seats: &seats,
+        settles: &journal,
+    };
+    let workers = service.workers.max(1);
+    if work_beside(rt, alloc, &sharing, policy, workers, listener).is_err() {
+        return Err(Unserved::Refused(Refusal::NoMemory));
+    }
+    // What no reply told of is settled too. Where that fails for good, nothing is left.
+    let _ = journal.settle(rt);
+    journal_left(alloc, shared, seats, journal.into_settler())
+}
+
+/// Serves connections as [`crate::net`] does, with a journal of all that is done, which begins on a fresh device of the
+/// storage before any connection is taken. No reply is written before what it tells of is appended, and kept where the
+/// policy is to keep always. Where the device fails, the journal goes on on a fresh one, and where that fails too, the
+/// connections end without their replies, no more are taken, and it answers NotKept. It is refused as `net` is, and
+/// where the journal cannot begin (WriteFailed).
+pub fn net_lasting<
+    F: Appender + Drop + Send,
+    S: Storage<F> + Sync,
+    R: Threads + Wait + Net + Clock + Log + Sync,
+>(
+    rt: &R,
+    alloc: Global,
+    broker: Broker,
+    service: Service,
+    journaling: Journaling<'_, S>,
+    listener: &TcpListener,
+) -> Result<Left<F>, Unserved>
+    requires { IsUncalled broker }
+    ensures { IfOk result (λ left. IsLeftBy broker left.image.items left.journal) }
+{
+    let noted = noted(alloc, broker)?;
+    served::<Brand, F, S, R>(rt, alloc, noted, service, journaling, listener)
+}

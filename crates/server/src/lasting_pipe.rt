@@ -1,0 +1,152 @@
+//! Serving one reader and one writer with a journal.
+
+ghost use Rattle.std.specs.Prelude.{◌≡◌, ◌<◌, IfOk};
+ghost use Rattle.session.specs.Sessions.{IsUncalled};
+ghost use Rattle.workers.specs.Moments.{IsMoment};
+ghost use Rattle.workers.specs.Opening.{IsNameOf};
+ghost use Rattle.server.specs.Journaled.{IsLeftAfter, IsLeftBy};
+
+use crate::connections::Sharing;
+use crate::journals::{Journaling, Left, Noted, Unserved, journal_left, noted};
+use crate::json_lines::JsonLines;
+use desk::{BrokerDesk, Seating};
+use devices::{MAX_FAILURES, Reader, Writer};
+use engine::serve;
+use journal_file::{Appender, Storage};
+use lasting::{Policy, Settler, SharedJournal};
+use named::Broker;
+use settling::{Settles, SettlingWriter};
+use std::alloc::Global;
+use std::marker::Brand;
+use std::sync::Wait;
+use std::sync::atomic::{AtomicBool, Ordering};
+use std::thread::{Threads, join};
+use std::time::Clock;
+use words::Refusal;
+use workers::Naming;
+
+/// Serves the requests of the reader to the writer, which are settled before each write.
+fn serve_settling<J: Naming, S: Settles, T: Wait, R: Reader, W: Writer>(
+    rt: &T,
+    alloc: Global,
+    sharing: &Sharing<'_, J, S>,
+    reader: &mut R,
+    writer: &mut W,
+) -> Result<(), Refusal>
+    requires reader { R.failures reader.old < MAX_FAILURES }
+    requires writer { W.failures writer.old < MAX_FAILURES }
+{
+    let Ok(mut desk) = BrokerDesk::new(alloc, sharing.shared, sharing.seats) else {
+        return Err(Refusal::NoMemory);
+    };
+    let mut settling = SettlingWriter::new(rt, sharing.settles, writer);
+    serve::<T, JsonLines, _, _, _>(rt, alloc, reader, &mut settling, &mut desk)
+}
+
+/// The same, and beside it another thread keeps the journal, where it is to be kept each second.
+fn serve_beside<
+    J: Naming + Send + Sync,
+    F: Appender + Drop + Send,
+    S: Storage<F> + Sync,
+    T: Threads + Wait + Clock + Sync,
+    R: Reader,
+    W: Writer,
+>(
+    rt: &T,
+    alloc: Global,
+    sharing: &Sharing<'_, J, SharedJournal<'_, J, F, S>>,
+    policy: Policy,
+    reader: &mut R,
+    writer: &mut W,
+) -> Result<(), Refusal>
+    requires reader { R.failures reader.old < MAX_FAILURES }
+    requires writer { W.failures writer.old < MAX_FAILURES }
+{
+    if policy != Policy::EachSecond {
+        return serve_settling(rt, alloc, sharing, reader, writer);
+    }
+    let ended = AtomicBool::new(false);
+    let ((), served) = join(
+        rt,
+        || sharing.settles.keep_each_second(rt, &ended),
+        || {
+            let served = serve_settling(rt, alloc, sharing, reader, writer);
+            ended.store(true, Ordering::SeqCst);
+            served
+        },
+    );
+    served
+}
+
+/// Serves, once the broker has its name.
+fn served<
+    J: Naming + Send + Sync,
+    F: Appender + Drop + Send,
+    S: Storage<F> + Sync,
+    T: Threads + Wait + Clock + Sync,
+    R: Reader,
+    W: Writer,
+>(
+    rt: &T,
+    alloc: Global,
+    noted: Noted,
+    journaling: Journaling<'_, S>,
+    reader: &mut R,
+    writer: &mut W,
+) -> Result<Left<F>, Unserved>
+    requires name { IsNameOf J.roll J.clients J.first noted.noting }
+    requires words { noted.words.items ≡ J.first.broker.words.kept }
+    requires moment { IsMoment J.first J.first.broker.words.kept }
+    requires reader { R.failures reader.old < MAX_FAILURES }
+    requires writer { W.failures writer.old < MAX_FAILURES }
+    ensures { IfOk result (λ left. IsLeftAfter J.first left.image.items left.journal) }
+{
+    let Noted { noting, words } = noted;
+    let (shared, seats, operator, handed) = match noting.named::<J>(alloc) {
+        Ok(named) => named,
+        Err(not) => return Err(Unserved::Refused(not.refusal)),
+    };
+    let seats = Seating::new(alloc, seats, operator)?;
+    let policy = journaling.policy;
+    let settler = Settler::begin(alloc, handed, words, journaling.storage, policy)?;
+    let journal = SharedJournal::new(alloc, &shared, journaling.storage, settler);
+    let sharing = Sharing {
+        shared: &shared,
+        seats: &seats,
+        settles: &journal,
+    };
+    let served = serve_beside(rt, alloc, &sharing, policy, reader, writer);
+    // What no reply told of is settled too. Where that fails for good, nothing is left.
+    let _ = journal.settle(rt);
+    let left = journal_left(alloc, shared, seats, journal.into_settler())?;
+    served?;
+    Ok(left)
+}
+
+/// Serves a reader and a writer as [`crate::pipe`] does, with a journal of all that is done, which begins on a fresh
+/// device of the storage before anything is read. No reply is written before what it tells of is appended, and kept
+/// where the policy is to keep always. Where the device fails, the journal goes on on a fresh one, and where that fails
+/// too, it ends without the replies and answers NotKept. It is refused as `pipe` is, and where the journal cannot begin
+/// (WriteFailed). The thread that keeps it each second is another one.
+pub fn pipe_lasting<
+    F: Appender + Drop + Send,
+    S: Storage<F> + Sync,
+    T: Threads + Wait + Clock + Sync,
+    R: Reader,
+    W: Writer,
+>(
+    rt: &T,
+    alloc: Global,
+    broker: Broker,
+    journaling: Journaling<'_, S>,
+    reader: &mut R,
+    writer: &mut W,
+) -> Result<Left<F>, Unserved>
+    requires broker { IsUncalled broker }
+    requires reader { R.failures reader.old < MAX_FAILURES }
+    requires writer { W.failures writer.old < MAX_FAILURES }
+    ensures { IfOk result (λ left. IsLeftBy broker left.image.items left.journal) }
+{
+    let noted = noted(alloc, broker)?;
+    served::<Brand, F, S, T, R, W>(rt, alloc, noted, journaling, reader, writer)
+}

@@ -1,0 +1,49 @@
+//! How it is said that no more connections are taken.
+
+ghost use Rattle.std.specs.Prelude.{◌≡◌};
+
+use crossbeam_channel::{Receiver, Sender, bounded};
+use std::alloc::{AllocError, Global};
+use std::sync::Wait;
+use std::sync::atomic::{AtomicBool, Ordering};
+
+/// Whether connections are taken and served, or no more are.
+#[derive(Drop)]
+pub(crate) struct Stopping {
+    said: AtomicBool,
+    /// Where it is told to the thread that waits for it. There is room for one word.
+    told: Sender<()>,
+    heard: Receiver<()>,
+}
+
+impl Stopping {
+    /// Connections are taken.
+    pub(crate) fn new(alloc: Global) -> Result<Self, AllocError> {
+        let (told, heard) = bounded(alloc, 1)?;
+        Ok(Stopping {
+            said: AtomicBool::new(false),
+            told,
+            heard,
+        })
+    }
+
+    /// No more are.
+    pub(crate) fn say(&self) {
+        self.said.store(true, Ordering::SeqCst);
+    }
+
+    pub(crate) fn is_said(&self) -> bool {
+        self.said.load(Ordering::SeqCst)
+    }
+
+    /// Tells it to whoever waits.
+    pub(crate) fn tell<R: Wait>(&self, rt: &R) {
+        // Where there is no room, another thread has told it.
+        let _ = self.told.try_send(rt, ());
+    }
+
+    /// Waits until it is told; whether it was.
+    pub(crate) fn is_told<R: Wait>(&self, rt: &R) -> bool {
+        self.heard.recv(rt).is_ok()
+    }
+}
