@@ -110,7 +110,8 @@ fn served<
     }
     // What no reply told of is settled too. Where that fails for good, nothing is left.
     let _ = journal.settle(rt);
-    journal_left(alloc, shared, seats, journal.into_settler())
+    let settler = journal.into_settler();
+    journal_left(alloc, shared, seats, settler)
 }
 
 /// Serves connections as [`crate::net`] does, with a journal of all that is done, which begins on a fresh device of the

@@ -118,7 +118,8 @@ fn served<
     let served = serve_beside(rt, alloc, &sharing, policy, reader, writer);
     // What no reply told of is settled too. Where that fails for good, nothing is left.
     let _ = journal.settle(rt);
-    let left = journal_left(alloc, shared, seats, journal.into_settler())?;
+    let settler = journal.into_settler();
+    let left = journal_left(alloc, shared, seats, settler)?;
     served?;
     Ok(left)
 }
