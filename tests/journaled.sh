@@ -1,0 +1,25 @@
+#!/usr/bin/env bash
+# `pqd` with a journal: killed behind replies, stopped before and after each call of the system by which it writes, each
+# such call failing, full files, journals that are cut off, damaged, in use or none. It takes the program that the last
+# `rt ci`, or `rt run` in crates/pqd, left, or the one that PQD names.
+set -eu
+cd "$(dirname "$0")/.."
+. tests/cases.sh
+pqd=${PQD:-$PWD/crates/pqd/out/pqd}
+need "$pqd"
+"$(dirname "$(rt doc)")/toolchain/bin/clang" --target=x86_64-unknown-linux-gnu -shared -fPIC -nostdlib -fuse-ld=lld \
+    -o "$work/killing.so" tests/killing.c
+
+journaled() {
+    python3 -B tests/journaled.py "$pqd" "$work/killing.so" > "$work/out" 2>&1 || true
+    difference 'journaled' tests/journaled.txt "$work/out"
+}
+judge 'journaled' "$(journaled)"
+# The replies with a journal are those without one.
+for run in first second third; do
+    status=0
+    "$pqd" pipe --clients 1 --records 2 --journal "$work/journal" < "tests/pqd/$run-run.in" \
+        > "$work/out" 2> "$work/err" || status=$?
+    compare "the $run run with a journal" 0 "$status" "tests/pqd/$run-run.out" /dev/null
+done
+count
