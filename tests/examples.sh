@@ -29,6 +29,9 @@ done
 cp tests/examples/image.out "$work/image.out"
 try client.py python3 examples/client.py
 try resume.py python3 examples/resume.py
+status=0
+timeout 60 python3 examples/killed.py "$pqd" > "$work/out" 2> "$work/err" || status=$?
+compare killed.py 0 "$status" tests/examples/killed.py.out /dev/null
 if command -v nc > /dev/null && command -v jq > /dev/null; then
     try client.sh sh examples/client.sh
 else

@@ -51,7 +51,7 @@ def story():
 
 STORY = list(story())
 # What a creation that was not answered may be answered when it is sent again.
-THERE = "QueueExists"
+THERE = "Exists"
 
 
 class Broker:

@@ -64,7 +64,7 @@ bad_option "unexpected argument '--port' found" 'pqd pipe [OPTIONS]' pipe --port
 bad_option "unexpected argument '--workers' found" 'pqd pipe [OPTIONS]' pipe --workers 1
 bad_option "unexpected argument '--clint' found"$'\n\n  tip: '"a similar argument exists: '--clients'" \
     'pqd pipe --clients <T>' pipe --clint 4
-for option in 'clients <T>' 'records <K>' 'image <FILE>' 'port <P>' 'workers <N>'; do
+for option in 'clients <T>' 'records <K>' 'image <FILE>' 'journal <FILE>' 'sync <WHEN>' 'port <P>' 'workers <N>'; do
     bad_option "a value is required for '--$option' but none was supplied" '' serve "--${option%% *}"
     bad_option "the argument '--$option' cannot be used multiple times" 'pqd serve [OPTIONS]' \
         serve "--${option%% *}" 1 "--${option%% *}" 1
@@ -84,6 +84,10 @@ misfits port 0 65535 65536 -1 4294967296 ''
 misfits workers 1 16 0 17 ''
 bad_option "the option '--clients' takes a whole number from 1 to 16" 'pqd <COMMAND>' pipe --clients 0
 bad_option "the option '--records' takes a whole number from 1 to 4096" 'pqd <COMMAND>' pipe --records 5000
+for when in '' secondly Always 1; do
+    bad_option "the option '--sync' takes always, second or never" 'pqd <COMMAND>' serve --journal tests "--sync=$when"
+done
+bad_option "the option '--sync' goes with '--journal'" 'pqd <COMMAND>' pipe --sync always
 # One comes before the image is looked at, which comes before listening.
 bad_option "the option '--clients' takes a whole number from 1 to 16" 'pqd <COMMAND>' pipe --image tests --clients 0
 
