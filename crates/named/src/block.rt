@@ -47,12 +47,16 @@ fn numbered_from<T>(acted: Result<Noted<T>, Refusal>, block: usize) -> Result<No
     ensures answer { answer_in result ≡ answer_in acted }
     ensures change { change_in result ≡ change_behind block (change_in acted) }
 {
-    let Noted { answer, change } = acted?;
-    let change = change.map(|change| Change {
-        word: block + change.word,
-        ..change
-    });
-    Ok(Noted { answer, change })
+    let mut acted = acted;
+    // In place: an answer is not copied on its way.
+    if let Ok(Noted {
+        change: Some(change),
+        ..
+    }) = &mut acted
+    {
+        change.word += block;
+    }
+    acted
 }
 
 impl Model for Block {

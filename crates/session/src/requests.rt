@@ -177,8 +177,11 @@ impl Session {
     {
         // The number is read before the step: the one that answers ends the call, and the broker forgets its number.
         let number = self.calling(client, queue)?;
-        let Noted { answer, change } = self.broker.step_noted(queue, client)?;
-        self.kept.hear(queue, client, number, &answer);
-        Ok(Noted { answer, change })
+        let acted = self.broker.step_noted(queue, client);
+        // By reference: an answer is not copied on its way.
+        if let Ok(noted) = &acted {
+            self.kept.hear(queue, client, number, &noted.answer);
+        }
+        acted
     }
 }
