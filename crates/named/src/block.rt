@@ -49,10 +49,12 @@ fn numbered_from<T>(acted: Result<Noted<T>, Refusal>, block: usize) -> Result<No
 {
     let mut acted = acted;
     // In place: an answer is not copied on its way.
-    if let Ok(Noted {
-        change: Some(change),
-        ..
-    }) = &mut acted
+    if let Ok(
+        Noted {
+            change: Some(change),
+            ..
+        },
+    ) = &mut acted
     {
         change.word += block;
     }

@@ -33,7 +33,9 @@ fn tell_torn(rt: &HostRuntime, store: &Store<'_>, torn: usize) -> Result<(), Ref
         Ok(()) => "kept as FILE.torn",
         Err(_) => "not kept",
     };
-    match eprintln!(rt; "pqd: the journal ends in {torn} bytes of a torn frame, left out and {kept}") {
+    match eprintln!(rt;
+        "pqd: the journal ends in {torn} bytes of a torn frame, left out and {kept}"
+    ) {
         Ok(()) => Ok(()),
         Err(_) => Err(Refusal::WriteFailed),
     }
@@ -50,11 +52,7 @@ fn broker_on(rt: &HostRuntime, asked: &Options<'_>, found: Found) -> Result<Brok
 }
 
 /// The broker that goes on from the journal; or, where there is none yet, the one that the options ask for.
-fn broker_from(
-    rt: &HostRuntime,
-    asked: &Options<'_>,
-    store: &Store<'_>,
-) -> Result<Broker, Fault>
+fn broker_from(rt: &HostRuntime, asked: &Options<'_>, store: &Store<'_>) -> Result<Broker, Fault>
     ensures { IfOk result IsUncalled }
 {
     let Some(found) = store.find()? else {
@@ -77,7 +75,14 @@ fn serve_input<T: Threads + Wait + Clock + Sync>(
 {
     let mut reader = CountedReader::new(rt.reader());
     let mut writer = CountedWriter::new(io::writer(rt));
-    let left = pipe_lasting(threads, rt.alloc(), broker, journaling, &mut reader, &mut writer)?;
+    let left = pipe_lasting(
+        threads,
+        rt.alloc(),
+        broker,
+        journaling,
+        &mut reader,
+        &mut writer,
+    )?;
     Ok(left.image)
 }
 

@@ -1,5 +1,6 @@
 use Rattle.std.proofs.Common.{◌≡◌, ℕ, Option, Some, None, Ok, ap, sym, subst, ◌∙◌}
 use Rattle.std.specs.Option.{IfSome}
+use Rattle.std.specs.Result.{IfOk}
 use Rattle.words.specs.declared.call.Reply.{Reply}
 use Rattle.persist.specs.Noted.{answer_in}
 use Rattle.named.specs.Brokers.{world_at}
@@ -18,94 +19,100 @@ use Rattle.session.proofs.session.Session.advance_noted.Goals as goal
 pub returns-in_err-number-clause-promises : goal.returns-in_err-number-clause-promises
 returns-in_err-number-clause-promises c = numbers_shown _ _ c.self.invariant c.self.view_is
 
-pub invariant_of-self : goal.invariant_of-self
-invariant_of-self c =
-    advanced_right c.self.inside.broker c.step_noted.new.self c.args.queue.0 c.args.client c.self.inside.kept c.self.inside.kept
-    (answer_in c.step_noted.result) c.self.invariant c.step_noted.ensures.promises.well
-    (record { act = c.step_noted.ensures.act; stays = c.step_noted.ensures.stays; beside = c.step_noted.ensures.beside })
-    (kept_refused c.self.inside.kept c.args.queue.0 c.args.client.0 _ (answer_in c.step_noted.result) c.in_err-answer.field-0.0 (ap (answer_in {T = Option Reply}) c.in_err-answer.was))
+pub invariant_of-self-in_default : goal.invariant_of-self-in_default
+invariant_of-self-in_default c =
+    advanced_right c.self.inside.broker c.step_noted-acted.new.self c.args.queue.0 c.args.client c.self.inside.kept c.self.inside.kept
+    (answer_in c.step_noted-acted.result) c.self.invariant c.step_noted-acted.ensures.promises.well
+    (record { act = c.step_noted-acted.ensures.act; stays = c.step_noted-acted.ensures.stays; beside = c.step_noted-acted.ensures.beside })
+    (kept_refused c.self.inside.kept c.args.queue.0 c.args.client.0 _ (answer_in c.step_noted-acted.result) c.in_default.field-0 (ap (answer_in {T = Option Reply}) c.in_default.is))
 
-pub returns-in_err-answer-clause-goes_on : goal.returns-in_err-answer-clause-goes_on
-returns-in_err-answer-clause-goes_on c =
-    subst (λ (s : Sessioned). SessionGoesOn s (record { broker = c.step_noted.new.self; kept = c.self.inside.kept })) c.self.view_is
-    (advanced_on c.self.inside.broker c.step_noted.new.self c.args.queue.0 c.args.client c.self.inside.kept c.self.inside.kept
-    (answer_in c.step_noted.result) c.self.invariant
-    (record { act = c.step_noted.ensures.act; stays = c.step_noted.ensures.stays; beside = c.step_noted.ensures.beside })
-    (kept_refused c.self.inside.kept c.args.queue.0 c.args.client.0 _ (answer_in c.step_noted.result) c.in_err-answer.field-0.0 (ap (answer_in {T = Option Reply}) c.in_err-answer.was)))
+pub returns-in_default-clause-goes_on : goal.returns-in_default-clause-goes_on
+returns-in_default-clause-goes_on c =
+    subst (λ (s : Sessioned). SessionGoesOn s (record { broker = c.step_noted-acted.new.self; kept = c.self.inside.kept })) c.self.view_is
+    (advanced_on c.self.inside.broker c.step_noted-acted.new.self c.args.queue.0 c.args.client c.self.inside.kept c.self.inside.kept
+    (answer_in c.step_noted-acted.result) c.self.invariant
+    (record { act = c.step_noted-acted.ensures.act; stays = c.step_noted-acted.ensures.stays; beside = c.step_noted-acted.ensures.beside })
+    (kept_refused c.self.inside.kept c.args.queue.0 c.args.client.0 _ (answer_in c.step_noted-acted.result) c.in_default.field-0 (ap (answer_in {T = Option Reply}) c.in_default.is)))
 
-pub returns-in_err-answer-clause-promises : goal.returns-in_err-answer-clause-promises
-returns-in_err-answer-clause-promises c = numbers_kept _ (invariant_of-self c)
+pub returns-in_default-clause-promises : goal.returns-in_default-clause-promises
+returns-in_default-clause-promises c = numbers_kept _ (invariant_of-self-in_default c)
 
 pub hear-requires-clause-slot : goal.hear-requires-clause-slot
 hear-requires-clause-slot c =
-    let at = answered_at _ c.self.inside.broker c.args.queue.0 c.args.client c.in_ok-answer.field-0.answer
-    (sym c.step_noted.ensures.act.answers ∙ (ap (answer_in {T = Option Reply}) c.in_ok-answer.was)) in
+    let at = answered_at _ c.self.inside.broker c.args.queue.0 c.args.client c.in-Ok.noted.answer
+    (sym c.step_noted-acted.ensures.act.answers ∙ (ap (answer_in {T = Option Reply}) c.in-Ok.is)) in
     open_below c.self.inside.broker c.self.invariant.well c.args.queue.0 at.world at.here
 
-pub invariant_of-self-2 : goal.invariant_of-self-2
-invariant_of-self-2 c =
+pub invariant_of-self : goal.invariant_of-self
+invariant_of-self c =
     let asked = number_heard c.args.self.now.broker c.args.queue.0 c.args.client c.in_ok-number.number c.calling.result
     c.in_ok-number.was c.calling.ensures in
-    advanced_right c.self.inside.broker c.step_noted.new.self c.args.queue.0 c.args.client c.self.inside.kept c.hear.new.self
-    (answer_in c.step_noted.result) c.self.invariant c.step_noted.ensures.promises.well
-    (record { act = c.step_noted.ensures.act; stays = c.step_noted.ensures.stays; beside = c.step_noted.ensures.beside })
-    (kept_heard c.self.inside.kept c.hear.new.self c.args.queue.0 c.args.client.0 c.in_ok-number.number _ (answer_in c.step_noted.result)
-    c.in_ok-answer.field-0.answer
+    advanced_right c.self.inside.broker c.step_noted-acted.new.self c.args.queue.0 c.args.client c.self.inside.kept c.hear.new.self
+    (answer_in c.step_noted-acted.result) c.self.invariant c.step_noted-acted.ensures.promises.well
+    (record { act = c.step_noted-acted.ensures.act; stays = c.step_noted-acted.ensures.stays; beside = c.step_noted-acted.ensures.beside })
+    (kept_heard c.self.inside.kept c.hear.new.self c.args.queue.0 c.args.client.0 c.in_ok-number.number _ (answer_in c.step_noted-acted.result)
+    c.in-Ok.noted.answer
     (subst (λ (s : Sessioned). c.in_ok-number.number ≡ call_number (world_at s.broker c.args.queue.0) c.args.client)
     (sym c.self.view_is) asked)
-    (ap (answer_in {T = Option Reply}) c.in_ok-answer.was) c.hear.ensures)
+    (ap (answer_in {T = Option Reply}) c.in-Ok.is) c.hear.ensures)
 
-pub returns-clause-reply : goal.returns-clause-reply
-returns-clause-reply c =
-    subst (λ (s : Sessioned). IfSome c.in_ok-answer.field-0.answer (IsReplyIfNumbered
-    (record { broker = c.step_noted.new.self; kept = c.hear.new.self }) c.args.queue.0 c.args.client
+pub returns-in-Ok-clause-reply : goal.returns-in-Ok-clause-reply
+returns-in-Ok-clause-reply c =
+    subst (λ r. IfOk r (λ answer. IfSome answer (IsReplyIfNumbered
+    (record { broker = c.step_noted-acted.new.self; kept = c.hear.new.self }) c.args.queue.0 c.args.client
+    (call_number (world_at c.args.self.now.broker c.args.queue.0) c.args.client)))) (sym (ap (answer_in {T = Option Reply}) c.in-Ok.is))
+    (subst (λ (s : Sessioned). IfSome c.in-Ok.noted.answer (IsReplyIfNumbered
+    (record { broker = c.step_noted-acted.new.self; kept = c.hear.new.self }) c.args.queue.0 c.args.client
     (call_number (world_at s.broker c.args.queue.0) c.args.client))) c.self.view_is
-    (by_answer c.in_ok-answer.field-0.answer (ap (answer_in {T = Option Reply}) c.in_ok-answer.was))
+    (by_answer c.in-Ok.noted.answer (ap (answer_in {T = Option Reply}) c.in-Ok.is)))
   where
-    made : IsAdvanced c.self.inside.broker c.step_noted.new.self c.args.queue.0 c.args.client (answer_in c.step_noted.result)
-    made = record { act = c.step_noted.ensures.act; stays = c.step_noted.ensures.stays; beside = c.step_noted.ensures.beside }
+    made : IsAdvanced c.self.inside.broker c.step_noted-acted.new.self c.args.queue.0 c.args.client (answer_in c.step_noted-acted.result)
+    made = record { act = c.step_noted-acted.ensures.act; stays = c.step_noted-acted.ensures.stays; beside = c.step_noted-acted.ensures.beside }
 
-    by_answer : (answer : Option Reply) → (answer_in c.step_noted.result) ≡ Ok answer → IfSome answer (IsReplyIfNumbered
-        (record { broker = c.step_noted.new.self; kept = c.hear.new.self }) c.args.queue.0 c.args.client
+    by_answer : (answer : Option Reply) → (answer_in c.step_noted-acted.result) ≡ Ok answer → IfSome answer (IsReplyIfNumbered
+        (record { broker = c.step_noted-acted.new.self; kept = c.hear.new.self }) c.args.queue.0 c.args.client
         (call_number (world_at c.self.inside.broker c.args.queue.0) c.args.client))
     by_answer None e = tt
     by_answer (Some reply) e =
-        advanced_reply c.self.inside.broker c.step_noted.new.self c.args.queue.0 c.args.client c.self.inside.kept c.hear.new.self
+        advanced_reply c.self.inside.broker c.step_noted-acted.new.self c.args.queue.0 c.args.client c.self.inside.kept c.hear.new.self
         reply c.self.invariant
-        (subst (IsAdvanced c.self.inside.broker c.step_noted.new.self c.args.queue.0 c.args.client) e made)
+        (subst (IsAdvanced c.self.inside.broker c.step_noted-acted.new.self c.args.queue.0 c.args.client) e made)
 
-pub returns-clause-kept : goal.returns-clause-kept
-returns-clause-kept c =
+pub returns-in-Ok-clause-kept : goal.returns-in-Ok-clause-kept
+returns-in-Ok-clause-kept c =
     let asked = number_heard c.args.self.now.broker c.args.queue.0 c.args.client c.in_ok-number.number c.calling.result
     c.in_ok-number.was c.calling.ensures in
-    subst (λ (n : Option ℕ). IsKeptNow c.args.self.now.kept c.hear.new.self c.args.queue.0 c.args.client.0
-    (last_after n (Ok c.in_ok-answer.field-0.answer) (kept_in c.args.self.now.kept c.args.queue.0 c.args.client.0))) asked
+    subst (λ r. IsKeptNow c.args.self.now.kept c.hear.new.self c.args.queue.0 c.args.client.0
+    (last_after (call_number (world_at c.args.self.now.broker c.args.queue.0) c.args.client) r
+    (kept_in c.args.self.now.kept c.args.queue.0 c.args.client.0))) (sym (ap (answer_in {T = Option Reply}) c.in-Ok.is))
+    (subst (λ (n : Option ℕ). IsKeptNow c.args.self.now.kept c.hear.new.self c.args.queue.0 c.args.client.0
+    (last_after n (Ok c.in-Ok.noted.answer) (kept_in c.args.self.now.kept c.args.queue.0 c.args.client.0))) asked
     (subst (λ (s : Sessioned). IsKeptNow s.kept c.hear.new.self c.args.queue.0 c.args.client.0
-    (last_after c.in_ok-number.number (Ok c.in_ok-answer.field-0.answer) (kept_in s.kept c.args.queue.0 c.args.client.0)))
-    c.self.view_is c.hear.ensures)
+    (last_after c.in_ok-number.number (Ok c.in-Ok.noted.answer) (kept_in s.kept c.args.queue.0 c.args.client.0)))
+    c.self.view_is c.hear.ensures))
 
-pub returns-clause-goes_on : goal.returns-clause-goes_on
-returns-clause-goes_on c =
+pub returns-in-Ok-clause-goes_on : goal.returns-in-Ok-clause-goes_on
+returns-in-Ok-clause-goes_on c =
     let asked = number_heard c.args.self.now.broker c.args.queue.0 c.args.client c.in_ok-number.number c.calling.result
     c.in_ok-number.was c.calling.ensures in
-    subst (λ (s : Sessioned). SessionGoesOn s (record { broker = c.step_noted.new.self; kept = c.hear.new.self })) c.self.view_is
-    (advanced_on c.self.inside.broker c.step_noted.new.self c.args.queue.0 c.args.client c.self.inside.kept c.hear.new.self
-    (answer_in c.step_noted.result) c.self.invariant
-    (record { act = c.step_noted.ensures.act; stays = c.step_noted.ensures.stays; beside = c.step_noted.ensures.beside })
-    (kept_heard c.self.inside.kept c.hear.new.self c.args.queue.0 c.args.client.0 c.in_ok-number.number _ (answer_in c.step_noted.result)
-    c.in_ok-answer.field-0.answer
+    subst (λ (s : Sessioned). SessionGoesOn s (record { broker = c.step_noted-acted.new.self; kept = c.hear.new.self })) c.self.view_is
+    (advanced_on c.self.inside.broker c.step_noted-acted.new.self c.args.queue.0 c.args.client c.self.inside.kept c.hear.new.self
+    (answer_in c.step_noted-acted.result) c.self.invariant
+    (record { act = c.step_noted-acted.ensures.act; stays = c.step_noted-acted.ensures.stays; beside = c.step_noted-acted.ensures.beside })
+    (kept_heard c.self.inside.kept c.hear.new.self c.args.queue.0 c.args.client.0 c.in_ok-number.number _ (answer_in c.step_noted-acted.result)
+    c.in-Ok.noted.answer
     (subst (λ (s : Sessioned). c.in_ok-number.number ≡ call_number (world_at s.broker c.args.queue.0) c.args.client)
     (sym c.self.view_is) asked)
-    (ap (answer_in {T = Option Reply}) c.in_ok-answer.was) c.hear.ensures))
+    (ap (answer_in {T = Option Reply}) c.in-Ok.is) c.hear.ensures))
 
-pub returns-clause-promises : goal.returns-clause-promises
-returns-clause-promises c = numbers_kept _ (invariant_of-self-2 c)
+pub returns-in-Ok-clause-promises : goal.returns-in-Ok-clause-promises
+returns-in-Ok-clause-promises c = numbers_kept _ (invariant_of-self c)
 
 pub returns-in_err-number-clause-queues : goal.returns-in_err-number-clause-queues
 returns-in_err-number-clause-queues c = broker_stays _
 
-pub returns-in_err-answer-clause-queues : goal.returns-in_err-answer-clause-queues
-returns-in_err-answer-clause-queues c = queues_on _ _ _ c.self.view_is c.step_noted.ensures.goes_on
+pub returns-in_default-clause-queues : goal.returns-in_default-clause-queues
+returns-in_default-clause-queues c = queues_on _ _ _ c.self.view_is c.step_noted-acted.ensures.goes_on
 
-pub returns-clause-queues : goal.returns-clause-queues
-returns-clause-queues c = queues_on _ _ _ c.self.view_is c.step_noted.ensures.goes_on
+pub returns-in-Ok-clause-queues : goal.returns-in-Ok-clause-queues
+returns-in-Ok-clause-queues c = queues_on _ _ _ c.self.view_is c.step_noted-acted.ensures.goes_on
