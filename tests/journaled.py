@@ -36,7 +36,7 @@ def story():
     yield {"op": "create", "queue": "a", "kind": "log"}, {"reply": "created", "slot": 0}
     yield {"op": "create", "queue": "b", "kind": "durable"}, {"reply": "created", "slot": 1}
     held, numbers = [], [0, 0]
-    for turn in range(20):
+    for turn in range(12):
         client = turn // 2 % 2
         numbers[client] += 1
         call = {"client": client, "queue": "a", "number": numbers[client]}

@@ -1,5 +1,5 @@
 -- A broker in fresh records is opened with what the image's words hold and tell.
-use Rattle.std.proofs.Common.{◌≤◌, ℕ, Bool, List, Result, Ok, Err, slice_get, refl, sym, ap, subst, ◌∙◌}
+use Rattle.std.proofs.Common.{◌≡◌, ◌≤◌, ℕ, Bool, List, Result, Ok, Err, slice_get, inr, refl, sym, ap, subst, ◌∙◌}
 use Rattle.std.specs.Prelude.{IfOk, unwrap_or}
 use Rattle.words.specs.declared.refusal.Refusal.{Refusal}
 use Rattle.words.specs.declared.told.Told.{Told}
@@ -14,9 +14,9 @@ use Rattle.renewal.specs.Broker.{IsBrokerRenewalOf, broker_renewed}
 use Rattle.named.specs.Booting.{AreBootWords, kept_block}
 use Rattle.named.specs.Brokers.{Brokered, world_at}
 use Rattle.named.specs.Promises.{KeepsPromises}
-use Rattle.named.specs.Renewing.{IsRenewed}
+use Rattle.named.specs.Renewing.{IsRenewed, IsWhyUnrenewed}
 use Rattle.named.proofs.Renewed.{holds_same, renewed_boots, renewed_is, tells_same}
-use Rattle.server.specs.Opening.{HasBegunFrom, HasBegunOn, IsOpened, IsOpenedAnew, IsQueueOpened, IsQueueRenewed, IsRenewedBy}
+use Rattle.server.specs.Opening.{HasBegunFrom, HasBegunOn, IsOpened, IsOpenedAnew, IsQueueOpened, IsQueueRenewed, IsRenewedBy, IsReopenedAnew, IsWhyNotReopenedAnew}
 
 module _ (old : List ℕ) (to : Counts) (sound : AreBootWords old) (start : Brokered) (renewed : IsRenewed old to start) where
   abbrev new : List ℕ
@@ -72,3 +72,21 @@ renewed_from first image to start anew (Ok b) begun promises renewed opened = re
       (opened (words_at_rest (broker_renewed to start.words.kept)) (begun_anew start.words.kept to promises.boots anew renewed));
 }
 renewed_from first image to start anew (Err e) begun promises renewed opened = tt
+
+-- so it is of words
+module _ (words : List ℕ) (to : Counts) (start : Brokered) (begun : HasBegunOn (words_at_rest words) start) where
+  kept_words : start.words.kept ≡ words
+  kept_words = ap (λ (ws : Words). ws.kept) begun.booted.words
+
+  pub reopened_on : (anew : Brokered) (r : Result Brokered Refusal) → IsRenewed start.words.kept to anew
+      → IfOk r (λ b. (ws : Words) → HasBegunOn ws anew → IsOpened ws b) → IfOk r (IsReopenedAnew words to)
+  reopened_on anew (Ok b) renewed opened =
+      let now : IsRenewed words to anew = subst (λ (ws : List ℕ). IsRenewed ws to anew) kept_words renewed in (
+        begun.sound,
+        opened_anew words to begun.sound anew now b
+            (opened (words_at_rest (broker_renewed to words)) (begun_anew words to begun.sound anew now)),
+      )
+  reopened_on anew (Err e) renewed opened = tt
+
+  pub unrenewed_on : (e : Refusal) → IsWhyUnrenewed start.words.kept to e → IsWhyNotReopenedAnew words to e
+  unrenewed_on e why = inr (subst (λ (ws : List ℕ). IsWhyUnrenewed ws to e) kept_words why)
