@@ -29,3 +29,4 @@ pub mod Migrated
 pub mod Renewed
 pub mod RenewedAt
 pub mod Acting
+pub mod KeptQueues

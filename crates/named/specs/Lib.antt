@@ -16,3 +16,4 @@ pub mod GoingOn
 pub mod Promises
 pub mod Migrating
 pub mod Renewing
+pub mod KeptQueues

@@ -1,11 +1,13 @@
 //! What holds over any list of a broker's acts: laws on its states, of which each clause asks what an act's contract
 //! says.
 
-ghost use Rattle.std.specs.Prelude.{◌≡◌, ℕ, Bool, false, true};
+ghost use Rattle.std.specs.Prelude.{◌≡◌, ℕ, Bool, Some, false, true};
 ghost use Rattle.directory.specs.Directory.{HasQueue};
 ghost use Rattle.directory.specs.declared.queue.Queue.{Queue};
-ghost use Rattle.named.specs.Brokers.{Brokered};
+ghost use Rattle.interleave.specs.State.{State};
+ghost use Rattle.named.specs.Brokers.{Brokered, world_at};
 ghost use Rattle.named.specs.GoingOn.{BrokerGoesOn, CameOf, IsDowntime};
+ghost use Rattle.named.specs.KeptQueues.{IsKeptQueue};
 ghost use Rattle.named.specs.Promises.{KeepsPromises};
 ghost use Rattle.named.specs.Rotating.{IsRotated};
 
@@ -35,4 +37,11 @@ pub fn brokers_outlast_rotations()
 pub fn downtimes_go_on()
     ensures { (old now new : Brokered) → IsDowntime old now → now.creation ≡ old.creation → IsDowntime now new
         → IsDowntime old new }
+{}
+
+/// At every moment each open queue stands in the kept words: their directory has it in its slot, and its block is what
+/// the queue keeps. So a broker that begins on the kept words of a moment has each queue that was open then.
+pub fn open_queues_are_kept()
+    ensures { (b : Brokered) → KeepsPromises b → (slot : ℕ) (w : State) → world_at b slot ≡ Some w
+        → IsKeptQueue b.words.kept slot w }
 {}
