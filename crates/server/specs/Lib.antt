@@ -3,3 +3,4 @@ pub mod Image
 pub mod Journaled
 pub mod Piping
 pub mod Opening
+pub mod Restarting
