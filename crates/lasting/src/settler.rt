@@ -120,22 +120,6 @@ impl<J: Naming, F: Appender + Drop> Settler<J, F> {
         Ok(())
     }
 
-    /// Keeps all that was appended, where some of it is not kept yet.
-    fn keep_all(&mut self) -> Result<(), Refusal>
-        ensures handed { self.new.kept.handed ≡ self.old.kept.handed }
-        ensures pending { self.new.kept.pending ≡ self.old.kept.pending }
-        ensures words { self.new.kept.journal.words ≡ self.old.kept.journal.words }
-        ensures policy { self.new.policy ≡ self.old.policy }
-        ensures failed { self.new.failed ≡ self.old.failed }
-        ensures kept { OnOk result (self.new.kept.journal.kept ≡ self.new.kept.journal.size) }
-        ensures going { OnOk result (self.old.kept.journal.failed ≡ false → self.new.kept.journal.failed ≡ false) }
-    {
-        if self.journaled.journal().kept() == self.journaled.journal().size() {
-            return Ok(());
-        }
-        self.journaled.keep()
-    }
-
     /// Keeps what was appended, as the policy says, on a device that has not failed.
     fn keep_by_policy(&mut self) -> Result<(), Refusal>
         ensures handed { self.new.kept.handed ≡ self.old.kept.handed }
@@ -150,7 +134,7 @@ impl<J: Naming, F: Appender + Drop> Settler<J, F> {
             return Err(Refusal::WriteFailed);
         }
         match self.policy {
-            Policy::Always => self.keep_all(),
+            Policy::Always => self.journaled.keep_all(),
             Policy::EachSecond | Policy::Never => Ok(()),
         }
     }
@@ -293,7 +277,7 @@ impl<J: Naming, F: Appender + Drop> Settler<J, F> {
         if self.failed {
             return Err(Failed);
         }
-        match self.keep_all() {
+        match self.journaled.keep_all() {
             Ok(()) => Ok(()),
             Err(refusal) => self.go_on_anew(alloc, storage, refusal),
         }

@@ -8,6 +8,7 @@ use std::sync::Wait;
 
 /// A writer of replies: before each write, all that was done is settled, so that what these tell of lasts. Where that
 /// fails, the write fails, and nothing is written.
+#[derive(Drop)]
 pub struct SettlingWriter<'a, R: Wait, W: Writer, S: Settles> {
     rt: &'a R,
     settles: &'a S,

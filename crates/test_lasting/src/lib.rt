@@ -3,8 +3,4 @@
 #![tactic(auto)]
 
 #[cfg(test)]
-mod leaving;
-#[cfg(test)]
-mod shelf;
-#[cfg(test)]
 mod threads;

@@ -5,8 +5,6 @@ ghost use Rattle.workers.specs.Moments.{IsMoment};
 ghost use Rattle.workers.specs.Opening.{IsNameOf};
 ghost use Rattle.workers.specs.Seats.{AreAllInOrder};
 
-use crate::leaving::is_told;
-use crate::shelf::{Device, Faults, Shelf, Shelving};
 use directory::Name;
 use lasting::{Policy, Settler, SharedJournal, first_words};
 use session::Session;
@@ -17,6 +15,7 @@ use std::process::Abort;
 use std::sync::Wait;
 use std::test::*;
 use std::thread::{Threads, join};
+use test_shelf::{Device, Faults, Shelf, Shelving, is_told};
 use test_support::item;
 use test_support::sessions::with_queue;
 use words::{Call, Kind, Refusal, Reply};

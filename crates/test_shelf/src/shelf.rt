@@ -12,7 +12,7 @@ use std::sync::atomic::{AtomicU64, Ordering};
 /// Which calls of a storage and its devices fail: so many of them, from one on. An append that fails takes a part of its
 /// bytes.
 #[derive(Drop)]
-pub(crate) struct Faults {
+pub struct Faults {
     calls: AtomicU64,
     first: u64,
     many: u64,
@@ -20,7 +20,7 @@ pub(crate) struct Faults {
 }
 
 impl Faults {
-    pub(crate) fn new(first: u64, many: u64, part: usize) -> Self {
+    pub fn new(first: u64, many: u64, part: usize) -> Self {
         Faults {
             calls: AtomicU64::new(0),
             first,
@@ -45,7 +45,7 @@ struct Text {
 
 /// Two places for devices, of which one is in use.
 #[derive(Drop)]
-pub(crate) struct Shelf {
+pub struct Shelf {
     faults: Faults,
     even: Mutex<Text>,
     odd: Mutex<Text>,
@@ -62,7 +62,7 @@ fn empty(alloc: Global) -> Mutex<Text> {
 }
 
 impl Shelf {
-    pub(crate) fn new(alloc: Global, faults: Faults) -> Self {
+    pub fn new(alloc: Global, faults: Faults) -> Self {
         Shelf {
             faults,
             even: empty(alloc),
@@ -82,7 +82,7 @@ impl Shelf {
     }
 
     /// A copy of what is in the place in use, and how much of it is kept.
-    pub(crate) fn left(&self, alloc: Global) -> Result<(Vec<u8>, usize), AllocError> {
+    pub fn left(&self, alloc: Global) -> Result<(Vec<u8>, usize), AllocError> {
         let mut copy = Vec::new(alloc);
         let Some(text) = self.place(0).try_lock() else {
             return Ok((copy, 0));
@@ -94,7 +94,7 @@ impl Shelf {
 
 /// The device in a place.
 #[derive(Drop)]
-pub(crate) struct Device<'a> {
+pub struct Device<'a> {
     faults: &'a Faults,
     place: &'a Mutex<Text>,
     failed: bool,
@@ -161,8 +161,8 @@ impl Appender for Device<'_> {
 
 /// The shelf as a storage.
 #[derive(Drop)]
-pub(crate) struct Shelving<'a> {
-    pub(crate) shelf: &'a Shelf,
+pub struct Shelving<'a> {
+    pub shelf: &'a Shelf,
 }
 
 impl<'a> Storage<Device<'a>> for Shelving<'a> {

@@ -7,7 +7,7 @@ use std::alloc::{AllocError, Global};
 use std::test::Fail;
 use test_support::brokers::recover;
 use test_support::sessions::A;
-use words::{Client, Outcome, Reply, Told};
+use words::{Client, Outcome, Refusal, Reply, Told};
 
 /// The image of these words.
 fn image_of(alloc: Global, words: &[u64]) -> Result<Vec<u8>, AllocError> {
@@ -29,9 +29,14 @@ fn begun(alloc: Global, bytes: &[u8]) -> Result<Broker, Fail> {
     Ok(broker)
 }
 
-/// The number of the client's last put in the queue `a` that took effect, by what the broker tells: 0 where none did.
+/// The number of the client's last put in the queue `a` that took effect, by what the broker tells: 0 where none did, or
+/// there is no such queue yet.
 fn last_done(broker: &Broker, client: u8) -> Result<u64, Fail> {
-    match broker.told(A, Client(client))? {
+    let told = match broker.told(A, Client(client)) {
+        Err(Refusal::NoQueue) => return Ok(0),
+        told => told?,
+    };
+    match told {
         Told::None => Ok(0),
         Told::Verdict(verdict) => match verdict.outcome {
             Outcome::Taken(Reply::Done) => Ok(verdict.number),
@@ -44,7 +49,7 @@ fn last_done(broker: &Broker, client: u8) -> Result<u64, Fail> {
 
 /// Whether each of the clients is told of its number, or a later one, wherever a stop cuts the bytes off from that place
 /// on.
-pub(crate) fn is_told(
+pub fn is_told(
     alloc: Global,
     bytes: &[u8],
     from: usize,
