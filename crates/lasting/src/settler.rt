@@ -1,6 +1,6 @@
 //! The journal of a shared session where its storage has it.
 
-ghost use Rattle.std.specs.Prelude.{◌≡◌, [], Err, false, is_err, true, IfOk, OnErr, OnOk};
+ghost use Rattle.std.specs.Prelude.{◌≡◌, [], false, is_err, true, IfOk, OnErr, OnOk};
 ghost use Rattle.persist.specs.Noted.{applied};
 ghost use Rattle.lasting.specs.Lasting.{HasMoments};
 ghost use Rattle.lasting.specs.Settling.{HasSettled, IsKeptBy};
@@ -73,10 +73,11 @@ impl<J: Naming, F: Appender + Drop> Settler<J, F> {
         ensures policy { IfOk result (λ s. s.policy ≡ policy) }
         ensures going { IfOk result (λ s. s.failed ≡ false) }
     {
-        let Ok((device, key)) = storage.fresh() else {
+        let Ok(made) = storage.fresh() else {
             return Err(Refusal::WriteFailed);
         };
-        let journaled = Journaled::begin(alloc, handed, device, &key, words)?;
+        let key = made.1;
+        let journaled = Journaled::begin(alloc, handed, made.0, &key, words)?;
         if storage.replace().is_err() {
             return Err(Refusal::WriteFailed);
         }
@@ -108,10 +109,11 @@ impl<J: Naming, F: Appender + Drop> Settler<J, F> {
         ensures failed { OnOk result (self.new.failed ≡ self.old.failed) }
         ensures same { OnErr result (self.new.failed ≡ false → self.new.kept ≡ self.old.kept) }
     {
-        let Ok((device, key)) = storage.fresh() else {
+        let Ok(made) = storage.fresh() else {
             return Err(Refusal::WriteFailed);
         };
-        self.journaled.compact(alloc, device, &key)?;
+        let key = made.1;
+        self.journaled.compact(alloc, made.0, &key)?;
         if storage.replace().is_err() {
             self.failed = true;
             return Err(Refusal::WriteFailed);
@@ -251,7 +253,7 @@ impl<J: Naming, F: Appender + Drop> Settler<J, F> {
     ) -> (Self, Result<(), Failed>)
         ensures settled { OnOk result.1 (HasSettled J.first result.0) }
         ensures policy { result.0.policy ≡ self.policy }
-        ensures over { self.failed ≡ true → result ≡ (self, Err Failed) }
+        ensures over { self.failed ≡ true → (result.0 ≡ self) × (is_err result.1 ≡ true) }
     {
         if self.failed {
             return (self, Err(Failed));
@@ -272,7 +274,7 @@ impl<J: Naming, F: Appender + Drop> Settler<J, F> {
         ensures words { self.new.kept.journal.words ≡ self.old.kept.journal.words }
         ensures policy { self.new.policy ≡ self.old.policy }
         ensures kept { OnOk result (IsKeptBy Policy.Always self.new) }
-        ensures over { self.old.failed ≡ true → (self.new ≡ self.old) × (result ≡ Err Failed) }
+        ensures over { self.old.failed ≡ true → (self.new ≡ self.old) × (is_err result ≡ true) }
     {
         if self.failed {
             return Err(Failed);

@@ -181,7 +181,8 @@ impl<'a> Storage<Device<'a>> for Shelving<'a> {
             place,
             failed: false,
         };
-        Ok((device, *b"a key 42"))
+        let key = *b"a key 42";
+        Ok((device, key))
     }
 
     fn replace(&self) -> Result<(), Failed> {
