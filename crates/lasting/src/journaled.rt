@@ -240,17 +240,17 @@ impl<J: Naming, F: Appender + Drop> Journaled<J, F> {
     fn ended(
         alloc: Global,
         handed: Handed<J>,
-        batch: Vec<Change>,
+        rest: Vec<Change>,
         journal: Journal<F>,
     ) -> (Journal<F>, Result<(), Refusal>)
-        requires { IsKept J.first (record { handed = handed; pending = batch.items; journal = journal }) }
+        requires { IsKept J.first (record { handed = handed; pending = rest.items; journal = journal }) }
         ensures words { OnOk result.1 (result.0.words ≡ applied handed J.first.broker.words.kept) }
         ensures kept { OnOk result.1 (result.0.kept ≡ result.0.size) }
         ensures moments { HasMoments J.first result.0 }
     {
         let mut last = Journaled {
             handed,
-            pending: batch,
+            pending: rest,
             journal,
         };
         let ended = last.append_and_keep(alloc);
