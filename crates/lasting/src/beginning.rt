@@ -3,6 +3,7 @@
 ghost use Rattle.std.specs.Prelude.{◌≡◌, IfErr, IfOk};
 ghost use Rattle.workers.specs.Moments.{IsMoment};
 
+use named::Broker;
 use persist::{KeptWords, Memory};
 use session::Session;
 use std::alloc::{AllocError, Global};
@@ -19,6 +20,15 @@ fn kept_words(alloc: Global, memory: &Memory) -> Result<Vec<u64>, AllocError>
     Ok(words)
 }
 
+/// The broker of a session, which is at a moment, as every session is.
+fn broker_of(session: &Session) -> &Broker
+    ensures broker { result.now ≡ session.now.broker }
+    ensures moment { IsMoment session.now session.now.broker.words.kept }
+{
+    session.tells_settled();
+    session.broker()
+}
+
 /// The kept words of the session's broker, with which its journal begins once the session is shared. It is refused for
 /// want of memory (NoMemory).
 pub fn first_words(alloc: Global, session: &Session) -> Result<Vec<u64>, Refusal>
@@ -26,8 +36,7 @@ pub fn first_words(alloc: Global, session: &Session) -> Result<Vec<u64>, Refusal
     ensures moment { IsMoment session.now session.now.broker.words.kept }
     ensures errors { IfErr result (λ e. e ≡ Refusal.NoMemory) }
 {
-    session.tells_settled();
-    let image = session.broker().to_image()?;
+    let image = broker_of(session).to_image()?;
     let Ok(memory) = Memory::from_image(alloc, &image) else {
         return Err(Refusal::NoMemory);
     };

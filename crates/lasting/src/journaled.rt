@@ -161,6 +161,20 @@ impl<J: Naming, F: Appender + Drop> Journaled<J, F> {
         self.journal.keep()
     }
 
+    /// Keeps all that was appended, where some of it is not kept yet, and is refused as [`Journaled::keep`] is.
+    pub fn keep_all(&mut self) -> Result<(), Refusal>
+        ensures handed { self.new.handed ≡ self.old.handed }
+        ensures pending { self.new.pending ≡ self.old.pending }
+        ensures words { self.new.journal.words ≡ self.old.journal.words }
+        ensures kept { OnOk result (self.new.journal.kept ≡ self.new.journal.size) }
+        ensures going { OnOk result (self.old.journal.failed ≡ false → self.new.journal.failed ≡ false) }
+    {
+        if self.journal.kept() == self.journal.size() {
+            return Ok(());
+        }
+        self.keep()
+    }
+
     /// Goes on as a journal of its present words and no batch, on another device, which is to have no byte yet. What is
     /// pending stays so. It is refused as [`Journal::compacted`] is, and then all stays.
     pub fn compact(
@@ -226,17 +240,17 @@ impl<J: Naming, F: Appender + Drop> Journaled<J, F> {
     fn ended(
         alloc: Global,
         handed: Handed<J>,
-        batch: Vec<Change>,
+        rest: Vec<Change>,
         journal: Journal<F>,
     ) -> (Journal<F>, Result<(), Refusal>)
-        requires { IsKept J.first (record { handed = handed; pending = batch.items; journal = journal }) }
+        requires { IsKept J.first (record { handed = handed; pending = rest.items; journal = journal }) }
         ensures words { OnOk result.1 (result.0.words ≡ applied handed J.first.broker.words.kept) }
         ensures kept { OnOk result.1 (result.0.kept ≡ result.0.size) }
         ensures moments { HasMoments J.first result.0 }
     {
         let mut last = Journaled {
             handed,
-            pending: batch,
+            pending: rest,
             journal,
         };
         let ended = last.append_and_keep(alloc);
@@ -251,6 +265,6 @@ impl<J: Naming, F: Appender + Drop> Journaled<J, F> {
         ensures kept { OnOk result (self.new.journal.kept ≡ self.new.journal.size) }
     {
         self.append_pending(alloc)?;
-        self.keep()
+        self.keep_all()
     }
 }

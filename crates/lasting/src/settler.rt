@@ -1,6 +1,6 @@
 //! The journal of a shared session where its storage has it.
 
-ghost use Rattle.std.specs.Prelude.{◌≡◌, [], Err, false, is_err, true, IfOk, OnErr, OnOk};
+ghost use Rattle.std.specs.Prelude.{◌≡◌, [], false, is_err, true, IfOk, OnErr, OnOk};
 ghost use Rattle.persist.specs.Noted.{applied};
 ghost use Rattle.lasting.specs.Lasting.{HasMoments};
 ghost use Rattle.lasting.specs.Settling.{HasSettled, IsKeptBy};
@@ -73,10 +73,11 @@ impl<J: Naming, F: Appender + Drop> Settler<J, F> {
         ensures policy { IfOk result (λ s. s.policy ≡ policy) }
         ensures going { IfOk result (λ s. s.failed ≡ false) }
     {
-        let Ok((device, key)) = storage.fresh() else {
+        let Ok(made) = storage.fresh() else {
             return Err(Refusal::WriteFailed);
         };
-        let journaled = Journaled::begin(alloc, handed, device, &key, words)?;
+        let key = made.1;
+        let journaled = Journaled::begin(alloc, handed, made.0, &key, words)?;
         if storage.replace().is_err() {
             return Err(Refusal::WriteFailed);
         }
@@ -108,32 +109,17 @@ impl<J: Naming, F: Appender + Drop> Settler<J, F> {
         ensures failed { OnOk result (self.new.failed ≡ self.old.failed) }
         ensures same { OnErr result (self.new.failed ≡ false → self.new.kept ≡ self.old.kept) }
     {
-        let Ok((device, key)) = storage.fresh() else {
+        let Ok(made) = storage.fresh() else {
             return Err(Refusal::WriteFailed);
         };
-        self.journaled.compact(alloc, device, &key)?;
+        let key = made.1;
+        self.journaled.compact(alloc, made.0, &key)?;
         if storage.replace().is_err() {
             self.failed = true;
             return Err(Refusal::WriteFailed);
         }
         self.enough = enough_behind(self.journaled.journal().size());
         Ok(())
-    }
-
-    /// Keeps all that was appended, where some of it is not kept yet.
-    fn keep_all(&mut self) -> Result<(), Refusal>
-        ensures handed { self.new.kept.handed ≡ self.old.kept.handed }
-        ensures pending { self.new.kept.pending ≡ self.old.kept.pending }
-        ensures words { self.new.kept.journal.words ≡ self.old.kept.journal.words }
-        ensures policy { self.new.policy ≡ self.old.policy }
-        ensures failed { self.new.failed ≡ self.old.failed }
-        ensures kept { OnOk result (self.new.kept.journal.kept ≡ self.new.kept.journal.size) }
-        ensures going { OnOk result (self.old.kept.journal.failed ≡ false → self.new.kept.journal.failed ≡ false) }
-    {
-        if self.journaled.journal().kept() == self.journaled.journal().size() {
-            return Ok(());
-        }
-        self.journaled.keep()
     }
 
     /// Keeps what was appended, as the policy says, on a device that has not failed.
@@ -150,7 +136,7 @@ impl<J: Naming, F: Appender + Drop> Settler<J, F> {
             return Err(Refusal::WriteFailed);
         }
         match self.policy {
-            Policy::Always => self.keep_all(),
+            Policy::Always => self.journaled.keep_all(),
             Policy::EachSecond | Policy::Never => Ok(()),
         }
     }
@@ -267,7 +253,7 @@ impl<J: Naming, F: Appender + Drop> Settler<J, F> {
     ) -> (Self, Result<(), Failed>)
         ensures settled { OnOk result.1 (HasSettled J.first result.0) }
         ensures policy { result.0.policy ≡ self.policy }
-        ensures over { self.failed ≡ true → result ≡ (self, Err Failed) }
+        ensures over { self.failed ≡ true → (result.0 ≡ self) × (is_err result.1 ≡ true) }
     {
         if self.failed {
             return (self, Err(Failed));
@@ -288,12 +274,12 @@ impl<J: Naming, F: Appender + Drop> Settler<J, F> {
         ensures words { self.new.kept.journal.words ≡ self.old.kept.journal.words }
         ensures policy { self.new.policy ≡ self.old.policy }
         ensures kept { OnOk result (IsKeptBy Policy.Always self.new) }
-        ensures over { self.old.failed ≡ true → (self.new ≡ self.old) × (result ≡ Err Failed) }
+        ensures over { self.old.failed ≡ true → (self.new ≡ self.old) × (is_err result ≡ true) }
     {
         if self.failed {
             return Err(Failed);
         }
-        match self.keep_all() {
+        match self.journaled.keep_all() {
             Ok(()) => Ok(()),
             Err(refusal) => self.go_on_anew(alloc, storage, refusal),
         }

@@ -117,6 +117,12 @@ impl<'a, J: Naming, F: Appender + Drop, S: Storage<F>> SharedJournal<'a, J, F, S
         kept
     }
 
+    /// Settles, and keeps all that was appended, whatever the policy is.
+    pub fn settle_and_keep<R: Wait>(&self, rt: &R) -> Result<(), Failed> {
+        self.settle(rt)?;
+        self.keep_up(rt)
+    }
+
     /// Keeps about once a second what was appended, until `ended` is said, or the journal has failed for good.
     pub fn keep_each_second<R: Wait + Clock>(&self, rt: &R, ended: &AtomicBool) {
         for _ in rt.forever() {

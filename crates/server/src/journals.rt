@@ -59,7 +59,7 @@ pub(crate) struct Noted {
 
 /// A session over the broker, for its journal to follow. It is refused where a call or a creation is under way (Busy),
 /// and for want of memory (NoMemory).
-pub(crate) fn noted(alloc: Global, broker: Broker) -> Result<Noted, Refusal>
+pub(crate) fn begin_noting(alloc: Global, broker: Broker) -> Result<Noted, Refusal>
     requires { IsUncalled broker }
     ensures opened { IfOk result (λ noted. IsOpenedOver broker noted.noting.session) }
     ensures words { IfOk result (λ noted. noted.words.items ≡ noted.noting.session.broker.words.kept) }

@@ -7,7 +7,7 @@ ghost use Rattle.workers.specs.Opening.{IsNameOf};
 ghost use Rattle.server.specs.Journaled.{IsLeftAfter, IsLeftBy};
 
 use crate::connections::Sharing;
-use crate::journals::{Journaling, Left, Noted, Unserved, journal_left, noted};
+use crate::journals::{Journaling, Left, Noted, Unserved, begin_noting, journal_left};
 use crate::listening::{Service, seated, work};
 use crate::stopping::Stopping;
 use journal_file::{Appender, Storage};
@@ -108,8 +108,8 @@ fn served<
     if work_beside(rt, alloc, &sharing, policy, workers, listener).is_err() {
         return Err(Unserved::Refused(Refusal::NoMemory));
     }
-    // What no reply told of is settled too. Where that fails for good, nothing is left.
-    let _ = journal.settle(rt);
+    // What no reply told of is settled and kept too. Where that fails for good, nothing is left.
+    let _ = journal.settle_and_keep(rt);
     let settler = journal.into_settler();
     journal_left(alloc, shared, seats, settler)
 }
@@ -134,6 +134,6 @@ pub fn net_lasting<
     requires { IsUncalled broker }
     ensures { IfOk result (λ left. IsLeftBy broker left.image.items left.journal) }
 {
-    let noted = noted(alloc, broker)?;
+    let noted = begin_noting(alloc, broker)?;
     served::<Brand, F, S, R>(rt, alloc, noted, service, journaling, listener)
 }

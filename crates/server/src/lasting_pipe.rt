@@ -7,7 +7,7 @@ ghost use Rattle.workers.specs.Opening.{IsNameOf};
 ghost use Rattle.server.specs.Journaled.{IsLeftAfter, IsLeftBy};
 
 use crate::connections::Sharing;
-use crate::journals::{Journaling, Left, Noted, Unserved, journal_left, noted};
+use crate::journals::{Journaling, Left, Noted, Unserved, begin_noting, journal_left};
 use crate::json_lines::JsonLines;
 use desk::{BrokerDesk, Seating};
 use devices::{MAX_FAILURES, Reader, Writer};
@@ -116,8 +116,8 @@ fn served<
         settles: &journal,
     };
     let served = serve_beside(rt, alloc, &sharing, policy, reader, writer);
-    // What no reply told of is settled too. Where that fails for good, nothing is left.
-    let _ = journal.settle(rt);
+    // What no reply told of is settled and kept too. Where that fails for good, nothing is left.
+    let _ = journal.settle_and_keep(rt);
     let settler = journal.into_settler();
     let left = journal_left(alloc, shared, seats, settler)?;
     served?;
@@ -148,6 +148,6 @@ pub fn pipe_lasting<
     requires writer { W.failures writer.old < MAX_FAILURES }
     ensures { IfOk result (λ left. IsLeftBy broker left.image.items left.journal) }
 {
-    let noted = noted(alloc, broker)?;
+    let noted = begin_noting(alloc, broker)?;
     served::<Brand, F, S, T, R, W>(rt, alloc, noted, journaling, reader, writer)
 }

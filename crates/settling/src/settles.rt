@@ -13,6 +13,7 @@ pub trait Settles {
 }
 
 /// Nothing that is done is promised to last.
+#[derive(Drop)]
 pub struct InMemory;
 
 impl Settles for InMemory {

@@ -10,6 +10,8 @@ mod connections;
 #[cfg(test)]
 mod failing;
 #[cfg(test)]
+mod journals;
+#[cfg(test)]
 mod patience;
 #[cfg(test)]
 mod playing;

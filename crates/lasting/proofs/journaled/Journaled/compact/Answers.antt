@@ -1,0 +1,8 @@
+use Rattle.lasting.specs.Lasting.{Kept}
+use Rattle.lasting.proofs.Moments.{kept_compacted}
+use Rattle.lasting.proofs.journaled.Journaled.compact.Goals as goal
+
+pub invariant_of-self : goal.invariant_of-self
+invariant_of-self g c =
+    let old : Kept = record { handed = c.self.inside.handed; pending = c.self.inside.pending.items; journal = c.self.inside.journal } in
+    kept_compacted g.J.Naming.first old c.args.key.now c.in_ok-compacted.compacted c.self.invariant c.in_ok-compacted.ensures.journal
