@@ -28,4 +28,5 @@ pub mod Mosts
 pub mod Migrated
 pub mod Renewed
 pub mod RenewedAt
+pub mod Anew
 pub mod Acting

@@ -97,7 +97,7 @@ module _ (b : Brokered) (holds : IsWell b) where
     up : b.recovery ≡ None
     up = (free_to b.recovery b.creation (list_any has_calls_in b.slots) rests).0
 
-    idle : b.creation ≡ None
+    pub idle : b.creation ≡ None
     idle = (free_to b.recovery b.creation (list_any has_calls_in b.slots) rests).1
 
     at_rest : IsAtRest b.words b.directory
@@ -118,7 +118,7 @@ module _ (b : Brokered) (holds : IsWell b) where
       abbrev c : Counts
       c = counts_in b.words.kept
 
-      block_sound : (at : ℕ) (queue : Queue) → HasQueue (directory_of b.words.kept) at queue
+      pub block_sound : (at : ℕ) (queue : Queue) → HasQueue (directory_of b.words.kept) at queue
           → AreSoundWords (shape_of queue.kind c) (block_in running c at new)
       block_sound at queue has = elim (cases_eq at slot) [
         | inl here ↦
@@ -141,7 +141,7 @@ module _ (b : Brokered) (holds : IsWell b) where
       }
 
       -- the block of each queue holds and tells what it did
-      content_same : (at : ℕ) (queue : Queue) → HasQueue (directory_of b.words.kept) at queue
+      pub content_same : (at : ℕ) (queue : Queue) → HasQueue (directory_of b.words.kept) at queue
           → content_of (shape_of queue.kind c) (value_of_place (shape_of queue.kind c) (block_in running c at new))
           ≡ content_of (shape_of queue.kind c) (value_of_place (shape_of queue.kind c) (block_in running c at b.words.kept))
       content_same at queue has = elim (cases_eq at slot) [
@@ -161,7 +161,7 @@ module _ (b : Brokered) (holds : IsWell b) where
             ap (λ (ws : List ℕ). content_of (shape_of queue.kind c) (value_of_place (shape_of queue.kind c) ws)) (same.others at below apart)
       ]
 
-      tells_same : (at : ℕ) (queue : Queue) → HasQueue (directory_of b.words.kept) at queue
+      pub tells_same : (at : ℕ) (queue : Queue) → HasQueue (directory_of b.words.kept) at queue
           → tells_by (shape_of queue.kind c) (value_of_place (shape_of queue.kind c) (block_in running c at new))
           ≡ tells_by (shape_of queue.kind c) (value_of_place (shape_of queue.kind c) (block_in running c at b.words.kept))
       tells_same at queue has = elim (cases_eq at slot) [
@@ -255,26 +255,6 @@ module _ (b : Brokered) (holds : IsWell b) where
           worlds = begins_on;
           closed = stays_closed;
         }
-
--- of a result
-pub renewed_at_if : (b shown : Brokered) (holds : IsWell b) → b ≡ shown → (slot : ℕ) (new : List ℕ) (ws : Words) (r : Result Brokered Refusal)
-    → MayRenew shown slot → IsQueueRenewalOf b.words.kept slot new → new ≡ queue_renewed slot b.words.kept → ws ≡ words_at_rest new
-    → IfOk r (IsBooted ws) → IfOk r KeepsPromises → IfOk r (λ x. IsRenewedAt shown x slot)
-renewed_at_if b shown holds view slot new ws (Err e) may same is rest booted kept = tt
-renewed_at_if b shown holds view slot new ws (Ok x) may same is rest booted kept =
-    let rests : rotate_result false b ≡ Ok tt = ap (rotate_result false) view ∙ may.rests in
-    subst (λ (y : Brokered). IsRenewedAt y x slot) view
-    (renewed_there b holds rests slot new same x (subst (λ (v : Words). IsBooted v x) rest booted) kept.well is)
-
-pub unrenewed_at_if : {T : Type 0} (b shown : Brokered) (holds : IsWell b) → b ≡ shown → (slot : ℕ) (new : List ℕ) (ws : Words) (r : Result T Refusal)
-    → MayRenew shown slot → IsQueueRenewalOf b.words.kept slot new → ws ≡ words_at_rest new → IfErr r (MayRefuse ws.kept)
-    → IfErr r (IsWhyNotRenewedAt shown slot)
-unrenewed_at_if b shown holds view slot new ws (Ok x) may same rest errors = tt
-unrenewed_at_if b shown holds view slot new ws (Err e) may same rest errors =
-    let rests : rotate_result false b ≡ Ok tt = ap (rotate_result false) view ∙ may.rests in
-    let refused : e ≡ NoMemory =
-    refused_for_memory new (renewed_boots_at b holds rests slot new same) e (subst (λ (v : Words). MayRefuse v.kept e) rest errors) in
-    subst (IsWhyNotRenewedAt shown slot) (sym refused) may
 
 -- why the words were not written
 some_there : (o : Option State) → IsSome o → (w : State) × (o ≡ Some w)

@@ -93,22 +93,16 @@ returns-clause-renewed c =
     (subst (λ (ws : List ℕ). IsBrokerRenewalOf ws c.in_ok-to.to new) kept c.in_ok-words.ensures.same) in
     let is : new ≡ broker_renewed to old =
     c.in_ok-words.ensures.renewed ∙ ap (λ (k : Counts). broker_renewed k c.crash.new.self.words.kept) c.in_ok-to.ensures.made ∙ ap (broker_renewed to) kept in
-    renewed_if old to new c.in-Ok-of.renewed.words c.boot.result boots.broker.head.counts.few_clients may same is c.in-Ok-of.ensures.made c.boot.ensures.booted
+    renewed_if old to new c.in-Ok-of.renewed.words c.begin.result boots.broker.head.counts.few_clients may same is c.in-Ok-of.ensures.made c.begin.ensures.booted
 
 pub returns-clause-errors : goal.returns-clause-errors
 returns-clause-errors c =
     let old : List ℕ = c.args.self.words.kept in
     let to : Counts = record { clients = c.args.clients; records = c.args.records } in
-    let b : Brokered = record { counts = c.self.inside.layout; words = c.self.inside.memory.words; slots = c.self.inside.slots.items; directory = c.self.inside.directory; creation = c.self.inside.creation; recovery = c.self.inside.recovery } in
-    let boots : AreBootWords old = subst (λ (x : Brokered). AreBootWords x.words.kept) c.self.view_is (boots_well b c.self.invariant.well) in
     let kept : c.crash.new.self.words.kept ≡ old =
     ap (λ (ws : Words). ws.kept) c.crash.ensures.words ∙ ap (λ (x : Brokered). x.words.kept) c.self.view_is in
     let counts : c.in-Ok.kept.layout ≡ counts_in old = c.in-Ok.ensures.layout ∙ ap counts_in kept in
     let more : (counts_in old).clients ≤ c.args.clients =
     omega (arith, c.if-clients.false, c.clients.ensures.value, ap (λ (k : Counts). k.clients) counts) in
     let may : AreCountsFor old to = record { clients = more; counts = c.in_ok-to.ensures.ok.0 refl } in
-    let same : IsBrokerRenewalOf old to c.in_ok-words.words.items =
-    subst (λ (k : Counts). IsBrokerRenewalOf old k c.in_ok-words.words.items) c.in_ok-to.ensures.made
-    (subst (λ (ws : List ℕ). IsBrokerRenewalOf ws c.in_ok-to.to c.in_ok-words.words.items) kept c.in_ok-words.ensures.same) in
-    unrenewed_if old to c.in_ok-words.words.items c.in-Ok-of.renewed.words c.boot.result may boots.broker.head.counts.few_clients same c.in-Ok-of.ensures.made
-    c.boot.ensures.errors
+    unrenewed_if old to c.begin.result may c.begin.ensures.errors
