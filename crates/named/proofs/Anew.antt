@@ -1,19 +1,17 @@
 -- Slots that begin on what a broker at rest keeps begin on the same words with one queue in fresh records: they hold and
 -- tell the same.
-use Rattle.std.proofs.Common.{◌≡◌, ℕ, ◌+◌, ◌<◌, ◌≤◌, false, List, [], length, Option, Some, None, Ok, replicate, slice_get, refl, sym, ap, ap₂, subst, ◌∙◌, arith}
+use Rattle.std.proofs.Common.{◌≡◌, ℕ, ◌<◌, false, List, [], length, Option, Some, None, Ok, replicate, slice_get, refl, sym, ap, ap₂, subst, ◌∙◌, arith}
 use Rattle.words.specs.PlainQueue.{Value}
 use Rattle.words.specs.declared.told.Told.{Told}
 use Rattle.persist.specs.Memory.{Words, words_after_crash, words_at_rest, words_in}
-use Rattle.arena.specs.Broker.{block_in, broker_size}
+use Rattle.arena.specs.Broker.{broker_size}
 use Rattle.arena.specs.Content.{kept_content as content_of}
-use Rattle.arena.specs.Form.{running}
 use Rattle.arena.specs.Shape.{Counts, Shape, shape_of}
-use Rattle.recover.specs.Sound.{AreSoundWords}
 use Rattle.recover.specs.Table.{boot_recovery}
 use Rattle.recover.specs.Told.{tells_by}
 use Rattle.directory.specs.Directory.{Directory, HasQueue}
 use Rattle.directory.specs.Queue.{directory_of, slot_in}
-use Rattle.directory.specs.Sound.{AreBrokerWords, counts_in}
+use Rattle.directory.specs.Sound.{counts_in}
 use Rattle.directory.specs.declared.queue.Queue.{Queue}
 use Rattle.interleave.specs.Booted.{booted_world, queue_at_boot}
 use Rattle.interleave.specs.Holds.{Holds}
@@ -26,7 +24,6 @@ use Rattle.named.specs.Booting.{AreRead, AreSlotsBooted, IsBooted, IsQueueBooted
 use Rattle.named.specs.Brokers.{Brokered, IsInBlock, IsWell, block_words, world_at}
 use Rattle.named.specs.Renewing.{IsRenewedAt}
 use Rattle.named.specs.Rotating.{rotate_result}
-use Rattle.named.specs.Slots.{kind_in, world_in}
 use Rattle.named.specs.Stopping.{booting}
 use Rattle.named.specs.declared.slot.Slot.{Slot}
 use Rattle.named.specs.declared.slot.Slot.TheVariants.{Closed, Open}
@@ -35,7 +32,7 @@ use Rattle.named.proofs.Promises.{boots_well, head_is}
 use Rattle.named.proofs.RenewedAt.{block_sound, content_same, known, renewed_there, tells_same}
 
 -- a world that begins with this
-begun : Shape → List Told → List Value → Words → State
+abbrev begun : Shape → List Told → List Value → Words → State
 begun s told base ws = record {
   shape = s;
   words = ws;

@@ -70,16 +70,17 @@ impl Broker {
         ensures errors { IfErr result (IsWhyNotRenewedAt self.now slot.0) }
         ensures stays { KeepsPromises self.now }
     {
+        // A broker at rest has the directory that its kept words tell of.
+        let kept = KeptBroker {
+            layout: self.layout,
+            directory: self.directory,
+        };
         self.check_ready()?;
         self.kind(slot)?;
         if self.creation.is_some() || have_calls(&self.slots) {
             return Err(Refusal::Busy);
         }
         let alloc = *self.slots.allocator();
-        let kept = KeptBroker {
-            layout: self.layout,
-            directory: self.directory,
-        };
         let block = fresh_queue(alloc, &kept, &self.memory, slot)?;
         let mut slots = boot_each(alloc, &kept, &self.memory)?;
         reserve_each(&mut slots, 1)?;

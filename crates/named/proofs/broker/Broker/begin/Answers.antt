@@ -1,8 +1,6 @@
-use Rattle.std.proofs.Common.{◌≡◌, ℕ, List, Some, None, refl, ap, sym, subst, ◌∙◌}
-use Rattle.persist.specs.Memory.{Words, words_after_crash}
+use Rattle.std.proofs.Common.{ℕ, List, Some, None, refl, ap, sym, subst}
+use Rattle.persist.specs.Memory.{Words}
 use Rattle.directory.specs.declared.recovery.DirectoryRecovery.{DirectoryRecovery}
-use Rattle.directory.specs.Queue.{slot_in}
-use Rattle.named.specs.Booting.{AreKept, world_booted}
 use Rattle.named.specs.Brokers.{Brokered, IsWell}
 use Rattle.named.specs.declared.recovery.BrokerRecovery.TheVariants.{ReadDirectory}
 use Rattle.named.proofs.Booted.{booted_well, booted_worlds, read_kept}

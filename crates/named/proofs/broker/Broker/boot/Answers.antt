@@ -1,7 +1,5 @@
-use Rattle.std.proofs.Common.{◌≡◌, refl, sym, subst, ◌∙◌}
-use Rattle.std.specs.Prelude.{IfOk}
+use Rattle.std.proofs.Common.{◌≡◌, refl, sym, subst}
 use Rattle.persist.specs.Memory.{Words}
-use Rattle.named.specs.Booting.{IsBooted}
 use Rattle.named.proofs.Booted.{booted_crashed}
 use Rattle.named.proofs.broker.Broker.boot.Goals as goal
 

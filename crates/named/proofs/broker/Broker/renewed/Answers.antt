@@ -9,7 +9,7 @@ use Rattle.named.specs.Booting.{AreBootWords}
 use Rattle.named.specs.Brokers.{Brokered}
 use Rattle.named.specs.Renewing.{AreCountsFor, IsWhyUnrenewed}
 use Rattle.named.proofs.Promises.{boots_well}
-use Rattle.named.proofs.Renewed.{may_be_renewed, not_both, not_refused, renewed_if, unfit, unfit_as, unrenewed_if}
+use Rattle.named.proofs.Renewed.{may_be_renewed, not_both, not_refused, renewed_boots, renewed_if, unfit, unfit_as, unrenewed_if}
 use Rattle.named.proofs.broker.Broker.renewed.Goals as goal
 
 pub unreachable-requires : goal.unreachable-requires
@@ -29,6 +29,15 @@ renewed_broker-requires c =
     let more : c.in-Ok.kept.layout.clients ≤ c.in_ok-to.to.clients = omega (arith, c.if-clients.false, c.clients.ensures.value, asked) in
     may_be_renewed c.crash.new.self.words c.in-Ok.kept.layout c.in-Ok.kept.directory c.in_ok-to.to (ap length crashed)
     (subst AreBootWords (sym kept) (boots_well b c.self.invariant.well)) c.in-Ok.ensures.layout c.in-Ok.ensures.directory more
+
+pub begin-requires-clause-sound : goal.begin-requires-clause-sound
+begin-requires-clause-sound c =
+    let b : Brokered = record { counts = c.self.inside.layout; words = c.self.inside.memory.words; slots = c.self.inside.slots.items; directory = c.self.inside.directory; creation = c.self.inside.creation; recovery = c.self.inside.recovery } in
+    let kept : c.crash.new.self.words.kept ≡ b.words.kept = ap (λ (ws : Words). ws.kept) c.crash.ensures.words in
+    let same : IsBrokerRenewalOf b.words.kept c.in_ok-to.to c.in_ok-words.words.items =
+    subst (λ (ws : List ℕ). IsBrokerRenewalOf ws c.in_ok-to.to c.in_ok-words.words.items) kept c.in_ok-words.ensures.same in
+    subst (λ (ws : Words). AreBootWords ws.kept) (sym c.in-Ok-of.ensures.made)
+    (renewed_boots b.words.kept c.in_ok-to.to c.in_ok-words.words.items (boots_well b c.self.invariant.well).broker.head.counts.few_clients same)
 
 pub returns-in_err-words-clause-errors : goal.returns-in_err-words-clause-errors
 returns-in_err-words-clause-errors c =
