@@ -75,8 +75,25 @@ impl Core {
         ensures sound { IfOk result (λ c. AreSoundWords layout (K.kept_words kept.now)) }
         ensures errors { IfErr result (λ e. MayRefuse layout (K.kept_words kept.now) e) }
     {
-        let clients = layout.clients();
         sound(&layout, kept)?;
+        Core::boot_sound(alloc, layout, kept)
+    }
+
+    /// A core that begins on kept words, as [`Core::boot`] does, where they are known to obey the rules: it does not look
+    /// at each of them. It is refused for want of memory alone (NoMemory).
+    pub fn boot_sound<K: KeptWords>(
+        alloc: Global,
+        layout: Layout,
+        kept: &K,
+    ) -> Result<Self, Refusal>
+        requires { AreSoundWords layout (K.kept_words kept.now) }
+        ensures booted { IfOk result (λ c. (ws : Words) → ws.kept ≡ K.kept_words kept.now
+            → state_of c (words_after_crash ws) ≡ booted_world layout ws) }
+        ensures holds { IfOk result (λ c. (ws : Words) → ws.kept ≡ K.kept_words kept.now
+            → Holds (state_of c (words_after_crash ws))) }
+        ensures errors { IfErr result (λ e. e ≡ Refusal.NoMemory) }
+    {
+        let clients = layout.clients();
         let base = content(alloc, &layout, kept)?;
         let told = tells(&layout, kept);
         let queue = Queue::at_boot(layout.kind(), copied(&told));

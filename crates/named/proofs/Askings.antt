@@ -18,7 +18,7 @@ use Rattle.interleave.specs.Rotation.{after_rotation}
 use Rattle.interleave.proofs.AskedKept.{asked_at_boot, asked_at_first, asked_evicted, asked_same}
 use Rattle.interleave.proofs.AloneLaws.{get_set}
 use Rattle.protocol.specs.declared.UnderWay.{UnderWay}
-use Rattle.directory.specs.Step.{IsAskedFor, lent_after_one}
+use Rattle.directory.specs.Step.{lent_after_one}
 use Rattle.directory.specs.declared.creation.Creation.{Creation}
 use Rattle.directory.specs.Creation.{IsNextAskedFor, new_creation}
 use Rattle.stepper.specs.declared.resume.After.{After}
@@ -33,8 +33,8 @@ use Rattle.named.specs.Evicting.{is_in_block, world_evicted}
 use Rattle.named.specs.Stopping.{IsReadingDirectory, creation_after}
 use Rattle.named.specs.declared.recovery.BrokerRecovery.{BrokerRecovery}
 use Rattle.named.specs.Asked.{IfCreationAsked, IsWellOver, IsWorldAsked, requests_at}
-use Rattle.named.specs.Blocks.{AskAlikeBeside, BlockState, IsAskedIn, IsBeside, IsWellIn, requests_in, state_in}
-use Rattle.named.specs.Brokers.{Brokered, IsInBlock, IsSlotAt, IsWell, admission, quiet, world_at, world_of}
+use Rattle.named.specs.Blocks.{BlockState, IsBeside, requests_in}
+use Rattle.named.specs.Brokers.{Brokered, IsSlotAt, IsWell, admission, quiet, world_at, world_of}
 use Rattle.named.specs.Slots.{AskAlikeBesideSlot, IfWorld, IsSlotAsked, acted, world_in}
 use Rattle.named.specs.declared.broker.TheConstants.{CREATION_PORT}
 use Rattle.named.specs.declared.slot.Slot.{Slot}

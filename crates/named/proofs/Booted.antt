@@ -1,6 +1,6 @@
 -- What a broker that begins on kept words is, and why it is refused.
 use Rattle.std.proofs.Common.{◌≡◌, ℕ, ◌+◌, ◌<◌, ◌≤◌, inl, inr, List, length, drop, replicate, slice_get, slice_set, slice_index, slice_index_or, true, false, Option, Some, None, Result, Ok, Err, refl, sym, ap, subst, ◌∙◌, arith}
-use Rattle.std.specs.Prelude.{IfErr, IsSome, is_some}
+use Rattle.std.specs.Prelude.{IfOk, IsSome, is_some}
 use Rattle.std.specs.Option.{option_map}
 use Rattle.std.proofs.lemmas.List.{ext_get_or, get_or-replicate, length-drop, length-replicate, length-take}
 use Rattle.std.proofs.lemmas.Option.{slice_get-get_or, slice_get_within}
@@ -8,7 +8,6 @@ use Rattle.std.proofs.lemmas.Bool.{cases_eq}
 use Rattle.words.specs.declared.call.Kind.{Kind}
 use Rattle.words.specs.declared.call.Kind.TheVariants.{Durable as durable_kind, Log as log_kind}
 use Rattle.words.specs.declared.refusal.Refusal.{Refusal}
-use Rattle.words.specs.declared.refusal.Refusal.TheVariants.{NoWord, BadMagic, BadCount, Truncated, TrailingBytes, NoMemory, BadClients, BadRecords, StaleNumber, Busy, NoRoom, NotReady, NoClient, Idle, AlreadyReady, BadName, Exists, DirectoryFull, Gap, Old, NoQueue, WrongKind, TooLong, BadJson, BadRequest, ReadFailed, WriteFailed, BadLine, Damaged, BadItem}
 use Rattle.words.specs.declared.refusal.Rule.{Rule}
 use Rattle.words.specs.declared.refusal.Rule.TheVariants.{Size, Records, Chain, Claims, Ends, Rows, Entries, Image, Directory as directory_rule}
 use Rattle.persist.specs.Memory.{Words, words_after_crash}
@@ -29,12 +28,12 @@ use Rattle.directory.proofs.Creations.{slot_open}
 use Rattle.directory.proofs.Kept.{directory_at}
 use Rattle.directory.proofs.Recoveries.{recovery_begins}
 use Rattle.directory.proofs.Sounds.{sound_rest}
-use Rattle.interleave.specs.Booted.{booted_world, MayRefuse as MayRefuseQueue}
+use Rattle.interleave.specs.Booted.{booted_world}
 use Rattle.interleave.specs.State.{State}
 use Rattle.interleave.proofs.AloneLaws.{get_set}
 use Rattle.named.specs.Blocks.{state_in}
-use Rattle.named.specs.Booting.{AreRead, AreSlotsBooted, IsSlotBooted, kept_block, world_booted}
-use Rattle.named.specs.Brokers.{IsSlotAt, IsUnusedBlock, IsWell, block_words, world_of}
+use Rattle.named.specs.Booting.{AreKept, AreRead, AreSlotsBooted, IsBooted, IsSlotBooted, kept_block, world_booted}
+use Rattle.named.specs.Brokers.{Brokered, IsSlotAt, IsUnusedBlock, IsWell, block_words, world_of}
 use Rattle.named.specs.Slots.{IsReadyIn, kind_in, world_in}
 use Rattle.named.specs.Stopping.{booting}
 use Rattle.named.specs.declared.slot.Slot.{Slot}
@@ -61,39 +60,6 @@ obeyed s ws h Entries = entries_obeyed s.kind s (kept_in s ws) h.sound.answers
 obeyed s ws h Image = tt
 obeyed s ws h directory_rule = tt
 
--- a queue is refused to begin on them for want of memory alone
-pub for_memory : (s : Shape) (ws : List ℕ) → AreSoundWords s ws → (e : Refusal) → MayRefuseQueue s ws e → e ≡ NoMemory
-for_memory s ws sound NoMemory h = refl
-for_memory s ws sound (Damaged rule) h = absurd (h.broken (obeyed s ws sound rule))
-for_memory s ws sound NoWord h = absurd h
-for_memory s ws sound BadMagic h = absurd h
-for_memory s ws sound BadCount h = absurd h
-for_memory s ws sound Truncated h = absurd h
-for_memory s ws sound TrailingBytes h = absurd h
-for_memory s ws sound BadClients h = absurd h
-for_memory s ws sound BadRecords h = absurd h
-for_memory s ws sound StaleNumber h = absurd h
-for_memory s ws sound Busy h = absurd h
-for_memory s ws sound NoRoom h = absurd h
-for_memory s ws sound NotReady h = absurd h
-for_memory s ws sound NoClient h = absurd h
-for_memory s ws sound Idle h = absurd h
-for_memory s ws sound AlreadyReady h = absurd h
-for_memory s ws sound BadName h = absurd h
-for_memory s ws sound Exists h = absurd h
-for_memory s ws sound DirectoryFull h = absurd h
-for_memory s ws sound Gap h = absurd h
-for_memory s ws sound Old h = absurd h
-for_memory s ws sound NoQueue h = absurd h
-for_memory s ws sound WrongKind h = absurd h
-for_memory s ws sound TooLong h = absurd h
-for_memory s ws sound BadJson h = absurd h
-for_memory s ws sound BadRequest h = absurd h
-for_memory s ws sound ReadFailed h = absurd h
-for_memory s ws sound WriteFailed h = absurd h
-for_memory s ws sound (BadLine line) h = absurd h
-for_memory s ws sound BadItem h = absurd h
-
 -- what holds of each slot before this one, and of what is put there, holds of each slot before the next
 pub slots_more : (holds : ℕ → Slot → Type 0) (slots : List Slot) (n : ℕ) (own : Slot) → n < length slots
     → ((at : ℕ) (slot : Slot) → at < n → slice_get slots at ≡ Some slot → holds at slot) → holds n own
@@ -104,11 +70,6 @@ slots_more holds slots n own below before here at slot h there = elim (cases_eq 
       subst (λ (x : Slot). holds at x) (sym is_it) (subst (λ (k : ℕ). holds k own) (sym same) here)
   | inr apart ↦ before at slot (omega (arith, h, apart)) (sym (get_set_other slots n own at apart) ∙ there)
 ]
-
--- of a result
-pub errors_for_memory : {T : Type 0} (s : Shape) (ws : List ℕ) (r : Result T Refusal) → AreSoundWords s ws → IfErr r (MayRefuseQueue s ws) → IfErr r (λ e. e ≡ NoMemory)
-errors_for_memory s ws (Ok x) sound h = tt
-errors_for_memory s ws (Err e) sound h = for_memory s ws sound e h
 
 -- where each word of a block is 0, so is the block
 zero_block : (c : Counts) (ws : List ℕ) (slot : ℕ) → slot < 8 → broker_size c ≤ length ws → IsBlockZero c ws slot
@@ -126,6 +87,33 @@ zero_block c ws slot below room blank =
 pub booted_alike : (c : Counts) (at : ℕ) (ws : Words) (place : Option Queue) → world_booted c at (words_after_crash ws) place ≡ world_booted c at ws place
 booted_alike c at ws None = refl
 booted_alike c at ws (Some queue) = refl
+
+-- so it is of the broker that begins on them
+crashed_is : (ws crashed : Words) (b : Brokered) → crashed ≡ words_after_crash ws → IsBooted crashed b → IsBooted ws b
+crashed_is ws crashed b is booted =
+    let here : IsBooted (words_after_crash ws) b = subst (λ (v : Words). IsBooted v b) is booted in
+    record {
+      counts = here.counts;
+      words = here.words;
+      directory = here.directory;
+      worlds = λ at below. here.worlds at below ∙ booted_alike b.counts at ws (slot_in ws.kept at);
+      creation = here.creation;
+      recovery = here.recovery;
+    }
+
+pub booted_crashed : (ws crashed : Words) (r : Result Brokered Refusal) → crashed ≡ words_after_crash ws
+    → IfOk r (IsBooted crashed) → IfOk r (IsBooted ws)
+booted_crashed ws crashed (Err e) is booted = tt
+booted_crashed ws crashed (Ok b) is booted = crashed_is ws crashed b is booted
+
+-- what was read of words that a crash left is what is kept
+pub read_kept : (ws : Words) (counts : Counts) (directory : Directory) → AreRead ws counts directory → AreKept ws counts directory
+read_kept ws counts directory read = record {
+  room = ap length read.crashed;
+  broker = read.broker;
+  counts_are = read.counts_are;
+  directory_is = read.directory_is;
+}
 
 -- recovery is to come in the world that it is
 down_of : (w : State) (s : Shape) (part : Words) → Some w ≡ Some (booted_world s part) → is_some w.recovery ≡ true

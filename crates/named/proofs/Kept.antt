@@ -20,7 +20,6 @@ use Rattle.interleave.proofs.AloneLaws.{get_set}
 use Rattle.interleave.proofs.PartLaws.{holds_alike}
 use Rattle.named.specs.Blocks.{BlockState, IsWellIn, state_in, LieInOnePlace}
 use Rattle.words.specs.declared.call.Client.{Client}
-use Rattle.words.specs.declared.call.Kind.{Kind}
 use Rattle.words.specs.declared.refusal.Refusal.{Refusal}
 use Rattle.words.specs.declared.refusal.Refusal.TheVariants.{NoQueue, NotReady}
 use Rattle.named.specs.Slots.{acted, answered, IsAsReady, IsReadyIn, IsSameOutsideSlot, IsSameSlot, IsSlotWell, kind_in, world_in}

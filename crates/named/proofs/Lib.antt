@@ -28,5 +28,6 @@ pub mod Mosts
 pub mod Migrated
 pub mod Renewed
 pub mod RenewedAt
+pub mod Anew
 pub mod Acting
 pub mod KeptQueues

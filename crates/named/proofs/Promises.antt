@@ -1,6 +1,6 @@
 -- What follows of a broker's invariant: each queue is explained, and another broker may begin on the words that it
 -- keeps.
-use Rattle.std.proofs.Common.{◌≡◌, ℕ, ◌<◌, ◌≤◌, ◌⊎◌, inl, inr, List, length, replicate, slice_get, slice_set, slice_index, slice_index_or, Option, Some, None, refl, sym, ap, subst, ◌∙◌, arith}
+use Rattle.std.proofs.Common.{◌≡◌, ℕ, ◌<◌, ◌⊎◌, inl, inr, List, length, replicate, slice_get, slice_set, slice_index, slice_index_or, Option, Some, None, refl, sym, ap, subst, ◌∙◌, arith}
 use Rattle.std.proofs.lemmas.Bool.{cases_eq}
 use Rattle.std.proofs.lemmas.List.{length-replicate}
 use Rattle.std.proofs.lemmas.Option.{slice_get-get_or, slice_get_within}
@@ -9,7 +9,6 @@ use Rattle.arena.proofs.BrokerWords.{queue_fits}
 use Rattle.persist.specs.Memory.{Words, words_after_crash}
 use Rattle.persist.proofs.Parts.{index_within}
 use Rattle.arena.specs.Broker.{block_from, block_size_of, broker_size}
-use Rattle.arena.specs.Layout.{size_in, size_of}
 use Rattle.arena.specs.Limits.{AreCounts}
 use Rattle.arena.specs.Shape.{Counts, Shape, shape_of}
 use Rattle.recover.specs.Sound.{AreSoundWords}

@@ -27,7 +27,6 @@ use Rattle.named.specs.declared.slot.Slot.TheVariants.{Closed, Open}
 use Rattle.named.proofs.Kept.{directory_stays, get_set_other, kinds_now, length_set, others_stay, readiness_now, room_now, same_directory, slot_is_well, slots_now, some_is, world_now, world_was}
 use Rattle.interleave.specs.Telling.{IsToldAtReady}
 use Rattle.named.specs.Telling.{TellAtReady}
-use Rattle.interleave.specs.Holds.{Holds}
 use Rattle.interleave.proofs.ActLaws.{told_at_ready}
 use Rattle.named.specs.Lasting.{left_at, left_in, most_from, steps_left}
 use Rattle.named.proofs.Begun.{listed_open}

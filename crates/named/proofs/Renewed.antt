@@ -29,10 +29,10 @@ use Rattle.interleave.specs.Values.{value_of_place}
 use Rattle.interleave.proofs.ValueLaws.{shown_at}
 use Rattle.renewal.specs.Broker.{IsBrokerRenewalOf, MayBeRenewedTo, broker_renewed}
 use Rattle.renewal.specs.Words.{IsRenewalOf}
-use Rattle.named.specs.Booting.{AreBootWords, IsBooted, MayRefuse, world_booted}
+use Rattle.named.specs.Booting.{AreBootWords, AreRead, IsBooted, world_booted}
 use Rattle.named.specs.Brokers.{Brokered, block_words, world_at}
 use Rattle.named.specs.Renewing.{AllFit, AreCountsFor, AreToldAsBefore, BeginsRenewed, IsRenewed, IsWhyUnrenewed, told_of}
-use Rattle.named.proofs.Migrated.{refused_for_memory, same_some, told_at_boot}
+use Rattle.named.proofs.Migrated.{same_some, told_at_boot}
 
 -- what sound words of a block hold and tell, as the world that begins on them has it
 pub content_shown : (s : Shape) (block : List ℕ) → AreSoundWords s block
@@ -148,14 +148,22 @@ renewed_if old to new ws (Ok b) few may same is rest booted =
 renewed_if old to new ws (Err e) few may same is rest booted = tt
 
 -- and it is refused for want of memory alone
-pub unrenewed_if : {T : Type 0} (old : List ℕ) (to : Counts) (new : List ℕ) (ws : Words) (r : Result T Refusal) → AreCountsFor old to
-    → (counts_in old).clients ≤ 16 → IsBrokerRenewalOf old to new → ws ≡ words_at_rest new → IfErr r (MayRefuse ws.kept)
-    → IfErr r (IsWhyUnrenewed old to)
-unrenewed_if old to new ws (Ok x) may few same rest errors = tt
-unrenewed_if old to new ws (Err e) may few same rest errors =
-    let refused : e ≡ NoMemory =
-    refused_for_memory new (renewed_boots old to new few same) e (subst (λ (v : Words). MayRefuse v.kept e) rest errors) in
-    subst (IsWhyUnrenewed old to) (sym refused) may
+pub unrenewed_if : {T : Type 0} (old : List ℕ) (to : Counts) (r : Result T Refusal) → AreCountsFor old to
+    → IfErr r (λ e. e ≡ NoMemory) → IfErr r (IsWhyUnrenewed old to)
+unrenewed_if old to (Ok x) may full = tt
+unrenewed_if old to (Err e) may full = subst (IsWhyUnrenewed old to) (sym full) may
+
+-- what is read of them
+pub renewed_read : (old : List ℕ) (to counts : Counts) (directory : Directory) (new : List ℕ) (ws : Words) → IsBrokerRenewalOf old to new
+    → ws ≡ words_at_rest new → counts ≡ to → directory ≡ directory_of old → AreRead ws counts directory
+renewed_read old to counts directory new ws same rest counts_are directory_is =
+    subst (λ (v : Words). AreRead v counts directory) (sym rest)
+    (record {
+      crashed = refl;
+      broker = same.sound;
+      counts_are = counts_are ∙ sym same.counts;
+      directory_is = directory_is ∙ sym same.directory;
+    })
 
 -- what renews the words may be asked for
 pub may_be_renewed : (ws : Words) (counts : Counts) (directory : Directory) (to : Counts) → length ws.cached ≡ length ws.kept → AreBootWords ws.kept

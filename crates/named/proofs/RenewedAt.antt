@@ -1,15 +1,13 @@
 -- A queue of a broker at rest in fresh records: the broker begins on the same words but those of its block.
-use Rattle.std.proofs.Common.{◌≡◌, ◌≢◌, ◌<◌, ◌≤◌, ◌⊎◌, ℕ, inl, inr, Bool, true, false, ◌||◌, is_some, List, length, Option, Some, None, Result, Ok, Err, if◌then◌else◌, get_or, slice_get, refl, sym, ap, ap₂, subst, ◌∙◌, arith}
-use Rattle.std.specs.Prelude.{IfErr, IfOk, IsSome}
+use Rattle.std.proofs.Common.{◌≡◌, ◌<◌, ℕ, inl, inr, Bool, true, false, ◌||◌, is_some, List, length, Option, Some, None, Result, Ok, Err, if◌then◌else◌, get_or, slice_get, refl, sym, ap, ap₂, subst, ◌∙◌, arith}
+use Rattle.std.specs.Prelude.{IsSome}
 use Rattle.std.specs.Option.{option_map}
 use Rattle.std.specs.List.{list_any}
 use Rattle.std.proofs.lemmas.Bool.{cases_eq, cases_lt}
 use Rattle.std.proofs.lemmas.Option.{slice_get-get_or, slice_get_past, slice_get_within}
-use Rattle.words.specs.PlainQueue.{Value}
 use Rattle.words.specs.declared.call.Kind.{Kind}
 use Rattle.words.specs.declared.refusal.Refusal.{Refusal}
 use Rattle.words.specs.declared.refusal.Refusal.TheVariants.{Busy, NoMemory, NoQueue, NoRoom, NotReady}
-use Rattle.words.specs.declared.told.Told.{Told}
 use Rattle.persist.specs.Memory.{Words, words_at_rest}
 use Rattle.arena.specs.Broker.{block_in}
 use Rattle.arena.specs.Content.{kept_content as content_of}
@@ -27,22 +25,22 @@ use Rattle.directory.specs.declared.queue.Queue.{Queue}
 use Rattle.directory.proofs.Creations.{kept_directory}
 use Rattle.directory.proofs.Kept.{directory_at}
 use Rattle.interleave.specs.Booted.{booted_world}
-use Rattle.interleave.specs.State.{State, kept_content, kept_tells}
+use Rattle.interleave.specs.State.{State, kept_tells}
 use Rattle.interleave.specs.Values.{value_of_place}
 use Rattle.renewal.specs.Broker.{BlockFits}
 use Rattle.renewal.specs.OneQueue.{IsQueueRenewalOf, IsWhyNotRenewed, queue_renewed}
-use Rattle.named.specs.Blocks.{BlockState, state_in}
-use Rattle.named.specs.Booting.{AreBootWords, IsBooted, MayRefuse, kept_block, world_booted}
-use Rattle.named.specs.Brokers.{Brokered, IsDirectoryAt, IsDirectoryIn, IsInBlock, IsSlotAt, IsWell, block_words, is_down, world_at, world_of}
-use Rattle.named.specs.Promises.{KeepsPromises}
+use Rattle.named.specs.Blocks.{state_in}
+use Rattle.named.specs.Booting.{AreBootWords, IsBooted, world_booted}
+use Rattle.named.specs.Brokers.{Brokered, IsDirectoryAt, IsDirectoryIn, IsInBlock, IsWell, block_words, world_at, world_of}
 use Rattle.named.specs.Renewing.{BeginsOn, IsRenewedAt, IsWhyNotRenewedAt, MayRenew}
 use Rattle.named.specs.Rotating.{has_calls_in, rotate_result}
-use Rattle.named.specs.Slots.{kind_in, world_in}
+use Rattle.named.specs.Slots.{answered, world_in}
 use Rattle.named.specs.declared.recovery.BrokerRecovery.{BrokerRecovery}
 use Rattle.named.specs.declared.slot.Slot.{Slot}
 use Rattle.named.specs.declared.slot.Slot.TheVariants.{Closed, Open}
 use Rattle.named.proofs.Begun.{get_there}
-use Rattle.named.proofs.Migrated.{refused_for_memory, same_some}
+use Rattle.named.proofs.Kept.{ready_there}
+use Rattle.named.proofs.Migrated.{same_some}
 use Rattle.named.proofs.Promises.{boots_well, head_is}
 use Rattle.named.proofs.Renewed.{content_shown, tells_shown}
 
@@ -54,6 +52,30 @@ free_to (Some r) c busy e = absurd (cc (e))
 free_to None (Some k) busy e = absurd (cc (e))
 free_to None None true e = absurd (cc (e))
 free_to None None false e = (refl, refl)
+
+-- and where it is, and none is, and nobody calls, they may
+pub rests_as : (b shown : Brokered) → b ≡ shown → (ready : Result Unit Refusal)
+    → ready ≡ (if is_some shown.recovery then Err NotReady else Ok tt) → ready ≡ Ok tt → (creating : Bool)
+    → creating ≡ is_some b.creation → creating ≡ false → (slots : List Slot) → slots ≡ b.slots → (busy : Bool)
+    → busy ≡ list_any has_calls_in slots → busy ≡ false → rotate_result false b ≡ Ok tt
+rests_as b shown view ready asked ok creating begun idle slots same busy calling nobody =
+    let up : b.recovery ≡ None =
+    ready_there b.recovery ready (asked ∙ ap (λ (x : Brokered). if is_some x.recovery then Err NotReady else Ok tt) (sym view)) ok in
+    let none : is_some b.creation ≡ false = sym begun ∙ idle in
+    let quiet : list_any has_calls_in b.slots ≡ false = ap (list_any has_calls_in) (sym same) ∙ sym calling ∙ nobody in
+    rw (up, none, quiet) refl
+
+-- a slot whose queue is of a kind is open
+there_of : (o : Option State) (r : Result Kind Refusal) (kind : Kind) → r ≡ answered (λ w. Ok w.shape.kind) o → r ≡ Ok kind → IsSome o
+there_of (Some w) r kind is ok = refl
+there_of None r kind is ok = absurd (cc (is, ok))
+
+pub may_renew : (b shown : Brokered) → b ≡ shown → rotate_result false b ≡ Ok tt → (slot : ℕ) (r : Result Kind Refusal) (kind : Kind)
+    → r ≡ answered (λ w. Ok w.shape.kind) (world_at shown slot) → r ≡ Ok kind → MayRenew shown slot
+may_renew b shown view rests slot r kind is ok = record {
+  rests = subst (λ (x : Brokered). rotate_result false x ≡ Ok tt) view rests;
+  there = there_of (world_at shown slot) r kind is ok;
+}
 
 -- the queue in an open slot, by the directory
 record IsThere (b : Brokered) (at : ℕ) (w : State) : Type 0 where
@@ -97,7 +119,7 @@ module _ (b : Brokered) (holds : IsWell b) where
     up : b.recovery ≡ None
     up = (free_to b.recovery b.creation (list_any has_calls_in b.slots) rests).0
 
-    idle : b.creation ≡ None
+    pub idle : b.creation ≡ None
     idle = (free_to b.recovery b.creation (list_any has_calls_in b.slots) rests).1
 
     at_rest : IsAtRest b.words b.directory
@@ -118,7 +140,7 @@ module _ (b : Brokered) (holds : IsWell b) where
       abbrev c : Counts
       c = counts_in b.words.kept
 
-      block_sound : (at : ℕ) (queue : Queue) → HasQueue (directory_of b.words.kept) at queue
+      pub block_sound : (at : ℕ) (queue : Queue) → HasQueue (directory_of b.words.kept) at queue
           → AreSoundWords (shape_of queue.kind c) (block_in running c at new)
       block_sound at queue has = elim (cases_eq at slot) [
         | inl here ↦
@@ -141,7 +163,7 @@ module _ (b : Brokered) (holds : IsWell b) where
       }
 
       -- the block of each queue holds and tells what it did
-      content_same : (at : ℕ) (queue : Queue) → HasQueue (directory_of b.words.kept) at queue
+      pub content_same : (at : ℕ) (queue : Queue) → HasQueue (directory_of b.words.kept) at queue
           → content_of (shape_of queue.kind c) (value_of_place (shape_of queue.kind c) (block_in running c at new))
           ≡ content_of (shape_of queue.kind c) (value_of_place (shape_of queue.kind c) (block_in running c at b.words.kept))
       content_same at queue has = elim (cases_eq at slot) [
@@ -161,7 +183,7 @@ module _ (b : Brokered) (holds : IsWell b) where
             ap (λ (ws : List ℕ). content_of (shape_of queue.kind c) (value_of_place (shape_of queue.kind c) ws)) (same.others at below apart)
       ]
 
-      tells_same : (at : ℕ) (queue : Queue) → HasQueue (directory_of b.words.kept) at queue
+      pub tells_same : (at : ℕ) (queue : Queue) → HasQueue (directory_of b.words.kept) at queue
           → tells_by (shape_of queue.kind c) (value_of_place (shape_of queue.kind c) (block_in running c at new))
           ≡ tells_by (shape_of queue.kind c) (value_of_place (shape_of queue.kind c) (block_in running c at b.words.kept))
       tells_same at queue has = elim (cases_eq at slot) [
@@ -255,26 +277,6 @@ module _ (b : Brokered) (holds : IsWell b) where
           worlds = begins_on;
           closed = stays_closed;
         }
-
--- of a result
-pub renewed_at_if : (b shown : Brokered) (holds : IsWell b) → b ≡ shown → (slot : ℕ) (new : List ℕ) (ws : Words) (r : Result Brokered Refusal)
-    → MayRenew shown slot → IsQueueRenewalOf b.words.kept slot new → new ≡ queue_renewed slot b.words.kept → ws ≡ words_at_rest new
-    → IfOk r (IsBooted ws) → IfOk r KeepsPromises → IfOk r (λ x. IsRenewedAt shown x slot)
-renewed_at_if b shown holds view slot new ws (Err e) may same is rest booted kept = tt
-renewed_at_if b shown holds view slot new ws (Ok x) may same is rest booted kept =
-    let rests : rotate_result false b ≡ Ok tt = ap (rotate_result false) view ∙ may.rests in
-    subst (λ (y : Brokered). IsRenewedAt y x slot) view
-    (renewed_there b holds rests slot new same x (subst (λ (v : Words). IsBooted v x) rest booted) kept.well is)
-
-pub unrenewed_at_if : {T : Type 0} (b shown : Brokered) (holds : IsWell b) → b ≡ shown → (slot : ℕ) (new : List ℕ) (ws : Words) (r : Result T Refusal)
-    → MayRenew shown slot → IsQueueRenewalOf b.words.kept slot new → ws ≡ words_at_rest new → IfErr r (MayRefuse ws.kept)
-    → IfErr r (IsWhyNotRenewedAt shown slot)
-unrenewed_at_if b shown holds view slot new ws (Ok x) may same rest errors = tt
-unrenewed_at_if b shown holds view slot new ws (Err e) may same rest errors =
-    let rests : rotate_result false b ≡ Ok tt = ap (rotate_result false) view ∙ may.rests in
-    let refused : e ≡ NoMemory =
-    refused_for_memory new (renewed_boots_at b holds rests slot new same) e (subst (λ (v : Words). MayRefuse v.kept e) rest errors) in
-    subst (IsWhyNotRenewedAt shown slot) (sym refused) may
 
 -- why the words were not written
 some_there : (o : Option State) → IsSome o → (w : State) × (o ≡ Some w)

@@ -1,5 +1,5 @@
 -- An act through a window on a block: the queue acted on the words of its block and through its own ports alone.
-use Rattle.std.proofs.Common.{◌≡◌, ◌≢◌, ℕ, ◌+◌, ◌<◌, ◌≤◌, ◌⊎◌, inl, inr, Bool, List, Option, None, Some, Result, Ok, Err, drop, length, slice_index_or, slice_set, refl, sym, ap, subst, ◌∙◌, arith}
+use Rattle.std.proofs.Common.{◌≡◌, ◌≢◌, ℕ, ◌+◌, ◌<◌, ◌≤◌, ◌⊎◌, inl, inr, Bool, List, Option, None, Some, Result, Ok, Err, drop, length, slice_set, refl, sym, ap, subst, ◌∙◌, arith}
 use Rattle.std.specs.Prelude.{IfErr, IfOk, IfSome}
 use Rattle.std.proofs.lemmas.List.{length-drop, length-take}
 use Rattle.words.specs.declared.call.Call.{Call}
@@ -21,7 +21,6 @@ use Rattle.interleave.specs.Holds.{Holds}
 use Rattle.interleave.specs.Rules.{IsByAlone, IsByRule, Rule, waiting_in}
 use Rattle.interleave.specs.State.{State, IsAnsweredAlone, after_alone, after_evict, after_recover, after_start, after_step}
 use Rattle.interleave.proofs.AskedKept.{AskElsewhere, all_same, around_alone, around_recovered, around_stepped, asked_alone, asked_evicted, asked_recovered, asked_same, asked_started, asked_stepped}
-use Rattle.interleave.proofs.PartLaws.{holds_alike}
 use Rattle.named.proofs.Stays.{alone_alike}
 use Rattle.named.specs.Blocks.{AskAlikeBeside, BlockState, IsActIn, IsAloneIn, IsAskedIn, IsBeside, IsWithinBlock, IsWellIn, requests_in, state_in}
 

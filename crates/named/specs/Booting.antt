@@ -79,6 +79,13 @@ pub record AreReadIn (form : Form) (ws : Words) (counts : Counts) (directory : D
 abbrev pub AreRead : Words → Counts → Directory → Type 0
 AreRead = AreReadIn running
 
+-- so it is of kept words, whatever is cached of as many words
+pub record AreKept (ws : Words) (counts : Counts) (directory : Directory) : Type 0 where
+  pub room : length ws.cached ≡ length ws.kept
+  pub broker : AreBrokerWordsIn running ws.kept
+  pub counts_are : counts ≡ counts_in ws.kept
+  pub directory_is : directory ≡ directory_of ws.kept
+
 -- the slot has a queue of this kind that begins on the words of its block
 pub record IsQueueBooted (c : Counts) (ws : Words) (at : ℕ) (kind : Kind) (slot : Slot) : Type 0 where
   pub kind_is : kind_in slot ≡ Some kind

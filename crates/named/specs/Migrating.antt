@@ -1,6 +1,6 @@
 -- A broker that begins on the kept words of one of the form of values.
 use Rattle.std.specs.Prelude.{◌≡◌, ℕ, List, Option, Some}
-use Rattle.persist.specs.Memory.{Words, words_at_rest}
+use Rattle.persist.specs.Memory.{words_at_rest}
 use Rattle.arena.specs.Broker.{block_in}
 use Rattle.arena.specs.Content.{content_in}
 use Rattle.arena.specs.Shape.{Shape, shape_of}

@@ -1,10 +1,11 @@
 -- A broker that begins on the kept words of another, with each queue in fresh records.
-use Rattle.std.specs.Prelude.{◌≡◌, ◌⊎◌, ℕ, ◌<◌, ◌≤◌, IsSome, true, false, List, Option, Some, None, Ok, Err}
+use Rattle.std.specs.Prelude.{◌≡◌, ◌⊎◌, ℕ, ◌+◌, ◌<◌, ◌≤◌, IsSome, true, false, List, length, Option, Some, None, Ok, Err}
 use Rattle.words.specs.declared.limits.TheConstants.{MAX_CLIENTS, MAX_RECORDS}
 use Rattle.words.specs.declared.refusal.Refusal.{Refusal}
 use Rattle.words.specs.declared.refusal.Refusal.TheVariants.{BadClients, BadRecords, Busy, NoMemory, NoQueue, NoRoom, NotReady}
 use Rattle.words.specs.declared.told.Told.{Told}
-use Rattle.persist.specs.Memory.{words_at_rest}
+use Rattle.persist.specs.Memory.{overwritten, words_at_rest}
+use Rattle.arena.specs.Broker.{block_from}
 use Rattle.arena.specs.Content.{kept_content as content_of}
 use Rattle.arena.specs.Limits.{AreCounts}
 use Rattle.arena.specs.Place.{IsClient}
@@ -21,9 +22,12 @@ use Rattle.renewal.specs.Broker.{BlockFits, IsBrokerRenewalOf, broker_renewed}
 use Rattle.renewal.specs.OneQueue.{IsQueueRenewalOf, queue_renewed}
 use Rattle.interleave.specs.Queue.{told_in, told_to}
 use Rattle.interleave.specs.State.{State, kept_content, kept_tells}
-use Rattle.named.specs.Booting.{IsBooted, kept_block}
+use Rattle.named.specs.Booting.{AreSlotsBooted, IsBooted, kept_block}
 use Rattle.named.specs.Brokers.{Brokered, is_down, room_at, world_at}
+use Rattle.named.specs.Each.{EachSlot}
 use Rattle.named.specs.Rotating.{rotate_result}
+use Rattle.named.specs.Slots.{HasRoomFor}
+use Rattle.named.specs.declared.slot.Slot.{Slot}
 
 -- what a client of the world was told last
 abbrev pub told_of : State → ℕ → Told
@@ -102,6 +106,16 @@ pub record IsRenewedAt (old new : Brokered) (slot : ℕ) : Type 0 where
 -- each queue's history has room for so many acts
 abbrev pub HasRoomInEach : Brokered → ℕ → Type 0
 HasRoomInEach b acts = (at : ℕ) → IsSome (world_at b at) → acts ≤ room_at b at
+
+-- The slots begin on what the broker keeps, each history with room for an act; and the block, written over that of this
+-- slot, makes the words in which its queue is in fresh records.
+pub record IsAnewFor (b : Brokered) (slot : ℕ) (slots : List Slot) (block : List ℕ) : Type 0 where
+  pub booted : AreSlotsBooted b.counts b.words b.directory slots
+  pub room : EachSlot (HasRoomFor 1) slots
+  pub below : slot < SLOTS
+  pub within : block_from b.counts slot + length block ≤ length b.words.kept
+  pub words : overwritten (block_from b.counts slot) block b.words.kept ≡ queue_renewed slot b.words.kept
+  pub same : IsQueueRenewalOf b.words.kept slot (queue_renewed slot b.words.kept)
 
 -- why the queue is not renewed, the first reason that applies
 abbrev pub IsWhyNotRenewedAt : Brokered → ℕ → Refusal → Type 0

@@ -6,8 +6,9 @@ ghost use Rattle.persist.specs.Changes.{change_at, change_of};
 ghost use Rattle.persist.specs.Noted.{answer_in, change_behind, change_in, IsNoted};
 ghost use Rattle.persist.specs.declared.memory.TheConstants.{PORTS};
 ghost use Rattle.persist.specs.Memory.{Words, words_in, words_after_crash, words_after_eviction};
+ghost use Rattle.recover.specs.Sound.{AreSoundWords};
 ghost use Rattle.recover.specs.Table.{boot_recovery};
-ghost use Rattle.interleave.specs.Booted.{booted_world, MayRefuse};
+ghost use Rattle.interleave.specs.Booted.{booted_world};
 ghost use Rattle.interleave.specs.Queue.{told_in, told_to};
 ghost use Rattle.interleave.specs.Ranges.{AreUnused};
 ghost use Rattle.interleave.specs.Rotation.{after_rotation, rotate_result, some_client_calls};
@@ -87,7 +88,8 @@ impl Block {
         }
     }
 
-    /// A queue that begins on the kept words of its block, as a crash left them: recovery is to come.
+    /// A queue that begins on the kept words of its block, as a crash left them: recovery is to come. They are known to
+    /// obey the rules.
     pub(crate) fn boot(
         alloc: Global,
         layout: Layout,
@@ -100,16 +102,17 @@ impl Block {
         requires inside { from + len ≤ length memory.now.words.cached }
         requires kept { from + len ≤ length memory.now.words.kept }
         requires ports { port + QUEUE_PORTS ≤ PORTS }
+        requires sound { AreSoundWords layout (words_in from len memory.now.words).kept }
         ensures booted { IfOk result (λ b. state_in (words_after_crash memory.now.words) b
             ≡ booted_world layout (words_in from len memory.now.words)) }
         ensures well { IfOk result (IsWellIn (words_after_crash memory.now.words)) }
         ensures from { IfOk result (λ b. b.from ≡ from) }
         ensures len { IfOk result (λ b. b.len ≡ len) }
         ensures port { IfOk result (λ b. b.port ≡ port) }
-        ensures errors { IfErr result (MayRefuse layout (words_in from len memory.now.words).kept) }
+        ensures errors { IfErr result (λ e. e ≡ Refusal.NoMemory) }
     {
         let view = memory.view(from, len)?;
-        let core = Core::boot(alloc, layout, &view)?;
+        let core = Core::boot_sound(alloc, layout, &view)?;
         Ok(Block {
             core,
             from,

@@ -4,7 +4,7 @@ ghost use Rattle.std.specs.Prelude.{◌≡◌, ◌≢◌, ◌↔◌, ◌⊎◌, 
 ghost use Rattle.arena.specs.Broker.{block_in, broker_size_in};
 ghost use Rattle.arena.specs.Shape.{shape_of};
 ghost use Rattle.recover.specs.Sound.{AreSoundWordsIn, IsDamagedIn};
-ghost use Rattle.named.specs.Booting.{AreBootWords, AreBootWordsIn, AreReadIn, IsBlockDamagedIn, IsBooted, MayRefuse};
+ghost use Rattle.named.specs.Booting.{AreBootWords, AreBootWordsIn, AreRead, AreReadIn, IsBlockDamagedIn, IsBooted, MayRefuse};
 ghost use Rattle.named.specs.Promises.{KeepsPromises};
 
 use crate::broker::Broker;
@@ -54,6 +54,28 @@ pub(crate) fn check_blocks(form: Form, kept: &KeptBroker, memory: &Memory) -> Re
 }
 
 impl Broker {
+    /// A broker that begins on what a memory keeps, where its words are known to obey the rules, and `kept` is what they
+    /// say. Recovery begins. It is refused for want of memory alone (NoMemory).
+    pub(crate) fn begin(alloc: Global, kept: &KeptBroker, memory: Memory) -> Result<Self, Refusal>
+        requires read { AreRead memory.words kept.now.layout kept.now.directory }
+        requires sound { AreBootWords memory.words.kept }
+        ensures booted { IfOk result (IsBooted memory.words) }
+        ensures errors { IfErr result (λ e. e ≡ Refusal.NoMemory) }
+        ensures promises { IfOk result KeepsPromises }
+    {
+        let slots = boot_each(alloc, kept, &memory)?;
+        Ok(Broker {
+            layout: kept.layout,
+            memory,
+            slots,
+            directory: kept.directory,
+            creation: None,
+            recovery: Some(BrokerRecovery::ReadDirectory {
+                at: DirectoryRecovery::boot(),
+            }),
+        })
+    }
+
     /// A broker that begins on what a memory keeps, as a crash left it: what is not kept is lost, and recovery begins.
     /// How many clients and records there are, the memory's head says. Each open queue's history begins with what its
     /// kept words hold and tell. It is refused, in this order, where the words break a rule (Damaged, with the first
@@ -67,16 +89,6 @@ impl Broker {
         memory.crash();
         let kept = sound_directory(&memory)?;
         check_blocks(Form::OfItems, &kept, &memory)?;
-        let slots = boot_each(alloc, &kept, &memory)?;
-        Ok(Broker {
-            layout: kept.layout,
-            memory,
-            slots,
-            directory: kept.directory,
-            creation: None,
-            recovery: Some(BrokerRecovery::ReadDirectory {
-                at: DirectoryRecovery::boot(),
-            }),
-        })
+        Broker::begin(alloc, &kept, memory)
     }
 }

@@ -2,18 +2,27 @@
 
 ghost use Rattle.std.specs.Prelude.{◌≡◌, ◌≤◌, ◌<◌, ℕ, Err, IfErr, IfOk, OnErr, OnOk};
 ghost use Rattle.named.specs.Promises.{KeepsPromises};
-ghost use Rattle.named.specs.Renewing.{AllFit, AreCountsFor, HasRoomInEach, IsRenewed, IsRenewedAt, IsWhyNotRenewedAt, IsWhyUnrenewed, MayRenew};
-ghost use Rattle.named.specs.Stopping.{IsSameButRoom};
+ghost use Rattle.named.specs.Renewing.{AllFit, AreCountsFor, HasRoomInEach, IsAnewFor, IsRenewed, IsRenewedAt, IsWhyNotRenewedAt, IsWhyUnrenewed, MayRenew};
 ghost use Rattle.notes.specs.Noting.{HasNoted};
 
 use crate::broker::Broker;
-use crate::slots::{have_calls, reserve_each};
+use crate::recovery::BrokerRecovery;
+use crate::slot::Slot;
+use crate::slots::{boot_each, have_calls, reserve_each};
 use arena::{BrokerLayout, SlotId};
-use directory::sound as sound_directory;
+use directory::{DirectoryRecovery, KeptBroker, sound as sound_directory};
 use notes::Notes;
 use persist::Memory;
-use renewal::{renewed_broker, renewed_queue};
+use renewal::{FreshBlock, fresh_queue, renewed_broker};
 use words::Refusal;
+
+/// What a renewal puts in place of what is there: slots whose queues begin anew, each history with room for an act, and
+/// the words of the renewed queue's block.
+#[derive(Drop)]
+struct Anew {
+    slots: Vec<Slot>,
+    block: FreshBlock,
+}
 
 impl Broker {
     /// A broker that begins on what this one keeps, as a crash leaves it, with each queue in fresh records, for so many
@@ -47,59 +56,51 @@ impl Broker {
             // A memory may have as many words as a broker's layout.
             return Err(Refusal::NoMemory);
         };
-        Broker::boot(alloc, renewed)
-    }
-
-    /// The broker that begins on this one's kept words, but that the queue of a slot is in fresh records. It is
-    /// refused, in this order, where the items do not fit (NoRoom), and for want of memory (NoMemory).
-    fn with_renewed(&self, slot: SlotId) -> Result<Broker, Refusal>
-        requires { MayRenew self.now slot.0 }
-        ensures renewed { IfOk result (λ new. IsRenewedAt self.now new slot.0) }
-        ensures errors { IfErr result (IsWhyNotRenewedAt self.now slot.0) }
-        ensures promises { IfOk result KeepsPromises }
-    {
-        let alloc = *self.slots.allocator();
-        let Ok(kept) = sound_directory(&self.memory) else {
-            // A broker may begin on its kept words at every moment.
-            unreachable!();
+        let kept = KeptBroker {
+            layout: to,
+            directory: kept.directory,
         };
-        let words = renewed_queue(alloc, &kept, &self.memory, slot)?;
-        let Ok(memory) = Memory::of(alloc, words) else {
-            // There are as many words as before.
-            return Err(Refusal::NoMemory);
-        };
-        Broker::boot(alloc, memory)
+        Broker::begin(alloc, &kept, renewed)
     }
 
-    /// Makes room in every queue's history for so many acts. It is refused for want of memory (NoMemory).
-    fn make_room(&mut self, acts: usize) -> Result<(), Refusal>
-        ensures same { IsSameButRoom self.old self.new }
-        ensures room { OnOk result (HasRoomInEach self.new acts) }
-        ensures errors { IfErr result (λ e. e ≡ Refusal.NoMemory) }
-        ensures promises { KeepsPromises self.new }
-    {
-        reserve_each(&mut self.slots, acts)
-    }
-
-    /// What [`Broker::renew`] puts in this one's place: the broker that begins in fresh records, with room in each
-    /// history for what recovery adds to it. It is refused as that is.
-    fn prepared(&self, slot: SlotId) -> Result<Broker, Refusal>
+    /// What [`Broker::renew`] puts in place of what is there, and nothing has changed yet. It is refused as that is.
+    fn prepared(&self, slot: SlotId) -> Result<Anew, Refusal>
         ensures may { OnOk result (MayRenew self.now slot.0) }
-        ensures renewed { IfOk result (λ new. IsRenewedAt self.now new slot.0) }
-        ensures room { IfOk result (λ new. HasRoomInEach new 1) }
+        ensures anew { IfOk result (λ anew. IsAnewFor self.now slot.0 anew.slots.items anew.block) }
         ensures errors { IfErr result (IsWhyNotRenewedAt self.now slot.0) }
-        ensures promises { IfOk result KeepsPromises }
         ensures stays { KeepsPromises self.now }
     {
-        let _ = &self.layout;
+        // A broker at rest has the directory that its kept words tell of.
+        let kept = KeptBroker {
+            layout: self.layout,
+            directory: self.directory,
+        };
         self.check_ready()?;
         self.kind(slot)?;
         if self.creation.is_some() || have_calls(&self.slots) {
             return Err(Refusal::Busy);
         }
-        let mut renewed = self.with_renewed(slot)?;
-        renewed.make_room(1)?;
-        Ok(renewed)
+        let alloc = *self.slots.allocator();
+        let block = fresh_queue(alloc, &kept, &self.memory, slot)?;
+        let mut slots = boot_each(alloc, &kept, &self.memory)?;
+        reserve_each(&mut slots, 1)?;
+        Ok(Anew { slots, block })
+    }
+
+    /// Begins anew on this. Nothing is refused any more.
+    fn begin_anew(&mut self, slot: SlotId, anew: Anew)
+        requires may { MayRenew self.old slot.0 }
+        requires anew { IsAnewFor self.old slot.0 anew.slots.items anew.block }
+        ensures renewed { IsRenewedAt self.old self.new slot.0 }
+        ensures room { HasRoomInEach self.new 1 }
+        ensures promises { KeepsPromises self.new }
+    {
+        let Anew { slots, block } = anew;
+        self.memory.rewrite(self.layout.block(slot), &block);
+        self.slots = slots;
+        self.recovery = Some(BrokerRecovery::ReadDirectory {
+            at: DirectoryRecovery::boot(),
+        });
     }
 
     /// The whole system stops at rest, and the queue of a slot has fresh records when recovery begins: as many as it
@@ -116,7 +117,8 @@ impl Broker {
         ensures same { OnErr result (self.new ≡ self.old) }
         ensures promises { KeepsPromises self.new }
     {
-        *self = self.prepared(slot)?;
+        let anew = self.prepared(slot)?;
+        self.begin_anew(slot, anew);
         Ok(())
     }
 
@@ -139,14 +141,15 @@ impl Broker {
         ensures unnoted { OnErr result (notes.new ≡ notes.old) }
         ensures promises { KeepsPromises self.new }
     {
-        let renewed = self.prepared(slot)?;
+        let anew = self.prepared(slot)?;
+        let from = self.layout.block(slot);
         if notes
-            .note_differences(&self.memory, &renewed.memory, more)
+            .note_rewrite(&self.memory, from, &anew.block, more)
             .is_err()
         {
             return Err(Refusal::NoMemory);
         }
-        *self = renewed;
+        self.begin_anew(slot, anew);
         Ok(())
     }
 }

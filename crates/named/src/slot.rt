@@ -7,8 +7,9 @@ ghost use Rattle.persist.specs.Changes.{change_of};
 ghost use Rattle.persist.specs.Noted.{answer_in, change_in, IsNoted};
 ghost use Rattle.persist.specs.declared.memory.TheConstants.{PORTS};
 ghost use Rattle.persist.specs.Memory.{Words, words_after_crash, words_after_eviction};
+ghost use Rattle.recover.specs.Sound.{AreSoundWords};
 ghost use Rattle.recover.specs.Table.{boot_recovery};
-ghost use Rattle.interleave.specs.Booted.{booted_world, MayRefuse};
+ghost use Rattle.interleave.specs.Booted.{booted_world};
 ghost use Rattle.interleave.specs.Calls.{is_no_memory};
 ghost use Rattle.interleave.specs.Rules.{starting, stepping};
 ghost use Rattle.interleave.specs.State.{after_stop, after_recover, recover_result, world_over};
@@ -165,7 +166,8 @@ impl Slot {
         Slot::Open(Block::boot_unused(alloc, layout.queue(kind), from, len, port))
     }
 
-    /// A queue of this kind that begins on the kept words of the slot's block, as a crash left them.
+    /// A queue of this kind that begins on the kept words of the slot's block, as a crash left them. They are known to
+    /// obey the rules.
     pub(crate) fn boot(
         alloc: Global,
         layout: &BrokerLayout,
@@ -176,12 +178,12 @@ impl Slot {
         requires slot { slot.0 < SLOTS }
         requires room { broker_size layout.now ≤ length memory.now.words.cached }
         requires kept { broker_size layout.now ≤ length memory.now.words.kept }
+        requires sound { AreSoundWords (shape_of kind layout.now) (block_words layout.now slot.0 memory.now.words).kept }
         ensures kind { IfOk result (λ s. kind_in s ≡ Some kind) }
         ensures world { IfOk result (λ s. world_in (words_after_crash memory.now.words) s
             ≡ Some (booted_world (shape_of kind layout.now) (block_words layout.now slot.0 memory.now.words))) }
         ensures at { IfOk result (IsSlotAt layout.now (words_after_crash memory.now.words) slot.0) }
-        ensures errors { IfErr result
-            (MayRefuse (shape_of kind layout.now) (block_words layout.now slot.0 memory.now.words).kept) }
+        ensures errors { IfErr result (λ e. e ≡ Refusal.NoMemory) }
     {
         let from = layout.block(slot);
         let len = layout.block_size();

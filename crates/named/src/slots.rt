@@ -4,7 +4,7 @@ ghost use Rattle.std.specs.Prelude.{◌≡◌, ◌<◌, ◌≤◌, ◌+◌, ℕ,
 ghost use Rattle.std.specs.List.{list_any};
 ghost use Rattle.persist.specs.Memory.{Words, words_after_crash};
 ghost use Rattle.directory.specs.declared.queue.Queue.{Queue as Place};
-ghost use Rattle.named.specs.Booting.{AreBootWords, AreRead, AreSlotsBooted, IsSlotBooted};
+ghost use Rattle.named.specs.Booting.{AreBootWords, AreKept, AreSlotsBooted, IsSlotBooted};
 ghost use Rattle.named.specs.Each.{EachBecame, EachSlot, HasFullSlot, HasMoreRoom, HasStopped};
 ghost use Rattle.named.specs.Slots.{AreEffectsFew, HasRoomFor};
 ghost use Rattle.named.specs.Rotating.{has_calls_in, AreBases, AreBegunAnew, AreQuiet};
@@ -46,7 +46,7 @@ fn boot_slot(
     memory: &Memory,
 ) -> Result<Slot, Refusal>
     requires slot { slot.0 < SLOTS }
-    requires read { AreRead memory.now.words kept.now.layout kept.now.directory }
+    requires kept { AreKept memory.now.words kept.now.layout kept.now.directory }
     requires sound { AreBootWords memory.now.words.kept }
     ensures booted { IfOk result (λ s. (place : Option Place) → slice_get kept.now.directory slot.0 ≡ Some place
         → IsSlotBooted kept.now.layout memory.now.words slot.0 place s) }
@@ -58,13 +58,13 @@ fn boot_slot(
     }
 }
 
-/// The slots of a memory that a broker begins on.
+/// The slots of a memory that a broker begins on. They take what is kept of it.
 pub(crate) fn boot_each(
     alloc: Global,
     kept: &KeptBroker,
     memory: &Memory,
 ) -> Result<Vec<Slot>, Refusal>
-    requires read { AreRead memory.now.words kept.now.layout kept.now.directory }
+    requires kept { AreKept memory.now.words kept.now.layout kept.now.directory }
     requires sound { AreBootWords memory.now.words.kept }
     ensures booted { IfOk result (λ slots.
         AreSlotsBooted kept.now.layout memory.now.words kept.now.directory slots.items) }

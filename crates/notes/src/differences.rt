@@ -1,22 +1,31 @@
-//! The changes that make the kept words of one memory those of another.
+//! The changes that other words make, written over a part of a memory's kept words.
 
-ghost use Rattle.std.specs.Prelude.{◌≡◌, ◌≤◌, length, take, true, vec_capacity, vec_len};
+ghost use Rattle.std.specs.Prelude.{◌≡◌, ◌≤◌, ◌+◌, length, take, true, vec_capacity, vec_len};
+ghost use Rattle.persist.specs.Memory.{overwritten};
 ghost use Rattle.notes.specs.Noting.{HasNoted};
 
 use persist::{Change, KeptWords, Memory};
 
-/// Adds a change for each kept word that the new memory has otherwise, if there is memory for all of them; else for some
-/// of them.
-pub(crate) fn add_differences(old: &Memory, new: &Memory, changes: &mut Vec<Change>) -> bool
-    requires { length old.now.words.kept ≡ length new.now.words.kept }
-    ensures noted { result ≡ true
-        → HasNoted changes.old.items changes.new.items old.now.words.kept new.now.words.kept }
+/// Adds a change for each word that is another than the kept one that it is written over, if there is memory for all of
+/// them; else for some of them.
+pub(crate) fn add_differences<W: KeptWords>(
+    memory: &Memory,
+    from: usize,
+    words: &W,
+    changes: &mut Vec<Change>,
+) -> bool
+    requires { from + length (W.kept_words words.now) ≤ length memory.now.words.kept }
+    ensures noted { result ≡ true → HasNoted changes.old.items changes.new.items memory.now.words.kept
+        (overwritten from (W.kept_words words.now) memory.now.words.kept) }
     ensures before { take (vec_len changes.old) changes.new.items ≡ changes.old.items }
     ensures capacity { vec_capacity changes.old ≤ vec_capacity changes.new }
 {
-    for word in 0..KeptWords::size(old) {
-        let was = old.kept(word);
-        let is = new.kept(word);
+    // The part is inside, and a memory's words are numbered by a `usize`.
+    let _count = KeptWords::size(memory);
+    for at in 0..words.size() {
+        let word = from + at;
+        let was = memory.kept(word);
+        let is = words.kept(at);
         if was != is {
             let change = Change {
                 word,

@@ -1,11 +1,12 @@
 //! Notes.
 
 ghost use Rattle.std.specs.Prelude.{◌≡◌, ◌≤◌, ◌+◌, ◌++◌, [], false, length, true, IfOk, OnErr, OnOk};
+ghost use Rattle.persist.specs.Memory.{overwritten};
 ghost use Rattle.persist.specs.Noted.{changes_in};
 ghost use Rattle.notes.specs.Noting.{HasNoted};
 
 use crate::differences::add_differences;
-use persist::{Change, Memory};
+use persist::{Change, KeptWords, Memory};
 use std::alloc::{AllocError, Global};
 use std::marker::Model;
 use std::mem::replace;
@@ -82,22 +83,26 @@ impl Notes {
         }
     }
 
-    /// Notes a change for each kept word that the new memory has otherwise than the old one, and then promises room for
-    /// so many more. It fails for want of memory, and then nothing is noted, and what was promised stays.
-    pub fn note_differences(
+    /// Notes the changes that a rewrite of a memory makes of its kept words, for each of these words that is another
+    /// than the one that it is written over, and then promises room for so many more. It fails for want of memory, and
+    /// then nothing is noted, and what was promised stays.
+    pub fn note_rewrite<W: KeptWords>(
         &mut self,
-        old: &Memory,
-        new: &Memory,
+        memory: &Memory,
+        from: usize,
+        words: &W,
         more: usize,
     ) -> Result<(), AllocError>
-        requires { length old.now.words.kept ≡ length new.now.words.kept }
-        ensures noted { OnOk result
-            (HasNoted self.old.changes self.new.changes old.now.words.kept new.now.words.kept) }
+        requires { from + length (W.kept_words words.now) ≤ length memory.now.words.kept }
+        ensures noted { OnOk result (HasNoted self.old.changes self.new.changes memory.now.words.kept
+            (overwritten from (W.kept_words words.now) memory.now.words.kept)) }
         ensures promised { OnOk result (self.new.promised ≡ more) }
         ensures same { OnErr result (self.new ≡ self.old) }
     {
         let before = self.changes.len();
-        if !add_differences(old, new, &mut self.changes) || self.changes.reserve(more).is_err() {
+        if !add_differences(memory, from, words, &mut self.changes)
+            || self.changes.reserve(more).is_err()
+        {
             self.changes.truncate(before);
             return Err(AllocError);
         }

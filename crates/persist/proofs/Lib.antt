@@ -4,6 +4,7 @@ pub mod Places
 pub mod Inserted
 pub mod Differences
 pub mod Overlays
+pub mod Overwrites
 pub mod Sound
 pub mod Shown
 pub mod Images

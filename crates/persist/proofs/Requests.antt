@@ -1,11 +1,11 @@
 -- What ports were asked for, and how a memory and its parts show it.
-use Rattle.std.proofs.Common.{◌≡◌, ◌≢◌, ℕ, ◌+◌, ◌-◌, ◌<◌, ◌≤◌, ◌⊎◌, inl, inr, Bool, true, false, ◌&&◌, nat_le, nat_lt, Option, Some, None, Result, Ok, Err, List, [], ◌∷◌, zero, suc, length, length-set, replicate, slice_index, slice_index_or, slice_set, IfOk, IfSome, if◌then◌else◌, ◌==◌, refl, sym, ap, ◌∙◌, subst, arith}
+use Rattle.std.proofs.Common.{◌≡◌, ◌≢◌, ℕ, ◌+◌, ◌-◌, ◌<◌, ◌≤◌, ◌⊎◌, inl, inr, true, false, Option, Some, None, List, suc, length, length-set, replicate, slice_index_or, slice_set, refl, sym, ap, ◌∙◌, subst, arith}
 use Rattle.std.proofs.lemmas.Bool.{cases_eq, cases_lt}
 use Rattle.std.proofs.lemmas.Bool.Decides.{leb_tells}
 use Rattle.std.proofs.lemmas.List.{get_or_past, get_or-replicate, get_or-set_same, get_or-set_other, length-replicate, set-get_or, set-set}
 use Rattle.persist.specs.Changes.{AreAskedWithin}
 use Rattle.persist.specs.Completed.{completed_words}
-use Rattle.persist.specs.Memory.{Fence, Lent, MemoryState, Request, Nothing, Word, Elsewhere, Words, after, after_fence, asked_through, is_within, lent_whole, request_after_fence, seen_in, seen_whole, words_after_access, words_after_eviction, words_in}
+use Rattle.persist.specs.Memory.{Lent, MemoryState, Word, Words, after_fence, is_within, lent_whole, seen_in, seen_whole, words_after_access, words_after_eviction, words_in}
 use Rattle.persist.proofs.Parts.{part_evicted}
 
 -- a word is in the part, at some distance, or it is not

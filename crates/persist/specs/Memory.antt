@@ -1,6 +1,6 @@
 -- The memory model: words with a cached and a kept value, ports through which flushes are asked for, and what becomes
 -- of both.
-use Rattle.std.specs.Prelude.{◌≡◌, ℕ, ◌+◌, ◌-◌, Bool, ◌&&◌, min, nat_le, nat_lt, List, [], Option, Some, None, take, drop, replicate, slice_index, slice_index_or, slice_set, if◌then◌else◌, ◌==◌}
+use Rattle.std.specs.Prelude.{◌≡◌, ℕ, ◌+◌, ◌-◌, Bool, ◌&&◌, min, nat_le, nat_lt, List, [], ◌++◌, length, Option, Some, None, take, drop, replicate, slice_index, slice_index_or, slice_set, if◌then◌else◌, ◌==◌}
 
 -- two values for each word, and how many accesses there were
 pub record Words : Type 0 where
@@ -103,6 +103,10 @@ zero_words n = record { cached = replicate n 0; kept = replicate n 0; accesses =
 -- words whose cached values are these kept ones, never accessed
 abbrev pub words_at_rest : List ℕ → Words
 words_at_rest kept = record { cached = kept; kept = kept; accesses = 0 }
+
+-- the words with others over them, from this one on
+abbrev pub overwritten : ℕ → List ℕ → List ℕ → List ℕ
+overwritten from words ws = take from ws ++ (words ++ drop (from + length words) ws)
 
 -- the words of a part, numbered from 0
 abbrev pub words_in : ℕ → ℕ → Words → Words

@@ -2,7 +2,7 @@
 
 ghost use Rattle.std.specs.Prelude.{ℕ, ◌≡◌, ◌↔◌, ◌⊎◌, ◌+◌, ◌<◌, ◌≤◌, min, vec_len, length, replicate, take, drop, None, Ok, Err, IfOk, IfErr, IfSome, slice_index, slice_index_or, slice_set};
 ghost use Rattle.std.specs.Borrow.{sem, RestsIfErr};
-ghost use Rattle.persist.specs.Memory.{asked_through, lent_part, lent_whole, words_after_access, words_after_store, words_after_eviction, words_after_crash, words_in, zero_words, words_at_rest, IsUnasked};
+ghost use Rattle.persist.specs.Memory.{asked_through, lent_part, lent_whole, words_after_access, words_after_store, words_after_eviction, words_after_crash, words_in, overwritten, zero_words, words_at_rest, IsUnasked};
 ghost use Rattle.persist.specs.contracts.memory.Memory.{the_row};
 ghost use Rattle.persist.specs.ChangeList.{IsEntryOf, IsGapFor};
 ghost use Rattle.persist.specs.Changes.{change_of, differences};
@@ -89,6 +89,16 @@ fn set_to_zero(words: &mut [u64])
     ensures { words.new ≡ replicate (length words.old) 0 }
 {
     words.fill(0);
+}
+
+/// Writes the other words over these, from this one on.
+fn write_over<W: KeptWords>(kept: &mut [u64], from: usize, words: &W)
+    requires { from + length (W.kept_words words.now) ≤ length kept.old }
+    ensures { kept.new ≡ overwritten from (W.kept_words words.now) kept.old }
+{
+    for word in 0..words.size() {
+        kept[from + word] = words.kept(word);
+    }
 }
 
 impl Memory {
@@ -239,6 +249,20 @@ impl Memory {
         ensures unasked { IsUnasked self.new }
     {
         set_to_zero(&mut self.kept);
+        self.changes.clear();
+        self.accesses = 0;
+        self.requests = no_requests();
+    }
+
+    /// Makes it a new memory again: of the words that are kept now, but with these over them, from this one on. Each
+    /// word is cached and kept, no access is counted, and nothing is asked for. It takes no memory.
+    pub fn rewrite<W: KeptWords>(&mut self, from: usize, words: &W)
+        requires { from + length (W.kept_words words.now) ≤ length self.old.words.kept }
+        ensures words { self.new.words
+            ≡ words_at_rest (overwritten from (W.kept_words words.now) self.old.words.kept) }
+        ensures unasked { IsUnasked self.new }
+    {
+        write_over(&mut self.kept, from, words);
         self.changes.clear();
         self.accesses = 0;
         self.requests = no_requests();

@@ -1,21 +1,19 @@
 -- Words of a broker with another block in a slot are a broker's, with the same queues.
-use Rattle.std.proofs.Common.{◌≡◌, ◌≢◌, ℕ, ◌+◌, ◌-◌, ◌*◌, ◌<◌, ◌≤◌, ◌⊎◌, inl, inr, List, ◌++◌, length, map, take, drop, get_or, slice_index, slice_index_or, slice_get, is_some, true, Option, Some, None, refl, sym, ◌∙◌, ap, ap₂, subst, arith, length-drop}
+use Rattle.std.proofs.Common.{◌≡◌, ◌≢◌, ℕ, ◌+◌, ◌-◌, ◌*◌, ◌<◌, ◌≤◌, ◌⊎◌, inl, inr, List, ◌++◌, length, take, drop, slice_index, slice_index_or, slice_get, is_some, true, Option, Some, None, refl, sym, ◌∙◌, ap, ap₂, subst, arith, length-drop}
 use Rattle.std.specs.Prelude.{IsSome}
-use Rattle.std.specs.List.{range_with_len}
 use Rattle.std.proofs.Math.Seq.{drop-append-add}
-use Rattle.std.proofs.lemmas.Bool.{cases_eq, cases_lt}
+use Rattle.std.proofs.lemmas.Bool.{cases_lt}
 use Rattle.std.proofs.lemmas.List.{ext_get_or, get_or_append_left, get_or-append_right, get_or-drop, get_or-take, length-append, length-take-le, take_at}
 use Rattle.std.proofs.lemmas.List.FromFn.{get_or-map-range_with_len, length-map-range_with_len}
 use Rattle.std.proofs.lemmas.Option.{slice_get_within}
 use Rattle.words.specs.declared.refusal.Refusal.{Refusal}
 use Rattle.words.specs.declared.refusal.Refusal.TheVariants.{NoMemory, NoRoom}
-use Rattle.arena.specs.Broker.{block_from, block_from_in, block_in, block_size_of, broker_size_in}
+use Rattle.arena.specs.Broker.{block_from, block_in, block_size_of, broker_size_in}
 use Rattle.arena.specs.Form.{running}
 use Rattle.arena.specs.Limits.{AreCounts}
 use Rattle.arena.specs.Shape.{Counts, shape_of}
 use Rattle.arena.proofs.BrokerWords.{block_ends}
-use Rattle.persist.specs.Memory.{Words}
-use Rattle.recover.specs.Sound.{AreSoundWords}
+use Rattle.persist.specs.Memory.{Words, overwritten}
 use Rattle.directory.specs.Directory.{Directory, HasQueue, IsDirectory}
 use Rattle.directory.specs.Queue.{directory_of, slot_in}
 use Rattle.directory.specs.Sound.{AreBrokerWords, DirectoryIsSound, IsBlockZero, SlotIsSound, counts_in}
@@ -56,7 +54,7 @@ module _ (ws : List ℕ) (slot : ℕ) (block : List ℕ) (b : AreBrokerWords ws)
   whole : length ws ≡ 34 + 8 * size
   whole = b.head.size
 
-  within : end ≤ length ws
+  pub within : end ≤ length ws
   within = omega (arith, whole, block_ends size slot 8 below)
 
   front_length : length front ≡ from
@@ -67,6 +65,31 @@ module _ (ws : List ℕ) (slot : ℕ) (block : List ℕ) (b : AreBrokerWords ws)
       let all : length new ≡ length front + length (block ++ rest) = length-append front (block ++ rest) in
       let behind : length (block ++ rest) ≡ length block + length rest = length-append block rest in
       omega (arith, all, behind, front_length, long, length-map-range_with_len (slice_index ws) end (length ws - end), within)
+
+  -- they are what the block makes that is written over the words
+  front_is : take from ws ≡ front
+  front_is =
+      let taken : length (take from ws) ≡ from = length-take-le from ws (omega (arith, within)) in
+      ext_get_or 0 (take from ws) front (taken ∙ sym front_length)
+      (λ i h.
+      let below_from : i < from = omega (arith, h, taken) in
+      get_or-take from ws i 0 below_from
+      ∙ sym (get_or-map-range_with_len (slice_index ws) 0 from i i 0 below_from (omega arith)))
+
+  rest_is : drop (from + length block) ws ≡ rest
+  rest_is =
+      let far : from + length block ≡ end = omega (arith, long) in
+      let left : length (drop (from + length block) ws) ≡ length ws - end = length-drop (from + length block) ws ∙ ap (λ (n : ℕ). length ws - n) far in
+      ext_get_or 0 (drop (from + length block) ws) rest
+      (left ∙ sym (length-map-range_with_len (slice_index ws) end (length ws - end)))
+      (λ i h.
+      let inside : i < length ws - end = omega (arith, h, left) in
+      get_or-drop (from + length block) ws i 0
+      ∙ ap (λ (n : ℕ). slice_index ws (n + i)) far
+      ∙ sym (get_or-map-range_with_len (slice_index ws) end (length ws - end) i (end + i) 0 inside refl))
+
+  pub over_is : overwritten from block ws ≡ new
+  over_is = ap₂ (λ (xs ys : List ℕ). xs ++ (block ++ ys)) front_is rest_is
 
   -- words outside the block are as they were
   before : (w : ℕ) → w < from → slice_index new w ≡ slice_index ws w

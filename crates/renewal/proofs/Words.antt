@@ -52,7 +52,7 @@ module _ (r : Renewal) where
   unfolding block_renewed
   block_length = length-map-range_with_len (word_renewed r) 0 size
 
-  block_word : (w : ℕ) → w < size → slice_index new w ≡ word_renewed r w
+  pub block_word : (w : ℕ) → w < size → slice_index new w ≡ word_renewed r w
   unfolding block_renewed
   block_word w below = get_or-map-range_with_len (word_renewed r) 0 size w w 0 below (omega arith)
 

@@ -1,5 +1,5 @@
 -- What may be written in fresh records, and the block of words that it becomes.
-use Rattle.std.specs.Prelude.{◌≡◌, ℕ, ◌+◌, ◌*◌, ◌≤◌, List, length, map, Option, Some, None}
+use Rattle.std.specs.Prelude.{◌≡◌, ℕ, ◌+◌, ◌*◌, ◌<◌, ◌≤◌, List, length, map, slice_index, Option, Some, None}
 use Rattle.std.specs.List.{range_with_len}
 use Rattle.words.specs.PlainQueue.{FitsValue}
 use Rattle.words.specs.declared.call.Kind.{Kind}
@@ -17,7 +17,7 @@ use Rattle.arena.specs.Broker.{block_size_of}
 use Rattle.arena.specs.Content.{kept_content}
 use Rattle.arena.specs.Layout.{place_at}
 use Rattle.arena.specs.Limits.{AreCounts}
-use Rattle.arena.specs.Place.{IsClient}
+use Rattle.arena.specs.Place.{IsClient, IsNode}
 use Rattle.arena.specs.Shape.{Shape, greatest}
 use Rattle.arena.specs.Words.{bumps}
 use Rattle.arena.specs.declared.place.Place.{Place}
@@ -26,7 +26,7 @@ use Rattle.recover.specs.Sound.{AreSoundWords}
 use Rattle.recover.specs.Table.{no_call}
 use Rattle.recover.specs.Told.{tells_by, told_by}
 use Rattle.renewal.specs.Renewal.{Renewal, item_in, told_in}
-use Rattle.renewal.specs.Renewed.{renewed}
+use Rattle.renewal.specs.Renewed.{chain, follower, renewed}
 use Rattle.renewal.specs.Roles.{used_for}
 
 -- so many items fit into fresh records of this shape: beside one record for each, each client needs two
@@ -62,6 +62,12 @@ pub record MayBeRenewed (r : Renewal) : Type 0 where
   pub room : FitFresh r.shape (length r.content)
   pub items : (at : ℕ) → FitsValue (item_in r at)
   pub told : (t : ℕ) → MayBeTold r.shape.kind (told_in r t)
+
+-- such a queue, and of each of its nodes what follows it on the chain
+pub record IsFresh (r : Renewal) (links : List ℕ) : Type 0 where
+  pub may : MayBeRenewed r
+  pub follows : (n : ℕ) → IsNode r.shape n
+      → (n < length links) × (slice_index links n ≡ follower n 0 (chain r))
 
 -- a client that is to be told nothing is told so by the kind of the queue
 abbrev pub told_anew : Kind → Told → Told

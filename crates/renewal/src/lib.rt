@@ -5,6 +5,7 @@ mod block;
 mod broker;
 mod chain;
 mod content;
+mod fresh;
 mod laws;
 mod one_queue;
 mod places;
@@ -14,5 +15,6 @@ mod told;
 
 pub use block::renewed_block;
 pub use broker::renewed_broker;
+pub use fresh::{FreshBlock, fresh_block};
 pub use laws::{renewed_block_has_the_queue, renewed_words_hold_and_tell};
-pub use one_queue::renewed_queue;
+pub use one_queue::fresh_queue;

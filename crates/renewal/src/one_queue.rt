@@ -1,77 +1,82 @@
 //! The words of a whole broker, one queue in fresh records.
 
-ghost use Rattle.std.specs.Prelude.{◌≡◌, ◌++◌, ◌-◌, ◌<◌, ◌≤◌, IfErr, IfOk, OnOk, length};
-ghost use Rattle.arena.specs.Broker.{broker_size};
-ghost use Rattle.renewal.specs.Broker.{BlockFits, MayBeRenewedTo};
-ghost use Rattle.renewal.specs.OneQueue.{block_replaced, IsQueueRenewalOf, IsWhyNotRenewed, queue_renewed, stretch};
+ghost use Rattle.std.specs.Prelude.{◌≡◌, ◌+◌, ◌<◌, ◌≤◌, ◌⊎◌, Err, IfErr, IfOk, OnOk, Some, length};
+ghost use Rattle.arena.specs.Broker.{block_from, block_in, broker_size};
+ghost use Rattle.arena.specs.Form.{running};
+ghost use Rattle.arena.specs.Shape.{shape_of};
+ghost use Rattle.recover.specs.Sound.{AreSoundWords};
 ghost use Rattle.directory.specs.Sound.{counts_in};
+ghost use Rattle.persist.specs.Memory.{overwritten};
+ghost use Rattle.renewal.specs.Broker.{BlockFits, MayBeRenewedTo, SlotFits, slot_renewed};
+ghost use Rattle.renewal.specs.OneQueue.{IsQueueRenewalOf, IsWhyNotRenewed, queue_renewed};
 
-use crate::broker::slot_words;
+use crate::fresh::{FreshBlock, fresh_block};
 use arena::{BrokerLayout, SLOTS, SlotId};
-use directory::KeptBroker;
-use persist::{KeptWords, Memory};
-use std::alloc::{AllocError, Global};
+use directory::{KeptBroker, Queue};
+use persist::Memory;
+use std::alloc::Global;
 use words::Refusal;
 
-/// Adds the kept words from one on, up to another.
-fn add_kept(memory: &Memory, from: usize, to: usize, words: &mut Vec<u64>) -> Result<(), AllocError>
-    requires from { from ≤ to }
-    requires to { to ≤ length memory.now.words.kept }
-    ensures { OnOk result (words.new.items ≡ words.old.items ++ stretch memory.now.words.kept from (to - from)) }
-{
-    for word in from..to {
-        words.push(memory.kept(word))?;
-    }
-    Ok(())
-}
-
-/// The words of a broker with this block in a slot, and all else as it is.
-fn with_block(
+/// The block of a slot's queue in fresh records.
+fn fresh_in(
     alloc: Global,
     layout: &BrokerLayout,
     memory: &Memory,
     slot: SlotId,
-    block: &[u64],
-) -> Result<Vec<u64>, AllocError>
+    queue: &Queue,
+) -> Result<FreshBlock, Refusal>
     requires slot { slot.0 < SLOTS }
-    requires size { length memory.now.words.kept ≡ broker_size layout.now }
-    ensures { IfOk result (λ words. words.items
-        ≡ block_replaced layout.now slot.0 block.now memory.now.words.kept) }
+    requires room { broker_size layout.now ≤ length memory.now.words.cached }
+    requires kept { broker_size layout.now ≤ length memory.now.words.kept }
+    requires sound { AreSoundWords (shape_of queue.now.kind layout.now)
+        (block_in running layout.now slot.0 memory.now.words.kept) }
+    ensures words { IfOk result (λ block. block ≡ slot_renewed layout.now layout.now (Some queue.now)
+        (block_in running layout.now slot.0 memory.now.words.kept)) }
+    ensures room { OnOk result (SlotFits layout.now layout.now (Some queue.now)
+        (block_in running layout.now slot.0 memory.now.words.kept)) }
+    ensures no_room { result ≡ Err Refusal.NoRoom → SlotFits layout.now layout.now (Some queue.now)
+        (block_in running layout.now slot.0 memory.now.words.kept) → ⊥ }
+    ensures errors { IfErr result (λ e. (e ≡ Refusal.NoRoom) ⊎ (e ≡ Refusal.NoMemory)) }
 {
-    let from = layout.block(slot);
-    let end = from + layout.block_size();
-    let mut words = Vec::with_capacity(alloc, layout.size())?;
-    add_kept(memory, 0, from, &mut words)?;
-    words.extend_from_slice(block)?;
-    add_kept(memory, end, layout.size(), &mut words)?;
-    Ok(words)
+    let Ok(block) = memory.view(layout.block(slot), layout.block_size()) else {
+        // The memory has as many words as the layout.
+        unreachable!();
+    };
+    let layout = layout.queue(queue.kind);
+    let block = fresh_block(alloc, &layout, &block, &layout)?;
+    Ok(block)
 }
 
-/// The words of a broker with the queue of one slot in fresh records, and all else as it is kept. `kept` is what
-/// `memory` keeps of a broker, and its kept words obey the rules. The queue holds the same items in their order, and
-/// tells each client the same. It is refused, in this order, where the slot has no queue (NoQueue), where the items do
-/// not fit beside two records of each client (NoRoom), and where memory is refused (NoMemory).
-pub fn renewed_queue(
+/// The block of one slot's queue in fresh records: written over its block it makes a broker of which all else is as it
+/// is kept. `kept` is what `memory` keeps of a broker, and its kept words obey the rules. The queue holds the same items
+/// in their order, and tells each client the same. It is refused, in this order, where the slot has no queue (NoQueue),
+/// where the items do not fit beside two records of each client (NoRoom), and where memory is refused (NoMemory).
+pub fn fresh_queue(
     alloc: Global,
     kept: &KeptBroker,
     memory: &Memory,
     slot: SlotId,
-) -> Result<Vec<u64>, Refusal>
+) -> Result<FreshBlock, Refusal>
     requires { MayBeRenewedTo memory.now.words kept.now.layout kept.now.directory kept.now.layout }
-    ensures renewed { IfOk result (λ words. words.items ≡ queue_renewed slot.0 memory.now.words.kept) }
-    ensures same { IfOk result (λ words. IsQueueRenewalOf memory.now.words.kept slot.0 words.items) }
+    ensures slot { OnOk result (slot.0 < SLOTS) }
+    ensures within { IfOk result (λ block.
+        block_from kept.now.layout slot.0 + length block ≤ length memory.now.words.kept) }
+    ensures renewed { IfOk result (λ block. overwritten (block_from kept.now.layout slot.0) block memory.now.words.kept
+        ≡ queue_renewed slot.0 memory.now.words.kept) }
+    ensures same { OnOk result
+        (IsQueueRenewalOf memory.now.words.kept slot.0 (queue_renewed slot.0 memory.now.words.kept)) }
     ensures room { OnOk result (BlockFits (counts_in memory.now.words.kept) memory.now.words.kept slot.0) }
     ensures errors { IfErr result (IsWhyNotRenewed memory.now.words.kept slot.0) }
 {
     let at = slot.0 as usize;
-    let places = kept.directory.queues();
-    if at >= SLOTS || places[at].is_none() {
+    if at >= SLOTS {
         return Err(Refusal::NoQueue);
     }
-    let layout = &kept.layout;
-    let block = slot_words(alloc, layout, memory, slot, &places[at], layout)?;
-    let Ok(words) = with_block(alloc, layout, memory, slot, &block) else {
-        return Err(Refusal::NoMemory);
-    };
-    Ok(words)
+    match &kept.directory.queues()[at] {
+        None => Err(Refusal::NoQueue),
+        Some(queue) => {
+            let block = fresh_in(alloc, &kept.layout, memory, slot, queue)?;
+            Ok(block)
+        }
+    }
 }

@@ -1,5 +1,4 @@
-use Rattle.std.proofs.Common.{rules, ◌≡◌, ◌≢◌, ℕ, Result, Ok, subst, sym}
-use Rattle.std.specs.Prelude.{IfOk}
+use Rattle.std.proofs.Common.{rules, ◌≡◌}
 use Rattle.persist.specs.Lent.{port_lent}
 use Rattle.persist.specs.Memory.{MemoryState, asked_through}
 use Rattle.directory.specs.Creation.{access_of}

@@ -1,46 +1,49 @@
-use Rattle.std.proofs.Common.{◌≡◌, ◌≤◌, ◌<◌, ◌++◌, ◌∷◌, ◌+◌, ℕ, [], length, sym, ap, subst, ◌∙◌, arith, vec_capacity, Vec, Global}
+use Rattle.std.proofs.Common.{◌≡◌, ◌≤◌, ◌<◌, ◌++◌, ◌∷◌, ◌+◌, ℕ, [], List, length, sym, ap, subst, ◌∙◌, arith, vec_capacity, Vec, Global}
 use Rattle.std.proofs.lemmas.Grind.{common_steps}
 use Rattle.persist.specs.declared.access.Change.{Change}
+use Rattle.persist.proofs.Overwrites.{partly}
 use Rattle.notes.specs.Noting.{HasNoted}
-use Rattle.notes.proofs.Mixing.{mixed, noted_first, noted_next, noted_same}
+use Rattle.notes.proofs.Mixing.{noted_first, noted_next, noted_same}
 use Rattle.notes.proofs.differences.add_differences.Goals as goal
 use Rattle.notes.proofs.differences.add_differences.Goals.{then-was-is+else-is_err, else-was-is}
 
-pub loop-word-init : goal.loop-word-init
-loop-word-init c = record {
-  noted = noted_first c.args.changes.now.items c.args.old.now.words.kept c.args.new.now.words.kept;
+pub loop-at-init : goal.loop-at-init
+loop-at-init g c = record {
+  noted = noted_first c.args.changes.now.items c.args.from (g.W.KeptWords.kept_words c.args.words.now) c.args.memory.now.words.kept;
   capacity = omega arith;
 }
 
-pub loop-word-preserved : goal.loop-word-preserved
-loop-word-preserved c =
-    let i = c.loop-word.invariant in
-    let old = c.args.old.now.words.kept in
-    let new = c.args.new.now.words.kept in
-    let at = c.loop-word.word in
-    let lt : at < length old = omega (arith, c.loop-word-test.true, c.size-word-end.ensures) in
-    let most : (v : Vec Change Global) → vec_capacity c.loop-word.changes ≤ vec_capacity v → c.if-was-is.changes ≡ v
+pub loop-at-preserved : goal.loop-at-preserved
+loop-at-preserved g c =
+    let i = c.loop-at.invariant in
+    let old : List ℕ = c.args.memory.now.words.kept in
+    let words : List ℕ = g.W.KeptWords.kept_words c.args.words.now in
+    let from : ℕ = c.args.from in
+    let at : ℕ = c.loop-at.at in
+    let h : at < length words = omega (arith, c.loop-at-test.true, c.size-at-end.ensures) in
+    let lt : from + at < length old = omega (arith, h, c.requires) in
+    let most : (v : Vec Change Global) → vec_capacity c.loop-at.changes ≤ vec_capacity v → c.if-was-is.changes ≡ v
     → vec_capacity c.args.changes.now ≤ vec_capacity c.if-was-is.changes =
     λ v more is. subst (λ (x : Vec Change Global). vec_capacity c.args.changes.now ≤ vec_capacity x) (sym is)
     (omega (arith, more, i.capacity)) in
     elim c.if-was-is.branch [
       | then-was-is+else-is_err w ↦
-          let pushed : w.push.new.self.items ≡ c.loop-word.changes.items
-          ++ record { word = at; old = c.kept-was.result; new = c.kept-is.result } ∷ [] =
+          let pushed : w.push.new.self.items ≡ c.loop-at.changes.items
+          ++ record { word = from + at; old = c.kept-was.result; new = c.kept-is.result } ∷ [] =
           grind (arith, common_steps) in
           record {
-            noted = noted_next c.args.changes.now.items c.loop-word.changes.items c.kept-was.result at old new
-                c.if-was-is.changes.items lt c.requires
+            noted = noted_next c.args.changes.now.items c.loop-at.changes.items c.kept-was.result from at words old
+                c.if-was-is.changes.items h lt
                 (ap (λ (v : Vec Change Global). v.items) w.changes-is ∙ (pushed
-                ∙ ap (λ (n : ℕ). c.loop-word.changes.items ++ record { word = at; old = c.kept-was.result; new = n } ∷ [])
+                ∙ ap (λ (n : ℕ). c.loop-at.changes.items ++ record { word = from + at; old = c.kept-was.result; new = n } ∷ [])
                 c.kept-is.ensures)) i.noted;
             capacity = most w.push.new.self w.push.ensures.capacity w.changes-is;
           }
       | else-was-is w ↦ record {
-        noted = subst (λ (v : Vec Change Global). HasNoted c.args.changes.now.items v.items old (mixed (at + 1) old new))
+        noted = subst (λ (v : Vec Change Global). HasNoted c.args.changes.now.items v.items old (partly from (at + 1) words old))
             (sym w.changes-is)
-            (noted_same c.args.changes.now.items c.loop-word.changes.items at old new lt c.requires
+            (noted_same c.args.changes.now.items c.loop-at.changes.items from at words old h lt
             (sym c.kept-was.ensures ∙ (w.if-was-is.false ∙ c.kept-is.ensures)) i.noted);
-        capacity = most c.loop-word.changes (omega arith) w.changes-is;
+        capacity = most c.loop-at.changes (omega arith) w.changes-is;
       }
     ]

@@ -1,4 +1,4 @@
-use Rattle.std.proofs.Common.{◌<◌, arith, ap, ◌∙◌}
+use Rattle.std.proofs.Common.{arith}
 use Rattle.persist.proofs.Places.{place_is_below_word}
 use Rattle.persist.proofs.changes.search_back.Goals.{then-word-at, else-word-at}
 use Rattle.persist.proofs.changes.search_back.Goals as goal

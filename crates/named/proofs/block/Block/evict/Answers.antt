@@ -1,17 +1,10 @@
-use Rattle.std.proofs.Common.{rules, arith, ◌≤◌, ◌≡◌, ◌<◌, ◌-◌, ◌+◌, ℕ, false, Ok, Result, length, drop, ap, refl, sym, subst, ◌∙◌, length-drop, length-take}
-use Rattle.std.specs.Prelude.{IfErr, IfOk}
-use Rattle.words.specs.declared.call.Reply.{Reply}
-use Rattle.words.specs.declared.limits.TheConstants.{RECOVERY_PORT}
-use Rattle.words.specs.declared.refusal.Refusal.{Refusal}
+use Rattle.std.proofs.Common.{rules, arith, ◌≤◌, ◌≡◌, ◌<◌, ◌-◌, ◌+◌, ℕ, Ok, ap, sym, subst, ◌∙◌}
 use Rattle.persist.specs.Changes.{change_at, change_of}
-use Rattle.persist.specs.Memory.{Around, IsSameOutside, Lent, MemoryState, Words, words_after_eviction, words_in}
+use Rattle.persist.specs.Memory.{Lent, MemoryState, Words, words_in}
 use Rattle.persist.specs.Lent.{window_lent, window_words}
-use Rattle.interleave.specs.Asked.{IfCallAsked, IfRecoveryAsked, lent_after_step}
-use Rattle.interleave.specs.Calls.{is_no_memory}
 use Rattle.interleave.specs.Core.{state_of}
 use Rattle.interleave.specs.Holds.{Holds}
 use Rattle.interleave.specs.State.{State, after_evict, evict_result}
-use Rattle.interleave.proofs.AskedKept.{around_stepped}
 use Rattle.named.specs.Blocks.{BlockState, IsAskedIn, IsWellIn, IsWithinBlock, state_in}
 use Rattle.named.proofs.Evicted.{change_there, result_evicted, whole_evicted, within_block, words_evicted}
 use Rattle.named.proofs.Stays.{evict_alike}

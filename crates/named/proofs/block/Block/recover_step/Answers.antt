@@ -11,7 +11,6 @@ use Rattle.interleave.specs.Calls.{is_no_memory}
 use Rattle.interleave.specs.Core.{state_of}
 use Rattle.interleave.specs.Holds.{Holds}
 use Rattle.interleave.specs.Rules.{recovering}
-use Rattle.interleave.specs.State.{State}
 use Rattle.interleave.proofs.AskedKept.{around_recovered}
 use Rattle.named.specs.Blocks.{BlockState, IsActIn, IsAskedIn, IsWellIn, state_in}
 use Rattle.named.proofs.Stays.{recovered_shape}

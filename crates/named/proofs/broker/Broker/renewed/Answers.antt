@@ -9,7 +9,7 @@ use Rattle.named.specs.Booting.{AreBootWords}
 use Rattle.named.specs.Brokers.{Brokered}
 use Rattle.named.specs.Renewing.{AreCountsFor, IsWhyUnrenewed}
 use Rattle.named.proofs.Promises.{boots_well}
-use Rattle.named.proofs.Renewed.{may_be_renewed, not_both, not_refused, renewed_if, unfit, unfit_as, unrenewed_if}
+use Rattle.named.proofs.Renewed.{may_be_renewed, not_both, not_refused, renewed_boots, renewed_if, unfit, unfit_as, unrenewed_if}
 use Rattle.named.proofs.broker.Broker.renewed.Goals as goal
 
 pub unreachable-requires : goal.unreachable-requires
@@ -29,6 +29,15 @@ renewed_broker-requires c =
     let more : c.in-Ok.kept.layout.clients ≤ c.in_ok-to.to.clients = omega (arith, c.if-clients.false, c.clients.ensures.value, asked) in
     may_be_renewed c.crash.new.self.words c.in-Ok.kept.layout c.in-Ok.kept.directory c.in_ok-to.to (ap length crashed)
     (subst AreBootWords (sym kept) (boots_well b c.self.invariant.well)) c.in-Ok.ensures.layout c.in-Ok.ensures.directory more
+
+pub begin-requires-clause-sound : goal.begin-requires-clause-sound
+begin-requires-clause-sound c =
+    let b : Brokered = record { counts = c.self.inside.layout; words = c.self.inside.memory.words; slots = c.self.inside.slots.items; directory = c.self.inside.directory; creation = c.self.inside.creation; recovery = c.self.inside.recovery } in
+    let kept : c.crash.new.self.words.kept ≡ b.words.kept = ap (λ (ws : Words). ws.kept) c.crash.ensures.words in
+    let same : IsBrokerRenewalOf b.words.kept c.in_ok-to.to c.in_ok-words.words.items =
+    subst (λ (ws : List ℕ). IsBrokerRenewalOf ws c.in_ok-to.to c.in_ok-words.words.items) kept c.in_ok-words.ensures.same in
+    subst (λ (ws : Words). AreBootWords ws.kept) (sym c.in-Ok-of.ensures.made)
+    (renewed_boots b.words.kept c.in_ok-to.to c.in_ok-words.words.items (boots_well b c.self.invariant.well).broker.head.counts.few_clients same)
 
 pub returns-in_err-words-clause-errors : goal.returns-in_err-words-clause-errors
 returns-in_err-words-clause-errors c =
@@ -93,22 +102,16 @@ returns-clause-renewed c =
     (subst (λ (ws : List ℕ). IsBrokerRenewalOf ws c.in_ok-to.to new) kept c.in_ok-words.ensures.same) in
     let is : new ≡ broker_renewed to old =
     c.in_ok-words.ensures.renewed ∙ ap (λ (k : Counts). broker_renewed k c.crash.new.self.words.kept) c.in_ok-to.ensures.made ∙ ap (broker_renewed to) kept in
-    renewed_if old to new c.in-Ok-of.renewed.words c.boot.result boots.broker.head.counts.few_clients may same is c.in-Ok-of.ensures.made c.boot.ensures.booted
+    renewed_if old to new c.in-Ok-of.renewed.words c.begin.result boots.broker.head.counts.few_clients may same is c.in-Ok-of.ensures.made c.begin.ensures.booted
 
 pub returns-clause-errors : goal.returns-clause-errors
 returns-clause-errors c =
     let old : List ℕ = c.args.self.words.kept in
     let to : Counts = record { clients = c.args.clients; records = c.args.records } in
-    let b : Brokered = record { counts = c.self.inside.layout; words = c.self.inside.memory.words; slots = c.self.inside.slots.items; directory = c.self.inside.directory; creation = c.self.inside.creation; recovery = c.self.inside.recovery } in
-    let boots : AreBootWords old = subst (λ (x : Brokered). AreBootWords x.words.kept) c.self.view_is (boots_well b c.self.invariant.well) in
     let kept : c.crash.new.self.words.kept ≡ old =
     ap (λ (ws : Words). ws.kept) c.crash.ensures.words ∙ ap (λ (x : Brokered). x.words.kept) c.self.view_is in
     let counts : c.in-Ok.kept.layout ≡ counts_in old = c.in-Ok.ensures.layout ∙ ap counts_in kept in
     let more : (counts_in old).clients ≤ c.args.clients =
     omega (arith, c.if-clients.false, c.clients.ensures.value, ap (λ (k : Counts). k.clients) counts) in
     let may : AreCountsFor old to = record { clients = more; counts = c.in_ok-to.ensures.ok.0 refl } in
-    let same : IsBrokerRenewalOf old to c.in_ok-words.words.items =
-    subst (λ (k : Counts). IsBrokerRenewalOf old k c.in_ok-words.words.items) c.in_ok-to.ensures.made
-    (subst (λ (ws : List ℕ). IsBrokerRenewalOf ws c.in_ok-to.to c.in_ok-words.words.items) kept c.in_ok-words.ensures.same) in
-    unrenewed_if old to c.in_ok-words.words.items c.in-Ok-of.renewed.words c.boot.result may boots.broker.head.counts.few_clients same c.in-Ok-of.ensures.made
-    c.boot.ensures.errors
+    unrenewed_if old to c.begin.result may c.begin.ensures.errors

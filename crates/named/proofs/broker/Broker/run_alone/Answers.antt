@@ -1,4 +1,4 @@
-use Rattle.std.proofs.Common.{◌≡◌, Ok, slice_get, slice_set, Some, sym, subst, ap, ◌∙◌, refl}
+use Rattle.std.proofs.Common.{◌≡◌, Ok, slice_get, slice_set, Some, sym, subst, ap, ◌∙◌}
 use Rattle.std.proofs.lemmas.Option.{slice_get_read}
 use Rattle.named.specs.Acting.{IsAloneAt, IsSameBeside}
 use Rattle.named.specs.Brokers.{Brokered, IsWell, admission}

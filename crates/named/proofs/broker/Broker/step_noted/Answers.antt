@@ -1,4 +1,4 @@
-use Rattle.std.proofs.Common.{◌≡◌, ◌≤◌, arith, Ok, slice_get, slice_set, Some, sym, subst, ap, ◌∙◌, refl}
+use Rattle.std.proofs.Common.{◌≡◌, arith, Ok, slice_get, slice_set, Some, sym, subst, ap, ◌∙◌, refl}
 use Rattle.std.proofs.lemmas.Option.{slice_get_read, slice_get_within}
 use Rattle.persist.specs.Noted.{answer_in}
 use Rattle.protocol.specs.declared.acts.Act.TheVariants.{Step}

@@ -1,6 +1,5 @@
-use Rattle.std.proofs.Common.{ℕ, ◌≡◌, ◌<◌, None, Option, Some, List, length, slice_index_or, slice_set, arith, sym, ap, ◌∙◌, subst, length-set}
+use Rattle.std.proofs.Common.{None, Some, length, slice_set, ap, ◌∙◌, length-set}
 use Rattle.persist.specs.Memory.{MemoryState}
-use Rattle.persist.specs.Changes.{AreAskedWithin}
 use Rattle.persist.proofs.Requests.{asked_within, others_left}
 use Rattle.persist.proofs.Shown.{below}
 use Rattle.persist.proofs.memory.Memory.ask.Goals as goal

@@ -1,4 +1,4 @@
-use Rattle.std.proofs.Common.{◌≡◌, ℕ, List, length, sym, ap, subst, ◌∙◌}
+use Rattle.std.proofs.Common.{◌≡◌, ℕ, List, length, refl, sym, ap, subst, ◌∙◌}
 use Rattle.words.specs.PlainQueue.{Value}
 use Rattle.words.specs.declared.told.Told.{Told}
 use Rattle.arena.specs.Content.{kept_content}
@@ -10,7 +10,7 @@ use Rattle.renewal.specs.Renewal.{Renewal}
 use Rattle.renewal.specs.Words.{FitFresh, IsRenewalOf, MayBeRenewed, MayBecome, block_renewed, renewal_of}
 use Rattle.renewal.proofs.Kept.{kept_may}
 use Rattle.renewal.proofs.Words.{block_same}
-use Rattle.renewal.proofs.block.renewed_block.Goals as goal
+use Rattle.renewal.proofs.fresh.fresh_block.Goals as goal
 
 -- what the queue holds
 content_of : (s : Shape) (ws : List ℕ) (queue : Kept) → queue ≡ record { form = OfItems; shape = s; words = ws }
@@ -29,28 +29,28 @@ room_of : (to s : Shape) (ws : List ℕ) (queue : Kept) (count : ℕ) → queue 
     → count ≡ length (kept_content queue.shape (kept_of queue)) → FitFresh to count → FitFresh to (length (kept_content s (kept_in s ws)))
 room_of to s ws queue count queue_is counted fits = subst (FitFresh to) (counted ∙ ap length (content_of s ws queue queue_is)) fits
 
-pub invariant_of-renewal : goal.invariant_of-renewal
-invariant_of-renewal g c =
+pub new-requires : goal.new-requires
+new-requires g c =
     let to : Shape = c.args.to.now in
     let s : Shape = c.args.layout.now in
     let ws : List ℕ = g.W.KeptWords.kept_words c.args.block.now in
     let room : FitFresh to c.count.result = c.fits.ensures.fits.0 c.if-not-fits.false in
-    let is : ◌≡◌ {A = Renewal} (record { shape = to; content = c.deref.result.now; tells = c.tells.result }) (renewal_of to s (kept_in s ws)) =
-    written to s ws c.new-queue.result c.in-Ok.items.items c.deref.result.now c.tells.result c.new-queue.ensures c.in-Ok.ensures c.deref.ensures.value c.tells.ensures in
+    let is : ◌≡◌ {A = Renewal} (record { shape = to; content = c.in-Ok.items.items; tells = c.tells.result }) (renewal_of to s (kept_in s ws)) =
+    written to s ws c.new-queue.result c.in-Ok.items.items c.in-Ok.items.items c.tells.result c.new-queue.ensures c.in-Ok.ensures refl c.tells.ensures in
     subst MayBeRenewed (sym is)
     (kept_may s (kept_in s ws) to c.requires.sound.sound c.requires.kind c.fits.ensures.counts
     (room_of to s ws c.new-queue.result c.count.result c.new-queue.ensures c.count.ensures.value room))
 
-pub returns-in-Ok-block_of-clause-renewed : goal.returns-in-Ok-block_of-clause-renewed
-returns-in-Ok-block_of-clause-renewed g c =
+pub returns-in-Ok-new-clause-renewed : goal.returns-in-Ok-new-clause-renewed
+returns-in-Ok-new-clause-renewed g c =
     let to : Shape = c.args.to.now in
     let s : Shape = c.args.layout.now in
     let ws : List ℕ = g.W.KeptWords.kept_words c.args.block.now in
-    c.in-Ok-block_of.ensures
-    ∙ ap block_renewed (written to s ws c.new-queue.result c.in-Ok.items.items c.deref.result.now c.tells.result c.new-queue.ensures c.in-Ok.ensures c.deref.ensures.value c.tells.ensures)
+    c.in-Ok-new.ensures
+    ∙ ap block_renewed (written to s ws c.new-queue.result c.in-Ok.items.items c.in-Ok.items.items c.tells.result c.new-queue.ensures c.in-Ok.ensures refl c.tells.ensures)
 
-pub returns-in-Ok-block_of-clause-same : goal.returns-in-Ok-block_of-clause-same
-returns-in-Ok-block_of-clause-same g c =
+pub returns-in-Ok-new-clause-same : goal.returns-in-Ok-new-clause-same
+returns-in-Ok-new-clause-same g c =
     let to : Shape = c.args.to.now in
     let s : Shape = c.args.layout.now in
     let ws : List ℕ = g.W.KeptWords.kept_words c.args.block.now in
@@ -63,12 +63,9 @@ returns-in-Ok-block_of-clause-same g c =
       clients = c.requires.clients;
       room = room_of to s ws c.new-queue.result c.count.result c.new-queue.ensures c.count.ensures.value room;
     } in
-    subst (IsRenewalOf s ws to)
-    (sym (c.in-Ok-block_of.ensures
-    ∙ ap block_renewed (written to s ws c.new-queue.result c.in-Ok.items.items c.deref.result.now c.tells.result c.new-queue.ensures c.in-Ok.ensures c.deref.ensures.value c.tells.ensures)))
-    (block_same s ws to may)
+    subst (IsRenewalOf s ws to) (sym (returns-in-Ok-new-clause-renewed g c)) (block_same s ws to may)
 
-pub returns-in-Ok-block_of-clause-room : goal.returns-in-Ok-block_of-clause-room
-returns-in-Ok-block_of-clause-room g c =
+pub returns-in-Ok-new-clause-room : goal.returns-in-Ok-new-clause-room
+returns-in-Ok-new-clause-room g c =
     room_of c.args.to.now c.args.layout.now (g.W.KeptWords.kept_words c.args.block.now) c.new-queue.result c.count.result c.new-queue.ensures
     c.count.ensures.value (c.fits.ensures.fits.0 c.if-not-fits.false)

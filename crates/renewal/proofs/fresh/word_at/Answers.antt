@@ -5,7 +5,7 @@ use Rattle.arena.specs.Place.{IsPlace}
 use Rattle.arena.specs.Shape.{Shape}
 use Rattle.arena.specs.declared.place.Place.{Place}
 use Rattle.renewal.specs.Renewal.{Renewal}
-use Rattle.renewal.proofs.block.word_at.Goals as goal
+use Rattle.renewal.proofs.fresh.word_at.Goals as goal
 
 place_of : (s : Shape) (word : ℕ) (p : Place) → place_at s word ≡ Some p → IsPlace s p
 place_of s word p at =

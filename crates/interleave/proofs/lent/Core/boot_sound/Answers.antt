@@ -18,7 +18,7 @@ use Rattle.interleave.specs.Values.{value_of_place}
 use Rattle.interleave.specs.declared.queue.Queue.{Queue}
 use Rattle.interleave.proofs.BootLaws.{booted_fit, booted_tells, holds_booted}
 use Rattle.interleave.proofs.CrashLaws.{state_same}
-use Rattle.interleave.proofs.lent.Core.boot.Goals as goal
+use Rattle.interleave.proofs.lent.Core.boot_sound.Goals as goal
 
 pub content-requires : goal.content-requires
 content-requires g c =
@@ -26,14 +26,14 @@ content-requires g c =
     let kept : List ℕ = g.K.KeptWords.kept_words c.args.kept.now in
     let ws : Words = record { cached = kept; kept = kept; accesses = 0 } in
     let counts = c.clients-clients.ensures.counts in
-    let fit : WordsFit s ws = booted_fit s ws counts.some_client counts.few_clients (c.in_ok-sound.ensures.ok.0 refl) in
+    let fit : WordsFit s ws = booted_fit s ws counts.some_client counts.few_clients c.requires in
     record { room = fit.room; fits = fit.kept }
 
 pub returns-clause-booted : goal.returns-clause-booted
 returns-clause-booted g c = λ ws is.
     let s : Shape = c.args.layout in
     let counts = c.clients-clients.ensures.counts in
-    let sound : AreSoundWords s ws.kept = subst (AreSoundWords s) (sym is) (c.in_ok-sound.ensures.ok.0 refl) in
+    let sound : AreSoundWords s ws.kept = subst (AreSoundWords s) (sym is) c.requires in
     let tells : List Told = tells_by s (value_of_place s ws.kept) in
     let told : c.tells-told.result ≡ tells =
     c.tells-told.ensures ∙ ap (λ (k : List ℕ). tells_by s (kept_in s k)) (sym is) ∙ booted_tells s ws counts.some_client counts.few_clients sound in
@@ -52,5 +52,5 @@ pub returns-clause-holds : goal.returns-clause-holds
 returns-clause-holds g c = λ ws is.
     let s : Shape = c.args.layout in
     let counts = c.clients-clients.ensures.counts in
-    let sound : AreSoundWords s ws.kept = subst (AreSoundWords s) (sym is) (c.in_ok-sound.ensures.ok.0 refl) in
+    let sound : AreSoundWords s ws.kept = subst (AreSoundWords s) (sym is) c.requires in
     subst Holds (sym (returns-clause-booted g c ws is)) (holds_booted s ws counts.some_client counts.few_clients sound)
