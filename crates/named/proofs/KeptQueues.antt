@@ -27,11 +27,11 @@ use Rattle.named.proofs.Kept.{get_set_other}
 use Rattle.named.proofs.Promises.{head_is}
 
 -- the queue of a world, by what is known
-record IsThere (b : Brokered) (at : ℕ) (w : State) : Type 0 where
-  queue : Queue
-  has : HasQueue b.directory at queue
-  shape : w.shape ≡ shape_of queue.kind b.counts
-  words : w.words ≡ block_words b.counts at b.words
+pub record IsThere (b : Brokered) (at : ℕ) (w : State) : Type 0 where
+  pub queue : Queue
+  pub has : HasQueue b.directory at queue
+  pub shape : w.shape ≡ shape_of queue.kind b.counts
+  pub words : w.words ≡ block_words b.counts at b.words
 
 listed_kind : (kind : Kind) (o : Option Queue) → Some kind ≡ option_map (λ (q : Queue). q.kind) o → (q : Queue) × (o ≡ Some q) × (kind ≡ q.kind)
 listed_kind kind None e = absurd (cc (e))
@@ -57,7 +57,7 @@ module _ (b : Brokered) (holds : IsWell b) where
             ∙ rw (here.from, here.len) refl;
       }
 
-  there : (at : ℕ) (w : State) → world_at b at ≡ Some w → IsThere b at w
+  pub there : (at : ℕ) (w : State) → world_at b at ≡ Some w → IsThere b at w
   there at w here = go (slice_get b.slots at) refl here
     where
       go : (o : Option Slot) → slice_get b.slots at ≡ o → world_of b.words o ≡ Some w → IsThere b at w

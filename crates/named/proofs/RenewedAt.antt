@@ -40,6 +40,7 @@ use Rattle.named.specs.declared.slot.Slot.{Slot}
 use Rattle.named.specs.declared.slot.Slot.TheVariants.{Closed, Open}
 use Rattle.named.proofs.Begun.{get_there}
 use Rattle.named.proofs.Kept.{ready_there}
+use Rattle.named.proofs.KeptQueues.{IsThere, there}
 use Rattle.named.proofs.Migrated.{same_some}
 use Rattle.named.proofs.Promises.{boots_well, head_is}
 use Rattle.named.proofs.Renewed.{content_shown, tells_shown}
@@ -77,44 +78,7 @@ may_renew b shown view rests slot r kind is ok = record {
   there = there_of (world_at shown slot) r kind is ok;
 }
 
--- the queue in an open slot, by the directory
-record IsThere (b : Brokered) (at : ℕ) (w : State) : Type 0 where
-  pub queue : Queue
-  pub has : HasQueue b.directory at queue
-  pub shape : w.shape ≡ shape_of queue.kind b.counts
-  pub words : w.words ≡ block_words b.counts at b.words
-
-listed_kind : (kind : Kind) (o : Option Queue) → Some kind ≡ option_map (λ (q : Queue). q.kind) o → (q : Queue) × (o ≡ Some q) × (kind ≡ q.kind)
-listed_kind kind None e = absurd (cc (e))
-listed_kind kind (Some q) e = (q, refl, cc (e))
-
 module _ (b : Brokered) (holds : IsWell b) where
-  there_in : (at : ℕ) (s : Slot) (w : State) → slice_get b.slots at ≡ Some s → world_in b.words s ≡ Some w → IsThere b at w
-  there_in at Closed w e is = absurd (cc (is))
-  there_in at (Open block) w e is =
-      let here : IsInBlock b.counts b.words at block = holds.slots at (Open block) e in
-      let same : state_in b.words block ≡ w = cc (is) in
-      let below : at < length b.directory = omega (arith, slice_get_within b.slots at (Open block) e, holds.count, holds.listed.count) in
-      let entry : slice_get b.directory at ≡ Some (get_or b.directory at None) = slice_get-get_or b.directory at None below in
-      let listed = listed_kind block.core.shape.kind (get_or b.directory at None) (holds.kinds at (Open block) (get_or b.directory at None) e entry) in
-      record {
-        queue = listed.0;
-        has = entry ∙ ap (λ (o : Option Queue). let x : Option (Option Queue) = Some o in x) listed.1;
-        shape =
-            ap (λ (v : State). v.shape) (sym same) ∙ here.shape
-            ∙ ap (λ (k : Kind). shape_of k b.counts) listed.2;
-        words =
-            ap (λ (v : State). v.words) (sym same)
-            ∙ rw (here.from, here.len) refl;
-      }
-
-  there : (at : ℕ) (w : State) → world_at b at ≡ Some w → IsThere b at w
-  there at w here = go (slice_get b.slots at) refl here
-    where
-      go : (o : Option Slot) → slice_get b.slots at ≡ o → world_of b.words o ≡ Some w → IsThere b at w
-      go None e is = absurd (cc (is))
-      go (Some s) e is = there_in at s w e is
-
   module _ (rests : rotate_result false b ≡ Ok tt) where
     up : b.recovery ≡ None
     up = (free_to b.recovery b.creation (list_any has_calls_in b.slots) rests).0
@@ -133,7 +97,7 @@ module _ (b : Brokered) (holds : IsWell b) where
     -- the slot's queue is in the kept directory
     pub kept_there : (at : ℕ) (w : State) → world_at b at ≡ Some w → (queue : Queue) × HasQueue (directory_of b.words.kept) at queue
     kept_there at w here =
-        let is = there at w here in
+        let is = there b holds at w here in
         (is.queue, subst (λ (d : Directory). HasQueue d at is.queue) (sym known) is.has)
 
     module _ (slot : ℕ) (new : List ℕ) (same : IsQueueRenewalOf b.words.kept slot new) where
@@ -221,7 +185,7 @@ module _ (b : Brokered) (holds : IsWell b) where
 
         begins_on : (at : ℕ) (w : State) → world_at b at ≡ Some w → BeginsOn w (world_at x at)
         begins_on at w here =
-            let is : IsThere b at w = there at w here in
+            let is : IsThere b at w = there b holds at w here in
             let has : HasQueue (directory_of b.words.kept) at is.queue = subst (λ (d : Directory). HasQueue d at is.queue) (sym known) is.has in
             let below : at < 8 = omega (arith, slice_get_within (directory_of b.words.kept) at (Some is.queue) has, (boots_well b holds).broker.directory.names.count) in
             let s : Shape = shape_of is.queue.kind c in
