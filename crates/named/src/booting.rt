@@ -54,7 +54,7 @@ pub(crate) fn check_blocks(form: Form, kept: &KeptBroker, memory: &Memory) -> Re
 }
 
 impl Broker {
-    /// A broker that begins on what a memory keeps, where its words are known to obey the rules, and `kept` is what they
+    /// A broker that begins on what a memory keeps, where its words are known to obey the rules. `kept` is what they
     /// say. Recovery begins. It is refused for want of memory alone (NoMemory).
     pub(crate) fn begin(alloc: Global, kept: &KeptBroker, memory: Memory) -> Result<Self, Refusal>
         requires read { AreRead memory.words kept.now.layout kept.now.directory }

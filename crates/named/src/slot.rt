@@ -178,7 +178,8 @@ impl Slot {
         requires slot { slot.0 < SLOTS }
         requires room { broker_size layout.now ≤ length memory.now.words.cached }
         requires kept { broker_size layout.now ≤ length memory.now.words.kept }
-        requires sound { AreSoundWords (shape_of kind layout.now) (block_words layout.now slot.0 memory.now.words).kept }
+        requires sound { AreSoundWords (shape_of kind layout.now)
+            (block_words layout.now slot.0 memory.now.words).kept }
         ensures kind { IfOk result (λ s. kind_in s ≡ Some kind) }
         ensures world { IfOk result (λ s. world_in (words_after_crash memory.now.words) s
             ≡ Some (booted_world (shape_of kind layout.now) (block_words layout.now slot.0 memory.now.words))) }

@@ -48,9 +48,10 @@ fn fresh_in(
 }
 
 /// The block of one slot's queue in fresh records: written over its block it makes a broker of which all else is as it
-/// is kept. `kept` is what `memory` keeps of a broker, and its kept words obey the rules. The queue holds the same items
-/// in their order, and tells each client the same. It is refused, in this order, where the slot has no queue (NoQueue),
-/// where the items do not fit beside two records of each client (NoRoom), and where memory is refused (NoMemory).
+/// is kept. `kept` is what `memory` keeps of a broker, and its kept words obey the rules. The queue holds the same
+/// items in their order, and tells each client the same. It is refused, in this order, where the slot has no queue
+/// (NoQueue), where the items do not fit beside two records of each client (NoRoom), and where memory is refused
+/// (NoMemory).
 pub fn fresh_queue(
     alloc: Global,
     kept: &KeptBroker,
