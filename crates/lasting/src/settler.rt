@@ -90,6 +90,13 @@ impl<J: Naming, F: Appender + Drop> Settler<J, F> {
         })
     }
 
+    /// The policy by which the journal is kept.
+    pub fn policy(&self) -> Policy
+        ensures { result ≡ self.now.policy }
+    {
+        self.policy
+    }
+
     /// Whether it has failed for good. Then nothing is settled any more.
     pub fn has_failed(&self) -> bool
         ensures { result ≡ self.now.failed }

@@ -2,6 +2,7 @@
 
 ghost use Rattle.std.specs.Prelude.{IsSome};
 
+use crate::policy::Policy;
 use crate::settler::Settler;
 use devices::Failed;
 use journal_file::{Appender, Storage};
@@ -72,6 +73,7 @@ pub struct SharedJournal<'a, J: Naming, F: Appender + Drop, S: Storage<F>> {
     alloc: Global,
     shared: &'a Shared<J>,
     storage: &'a S,
+    policy: Policy,
     failed: AtomicBool,
     /// This lock is taken before the session's. It is held while the device works, so that a thread sleeps for it.
     place: Mutex<Place<J, F>>,
@@ -85,6 +87,7 @@ impl<'a, J: Naming, F: Appender + Drop, S: Storage<F>> SharedJournal<'a, J, F, S
         storage: &'a S,
         settler: Settler<J, F>,
     ) -> Self {
+        let policy = settler.policy();
         let failed = AtomicBool::new(settler.has_failed());
         let place = Mutex::new(Place {
             settler: Some(settler),
@@ -93,9 +96,20 @@ impl<'a, J: Naming, F: Appender + Drop, S: Storage<F>> SharedJournal<'a, J, F, S
             alloc,
             shared,
             storage,
+            policy,
             failed,
             place,
         }
+    }
+
+    /// The session.
+    pub fn shared(&self) -> &Shared<J> {
+        self.shared
+    }
+
+    /// The settler's policy.
+    pub fn policy(&self) -> Policy {
+        self.policy
     }
 
     /// The settler, once nobody shares it.

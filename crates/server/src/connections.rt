@@ -26,7 +26,9 @@ pub(crate) struct Sharing<'a, J: Naming, S: Settles> {
 /// What the workers share.
 #[derive(Drop)]
 pub(crate) struct Serving<'a, J: Naming, S: Settles> {
-    pub(crate) sharing: &'a Sharing<'a, J, S>,
+    pub(crate) shared: &'a Shared<J>,
+    pub(crate) seats: &'a Seating<J>,
+    pub(crate) settles: &'a S,
     /// Once it is said, connections that are not served yet will not be.
     pub(crate) stopping: &'a Stopping,
     pub(crate) connections: &'a Receiver<TcpStream>,
@@ -63,14 +65,13 @@ fn serve_connection<J: Naming, S: Settles, R: Wait + Log>(
     if connection.set_nodelay(true).is_err() {
         warn!(rt; "a connection delays its replies");
     }
-    let sharing = serving.sharing;
-    let Ok(desk) = BrokerDesk::new(alloc, sharing.shared, sharing.seats) else {
+    let Ok(desk) = BrokerDesk::new(alloc, serving.shared, serving.seats) else {
         warn!(rt; "a connection is closed unserved: {}", Refusal::NoMemory);
         return;
     };
     let mut reader = CountedReader::new(&connection);
     let mut counted = CountedWriter::new(&connection);
-    let mut writer = SettlingWriter::new(rt, sharing.settles, &mut counted);
+    let mut writer = SettlingWriter::new(rt, serving.settles, &mut counted);
     let mut desk = StoppingDesk {
         desk,
         stopping: serving.stopping,
@@ -93,7 +94,7 @@ pub(crate) fn serve_connections<J: Naming, S: Settles, R: Wait + Log>(
             continue;
         }
         serve_connection(rt, alloc, serving, connection);
-        if serving.sharing.settles.has_failed() {
+        if serving.settles.has_failed() {
             serving.stopping.say();
         }
         if serving.stopping.is_said() {

@@ -10,6 +10,7 @@ use crate::connections::Sharing;
 use crate::journals::{Journaling, Left, Noted, Unserved, begin_noting, journal_left};
 use crate::listening::{Service, seated, work};
 use crate::stopping::Stopping;
+use desk::Seating;
 use journal_file::{Appender, Storage};
 use lasting::{Policy, Settler, SharedJournal};
 use log::Log;
@@ -49,19 +50,24 @@ fn work_beside<
 >(
     rt: &R,
     alloc: Global,
-    sharing: &Sharing<'_, J, SharedJournal<'_, J, F, S>>,
-    policy: Policy,
+    seats: &Seating<J>,
+    journal: &SharedJournal<'_, J, F, S>,
     workers: u32,
     listener: &TcpListener,
 ) -> Result<(), AllocError> {
     let stopping = Stopping::new(alloc)?;
-    if policy != Policy::EachSecond {
+    let sharing = Sharing {
+        shared: journal.shared(),
+        seats,
+        settles: journal,
+    };
+    if journal.policy() != Policy::EachSecond {
         return work(rt, alloc, sharing, &stopping, workers, listener);
     }
     let ended = AtomicBool::new(false);
     let ((), worked) = join(
         rt,
-        || keep_beside(rt, sharing.settles, &stopping, &ended),
+        || keep_beside(rt, journal, &stopping, &ended),
         || {
             let worked = work(rt, alloc, sharing, &stopping, workers, listener);
             ended.store(true, Ordering::SeqCst);
@@ -96,16 +102,11 @@ fn served<
         Err(not) => return Err(Unserved::Refused(not.refusal)),
     };
     let seats = seated(alloc, seats, operator, service)?;
-    let policy = journaling.policy;
-    let settler = Settler::begin(alloc, handed, words, journaling.storage, policy)?;
-    let journal = SharedJournal::new(alloc, &shared, journaling.storage, settler);
-    let sharing = Sharing {
-        shared: &shared,
-        seats: &seats,
-        settles: &journal,
-    };
+    let Journaling { storage, policy } = journaling;
+    let settler = Settler::begin(alloc, handed, words, storage, policy)?;
+    let journal = SharedJournal::new(alloc, &shared, storage, settler);
     let workers = service.workers.max(1);
-    if work_beside(rt, alloc, &sharing, policy, workers, listener).is_err() {
+    if work_beside(rt, alloc, &seats, &journal, workers, listener).is_err() {
         return Err(Unserved::Refused(Refusal::NoMemory));
     }
     // What no reply told of is settled and kept too. Where that fails for good, nothing is left.

@@ -6,7 +6,6 @@ ghost use Rattle.workers.specs.Moments.{IsMoment};
 ghost use Rattle.workers.specs.Opening.{IsNameOf};
 ghost use Rattle.server.specs.Journaled.{IsLeftAfter, IsLeftBy};
 
-use crate::connections::Sharing;
 use crate::journals::{Journaling, Left, Noted, Unserved, begin_noting, journal_left};
 use crate::json_lines::JsonLines;
 use desk::{BrokerDesk, Seating};
@@ -15,7 +14,7 @@ use engine::serve;
 use journal_file::{Appender, Storage};
 use lasting::{Policy, Settler, SharedJournal};
 use named::Broker;
-use settling::{Settles, SettlingWriter};
+use settling::SettlingWriter;
 use std::alloc::Global;
 use std::marker::Brand;
 use std::sync::Wait;
@@ -26,20 +25,28 @@ use words::Refusal;
 use workers::Naming;
 
 /// Serves the requests of the reader to the writer, which are settled before each write.
-fn serve_settling<J: Naming, S: Settles, T: Wait, R: Reader, W: Writer>(
+fn serve_settling<
+    J: Naming,
+    F: Appender + Drop,
+    S: Storage<F>,
+    T: Wait,
+    R: Reader,
+    W: Writer,
+>(
     rt: &T,
     alloc: Global,
-    sharing: &Sharing<'_, J, S>,
+    seats: &Seating<J>,
+    journal: &SharedJournal<'_, J, F, S>,
     reader: &mut R,
     writer: &mut W,
 ) -> Result<(), Refusal>
     requires reader { R.failures reader.old < MAX_FAILURES }
     requires writer { W.failures writer.old < MAX_FAILURES }
 {
-    let Ok(mut desk) = BrokerDesk::new(alloc, sharing.shared, sharing.seats) else {
+    let Ok(mut desk) = BrokerDesk::new(alloc, journal.shared(), seats) else {
         return Err(Refusal::NoMemory);
     };
-    let mut settling = SettlingWriter::new(rt, sharing.settles, writer);
+    let mut settling = SettlingWriter::new(rt, journal, writer);
     serve::<T, JsonLines, _, _, _>(rt, alloc, reader, &mut settling, &mut desk)
 }
 
@@ -54,23 +61,23 @@ fn serve_beside<
 >(
     rt: &T,
     alloc: Global,
-    sharing: &Sharing<'_, J, SharedJournal<'_, J, F, S>>,
-    policy: Policy,
+    seats: &Seating<J>,
+    journal: &SharedJournal<'_, J, F, S>,
     reader: &mut R,
     writer: &mut W,
 ) -> Result<(), Refusal>
     requires reader { R.failures reader.old < MAX_FAILURES }
     requires writer { W.failures writer.old < MAX_FAILURES }
 {
-    if policy != Policy::EachSecond {
-        return serve_settling(rt, alloc, sharing, reader, writer);
+    if journal.policy() != Policy::EachSecond {
+        return serve_settling(rt, alloc, seats, journal, reader, writer);
     }
     let ended = AtomicBool::new(false);
     let ((), served) = join(
         rt,
-        || sharing.settles.keep_each_second(rt, &ended),
+        || journal.keep_each_second(rt, &ended),
         || {
-            let served = serve_settling(rt, alloc, sharing, reader, writer);
+            let served = serve_settling(rt, alloc, seats, journal, reader, writer);
             ended.store(true, Ordering::SeqCst);
             served
         },
@@ -107,15 +114,10 @@ fn served<
         Err(not) => return Err(Unserved::Refused(not.refusal)),
     };
     let seats = Seating::new(alloc, seats, operator)?;
-    let policy = journaling.policy;
-    let settler = Settler::begin(alloc, handed, words, journaling.storage, policy)?;
-    let journal = SharedJournal::new(alloc, &shared, journaling.storage, settler);
-    let sharing = Sharing {
-        shared: &shared,
-        seats: &seats,
-        settles: &journal,
-    };
-    let served = serve_beside(rt, alloc, &sharing, policy, reader, writer);
+    let Journaling { storage, policy } = journaling;
+    let settler = Settler::begin(alloc, handed, words, storage, policy)?;
+    let journal = SharedJournal::new(alloc, &shared, storage, settler);
+    let served = serve_beside(rt, alloc, &seats, &journal, reader, writer);
     // What no reply told of is settled and kept too. Where that fails for good, nothing is left.
     let _ = journal.settle_and_keep(rt);
     let settler = journal.into_settler();

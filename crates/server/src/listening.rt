@@ -136,14 +136,21 @@ pub(crate) fn work<
 >(
     rt: &R,
     alloc: Global,
-    sharing: &Sharing<'_, J, S>,
+    sharing: Sharing<'_, J, S>,
     stopping: &Stopping,
     workers: u32,
     listener: &TcpListener,
 ) -> Result<(), AllocError> {
     let (sender, connections) = bounded(alloc, workers as usize)?;
+    let Sharing {
+        shared,
+        seats,
+        settles,
+    } = sharing;
     let serving = Serving {
-        sharing,
+        shared,
+        seats,
+        settles,
         stopping,
         connections: &connections,
     };
@@ -193,13 +200,14 @@ fn served<J: Naming + Send + Sync, R: Threads + Wait + Net + Clock + Log + Sync>
     let Ok(stopping) = Stopping::new(alloc) else {
         return Err(Refusal::NoMemory);
     };
+    let settles = InMemory;
     let sharing = Sharing {
         shared: &shared,
         seats: &seats,
-        settles: &InMemory,
+        settles: &settles,
     };
     let workers = service.workers.max(1);
-    if work(rt, alloc, &sharing, &stopping, workers, listener).is_err() {
+    if work(rt, alloc, sharing, &stopping, workers, listener).is_err() {
         return Err(Refusal::NoMemory);
     }
     image_left(alloc, shared, seats)
