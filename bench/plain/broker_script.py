@@ -150,6 +150,8 @@ class Player:
     def __init__(self, clients, records):
         self.machine = BrokerMachine(clients, records)
         self.last = {}
+        # Of each client of a durable queue, by its slot: what its last dequeue since recovery got.
+        self.rows = {}
         self.remembered = []
 
     def play(self, statement):
@@ -200,8 +202,8 @@ class Player:
         numbers = read[machine.kind]
         call = machine.calls[numbers[0]] if numbers and numbers[0] < len(machine.calls) else None
         lines = script.play(machine, line, word, numbers)
-        if word in ("step", "end") and call and machine.kind == "log" and lines:
-            self.last[slot, call[0].client] = (call[0].number, call[0].reply)
+        if word in ("step", "end") and call and lines:
+            self.keep_reply(slot, machine, call[0])
         return [f"{name}: {said}" for said in lines]
 
     def ask(self, name, what, client, number, value):
@@ -233,9 +235,14 @@ class Player:
         call = None
         while not call:
             call = machine.step(client)
-        if number is not None:
-            self.last[slot, client] = (number, call.reply)
+        self.keep_reply(slot, machine, call)
         return call.reply
+
+    def keep_reply(self, slot, machine, call):
+        if machine.kind == "log":
+            self.last[slot, call.client] = (call.number, call.reply)
+        elif call.value is None:
+            self.rows[slot, call.client] = call.reply
 
     def told(self, name, client):
         slot, refusal = self.placed(name)
@@ -270,6 +277,7 @@ class Player:
 
     def hear(self):
         """What each client of a log queue is told is its last number."""
+        self.rows = {}
         self.last = {
             (slot, client): verdict_of(said)
             for slot, queue in enumerate(self.machine.queues) if queue and queue[1].kind == "log"
@@ -288,7 +296,17 @@ class Player:
         if self.machine.is_busy():
             return ["refused 10 Busy"]
         self.machine.rotate()
+        for slot, queue in enumerate(self.machine.queues):
+            if queue:
+                queue[2] = [self.kept_told(slot, queue, client) for client in range(len(queue[2]))]
         return ["rotated"]
+
+    def kept_told(self, slot, queue, client):
+        """What the kept words tell a client that has no call under way: a history begins with that."""
+        if queue[1].kind == "durable":
+            return self.rows.get((slot, client), queue[2][client])
+        number, reply = self.last.get((slot, client)) or (None, None)
+        return "none" if number is None else f"{number} {reply or 'nottaken'}"
 
     def renew(self, name):
         slot, refusal = self.placed(name)
@@ -317,7 +335,7 @@ class Player:
         except Broken as broken:
             rule = str(broken)
             return [f"refused {CODES.get(rule, f'29 Damaged {rule}')}"]
-        self.last = {}
+        self.last, self.rows = {}, {}
         return ["booted"]
 
 
