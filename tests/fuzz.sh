@@ -70,6 +70,7 @@ wrong() {
 wrong broker_machine.py 'self.cached = list(self.kept)' 'pass' 'broker (script|points)'
 wrong broker_machine.py 'self.recovery[1] += 1' 'pass' 'broker (script|points)'
 wrong broker_script.py 'was, self.remembered[word] = self.remembered[word], value' 'was = self.remembered[word]' broker
+wrong broker_script.py 'if number == known:' 'if False:' 'broker (script|points)'
 wrong broker.py 'if number < last:' 'if number <= last:' lines
 wrong broker.py 'self.is_down = True' 'self.is_down = False' lines
 wrong form.py '(?:[0-9a-f]{2})*' '(?:[0-9a-f]{2})+' lines

@@ -139,6 +139,7 @@ again durable 'call content crash order ready refused return' tests/memory/durab
 again log 'call content crash order ready refused return' tests/memory/log.script run
 words='booted call content crash created creating evict found image order queues ready recovering refused renewed'
 again broker "$words return rotated set told" tests/memory/broker.script broker run
+again numbers 'call content crash created order ready recovering refused reply return' tests/memory/numbers.script broker run
 printf '%s\n' 'broker 1 1' 'create a log 1' image > "$work/in"
 refuse 'pqx broker points' "$work/in" "$pqx" broker points
 printf '%s\n' '{"op":"create","queue":"a","kind":"log"}' '{"op":"put","client":0,"queue":"a","number":1,"value":"09000000"}' \

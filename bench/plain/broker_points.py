@@ -20,6 +20,17 @@ def step_of(statement):
     return statement, 0 if word in ("content", "order") else 1
 
 
+def asks_of(name, what, client, number, value):
+    """How what is asked begins, and its steps."""
+    one = {"durable": [client, 1], "log": [client, 1]}
+    steps = [(("on", name, "", "step", one), FORM.most_steps_alone)] if what != "begin" else []
+    if what == "plain":
+        words = [client] if value is None else [client, value]
+        word = "deq" if value is None else "enq"
+        return [(("on", name, word, word, {"durable": words}), 1), *steps]
+    return [(("ask", name, "begin", client, number, value), 1), *steps]
+
+
 def attempts_of(statement):
     """A line's acts, each with how many there are of it at most."""
     what = statement[0]
@@ -31,6 +42,8 @@ def attempts_of(statement):
         return [((what, 1), statement[1] if statement[1] >= 0 else MANY)]
     if what == "on":
         return [step_of(statement)]
+    if what == "ask":
+        return asks_of(*statement[1:])
     return [] if what in ("find", "list", "told", "again") else [(statement, 1)]
 
 

@@ -6,6 +6,7 @@ import re
 import script
 from broker import NAME
 from broker_machine import BrokerMachine, booted
+from form import FORM
 from image import Broken, image_of
 from script import number_of, numbers_of, printed, read
 
@@ -15,6 +16,9 @@ KINDS = {b"durable": "durable", b"log": "log"}
 # of each kind.
 WHOLE = {b"evict": "W", b"crash": "", b"again": ""}
 CODES = {"BadCount": "3 BadCount"}
+# What a client asks the session for, by its numbers before the call.
+ASKS = {b"request": "CN", b"plain": "C", b"begin": "CN"}
+CALLS = {b"enq": "V", b"deq": ""}
 
 
 def name_in(word):
@@ -42,6 +46,20 @@ def steps_in(words, what, most):
     return what, most
 
 
+def ask_in(name, words):
+    """`request C N CALL`, `plain C CALL`, `begin C N CALL`, where CALL is `enq V` or `deq`."""
+    shape = ASKS[words[0]]
+    at = 1 + len(shape)
+    if len(words) <= at or words[at] not in CALLS:
+        return None
+    numbers = numbers_of(words[1:at] + words[at + 1:], shape + CALLS[words[at]])
+    if numbers is None:
+        return None
+    number = numbers[1] if shape == "CN" else None
+    value = numbers[-1] if words[at] == b"enq" else None
+    return "ask", name, words[0].decode(), numbers[0], number, value
+
+
 def on_queue(words):
     """A line on one queue: of which kinds it is, and what it says."""
     name = name_in(words[0][:-1])
@@ -50,6 +68,8 @@ def on_queue(words):
     if words[1] == b"told":
         numbers = numbers_of(words[2:], "C")
         return numbers and ("told", name, numbers[0])
+    if words[1] in ASKS:
+        return ask_in(name, words[1:])
     if words[1] not in script.SHAPES or words[1] in WHOLE:
         return None
     line = b" ".join(words[1:]).decode("latin-1")
@@ -101,11 +121,37 @@ def parsed(text):
     return read(text, broker_in, next_statement)
 
 
+def verdict_of(told):
+    """The number and the reply that a client is told, None as the reply of one that was not taken; or nothing."""
+    if told == "none":
+        return None
+    number, reply = told.split(" ", 1)
+    return int(number), None if reply == "nottaken" else reply
+
+
+def by_number(last, number):
+    """What a number comes to by the last one that is known: its reply, a refusal, or None where it runs."""
+    if number == 0:
+        return None, "20 Old"
+    if last is None:
+        return None, None if number == 1 else "19 Gap"
+    known, reply = last
+    if number == known:
+        return reply, None
+    if number < known:
+        return None, "20 Old"
+    return None, None if reply is not None and number == known + 1 else "19 Gap"
+
+
 class Player:
-    """A broker that follows a script, and the words of the image that is remembered."""
+    """A broker that follows a script, the last number of each client that is known, by its slot, with its reply, and the
+    words of the image that is remembered."""
 
     def __init__(self, clients, records):
         self.machine = BrokerMachine(clients, records)
+        self.last = {}
+        # Of each client of a durable queue, by its slot: what its last dequeue since recovery got.
+        self.rows = {}
         self.remembered = []
 
     def play(self, statement):
@@ -153,7 +199,50 @@ class Player:
         machine = self.machine.queues[slot][1]
         if machine.kind not in read:
             return [f"{name}: refused 22 WrongKind"]
-        return [f"{name}: {said}" for said in script.play(machine, line, word, read[machine.kind])]
+        numbers = read[machine.kind]
+        call = machine.calls[numbers[0]] if numbers and numbers[0] < len(machine.calls) else None
+        lines = script.play(machine, line, word, numbers)
+        if word in ("step", "end") and call and lines:
+            self.keep_reply(slot, machine, call[0])
+        return [f"{name}: {said}" for said in lines]
+
+    def ask(self, name, what, client, number, value):
+        """What the session answers."""
+        slot, refusal = self.placed(name)
+        machine = None if refusal else self.machine.queues[slot][1]
+        reply, refusal = (None, refusal) if refusal else self.asked(slot, machine, client, number)
+        if reply is None and refusal is None:
+            refusal = machine.start(client, number, value)
+            if refusal is None and what == "begin":
+                said = "deq" if value is None else f"enq {FORM.text(value)}"
+                return [f"{name}: call begin {client} {number} {said}"]
+            reply = None if refusal else self.served(slot, machine, client, number)
+        asked = str(client) if number is None else f"{client} {number}"
+        return [f"{name}: refused {refusal}" if refusal else f"{name}: reply {asked} {reply}"]
+
+    def asked(self, slot, machine, client, number):
+        """The kept reply, or the refusal, or neither, where it runs."""
+        if client >= len(machine.calls):
+            return None, "13 NoClient"
+        if machine.kind != ("durable" if number is None else "log"):
+            return None, "22 WrongKind"
+        if machine.calls[client]:
+            return None, "10 Busy"
+        return (None, None) if number is None else by_number(self.last.get((slot, client)), number)
+
+    def served(self, slot, machine, client, number):
+        """The call goes on to its end."""
+        call = None
+        while not call:
+            call = machine.step(client)
+        self.keep_reply(slot, machine, call)
+        return call.reply
+
+    def keep_reply(self, slot, machine, call):
+        if machine.kind == "log":
+            self.last[slot, call.client] = (call.number, call.reply)
+        elif call.value is None:
+            self.rows[slot, call.client] = call.reply
 
     def told(self, name, client):
         slot, refusal = self.placed(name)
@@ -181,9 +270,19 @@ class Player:
         while most != 0:
             steps = self.machine.recover_step()
             if steps:
+                self.hear()
                 return [f"ready steps {steps}", *self.tellings()]
             most -= 1
         return ["recovering"]
+
+    def hear(self):
+        """What each client of a log queue is told is its last number."""
+        self.rows = {}
+        self.last = {
+            (slot, client): verdict_of(said)
+            for slot, queue in enumerate(self.machine.queues) if queue and queue[1].kind == "log"
+            for client, said in enumerate(queue[2])
+        }
 
     def tellings(self):
         return [
@@ -197,7 +296,17 @@ class Player:
         if self.machine.is_busy():
             return ["refused 10 Busy"]
         self.machine.rotate()
+        for slot, queue in enumerate(self.machine.queues):
+            if queue:
+                queue[2] = [self.kept_told(slot, queue, client) for client in range(len(queue[2]))]
         return ["rotated"]
+
+    def kept_told(self, slot, queue, client):
+        """What the kept words tell a client that has no call under way: a history begins with that."""
+        if queue[1].kind == "durable":
+            return self.rows.get((slot, client), queue[2][client])
+        number, reply = self.last.get((slot, client)) or (None, None)
+        return "none" if number is None else f"{number} {reply or 'nottaken'}"
 
     def renew(self, name):
         slot, refusal = self.placed(name)
@@ -226,16 +335,20 @@ class Player:
         except Broken as broken:
             rule = str(broken)
             return [f"refused {CODES.get(rule, f'29 Damaged {rule}')}"]
+        self.last, self.rows = {}, {}
         return ["booted"]
 
 
 def check_orders(text):
     """The first order in a transcript that does not explain what came before it on its queue, or None. Of a queue whose
-    history began anew, by a rotation, a renewal or a boot, only the calls before that are looked at."""
+    history began anew, by a rotation, a renewal or a boot, only the calls before that are looked at, and of one whose
+    session was asked none: a reply does not say to which call."""
     lines = re.split(rb"(?m)^(?:rotated|renewed|booted)\n", text)[0].splitlines()
     names = {line.split(b":")[0] for line in lines if re.match(rb"[a-z0-9_-]+: ", line)}
     for name in sorted(names):
         own = [line.removeprefix(name + b": ") for line in lines if line == b"crash" or line.startswith(name + b": ")]
+        if any(re.match(rb"reply |call begin ", line) for line in own):
+            continue
         broken = script.check_orders(b"\n".join(own))
         if broken:
             return f"{name.decode()}: {broken}"

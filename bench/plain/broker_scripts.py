@@ -21,6 +21,8 @@ class Writer:
         self.numbers = {}
         self.values = 0
         self.has_image = False
+        # Whether clients ask the session, too.
+        self.asks = draw.random() < 0.5
 
     def name(self):
         known = list(self.kinds)
@@ -50,6 +52,23 @@ class Writer:
             words.append(FORM.text(FORM.drawn(self.values)))
         return words
 
+    def ask(self):
+        """A session's client asks: most often for its next number, or for the last one again."""
+        draw, name, client = self.draw, self.name(), self.client()
+        what = draw.choices(["request", "begin", "plain"], [6, 4, 1])[0]
+        if draw.random() < 0.9:
+            what = "plain" if self.kinds.get(name, "log") == "durable" else what if what != "plain" else "request"
+        words = [name + ":", what, client]
+        if what != "plain":
+            last = self.numbers.get((name, client), 0)
+            number = max(0, last + draw.choices([1, 0, -1, 2], [12, 8, 1, 1])[0])
+            self.numbers[name, client] = max(number, last) if number <= last + 1 else last
+            words.append(number)
+        if draw.random() < 0.6:
+            self.values += 1
+            return [*words, "enq", FORM.text(FORM.drawn(self.values))]
+        return [*words, "deq"]
+
     def word(self):
         """A word that may well differ: of the directory, or of one of the first queues."""
         draw = self.draw
@@ -70,6 +89,7 @@ class Writer:
         draw = self.draw
         acts = {"creation": 8, "create-step": 6, "call": 30, "step": 45, "end": 10, "evict": 14, "crash": 4}
         acts |= {"recover": 6, "image": 8, "rotate": 3, "renew": 5, "show": 8, "again": 2}
+        acts |= {"ask": 40, "call": 6} if self.asks else {}
         what = draw.choices(list(acts), list(acts.values()))[0]
         if what == "creation":
             return self.creation()
@@ -77,6 +97,8 @@ class Writer:
             return [[what]] if draw.random() < 0.5 else [[what, draw.randrange(1, 13)]]
         if what == "call":
             return [self.call()]
+        if what == "ask":
+            return [self.ask()]
         if what == "step":
             return [[self.name() + ":", "step", self.client(), draw.choice([1, 1, 2, 3, 5, 9, 14, 20])]]
         if what == "end":

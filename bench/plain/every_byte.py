@@ -55,6 +55,8 @@ BROKER_SCRIPTS = [
     b"#\n\nbroker 1 2\nboot\nset 0 1\ncreate a log\ncreate _-9 durable 1\ncreate-step\ncreate-step 11\nfind a\nlist\n"
     b"a: enq 0 1 05\na: step 0 37\na: told 0\n_-9: deq 0\n_-9: end 0\nimage\nset 5 2\nboot\nset 5 1\nboot\nrecover 1\n"
     b"recover\nrenew a\nrecover\nrotate\nevict 5\ncrash\n",
+    b"broker 1 4\ncreate a log\na: request 0 1 enq 05\na: begin 0 2 deq\na: end 0\na: request 0 2 deq\n"
+    b"create b durable\nb: plain 0 enq .\nb: plain 0 deq\ncrash\na: request 0 2 enq 1f\n",
 ]
 # Of the scripts those are tried whose change puts one of these bytes, or none, and of the others one of so many.
 NEAR = b"\n 0#9"

@@ -3,12 +3,14 @@ use Rattle.std.specs.Prelude.{◌≡◌, ℕ, List, [], ◌∷◌, ◌++◌, Non
 use Rattle.arena.specs.Broker.{broker_size}
 use Rattle.arena.specs.Shape.{Counts}
 use Rattle.grammar.specs.declared.commands.Command.TheVariants.{Evict, Crash, Recover}
-use Rattle.named.specs.Brokers.{Brokered, IsNew}
+use Rattle.named.specs.Brokers.{IsNew}
 use Rattle.named.specs.GoingOn.{BrokerGoesOn}
 use Rattle.named.specs.Promises.{AreExplained}
+use Rattle.session.specs.Keeping.{SessionGoesOn}
+use Rattle.session.specs.Sessions.{Sessioned}
 use Rattle.explore.specs.Points.{evicted_words}
 use Rattle.explore.specs.declared.evictions.Evictions.{Evictions}
-use Rattle.broker_script.specs.Play.{Played, new_played}
+use Rattle.broker_script.specs.Play.{Played, new_played, session_of}
 use Rattle.broker_script.specs.Transcript.{FollowsLine}
 use Rattle.broker_script.specs.declared.printed.Printed.{Printed}
 use Rattle.broker_script.specs.declared.statements.Statement.{Statement}
@@ -33,20 +35,21 @@ evictions_at c evictions point = map eviction (evicted_words evictions (broker_s
 abbrev pub downtime : List Statement
 downtime = whole Crash ∷ whole Recover ∷ []
 
--- the line of a point. A new broker made these acts, then the environment kept words, everything stopped, and the
--- broker recovered: each queue that it had is there and its history goes on, and each history is explained by its order,
--- which leaves what the queue holds
+-- the line of a point. A session over a new broker made these acts, then the environment kept words, everything stopped,
+-- and the broker recovered: each queue that it had is there and its history goes on, each history is explained by its
+-- order, which leaves what the queue holds, and each number that was settled is so, with the same reply
 pub record IsPointAfter (c : Counts) (acts : List Statement) (evictions : Evictions) (point : ℕ) (text : List ℕ)
     : Type 0 where
-  pub broker : Brokered
-  pub made : IsNew c broker
+  pub session : Sessioned
+  pub made : IsNew c session.broker
   pub stopping : Played
-  pub acted : Leads (new_played broker) (acts ++ evictions_at c evictions point) stopping
+  pub acted : Leads (new_played session) (acts ++ evictions_at c evictions point) stopping
   pub found : Played
   pub recovered : Leads stopping downtime found
   pub ready : found.broker.recovery ≡ None
   pub goes_on : BrokerGoesOn stopping.broker found.broker
   pub explained : AreExplained found.broker
+  pub settled : SessionGoesOn (session_of stopping) (session_of found)
   pub is : text ≡ point_text point found
 
 -- that of a crash after the first of these acts, so many of them

@@ -5,7 +5,8 @@ use Rattle.std.specs.List.{AllZip, concat, range_with_len}
 use Rattle.arena.specs.Shape.{Counts}
 use Rattle.devices.specs.Devices.{AppendsBeginning}
 use Rattle.grammar.specs.Lines.{lines_of}
-use Rattle.named.specs.Brokers.{Brokered, IsNew}
+use Rattle.named.specs.Brokers.{IsNew}
+use Rattle.session.specs.Sessions.{Sessioned}
 use Rattle.explore.specs.declared.evictions.Evictions.{Evictions}
 use Rattle.broker_script.specs.Play.{new_played}
 use Rattle.broker_script.specs.Script.{Says}
@@ -28,10 +29,10 @@ pub record IsReportOn (c : Counts) (acts : List Statement) (evictions : Eviction
 -- that on the acts of some lines
 pub record IsReportOf (c : Counts) (statements : List Statement) (evictions : Evictions) (text : List ℕ)
     : Type 0 where
-  pub broker : Brokered
-  pub made : IsNew c broker
+  pub session : Sessioned
+  pub made : IsNew c session.broker
   pub acts : List Statement
-  pub are : AreActsOf (new_played broker) statements acts
+  pub are : AreActsOf (new_played session) statements acts
   pub report : IsReportOn c acts evictions text
 
 -- and that on a script: it is empty where there is no broker

@@ -2,7 +2,9 @@
 
 ghost use Rattle.std.specs.Prelude.{◌≡◌, ◌++◌, ◌∷◌, [], None, true, false, IsTrue, OnOk, IfOk, IfErr, length, map, replicate};
 ghost use Rattle.named.specs.GoingOn.{BrokerGoesOn};
+ghost use Rattle.session.specs.Keeping.{SessionGoesOn};
 ghost use Rattle.broker_script.specs.Grammar.{IsServedBroker};
+ghost use Rattle.broker_script.specs.Play.{session_of};
 ghost use Rattle.broker_script.specs.Standing.{keeps_queues, QueuesStay};
 ghost use Rattle.broker_script.specs.Transcript.{FollowsLine};
 ghost use Rattle.broker_points.specs.Points.{downtime, eviction, IsPointAfter, Leads};
@@ -126,6 +128,7 @@ fn stop_and_recover(alloc: Global, player: &mut Player) -> Result<(), Refusal>
     ensures leads { OnOk result (Leads player.old downtime player.new) }
     ensures ready { OnOk result (player.new.broker.recovery ≡ None) }
     ensures goes_on { OnOk result (BrokerGoesOn player.old.broker player.new.broker) }
+    ensures settled { OnOk result (SessionGoesOn (session_of player.old) (session_of player.new)) }
     ensures errors { IfErr result (λ e. e ≡ Refusal.NoMemory) }
 {
     let crash = Statement::Whole {

@@ -6,9 +6,10 @@ use Rattle.words.specs.declared.refusal.Refusal.TheVariants.{BadCount, NoMemory}
 use Rattle.persist.specs.Image.{image_of, reading}
 use Rattle.persist.specs.Memory.{words_at_rest}
 use Rattle.named.specs.Booting.{AreBootWords, IsBooted, MayRefuse}
-use Rattle.named.specs.Brokers.{Brokered}
+use Rattle.session.specs.Keeping.{AreKeptAsHeard}
+use Rattle.session.specs.Sessions.{Sessioned}
 use Rattle.broker_script.specs.Imaging.{boot_line, digest_of, Boots, Images, IsOfBadCount}
-use Rattle.broker_script.specs.Play.{Played, new_played}
+use Rattle.broker_script.specs.Play.{Played, new_played, session_of}
 use Rattle.broker_script.specs.declared.printed.Printed.{Printed}
 use Rattle.broker_script.specs.declared.printed.Printed.TheVariants.{Booted, Image}
 
@@ -24,12 +25,12 @@ imaged old new bytes words digest size lines is read again sized digested kept l
       remembered = kept ∙ ap (λ (w : List ℕ). record old { image = w }) same;
     }
 
-never_made : (r : Result Brokered Refusal) (broker : Brokered) → r ≡ Ok broker
+never_made : (r : Result Sessioned Refusal) (s : Sessioned) → r ≡ Ok s
     → (r ≡ Err BadCount) ⊎ (r ≡ Err NoMemory) → ⊥
-never_made r broker made (inl none) = absurd (cc)
-never_made r broker made (inr none) = absurd (cc)
+never_made r s made (inl none) = absurd (cc)
+never_made r s made (inr none) = absurd (cc)
 
-counted : (r : Result Brokered Refusal) (refusal : Refusal) → refusal ≢ NoMemory → r ≡ Err refusal
+counted : (r : Result Sessioned Refusal) (refusal : Refusal) → refusal ≢ NoMemory → r ≡ Err refusal
     → (r ≡ Err BadCount) ⊎ (r ≡ Err NoMemory) → refusal ≡ BadCount
 counted r refusal other is (inl count) = cc
 counted r refusal other is (inr none) = absurd (other (cc))
@@ -40,24 +41,26 @@ reason : (ws : List ℕ) (refusal : Refusal) → refusal ≢ NoMemory
 reason ws refusal other (inl none) = absurd (other none)
 reason ws refusal other (inr why) = why
 
-pub boots_made : (old new : Played) (ws : List ℕ) (r : Result Brokered Refusal) (broker : Brokered) (lines : List Printed)
-    → ws ≡ old.image → r ≡ Ok broker → IsBooted (words_at_rest ws) broker → AreBootWords ws
+pub boots_made : (old new : Played) (ws : List ℕ) (r : Result Sessioned Refusal) (s : Sessioned) (lines : List Printed)
+    → ws ≡ old.image → r ≡ Ok s → IsBooted (words_at_rest ws) s.broker → AreKeptAsHeard s.broker s.kept → AreBootWords ws
     → (length ws ≡ 0 → (r ≡ Err BadCount) ⊎ (r ≡ Err NoMemory))
-    → new ≡ record (new_played broker) { image = old.image } → lines ≡ Booted ∷ [] → Boots old lines new
-boots_made old new ws r broker lines image made booted sound none begins line =
-    let is : new.broker ≡ broker = ap (λ (p : Played). p.broker) begins in
+    → new ≡ record (new_played s) { image = old.image } → lines ≡ Booted ∷ [] → Boots old lines new
+boots_made old new ws r s lines image made booted kept sound none begins line =
+    let is : session_of new ≡ s = ap session_of begins in
     record {
       result = Ok tt;
       line = line;
       sound = subst AreBootWords image sound;
-      booted = subst (IsBooted (words_at_rest old.image)) (sym is) (subst (λ (w : List ℕ). IsBooted (words_at_rest w) broker) image booted);
-      begins = begins ∙ ap (λ (b : Brokered). record (new_played b) { image = old.image }) (sym is);
+      booted = subst (λ (x : Sessioned). IsBooted (words_at_rest old.image) x.broker) (sym is)
+          (subst (λ (w : List ℕ). IsBooted (words_at_rest w) s.broker) image booted);
+      kept = subst (λ (x : Sessioned). AreKeptAsHeard x.broker x.kept) (sym is) kept;
+      begins = begins ∙ ap (λ (x : Sessioned). record (new_played x) { image = old.image }) (sym is);
       errors = tt;
-      none = λ zero. absurd (never_made r broker made (none (ap length image ∙ zero)));
+      none = λ zero. absurd (never_made r s made (none (ap length image ∙ zero)));
       same = tt;
     }
 
-pub boots_not : (old : Played) (ws : List ℕ) (r : Result Brokered Refusal) (refusal : Refusal) (lines : List Printed)
+pub boots_not : (old : Played) (ws : List ℕ) (r : Result Sessioned Refusal) (refusal : Refusal) (lines : List Printed)
     → ws ≡ old.image → r ≡ Err refusal → (refusal ≡ NoMemory) ⊎ (IsOfBadCount ws refusal ⊎ MayRefuse ws refusal)
     → (length ws ≡ 0 → (r ≡ Err BadCount) ⊎ (r ≡ Err NoMemory))
     → (refusal ≢ NoMemory) × (lines ≡ boot_line (Err refusal) ∷ []) → Boots old lines old
@@ -68,6 +71,7 @@ boots_not old ws r refusal lines image is why none said =
       line = said.1;
       sound = tt;
       booted = tt;
+      kept = tt;
       begins = tt;
       errors = record {
         memory = other;

@@ -1,4 +1,5 @@
 pub mod OtherLines
+pub mod Cuts
 pub mod Words
 pub mod Scripts
 pub mod Worlds
@@ -8,6 +9,7 @@ pub mod Staying
 pub mod Making
 pub mod Going
 pub mod PutOffs
+pub mod Asked
 pub mod Again
 pub mod Printing
 mod Imaged

@@ -4,7 +4,7 @@ use Rattle.std.specs.Prelude.{Option, Some, None, MatchOption}
 use Rattle.broker_script.specs.Grammar.{SaysStatement}
 use Rattle.broker_script.specs.Rows.{IsNoCreation, IsOfNoQueue, IsOfNoImage, IsOfNoBroker}
 use Rattle.broker_script.specs.declared.statements.Statement.{Statement}
-use Rattle.broker_script.specs.declared.statements.Statement.TheVariants.{Create, BeginCreation, CreateStep, CreateSteps, Find, List as list_queues, Rotate, Renew, Image, SetWord, Boot, Whole, On, Told}
+use Rattle.broker_script.specs.declared.statements.Statement.TheVariants.{Create, BeginCreation, CreateStep, CreateSteps, Find, List as list_queues, Rotate, Renew, Image, SetWord, Boot, Whole, On, Told, Asks}
 
 none_of : (line : List ℕ) → IsNoCreation line → IsOfNoQueue line → IsOfNoImage line → IsOfNoBroker line → (statement : Statement)
     → SaysStatement line statement → ⊥
@@ -22,6 +22,7 @@ none_of line creation queue image broker Boot = image.boot
 none_of line creation queue image broker (Whole command) = broker.whole command
 none_of line creation queue image broker (On name command) = queue.on name command
 none_of line creation queue image broker (Told name client) = queue.told name client
+none_of line creation queue image broker (Asks name ask) = queue.asks name ask
 
 pub no_row : (line : List ℕ) → IsNoCreation line → IsOfNoQueue line → IsOfNoImage line → (r : Option Statement)
     → MatchOption r (IsOfNoBroker line) (SaysStatement line)

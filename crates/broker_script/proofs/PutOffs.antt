@@ -1,6 +1,7 @@
 -- What is refused for want of memory changes nothing but room, and how many accesses the memory had.
-use Rattle.std.proofs.Common.{◌≡◌, ◌≢◌, refl, sym, ap, ◌∙◌, subst, inl, inr, ℕ, ◌≤◌, arith, Bool, true, false, ◌==◌, if◌then◌else◌}
+use Rattle.std.proofs.Common.{◌≡◌, ◌≢◌, ◌⊎◌, refl, sym, ap, ◌∙◌, subst, inl, inr, ℕ, ◌≤◌, arith, Bool, true, false, List, ◌==◌, if◌then◌else◌}
 use borrow.Author.Tests.{ltb-false}
+use Rattle.std.proofs.lemmas.Bool.{cases_eq}
 use Rattle.std.proofs.lemmas.Bool.Decides.{eqb_tells}
 use Rattle.std.specs.Prelude.{Option, Some, None, Result, Ok, Err, IfErr, IsErrOf, OnErr, is_ok, nat_lt}
 use Rattle.words.specs.declared.call.Call.{Call}
@@ -14,11 +15,15 @@ use Rattle.interleave.specs.Calls.{waiting_result}
 use Rattle.interleave.specs.Rules.{starting, stepping}
 use Rattle.interleave.specs.State.{State, after_bump_load, after_call_began, after_recover, after_start, after_step, number_to_start, recover_result, recover_with, start_with, step_with, used_by, is_down}
 use Rattle.named.specs.Acting.{IsActAt, IsSameBeside}
-use Rattle.named.specs.Brokers.{Brokered, admission, quiet, world_at}
+use Rattle.named.specs.Brokers.{Brokered, admission, quiet, world_after, world_at}
 use Rattle.named.specs.Slots.{acted, answered}
 use Rattle.named.specs.Stopping.{IsQueueOn, IsQueueRecovered, IsRecoveryStep, IsSameButRoom}
 use Rattle.named.specs.declared.recovery.BrokerRecovery.{BrokerRecovery}
 use Rattle.named.specs.declared.recovery.BrokerRecovery.TheVariants.{ReadDirectory, RecoverQueue}
+use Rattle.session.specs.Keeping.{IsKeptNow}
+use Rattle.session.specs.Requests.{IsAdvanced, last_after}
+use Rattle.session.specs.Sessions.{Sessioned, kept_in}
+use Rattle.words.specs.declared.told.Verdict.{Verdict}
 use Rattle.broker_script.specs.Play.{Played}
 use Rattle.broker_script.specs.PutOff.{IsAsBefore, IsPutOff, PutsOff}
 use Rattle.playing.specs.declared.put_off.Unfollowed.{Unfollowed}
@@ -29,7 +34,20 @@ as_before b = record { counts = refl; worlds = λ slot. refl; directory = refl; 
 
 -- a line of which nothing was made
 pub nothing_made : (p : Played) → IsPutOff p p
-nothing_made p = record { broker = as_before p.broker; others = refl }
+nothing_made p = record { broker = as_before p.broker; kept = λ slot client. refl; others = refl }
+
+-- what is kept now in one place is what was kept
+pub still_kept : (old new : List (List (Option Verdict))) (slot client : ℕ) (last : Option Verdict)
+    → IsKeptNow old new slot client last → last ≡ kept_in old slot client
+    → (at other : ℕ) → kept_in new at other ≡ kept_in old at other
+still_kept old new slot client last now same at other = go (cases_eq at slot) (cases_eq other client)
+  where
+    go : (at ≡ slot) ⊎ (at ≢ slot) → (other ≡ client) ⊎ (other ≢ client) → kept_in new at other ≡ kept_in old at other
+    go (inl here) (inl it) =
+        ap (λ (n : ℕ). kept_in new n other) here ∙ ap (λ (n : ℕ). kept_in new slot n) it ∙ now.here ∙ same
+        ∙ sym (ap (λ (n : ℕ). kept_in old n other) here ∙ ap (λ (n : ℕ). kept_in old slot n) it)
+    go (inl here) (inr apart) = now.others at other (inr apart)
+    go (inr apart) it = now.others at other (inl apart)
 
 -- but for the room nothing changed
 pub roomier : (old new : Brokered) → IsSameButRoom old new → IsAsBefore old new
@@ -85,13 +103,18 @@ quiet_after : (f : State → State) → ((w : State) → quiet (Some (f w)) ≡ 
 quiet_after f same true o = quiet_acted f same o
 quiet_after f same false o = refl
 
+pub start_left : (old new : Brokered) (slot : ℕ) (client : Client) (number : ℕ) (call : Call)
+    → world_at new slot ≡ world_after (λ w. after_start true w client number call) old slot client
+    → IsSameBeside slot old new → IsAsBefore old new
+start_left old new slot client number call world beside =
+    let f : State → State = λ w. after_start true w client number call in
+    beside_one slot old new beside (ap quiet world
+    ∙ quiet_after f (λ w. start_quiet w client call (number_to_start w client number)) (is_ok (admission old client)) (world_at old slot))
+
 start_refused : (old new : Brokered) (slot : ℕ) (client : Client) (number : ℕ) (call : Call)
     → IsActAt (starting client number call) slot client old (Err NoMemory) new → IsSameBeside slot old new
     → IsAsBefore old new
-start_refused old new slot client number call act beside =
-    let f : State → State = λ w. after_start true w client number call in
-    beside_one slot old new beside (ap quiet act.world
-    ∙ quiet_after f (λ w. start_quiet w client call (number_to_start w client number)) (is_ok (admission old client)) (world_at old slot))
+start_refused old new slot client number call act beside = start_left old new slot client number call act.world beside
 
 step_refused : (old new : Brokered) (slot : ℕ) (client : Client)
     → IsActAt (stepping client) slot client old (Err NoMemory) new → IsSameBeside slot old new → IsAsBefore old new
@@ -136,44 +159,60 @@ recovery_refused_at old new (Some (RecoverQueue slot)) step = queue_refused old 
 recovery_refused : (old new : Brokered) → IsRecoveryStep old new (Err NoMemory) old.recovery → IsAsBefore old new
 recovery_refused old new step = recovery_refused_at old new old.recovery step
 
--- a player whose broker was refused memory
-module _ (p inside : Played) (is : inside ≡ p) (b : Brokered) where
-  put_off : IsAsBefore inside.broker b → IsPutOff p (record inside { broker = b })
-  put_off by = record {
-    broker = subst (λ (x : Played). IsAsBefore x.broker b) is by;
-    others = ap (λ (x : Played). record x { broker = b }) is;
+-- a player whose session was refused memory
+module _ (p inside : Played) (is : inside ≡ p) (s : Sessioned) where
+  pub put_off : IsAsBefore inside.broker s.broker
+      → ((slot client : ℕ) → kept_in s.kept slot client ≡ kept_in inside.kept slot client)
+      → IsPutOff p (record inside { broker = s.broker; kept = s.kept })
+  put_off by kept = record {
+    broker = subst (λ (x : Played). IsAsBefore x.broker s.broker) is by;
+    kept = λ slot client. kept slot client ∙ ap (λ (x : Played). kept_in x.kept slot client) is;
+    others = ap (λ (x : Played). record x { broker = s.broker; kept = s.kept }) is;
   }
 
 -- by which refusal it was
-pub start_put_off : (p inside : Played) → inside ≡ p → (b : Brokered) (slot : ℕ) (client : Client) (number : ℕ) (call : Call)
-    (refusal : Refusal) → refusal ≡ NoMemory
-    → IsActAt (starting client number call) slot client inside.broker (Err refusal) b → IsSameBeside slot inside.broker b
-    → IsPutOff p (record inside { broker = b })
-start_put_off p inside is b slot client number call refusal memory act beside =
-    put_off p inside is b (start_refused inside.broker b slot client number call
-    (subst (λ (e : Refusal). IsActAt (starting client number call) slot client inside.broker (Err e) b) memory act) beside)
+pub start_put_off : (p inside : Played) → inside ≡ p → (s : Sessioned) (slot : ℕ) (client : Client) (number : ℕ)
+    (call : Call) (refusal : Refusal) → refusal ≡ NoMemory
+    → IsActAt (starting client number call) slot client inside.broker (Err refusal) s.broker
+    → IsSameBeside slot inside.broker s.broker → s.kept ≡ inside.kept
+    → IsPutOff p (record inside { broker = s.broker; kept = s.kept })
+start_put_off p inside is s slot client number call refusal memory act beside kept =
+    put_off p inside is s (start_refused inside.broker s.broker slot client number call
+    (subst (λ (e : Refusal). IsActAt (starting client number call) slot client inside.broker (Err e) s.broker) memory act) beside)
+    (λ at other. ap (λ k. kept_in k at other) kept)
 
-pub step_put_off : (p inside : Played) → inside ≡ p → (b : Brokered) (slot : ℕ) (client : Client) (refusal : Refusal)
-    → refusal ≡ NoMemory → IsActAt (stepping client) slot client inside.broker (Err refusal) b
-    → IsSameBeside slot inside.broker b → IsPutOff p (record inside { broker = b })
-step_put_off p inside is b slot client refusal memory act beside =
-    put_off p inside is b (step_refused inside.broker b slot client
-    (subst (λ (e : Refusal). IsActAt (stepping client) slot client inside.broker (Err e) b) memory act) beside)
+pub step_put_off : (p inside : Played) → inside ≡ p → (s : Sessioned) (slot : ℕ) (client : Client) (number : Option ℕ)
+    (refusal : Refusal) → refusal ≡ NoMemory → IsAdvanced inside.broker s.broker slot client (Err refusal)
+    → IsKeptNow inside.kept s.kept slot client.0 (last_after number (Err refusal) (kept_in inside.kept slot client.0))
+    → IsPutOff p (record inside { broker = s.broker; kept = s.kept })
+step_put_off p inside is s slot client number refusal memory by kept =
+    put_off p inside is s (step_refused inside.broker s.broker slot client
+    (subst (λ (e : Refusal). IsActAt (stepping client) slot client inside.broker (Err e) s.broker) memory by.act) by.beside)
+    (still_kept inside.kept s.kept slot client.0 _ kept (unheard number))
+  where
+    unheard : (o : Option ℕ) → last_after o (Err refusal) (kept_in inside.kept slot client.0)
+        ≡ kept_in inside.kept slot client.0
+    unheard (Some n) = refl
+    unheard None = refl
 
-pub recovery_put_off : (p inside : Played) → inside ≡ p → (b : Brokered) (refusal : Refusal) → refusal ≡ NoMemory
-    → IsRecoveryStep inside.broker b (Err refusal) inside.broker.recovery → IsPutOff p (record inside { broker = b })
-recovery_put_off p inside is b refusal memory step =
-    put_off p inside is b (recovery_refused inside.broker b
-    (subst (λ (e : Refusal). IsRecoveryStep inside.broker b (Err e) inside.broker.recovery) memory step))
+pub recovery_put_off : (p inside : Played) → inside ≡ p → (s : Sessioned) (refusal : Refusal) → refusal ≡ NoMemory
+    → IsRecoveryStep inside.broker s.broker (Err refusal) inside.broker.recovery → s.kept ≡ inside.kept
+    → IsPutOff p (record inside { broker = s.broker; kept = s.kept })
+recovery_put_off p inside is s refusal memory step kept =
+    put_off p inside is s (recovery_refused inside.broker s.broker
+    (subst (λ (e : Refusal). IsRecoveryStep inside.broker s.broker (Err e) inside.broker.recovery) memory step))
+    (λ at other. ap (λ k. kept_in k at other) kept)
 
-pub crash_put_off : (p inside : Played) → inside ≡ p → (b : Brokered) → IsSameButRoom inside.broker b
-    → IsPutOff p (record inside { broker = b })
-crash_put_off p inside is b by = put_off p inside is b (roomier inside.broker b by)
+pub crash_put_off : (p inside : Played) → inside ≡ p → (s : Sessioned) → IsSameButRoom inside.broker s.broker
+    → s.kept ≡ inside.kept → IsPutOff p (record inside { broker = s.broker; kept = s.kept })
+crash_put_off p inside is s by kept =
+    put_off p inside is s (roomier inside.broker s.broker by) (λ at other. ap (λ k. kept_in k at other) kept)
 
-pub same_put_off : (p inside : Played) → inside ≡ p → (b : Brokered) → b ≡ inside.broker
-    → IsPutOff p (record inside { broker = b })
-same_put_off p inside is b same =
-    put_off p inside is b (subst (IsAsBefore inside.broker) (sym same) (as_before inside.broker))
+pub same_put_off : (p inside : Played) → inside ≡ p → (s : Sessioned) → s.broker ≡ inside.broker → s.kept ≡ inside.kept
+    → IsPutOff p (record inside { broker = s.broker; kept = s.kept })
+same_put_off p inside is s same kept =
+    put_off p inside is s (subst (IsAsBefore inside.broker) (sym same) (as_before inside.broker))
+    (λ at other. ap (λ k. kept_in k at other) kept)
 
 -- what is left of a line that gave nothing, where nothing changed
 pub unchanged : {A : Type 0} (r : Result A Unfollowed) (old new : Played) → new ≡ old → PutsOff old r new

@@ -26,9 +26,12 @@ use Rattle.named.specs.declared.recovery.BrokerRecovery.{BrokerRecovery}
 use Rattle.named.specs.declared.recovery.BrokerRecovery.TheVariants.{ReadDirectory, RecoverQueue}
 use Rattle.named.specs.declared.slot.Slot.{Slot}
 use Rattle.named.specs.declared.slot.Slot.TheVariants.{Closed, Open}
+use Rattle.broker_script.specs.Asking.{FollowsAsked}
 use Rattle.broker_script.specs.Creating.{Creates, IsBegunOn, stays, opens, ends, goes_on}
 use Rattle.broker_script.specs.OnQueue.{Follows, FollowsPlaced, IsRefusedOn, has_line}
-use Rattle.broker_script.specs.Play.{Played, the_world}
+use Rattle.broker_script.specs.Play.{Played, session_of, the_world}
+use Rattle.session.specs.Keeping.{SessionGoesOn}
+use Rattle.session.specs.Sessions.{Sessioned}
 use Rattle.broker_script.specs.Recovering.{Recovers, RecoversBy, ready, ends_ready, goes_on_ready, stays_by, ready_by, ends_by, goes_on_by}
 use Rattle.broker_script.specs.Renewing.{RenewsPlaced}
 use Rattle.broker_script.specs.Standing.{keeps_queues, QueuesStay}
@@ -40,8 +43,9 @@ use Rattle.named.proofs.GoingOn.{broker_goes_further}
 use Rattle.playing.specs.declared.lines.Line.TheVariants.{Refused}
 use Rattle.broker_script.specs.declared.printed.Printed.{Printed}
 use Rattle.broker_script.specs.declared.printed.Printed.TheVariants.{Whole}
+use Rattle.broker_script.specs.declared.statements.Ask.{Ask}
 use Rattle.broker_script.specs.declared.statements.Statement.{Statement}
-use Rattle.broker_script.specs.declared.statements.Statement.TheVariants.{Create, BeginCreation, CreateStep, CreateSteps, Find, List as list_queues, Rotate, Renew, Image, SetWord, Boot, Whole as whole, On, Told}
+use Rattle.broker_script.specs.declared.statements.Statement.TheVariants.{Create, BeginCreation, CreateStep, CreateSteps, Find, List as list_queues, Rotate, Renew, Image, SetWord, Boot, Whole as whole, On, Told, Asks}
 use Rattle.broker_script.proofs.Worlds.{had_memory, listed_open}
 
 -- a queue that recovers goes on
@@ -94,6 +98,18 @@ pub refused_ready : (old new : Brokered) (refusal : Refusal) → IsWell old → 
     → IsRecoveryStep old new (Err refusal) old.recovery → old.recovery ≡ None
 refused_ready old new refusal well other step = refused_at old new refusal well other old.recovery refl step
 
+-- what is settled stays so where nothing changes
+pub session_stays : (s : Sessioned) → SessionGoesOn s s
+session_stays s = record { clients = λ slot client its. its; answers = λ slot client number reply its was. was }
+
+-- and over one act and another
+pub session_goes_further : (old now new : Sessioned) → SessionGoesOn old now → SessionGoesOn now new → SessionGoesOn old new
+session_goes_further old now new one other = record {
+  clients = λ slot client its. other.clients slot client (one.clients slot client its);
+  answers = λ slot client number reply its was.
+      other.answers slot client number reply (one.clients slot client its) (one.answers slot client number reply its was);
+}
+
 -- queues stay where the directory stays, and over what comes after
 same_stay : (old new : Directory) → new ≡ old → QueuesStay old new
 same_stay old new same slot queue has = subst (λ (d : Directory). HasQueue d slot queue) (sym same) has
@@ -145,6 +161,13 @@ placed : (old : Played) (name : List ℕ) (command : Command) (lines : List Prin
 placed old name command lines new (Ok slot) by =
     followed old name command lines new slot (has_line (the_world old.broker slot.0).shape.kind command) by
 placed old name command lines new (Err refusal) by = broker_same old new by.same
+
+-- over what the session is asked
+asked : (old : Played) (name : List ℕ) (ask : Ask) (lines : List Printed) (new : Played)
+    (place : Result SlotId Refusal) → FollowsAsked old name ask lines new place
+    → QueuesStay old.broker.directory new.broker.directory
+asked old name ask lines new (Ok slot) by = by.asked.goes_on.directory
+asked old name ask lines new (Err refusal) by = broker_same old new by.same
 
 -- over a rotation
 rotated : (old new : Played) (lines : List Printed) (result : Result Unit Refusal)
@@ -208,6 +231,7 @@ queues_stay old Boot lines new by keeps = absurd (false≢true keeps)
 queues_stay old (whole command) lines new by keeps = whole_stay old command lines new by
 queues_stay old (On name command) lines new by keeps = placed old name command lines new by.place by.followed
 queues_stay old (Told name client) lines new by keeps = broker_same old new by.same
+queues_stay old (Asks name ask) lines new by keeps = asked old name ask lines new by.place by.followed
 
 -- no slot of an empty directory has a queue
 abbrev no_queue : Option Queue
@@ -269,6 +293,14 @@ recovered_ready {old = old} {new = new} (ready step) = ready_at old.broker new.b
 recovered_ready {old = old} {new = new} (ends_ready {refusal = refusal} step) =
     still_ready old.broker new.broker refusal old.broker.recovery step.refused step.step step.refused
 recovered_ready (goes_on_ready step rest) = recovered_ready rest
+
+-- what was settled stays so
+pub recovered_settled : {old : Played} {lines : List Printed} {new : Played} → Recovers old lines new
+    → SessionGoesOn (session_of old) (session_of new)
+recovered_settled (ready step) = step.settled
+recovered_settled (ends_ready step) = step.settled
+recovered_settled {old = old} {new = new} (goes_on_ready {next = next} step rest) =
+    session_goes_further (session_of old) (session_of next) (session_of new) step.settled (recovered_settled rest)
 
 -- and the queues' histories went on
 pub recovered_on : {old : Played} {lines : List Printed} {new : Played} → Recovers old lines new

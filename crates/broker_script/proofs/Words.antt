@@ -5,16 +5,21 @@ use Rattle.std.proofs.Math.Seq.{get_or-append_seam, take-append_seam}
 use Rattle.std.proofs.lemmas.List.Elements.{All-head, All-tail}
 use Rattle.std.specs.Prelude.{All, codes, map}
 use Rattle.std.specs.Str.Parse.{digits_value}
+use Rattle.words.specs.declared.call.Client.{Client}
 use Rattle.words.specs.declared.call.Kind.{Kind}
 use Rattle.words.specs.declared.call.Kind.TheVariants.{Durable, Log}
-use Rattle.grammar.proofs.Unique.{read, command_in, command_back}
+use Rattle.grammar.proofs.Unique.{read, command_in, command_back, value_in, value_back}
+use Rattle.words.specs.declared.call.Call.{Call}
+use Rattle.words.specs.declared.call.Call.TheVariants.{Enq as enq_call, Deq as deq_call}
 use Rattle.grammar.specs.Grammar.{command_words, kind_word, IsServed}
 use Rattle.grammar.specs.declared.commands.Command.{Command}
 use Rattle.grammar.specs.declared.commands.Command.TheVariants.{Enq, NumberedEnq, Deq, NumberedDeq, Step, End, Evict, Crash, Recover, RecoverBy, Content, Order, Again}
-use Rattle.broker_script.specs.Grammar.{broker_words, label, statement_words, IsServedBroker, IsServedStatement}
+use Rattle.broker_script.specs.Grammar.{ask_words, broker_words, call_words, label, statement_words, IsServedAsk, IsServedBroker, IsServedCall, IsServedStatement}
+use Rattle.broker_script.specs.declared.statements.Ask.{Ask}
+use Rattle.broker_script.specs.declared.statements.Ask.TheVariants.{Request, Plain, Begin}
 use Rattle.broker_script.specs.declared.statements.BrokerLine.{BrokerLine}
 use Rattle.broker_script.specs.declared.statements.Statement.{Statement}
-use Rattle.broker_script.specs.declared.statements.Statement.TheVariants.{Create, BeginCreation, CreateStep, CreateSteps, Find, List as list_queues, Rotate, Renew, Image, SetWord, Boot, Whole, On, Told}
+use Rattle.broker_script.specs.declared.statements.Statement.TheVariants.{Create, BeginCreation, CreateStep, CreateSteps, Find, List as list_queues, Rotate, Renew, Image, SetWord, Boot, Whole, On, Told, Asks}
 
 -- the words from the second one on, each as a number
 number_at : List (List ℕ) → ℕ → ℕ
@@ -69,10 +74,32 @@ plain_of row words =
     (if row == 25804220 then Boot else
     Whole (command_in words))))))))))))
 
+-- the call that some words are, by the first byte of the first
+call_in : List (List ℕ) → Call
+call_in words =
+    if slice_index (slice_index_or words 0 []) 0 == 101 then enq_call (value_in (slice_index_or words 1 [])) else deq_call
+
+call_back : (call : Call) → IsServedCall call → call_in (call_words call) ≡ call
+unfolding call_in
+call_back (enq_call value) served = ap enq_call (value_back value served)
+call_back deq_call served = refl
+
+-- which word comes first, by its first bytes
+first_of : List (List ℕ) → ℕ
+first_of [] = 0
+first_of (name ∷ rest) = (slice_index name 0 * 256 + slice_index name 1) * 256 + slice_index name 2
+
+client_at : List (List ℕ) → Client
+client_at words = record { 0 = number_at words 1 }
+
 -- the words after a label
 told_of : List ℕ → List (List ℕ) → Statement
 told_of name words =
-    if row_of words == 30522801 then Told name (record { 0 = number_at words 1 }) else On name (command_in words)
+    (if row_of words == 30522801 then Told name (record { 0 = number_at words 1 }) else
+    (if first_of words == 7497073 then Asks name (Request (client_at words) (number_at words 2) (call_in (drop 3 words))) else
+    (if first_of words == 7367777 then Asks name (Plain (client_at words) (call_in (drop 2 words))) else
+    (if first_of words == 6448487 then Asks name (Begin (client_at words) (number_at words 2) (call_in (drop 3 words))) else
+    On name (command_in words)))))
 
 statement_by : Bool → List (List ℕ) → Statement
 statement_by true words = told_of (name_in (slice_index_or words 0 [])) (drop 1 words)
@@ -98,7 +125,7 @@ whole_back Order served = ap Whole (command_back Order served)
 whole_back Again served = ap Whole (command_back Again served)
 
 on_back : (name : List ℕ) (command : Command) → IsServed command → told_of name (command_words command) ≡ On name command
-unfolding told_of row_of
+unfolding told_of row_of first_of
 on_back name (Enq client value) served = ap (On name) (command_back (Enq client value) served)
 on_back name (NumberedEnq client number value) served = ap (On name) (command_back (NumberedEnq client number value) served)
 on_back name (Deq client) served = ap (On name) (command_back (Deq client) served)
@@ -118,6 +145,44 @@ labelled_back : (name : List ℕ) (words : List (List ℕ)) → statement_in (la
 unfolding statement_in statement_by
 labelled_back name words =
     ap (λ (b : Bool). statement_by b (label name ∷ words)) (label_told name) ∙ ap (λ n. told_of n words) (label_back name)
+
+asked_back : (name : List ℕ) (ask : Ask) → IsServedAsk ask → told_of name (ask_words ask) ≡ Asks name ask
+unfolding told_of row_of first_of client_at number_at
+asked_back name (Request client number (enq_call value)) served =
+    let e0 : digits_value 10 (decimal client.0) ≡ client.0 = read client.0 (omega (arith, served)) in
+    let e1 : digits_value 10 (decimal number) ≡ number = read number (omega (arith, served)) in
+    let call : Call = enq_call value in
+    ap (λ n. Asks name (Request (record { 0 = n }) (digits_value 10 (decimal number)) (call_in (call_words call)))) e0
+    ∙ ap (λ n. Asks name (Request client n (call_in (call_words call)))) e1
+    ∙ ap (λ c. Asks name (Request client number c)) (call_back call served.2)
+asked_back name (Request client number deq_call) served =
+    let e0 : digits_value 10 (decimal client.0) ≡ client.0 = read client.0 (omega (arith, served)) in
+    let e1 : digits_value 10 (decimal number) ≡ number = read number (omega (arith, served)) in
+    ap (λ n. Asks name (Request (record { 0 = n }) (digits_value 10 (decimal number)) (call_in (call_words deq_call)))) e0
+    ∙ ap (λ n. Asks name (Request client n (call_in (call_words deq_call)))) e1
+    ∙ ap (λ c. Asks name (Request client number c)) (call_back deq_call served.2)
+asked_back name (Plain client (enq_call value)) served =
+    let e0 : digits_value 10 (decimal client.0) ≡ client.0 = read client.0 (omega (arith, served)) in
+    let call : Call = enq_call value in
+    ap (λ n. Asks name (Plain (record { 0 = n }) (call_in (call_words call)))) e0
+    ∙ ap (λ c. Asks name (Plain client c)) (call_back call served.1)
+asked_back name (Plain client deq_call) served =
+    let e0 : digits_value 10 (decimal client.0) ≡ client.0 = read client.0 (omega (arith, served)) in
+    ap (λ n. Asks name (Plain (record { 0 = n }) (call_in (call_words deq_call)))) e0
+    ∙ ap (λ c. Asks name (Plain client c)) (call_back deq_call served.1)
+asked_back name (Begin client number (enq_call value)) served =
+    let e0 : digits_value 10 (decimal client.0) ≡ client.0 = read client.0 (omega (arith, served)) in
+    let e1 : digits_value 10 (decimal number) ≡ number = read number (omega (arith, served)) in
+    let call : Call = enq_call value in
+    ap (λ n. Asks name (Begin (record { 0 = n }) (digits_value 10 (decimal number)) (call_in (call_words call)))) e0
+    ∙ ap (λ n. Asks name (Begin client n (call_in (call_words call)))) e1
+    ∙ ap (λ c. Asks name (Begin client number c)) (call_back call served.2)
+asked_back name (Begin client number deq_call) served =
+    let e0 : digits_value 10 (decimal client.0) ≡ client.0 = read client.0 (omega (arith, served)) in
+    let e1 : digits_value 10 (decimal number) ≡ number = read number (omega (arith, served)) in
+    ap (λ n. Asks name (Begin (record { 0 = n }) (digits_value 10 (decimal number)) (call_in (call_words deq_call)))) e0
+    ∙ ap (λ n. Asks name (Begin client n (call_in (call_words deq_call)))) e1
+    ∙ ap (λ c. Asks name (Begin client number c)) (call_back deq_call served.2)
 
 statement_back : (statement : Statement) → IsServedStatement statement
     → statement_in (statement_words statement) ≡ statement
@@ -141,6 +206,7 @@ statement_back (On name command) served = labelled_back name (command_words comm
 statement_back (Told name client) served =
     let e : digits_value 10 (decimal client.0) ≡ client.0 = read client.0 (omega (arith, served)) in
     labelled_back name (codes "told" ∷ decimal client.0 ∷ []) ∙ ap (λ n. Told name (record { 0 = n })) e
+statement_back (Asks name ask) served = labelled_back name (ask_words ask) ∙ asked_back name ask served.1
 
 pub same_statement : (s t : Statement) → IsServedStatement s → IsServedStatement t → statement_words s ≡ statement_words t
     → s ≡ t

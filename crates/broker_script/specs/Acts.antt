@@ -2,16 +2,22 @@
 use Rattle.std.specs.Prelude.{◌≡◌, ℕ, Bool, true, false, not, List, [], ◌∷◌, ◌++◌, replicate}
 use Rattle.directory.specs.declared.limits.TheConstants.{CREATION_STEPS}
 use Rattle.grammar.specs.declared.commands.Command.{Command}
-use Rattle.grammar.specs.declared.commands.Command.TheVariants.{Step, End, Recover, RecoverBy, Content, Order, Again}
+use Rattle.grammar.specs.declared.commands.Command.TheVariants.{Enq, Deq, Step, End, Recover, RecoverBy, Content, Order, Again}
+use Rattle.words.specs.declared.call.Call.{Call}
+use Rattle.words.specs.declared.call.Call.TheVariants.{Enq as enq_call, Deq as deq_call}
+use Rattle.words.specs.declared.call.Client.{Client}
 use Rattle.playing.specs.Play.{most_alone}
 use Rattle.playing.specs.declared.lines.Line.{Line}
 use Rattle.playing.specs.declared.lines.Line.TheVariants.{Refused}
+use Rattle.broker_script.specs.Asking.{asker}
 use Rattle.broker_script.specs.Play.{Played}
 use Rattle.broker_script.specs.Transcript.{FollowsLine}
 use Rattle.broker_script.specs.declared.printed.Printed.{Printed}
 use Rattle.broker_script.specs.declared.printed.Printed.TheVariants.{Whole, Of, Unsound}
+use Rattle.broker_script.specs.declared.statements.Ask.{Ask}
+use Rattle.broker_script.specs.declared.statements.Ask.TheVariants.{Request, Plain, Begin}
 use Rattle.broker_script.specs.declared.statements.Statement.{Statement}
-use Rattle.broker_script.specs.declared.statements.Statement.TheVariants.{Create, BeginCreation, CreateStep, CreateSteps, Find, List as list_queues, Rotate, Renew, Image, SetWord, Boot, Whole as whole, On, Told}
+use Rattle.broker_script.specs.declared.statements.Statement.TheVariants.{Create, BeginCreation, CreateStep, CreateSteps, Find, List as list_queues, Rotate, Renew, Image, SetWord, Boot, Whole as whole, On, Told, Asks}
 
 -- a refused act gives one line that says so
 abbrev pub is_refusal : Line → Bool
@@ -50,6 +56,22 @@ times_of Order = 0
 times_of Again = 0
 times_of _ = 1
 
+-- how what is asked begins: a call without a number as a call of a durable queue does
+abbrev pub plain_command : Client → Call → Command
+plain_command client (enq_call value) = Enq client value
+plain_command client deq_call = Deq client
+
+abbrev pub beginning : List ℕ → Ask → Statement
+beginning name (Request client number call) = Asks name (Begin client number call)
+beginning name (Plain client call) = On name (plain_command client call)
+beginning name (Begin client number call) = Asks name (Begin client number call)
+
+-- and how many steps it goes on by at most
+abbrev pub steps_of : Ask → ℕ
+steps_of (Request client number call) = most_alone
+steps_of (Plain client call) = most_alone
+steps_of (Begin client number call) = 0
+
 -- what a line attempts, act by act. A creation begins with no step; what only shows something attempts nothing
 abbrev pub attempts_of : Statement → List Statement
 attempts_of (Create name kind) = BeginCreation name kind 0 ∷ replicate CREATION_STEPS CreateStep
@@ -66,6 +88,7 @@ attempts_of (On name command) = replicate (times_of command) (On name (act_of co
 attempts_of (Find name) = []
 attempts_of list_queues = []
 attempts_of (Told name client) = []
+attempts_of (Asks name ask) = beginning name ask ∷ replicate (steps_of ask) (On name (Step (asker ask) 1))
 
 -- an act was attempted, and accepted or refused
 pub record IsAttempted (old : Played) (act : Statement) (accepted : Bool) (new : Played) : Type 0 where

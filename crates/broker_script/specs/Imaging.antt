@@ -7,8 +7,9 @@ use Rattle.persist.specs.Image.{image_of}
 use Rattle.persist.specs.Memory.{words_at_rest}
 use Rattle.persist.specs.declared.memory.TheConstants.{MAX_WORDS}
 use Rattle.named.specs.Booting.{AreBootWords, IsBooted, MayRefuse}
+use Rattle.session.specs.Keeping.{AreKeptAsHeard}
 use Rattle.playing.specs.declared.lines.Line.TheVariants.{Refused}
-use Rattle.broker_script.specs.Play.{Played, new_played}
+use Rattle.broker_script.specs.Play.{Played, new_played, session_of}
 use Rattle.broker_script.specs.declared.printed.Printed.{Printed}
 use Rattle.broker_script.specs.declared.printed.Printed.TheVariants.{Whole, Image, WasSet, Booted, Unsound}
 
@@ -48,13 +49,15 @@ boot_line (Ok u) = Booted
 boot_line (Err (Damaged rule)) = Unsound rule
 boot_line (Err refusal) = Whole (Refused refusal)
 
--- a broker begins on the remembered words, as a crash left them, in place of the one before; or that is refused
+-- a broker begins on the remembered words, as a crash left them, and a session over it, in place of those before; or
+-- that is refused
 pub record Boots (old : Played) (lines : List Printed) (new : Played) : Type 0 where
   pub result : Result Unit Refusal
   pub line : lines ≡ boot_line result ∷ []
   pub sound : OnOk result (AreBootWords old.image)
   pub booted : OnOk result (IsBooted (words_at_rest old.image) new.broker)
-  pub begins : OnOk result (new ≡ record (new_played new.broker) { image = old.image })
+  pub kept : OnOk result (AreKeptAsHeard new.broker new.kept)
+  pub begins : OnOk result (new ≡ record (new_played (session_of new)) { image = old.image })
   pub errors : IfErr result (IsNotBooted old.image)
   pub none : length old.image ≡ 0 → result ≡ Err BadCount
   pub same : OnErr result (new ≡ old)

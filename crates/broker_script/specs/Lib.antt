@@ -8,6 +8,7 @@ pub mod PutOff
 pub mod Creating
 pub mod Recovering
 pub mod OnQueue
+pub mod Asking
 pub mod Imaging
 pub mod Renewing
 pub mod Transcript

@@ -1,6 +1,7 @@
 -- A line that was refused for want of memory before anything was made of it.
 use Rattle.std.specs.Prelude.{◌≡◌, ℕ, Result, Ok, Err}
 use Rattle.named.specs.Brokers.{Brokered, quiet, world_at}
+use Rattle.session.specs.Sessions.{kept_in}
 use Rattle.playing.specs.Transcript.{refused_memory}
 use Rattle.broker_script.specs.Play.{Played}
 use Rattle.broker_script.specs.declared.printed.Printed.{Printed}
@@ -8,7 +9,7 @@ use Rattle.broker_script.specs.declared.printed.Printed.TheVariants.{Whole}
 use Rattle.playing.specs.declared.put_off.Unfollowed.{Unfollowed}
 use Rattle.playing.specs.declared.put_off.Unfollowed.TheVariants.{PutOff, Halfway}
 
--- each queue's world, the directory, and what is under way are as before. How many accesses the memory had may differ,
+-- each queue's world, the directory, what is under way and what is kept of each client are as before. How many accesses the memory had may differ,
 -- and so may the room in histories
 pub record IsAsBefore (old new : Brokered) : Type 0 where
   pub counts : new.counts ≡ old.counts
@@ -19,7 +20,8 @@ pub record IsAsBefore (old new : Brokered) : Type 0 where
 
 pub record IsPutOff (old new : Played) : Type 0 where
   pub broker : IsAsBefore old.broker new.broker
-  pub others : new ≡ record old { broker = new.broker }
+  pub kept : (slot client : ℕ) → kept_in new.kept slot client ≡ kept_in old.kept slot client
+  pub others : new ≡ record old { broker = new.broker; kept = new.kept }
 
 -- the line that says so
 abbrev pub no_memory : Printed

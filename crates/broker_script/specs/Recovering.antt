@@ -8,7 +8,8 @@ use Rattle.playing.specs.Steps.{count_after}
 use Rattle.playing.specs.Transcript.{told_at, told_lines}
 use Rattle.playing.specs.declared.lines.Line.{Line}
 use Rattle.playing.specs.declared.lines.Line.TheVariants.{Ready, Recovering, Refused}
-use Rattle.broker_script.specs.Play.{Played, the_world}
+use Rattle.session.specs.Keeping.{AreKeptAfter, SessionGoesOn}
+use Rattle.broker_script.specs.Play.{Played, session_of, the_world}
 use Rattle.broker_script.specs.declared.printed.Printed.{Printed}
 use Rattle.broker_script.specs.declared.printed.Printed.TheVariants.{Whole, Of}
 
@@ -41,7 +42,13 @@ pub record IsRecoveredOn (old : Played) (result : Result Bool Refusal) (new : Pl
   pub step : IsRecoveryStep old.broker new.broker result old.broker.recovery
   pub refused : IfErr result (λ refusal. old.broker.recovery ≡ None)
   pub goes_on : BrokerGoesOn old.broker new.broker
-  pub counted : new ≡ record old { broker = new.broker; recovery = recovery_counted old.recovery result }
+  pub kept : AreKeptAfter (session_of old) (session_of new) result
+  pub settled : SessionGoesOn (session_of old) (session_of new)
+  pub counted : new ≡ record old {
+    broker = new.broker;
+    kept = new.kept;
+    recovery = recovery_counted old.recovery result;
+  }
 
 -- recovery goes on to its end, or is refused
 pub data Recovers : Played → List Printed → Played → Type 0 where

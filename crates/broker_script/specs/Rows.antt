@@ -4,7 +4,8 @@ use Rattle.words.specs.declared.call.Client.{Client}
 use Rattle.words.specs.declared.call.Kind.{Kind}
 use Rattle.grammar.specs.declared.commands.Command.{Command}
 use Rattle.broker_script.specs.Grammar.{SaysStatement}
-use Rattle.broker_script.specs.declared.statements.Statement.TheVariants.{Create, BeginCreation, CreateStep, CreateSteps, Find, List as list_queues, Rotate, Renew, Image, SetWord, Boot, Whole, On, Told}
+use Rattle.broker_script.specs.declared.statements.Ask.{Ask}
+use Rattle.broker_script.specs.declared.statements.Statement.TheVariants.{Create, BeginCreation, CreateStep, CreateSteps, Find, List as list_queues, Rotate, Renew, Image, SetWord, Boot, Whole, On, Told, Asks}
 
 -- a line begins no creation, and goes on with none
 pub record IsNoCreation (line : List ℕ) : Type 0 where
@@ -19,6 +20,7 @@ pub record IsOfNoQueue (line : List ℕ) : Type 0 where
   pub renew : (name : List ℕ) → SaysStatement line (Renew name) → ⊥
   pub on : (name : List ℕ) (command : Command) → SaysStatement line (On name command) → ⊥
   pub told : (name : List ℕ) (client : Client) → SaysStatement line (Told name client) → ⊥
+  pub asks : (name : List ℕ) (ask : Ask) → SaysStatement line (Asks name ask) → ⊥
 
 -- a line is not about all of them
 pub record IsOfNoBroker (line : List ℕ) : Type 0 where

@@ -20,13 +20,16 @@ use Rattle.named.specs.GoingOn.{BrokerGoesOn}
 use Rattle.named.specs.Rotating.{IsRotated, rotate_result}
 use Rattle.named.specs.Slots.{acted}
 use Rattle.named.specs.Stopping.{IsStopped}
+use Rattle.session.specs.Keeping.{AreKeptAsHeard, SessionGoesOn}
+use Rattle.session.specs.Sessions.{Sessioned}
 use Rattle.playing.specs.Transcript.{evict_line}
 use Rattle.playing.specs.declared.lines.Line.{Line}
 use Rattle.playing.specs.declared.lines.Line.TheVariants.{Size, Refused, Crash as crash_line}
+use Rattle.broker_script.specs.Asking.{FollowsAsk}
 use Rattle.broker_script.specs.Creating.{BeginsCreation, Creates}
 use Rattle.broker_script.specs.Imaging.{Boots, Images, SetsWord}
 use Rattle.broker_script.specs.OnQueue.{found_line, FollowsOn, IsToldLine}
-use Rattle.broker_script.specs.Play.{Played, new_played}
+use Rattle.broker_script.specs.Play.{Played, new_played, session_of}
 use Rattle.broker_script.specs.Prints.{text_of}
 use Rattle.broker_script.specs.PutOff.{no_memory, IsPutOff}
 use Rattle.broker_script.specs.Recovering.{Recovers, RecoversBy}
@@ -35,7 +38,7 @@ use Rattle.broker_script.specs.declared.printed.Printed.{Printed}
 use Rattle.broker_script.specs.declared.printed.Printed.TheVariants.{Whole, Of, Queues, Place, Rotated}
 use Rattle.broker_script.specs.declared.statements.BrokerLine.{BrokerLine}
 use Rattle.broker_script.specs.declared.statements.Statement.{Statement}
-use Rattle.broker_script.specs.declared.statements.Statement.TheVariants.{Create, BeginCreation, CreateStep, CreateSteps, Find, List as list_queues, Rotate, Renew, Image, SetWord, Boot, Whole as whole, On, Told}
+use Rattle.broker_script.specs.declared.statements.Statement.TheVariants.{Create, BeginCreation, CreateStep, CreateSteps, Find, List as list_queues, Rotate, Renew, Image, SetWord, Boot, Whole as whole, On, Told, Asks}
 
 -- the queues, in slot order
 abbrev pub place_lines : ℕ → Option (Option Queue) → List Printed
@@ -88,6 +91,7 @@ pub record Evicts (old : Played) (word : ℕ) (lines : List Printed) (new : Play
   pub words : IsSameWords (words_after_eviction word old.broker.words) new.broker.words
   pub worlds : (slot : ℕ) → world_at new.broker slot
       ≡ acted (world_evicted old.broker.counts slot word) (world_at old.broker slot)
+  pub settled : SessionGoesOn (session_of old) (session_of new)
   pub others : new ≡ record old {
     broker = record old.broker { words = new.broker.words; slots = new.broker.slots };
   }
@@ -97,6 +101,7 @@ pub record Crashes (old : Played) (lines : List Printed) (new : Played) : Type 0
   pub line : lines ≡ Whole crash_line ∷ []
   pub stopped : IsStopped old.broker new.broker
   pub goes_on : BrokerGoesOn old.broker new.broker
+  pub settled : SessionGoesOn (session_of old) (session_of new)
   pub others : new ≡ record old { broker = new.broker; recovery = 0 }
 
 -- nothing was given, and nothing changed
@@ -127,6 +132,7 @@ FollowsLine old Boot lines new = Boots old lines new
 FollowsLine old (whole command) lines new = FollowsWhole old command lines new
 FollowsLine old (On name command) lines new = FollowsOn old name command lines new
 FollowsLine old (Told name client) lines new = Tells old name client lines new
+FollowsLine old (Asks name ask) lines new = FollowsAsk old name ask lines new
 
 -- some lines, one after the other. Where one was put off for want of memory, and `again` comes after it, a line says so,
 -- and it is made again
@@ -139,13 +145,14 @@ pub data FollowsAll : Played → List Statement → List Printed → Type 0 wher
       (rest : List Printed) (put_off : IsPutOff old next) (lines : FollowsAll next (statement ∷ statements) rest)
       → FollowsAll old (statement ∷ whole Again ∷ statements) (no_memory ∷ rest)
 
--- the lines of a script: the size of a new broker's memory, and what the lines on it give; none where there is no
--- broker
+-- the lines of a script: the size of a new broker's memory, and what the lines on a session over it give; none where
+-- there is no broker
 pub record IsPlayedOn (counts : Counts) (statements : List Statement) (lines : List Printed) : Type 0 where
-  pub broker : Brokered
-  pub made : IsNew counts broker
+  pub session : Sessioned
+  pub made : IsNew counts session.broker
+  pub kept : AreKeptAsHeard session.broker session.kept
   pub given : List Printed
-  pub followed : FollowsAll (new_played broker) statements given
+  pub followed : FollowsAll (new_played session) statements given
   pub gives : lines ≡ Whole (Size (broker_size counts)) ∷ given
 
 abbrev pub AreLinesOf : Option BrokerLine → List Statement → List Printed → Type 0

@@ -3,17 +3,18 @@
 ghost use Rattle.std.specs.Prelude.{◌≡◌, ◌++◌, ◌∷◌, [], Some, OnOk, IfOk, IfErr, List, not, replicate};
 ghost use Rattle.broker_script.specs.Play.{Played, new_played};
 ghost use Rattle.broker_script.specs.declared.statements.Statement.{Statement};
-ghost use Rattle.broker_script.specs.Acts.{act_of, attempts_of, is_refusal, is_refused, most_recovery, says_refused, times_of, AreActsOf, Attempts, IsAttempted};
+ghost use Rattle.broker_script.specs.Acts.{act_of, attempts_of, beginning, plain_command, steps_of, is_refusal, is_refused, most_recovery, says_refused, times_of, AreActsOf, Attempts, IsAttempted};
 ghost use Rattle.broker_script.specs.Made.{Adds};
 
+use crate::asking::asker;
 use crate::player::Player;
 use crate::printed::Printed;
-use crate::statements::Statement;
+use crate::statements::{Ask, Statement};
 use directory::{CREATION_STEPS, Name};
 use grammar::Command;
 use playing::Line;
 use std::alloc::Global;
-use words::{Kind, MAX_STEPS_ALONE, Refusal};
+use words::{Call, Client, Kind, MAX_STEPS_ALONE, Refusal};
 
 /// Whether a line of a queue says that an act was refused.
 fn is_refusal(line: &Line) -> bool
@@ -78,6 +79,13 @@ fn add(acts: &mut Vec<Statement>, act: &Statement) -> Result<(), Refusal>
                 command: *command,
             },
         ),
+        Statement::Asks { name, ask } => push(
+            acts,
+            Statement::Asks {
+                name: *name,
+                ask: *ask,
+            },
+        ),
         _ => push(acts, *act),
     }
 }
@@ -104,6 +112,27 @@ fn repeat(
     Ok(())
 }
 
+/// Attempts an act that begins something, and then at most so many steps of that.
+fn begin(
+    alloc: Global,
+    player: &mut Player,
+    acts: &mut Vec<Statement>,
+    first: &Statement,
+    step: &Statement,
+    most: u32,
+) -> Result<(), Refusal>
+    ensures acts { OnOk result
+        (Adds player.old (first.now ∷ replicate most step.now) acts.old.items acts.new.items player.new) }
+    ensures errors { IfErr result (λ e. e ≡ Refusal.NoMemory) }
+{
+    let accepted = attempt(alloc, player, first)?;
+    if !accepted {
+        return Ok(());
+    }
+    add(acts, first)?;
+    repeat(alloc, player, acts, step, most)
+}
+
 /// Begins a creation, and has it make at most so many steps.
 fn create(
     alloc: Global,
@@ -118,17 +147,85 @@ fn create(
         acts.old.items acts.new.items player.new) }
     ensures errors { IfErr result (λ e. e ≡ Refusal.NoMemory) }
 {
-    let begin = Statement::BeginCreation {
+    let first = Statement::BeginCreation {
         name: *name,
         kind,
         most: 0,
     };
-    let accepted = attempt(alloc, player, &begin)?;
-    if !accepted {
-        return Ok(());
+    begin(alloc, player, acts, &first, &Statement::CreateStep, most)
+}
+
+/// A call of a durable queue, as its line begins it.
+fn plain_command(client: Client, call: Call) -> Command
+    ensures { result ≡ plain_command client call }
+{
+    match call {
+        Call::Enq(value) => Command::Enq { client, value },
+        Call::Deq => Command::Deq { client },
     }
-    add(acts, &begin)?;
-    repeat(alloc, player, acts, &Statement::CreateStep, most)
+}
+
+/// How what is asked begins.
+fn beginning(name: &Name, ask: &Ask) -> Statement
+    ensures { result ≡ beginning name.now ask.now }
+{
+    match ask {
+        Ask::Request {
+            client,
+            number,
+            call,
+        }
+        | Ask::Begin {
+            client,
+            number,
+            call,
+        } => Statement::Asks {
+            name: *name,
+            ask: Ask::Begin {
+                client: *client,
+                number: *number,
+                call: *call,
+            },
+        },
+        Ask::Plain { client, call } => Statement::On {
+            name: *name,
+            command: plain_command(*client, *call),
+        },
+    }
+}
+
+/// How many steps it goes on by at most.
+fn steps_of(ask: &Ask) -> u32
+    ensures { result ≡ steps_of ask.now }
+{
+    match ask {
+        Ask::Request { .. } => MAX_STEPS_ALONE,
+        Ask::Plain { .. } => MAX_STEPS_ALONE,
+        Ask::Begin { .. } => 0,
+    }
+}
+
+/// Begins what is asked, and goes on with it.
+fn ask_for(
+    alloc: Global,
+    player: &mut Player,
+    acts: &mut Vec<Statement>,
+    name: &Name,
+    ask: &Ask,
+) -> Result<(), Refusal>
+    ensures acts { OnOk result (Adds player.old (attempts_of (Statement.Asks name.now ask.now))
+        acts.old.items acts.new.items player.new) }
+    ensures errors { IfErr result (λ e. e ≡ Refusal.NoMemory) }
+{
+    let first = beginning(name, ask);
+    let step = Statement::On {
+        name: *name,
+        command: Command::Step {
+            client: asker(ask),
+            most: 1,
+        },
+    };
+    begin(alloc, player, acts, &first, &step, steps_of(ask))
 }
 
 /// What a line of a queue's script attempts at a time.
@@ -199,6 +296,7 @@ fn follow(
             };
             repeat(alloc, player, acts, &act, times_of(command))
         }
+        Statement::Asks { name, ask } => ask_for(alloc, player, acts, name, ask),
         Statement::Find { .. } | Statement::List | Statement::Told { .. } => Ok(()),
     }
 }

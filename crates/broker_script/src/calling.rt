@@ -76,7 +76,7 @@ impl Player {
         ensures ready { OnOk result (self.now.broker.recovery ≡ None) }
         ensures open { IfOk result (λ slot. IsSome (world_at self.now.broker slot.0)) }
     {
-        match self.broker.find(name) {
+        match self.session.broker().find(name) {
             Ok(Some(slot)) => Ok(slot),
             Ok(None) => Err(Refusal::NoQueue),
             Err(refusal) => Err(refusal),
@@ -88,7 +88,7 @@ impl Player {
         requires { IsSome (world_at self.now.broker slot.0) }
         ensures { result ≡ (the_world self.now.broker slot.0).shape.kind }
     {
-        self.broker.kind(slot).unwrap()
+        self.session.broker().kind(slot).unwrap()
     }
 
     /// A client of the queue in a slot begins a call.
@@ -108,7 +108,7 @@ impl Player {
         ensures put_off { result ≡ Err Refusal.NoMemory → IsPutOff self.old self.new }
         ensures only { IsOnlyIn slot.0 self.old self.new }
     {
-        match self.broker.start(slot, client, number, call) {
+        match self.session.start(client, slot, number, call) {
             Ok(()) => {
                 self.steps[slot.0 as usize].begin(client);
                 Ok(())
@@ -142,7 +142,7 @@ impl Player {
         ensures only { IsOnlyIn slot.0 self.old self.new }
         ensures open { OnOk result (IsSome (world_at self.new.broker slot.0)) }
     {
-        match self.broker.step(slot, client) {
+        match self.session.advance(client, slot) {
             Err(refusal) => Err(refusal),
             Ok(answer) => {
                 let steps = self.count(slot, client);
@@ -160,7 +160,7 @@ impl Player {
         ensures only { OnOk result (IsOnlyIn slot.0 self.old self.new) }
         ensures put_off { PutsOff self.old result self.new }
     {
-        let _ = &self.broker;
+        let _ = &self.session;
         for made in 0..most {
             match self.step(slot, client) {
                 Err(refusal) => return refused_line(made > 0, refusal),
@@ -178,7 +178,7 @@ impl Player {
             lines.items ≡ Line.Content (kept_content (the_world self.now.broker slot.0)) ∷ []) }
         ensures errors { IfErr result (λ e. e ≡ Refusal.NoMemory) }
     {
-        let values = self.broker.content(slot)?;
+        let values = self.session.broker().content(slot)?;
         one_line(alloc, Line::Content(Values::from_vec(values)))
     }
 
@@ -189,8 +189,8 @@ impl Player {
             ≡ order_lines (the_world self.now.broker slot.0).log.events (order_in (the_world self.now.broker slot.0))) }
         ensures errors { IfErr result (λ e. e ≡ Refusal.NoMemory) }
     {
-        let order = self.broker.order(slot)?;
-        let history = self.broker.history(slot).unwrap();
+        let order = self.session.broker().order(slot)?;
+        let history = self.session.broker().history(slot).unwrap();
         let mut lines = one_line(alloc, Line::Order(order.entries.as_slice().len()))?;
         for entry in order.entries.as_slice() {
             if let Some(ordered) = named_call(&history.events, *entry) {
@@ -210,7 +210,7 @@ impl Player {
             IsFollowedIn self.old slot.0 command.now (option_to_list line) self.new) }
         ensures put_off { PutsOff self.old result self.new }
     {
-        let _ = &self.broker;
+        let _ = &self.session;
         match command {
             Command::Enq { client, value } => {
                 let started = self.start(slot, *client, 0, Call::Enq(*value));
@@ -245,7 +245,7 @@ impl Player {
         ensures followed { IfOk result (λ lines. IsFollowedIn self.now slot.0 command.now lines.items self.now) }
         ensures errors { IfErr result (λ e. e ≡ Refusal.NoMemory) }
     {
-        let _ = &self.broker;
+        let _ = &self.session;
         match command {
             Command::Content => self.show_content(alloc, slot),
             Command::Order => self.show_order(alloc, slot),

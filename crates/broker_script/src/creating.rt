@@ -23,7 +23,7 @@ impl Player {
         ensures none { self.now.broker.recovery ≡ None → (queue : Place)
             → HasQueue self.now.broker.directory slot.0 queue → IsSome result }
     {
-        let Ok(places) = self.broker.list() else {
+        let Ok(places) = self.session.broker().list() else {
             return None;
         };
         match places.get(slot.0 as usize) {
@@ -54,7 +54,7 @@ impl Player {
             (queue : Place) × HasQueue self.new.broker.directory slot.0 queue)) }
         ensures ready { IfOk result (λ opened. self.new.broker.recovery ≡ None) }
     {
-        match self.broker.create_step() {
+        match self.session.create_step() {
             Err(refusal) => Err(refusal),
             Ok(opened) => {
                 self.creation = self.creation.saturating_add(1);
@@ -90,7 +90,7 @@ impl Player {
     fn begin(&mut self, name: &Name, kind: Kind) -> Result<(), Refusal>
         ensures { IsBegunOn self.old name.now kind result self.new }
     {
-        match self.broker.create(name.as_bytes(), kind) {
+        match self.session.create(name.as_bytes(), kind) {
             Err(refusal) => Err(refusal),
             Ok(()) => {
                 self.creation = 0;

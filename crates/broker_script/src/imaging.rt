@@ -4,7 +4,8 @@ ghost use Rattle.std.specs.Prelude.{◌≡◌, ◌≢◌, ◌⊎◌, ◌∷◌, 
 ghost use Rattle.persist.specs.Image.{reading};
 ghost use Rattle.persist.specs.Memory.{words_at_rest};
 ghost use Rattle.named.specs.Booting.{AreBootWords, IsBooted, MayRefuse};
-ghost use Rattle.named.specs.Promises.{KeepsPromises};
+ghost use Rattle.session.specs.Keeping.{AreKeptAsHeard};
+ghost use Rattle.session.specs.Promises.{KeepsNumbers};
 ghost use Rattle.broker_script.specs.Imaging.{boot_line, digest_of, Boots, Images, IsOfBadCount, SetsWord};
 ghost use Rattle.broker_script.specs.Play.{new_played};
 ghost use Rattle.broker_script.specs.PutOff.{PutsOff};
@@ -16,6 +17,7 @@ use crate::printed::Printed;
 use named::Broker;
 use persist::{KeptWords, Memory};
 use playing::{Line, Unfollowed};
+use session::Session;
 use sha2::{Digest, Sha256};
 use std::alloc::Global;
 use words::{Item, Refusal};
@@ -54,18 +56,20 @@ fn words_of(alloc: Global, image: &[u8]) -> Result<Vec<u64>, Refusal>
     kept_words(alloc, &memory)
 }
 
-/// A broker that begins on these words.
-fn booted(alloc: Global, image: &[u64]) -> Result<Broker, Refusal>
-    ensures booted { IfOk result (IsBooted (words_at_rest image.now)) }
+/// A session over a broker that begins on these words.
+fn booted(alloc: Global, image: &[u64]) -> Result<Session, Refusal>
+    ensures booted { IfOk result (λ s. IsBooted (words_at_rest image.now) s.broker) }
+    ensures kept { IfOk result (λ s. AreKeptAsHeard s.broker s.kept) }
     ensures sound { OnOk result (AreBootWords image.now) }
     ensures errors { IfErr result (λ e. (e ≡ Refusal.NoMemory) ⊎ (IsOfBadCount image.now e ⊎ MayRefuse image.now e)) }
     ensures none { length image.now ≡ 0 → (result ≡ Err Refusal.BadCount) ⊎ (result ≡ Err Refusal.NoMemory) }
-    ensures promises { IfOk result KeepsPromises }
+    ensures promises { IfOk result KeepsNumbers }
 {
     let Ok(words) = image.to_vec(alloc) else {
         return Err(Refusal::NoMemory);
     };
-    Broker::boot(alloc, Memory::of(alloc, words)?)
+    let broker = Broker::boot(alloc, Memory::of(alloc, words)?)?;
+    Ok(Session::open(broker))
 }
 
 /// A line that says why no broker began, and which rule the words break; want of memory is no line.
@@ -92,7 +96,7 @@ impl Player {
         ensures put_off { PutsOff self.old result self.new }
     {
         let room = Room::take(alloc)?;
-        let Ok(image) = self.broker.to_image() else {
+        let Ok(image) = self.session.broker().to_image() else {
             return Err(Unfollowed::PutOff);
         };
         let line = Printed::Image {
@@ -125,12 +129,12 @@ impl Player {
         Ok(room.fill(Printed::WasSet { word, was }))
     }
 
-    /// Goes on with this broker, on which no step was made.
-    fn begin_with(&mut self, broker: Broker)
-        requires { KeepsPromises broker }
-        ensures { self.new ≡ record (new_played broker) { image = self.old.image } }
+    /// Goes on with this session, on which no step was made.
+    fn begin_with(&mut self, session: Session)
+        requires { KeepsNumbers session }
+        ensures { self.new ≡ record (new_played session) { image = self.old.image } }
     {
-        self.broker = broker;
+        self.session = session;
         self.steps = no_steps();
         self.creation = 0;
         self.recovery = 0;
@@ -143,8 +147,8 @@ impl Player {
     {
         let room = Room::take(alloc)?;
         match booted(alloc, &self.image) {
-            Ok(broker) => {
-                self.begin_with(broker);
+            Ok(session) => {
+                self.begin_with(session);
                 Ok(room.fill(Printed::Booted))
             }
             Err(refusal) => unbooted(room, refusal),

@@ -2,6 +2,7 @@
 #![tactic(auto)]
 
 mod acts;
+mod asking;
 mod calling;
 mod creating;
 mod imaging;
@@ -27,4 +28,4 @@ pub use player::Player;
 pub use printed::Printed;
 pub use running::{read_script, run};
 pub use script::Script;
-pub use statements::{BrokerLine, Statement};
+pub use statements::{Ask, BrokerLine, Statement};

@@ -2,11 +2,13 @@
 
 ghost use Rattle.std.specs.Prelude.{◌≡◌, IfOk, IfErr, replicate};
 ghost use Rattle.arena.specs.Limits.{AreCounts};
-ghost use Rattle.broker_script.specs.Play.{new_played, no_steps};
+ghost use Rattle.broker_script.specs.Play.{new_played, no_steps, session_of};
 ghost use Rattle.broker_script.specs.PutOff.{PutsOff};
 ghost use Rattle.broker_script.specs.Transcript.{FollowsLine, FollowsWhole};
 ghost use Rattle.named.specs.Brokers.{IsNew};
 ghost use Rattle.named.specs.Promises.{KeepsPromises};
+ghost use Rattle.session.specs.Keeping.{AreKeptAsHeard};
+ghost use Rattle.session.specs.Sessions.{IsRight};
 
 use crate::printed::Printed;
 use crate::statements::Statement;
@@ -15,14 +17,16 @@ use directory::CREATION_STEPS;
 use grammar::Command;
 use named::Broker;
 use playing::{Steps, Unfollowed};
+use session::Session;
 use std::alloc::Global;
 use std::marker::Model;
 use words::Refusal;
 
-/// A broker that follows a script, and how many steps its calls, its last creation and its recovery have made.
+/// A session over a broker that follows a script, and how many steps its calls, its last creation and its recovery have
+/// made.
 #[derive(Drop)]
 pub struct Player {
-    pub(crate) broker: Broker,
+    pub(crate) session: Session,
     /// Those of the calls on each slot's queue.
     pub(crate) steps: [Steps; SLOTS],
     pub(crate) creation: u64,
@@ -33,19 +37,20 @@ pub struct Player {
 
 impl Model for Player {
     ghost use Rattle.broker_script.specs.Play.{Played};
-    ghost use Rattle.named.specs.Promises.{KeepsPromises};
+    ghost use Rattle.session.specs.Promises.{KeepsNumbers};
 
     ghost Value = { Played };
 
     ghost view = { λ p. record {
-      broker = p.broker;
+      broker = p.session.broker;
+      kept = p.session.kept;
       steps = p.steps;
       creation = p.creation;
       recovery = p.recovery;
       image = p.image.items;
     } };
 
-    ghost invariant = { λ p. KeepsPromises p.broker };
+    ghost invariant = { λ p. KeepsNumbers p.session };
 }
 
 /// No call on any slot's queue has made a step.
@@ -69,12 +74,13 @@ impl Player {
     pub fn new(alloc: Global, clients: u32, records: u32) -> Result<Self, Refusal>
         requires { AreCounts clients records }
         ensures made { IfOk result (λ p. IsNew (record { clients = clients; records = records }) p.broker) }
-        ensures played { IfOk result (λ p. p ≡ new_played p.broker) }
+        ensures kept { IfOk result (λ p. AreKeptAsHeard p.broker p.kept) }
+        ensures played { IfOk result (λ p. p ≡ new_played (session_of p)) }
         ensures errors { IfErr result (λ e. e ≡ Refusal.NoMemory) }
     {
         let broker = Broker::make(alloc, clients, records)?;
         Ok(Player {
-            broker,
+            session: Session::open(broker),
             steps: no_steps(),
             creation: 0,
             recovery: 0,
@@ -101,7 +107,16 @@ impl Player {
         ensures broker { result.now ≡ self.now.broker }
         ensures promises { KeepsPromises self.now.broker }
     {
-        &self.broker
+        self.session.broker()
+    }
+
+    /// The session over it, to look at.
+    pub fn session(&self) -> &Session
+        ensures session { result.now ≡ session_of self.now }
+        ensures right { IsRight (session_of self.now) }
+    {
+        self.session.is_right();
+        &self.session
     }
 
     /// How many steps recovery had since the last crash.
@@ -140,6 +155,7 @@ impl Player {
             Statement::Whole { command } => self.follow_whole(alloc, command),
             Statement::On { name, command } => self.follow_on(alloc, name, command),
             Statement::Told { name, client } => self.tell(alloc, name, *client),
+            Statement::Asks { name, ask } => self.follow_ask(alloc, name, ask),
         }
     }
 }

@@ -8,7 +8,7 @@ use arena::SlotId;
 use directory::{Name, Queue};
 use playing::Line;
 use std::fmt;
-use words::{Item, Kind, Refusal, Rule};
+use words::{Call, Client, Item, Kind, Refusal, Reply, Rule};
 
 /// A line of a transcript.
 #[derive(Drop)]
@@ -58,6 +58,20 @@ pub enum Printed {
     Booted,
     /// None did, since the words break this rule first.
     Unsound(Rule),
+    /// What a client was answered that asked the session: to its call of this number, if it has one.
+    Replied {
+        name: Name,
+        client: Client,
+        number: Option<u64>,
+        reply: Reply,
+    },
+    /// The call of this number began.
+    Begun {
+        name: Name,
+        client: Client,
+        number: u64,
+        call: Call,
+    },
 }
 
 /// A kind as a script spells it.
@@ -89,7 +103,8 @@ fn rule_word(rule: Rule) -> &'static str
 
 /// `a: return 0 done steps 28`, `created a slot 0 steps 12`, `creating`, `found a slot 0`, `queues 2`,
 /// `slot 0 a durable`, `rotated`, `renewed`, `image bytes 2396 digest 09f3c1aa`, `set 5 was 1`, `booted`,
-/// `refused 29 Damaged Records`, or a line of a queue's transcript.
+/// `refused 29 Damaged Records`, `a: reply 0 1 done`, `a: reply 0 done`, `a: call begin 0 1 enq 05`, or a line of a
+/// queue's transcript.
 impl fmt::Display for Printed {
     ghost use Rattle.std.specs.Prelude.{Some};
     ghost use Rattle.broker_script.specs.Prints.{printed_text};
@@ -120,6 +135,30 @@ impl fmt::Display for Printed {
                 let name = rule_word(*rule);
                 write!(f, "refused {refusal} {name}")
             }
+            Printed::Replied {
+                name,
+                client,
+                number: Some(number),
+                reply,
+            } => write!(f, "{name}: reply {} {number} {reply}", client.0),
+            Printed::Replied {
+                name,
+                client,
+                number: None,
+                reply,
+            } => write!(f, "{name}: reply {} {reply}", client.0),
+            Printed::Begun {
+                name,
+                client,
+                number,
+                call: Call::Enq(value),
+            } => write!(f, "{name}: call begin {} {number} enq {value}", client.0),
+            Printed::Begun {
+                name,
+                client,
+                number,
+                call: Call::Deq,
+            } => write!(f, "{name}: call begin {} {number} deq", client.0),
         }
     }
 }

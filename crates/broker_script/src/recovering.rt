@@ -25,7 +25,7 @@ impl Player {
         ensures put_off { PutsOff self.old result self.new }
     {
         let room = Room::take(alloc)?;
-        match self.broker.crash() {
+        match self.session.crash() {
             Ok(()) => {
                 self.recovery = 0;
                 Ok(room.fill(Printed::Whole(Line::Crash)))
@@ -41,7 +41,7 @@ impl Player {
         requires client { client.0 < self.now.broker.counts.clients }
         ensures { result ≡ told_at (the_world self.now.broker slot.0) client.0 }
     {
-        match self.broker.told(slot, client) {
+        match self.session.broker().told(slot, client) {
             Ok(told) => told,
             Err(_) => unreachable!(),
         }
@@ -56,7 +56,7 @@ impl Player {
         ensures errors { IfErr result (λ e. e ≡ Refusal.NoMemory) }
     {
         let mut lines = Vec::new(alloc);
-        for number in 0..self.broker.clients() {
+        for number in 0..self.session.broker().clients() {
             let client = Client(number as u8);
             let told = self.told(slot, client);
             add(&mut lines, Line::Told { client, told })?;
@@ -79,7 +79,7 @@ impl Player {
             lines.items ≡ told_in_slot self.now slot (slice_get self.now.broker.directory slot)) }
         ensures errors { IfErr result (λ e. e ≡ Refusal.NoMemory) }
     {
-        let _ = &self.broker;
+        let _ = &self.session;
         match &places[slot] {
             None => Ok(Vec::new(alloc)),
             Some(queue) => {
@@ -110,7 +110,7 @@ impl Player {
         ensures lines { IfOk result (λ lines. lines.items ≡ ready_lines self.now) }
         ensures errors { IfErr result (λ e. e ≡ Refusal.NoMemory) }
     {
-        let places = self.broker.list().unwrap();
+        let places = self.session.broker().list().unwrap();
         let mut lines = one(
             alloc,
             Printed::Whole(Line::Ready {
@@ -140,7 +140,7 @@ impl Player {
         ensures put_off { result ≡ Err Refusal.NoMemory → IsPutOff self.old self.new }
         ensures falls { IfOk result (λ ready. steps_left self.new.broker < steps_left self.old.broker) }
     {
-        match self.broker.recover_step() {
+        match self.session.recover_step() {
             Err(refusal) => Err(refusal),
             Ok(ready) => {
                 self.recovery = self.recovery.saturating_add(1);

@@ -18,7 +18,7 @@ impl Player {
         ensures renews { IfOk result (λ lines. RenewsIn self.old slot.0 lines.items self.new) }
         ensures put_off { PutsOff self.old result self.new }
     {
-        match self.broker.renew(slot) {
+        match self.session.renew(slot) {
             Ok(()) => {
                 self.recovery = 0;
                 Ok(room.fill(Printed::Renewed))

@@ -1,6 +1,7 @@
 //! The lines that are served, a row for each.
 
 ghost use Rattle.std.specs.Prelude.{◌≡◌, ◌≢◌, ◌++◌, ◌∷◌, [], ℕ, List, MatchOption, decimal};
+ghost use Rattle.words.specs.declared.call.Call.{Call};
 ghost use Rattle.words.specs.declared.call.Client.{Client};
 ghost use Rattle.words.specs.declared.call.Kind.{Kind};
 ghost use Rattle.directory.specs.Name.{IsName};
@@ -8,18 +9,19 @@ ghost use Rattle.grammar.specs.Grammar.{kind_word};
 ghost use Rattle.grammar.specs.Limits.{IsWithin};
 ghost use Rattle.grammar.specs.Lines.{words_of};
 ghost use Rattle.grammar.specs.declared.commands.Command.{Command};
-ghost use Rattle.broker_script.specs.Grammar.{is_whole, label, SaysBroker, SaysStatement};
+ghost use Rattle.broker_script.specs.Grammar.{ask_words, call_words, is_whole, label, IsServedAsk, IsServedCall, SaysBroker, SaysStatement};
 ghost use Rattle.broker_script.specs.Rows.{IsNoCreation, IsOfNoBroker, IsOfNoImage, IsOfNoQueue};
+ghost use Rattle.broker_script.specs.declared.statements.Ask.{Ask};
 ghost use Rattle.broker_script.specs.declared.statements.BrokerLine.{BrokerLine};
 ghost use Rattle.broker_script.specs.declared.statements.Statement.{Statement};
 
-use crate::statements::{BrokerLine, Statement};
+use crate::statements::{Ask, BrokerLine, Statement};
 use directory::Name;
 use grammar::{
-    CLIENT, CLIENTS, Command, NUMBER, RECORDS, STEPS, after_name, command, first_word, is_name,
-    kind, one_number, two_numbers,
+    CLIENT, CLIENTS, Command, Limits, NUMBER, RECORDS, STEPS, after_name, command, first_word,
+    is_name, kind, one_number, one_value, two_numbers,
 };
-use words::{Client, Kind};
+use words::{Call, Client, Kind};
 
 /// `broker T K`
 pub(crate) fn broker_line(line: &[u8]) -> Option<BrokerLine>
@@ -298,6 +300,136 @@ fn told(line: &[u8]) -> Option<Statement>
     })
 }
 
+/// The number that a text begins with, and what follows it.
+fn number_first(text: &[u8], limits: Limits) -> Option<(u64, &[u8])>
+    ensures { MatchOption result
+        ((n : ℕ) (rest : List (List ℕ)) → IsWithin limits n → words_of text.now ≡ decimal n ∷ rest → rest ≡ [])
+        (λ r. (words_of text.now ≡ decimal r.0 ∷ words_of r.1.now) × IsWithin limits r.0) }
+{
+    let (word, rest) = first_word(text);
+    let rest = rest?;
+    match one_number(word, limits) {
+        Some(n) => Some((n, rest)),
+        None => None,
+    }
+}
+
+/// `enq V`, `deq`
+fn call(text: &[u8]) -> Option<Call>
+    ensures { MatchOption result ((call : Call) → IsServedCall call → words_of text.now ≢ call_words call)
+        (λ call. (words_of text.now ≡ call_words call) × IsServedCall call) }
+{
+    if is_name(text, b"deq") {
+        return Some(Call::Deq);
+    }
+    let value = one_value(after_name(text, b"enq")?)?;
+    Some(Call::Enq(value))
+}
+
+/// A number, and the call, which are all of a text.
+fn number_and_call(text: &[u8], limits: Limits) -> Option<(u64, Call)>
+    ensures { MatchOption result
+        ((n : ℕ) (call : Call) → IsWithin limits n → IsServedCall call
+        → words_of text.now ≢ decimal n ∷ call_words call)
+        (λ r. (words_of text.now ≡ decimal r.0 ∷ call_words r.1) × IsWithin limits r.0 × IsServedCall r.1) }
+{
+    let Some((n, rest)) = number_first(text, limits) else {
+        return None;
+    };
+    let call = call(rest)?;
+    Some((n, call))
+}
+
+/// A number of a client, that of its call, and the call, which are all of a text.
+fn numbered_call(text: &[u8]) -> Option<(u64, u64, Call)>
+    ensures { MatchOption result
+        ((client number : ℕ) (call : Call) → IsWithin CLIENT client → IsWithin NUMBER number → IsServedCall call
+        → words_of text.now ≢ decimal client ∷ decimal number ∷ call_words call)
+        (λ r. (words_of text.now ≡ decimal r.0 ∷ decimal r.1 ∷ call_words r.2)
+        × IsWithin CLIENT r.0 × IsWithin NUMBER r.1 × IsServedCall r.2) }
+{
+    let Some((client, rest)) = number_first(text, CLIENT) else {
+        return None;
+    };
+    let (number, call) = number_and_call(rest, NUMBER)?;
+    Some((client, number, call))
+}
+
+/// `request C N CALL`
+fn request(text: &[u8]) -> Option<Ask>
+    ensures { MatchOption result
+        ((client : Client) (number : ℕ) (call : Call) → IsServedAsk (Ask.Request client number call)
+        → words_of text.now ≢ ask_words (Ask.Request client number call))
+        (λ ask. (words_of text.now ≡ ask_words ask) × IsServedAsk ask) }
+{
+    let Some((client, number, call)) = numbered_call(after_name(text, b"request")?) else {
+        return None;
+    };
+    Some(Ask::Request {
+        client: Client(client as u8),
+        number,
+        call,
+    })
+}
+
+/// `plain C CALL`
+fn plain(text: &[u8]) -> Option<Ask>
+    ensures { MatchOption result
+        ((client : Client) (call : Call) → IsServedAsk (Ask.Plain client call)
+        → words_of text.now ≢ ask_words (Ask.Plain client call))
+        (λ ask. (words_of text.now ≡ ask_words ask) × IsServedAsk ask) }
+{
+    let (client, call) = number_and_call(after_name(text, b"plain")?, CLIENT)?;
+    Some(Ask::Plain {
+        client: Client(client as u8),
+        call,
+    })
+}
+
+/// `begin C N CALL`
+fn begin(text: &[u8]) -> Option<Ask>
+    ensures { MatchOption result
+        ((client : Client) (number : ℕ) (call : Call) → IsServedAsk (Ask.Begin client number call)
+        → words_of text.now ≢ ask_words (Ask.Begin client number call))
+        (λ ask. (words_of text.now ≡ ask_words ask) × IsServedAsk ask) }
+{
+    let Some((client, number, call)) = numbered_call(after_name(text, b"begin")?) else {
+        return None;
+    };
+    Some(Ask::Begin {
+        client: Client(client as u8),
+        number,
+        call,
+    })
+}
+
+/// What a client asks the session for, as it follows the queue's name.
+fn ask(text: &[u8]) -> Option<Ask>
+    ensures { MatchOption result ((ask : Ask) → IsServedAsk ask → words_of text.now ≢ ask_words ask)
+        (λ ask. (words_of text.now ≡ ask_words ask) × IsServedAsk ask) }
+{
+    if let Some(ask) = request(text) {
+        return Some(ask);
+    }
+    if let Some(ask) = plain(text) {
+        return Some(ask);
+    }
+    begin(text)
+}
+
+/// `NAME: ` and what a client asks the session for.
+fn asks(line: &[u8]) -> Option<Statement>
+    ensures { MatchOption result
+        ((name : List ℕ) (ask : Ask) → SaysStatement line.now (Statement.Asks name ask) → ⊥)
+        (SaysStatement line.now) }
+{
+    let Some((name, rest)) = label_first(line) else {
+        return None;
+    };
+    let ask = ask(rest)?;
+    Some(Statement::Asks { name, ask })
+}
+
 /// The lines that begin a creation, or go on with it.
 fn creation_line(line: &[u8]) -> Option<Statement>
     ensures { MatchOption result (IsNoCreation line.now) (SaysStatement line.now) }
@@ -325,6 +457,9 @@ fn queue_line(line: &[u8]) -> Option<Statement>
         return Some(statement);
     }
     if let Some(statement) = on(line) {
+        return Some(statement);
+    }
+    if let Some(statement) = asks(line) {
         return Some(statement);
     }
     told(line)

@@ -2,13 +2,35 @@
 
 use directory::Name;
 use grammar::Command;
-use words::{Client, Kind};
+use words::{Call, Client, Kind};
 
 /// The first line of a script: the broker that it is about.
 #[derive(Clone, Copy, Debug, PartialEq, Eq)]
 pub struct BrokerLine {
     pub clients: u32,
     pub records: u32,
+}
+
+/// What a client asks the session for.
+#[derive(Clone, Copy, Debug, PartialEq, Eq)]
+pub enum Ask {
+    /// The call of this number, which runs to its end, or its kept reply.
+    Request {
+        client: Client,
+        number: u64,
+        call: Call,
+    },
+    /// A call without a number, which runs to its end.
+    Plain {
+        client: Client,
+        call: Call,
+    },
+    /// The call of this number, which only begins, or its kept reply.
+    Begin {
+        client: Client,
+        number: u64,
+        call: Call,
+    },
 }
 
 /// Any later line of a script.
@@ -42,4 +64,6 @@ pub enum Statement {
     On { name: Name, command: Command },
     /// Show what a client of this queue was told last.
     Told { name: Name, client: Client },
+    /// A client of this queue asks the session.
+    Asks { name: Name, ask: Ask },
 }

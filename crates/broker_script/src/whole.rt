@@ -53,7 +53,7 @@ impl Player {
         ensures put_off { PutsOff self.old result self.new }
     {
         let room = Room::take(alloc)?;
-        match self.broker.evict(word as usize) {
+        match self.session.evict(word as usize) {
             Ok(change) => {
                 let changed = change.is_some();
                 Ok(room.fill(Printed::Whole(Line::Evicted { word, changed })))
@@ -68,7 +68,7 @@ impl Player {
         ensures put_off { PutsOff self.old result self.new }
     {
         let room = Room::take(alloc)?;
-        match self.broker.rotate() {
+        match self.session.rotate() {
             Ok(()) => Ok(room.fill(Printed::Rotated)),
             Err(refusal) => refused(room, false, refusal),
         }
@@ -79,7 +79,7 @@ impl Player {
         ensures lines { IfOk result (λ lines. lines.items ≡ list_lines self.now.broker) }
         ensures errors { IfErr result (λ e. e ≡ Refusal.NoMemory) }
     {
-        match self.broker.list() {
+        match self.session.broker().list() {
             Err(refusal) => one(alloc, Printed::Whole(Line::Refused(refusal))),
             Ok(all) => {
                 let rows = places(alloc, all)?;
@@ -119,7 +119,7 @@ impl Player {
     {
         match self.place(name) {
             Err(refusal) => Line::Refused(refusal),
-            Ok(slot) => match self.broker.told(slot, client) {
+            Ok(slot) => match self.session.broker().told(slot, client) {
                 Ok(told) => Line::Told { client, told },
                 Err(refusal) => Line::Refused(refusal),
             },

@@ -42,7 +42,8 @@ with #, says nothing. In this one the creation of a queue is cut off when its na
   list               prints the queues: a alone
 
 The other lines: create-step, create-step M, find NAME, rotate, renew NAME, evict W, recover M, image, set W N, boot,
-NAME: told C; and NAME: before each line of a queue's script that is about the queue.
+NAME: told C; NAME: request C N CALL, NAME: plain C CALL and NAME: begin C N CALL, which ask the session, where CALL is
+enq V or deq; and NAME: before each line of a queue's script that is about the queue.
 docs/SCRIPT.md has all of them, and every line that is printed.";
 
 /// What help says of recordings.

@@ -3,7 +3,9 @@
 ghost use Rattle.std.specs.Prelude.{◌≡◌, ◌<◌, Ok, Err, Some, None, IfOk, IfSome, OnErr};
 ghost use Rattle.words.specs.declared.limits.TheConstants.{MAX_CALL_NUMBER};
 ghost use Rattle.persist.specs.Noted.{answer_in, change_in, IsNoted};
+ghost use Rattle.interleave.specs.Rules.{starting};
 ghost use Rattle.interleave.specs.Verdicts.{taken_as};
+ghost use Rattle.named.specs.Acting.{IsActAt, IsSameBeside};
 ghost use Rattle.named.specs.Brokers.{answer_at, world_at};
 ghost use Rattle.named.specs.GoingOn.{BrokerGoesOn};
 ghost use Rattle.session.specs.Keeping.{IsKeptNow, SessionGoesOn};
@@ -130,6 +132,27 @@ impl Session {
         }
         self.broker.start(queue, client, number.unwrap_or(0), call)?;
         Ok(None)
+    }
+
+    /// Starts a call with a number that its client chose itself, as [`named::Broker::start`] does: in a log queue any
+    /// that is above the client's last one, so that some may be left out; in a durable queue none is kept. What is kept
+    /// of each client stays.
+    pub fn start(
+        &mut self,
+        client: Client,
+        queue: SlotId,
+        number: u64,
+        call: Call,
+    ) -> Result<(), Refusal>
+        ensures act { IsActAt (starting client number call) queue.0 client self.old.broker result self.new.broker }
+        ensures beside { IsSameBeside queue.0 self.old.broker self.new.broker }
+        ensures kept { self.new.kept ≡ self.old.kept }
+        ensures unchanged { self.new.broker.words.kept ≡ self.old.broker.words.kept }
+        ensures goes_on { SessionGoesOn self.old self.new }
+        ensures queues { BrokerGoesOn self.old.broker self.new.broker }
+        ensures promises { KeepsNumbers self.new }
+    {
+        self.broker.start(queue, client, number, call)
     }
 
     /// The number of the client's call under way, if it has one in a log queue.

@@ -3,7 +3,7 @@
 ghost use Rattle.std.specs.Prelude.{◌≡◌};
 ghost use Rattle.session.specs.Keeping.{AreKeptAsHeard};
 ghost use Rattle.session.specs.Promises.{KeepsNumbers};
-ghost use Rattle.session.specs.Sessions.{kept_at, IsUncalled};
+ghost use Rattle.session.specs.Sessions.{kept_at, IsRight, IsUncalled};
 ghost use Rattle.session.specs.Telling.{IsSettledTold};
 
 use crate::kept::Kept;
@@ -56,6 +56,14 @@ impl Session {
     /// What is settled its kept words tell, at every moment: it is a law of any session ([`crate::settled_is_told`]).
     pub fn tells_settled(&self)
         ensures { IsSettledTold self.now }
+    {
+        let _ = &self.broker;
+    }
+
+    /// What is kept is right, at every moment: where the broker is ready, the kept words tell each client of a log queue
+    /// that has no call under way just the verdict that is kept for it.
+    pub fn is_right(&self)
+        ensures { IsRight self.now }
     {
         let _ = &self.broker;
     }

@@ -5,7 +5,7 @@ use Rattle.arena.specs.Broker.{broker_size}
 use Rattle.arena.specs.Shape.{Counts}
 use Rattle.named.specs.Promises.{AreExplained}
 use Rattle.explore.specs.Points.{evicted_words}
-use Rattle.broker_script.specs.Play.{Played, new_played}
+use Rattle.broker_script.specs.Play.{Played, new_played, session_of}
 use Rattle.broker_points.specs.Points.{eviction, evictions_at, IsPointAfter, Leads}
 use Rattle.broker_points.specs.Reports.{line_of_point, point_text}
 use Rattle.broker_points.specs.declared.point.Point.{Point}
@@ -29,13 +29,13 @@ returns-clause-point c =
     let size : c.size.result ≡ broker_size counts = c.size.ensures.value ∙ ap broker_size made in
     let words : c.deref.result.now ≡ evicted_words c.args.evictions (broker_size counts) point =
     c.deref.ensures.value ∙ c.in_ok-words.ensures.words ∙ ap (λ n. evicted_words c.args.evictions n point) size in
-    let acts : Leads (new_played c.in_ok-player.player.broker) c.args.acts.now c.follow_all.new.player =
+    let acts : Leads (new_played (session_of c.in_ok-player.player)) c.args.acts.now c.follow_all.new.player =
     subst (λ (p : Played). Leads p c.args.acts.now c.follow_all.new.player) c.in_ok-player.ensures.played c.in_ok-follow_all.ensures.leads in
     let kept : Leads c.follow_all.new.player (evictions_at counts c.args.evictions point) c.evict_all.new.player =
     subst (λ (l : List ℕ). Leads c.follow_all.new.player (map eviction l) c.evict_all.new.player) words c.in_ok-evict_all.ensures.leads in
     both c.found.result point c.stop_and_recover.new.player (IsPointAfter counts c.args.acts.now c.args.evictions point)
     (λ text is. record {
-      broker = c.in_ok-player.player.broker;
+      session = session_of c.in_ok-player.player;
       made = c.in_ok-player.ensures.made;
       stopping = c.evict_all.new.player;
       acted = leads_on acts kept;
@@ -43,7 +43,8 @@ returns-clause-point c =
       recovered = c.in_ok-stop_and_recover.ensures.leads;
       ready = c.in_ok-stop_and_recover.ensures.ready;
       goes_on = c.in_ok-stop_and_recover.ensures.goes_on;
-      explained = subst (λ (p : Played). AreExplained p.broker) c.player-3.view_is c.player-3.invariant.explained;
+      explained = subst (λ (p : Played). AreExplained p.broker) c.player-3.view_is c.player-3.invariant.broker.explained;
+      settled = c.in_ok-stop_and_recover.ensures.settled;
       is = is;
     })
     c.found.ensures.text c.found.ensures.ok

@@ -1,7 +1,8 @@
 use Rattle.named.proofs.GoingOn.{broker_goes_further}
 use Rattle.broker_script.specs.Recovering.{Recovers}
 use Rattle.broker_script.specs.Transcript.{Crashes}
-use Rattle.broker_script.proofs.Staying.{recovered_on, recovered_ready}
+use Rattle.broker_script.specs.Play.{session_of}
+use Rattle.broker_script.proofs.Staying.{recovered_on, recovered_ready, recovered_settled, session_goes_further}
 use Rattle.broker_points.specs.Points.{nowhere, further}
 use Rattle.broker_points.proofs.point.stop_and_recover.Goals as goal
 
@@ -20,3 +21,10 @@ returns-clause-goes_on c =
     let crash : Crashes c.args.player.now c.in_ok-_stopped._stopped.items c.follow_line.new.player = c.in_ok-_stopped.ensures.follows in
     let recovery : Recovers c.follow_line.new.player c.in_ok-_told._told.items c.follow_line-2.new.player = c.in_ok-_told.ensures.follows in
     broker_goes_further c.args.player.now.broker c.follow_line.new.player.broker c.follow_line-2.new.player.broker crash.goes_on (recovered_on recovery)
+
+pub returns-clause-settled : goal.returns-clause-settled
+returns-clause-settled c =
+    let crash : Crashes c.args.player.now c.in_ok-_stopped._stopped.items c.follow_line.new.player = c.in_ok-_stopped.ensures.follows in
+    let recovery : Recovers c.follow_line.new.player c.in_ok-_told._told.items c.follow_line-2.new.player = c.in_ok-_told.ensures.follows in
+    session_goes_further (session_of c.args.player.now) (session_of c.follow_line.new.player) (session_of c.follow_line-2.new.player)
+    crash.settled (recovered_settled recovery)

@@ -4,7 +4,7 @@ use Rattle.std.proofs.lemmas.Result.{IfOk-weaker}
 use Rattle.std.specs.List.{concat}
 use Rattle.std.specs.Prelude.{count_by, not}
 use Rattle.broker_script.specs.Acts.{AreActsOf}
-use Rattle.broker_script.specs.Play.{Played}
+use Rattle.broker_script.specs.Play.{Played, session_of}
 use Rattle.broker_points.specs.Run.{count_text}
 use Rattle.broker_points.specs.Sweep.{text_of, AreOk}
 use Rattle.broker_points.specs.declared.point.Point.{Point}
@@ -25,7 +25,7 @@ returns-clause-report g c =
     let deref : c.deref.result.now ≡ points = c.deref.ensures.value in
     let start = c.in_ok-player.ensures.played in
     IfOk-weaker c.report_text.result _ _ (λ text is. record {
-      broker = c.in_ok-player.player.broker;
+      session = session_of c.in_ok-player.player;
       made = c.in_ok-player.ensures.made;
       acts = c.in_ok-acts.acts.items;
       are = subst (λ (p : Played). AreActsOf p c.args.statements.now c.in_ok-acts.acts.items) start c.in_ok-acts.ensures.acts;

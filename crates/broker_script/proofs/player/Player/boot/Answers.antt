@@ -8,8 +8,8 @@ pub returns-in-Ok-clause-boots : goal.returns-in-Ok-clause-boots
 returns-in-Ok-clause-boots c =
     let image : c.deref.result.now ≡ c.args.self.now.image =
     c.deref.ensures.value ∙ ap (λ (p : Played). p.image) c.self.view_is in
-    boots_made c.args.self.now c.begin_with.new.self c.deref.result.now c.booted.result c.in-Ok.broker c.fill.result.items image
-    c.in-Ok.is c.in-Ok.ensures.booted c.in-Ok.ensures.sound c.booted.ensures.none c.begin_with.ensures c.fill.ensures
+    boots_made c.args.self.now c.begin_with.new.self c.deref.result.now c.booted.result c.in-Ok.session c.fill.result.items image
+    c.in-Ok.is c.in-Ok.ensures.booted c.in-Ok.ensures.kept c.in-Ok.ensures.sound c.booted.ensures.none c.begin_with.ensures c.fill.ensures
 
 pub returns-in-Err-clause-boots : goal.returns-in-Err-clause-boots
 returns-in-Err-clause-boots c =

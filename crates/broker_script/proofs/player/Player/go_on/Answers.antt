@@ -14,7 +14,7 @@ pub loop-made-init : goal.loop-made-init
 loop-made-init c =
     let play = play_at c.args.self.now c.args.slot.0 in
     let all : c.args.most - 0 ≡ c.args.most = omega arith in
-    let well : IsWell c.args.self.now.broker = subst IsWell (ap (λ p. p.broker) c.self.view_is) c.self.invariant.well in
+    let well : IsWell c.args.self.now.broker = subst IsWell (ap (λ p. p.broker) c.self.view_is) c.self.invariant.broker.well in
     record {
       ready = c.requires.ready;
       is_open = c.requires.open;

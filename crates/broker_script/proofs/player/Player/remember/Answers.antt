@@ -1,6 +1,7 @@
 use Rattle.std.proofs.Common.{◌≡◌, length, ap, sym, ◌∙◌}
 use Rattle.std.specs.Prelude.{Ok}
 use Rattle.persist.specs.Image.{image_of, reading}
+use Rattle.named.specs.Brokers.{Brokered}
 use Rattle.broker_script.specs.Imaging.{digest_of}
 use Rattle.broker_script.specs.Play.{Played}
 use Rattle.broker_script.proofs.Imaged.{imaged}
@@ -9,7 +10,7 @@ use Rattle.broker_script.proofs.player.Player.remember.Goals as goal
 pub returns-clause-images : goal.returns-clause-images
 returns-clause-images c =
     let bytes = c.in-Ok.image.items in
-    let kept = ap (λ (p : Played). p.broker.words.kept) c.self.view_is in
+    let kept = ap (λ (b : Brokered). b.words.kept) c.broker.ensures.broker ∙ ap (λ (p : Played). p.broker.words.kept) c.self.view_is in
     let counted = c.len.ensures in
     let lent = c.deref.ensures.len in
     let value = ap length c.deref.ensures.value in

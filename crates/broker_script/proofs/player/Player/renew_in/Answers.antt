@@ -3,7 +3,8 @@ use Rattle.std.proofs.lemmas.Result.{IfOk-weaker}
 use Rattle.std.specs.Prelude.{Err}
 use Rattle.named.specs.Brokers.{Brokered}
 use Rattle.named.specs.Renewing.{IsWhyNotRenewedAt}
-use Rattle.broker_script.specs.Play.{Played}
+use Rattle.session.specs.Sessions.{Sessioned}
+use Rattle.broker_script.specs.Play.{Played, session_of}
 use Rattle.broker_script.proofs.PutOffs.{unchanged}
 use Rattle.broker_script.proofs.player.Player.renew_in.Goals as goal
 
@@ -22,13 +23,14 @@ returns-in-Err-clause-renews c =
         why = subst (λ (b : Brokered). IsWhyNotRenewedAt b c.args.slot.0 refusal) same c.in-Err.ensures.errors;
       };
       same =
-          ap (λ (p : Played). record p { broker = c.renew.new.self }) c.self.view_is
-          ∙ ap (λ (b : Brokered). record c.args.self.now { broker = b }) (c.in-Err.ensures.same ∙ same);
+          ap (λ (p : Played). record p { broker = c.renew.new.self.broker; kept = c.renew.new.self.kept }) c.self.view_is
+          ∙ ap (λ (s : Sessioned). record c.args.self.now { broker = s.broker; kept = s.kept })
+          (c.in-Err.ensures.same ∙ ap session_of c.self.view_is);
     }) c.refused.ensures.line
 
 pub returns-in-Err-clause-put_off : goal.returns-in-Err-clause-put_off
 returns-in-Err-clause-put_off c =
-    let same = ap (λ (p : Played). p.broker) c.self.view_is in
     unchanged c.refused.result c.args.self.now _
-    (ap (λ (p : Played). record p { broker = c.renew.new.self }) c.self.view_is
-    ∙ ap (λ (b : Brokered). record c.args.self.now { broker = b }) (c.in-Err.ensures.same ∙ same))
+    (ap (λ (p : Played). record p { broker = c.renew.new.self.broker; kept = c.renew.new.self.kept }) c.self.view_is
+    ∙ ap (λ (s : Sessioned). record c.args.self.now { broker = s.broker; kept = s.kept })
+    (c.in-Err.ensures.same ∙ ap session_of c.self.view_is))

@@ -14,7 +14,7 @@ told_of_queue-requires-clause-open c =
     slice_get_read c.args.places.now (length c.args.places.now) slot c.index-places-slot.result refl c.requires.slot c.index-places-slot.is in
     let has : slice_get c.args.self.now.broker.directory slot ≡ Some (Some c.in-Some.queue) =
     ap (λ d. slice_get d slot) (sym c.requires.places) ∙ here ∙ ap Some c.in-Some.is in
-    let well : IsWell c.args.self.now.broker = subst IsWell (ap (λ p. p.broker) c.self.view_is) c.self.invariant.well in
+    let well : IsWell c.args.self.now.broker = subst IsWell (ap (λ p. p.broker) c.self.view_is) c.self.invariant.broker.well in
     listed_open c.args.self.now.broker well slot c.in-Some.queue has
 
 pub returns-in-None-clause-lines : goal.returns-in-None-clause-lines
