@@ -5,3 +5,4 @@ pub mod StepsKeep
 pub mod Beginnings
 pub mod Anew
 pub mod Recoveries
+pub mod Lefts
