@@ -6,3 +6,4 @@ pub mod Beginnings
 pub mod Anew
 pub mod Recoveries
 pub mod Restarts
+pub mod Lefts

@@ -20,7 +20,6 @@ use std::alloc::{AllocError, Global};
 use std::marker::Brand;
 use std::net::{Net, TcpListener};
 use std::sync::Wait;
-use std::sync::atomic::{AtomicBool, Ordering};
 use std::thread::{Threads, join};
 use std::time::Clock;
 use words::Refusal;
@@ -31,13 +30,30 @@ fn keep_beside<J: Naming, F: Appender + Drop, S: Storage<F>, R: Wait + Clock>(
     rt: &R,
     journal: &SharedJournal<'_, J, F, S>,
     stopping: &Stopping,
-    ended: &AtomicBool,
 ) {
-    journal.keep_each_second(rt, ended);
+    journal.keep_each_second(rt, stopping.ended());
     if journal.has_failed() {
         stopping.say();
         stopping.tell(rt);
     }
+}
+
+/// Takes connections and serves them, as [`work`] does, and says when all have ended.
+fn work_to_end<
+    J: Naming + Send + Sync,
+    S: Settles + Sync,
+    R: Threads + Wait + Net + Clock + Log + Sync,
+>(
+    rt: &R,
+    alloc: Global,
+    sharing: Sharing<'_, J, S>,
+    stopping: &Stopping,
+    workers: u32,
+    listener: &TcpListener,
+) -> Result<(), AllocError> {
+    let worked = work(rt, alloc, sharing, stopping, workers, listener);
+    stopping.end();
+    worked
 }
 
 /// Takes connections and serves them, as [`work`] does, and beside that keeps the journal, where it is to be kept each
@@ -64,15 +80,10 @@ fn work_beside<
     if journal.policy() != Policy::EachSecond {
         return work(rt, alloc, sharing, &stopping, workers, listener);
     }
-    let ended = AtomicBool::new(false);
     let ((), worked) = join(
         rt,
-        || keep_beside(rt, journal, &stopping, &ended),
-        || {
-            let worked = work(rt, alloc, sharing, &stopping, workers, listener);
-            ended.store(true, Ordering::SeqCst);
-            worked
-        },
+        || keep_beside(rt, journal, &stopping),
+        || work_to_end(rt, alloc, sharing, &stopping, workers, listener),
     );
     worked
 }

@@ -14,6 +14,8 @@ pub(crate) struct Stopping {
     /// Where it is told to the thread that waits for it. There is room for one word.
     told: Sender<()>,
     heard: Receiver<()>,
+    /// Whether all connections have ended.
+    ended: AtomicBool,
 }
 
 impl Stopping {
@@ -24,6 +26,7 @@ impl Stopping {
             said: AtomicBool::new(false),
             told,
             heard,
+            ended: AtomicBool::new(false),
         })
     }
 
@@ -34,6 +37,16 @@ impl Stopping {
 
     pub(crate) fn is_said(&self) -> bool {
         self.said.load(Ordering::SeqCst)
+    }
+
+    /// All connections have ended.
+    pub(crate) fn end(&self) {
+        self.ended.store(true, Ordering::SeqCst);
+    }
+
+    /// Where it is said that they have.
+    pub(crate) fn ended(&self) -> &AtomicBool {
+        &self.ended
     }
 
     /// Tells it to whoever waits.

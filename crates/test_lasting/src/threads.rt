@@ -22,15 +22,15 @@ use words::{Call, Kind, Refusal, Reply};
 use workers::{Answer, Naming, Noting, OpenGate, Opened, Request, Seat, Shared};
 
 /// How many numbers each client puts.
-const NUMBERS: u64 = 3;
+const NUMBERS: u32 = 3;
 
 /// A put of a number in the queue `a`.
-fn put(number: u64) -> Result<Request, Refusal> {
+fn put(number: u32) -> Result<Request, Refusal> {
     let name = Name::make(b"a")?;
     Ok(Request {
         name,
-        number: Some(number),
-        call: Call::Enq(item(number as u32)),
+        number: Some(u64::from(number)),
+        call: Call::Enq(item(number)),
     })
 }
 
@@ -53,7 +53,7 @@ fn all_put<J: Naming, R: Wait, S: Settles>(
         if answer != Answer::Reply(Reply::Done) || journal.settle(rt).is_err() {
             return (seat, settled);
         }
-        settled = number;
+        settled = u64::from(number);
     }
     (seat, settled)
 }
@@ -85,8 +85,9 @@ fn settled<J: Naming + Send + Sync, R: Threads + Wait + Sync>(
             let Ok(settler) = Settler::begin(alloc, handed, words, &storage, policy) else {
                 return Ok(None);
             };
-            let journal: SharedJournal<'_, J, Device<'_>, Shelving<'_>> =
-                SharedJournal::new(alloc, &shared, &storage, settler);
+            let journal: SharedJournal<'_, J, Device<'_>, Shelving<'_>> = SharedJournal::new(
+                alloc, &shared, &storage, settler,
+            );
             let (zero, one) = taken_apart(seats).ok_or("two seats")?;
             let ((_zero, first), (_one, second)) = join(
                 rt,
@@ -131,8 +132,12 @@ fn nobody_is_answered_what_is_not_kept(rt: HostRuntime) -> Result<(), Fail> {
                 continue;
             };
             let (bytes, kept) = shelf.left(alloc)?;
-            assert!(rt; is_told(alloc, &bytes, kept, numbers)?, "from {first}, {many}");
-            assert!(rt; many > 1 || numbers == (NUMBERS, NUMBERS), "{first} alone");
+            assert!(rt;
+                is_told(alloc, &bytes, kept, numbers)?,
+                "from {first}, {many}"
+            );
+            let all = u64::from(NUMBERS);
+            assert!(rt; many > 1 || numbers == (all, all), "{first} alone");
         }
     }
     Ok(())
@@ -148,7 +153,10 @@ fn nobody_is_answered_what_is_not_appended(rt: HostRuntime) -> Result<(), Fail> 
                 continue;
             };
             let (bytes, _) = shelf.left(alloc)?;
-            assert!(rt; is_told(alloc, &bytes, bytes.len(), numbers)?, "from {first}, {part}");
+            assert!(rt;
+                is_told(alloc, &bytes, bytes.len(), numbers)?,
+                "from {first}, {part}"
+            );
         }
     }
     Ok(())

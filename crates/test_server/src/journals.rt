@@ -64,8 +64,14 @@ fn piped<R: Threads + Wait + Clock + Sync>(
         storage: &storage,
         policy,
     };
-    let left: Result<Left<Device<'_>>, Unserved> =
-        pipe_lasting(rt, alloc, broker, journaling, &mut reader, &mut writer);
+    let left: Result<Left<Device<'_>>, Unserved> = pipe_lasting(
+        rt,
+        alloc,
+        broker,
+        journaling,
+        &mut reader,
+        &mut writer,
+    );
     let replies = writer
         .written()
         .iter()
@@ -92,7 +98,10 @@ fn a_pipe_replies_only_what_is_kept(rt: HostRuntime) -> Result<(), Fail> {
                 is_told(alloc, &bytes, kept, numbers(replies))?,
                 "from {first}, {many}"
             );
-            assert!(rt; (ended == None) == (replies == PUTS.len() + 1), "from {first}, {many}");
+            assert!(rt;
+                (ended == None) == (replies == PUTS.len() + 1),
+                "from {first}, {many}"
+            );
             assert!(rt; many > 1 || ended == None, "{first} alone");
         }
     }
@@ -128,8 +137,9 @@ fn served<R: Threads + Wait + Net + Clock + Log + Sync>(
         policy,
     };
     let broker = fresh(alloc, 2, 6)?;
-    let left: Result<Left<Device<'_>>, Unserved> =
-        net_lasting(rt, alloc, broker, service, journaling, listener);
+    let left: Result<Left<Device<'_>>, Unserved> = net_lasting(
+        rt, alloc, broker, service, journaling, listener,
+    );
     Ok(left.err())
 }
 
@@ -167,7 +177,10 @@ fn connections_are_served_with_each_policy(rt: HostRuntime) -> Result<(), Fail> 
 fn unreplied<R: Net + Abort>(rt: &R, alloc: Global, address: SocketAddr) {
     let mut caller = called(rt, alloc, address);
     let reply = caller.ask(CREATE.as_bytes());
-    assert!(rt; reply.is_some_and(|reply| reply.is_empty()), "a reply of what is not kept");
+    assert!(rt;
+        reply.is_some_and(|reply| reply.is_empty()),
+        "a reply of what is not kept"
+    );
 }
 
 #[test]
