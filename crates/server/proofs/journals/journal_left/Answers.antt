@@ -4,10 +4,10 @@ use Rattle.server.proofs.journals.journal_left.Goals as goal
 
 pub returns-in-Ok-to_image : goal.returns-in-Ok-to_image
 returns-in-Ok-to_image g c =
-    let closed = c.close.ensures in
+    let closed = c.close-session.ensures in
     let image = c.in-Ok-to_image.ensures in
-    let words : c.close.result.1.words ≡ c.close.result.0.broker.words.kept = search rules in
-    let kept : c.close.result.1.kept ≡ c.close.result.1.size = search rules in
-    left_after _ _ g.J.Naming.first c.close.result.0 c.broker.result.now c.in-Ok-to_image.image.items c.close.result.1
+    let words : c.close-session.result.1.words ≡ c.close-session.result.0.broker.words.kept = search rules in
+    let kept : c.close-session.result.1.kept ≡ c.close-session.result.1.size = search rules in
+    left_after _ _ g.J.Naming.first c.close-session.result.0 c.broker.result.now c.in-Ok-to_image.image.items c.close-session.result.1
     c.broker.ensures.broker closed.lists closed.goes_on closed.promises image.image image.read image.boots words kept
     closed.moments
