@@ -10,8 +10,6 @@ mod connections;
 #[cfg(test)]
 mod failing;
 #[cfg(test)]
-mod journals;
-#[cfg(test)]
 mod patience;
 #[cfg(test)]
 mod playing;
