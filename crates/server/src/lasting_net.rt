@@ -10,7 +10,6 @@ use crate::connections::Sharing;
 use crate::journals::{Journaling, Left, Noted, Unserved, begin_noting, journal_left};
 use crate::listening::{Service, seated, work};
 use crate::stopping::Stopping;
-use desk::Seating;
 use journal_file::{Appender, Storage};
 use lasting::{Policy, Settler, SharedJournal};
 use log::Log;
@@ -20,18 +19,34 @@ use std::alloc::{AllocError, Global};
 use std::marker::Brand;
 use std::net::{Net, TcpListener};
 use std::sync::Wait;
+use std::sync::atomic::AtomicBool;
 use std::thread::{Threads, join};
 use std::time::Clock;
 use words::Refusal;
 use workers::Naming;
 
+/// A journal that is kept beside the connections.
+trait KeptBeside {
+    /// Whether it is to be kept each second.
+    fn is_kept_each_second(&self) -> bool;
+
+    /// Keeps it each second, until it is said that all connections have ended.
+    fn keep_until<R: Wait + Clock>(&self, rt: &R, ended: &AtomicBool);
+}
+
+impl<J: Naming, F: Appender + Drop, S: Storage<F>> KeptBeside for SharedJournal<'_, J, F, S> {
+    fn is_kept_each_second(&self) -> bool {
+        self.policy() == Policy::EachSecond
+    }
+
+    fn keep_until<R: Wait + Clock>(&self, rt: &R, ended: &AtomicBool) {
+        self.keep_each_second(rt, ended);
+    }
+}
+
 /// Keeps the journal each second until all connections have ended. Where it fails for good, no more are taken.
-fn keep_beside<J: Naming, F: Appender + Drop, S: Storage<F>, R: Wait + Clock>(
-    rt: &R,
-    journal: &SharedJournal<'_, J, F, S>,
-    stopping: &Stopping,
-) {
-    journal.keep_each_second(rt, stopping.ended());
+fn keep_beside<S: Settles + KeptBeside, R: Wait + Clock>(rt: &R, journal: &S, stopping: &Stopping) {
+    journal.keep_until(rt, stopping.ended());
     if journal.has_failed() {
         stopping.say();
         stopping.tell(rt);
@@ -60,24 +75,18 @@ fn work_to_end<
 /// second. At an `Err` there was no memory.
 fn work_beside<
     J: Naming + Send + Sync,
-    F: Appender + Drop + Send,
-    S: Storage<F> + Sync,
+    S: Settles + KeptBeside + Sync,
     R: Threads + Wait + Net + Clock + Log + Sync,
 >(
     rt: &R,
     alloc: Global,
-    seats: &Seating<J>,
-    journal: &SharedJournal<'_, J, F, S>,
+    sharing: Sharing<'_, J, S>,
     workers: u32,
     listener: &TcpListener,
 ) -> Result<(), AllocError> {
     let stopping = Stopping::new(alloc)?;
-    let sharing = Sharing {
-        shared: journal.shared(),
-        seats,
-        settles: journal,
-    };
-    if journal.policy() != Policy::EachSecond {
+    let journal = sharing.settles;
+    if !journal.is_kept_each_second() {
         return work(rt, alloc, sharing, &stopping, workers, listener);
     }
     let ((), worked) = join(
@@ -116,8 +125,13 @@ fn served<
     let Journaling { storage, policy } = journaling;
     let settler = Settler::begin(alloc, handed, words, storage, policy)?;
     let journal = SharedJournal::new(alloc, &shared, storage, settler);
+    let sharing = Sharing {
+        shared: &shared,
+        seats: &seats,
+        settles: &journal,
+    };
     let workers = service.workers.max(1);
-    if work_beside(rt, alloc, &seats, &journal, workers, listener).is_err() {
+    if work_beside(rt, alloc, sharing, workers, listener).is_err() {
         return Err(Unserved::Refused(Refusal::NoMemory));
     }
     // What no reply told of is settled and kept too. Where that fails for good, nothing is left.

@@ -25,14 +25,7 @@ use words::Refusal;
 use workers::Naming;
 
 /// Serves the requests of the reader to the writer, which are settled before each write.
-fn serve_settling<
-    J: Naming,
-    F: Appender + Drop,
-    S: Storage<F>,
-    T: Wait,
-    R: Reader,
-    W: Writer,
->(
+fn serve_settling<J: Naming, F: Appender + Drop, S: Storage<F>, T: Wait, R: Reader, W: Writer>(
     rt: &T,
     alloc: Global,
     seats: &Seating<J>,

@@ -88,11 +88,7 @@ fn wake_at_stop<R: Wait + Net + Log>(rt: &R, stopping: &Stopping, address: Optio
 
 /// So many workers serve the connections that are taken, until no more are. At an `Err` there was no memory for their
 /// threads.
-fn serve_all<
-    J: Naming + Send + Sync,
-    S: Settles + Sync,
-    R: Threads + Wait + Log + Sync,
->(
+fn serve_all<J: Naming + Send + Sync, S: Settles + Sync, R: Threads + Wait + Log + Sync>(
     rt: &R,
     alloc: Global,
     serving: &Serving<'_, J, S>,
