@@ -10,6 +10,7 @@ use crate::connections::Sharing;
 use crate::journals::{Journaling, Left, Noted, Unserved, begin_noting, journal_left};
 use crate::listening::{Service, seated, work};
 use crate::stopping::Stopping;
+use desk::Seating;
 use journal_file::{Appender, Storage};
 use lasting::{Policy, Settler, SharedJournal};
 use log::Log;
@@ -23,10 +24,13 @@ use std::sync::atomic::AtomicBool;
 use std::thread::{Threads, join};
 use std::time::Clock;
 use words::Refusal;
-use workers::Naming;
+use workers::{Naming, Shared};
 
-/// A journal that is kept beside the connections.
-trait KeptBeside {
+/// The journal of a shared session that is kept beside the connections.
+trait KeptBeside<J: Naming> {
+    /// The session.
+    fn session(&self) -> &Shared<J>;
+
     /// Whether it is to be kept each second.
     fn is_kept_each_second(&self) -> bool;
 
@@ -34,7 +38,11 @@ trait KeptBeside {
     fn keep_until<R: Wait + Clock>(&self, rt: &R, ended: &AtomicBool);
 }
 
-impl<J: Naming, F: Appender + Drop, S: Storage<F>> KeptBeside for SharedJournal<'_, J, F, S> {
+impl<J: Naming, F: Appender + Drop, S: Storage<F>> KeptBeside<J> for SharedJournal<'_, J, F, S> {
+    fn session(&self) -> &Shared<J> {
+        self.shared()
+    }
+
     fn is_kept_each_second(&self) -> bool {
         self.policy() == Policy::EachSecond
     }
@@ -45,7 +53,11 @@ impl<J: Naming, F: Appender + Drop, S: Storage<F>> KeptBeside for SharedJournal<
 }
 
 /// Keeps the journal each second until all connections have ended. Where it fails for good, no more are taken.
-fn keep_beside<S: Settles + KeptBeside, R: Wait + Clock>(rt: &R, journal: &S, stopping: &Stopping) {
+fn keep_beside<J: Naming, S: Settles + KeptBeside<J>, R: Wait + Clock>(
+    rt: &R,
+    journal: &S,
+    stopping: &Stopping,
+) {
     journal.keep_until(rt, stopping.ended());
     if journal.has_failed() {
         stopping.say();
@@ -75,17 +87,22 @@ fn work_to_end<
 /// second. At an `Err` there was no memory.
 fn work_beside<
     J: Naming + Send + Sync,
-    S: Settles + KeptBeside + Sync,
+    S: Settles + KeptBeside<J> + Sync,
     R: Threads + Wait + Net + Clock + Log + Sync,
 >(
     rt: &R,
     alloc: Global,
-    sharing: Sharing<'_, J, S>,
+    seats: &Seating<J>,
+    journal: &S,
     workers: u32,
     listener: &TcpListener,
 ) -> Result<(), AllocError> {
     let stopping = Stopping::new(alloc)?;
-    let journal = sharing.settles;
+    let sharing = Sharing {
+        shared: journal.session(),
+        seats,
+        settles: journal,
+    };
     if !journal.is_kept_each_second() {
         return work(rt, alloc, sharing, &stopping, workers, listener);
     }
@@ -125,13 +142,8 @@ fn served<
     let Journaling { storage, policy } = journaling;
     let settler = Settler::begin(alloc, handed, words, storage, policy)?;
     let journal = SharedJournal::new(alloc, &shared, storage, settler);
-    let sharing = Sharing {
-        shared: &shared,
-        seats: &seats,
-        settles: &journal,
-    };
     let workers = service.workers.max(1);
-    if work_beside(rt, alloc, sharing, workers, listener).is_err() {
+    if work_beside(rt, alloc, &seats, &journal, workers, listener).is_err() {
         return Err(Unserved::Refused(Refusal::NoMemory));
     }
     // What no reply told of is settled and kept too. Where that fails for good, nothing is left.
