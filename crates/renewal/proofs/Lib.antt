@@ -6,6 +6,7 @@ pub mod Sound
 pub mod Tellings
 pub mod Kept
 pub mod Words
+pub mod Unused
 pub mod Waiting
 pub mod Brokers
 pub mod Slots

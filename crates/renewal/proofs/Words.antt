@@ -31,7 +31,7 @@ use Rattle.renewal.proofs.Sound.{renewed_sound}
 use Rattle.renewal.proofs.Tellings.{renewed_holds, renewed_tells}
 
 -- past the layout there is no place, so the word is 0
-word_past : (r : Renewal) (w : ℕ) (o : Option Place)
+pub word_past : (r : Renewal) (w : ℕ) (o : Option Place)
     → MatchOption o (size_of r.shape ≤ w) (λ p. IsPlace r.shape p × (word_at r.shape p ≡ w)) → size_of r.shape ≤ w → renewed_or_zero r o ≡ 0
 word_past r w None named past = refl
 word_past r w (Some p) named past =

@@ -4,3 +4,4 @@ pub mod Renewed
 pub mod Words
 pub mod Broker
 pub mod OneQueue
+pub mod Zeros

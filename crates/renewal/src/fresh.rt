@@ -11,6 +11,7 @@ ghost use Rattle.renewal.specs.Words.{FitFresh, IsRenewalOf, MayBeRenewed, block
 use crate::block::fits;
 use crate::content::{content, count};
 use crate::renewal::Renewal;
+use crate::zeros::is_noted;
 use arena::{Layout, block_size};
 use persist::KeptWords;
 use recover::{KeptQueue, tells};
@@ -19,18 +20,21 @@ use std::marker::Model;
 use words::{Refusal, Reports, Value};
 
 /// The words of a queue's block in fresh records. It has what the queue holds and tells, and no word of the block: each
-/// is worked out where it is looked at. So it is as small as what the queue holds, and of each node what follows it.
+/// is worked out where it is looked at. So it is as small as what the queue holds, of each node what follows it, and a
+/// flag for each run of words, which says where the words are 0 since the records there are not used.
 #[derive(Drop)]
 pub struct FreshBlock {
     layout: Layout,
     content: Vec<Value>,
     tells: Reports,
     links: Vec<u32>,
+    zero_runs: Vec<bool>,
 }
 
 impl Model for FreshBlock {
     ghost use Rattle.std.specs.Prelude.{List, ℕ};
-    ghost use Rattle.renewal.specs.Words.{IsFresh, block_renewed};
+    ghost use Rattle.renewal.specs.Words.{block_renewed};
+    ghost use Rattle.renewal.specs.Zeros.{IsFreshBlock};
 
     ghost Value = { List ℕ };
 
@@ -40,11 +44,11 @@ impl Model for FreshBlock {
       tells = b.tells;
     }) };
 
-    ghost invariant = { λ b. IsFresh (record {
+    ghost invariant = { λ b. IsFreshBlock (record {
       shape = b.layout;
       content = b.content.items;
       tells = b.tells;
-    }) b.links.items };
+    }) b.links.items b.zero_runs.items };
 }
 
 /// What a word of the block becomes, or 0 past the queue's. Of each node `links` says what follows it on the chain.
@@ -77,11 +81,13 @@ impl FreshBlock {
             tells: &tells,
         };
         let links = renewal.links(alloc)?;
+        let zero_runs = renewal.zero_runs(alloc)?;
         Ok(FreshBlock {
             layout,
             content,
             tells,
             links,
+            zero_runs,
         })
     }
 
@@ -106,6 +112,9 @@ impl KeptWords for FreshBlock {
     }
 
     fn kept(&self, word: usize) -> u64 {
+        if is_noted(&self.zero_runs, word) {
+            return 0;
+        }
         let renewal = Renewal {
             layout: &self.layout,
             content: &self.content,

@@ -12,6 +12,7 @@ mod places;
 mod renewal;
 mod role;
 mod told;
+mod zeros;
 
 pub use block::renewed_block;
 pub use broker::renewed_broker;

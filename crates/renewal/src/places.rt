@@ -1,6 +1,6 @@
 //! The words of the places of a queue in fresh records.
 
-ghost use Rattle.std.specs.Prelude.{◌≡◌, ◌<◌, ℕ, [], if◌then◌else◌, length, slice_index, unwrap_or};
+ghost use Rattle.std.specs.Prelude.{◌≡◌, ◌≤◌, ◌<◌, ℕ, [], if◌then◌else◌, length, slice_index, unwrap_or};
 ghost use Rattle.arena.specs.Place.{IsClient, IsNode, IsPlace};
 ghost use Rattle.arena.specs.Words.{item_part};
 ghost use Rattle.renewal.specs.Renewal.{told_in};
@@ -26,7 +26,7 @@ use crate::renewal::Renewal;
 use crate::role::{Role, role_of};
 use crate::told::{has_verdict, number_told, told_node, told_status};
 use arena::{DEQUEUE_KIND, EMPTY_CELL, ENQUEUE_KIND, GOT_CELL, Part, Place, item_part};
-use words::{Client, NodeId, Outcome, Reply, Row, Token, Told, Value};
+use words::{Client, MAX_RECORDS, NodeId, Outcome, Reply, Row, Token, Told, Value};
 
 impl Renewal<'_> {
     /// Whether a node with this role is on the chain.
@@ -105,9 +105,11 @@ impl Renewal<'_> {
     }
 
     /// How many records the client has used.
-    fn used(&self, client: Client) -> u64
+    pub(crate) fn used(&self, client: Client) -> u64
         requires { IsClient self.now.shape client.0 }
-        ensures { result ≡ used_for self.now.shape (length self.now.content) client.0 }
+        ensures value { result ≡ used_for self.now.shape (length self.now.content) client.0 }
+        ensures within { result ≤ self.now.shape.records }
+        ensures small { result ≤ MAX_RECORDS }
     {
         let clients = self.layout.clients() as usize;
         (2 + (self.content.len() + (clients - 1 - client.0 as usize)) / clients) as u64

@@ -17,43 +17,43 @@ use Rattle.named.proofs.RenewedAt.{idle}
 use Rattle.named.proofs.Roomy.{room_in_each}
 use Rattle.named.proofs.broker.Broker.begin_anew.Goals as goal
 
-abbrev was : goal.After-drop-block-inside-2 → Brokered
+abbrev was : goal.After-drop-block-inside-3 → Brokered
 was c = record { counts = c.self.inside.layout; words = c.self.inside.memory.words; slots = c.self.inside.slots.items; directory = c.self.inside.directory; creation = c.self.inside.creation; recovery = c.self.inside.recovery }
 
-abbrev new : goal.After-drop-block-inside-2 → List ℕ
+abbrev new : goal.After-drop-block-inside-3 → List ℕ
 new c = queue_renewed c.args.slot.0 (was c).words.kept
 
 -- what it is now, and what that comes to
-abbrev now : goal.After-drop-block-inside-2 → Brokered
+abbrev now : goal.After-drop-block-inside-3 → Brokered
 now c = record { counts = c.self.inside.layout; words = c.rewrite.new.self.words; slots = c.args.anew.slots.items; directory = c.self.inside.directory; creation = c.self.inside.creation; recovery = Some (ReadDirectory c.boot.result) }
 
-abbrev anew : goal.After-drop-block-inside-2 → Brokered
+abbrev anew : goal.After-drop-block-inside-3 → Brokered
 anew c = record { counts = c.self.inside.layout; words = words_at_rest (new c); slots = c.args.anew.slots.items; directory = c.self.inside.directory; creation = None; recovery = booting }
 
-rests : (c : goal.After-drop-block-inside-2) → rotate_result false (was c) ≡ Ok tt
+rests : (c : goal.After-drop-block-inside-3) → rotate_result false (was c) ≡ Ok tt
 rests c = ap (rotate_result false) c.self.view_is ∙ c.requires.may.rests
 
-given : (c : goal.After-drop-block-inside-2) → IsAnewFor (was c) c.args.slot.0 c.args.anew.slots.items c.args.anew.block
+given : (c : goal.After-drop-block-inside-3) → IsAnewFor (was c) c.args.slot.0 c.args.anew.slots.items c.args.anew.block
 given c = subst (λ (x : Brokered). IsAnewFor x c.args.slot.0 c.args.anew.slots.items c.args.anew.block) (sym c.self.view_is) c.requires.anew
 
-words_are : (c : goal.After-drop-block-inside-2) → c.rewrite.new.self.words ≡ words_at_rest (new c)
+words_are : (c : goal.After-drop-block-inside-3) → c.rewrite.new.self.words ≡ words_at_rest (new c)
 words_are c =
     c.rewrite.ensures.words
     ∙ ap (λ (n : ℕ). words_at_rest (overwritten n c.args.anew.block (was c).words.kept)) c.block.ensures.from
     ∙ ap words_at_rest (given c).words
 
-is : (c : goal.After-drop-block-inside-2) → now c ≡ anew c
+is : (c : goal.After-drop-block-inside-3) → now c ≡ anew c
 is c =
     ap (λ (ws : Words). let x : Brokered = record (now c) { words = ws } in x) (words_are c)
     ∙ ap (λ (k : Option Creation). let x : Brokered = record (now c) { words = words_at_rest (new c); creation = k } in x) (idle (was c) c.self.invariant.well (rests c))
     ∙ ap (λ (r : DirectoryRecovery). let x : Brokered = record (anew c) { recovery = Some (ReadDirectory r) } in x) c.boot.ensures
 
-well : (c : goal.After-drop-block-inside-2) → IsWell (now c)
+well : (c : goal.After-drop-block-inside-3) → IsWell (now c)
 well c =
     subst IsWell (sym (is c))
     (anew_well (was c) c.self.invariant.well (rests c) c.args.slot.0 (new c) (given c).same c.args.anew.slots.items (given c).booted)
 
-worlds : (c : goal.After-drop-block-inside-2) (at : ℕ) → at < 8
+worlds : (c : goal.After-drop-block-inside-3) (at : ℕ) → at < 8
     → world_at (now c) at ≡ world_booted c.self.inside.layout at (words_at_rest (new c)) (slot_in (new c) at)
 worlds c at below =
     ap (λ (x : Brokered). world_at x at) (is c)
