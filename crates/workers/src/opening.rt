@@ -54,8 +54,10 @@ impl Model for Opened {
 /// Why a session is not shared; it is handed back.
 #[derive(Drop)]
 pub struct NotOpened {
-    pub refusal: Refusal,
+    // The session stands first, as in `Opened`: where one is moved to either, LLVM (22) splits its eleven thousand bytes
+    // at every offset of both, and takes minutes, or does not end.
     pub session: Session,
+    pub refusal: Refusal,
 }
 
 /// Whether a client has a call under way in the queue of this slot.
