@@ -168,12 +168,10 @@ impl<J: Naming, F: Appender + Drop, S: Storage<F>> Settles for SharedJournal<'_,
         if self.has_failed() {
             return Err(Failed);
         }
-        let (settled, failed) = self.place.lock(rt).settle(
-            rt,
-            self.alloc,
-            self.shared,
-            self.storage,
-        );
+        let (settled, failed) = self
+            .place
+            .lock(rt)
+            .settle(rt, self.alloc, self.shared, self.storage);
         self.note(failed);
         settled
     }

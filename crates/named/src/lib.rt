@@ -18,7 +18,5 @@ mod slots;
 mod stopping;
 
 pub use broker::Broker;
-pub use laws::{
-    brokers_go_on, brokers_outlast_rotations, downtimes_go_on, open_queues_are_kept,
-};
+pub use laws::{brokers_go_on, brokers_outlast_rotations, downtimes_go_on, open_queues_are_kept};
 pub use recovery::BrokerRecovery;

@@ -10,8 +10,13 @@ use Rattle.named.proofs.broker.Broker.renew_noted.Goals as goal
 
 pub note_rewrite-requires : goal.note_rewrite-requires
 note_rewrite-requires c =
-    omega (arith, c.in_ok-anew.ensures.anew.within, c.block-from.ensures.from,
-    ap (λ (b : Brokered). block_from b.counts c.args.slot.0) c.self.view_is, ap (λ (b : Brokered). length b.words.kept) c.self.view_is)
+    omega (
+      arith,
+      c.in_ok-anew.ensures.anew.within,
+      c.block-from.ensures.from,
+      ap (λ (b : Brokered). block_from b.counts c.args.slot.0) c.self.view_is,
+      ap (λ (b : Brokered). length b.words.kept) c.self.view_is,
+    )
 
 -- what was not refused was noted
 done : {T E : Type 0} (r : Result T E) (P : Type 0) → is_err r ≡ false → OnOk r P → P
