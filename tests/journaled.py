@@ -1,7 +1,7 @@
-"""journaled.py PQD KILLING REFUSING: `pqd --journal` that is stopped, or whose device fails, at each call of the system
-by which it writes its journal (the library tests/killing.c), or which is refused memory (tests/refusing.c). A client
-plays a story of requests, and after each stop sends again the one that was not answered, to a server that begins on what
-is left: every reply is the story's. Journals are cut off, damaged, and locked. Prints what was seen, and what is wrong."""
+"""journaled.py PQD LIBRARY: `pqd --journal` that is stopped, or whose device fails, at each call of the system by which
+it writes its journal (the library tests/killing.c). A client plays a story of requests, and after each stop sends again
+the one that was not answered, to a server that begins on what is left: every reply is the story's. Journals are cut
+off, damaged, and locked. Prints what was seen, and what is wrong."""
 
 import json
 import os
@@ -18,7 +18,7 @@ sys.path.insert(0, str(Path(__file__).parent.parent / "bench" / "plain"))
 import image
 import journal
 
-PQD, LIBRARY, REFUSING = sys.argv[1:]
+PQD, LIBRARY = sys.argv[1:]
 CALLS = ("open", "write", "fdatasync", "fsync", "rename")
 
 
@@ -50,8 +50,6 @@ def story():
 
 
 STORY = list(story())
-# How many of its requests are made while memory is refused.
-SHORT = 7
 # What a creation that was not answered may be answered when it is sent again.
 THERE = "Exists"
 
@@ -184,7 +182,7 @@ def clear(file):
 def full(file, policy):
     """Files that take so many bytes and no more: a journal that has grown goes on as a shorter one."""
     sizes = over = 0
-    for size in range(24000, 32000, 400):
+    for size in range(20000, 28000, 400):
         clear(file)
         words = [sys.executable, "-B", "tests/devices.py", "full", str(size), PQD, "pipe", "--clients", "2"]
         words += ["--records", "16", "--journal", file, "--sync", policy]
@@ -222,41 +220,6 @@ def ends_of(data):
         changes = int.from_bytes(data[ends[-1] + 16:ends[-1] + 20], "little")
         ends.append(ends[-1] + 28 + 12 * changes)
     return ends
-
-
-def refused_memory(file):
-    """Each allocation is refused in turn. What was refused memory is asked once more; a server that ends left a journal
-    from which the next one goes on."""
-    said_so = {"pqd: 6 NoMemory\n": 0, "pqd: 27 WriteFailed\n": 0}
-    again = 0
-    clear(file)
-    broker = Broker(file, REFUSED="0", LD_PRELOAD=REFUSING)
-    for request, _ in STORY[:SHORT]:
-        broker.ask(request)
-    for number in range(1, int(broker.end()[1]) + 1):
-        clear(file)
-        broker = Broker(file, REFUSED=str(number), LD_PRELOAD=REFUSING)
-        at = tries = 0
-        while at < SHORT:
-            request, wanted = STORY[at]
-            reply = broker.ask(request)
-            if reply is None:
-                break
-            if reply.get("name", reply.get("reply")) in ("NoMemory", "unfinished", "Busy") and tries < 4:
-                tries += 1
-                continue
-            there = request["op"] == "create" and reply.get("name") == THERE and tries > 0
-            require(there or reply == wanted, f"allocation {number} refused: {request} was answered {reply}")
-            at += 1
-        again += tries
-        status, said = broker.end()
-        require(status == (said != "") and (said == "" or said in said_so), f"allocation {number}: {status}", said)
-        if said:
-            said_so[said] += 1
-        require(at == SHORT or said, f"allocation {number}: only {at} were answered")
-        go_on(file, at)
-    require(again > 0 and all(said_so.values()), again, said_so)
-    return "each allocation refused: asked again, or said; each reply is the story's"
 
 
 def cut_off(file):
@@ -390,7 +353,7 @@ def main():
             print(stopped_everywhere(file, policy))
             print(failing_everywhere(file, policy))
             print(full(file, policy))
-        for rows in (refused_memory, cut_off, damaged, in_use, with_images):
+        for rows in (cut_off, damaged, in_use, with_images):
             print(rows(file))
         print(odd_files(file, folder))
 

@@ -1,6 +1,6 @@
 #!/usr/bin/env bash
 # `pqd` with a journal: killed behind replies, stopped before and after each call of the system by which it writes, each
-# such call failing, full files, refused memory, journals that are cut off, damaged, in use or none. It takes the program that the last
+# such call failing, full files, journals that are cut off, damaged, in use or none. It takes the program that the last
 # `rt ci`, or `rt run` in crates/pqd, left, or the one that PQD names.
 set -eu
 cd "$(dirname "$0")/.."
@@ -9,11 +9,9 @@ pqd=${PQD:-$PWD/crates/pqd/out/pqd}
 need "$pqd"
 "$(dirname "$(rt doc)")/toolchain/bin/clang" --target=x86_64-unknown-linux-gnu -shared -fPIC -nostdlib -fuse-ld=lld \
     -o "$work/killing.so" tests/killing.c
-"$(dirname "$(rt doc)")/toolchain/bin/clang" --target=x86_64-unknown-linux-gnu -shared -fPIC -nostdlib -fuse-ld=lld \
-    -o "$work/refusing.so" tests/refusing.c
 
 journaled() {
-    python3 -B tests/journaled.py "$pqd" "$work/killing.so" "$work/refusing.so" > "$work/out" 2>&1 || true
+    python3 -B tests/journaled.py "$pqd" "$work/killing.so" > "$work/out" 2>&1 || true
     difference 'journaled' tests/journaled.txt "$work/out"
 }
 judge 'journaled' "$(journaled)"
