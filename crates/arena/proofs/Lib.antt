@@ -1,2 +1,3 @@
-pub mod BrokerWords
-pub mod Chains
+mod BrokerWords
+mod Chains
+pub mod Facts

@@ -3,8 +3,7 @@ use Rattle.std.specs.Prelude.{◌≡◌, ◌<◌, ◌^◌, ℕ, length, refl}
 use Rattle.std.specs.Int.{w32, to_le_bytes}
 use Rattle.words.specs.Item.{AreParts, item_of, first_word, second_word, third_word}
 use Rattle.words.specs.PlainQueue.{Value, FitsValue}
-use Rattle.words.proofs.Items.{parts_again}
-use Rattle.words.proofs.Parts.{item_fits, parts_are}
+use Rattle.words.proofs.Facts.{item_fits, parts_again, parts_are}
 use Rattle.arena.specs.Form.{running}
 use Rattle.arena.specs.declared.form.Form.{Form}
 use Rattle.arena.specs.declared.form.Form.TheVariants.{OfValues, OfItems}
@@ -12,7 +11,8 @@ use Rattle.arena.specs.declared.place.Write.{Write}
 use Rattle.arena.specs.declared.place.Part.{Part}
 use Rattle.arena.specs.declared.place.Part.TheVariants.{Length, First, Second, Third}
 use Rattle.arena.specs.declared.place.Place.{Place}
-use Rattle.arena.specs.declared.place.Place.TheVariants.{Announcement, Bump, Item, Next, Mark, Cell, Insert, Number, EntryKind, Status, EntryNode}
+use Rattle.arena.specs.declared.place.Place.TheVariants.{Announcement, Bump, Item, Next, Mark, Cell, Insert, Number}
+use Rattle.arena.specs.declared.place.Place.TheVariants.{EntryKind, Status, EntryNode}
 
 -- the words of one kind, each by its number
 abbrev pub links : (Place → ℕ) → ℕ → ℕ

@@ -1,4 +1,4 @@
-pub mod Leading
-pub mod Drawing
-pub mod Explaining
-pub mod Sweeps
+mod Leading
+mod Drawing
+mod Explaining
+mod Sweeps

@@ -17,7 +17,7 @@ use Rattle.playing.specs.Steps.{call_counted, count_after}
 use Rattle.playing.specs.declared.lines.Line.{Line}
 use Rattle.playing.specs.declared.lines.Line.TheVariants.{Return}
 use Rattle.playing.specs.declared.steps.Steps.{Steps}
-use Rattle.playing.proofs.Plays.{refused_same}
+use Rattle.playing.proofs.Facts.{refused_same}
 use Rattle.broker_script.specs.OnQueue.{answer_line, IsAnsweredBy, IsOnlyIn}
 use Rattle.broker_script.specs.Play.{Played, no_steps, play_at, steps_at, the_world}
 use Rattle.broker_script.proofs.Worlds.{is_world, started_alone, stepped_alone, IsAsAlone}

@@ -2,7 +2,7 @@
 use Rattle.std.proofs.Common.{◌≡◌, refl, sym, subst, ℕ, ◌+◌, ◌<◌, ◌≤◌, Bool, true, false, List, [], ◌∷◌, ◌++◌, drop, get_or, length}
 use Rattle.std.specs.Prelude.{Some, slice_get}
 use Rattle.grammar.specs.declared.commands.Command.TheVariants.{Again}
-use Rattle.playing.proofs.Again.{comes_next, nothing_pending, pending, put_off_first}
+use Rattle.playing.proofs.Facts.{comes_next, nothing_pending, pending, put_off_first}
 use Rattle.broker_script.specs.Play.{Played}
 use Rattle.broker_script.specs.PutOff.{no_memory, IsPutOff}
 use Rattle.broker_script.specs.Transcript.{FollowsAll, FollowsLine}

@@ -2,7 +2,7 @@
 use Rattle.std.proofs.Common.{◌≡◌, refl, ap, ◌∙◌, subst, arith}
 use Rattle.std.specs.Prelude.{Option, Some, None, Ok, Err, IfSome, is_some, slice_get, slice_set}
 use Rattle.arena.specs.declared.broker.SlotId.{SlotId}
-use Rattle.directory.proofs.Creations.{set_here}
+use Rattle.directory.proofs.Facts.{set_here}
 use Rattle.directory.specs.Creation.{after_point, next_of, successor}
 use Rattle.directory.specs.Directory.{Directory, HasQueue}
 use Rattle.directory.specs.declared.creation.Creation.{Creation}

@@ -3,7 +3,7 @@ use Rattle.std.proofs.Common.{◌≡◌, ℕ, ◌+◌, ◌==◌, Bool, true, fal
 use Rattle.std.proofs.lemmas.List.Splits.{length-slice_split, slice_split-cons_no, slice_split-cons_yes}
 use Rattle.std.specs.List.{onto_first, slice_split}
 use Rattle.std.specs.Prelude.{Option, Some, None, MatchOption, position}
-use Rattle.grammar.proofs.Cuts.{cut_at_first, some_word}
+use Rattle.grammar.proofs.Facts.{cut_at_first, some_word}
 use Rattle.grammar.specs.Lines.{words_of}
 
 -- a text of one word is that word

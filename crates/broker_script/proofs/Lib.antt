@@ -1,15 +1,16 @@
-pub mod OtherLines
-pub mod Cuts
-pub mod Words
-pub mod Scripts
-pub mod Worlds
-pub mod Created
-pub mod Acted
-pub mod Staying
-pub mod Making
-pub mod Going
-pub mod PutOffs
-pub mod Asked
-pub mod Again
-pub mod Printing
+mod OtherLines
+mod Cuts
+mod Words
+mod Scripts
+mod Worlds
+mod Created
+mod Acted
+mod Staying
+mod Making
+mod Going
+mod PutOffs
+mod Asked
+mod Again
+mod Printing
 mod Imaged
+pub mod Facts

@@ -14,7 +14,8 @@ use Rattle.directory.specs.Directory.{Directory, HasQueue}
 use Rattle.directory.specs.declared.limits.TheConstants.{CREATION_STEPS}
 use Rattle.directory.specs.declared.queue.Queue.{Queue}
 use Rattle.grammar.specs.declared.commands.Command.{Command}
-use Rattle.grammar.specs.declared.commands.Command.TheVariants.{Enq, NumberedEnq, Deq, NumberedDeq, Step, End, Evict, Crash, Recover, RecoverBy, Content, Order, Again}
+use Rattle.grammar.specs.declared.commands.Command.TheVariants.{Enq, NumberedEnq, Deq, NumberedDeq, Step, End, Evict}
+use Rattle.grammar.specs.declared.commands.Command.TheVariants.{Crash, Recover, RecoverBy, Content, Order, Again}
 use Rattle.interleave.specs.Calls.{is_no_memory}
 use Rattle.interleave.specs.State.{State, recover_result, recover_result_with}
 use Rattle.recover.specs.declared.recovery.Recovery.{Recovery}
@@ -32,20 +33,24 @@ use Rattle.broker_script.specs.OnQueue.{Follows, FollowsPlaced, IsRefusedOn, has
 use Rattle.broker_script.specs.Play.{Played, session_of, the_world}
 use Rattle.session.specs.Keeping.{SessionGoesOn}
 use Rattle.session.specs.Sessions.{Sessioned}
-use Rattle.broker_script.specs.Recovering.{Recovers, RecoversBy, ready, ends_ready, goes_on_ready, stays_by, ready_by, ends_by, goes_on_by}
+use Rattle.broker_script.specs.Recovering.{Recovers, RecoversBy, ready, ends_ready, goes_on_ready, stays_by, ready_by}
+use Rattle.broker_script.specs.Recovering.{ends_by, goes_on_by}
 use Rattle.broker_script.specs.Renewing.{RenewsPlaced}
 use Rattle.broker_script.specs.Standing.{keeps_queues, QueuesStay}
 use Rattle.broker_script.specs.Transcript.{FollowsLine, FollowsWhole}
 use Rattle.named.specs.GoingOn.{BrokerGoesOn}
 use Rattle.named.specs.Renewing.{IsRenewedAt}
 use Rattle.named.specs.Rotating.{IsRotated, rotate_result}
-use Rattle.named.proofs.GoingOn.{broker_goes_further}
+use Rattle.named.proofs.Facts.{broker_goes_further}
 use Rattle.playing.specs.declared.lines.Line.TheVariants.{Refused}
 use Rattle.broker_script.specs.declared.printed.Printed.{Printed}
 use Rattle.broker_script.specs.declared.printed.Printed.TheVariants.{Whole}
 use Rattle.broker_script.specs.declared.statements.Ask.{Ask}
 use Rattle.broker_script.specs.declared.statements.Statement.{Statement}
-use Rattle.broker_script.specs.declared.statements.Statement.TheVariants.{Create, BeginCreation, CreateStep, CreateSteps, Find, List as list_queues, Rotate, Renew, Image, SetWord, Boot, Whole as whole, On, Told, Asks}
+use Rattle.broker_script.specs.declared.statements.Statement.TheVariants.{Create, BeginCreation, CreateStep}
+use Rattle.broker_script.specs.declared.statements.Statement.TheVariants.{CreateSteps, Find, List as list_queues}
+use Rattle.broker_script.specs.declared.statements.Statement.TheVariants.{Rotate, Renew, Image, SetWord, Boot}
+use Rattle.broker_script.specs.declared.statements.Statement.TheVariants.{Whole as whole, On, Told, Asks}
 use Rattle.broker_script.proofs.Worlds.{had_memory, listed_open}
 
 -- a queue that recovers goes on

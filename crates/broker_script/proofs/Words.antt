@@ -8,18 +8,23 @@ use Rattle.std.specs.Str.Parse.{digits_value}
 use Rattle.words.specs.declared.call.Client.{Client}
 use Rattle.words.specs.declared.call.Kind.{Kind}
 use Rattle.words.specs.declared.call.Kind.TheVariants.{Durable, Log}
-use Rattle.grammar.proofs.Unique.{read, command_in, command_back, value_in, value_back}
+use Rattle.grammar.proofs.Facts.{command_back, command_in, read, value_back, value_in}
 use Rattle.words.specs.declared.call.Call.{Call}
 use Rattle.words.specs.declared.call.Call.TheVariants.{Enq as enq_call, Deq as deq_call}
 use Rattle.grammar.specs.Grammar.{command_words, kind_word, IsServed}
 use Rattle.grammar.specs.declared.commands.Command.{Command}
-use Rattle.grammar.specs.declared.commands.Command.TheVariants.{Enq, NumberedEnq, Deq, NumberedDeq, Step, End, Evict, Crash, Recover, RecoverBy, Content, Order, Again}
-use Rattle.broker_script.specs.Grammar.{ask_words, broker_words, call_words, label, statement_words, IsServedAsk, IsServedBroker, IsServedCall, IsServedStatement}
+use Rattle.grammar.specs.declared.commands.Command.TheVariants.{Enq, NumberedEnq, Deq, NumberedDeq, Step, End, Evict}
+use Rattle.grammar.specs.declared.commands.Command.TheVariants.{Crash, Recover, RecoverBy, Content, Order, Again}
+use Rattle.broker_script.specs.Grammar.{ask_words, broker_words, call_words, label, statement_words, IsServedAsk}
+use Rattle.broker_script.specs.Grammar.{IsServedBroker, IsServedCall, IsServedStatement}
 use Rattle.broker_script.specs.declared.statements.Ask.{Ask}
 use Rattle.broker_script.specs.declared.statements.Ask.TheVariants.{Request, Plain, Begin}
 use Rattle.broker_script.specs.declared.statements.BrokerLine.{BrokerLine}
 use Rattle.broker_script.specs.declared.statements.Statement.{Statement}
-use Rattle.broker_script.specs.declared.statements.Statement.TheVariants.{Create, BeginCreation, CreateStep, CreateSteps, Find, List as list_queues, Rotate, Renew, Image, SetWord, Boot, Whole, On, Told, Asks}
+use Rattle.broker_script.specs.declared.statements.Statement.TheVariants.{Create, BeginCreation, CreateStep}
+use Rattle.broker_script.specs.declared.statements.Statement.TheVariants.{CreateSteps, Find, List as list_queues}
+use Rattle.broker_script.specs.declared.statements.Statement.TheVariants.{Rotate, Renew, Image, SetWord, Boot, Whole}
+use Rattle.broker_script.specs.declared.statements.Statement.TheVariants.{On, Told, Asks}
 
 -- the words from the second one on, each as a number
 number_at : List (List ℕ) → ℕ → ℕ

@@ -5,7 +5,7 @@ use Rattle.words.specs.declared.refusal.Refusal.TheVariants.{NoClient}
 use Rattle.wire.specs.declared.answer.Answer.{Answer}
 use Rattle.wire.specs.declared.answer.Answer.TheVariants.{Refused}
 use Rattle.wire.specs.declared.request.Request.{Request}
-use Rattle.events.proofs.Lists.{get_last, get_push_cases}
+use Rattle.events.proofs.Facts.{get_last, get_push_cases}
 use Rattle.desk.specs.Requests.{is_answer_to, is_stop_answer, NamesNoClient}
 use Rattle.desk.specs.Serving.{AreAnswered, has_stopped, is_stopping}
 

@@ -1,3 +1,4 @@
-pub mod Placing
-pub mod Settling
-pub mod Keeping
+mod Placing
+mod Settling
+mod Keeping
+pub mod Facts

@@ -5,7 +5,7 @@ use Rattle.std.specs.Prelude.{slice_set}
 use Rattle.std.proofs.lemmas.List.{append-nil, append_assoc, length-map}
 use Rattle.std.proofs.lemmas.Option.{same_Some, slice_get_within}
 use Rattle.words.specs.declared.call.Client.{Client}
-use Rattle.events.proofs.Lists.{get_push_cases}
+use Rattle.events.proofs.Facts.{get_push_cases}
 use Rattle.workers.specs.Seats.{AreAllInOrder}
 use Rattle.desk.specs.Seating.{AreBack, AreInPlaces}
 

@@ -1,1 +1,1 @@
-pub mod Writes
+mod Writes

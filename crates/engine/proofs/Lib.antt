@@ -1,9 +1,9 @@
-pub mod Newlines
-pub mod WholeLines
-pub mod Fitting
-pub mod Handling
-pub mod Long
-pub mod Buffers
-pub mod Replying
-pub mod Between
+mod Newlines
+mod WholeLines
+mod Fitting
+mod Handling
+mod Long
+mod Buffers
+mod Replying
+mod Between
 mod Unknown

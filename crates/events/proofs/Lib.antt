@@ -1,14 +1,15 @@
-pub mod Items
-pub mod Lists
-pub mod KeptEvents
-pub mod Growing
-pub mod Members
-pub mod EffectLists
-pub mod GrowingTold
-pub mod GrowingReplay
-pub mod Openings
-pub mod TraceGrows
-pub mod TraceEffects
-pub mod TraceQueue
-pub mod Interrupted
-pub mod TraceExplains
+mod Items
+mod Lists
+mod KeptEvents
+mod Growing
+mod Members
+mod EffectLists
+mod GrowingTold
+mod GrowingReplay
+mod Openings
+mod TraceGrows
+mod TraceEffects
+mod TraceQueue
+mod Interrupted
+mod TraceExplains
+pub mod Facts

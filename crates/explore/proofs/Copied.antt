@@ -9,7 +9,8 @@ use Rattle.std.proofs.lemmas.Bool.{ne_eqb}
 use Rattle.words.specs.declared.limits.TheConstants.{MAX_CLIENTS, RECOVERY_PORT}
 use Rattle.words.specs.declared.told.Told.{Told}
 use Rattle.words.specs.declared.told.Told.TheVariants.{None as told_none}
-use Rattle.persist.specs.Memory.{Access, Cas, Fence, Flush, Lent, Load, Request, Nothing, Store, Words, after, words_after_access, words_after_store}
+use Rattle.persist.specs.Memory.{Access, Cas, Fence, Flush, Lent, Load, Request, Nothing, Store, Words, after}
+use Rattle.persist.specs.Memory.{words_after_access, words_after_store}
 use Rattle.words.specs.PlainQueue.{Value}
 use Rattle.arena.specs.Content.{kept_content as content_of}
 use Rattle.arena.specs.Layout.{size_of, word_at}
@@ -22,20 +23,21 @@ use Rattle.recover.specs.declared.recovery.Recovery.{Recovery}
 use Rattle.protocol.specs.Machine.{World, next_recovery, recovery_events, recovery_left}
 use Rattle.protocol.specs.Measure.{steps_left}
 use Rattle.protocol.specs.declared.acts.Act.TheVariants.{Recover}
-use Rattle.protocol.proofs.worlds.Facts.{left_falls, recovery_point}
+use Rattle.protocol.proofs.Facts.{left_falls, recovery_point}
 use Rattle.interleave.specs.Asked.{AreAsked, IfRecoveryAsked, recovery_lent_with}
 use Rattle.interleave.specs.Holds.{Holds, from_invariant}
 use Rattle.interleave.specs.Queue.{told_in}
-use Rattle.interleave.specs.State.{State, after_acts, after_recover, after_recovery_step, after_stop, count_of, is_accepted, kept_content, machine, order_in, most_to_ready, queue_at_ready, recover_result_with, recover_with, steps_to_ready, taken_of, is_down}
+use Rattle.interleave.specs.State.{State, after_acts, after_recover, after_recovery_step, after_stop, count_of}
+use Rattle.interleave.specs.State.{is_accepted, kept_content, machine, order_in, most_to_ready, queue_at_ready}
+use Rattle.interleave.specs.State.{recover_result_with, recover_with, steps_to_ready, taken_of, is_down}
 use Rattle.interleave.specs.declared.queue.Queue.{Queue}
-use Rattle.interleave.proofs.AskedKept.{AskElsewhere, asked_at_boot, asked_recovered}
-use Rattle.interleave.proofs.DownLaws.{some_left}
-use Rattle.interleave.proofs.HoldsKept.{holds_after_crash, holds_after_recover, part_after_crash, part_after_recover, recovered_is, recovery_next, recovery_reads}
-use Rattle.interleave.proofs.KeptTells.{few_to_ready, told_again}
+use Rattle.interleave.proofs.Facts.{AskElsewhere, asked_at_boot, asked_recovered, few_to_ready, holds_after_crash}
+use Rattle.interleave.proofs.Facts.{holds_after_recover, part_after_crash, part_after_recover, recovered_is}
+use Rattle.interleave.proofs.Facts.{recovery_next, recovery_reads, some_left, told_again}
 use Rattle.interleave.specs.Ranges.{KeptFit}
 use Rattle.interleave.specs.Values.{value_of_place}
 use Rattle.playing.specs.Transcript.{told_at}
-use Rattle.playing.proofs.Shapes.{after_acts_shape}
+use Rattle.playing.proofs.Facts.{after_acts_shape}
 use Rattle.explore.specs.Points.{recovered, recovery_of}
 use Rattle.explore.proofs.Sizes.{after_acts_size}
 

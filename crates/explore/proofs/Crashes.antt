@@ -5,10 +5,11 @@ use Rattle.arena.specs.Shape.{Shape}
 use Rattle.protocol.specs.declared.acts.Act.{Act}
 use Rattle.protocol.specs.declared.acts.Act.TheVariants.{Evict, Recover}
 use Rattle.interleave.specs.State.{State, new_world, after_acts, after_crash, after_stop, taken_of, most_to_ready}
-use Rattle.explore.specs.Points.{crashed_world, evicted_words, found_in, found_by_recovery, found_stopped, recovery_of, found_after}
+use Rattle.explore.specs.Points.{crashed_world, evicted_words, found_in, found_by_recovery, found_stopped, recovery_of}
+use Rattle.explore.specs.Points.{found_after}
 use Rattle.explore.specs.declared.evictions.Evictions.{Evictions}
 use Rattle.explore.specs.declared.evictions.Evictions.TheVariants.{None as no_word}
-use Rattle.playing.proofs.Shapes.{after_acts_shape}
+use Rattle.playing.proofs.Facts.{after_acts_shape}
 
 pub evictions_of : Shape → Evictions → ℕ → List (Act ℕ)
 evictions_of s evictions point = map Evict (evicted_words evictions (size_of s) point)

@@ -1,9 +1,10 @@
-pub mod Draws
-pub mod Crashes
-pub mod Explained
-pub mod Sizes
-pub mod Copied
-pub mod Sweeps
-pub mod Written
-pub mod Printing
-pub mod Parts
+mod Draws
+mod Crashes
+mod Explained
+mod Sizes
+mod Copied
+mod Sweeps
+mod Written
+mod Printing
+mod Parts
+pub mod Facts

@@ -22,8 +22,7 @@ use Rattle.events.specs.History.{CallAt, ReturnAt, CrashAt, ReadyAt, BeginsAt, I
 use Rattle.events.specs.Orders.{IsTakenAs, InOrder, IsNew}
 use Rattle.events.specs.Telling.{IsOutcome, Says, IsToldSome, IsToldBase, TellsAt}
 use Rattle.events.specs.Telling.{IsNextReady}
-use Rattle.events.proofs.Interrupted.{one_reply, told_if_interrupted}
-use Rattle.events.proofs.Members.{in_order_from_taken}
+use Rattle.events.proofs.Facts.{in_order_from_taken, one_reply, told_if_interrupted}
 use Rattle.findings.specs.Findings.{IsLearnt, Agrees, ExplainsFindings}
 use Rattle.findings.specs.Filling.{IsInterrupted, IsRecorded, HasEventsOf, TellsOutcome, IsFilling, told_nothing}
 use Rattle.findings.specs.Filling.{SomeFillingIsExplained}

@@ -12,7 +12,7 @@ use Rattle.words.specs.declared.told.Outcome.TheVariants.{Taken}
 use Rattle.events.specs.declared.event.Event.{Event}
 use Rattle.events.specs.declared.event.Entry.{Entry}
 use Rattle.events.specs.Orders.{IsTakenAs, IsOrder}
-use Rattle.events.proofs.Growing.{begins_within}
+use Rattle.events.proofs.Facts.{begins_within}
 use Rattle.findings.specs.Findings.{IsReturned, IsLearnt, IsKnown, ExplainsFindings}
 use Rattle.findings.specs.Findings.{HasDistinctValues}
 use Rattle.findings.proofs.Turns.{put_before, got_before, got_before_next, IsPutAt, put_before_here}

@@ -2,8 +2,7 @@
 use Rattle.std.proofs.Common.{ℕ, suc, ◌≡◌, ◌≢◌, ◌≤◌, ◌⊎◌, List, [], ◌∷◌, length, inl, inr, refl, arith, ap, sym, ◌∙◌}
 use Rattle.std.proofs.Common.{⊎_elim, subst}
 use Rattle.std.specs.Prelude.{All, AllPairs, Contains}
-use Rattle.events.proofs.Lists.{pairs_head, pairs_tail}
-use Rattle.events.proofs.Members.{IsIn, contains_from_in}
+use Rattle.events.proofs.Facts.{IsIn, contains_from_in, pairs_head, pairs_tail}
 
 -- a list without one of its items
 pub record IsWithout (ys : List ℕ) (y : ℕ) : Type 0 where

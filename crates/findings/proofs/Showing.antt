@@ -15,7 +15,7 @@ use Rattle.events.specs.declared.event.Event.{Event}
 use Rattle.events.specs.declared.event.Entry.{Entry}
 use Rattle.events.specs.History.{EndsAt, Precedes}
 use Rattle.events.specs.Replay.{call_at, call_of, queue_after}
-use Rattle.events.proofs.Members.{in_from_contains, contains_from_in}
+use Rattle.events.proofs.Facts.{contains_from_in, in_from_contains}
 use Rattle.findings.specs.declared.witness.Ahead.{Ahead}
 use Rattle.findings.specs.declared.witness.Since.{Since}
 use Rattle.findings.specs.declared.witness.Lack.{Lack}

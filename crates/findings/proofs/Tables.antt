@@ -11,8 +11,7 @@ use Rattle.events.specs.Orders.{IsTakenAs, IsNew}
 use Rattle.words.specs.declared.told.Outcome.{Outcome}
 use Rattle.words.specs.declared.told.Outcome.TheVariants.{NotTaken, Taken}
 use Rattle.events.specs.Telling.{IsOutcome}
-use Rattle.events.proofs.Interrupted.{one_reply}
-use Rattle.events.proofs.Members.{taken_at, in_order_from_taken}
+use Rattle.events.proofs.Facts.{in_order_from_taken, one_reply, taken_at}
 use Rattle.findings.specs.Agreeing.{AgreesAt, IsAgreed, IsTabled, IsTableOf}
 use Rattle.findings.specs.Findings.{Agrees}
 

@@ -12,9 +12,9 @@ use Rattle.words.specs.declared.call.Reply.TheVariants.{Done, Got, Empty}
 use Rattle.events.specs.declared.event.Event.{Event}
 use Rattle.events.specs.declared.event.Entry.{Entry}
 use Rattle.events.specs.Replay.{call_at, queue_after, IsServed, Replays}
-use Rattle.events.proofs.Lists.{get_longer, get_push_cases, get_last}
+use Rattle.events.proofs.Facts.{get_last, get_longer, get_push_cases}
 use Rattle.history.specs.Counting.{values_of_call, values_of_order, dequeue_count}
-use Rattle.history.proofs.CountSteps.{front_reply, reply_at_front, put_more, IsCounted, counted_more}
+use Rattle.history.proofs.Facts.{IsCounted, counted_more, front_reply, put_more, reply_at_front}
 
 -- what was put before the entry at i, the base first
 abbrev pub put_before : List Event → List Value → List Entry → ℕ → List Value

@@ -5,10 +5,11 @@ use Rattle.std.specs.List.{list_all}
 use Rattle.std.specs.Result.{result_ok, result_unwrap_or}
 use Rattle.std.proofs.lemmas.Bool.{eqb-true, cases_lt}
 use Rattle.std.proofs.lemmas.Bool.Decides.{nat_tests}
-use Rattle.hex.specs.Hex.{decode_of, decode_pairs, encode_lower, encode_with, lower_digits, hex_digit_value, digit_or_error, value_at, pair_value, ◌>>=◌}
+use Rattle.hex.specs.Hex.{decode_of, decode_pairs, encode_lower, encode_with, lower_digits, hex_digit_value}
+use Rattle.hex.specs.Hex.{digit_or_error, value_at, pair_value, ◌>>=◌}
 use Rattle.hex.specs.declared.error.FromHexError.{FromHexError}
 use Rattle.hex.proofs.HexLemmas.{decode_of-ok, decode_of-even}
-use Rattle.words.proofs.Items.{hex_again}
+use Rattle.words.proofs.Facts.{hex_again}
 use Rattle.words.specs.Item.{IsItem, is_hex, is_lower_digit, item_in}
 use Rattle.words.specs.PlainQueue.{Value, FitsValue}
 use Rattle.words.specs.Text.{value_text}

@@ -1,6 +1,7 @@
-pub mod Numbers
-pub mod ItemWords
-pub mod Cuts
-pub mod OtherLines
-pub mod Scripts
-pub mod Unique
+mod Numbers
+mod ItemWords
+mod Cuts
+mod OtherLines
+mod Scripts
+mod Unique
+pub mod Facts

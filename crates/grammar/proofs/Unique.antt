@@ -5,7 +5,7 @@ use Rattle.std.proofs.lemmas.List.Elements.{All-head, All-tail}
 use Rattle.std.specs.Prelude.{Option, Some, None, unwrap_or, All}
 use Rattle.std.specs.Str.Parse.{digits_value}
 use Rattle.arena.specs.Limits.{AreCounts}
-use Rattle.words.proofs.Items.{hex_again}
+use Rattle.words.proofs.Facts.{hex_again}
 use Rattle.words.specs.Item.{item_in}
 use Rattle.words.specs.PlainQueue.{Value, FitsValue}
 use Rattle.words.specs.Text.{value_text}
@@ -14,7 +14,8 @@ use Rattle.words.specs.declared.call.Kind.{Kind}
 use Rattle.grammar.specs.Grammar.{kind_word, queue_words, command_words, IsServedQueue, IsServed}
 use Rattle.grammar.specs.Script.{Says}
 use Rattle.grammar.specs.declared.commands.Command.{Command}
-use Rattle.grammar.specs.declared.commands.Command.TheVariants.{Enq, NumberedEnq, Deq, NumberedDeq, Step, End, Evict, Crash, Recover, RecoverBy, Content, Order, Again}
+use Rattle.grammar.specs.declared.commands.Command.TheVariants.{Enq, NumberedEnq, Deq, NumberedDeq, Step, End, Evict}
+use Rattle.grammar.specs.declared.commands.Command.TheVariants.{Crash, Recover, RecoverBy, Content, Order, Again}
 use Rattle.grammar.specs.declared.commands.QueueLine.{QueueLine}
 use Rattle.grammar.proofs.Numbers.{own}
 use Rattle.grammar.proofs.Scripts.{same_kind}

@@ -12,9 +12,7 @@ use Rattle.events.specs.Explains.{IsAnswered, KeepsPrecedence}
 use Rattle.events.specs.History.{BeginsAt, EndsAt, ReturnAt, HasNoEnd, IsEnd, IsOpenFrom, IsUnderWay, IsHistory}
 use Rattle.events.specs.Orders.{IsTakenAs, IsNew}
 use Rattle.history.specs.Sweeps.{HasEndedEntry, IsAnsweredTo, IsAnsweredOf, IsNextEntry, HasNoEntryFrom}
-use Rattle.events.proofs.Members.{taken_at}
-use Rattle.events.proofs.Interrupted.{one_reply}
-use Rattle.events.proofs.Openings.{no_two_open}
+use Rattle.events.proofs.Facts.{no_two_open, one_reply, taken_at}
 
 ended_longer : (events : List Event) (order : List Entry) (client : Client) (k from : ℕ)
     → HasEndedEntry events order client k from → HasEndedEntry events order client (k + 1) from

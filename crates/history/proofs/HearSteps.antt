@@ -24,8 +24,7 @@ use Rattle.history.specs.Hearing.{IsToldOfAll, BeginsSomeTold, IsLaterEntry, Tel
 use Rattle.history.specs.Sweeps.{Ascends}
 use Rattle.events.specs.Telling.{BeginsTold, BeginsTaken, HasNoneTaken, IsOutcome, IsRow, Says, IsToldSome, IsToldBase}
 use Rattle.events.specs.Telling.{TellsAt}
-use Rattle.events.proofs.Interrupted.{one_reply}
-use Rattle.events.proofs.Members.{taken_at, in_order_from_taken, taken_from_in_order}
+use Rattle.events.proofs.Facts.{in_order_from_taken, one_reply, taken_at, taken_from_in_order}
 
 says_from_not_taken : (kind : Kind) (order : List Entry) (p number : ℕ) (told : Told) → (InOrder order p → ⊥)
     → SaysNotTaken kind number told → Says kind order p number told

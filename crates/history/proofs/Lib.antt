@@ -1,6 +1,6 @@
 mod Converting
 mod ReplaySteps
-pub mod CountSteps
+mod CountSteps
 mod Greatest
 mod FrontSteps
 mod Turns
@@ -9,3 +9,4 @@ mod AnswerSteps
 mod HearSteps
 mod ServedInTurn
 mod PlainAnswers
+pub mod Facts

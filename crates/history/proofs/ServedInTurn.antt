@@ -19,7 +19,7 @@ use Rattle.events.specs.History.{CallAt, ReturnAt, IsEnd, Precedes}
 use Rattle.history.specs.InTurn.{Turn, events_in_turn, AreServed, order_in_turn, queue_in_turn}
 use Rattle.events.specs.Orders.{IsNew, IsTakenAs}
 use Rattle.events.specs.Replay.{call_at, queue_after_call, queue_after, IsServed}
-use Rattle.events.proofs.GrowingReplay.{Runs, runs_from_replays}
+use Rattle.events.proofs.Facts.{Runs, runs_from_replays}
 
 -- where the call after i others begins
 abbrev pub begin_of : ℕ → ℕ

@@ -1,46 +1,9 @@
-pub mod Entering
-pub mod Beginnings
-pub mod RunLaws
-pub mod ActLaws
-pub mod PartLaws
-pub mod RunStates
-pub mod NumberLaws
-pub mod NumbersKept
-pub mod FloorsKept
-pub mod ValueLaws
-pub mod Unsettled
-pub mod Prefixes
-pub mod Records
-pub mod Contents
-pub mod CallLaws
-pub mod Stepping
-pub mod InRange
-pub mod NoteLaws
-pub mod OverLaws
-pub mod Safety
-pub mod MachineFacts
-pub mod EvictLaws
-pub mod CrashLaws
-pub mod StartLaws
-pub mod AloneLaws
-pub mod EveryAct
-pub mod Noting
-pub mod HoldsKept
-pub mod AskedKept
-pub mod KeptTells
-pub mod ByRule
-pub mod BootLaws
-pub mod UnusedLaws
-pub mod DownLaws
-pub mod Ended
-pub mod RecordsKept
-pub mod Reused
-pub mod ToldForGood
-pub mod StandingLaws
-pub mod Turns
-pub mod TurnLaws
-pub mod AloneServed
-pub mod AloneEnds
-pub mod Rotated
-pub mod Unused
-pub mod verdicts
+mod order
+mod runs
+mod machine
+mod words
+mod numbers
+mod recovery
+mod records
+mod verdicts
+pub mod Facts

@@ -1,13 +1,14 @@
-pub mod Chunks
-pub mod Frames
-pub mod Replays
-pub mod Heads
-pub mod Writes
-pub mod FramesRead
-pub mod HeadsRead
-pub mod JournalsRead
-pub mod Cuts
-pub mod Appends
-pub mod FramesWritten
-pub mod HeadsWritten
-pub mod OnlyJournals
+mod Chunks
+mod Frames
+mod Replays
+mod Heads
+mod Writes
+mod FramesRead
+mod HeadsRead
+mod JournalsRead
+mod Cuts
+mod Appends
+mod FramesWritten
+mod HeadsWritten
+mod OnlyJournals
+pub mod Facts

@@ -1,2 +1,3 @@
-pub mod Steps
-pub mod Restarts
+mod Steps
+mod Restarts
+pub mod Facts

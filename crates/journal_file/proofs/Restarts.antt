@@ -11,9 +11,7 @@ use Rattle.journal.specs.Frame.{Batch, frame_of, frame_sum, frames_of, front_of}
 use Rattle.journal.specs.Journal.{IsJournal, MayNotBegin, head_front, head_of, head_sum, journal_of}
 use Rattle.journal.specs.Reading.{Read, reading}
 use Rattle.journal.specs.Stops.{LeavesBatches, LeftByStop}
-use Rattle.journal.proofs.Cuts.{cut_is_left, left_is_read, length-frame_of}
-use Rattle.journal.proofs.FramesRead.{length-sum_of}
-use Rattle.journal.proofs.JournalsRead.{whole_journal_is_read}
+use Rattle.journal.proofs.Facts.{cut_is_left, left_is_read, length-frame_of, length-sum_of, whole_journal_is_read}
 use Rattle.journal_file.specs.OnDevice.{GoesOn, HasPart, IsOf, OnDevice}
 use Rattle.journal_file.specs.Restart.{ReadsBeginning}
 

@@ -12,8 +12,9 @@ use Rattle.persist.specs.Image.{AreWords}
 use Rattle.persist.specs.declared.access.Change.{Change}
 use Rattle.journal.specs.Frame.{Batch, IsBatchIn, frame_of}
 use Rattle.persist.specs.Noted.{applied}
-use Rattle.journal.specs.Journal.{AreNoBatch, AreOfWords, End, IsJournal, end_behind, end_of, end_sum, head_of, journal_of, words_after}
-use Rattle.journal.proofs.Appends.{end_more, is_journal_anew, is_journal_more, journal_more, length-words_after}
+use Rattle.journal.specs.Journal.{AreNoBatch, AreOfWords, End, IsJournal, end_behind, end_of, end_sum, head_of}
+use Rattle.journal.specs.Journal.{journal_of, words_after}
+use Rattle.journal.proofs.Facts.{end_more, is_journal_anew, is_journal_more, journal_more, length-words_after}
 use Rattle.journal_file.specs.Appended.{AppendsPart, IsAllKept, IsFresh}
 use Rattle.journal_file.specs.OnDevice.{GoesOn, HasMore, HasNoMore, HasPart, IsOf, KeepsAll, OnDevice}
 

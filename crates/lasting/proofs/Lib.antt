@@ -1,1 +1,1 @@
-pub mod Moments
+mod Moments

@@ -10,7 +10,7 @@ use Rattle.journal.specs.Journal.{words_after}
 use Rattle.journal.specs.Stops.{LeftByStop}
 use Rattle.journal_file.specs.OnDevice.{HasMore, HasNoMore, IsOf, KeepsAll, OnDevice}
 use Rattle.journal_file.specs.Restart.{ReadsBeginning}
-use Rattle.journal_file.proofs.Restarts.{killed, stopped}
+use Rattle.journal_file.proofs.Facts.{killed, stopped}
 use Rattle.lasting.specs.Lasting.{AreMoments, HasMoments, IsKept, Kept, ReadsMoment}
 use Rattle.session.specs.Promises.{KeepsNumbers}
 use Rattle.session.specs.Sessions.{Sessioned}
@@ -20,8 +20,7 @@ use Rattle.session.specs.Keeping.{SessionGoesOn}
 use Rattle.workers.specs.Moments.{IsMoment}
 use Rattle.workers.specs.Seats.{AreSeatsRecorded}
 use Rattle.workers.specs.declared.entry.Entry.{Entry}
-use Rattle.workers.proofs.Comings.{through_itself}
-use Rattle.workers.proofs.Guarded.{session_stays}
+use Rattle.workers.proofs.Facts.{session_stays, through_itself}
 
 pub first_moment : (first : Sessioned) → KeepsNumbers first → IsSettledTold first → IsMoment first first.broker.words.kept
 first_moment first keeps told = record {

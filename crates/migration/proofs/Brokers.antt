@@ -10,11 +10,12 @@ use Rattle.arena.specs.Shape.{Counts, shape_of}
 use Rattle.arena.specs.declared.form.Form.TheVariants.{OfItems, OfValues}
 use Rattle.directory.specs.Directory.{IsDirectory}
 use Rattle.directory.specs.Queue.{directory_of, first_name_at, gate_at, kind_at, queue_in, second_name_at, slot_in}
-use Rattle.directory.specs.Sound.{AreBrokerWords, DirectoryIsSoundIn, HeadIsSoundIn, IsBlockZeroIn, SlotIsSoundIn, counts_in}
+use Rattle.directory.specs.Sound.{AreBrokerWords, DirectoryIsSoundIn, HeadIsSoundIn, IsBlockZeroIn, SlotIsSoundIn}
+use Rattle.directory.specs.Sound.{counts_in}
 use Rattle.directory.specs.declared.queue.Queue.{Queue}
-use Rattle.directory.proofs.Creations.{directory_is, slot_closed}
-use Rattle.directory.proofs.Kept.{directory_at, queue_of-same}
-use Rattle.migration.specs.Words.{HasSoundQueue, HaveQueueOf, block_migrated, broker_migrated, slot_block_migrated, slot_migrated}
+use Rattle.directory.proofs.Facts.{directory_at, directory_is, queue_of-same, slot_closed}
+use Rattle.migration.specs.Words.{HasSoundQueue, HaveQueueOf, block_migrated, broker_migrated, slot_block_migrated}
+use Rattle.migration.specs.Words.{slot_migrated}
 use Rattle.migration.proofs.Pieces.{piece, pieces_length}
 use Rattle.migration.proofs.Words.{block_length, block_same}
 

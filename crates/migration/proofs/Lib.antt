@@ -1,8 +1,9 @@
-pub mod Values
-pub mod Alike
-pub mod Sound
-pub mod Words
-pub mod Pieces
-pub mod Brokers
-pub mod Surveys
-pub mod Slots
+mod Values
+mod Alike
+mod Sound
+mod Words
+mod Pieces
+mod Brokers
+mod Surveys
+mod Slots
+pub mod Facts

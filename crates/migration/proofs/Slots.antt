@@ -13,7 +13,7 @@ use Rattle.recover.specs.Sound.{AreSoundWordsIn}
 use Rattle.directory.specs.Directory.{Directory}
 use Rattle.directory.specs.Queue.{slot_in}
 use Rattle.directory.specs.declared.queue.Queue.{Queue}
-use Rattle.directory.proofs.Kept.{directory_at}
+use Rattle.directory.proofs.Facts.{directory_at}
 use Rattle.migration.specs.Words.{MayBeMigrated}
 
 -- what a slot has, by the directory

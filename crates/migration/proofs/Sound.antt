@@ -6,7 +6,7 @@ use Rattle.std.proofs.lemmas.Bool.{cases_eq, cases_lt, eq-eqb, ne_eqb, lt-ltb}
 use Rattle.words.specs.PlainQueue.{Value}
 use Rattle.words.specs.declared.call.Kind.{Kind}
 use Rattle.words.specs.declared.call.Kind.TheVariants.{Durable, Log}
-use Rattle.words.proofs.Parts.{parts_blank}
+use Rattle.words.proofs.Facts.{parts_blank}
 use Rattle.arena.specs.Chain.{IsAmong, IsChain}
 use Rattle.arena.specs.Content.{chain_of}
 use Rattle.arena.specs.Shape.{Shape}
@@ -15,10 +15,12 @@ use Rattle.arena.specs.declared.form.Form.TheVariants.{OfItems, OfValues}
 use Rattle.arena.specs.declared.place.Part.{Part}
 use Rattle.arena.specs.declared.place.Part.TheVariants.{Length, First, Second, Third}
 use Rattle.arena.specs.declared.place.Place.{Place}
-use Rattle.recover.specs.Sound.{AnswersAreSoundIn, ChainIsSoundIn, ClaimsAreSoundIn, EndsAreSound, EntriesAreSound, IsAnnounced, IsBlankAnswer, IsBlankRecordIn, IsClaimOf, IsClaimed, IsIssued, IsOfSomeCall, IsOnChain, IsOwn, IsPassed, IsResultIn, IsSoundIn, RecordsAreSoundIn, RemovedIsSound, RowsAreSoundIn, StatusIsSound}
+use Rattle.recover.specs.Sound.{AnswersAreSoundIn, ChainIsSoundIn, ClaimsAreSoundIn, EndsAreSound, EntriesAreSound}
+use Rattle.recover.specs.Sound.{IsAnnounced, IsBlankAnswer, IsBlankRecordIn, IsClaimOf, IsClaimed, IsIssued}
+use Rattle.recover.specs.Sound.{IsOfSomeCall, IsOnChain, IsOwn, IsPassed, IsResultIn, IsSoundIn, RecordsAreSoundIn}
+use Rattle.recover.specs.Sound.{RemovedIsSound, RowsAreSoundIn, StatusIsSound}
 use Rattle.recover.specs.Told.{node_claimed_by}
-use Rattle.recover.proofs.Chains.{is_among_or_not}
-use Rattle.recover.proofs.ToldBy.{among_any, among_none}
+use Rattle.recover.proofs.Facts.{among_any, among_none, is_among_or_not}
 use Rattle.migration.specs.Migrated.{cell_migrated, claimed_node, migrated, node_or_none, part_migrated}
 use Rattle.migration.proofs.Alike.{cell_named}
 use Rattle.migration.proofs.Values.{value_fits}

@@ -14,8 +14,7 @@ use Rattle.arena.specs.declared.place.Place.{Place}
 use Rattle.recover.specs.Kept.{kept_by, kept_in}
 use Rattle.recover.specs.Sound.{AreSoundWords, IsSoundIn}
 use Rattle.recover.specs.Told.{tells_by, tells_in}
-use Rattle.recover.proofs.Alike.{sound_like}
-use Rattle.recover.proofs.AlikeTold.{content_like as kept_content_like, tells_like as kept_tells_like}
+use Rattle.recover.proofs.Facts.{content_like as kept_content_like, sound_like, tells_like as kept_tells_like}
 use Rattle.migration.specs.Migrated.{migrated}
 use Rattle.migration.specs.Words.{HaveQueueOf, block_migrated, migrated_or_zero, word_migrated}
 use Rattle.migration.proofs.Alike.{content_like, tells_like}

@@ -1,33 +1,7 @@
-pub mod Downtimes
-pub mod GoingOn
-pub mod Comings
-pub mod EvictedWell
-pub mod Evicted
-pub mod Stays
-pub mod Windows
-pub mod Askings
-pub mod Kept
-pub mod Reserved
-pub mod Begun
-pub mod Made
-pub mod Opened
-pub mod Crashed
-pub mod Eaches
-pub mod Stopped
-pub mod Nexts
-pub mod Recovers
-pub mod Founds
-pub mod Roomy
-pub mod Rotated
-pub mod Booted
-pub mod Promises
-pub mod Readings
-pub mod Queues
-pub mod Lastings
-pub mod Mosts
-pub mod Migrated
-pub mod Renewed
-pub mod RenewedAt
-pub mod Anew
-pub mod Acting
-pub mod KeptQueues
+mod downtime
+mod acts
+mod histories
+mod creations
+mod beginnings
+mod promises
+pub mod Facts

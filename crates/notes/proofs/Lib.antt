@@ -1,2 +1,3 @@
-pub mod Making
-pub mod Mixing
+mod Making
+mod Mixing
+pub mod Facts

@@ -5,7 +5,7 @@ use Rattle.std.proofs.lemmas.List.Elements.{All-append, All-cons, All-nil}
 use Rattle.std.proofs.lemmas.List.Sums.{fold-append}
 use Rattle.persist.specs.declared.access.Change.{Change}
 use Rattle.persist.specs.Noted.{IsNoted, applied, change_made, changes_in}
-use Rattle.persist.proofs.Noting.{applied_length}
+use Rattle.persist.proofs.Facts.{applied_length}
 use Rattle.notes.specs.Noting.{HasNoted, IsMadeBy}
 
 abbrev IsWithin : List ℕ → Change → Type 0

@@ -6,7 +6,7 @@ use Rattle.std.proofs.lemmas.List.{set-get_or, take_at}
 use Rattle.persist.specs.Memory.{overwritten}
 use Rattle.persist.specs.declared.access.Change.{Change}
 use Rattle.persist.specs.Noted.{change_made}
-use Rattle.persist.proofs.Overwrites.{partly, partly_all, partly_more, partly_none}
+use Rattle.persist.proofs.Facts.{partly, partly_all, partly_more, partly_none}
 use Rattle.notes.specs.Noting.{HasNoted}
 
 front_get : (n : ℕ) (words old : List ℕ) → n < length words → n < length old

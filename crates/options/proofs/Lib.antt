@@ -1,4 +1,4 @@
 -- Lemmas that the answers cite.
-pub mod Subcommand
-pub mod Faultless
-pub mod ByWords
+mod Subcommand
+mod Faultless
+mod ByWords

@@ -10,7 +10,7 @@ use Rattle.directory.specs.Directory.{Directory, IsLowestFree}
 use Rattle.directory.specs.declared.creation.Creation.{Creation}
 use Rattle.directory.specs.declared.creation.CreationPoint.{CreationPoint}
 use Rattle.directory.specs.declared.queue.Queue.{Queue}
-use Rattle.directory.proofs.Creations.{creation_less}
+use Rattle.directory.proofs.Facts.{creation_less}
 use Rattle.interleave.specs.State.{world_over}
 use Rattle.named.specs.Brokers.{Brokered, block_words, quiet, world_at, IsBegun, IsStepCreated, MayCreate}
 use Rattle.session.specs.Sessions.{Sessioned}

@@ -1,10 +1,10 @@
 -- A session goes on rightly over requests.
 use Rattle.named.specs.GoingOn.{BrokerGoesOn}
-use Rattle.named.proofs.GoingOn.{broker_goes_further, broker_stays}
+use Rattle.named.proofs.Facts.{broker_goes_further, broker_stays}
 use Rattle.session.specs.Keeping.{SessionGoesOn}
 use Rattle.session.specs.Promises.{KeepsNumbers}
 use Rattle.session.specs.Sessions.{Sessioned}
-use Rattle.workers.proofs.Guarded.{session_further, session_stays}
+use Rattle.workers.proofs.Facts.{session_further, session_stays}
 use Rattle.owning.specs.Serving.{GoesOnRight}
 
 -- over no act

@@ -1,6 +1,6 @@
-pub mod Going
-pub mod Creations
-pub mod Recoveries
-pub mod Leading
-pub mod Refusing
-pub mod Fitting
+mod Going
+mod Creations
+mod Recoveries
+mod Leading
+mod Refusing
+mod Fitting

@@ -5,7 +5,7 @@ use Rattle.named.specs.Brokers.{IsWell}
 use Rattle.named.specs.Stopping.{IsRecoveryStep}
 use Rattle.session.specs.Keeping.{AreKeptAfter}
 use Rattle.session.specs.Sessions.{Sessioned}
-use Rattle.workers.proofs.Guarded.{recovery_errors}
+use Rattle.workers.proofs.Facts.{recovery_errors}
 use Rattle.owning.specs.Recovering.{IsRecovery, IsStep, IsStepped}
 
 -- the session came here by steps of recovery, none of which was the last

@@ -1,12 +1,13 @@
-pub mod Parts
-pub mod Entries
-pub mod Places
-pub mod Inserted
-pub mod Differences
-pub mod Overlays
-pub mod Overwrites
-pub mod Sound
-pub mod Shown
-pub mod Images
-pub mod Requests
-pub mod Noting
+mod Parts
+mod Entries
+mod Places
+mod Inserted
+mod Differences
+mod Overlays
+mod Overwrites
+mod Sound
+mod Shown
+mod Images
+mod Requests
+mod Noting
+pub mod Facts

@@ -15,12 +15,16 @@ use Rattle.protocol.specs.declared.UnderWay.{UnderWay}
 use Rattle.protocol.specs.declared.acts.Act.{Act}
 use Rattle.protocol.specs.declared.acts.Act.TheVariants.{Step as step_act, Recover as recover_act}
 use Rattle.interleave.specs.Calls.{answer_of, waiting_result}
-use Rattle.interleave.specs.State.{State, after_acts, after_recover, after_step, is_accepted, is_down, is_ready, machine, recover_result, recover_result_with, recover_with, step_result, step_result_with, step_with}
-use Rattle.interleave.proofs.AloneLaws.{get_set}
+use Rattle.interleave.specs.State.{State, after_acts, after_recover, after_step, is_accepted, is_down, is_ready}
+use Rattle.interleave.specs.State.{machine, recover_result, recover_result_with, recover_with, step_result}
+use Rattle.interleave.specs.State.{step_result_with, step_with}
+use Rattle.interleave.proofs.Facts.{get_set}
 use Rattle.playing.specs.Acts.{attempts_of, IsSteady}
-use Rattle.playing.specs.Play.{Play, after_command, after_commands, after_recovery, after_steps, most_alone, most_recovery, play_after_recovery_step, play_after_step, play_then, recover_then}
+use Rattle.playing.specs.Play.{Play, after_command, after_commands, after_recovery, after_steps, most_alone}
+use Rattle.playing.specs.Play.{most_recovery, play_after_recovery_step, play_after_step, play_then, recover_then}
 use Rattle.grammar.specs.declared.commands.Command.{Command}
-use Rattle.grammar.specs.declared.commands.Command.TheVariants.{Enq, NumberedEnq, Deq, NumberedDeq, Step, End, Evict, Crash, Recover, RecoverBy, Content, Order, Again}
+use Rattle.grammar.specs.declared.commands.Command.TheVariants.{Enq, NumberedEnq, Deq, NumberedDeq, Step, End, Evict}
+use Rattle.grammar.specs.declared.commands.Command.TheVariants.{Crash, Recover, RecoverBy, Content, Order, Again}
 use Rattle.playing.proofs.InOrder.{after_more, stays}
 use Rattle.playing.proofs.Plays.{refused_same as step_refused}
 use Rattle.playing.proofs.Recoveries.{refused_same as recovery_refused}

@@ -1,9 +1,10 @@
-pub mod Plays
-pub mod GoingAlone
-pub mod Recoveries
-pub mod Shapes
-pub mod InOrder
-pub mod Attempted
-pub mod StoppedCalls
-pub mod MayGive
-pub mod Again
+mod Plays
+mod GoingAlone
+mod Recoveries
+mod Shapes
+mod InOrder
+mod Attempted
+mod StoppedCalls
+mod MayGive
+mod Again
+pub mod Facts

@@ -1,9 +1,10 @@
-pub mod chain
-pub mod changes
-pub mod calls
-pub mod records
-pub mod worlds
-pub mod recovery
-pub mod told
-pub mod boot
-pub mod runs
+mod chain
+mod changes
+mod calls
+mod records
+mod worlds
+mod recovery
+mod told
+mod boot
+mod runs
+pub mod Facts

@@ -2,7 +2,7 @@
 use Rattle.std.proofs.Common.{◌≡◌, ◌≢◌, ℕ, zero, suc, ◌⊎◌, inl, inr, List, [], ◌∷◌, ◌++◌, refl}
 use Rattle.std.proofs.lemmas.Bool.{cases_eq, eq-eqb, ne_eqb}
 use Rattle.arena.specs.Chain.{IsChain, IsAmong, walk}
-use Rattle.arena.proofs.Chains.{distinct, parts_apart}
+use Rattle.arena.proofs.Facts.{distinct, parts_apart}
 
 -- no node of a chain's first part comes again
 pub not_twice : (link : ℕ → ℕ) (from : ℕ) (xs ys : List ℕ) (x : ℕ) → IsChain link from (xs ++ ys) → IsAmong x xs → IsAmong x ys → ⊥

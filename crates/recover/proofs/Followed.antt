@@ -10,7 +10,7 @@ use Rattle.arena.specs.Content.{chain_of}
 use Rattle.arena.specs.declared.place.Place.{Place}
 use Rattle.recover.specs.Sound.{IsIssued, IsOnChain}
 use Rattle.recover.specs.Order.{IsRun, IsOrder}
-use Rattle.arena.proofs.Chains.{in_left, in_right, in_end, in_end_cases, leads_trans, leads_at, leads_one}
+use Rattle.arena.proofs.Facts.{in_end, in_end_cases, in_left, in_right, leads_at, leads_one, leads_trans}
 use Rattle.recover.proofs.Chains.{not_twice, walk_end, walk_next}
 
 -- after i links the walk is at this node, and the nodes that it passed have their places

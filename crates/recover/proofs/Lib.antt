@@ -1,12 +1,13 @@
-pub mod Alike
-pub mod AlikeTold
-pub mod Chains
-pub mod EntrySteps
-pub mod Followed
-pub mod Looked
-pub mod Noted
-pub mod Range
-pub mod Surveys
-pub mod Tables
-pub mod Tellings
-pub mod ToldBy
+mod Alike
+mod AlikeTold
+mod Chains
+mod EntrySteps
+mod Followed
+mod Looked
+mod Noted
+mod Range
+mod Surveys
+mod Tables
+mod Tellings
+mod ToldBy
+pub mod Facts

@@ -16,10 +16,10 @@ use Rattle.directory.specs.Directory.{Directory, IsDirectory}
 use Rattle.directory.specs.Queue.{directory_of, slot_in}
 use Rattle.directory.specs.Sound.{AreBrokerWords, DirectoryIsSound, IsBlockZero, SlotIsSound, counts_in}
 use Rattle.directory.specs.declared.queue.Queue.{Queue}
-use Rattle.directory.proofs.Creations.{slot_closed}
-use Rattle.directory.proofs.Kept.{directory_at}
-use Rattle.migration.proofs.Pieces.{piece, pieces_length}
-use Rattle.renewal.specs.Broker.{BlockFits, IsBrokerRenewalOf, MayBeRenewedTo, SlotFits, broker_renewed, front_renewed, slot_block_renewed, slot_renewed}
+use Rattle.directory.proofs.Facts.{directory_at, slot_closed}
+use Rattle.migration.proofs.Facts.{piece, pieces_length}
+use Rattle.renewal.specs.Broker.{BlockFits, IsBrokerRenewalOf, MayBeRenewedTo, SlotFits, broker_renewed, front_renewed}
+use Rattle.renewal.specs.Broker.{slot_block_renewed, slot_renewed}
 use Rattle.renewal.specs.Words.{IsRenewalOf}
 use Rattle.renewal.proofs.Fronts.{directory_same, gate_same, queue_same}
 use Rattle.renewal.proofs.Slots.{same_queue}

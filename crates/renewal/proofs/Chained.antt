@@ -4,7 +4,7 @@ use Rattle.std.proofs.lemmas.Bool.{cases_eq, eq-eqb, ne_eqb}
 use Rattle.std.proofs.lemmas.List.{get_or-set_other, get_or-set_same, take-append-drop, take_more}
 use Rattle.arena.specs.Chain.{IsAmong, IsChain, LeadsTo, walk}
 use Rattle.arena.specs.Chain.LeadsTo.{there, on}
-use Rattle.arena.proofs.Chains.{Distinct, distinct, in_left, in_right, not_again}
+use Rattle.arena.proofs.Facts.{Distinct, distinct, in_left, in_right, not_again}
 use Rattle.renewal.specs.Renewed.{follower}
 use Rattle.renewal.proofs.Lists.{front_distinct}
 

@@ -4,8 +4,7 @@ use Rattle.std.specs.Prelude.{◌==◌, if◌then◌else◌}
 use Rattle.std.proofs.lemmas.List.FromFn.{length-map-range_with_len}
 use Rattle.directory.specs.Queue.{directory_of, first_name_at, gate_at, kind_at, queue_in, second_name_at, slot_in}
 use Rattle.directory.specs.declared.queue.Queue.{Queue}
-use Rattle.directory.proofs.Creations.{directory_is}
-use Rattle.directory.proofs.Kept.{directory_at, queue_of-same}
+use Rattle.directory.proofs.Facts.{directory_at, directory_is, queue_of-same}
 
 module _ (ws new : List ℕ) (word_same : (w : ℕ) → 2 ≤ w → w < 34 → slice_index new w ≡ slice_index ws w) where
   pub gate_same : (slot : ℕ) → slot < 8 → slice_index new (gate_at slot) ≡ slice_index ws (gate_at slot)

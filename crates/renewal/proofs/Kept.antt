@@ -19,8 +19,9 @@ use Rattle.arena.specs.Words.{announcements, cells, entry_kinds, statuses, value
 use Rattle.arena.specs.declared.place.Place.{Place}
 use Rattle.recover.specs.Sound.{AnswersAreSound, IsSound}
 use Rattle.recover.specs.Table.{no_call}
-use Rattle.recover.specs.Told.{dequeue_outcome, enqueue_outcome, node_claimed_by, outcome_by, report_on, row_with, tells_by, told_by}
-use Rattle.recover.proofs.ToldBy.{told_nobody, told_nothing, told_of}
+use Rattle.recover.specs.Told.{dequeue_outcome, enqueue_outcome, node_claimed_by, outcome_by, report_on, row_with}
+use Rattle.recover.specs.Told.{tells_by, told_by}
+use Rattle.recover.proofs.Facts.{told_nobody, told_nothing, told_of}
 use Rattle.renewal.specs.Words.{FitFresh, FitsOutcome, FitsRow, MayBeRenewed, MayBeTold, renewal_of, told_anew}
 use Rattle.renewal.proofs.Sound.{no_item}
 

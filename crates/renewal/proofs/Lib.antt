@@ -1,14 +1,14 @@
-pub mod Lists
-pub mod Chained
-pub mod Roles
-pub mod Members
-pub mod Sound
-pub mod Tellings
-pub mod Kept
-pub mod Words
-pub mod Unused
-pub mod Waiting
-pub mod Brokers
-pub mod Slots
-pub mod Fronts
-pub mod OneQueue
+mod Lists
+mod Chained
+mod Roles
+mod Members
+mod Sound
+mod Tellings
+mod Kept
+mod Words
+mod Unused
+mod Waiting
+mod Brokers
+mod Slots
+mod Fronts
+mod OneQueue

@@ -5,7 +5,7 @@ use Rattle.std.proofs.lemmas.Bool.{cases_Bool, cases_eq}
 use Rattle.arena.specs.Chain.{IsAmong}
 use Rattle.std.proofs.lemmas.List.{map-append}
 use Rattle.std.proofs.lemmas.List.Elements.{filter-append}
-use Rattle.arena.proofs.Chains.{Distinct, in_left}
+use Rattle.arena.proofs.Facts.{Distinct, in_left}
 
 pub in_parts : (x : ℕ) (xs ys : List ℕ) → IsAmong x (xs ++ ys) → IsAmong x xs ⊎ IsAmong x ys
 in_parts x [] ys h = inr h

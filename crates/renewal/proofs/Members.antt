@@ -10,18 +10,20 @@ use Rattle.arena.specs.Place.{IsRecord}
 use Rattle.arena.specs.Shape.{Shape, greatest, owner, record_of}
 use Rattle.arena.specs.Words.{links}
 use Rattle.arena.specs.declared.place.Place.{Place}
-use Rattle.arena.proofs.Chains.{Distinct}
+use Rattle.arena.proofs.Facts.{Distinct}
 use Rattle.recover.specs.Sound.{IsIssued}
-use Rattle.recover.proofs.Alike.{owner_below}
+use Rattle.recover.proofs.Facts.{owner_below}
 use Rattle.renewal.specs.Renewal.{Renewal}
 use Rattle.renewal.specs.Renewed.{chain, has_node, removed, renewed, waiting}
 use Rattle.renewal.specs.Roles.{first_record, item_record, role_of, second_record, used_for}
 use Rattle.renewal.specs.Words.{MayBeRenewed}
 use Rattle.renewal.specs.declared.role.Role.{Role}
 use Rattle.renewal.specs.declared.role.Role.TheVariants.{First, Second, Item}
-use Rattle.renewal.proofs.Lists.{filter_has, filter_short, in_filter, in_map, in_parts, in_range, map_distinct, map_has, part_distinct, parts_distinct, range_distinct, range_has}
+use Rattle.renewal.proofs.Lists.{filter_has, filter_short, in_filter, in_map, in_parts, in_range, map_distinct, map_has}
+use Rattle.renewal.proofs.Lists.{part_distinct, parts_distinct, range_distinct, range_has}
 use Rattle.renewal.proofs.Chained.{chain_walked, chained}
-use Rattle.renewal.proofs.Roles.{is_record, item_client, item_used, owner_of, record_again, role_first, role_item, role_second, role_third, two_records, used_within}
+use Rattle.renewal.proofs.Roles.{is_record, item_client, item_used, owner_of, record_again, role_first, role_item}
+use Rattle.renewal.proofs.Roles.{role_second, role_third, two_records, used_within}
 
 -- the node of a call that a client was told of, and the one of an item
 pub record IsRemoved (r : Renewal) (n : ℕ) : Type 0 where

@@ -12,14 +12,13 @@ use Rattle.arena.specs.Broker.{block_from, block_in, block_size_of, broker_size_
 use Rattle.arena.specs.Form.{running}
 use Rattle.arena.specs.Limits.{AreCounts}
 use Rattle.arena.specs.Shape.{Counts, shape_of}
-use Rattle.arena.proofs.BrokerWords.{block_ends}
+use Rattle.arena.proofs.Facts.{block_ends}
 use Rattle.persist.specs.Memory.{Words, overwritten}
 use Rattle.directory.specs.Directory.{Directory, HasQueue, IsDirectory}
 use Rattle.directory.specs.Queue.{directory_of, slot_in}
 use Rattle.directory.specs.Sound.{AreBrokerWords, DirectoryIsSound, IsBlockZero, SlotIsSound, counts_in}
 use Rattle.directory.specs.declared.queue.Queue.{Queue}
-use Rattle.directory.proofs.Creations.{slot_closed}
-use Rattle.directory.proofs.Kept.{directory_at}
+use Rattle.directory.proofs.Facts.{directory_at, slot_closed}
 use Rattle.renewal.specs.Broker.{BlockFits, MayBeRenewedTo, SlotFits, slot_block_renewed, slot_renewed}
 use Rattle.renewal.specs.OneQueue.{IsQueueRenewalOf, IsWhyNotRenewed, block_replaced, queue_renewed, stretch}
 use Rattle.renewal.specs.Words.{IsRenewalOf}

@@ -5,7 +5,7 @@ use Rattle.std.proofs.lemmas.Bool.{cases_lt, ne_eqb}
 use Rattle.std.proofs.lemmas.Nat.{div-add-mod', div-mul-add, mod-mul-add}
 use Rattle.arena.specs.Place.{IsRecord}
 use Rattle.arena.specs.Shape.{Shape, owner, record_of}
-use Rattle.arena.proofs.BrokerWords.{in_block}
+use Rattle.arena.proofs.Facts.{in_block}
 use Rattle.renewal.specs.Roles.{first_record, item_record, role_by, role_of, second_record, used_for}
 use Rattle.renewal.specs.Words.{FitFresh}
 use Rattle.renewal.specs.declared.role.Role.TheVariants.{First, Second, Item}

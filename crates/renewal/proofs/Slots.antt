@@ -11,8 +11,8 @@ use Rattle.directory.specs.Directory.{Directory, IsDirectory}
 use Rattle.directory.specs.Queue.{slot_in}
 use Rattle.directory.specs.Sound.{counts_in}
 use Rattle.directory.specs.declared.queue.Queue.{Queue}
-use Rattle.directory.proofs.Kept.{directory_at}
-use Rattle.migration.proofs.Slots.{listed}
+use Rattle.directory.proofs.Facts.{directory_at}
+use Rattle.migration.proofs.Facts.{listed}
 use Rattle.renewal.specs.Words.{block_renewed, renewal_of}
 use Rattle.renewal.specs.Broker.{BlockFits, MayBeRenewedTo, SlotFits, slot_block_renewed, slot_renewed}
 

@@ -16,14 +16,21 @@ use Rattle.words.specs.declared.told.Told.TheVariants.{None as told_none, Verdic
 use Rattle.arena.specs.Chain.{IsAmong, IsChain}
 use Rattle.arena.specs.Place.{IsRecord}
 use Rattle.arena.specs.Shape.{Shape, owner, record_of}
-use Rattle.arena.specs.Words.{IsBlankItem, cells, entry_kinds, entry_nodes, item_part, item_parts, links, marks, numbers}
+use Rattle.arena.specs.Words.{IsBlankItem, cells, entry_kinds, entry_nodes, item_part, item_parts, links, marks}
+use Rattle.arena.specs.Words.{numbers}
 use Rattle.arena.specs.declared.place.Part.{Part}
 use Rattle.arena.specs.declared.place.Part.TheVariants.{Length, First as first_part, Second as second_part, Third}
 use Rattle.arena.specs.declared.place.Place.{Place}
-use Rattle.arena.proofs.Chains.{in_left, in_right}
-use Rattle.recover.specs.Sound.{AnswersAreSound, ChainIsSound, ClaimsAreSound, EndsAreSound, EntriesAreSound, IsAnnounced, IsBlank, IsBlankAnswer, IsClaimOf, IsClaimed, IsInserted, IsIssued, IsOnChain, IsOwn, IsPassed, IsResult, IsSound, LogIsSound, RecordsAreSound, RemovedIsSound, RowIsSound, RowsAreSound, StatusIsSound}
+use Rattle.arena.proofs.Facts.{in_left, in_right}
+use Rattle.recover.specs.Sound.{AnswersAreSound, ChainIsSound, ClaimsAreSound, EndsAreSound, EntriesAreSound}
+use Rattle.recover.specs.Sound.{IsAnnounced, IsBlank, IsBlankAnswer, IsClaimOf, IsClaimed, IsInserted, IsIssued}
+use Rattle.recover.specs.Sound.{IsOnChain, IsOwn, IsPassed, IsResult, IsSound, LogIsSound, RecordsAreSound}
+use Rattle.recover.specs.Sound.{RemovedIsSound, RowIsSound, RowsAreSound, StatusIsSound}
 use Rattle.renewal.specs.Renewal.{Renewal, told_in}
-use Rattle.renewal.specs.Renewed.{announced, cell, cell_told, chain, entry_kind, entry_node, has_node, has_verdict, is_linked, mark, message, number, number_at, number_told, outcome_node, outcome_record, outcome_status, removed, renewed, status, told_node, told_status, waiting}
+use Rattle.renewal.specs.Renewed.{announced, cell, cell_told, chain, entry_kind, entry_node, has_node, has_verdict}
+use Rattle.renewal.specs.Renewed.{is_linked, mark, message, number, number_at, number_told, outcome_node}
+use Rattle.renewal.specs.Renewed.{outcome_record, outcome_status, removed, renewed, status, told_node, told_status}
+use Rattle.renewal.specs.Renewed.{waiting}
 use Rattle.renewal.specs.Roles.{first_record, role_of, second_record, used_for}
 use Rattle.renewal.specs.Words.{FitsOutcome, FitsVerdict, MayBeRenewed, MayBeTold}
 use Rattle.renewal.specs.declared.role.Role.{Role}
@@ -31,7 +38,9 @@ use Rattle.renewal.specs.declared.role.Role.TheVariants.{First, Second, Item, Se
 use Rattle.renewal.proofs.Lists.{in_parts}
 use Rattle.renewal.proofs.Chained.{follower_off, follower_second, leads_nowhere}
 use Rattle.renewal.proofs.Roles.{owner_of, role_first, role_second, unused_item, used_within}
-use Rattle.renewal.proofs.Members.{IsRemoved, IsWaiting, RoleOf, chain_distinct, chain_is, ends, first_issued, issued_by, no_sentinel, on_removed, on_waiting, removed_issued, removed_on, role_is, role_removed, role_waiting, second_issued, two, waiting_issued, waiting_on}
+use Rattle.renewal.proofs.Members.{IsRemoved, IsWaiting, RoleOf, chain_distinct, chain_is, ends, first_issued}
+use Rattle.renewal.proofs.Members.{issued_by, no_sentinel, on_removed, on_waiting, removed_issued, removed_on, role_is}
+use Rattle.renewal.proofs.Members.{role_removed, role_waiting, second_issued, two, waiting_issued, waiting_on}
 use Rattle.renewal.proofs.Members.RoleOf.{for_answer, for_item, for_node}
 
 -- the message of the empty item

@@ -24,14 +24,18 @@ use Rattle.arena.specs.declared.place.Place.{Place}
 use Rattle.recover.specs.Sound.{IsOnChain}
 use Rattle.recover.specs.Table.{no_call}
 use Rattle.recover.specs.Told.{dequeue_outcome, node_claimed_by, outcome_by, report_on, row_with, told_by}
-use Rattle.recover.proofs.ToldBy.{among_any, told_empty, told_nothing, told_of}
+use Rattle.recover.proofs.Facts.{among_any, told_empty, told_nothing, told_of}
 use Rattle.renewal.specs.Renewal.{Renewal, item_in, told_in}
-use Rattle.renewal.specs.Renewed.{announced, cell_told, has_node, has_verdict, message, number_told, outcome_node, outcome_record, outcome_status, removed, renewed, status, told_node, told_status, waiting}
+use Rattle.renewal.specs.Renewed.{announced, cell_told, has_node, has_verdict, message, number_told, outcome_node}
+use Rattle.renewal.specs.Renewed.{outcome_record, outcome_status, removed, renewed, status, told_node, told_status}
+use Rattle.renewal.specs.Renewed.{waiting}
 use Rattle.renewal.specs.Roles.{first_record, item_record, role_of, second_record}
 use Rattle.renewal.specs.Words.{MayBeRenewed, MayBeTold, told_anew}
 use Rattle.renewal.proofs.Members.{IsRemoved, IsWaiting, chain_is, on_removed, on_waiting, role_waiting, two}
 use Rattle.renewal.proofs.Roles.{role_first, role_second}
-use Rattle.renewal.proofs.Sound.{cell_second, claimed_removed, first_kind, first_number, mark_first, mark_removed, mark_waiting, message_fits, no_claim, node_linked, once, removed_linked, second_kind, second_number}
+use Rattle.renewal.proofs.Sound.{cell_second, claimed_removed, first_kind, first_number, mark_first, mark_removed}
+use Rattle.renewal.proofs.Sound.{mark_waiting, message_fits, no_claim, node_linked, once, removed_linked, second_kind}
+use Rattle.renewal.proofs.Sound.{second_number}
 
 -- the one of these nodes that a token claims, and none
 claimed_one : (k : Place → ℕ) (token n : ℕ) (ns : List ℕ) → marks k n ≡ token → ((x : ℕ) → IsAmong x ns → marks k x ≡ token → x ≡ n) → IsAmong n ns

@@ -15,17 +15,16 @@ use Rattle.arena.specs.Place.{IsPlace}
 use Rattle.arena.specs.Shape.{Shape}
 use Rattle.arena.specs.declared.place.Place.{Place}
 use Rattle.arena.specs.declared.place.Place.TheVariants.{Bump}
-use Rattle.arena.proofs.BrokerWords.{queue_fits}
+use Rattle.arena.proofs.Facts.{queue_fits}
 use Rattle.recover.specs.Kept.{kept_in}
 use Rattle.recover.specs.Sound.{AreSoundWords}
 use Rattle.recover.specs.Table.{no_call}
 use Rattle.recover.specs.Told.{told_by}
-use Rattle.recover.proofs.Alike.{sound_like}
-use Rattle.recover.proofs.AlikeTold.{content_like, told_like}
-use Rattle.recover.proofs.ToldBy.{told_nobody}
+use Rattle.recover.proofs.Facts.{content_like, sound_like, told_like, told_nobody}
 use Rattle.renewal.specs.Renewal.{Renewal, told_in}
 use Rattle.renewal.specs.Renewed.{renewed}
-use Rattle.renewal.specs.Words.{IsRenewalOf, MayBeRenewed, MayBecome, block_renewed, renewal_of, renewed_or_zero, told_anew, word_renewed}
+use Rattle.renewal.specs.Words.{IsRenewalOf, MayBeRenewed, MayBecome, block_renewed, renewal_of, renewed_or_zero}
+use Rattle.renewal.specs.Words.{told_anew, word_renewed}
 use Rattle.renewal.proofs.Kept.{kept_may, told_listed, told_none_past, told_same}
 use Rattle.renewal.proofs.Sound.{renewed_sound}
 use Rattle.renewal.proofs.Tellings.{renewed_holds, renewed_tells}

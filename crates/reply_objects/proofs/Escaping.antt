@@ -10,7 +10,7 @@ use Rattle.json.proofs.Printed.Utf8.{are_ascii, IsUtf8-are_ascii}
 use Rattle.std.specs.Result.{result_ok}
 use Rattle.hex.specs.Hex.{decode_of, encode_lower}
 use Rattle.words.specs.Item.{IsItem, is_hex, is_lower_digit, item_in}
-use Rattle.words.proofs.Items.{hex_again}
+use Rattle.words.proofs.Facts.{hex_again}
 use Rattle.directory.specs.Name.{IsName, is_name_byte}
 
 -- bytes that need no escape

@@ -19,14 +19,15 @@ use Rattle.words.specs.declared.told.Row.{Row}
 use Rattle.words.specs.declared.told.Row.TheVariants as row
 use Rattle.words.specs.declared.told.Told.{Told}
 use Rattle.words.specs.declared.told.Told.TheVariants as told
-use Rattle.words.proofs.Items.{hex_again}
+use Rattle.words.proofs.Facts.{hex_again}
 use Rattle.directory.specs.declared.queue.Queue.{Queue}
 use Rattle.wire.specs.declared.answer.Answer.{Answer}
 use Rattle.wire.specs.declared.answer.Answer.TheVariants as answer
 use Rattle.replies.specs.Texts.{answer_text}
 use Rattle.requests.specs.Members.{text_at, whole_at}
 use Rattle.requests.specs.Rows.{kind_in, value_in}
-use Rattle.reply_objects.specs.Objects.{FitsOutcome, IsOfServer, Learnt, MayBeWritten, learnt_by, object_of, outcome_members, queue_items, queue_object, queues_in}
+use Rattle.reply_objects.specs.Objects.{FitsOutcome, IsOfServer, Learnt, MayBeWritten, learnt_by, object_of}
+use Rattle.reply_objects.specs.Objects.{outcome_members, queue_items, queue_object, queues_in}
 use Rattle.reply_objects.specs.Objects.Learnt.{listed, said}
 use Rattle.reply_objects.proofs.Writing.{read_again}
 

@@ -1,3 +1,3 @@
-pub mod Escaping
-pub mod Learning
-pub mod Writing
+mod Escaping
+mod Learning
+mod Writing

@@ -22,7 +22,7 @@ use Rattle.words.specs.declared.told.Row.{Row}
 use Rattle.words.specs.declared.told.Row.TheVariants as row
 use Rattle.words.specs.declared.told.Told.{Told}
 use Rattle.words.specs.declared.told.Told.TheVariants as told
-use Rattle.words.proofs.Items.{digits_text}
+use Rattle.words.proofs.Facts.{digits_text}
 use Rattle.directory.specs.Directory.{Directory}
 use Rattle.directory.specs.Name.{IsName}
 use Rattle.directory.specs.declared.queue.Queue.{Queue}
@@ -30,8 +30,9 @@ use Rattle.wire.specs.Kinds.{kind_text}
 use Rattle.wire.specs.declared.answer.Answer.{Answer}
 use Rattle.wire.specs.declared.answer.Answer.TheVariants as answer
 use Rattle.replies.specs.Texts.{answer_text, outcome_text, queue_text, queue_texts}
-use Rattle.requests.proofs.Written.{AreItemsPlain, IsPlain, read-compact_text}
-use Rattle.reply_objects.specs.Objects.{AreNames, FitsOutcome, FitsReply, FitsTold, IsOfServer, MayBeWritten, object_of, outcome_members, queue_items, queue_object, queues_in}
+use Rattle.requests.proofs.Facts.{AreItemsPlain, IsPlain, read-compact_text}
+use Rattle.reply_objects.specs.Objects.{AreNames, FitsOutcome, FitsReply, FitsTold, IsOfServer, MayBeWritten, object_of}
+use Rattle.reply_objects.specs.Objects.{outcome_members, queue_items, queue_object, queues_in}
 use Rattle.reply_objects.proofs.Escaping.{name_plain, name_utf8, value_plain}
 
 -- a text with its closing quote, and what comes behind it

@@ -5,9 +5,11 @@ use Rattle.serde_json.specs.Data.{object}
 use Rattle.words.specs.declared.call.Kind.TheVariants.{Durable, Log}
 use Rattle.words.specs.declared.limits.TheConstants.{MAX_CALL_NUMBER}
 use Rattle.wire.specs.declared.request.Request.{Request}
-use Rattle.wire.specs.declared.request.Request.TheVariants.{Create, List as ListAll, Put, Take, Told, Crash, Recover, Stop}
-use Rattle.words.proofs.Items.{hex_again}
-use Rattle.requests.specs.Rows.{request_in, create_in, put_in, numbered_put_in, take_in, numbered_take_in, told_in, value_at, number_at, queue_at, kind_at}
+use Rattle.wire.specs.declared.request.Request.TheVariants.{Create, List as ListAll, Put, Take, Told, Crash, Recover}
+use Rattle.wire.specs.declared.request.Request.TheVariants.{Stop}
+use Rattle.words.proofs.Facts.{hex_again}
+use Rattle.requests.specs.Rows.{request_in, create_in, put_in, numbered_put_in, take_in, numbered_take_in, told_in}
+use Rattle.requests.specs.Rows.{value_at, number_at, queue_at, kind_at}
 use Rattle.requests.specs.Objects.{members_asking, MayAsk}
 
 pub asked : (text : List ℕ) (request : Request) → MayAsk text request → request_in (object (members_asking text request)) ≡ Some request

@@ -2,4 +2,5 @@ mod Asked
 mod Keys
 mod Lines
 mod Texts
-pub mod Written
+mod Written
+pub mod Facts

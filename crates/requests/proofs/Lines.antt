@@ -8,8 +8,9 @@ use Rattle.words.specs.declared.call.Kind.{Kind}
 use Rattle.words.specs.declared.call.Kind.TheVariants.{Durable, Log}
 use Rattle.words.specs.declared.refusal.Refusal.TheVariants.{BadJson, BadRequest}
 use Rattle.wire.specs.declared.request.Request.{Request}
-use Rattle.wire.specs.declared.request.Request.TheVariants.{Create, List as ListAll, Put, Take, Told, Crash, Recover, Stop}
-use Rattle.words.proofs.Items.{digits_text}
+use Rattle.wire.specs.declared.request.Request.TheVariants.{Create, List as ListAll, Put, Take, Told, Crash, Recover}
+use Rattle.wire.specs.declared.request.Request.TheVariants.{Stop}
+use Rattle.words.proofs.Facts.{digits_text}
 use Rattle.json.proofs.Printed.Utf8.{IsUtf8-are_ascii}
 use Rattle.wire.specs.Kinds.{kind_text}
 use Rattle.requests.specs.Line.{meaning, value_meaning}

@@ -15,8 +15,9 @@ use Rattle.named.specs.Booting.{AreBootWords, kept_block}
 use Rattle.named.specs.Brokers.{Brokered, world_at}
 use Rattle.named.specs.Promises.{KeepsPromises}
 use Rattle.named.specs.Renewing.{IsRenewed, IsWhyUnrenewed}
-use Rattle.named.proofs.Renewed.{holds_same, renewed_boots, renewed_is, tells_same}
-use Rattle.server.specs.Opening.{HasBegunFrom, HasBegunOn, IsOpened, IsOpenedAnew, IsQueueOpened, IsQueueRenewed, IsRenewedBy, IsReopenedAnew, IsWhyNotReopenedAnew}
+use Rattle.named.proofs.Facts.{holds_same, renewed_boots, renewed_is, tells_same}
+use Rattle.server.specs.Opening.{HasBegunFrom, HasBegunOn, IsOpened, IsOpenedAnew, IsQueueOpened, IsQueueRenewed}
+use Rattle.server.specs.Opening.{IsRenewedBy, IsReopenedAnew, IsWhyNotReopenedAnew}
 
 module _ (old : List ℕ) (to : Counts) (sound : AreBootWords old) (start : Brokered) (renewed : IsRenewed old to start) where
   abbrev new : List ℕ

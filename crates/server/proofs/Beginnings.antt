@@ -11,7 +11,7 @@ use Rattle.migration.specs.Words.{broker_migrated}
 use Rattle.named.specs.Booting.{AreBootWords, AreBootWordsIn, IsBooted, MayRefuseIn}
 use Rattle.named.specs.Brokers.{Brokered}
 use Rattle.named.specs.Migrating.{IsMigrated}
-use Rattle.named.proofs.Migrated.{migrated_boots, migrated_is}
+use Rattle.named.proofs.Facts.{migrated_boots, migrated_is}
 use Rattle.server.specs.Opening.{HasBegunFrom, HasBegunOn, IsOpened, IsOpenedBy, IsWhyUnopened, IsWhyUnread}
 
 -- why an image was not read, and why its words were refused

@@ -1,9 +1,9 @@
-pub mod Endings
-pub mod Serving
-pub mod Refused
-pub mod StepsKeep
-pub mod Beginnings
-pub mod Anew
-pub mod Recoveries
-pub mod Restarts
-pub mod Lefts
+mod Endings
+mod Serving
+mod Refused
+mod StepsKeep
+mod Beginnings
+mod Anew
+mod Recoveries
+mod Restarts
+mod Lefts

@@ -9,7 +9,7 @@ use Rattle.directory.specs.Directory.{Directory, HasQueue}
 use Rattle.directory.specs.Queue.{directory_of, slot_in}
 use Rattle.directory.specs.Sound.{counts_in}
 use Rattle.directory.specs.declared.queue.Queue.{Queue}
-use Rattle.directory.proofs.Kept.{directory_at}
+use Rattle.directory.proofs.Facts.{directory_at}
 use Rattle.interleave.specs.Booted.{booted_world}
 use Rattle.interleave.specs.State.{State, recover_result}
 use Rattle.named.specs.Booting.{AreBootWords, IsBooted, kept_block, world_booted}
@@ -21,10 +21,9 @@ use Rattle.interleave.specs.Telling.{IsToldAtReady}
 use Rattle.named.specs.Telling.{TellAtReady}
 use Rattle.named.specs.declared.recovery.BrokerRecovery.{BrokerRecovery}
 use Rattle.named.specs.declared.recovery.BrokerRecovery.TheVariants.{ReadDirectory, RecoverQueue}
-use Rattle.named.proofs.Begun.{listed_open}
+use Rattle.named.proofs.Facts.{listed_open}
 use Rattle.session.specs.Sessions.{IsUncalled}
-use Rattle.session.proofs.Uncalled.{uncalled_booted, uncalled_recovered}
-use Rattle.session.proofs.Worlds.{open_below}
+use Rattle.session.proofs.Facts.{open_below, uncalled_booted, uncalled_recovered}
 use Rattle.server.specs.Opening.{IsOpened, IsQueueOpened, Recovers}
 use Rattle.server.specs.Opening.Recovers.{nothing, next}
 use Rattle.server.proofs.StepsKeep.{IsAsKept, IsStepKept, step_keeps}

@@ -23,7 +23,7 @@ use Rattle.workers.specs.Moments.{IsMoment}
 use Rattle.named.specs.KeptQueues.{IsKeptQueue}
 use Rattle.server.specs.Opening.{IsOpened, IsQueueOpened}
 use Rattle.server.specs.Restarting.{GoesOnFrom}
-use Rattle.named.proofs.KeptQueues.{kept_queue}
+use Rattle.named.proofs.Facts.{kept_queue}
 
 module _ (first : Sessioned) (kept : List ℕ) (b : Brokered) (m : IsMoment first kept) (o : IsOpened (words_at_rest kept) b) where
   stands : (slot : ℕ) (w : State) → world_at m.session.broker slot ≡ Some w → IsKeptQueue kept slot w

@@ -10,17 +10,18 @@ use Rattle.directory.specs.declared.creation.Creation.{Creation}
 use Rattle.directory.specs.declared.recovery.DirectoryRecovery.{DirectoryRecovery}
 use Rattle.recover.specs.declared.recovery.Recovery.{Recovery}
 use Rattle.interleave.specs.Holds.{Holds}
-use Rattle.interleave.specs.State.{State, after_recover, kept_content, kept_tells, order_in, recover_result, recover_with}
-use Rattle.interleave.proofs.KeptTells.{tells_on}
+use Rattle.interleave.specs.State.{State, after_recover, kept_content, kept_tells, order_in, recover_result}
+use Rattle.interleave.specs.State.{recover_with}
+use Rattle.interleave.proofs.Facts.{tells_on}
 use Rattle.named.specs.Brokers.{Brokered, IsWell, is_ready_at, quiet, world_at}
 use Rattle.named.specs.Slots.{IfWorld, acted, answered}
-use Rattle.named.specs.Stopping.{IsFound, IsFoundIn, IsKnownAlike, IsQueueOn, IsReadOn, IsRecoveryStep, creation_after, found_by}
+use Rattle.named.specs.Stopping.{IsFound, IsFoundIn, IsKnownAlike, IsQueueOn, IsReadOn, IsRecoveryStep, creation_after}
+use Rattle.named.specs.Stopping.{found_by}
 use Rattle.interleave.specs.Telling.{IsToldAtReady}
 use Rattle.named.specs.declared.recovery.BrokerRecovery.{BrokerRecovery}
 use Rattle.named.specs.declared.recovery.BrokerRecovery.TheVariants.{ReadDirectory, RecoverQueue}
-use Rattle.named.proofs.GoingOn.{world_holds}
-use Rattle.named.proofs.Stays.{recovered_shape}
-use Rattle.session.proofs.Worlds.{none_some}
+use Rattle.named.proofs.Facts.{recovered_shape, world_holds}
+use Rattle.session.proofs.Facts.{none_some}
 
 -- a queue is still there, and its kept words hold and tell what they did; no call took effect
 pub record IsAsKept (w : State) (now : Option State) : Type 0 where

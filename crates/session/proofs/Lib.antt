@@ -1,23 +1,5 @@
-pub mod Acting
-pub mod Answered
-pub mod Calling
-pub mod Clients
-pub mod Downs
-pub mod Going
-pub mod GoneOn
-pub mod Heard
-pub mod NotStale
-pub mod Numbering
-pub mod Opens
-pub mod Places
-pub mod Promised
-pub mod Queueing
-pub mod Recovering
-pub mod Runs
-pub mod Serving
-pub mod SlotLaws
-pub mod Starts
-pub mod Uncalled
-pub mod Worlds
-pub mod Renewed
-pub mod Settled
+mod calls
+mod answers
+mod downtime
+mod brokers
+pub mod Facts

@@ -10,7 +10,7 @@ use Rattle.words.specs.declared.refusal.Refusal.{Refusal}
 use Rattle.words.specs.declared.refusal.Refusal.TheVariants.{NoClient, NotReady}
 use Rattle.events.specs.History.{IsOpenFrom}
 use Rattle.events.specs.declared.event.Event.{Event}
-use Rattle.events.proofs.Growing.{open_before, open_less}
+use Rattle.events.proofs.Facts.{open_before, open_less}
 use Rattle.interleave.specs.Verdicts.{number_of_call, number_under_way}
 use Rattle.interleave.specs.State.{State}
 use Rattle.protocol.specs.declared.UnderWay.{UnderWay}
@@ -19,7 +19,7 @@ use Rattle.named.specs.GoingOn.{BrokerGoesOn, IsGoneOn}
 use Rattle.named.specs.Slots.{answered}
 use Rattle.named.specs.declared.recovery.BrokerRecovery.{BrokerRecovery}
 use Rattle.session.specs.Sessions.{Sessioned}
-use Rattle.session.proofs.Worlds.{clients_there, holds_there, up_there}
+use Rattle.session.proofs.Facts.{clients_there, holds_there, up_there}
 use Rattle.workers.specs.Coming.{CameThrough}
 use Rattle.workers.specs.Following.{Guarded, IsGuardedWell, beginnings}
 use Rattle.workers.specs.Lists.{HasEndedAs, ends_open, events_at, events_of, is_open}

@@ -5,7 +5,7 @@ use Rattle.std.proofs.lemmas.Option.{same_Some}
 use Rattle.words.specs.declared.refusal.Refusal.{Refusal}
 use Rattle.persist.specs.declared.access.Change.{Change}
 use Rattle.notes.specs.Noting.{IsMadeBy, Noting}
-use Rattle.notes.proofs.Making.{made_by_none, made_by_notes, noted_none}
+use Rattle.notes.proofs.Facts.{made_by_none, made_by_notes, noted_none}
 use Rattle.roll.specs.Rule.{IsHolder, IsKeeper, holder, keeper, place_of, row_of, rows_of}
 use Rattle.roll.below.atomic_table.specs.declared.shared.Seat.{Seat}
 use Rattle.roll.specs.declared.law.View.{View}
@@ -15,13 +15,14 @@ use Rattle.arena.specs.declared.broker.SlotId.{SlotId}
 use Rattle.stepper.specs.declared.resume.After.{After}
 use Rattle.stepper.specs.declared.resume.After.TheVariants.{Done, More}
 use Rattle.directory.specs.Creation.{left_after, left_at, successor}
-use Rattle.directory.proofs.Creations.{creation_less}
+use Rattle.directory.proofs.Facts.{creation_less}
 use Rattle.directory.specs.declared.creation.Creation.{Creation}
 use Rattle.named.specs.Brokers.{Brokered, IsBegun, IsStepCreated}
 use Rattle.named.specs.Stopping.{IsRecoveryStep}
 use Rattle.named.specs.declared.recovery.BrokerRecovery.{BrokerRecovery}
 use Rattle.workers.specs.Creating.{IsCreationKnown, creating_after_crash}
-use Rattle.workers.specs.Noting.{HasPromised, IsBooked, IsBookOn, IsBookRight, OfRoll, promised_in, to_create, with_promised}
+use Rattle.workers.specs.Noting.{HasPromised, IsBooked, IsBookOn, IsBookRight, OfRoll, promised_in, to_create}
+use Rattle.workers.specs.Noting.{with_promised}
 use Rattle.workers.specs.declared.book.Book.{Book}
 use Rattle.workers.specs.declared.locked.Creating.{Creating}
 use Rattle.workers.specs.declared.locked.Creating.TheVariants.{Interrupted, Nothing, UnderWay}

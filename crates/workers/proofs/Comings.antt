@@ -8,7 +8,7 @@ use Rattle.named.specs.GoingOn.CameOf.{rotated, unrotated}
 use Rattle.named.specs.Promises.{KeepsPromises}
 use Rattle.named.specs.Renewing.{IsRenewedAt}
 use Rattle.named.specs.Rotating.{IsRotated}
-use Rattle.named.proofs.Comings.{came_further, came_of_itself, came_over_rotation, came_unrotated, queues_came}
+use Rattle.named.proofs.Facts.{came_further, came_of_itself, came_over_rotation, came_unrotated, queues_came}
 use Rattle.workers.specs.Coming.{CameThrough}
 use Rattle.workers.specs.Coming.CameThrough.{renewed, unrenewed}
 

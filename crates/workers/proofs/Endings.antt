@@ -6,9 +6,9 @@ use Rattle.words.specs.declared.call.Client.{Client}
 use Rattle.words.specs.declared.call.Reply.{Reply}
 use Rattle.events.specs.History.{EndsAt, HasNoEnd, IsEnd}
 use Rattle.events.specs.declared.event.Event.{Event}
-use Rattle.events.specs.declared.event.Event.TheVariants.{Call as call_event, Return as return_event, Crash as crash_event, Ready as ready_event}
-use Rattle.events.proofs.Growing.{is_end_before, is_end_longer}
-use Rattle.events.proofs.Lists.{get_before, get_longer}
+use Rattle.events.specs.declared.event.Event.TheVariants.{Call as call_event, Return as return_event}
+use Rattle.events.specs.declared.event.Event.TheVariants.{Crash as crash_event, Ready as ready_event}
+use Rattle.events.proofs.Facts.{get_before, get_longer, is_end_before, is_end_longer}
 use Rattle.workers.specs.Lists.{HasEndedAs, HasNotReturned, HasReturned, IsCutOff, is_open}
 use Rattle.workers.specs.declared.entry.End.{End}
 use Rattle.workers.specs.declared.entry.End.TheVariants.{Answered, Interrupted, Open}

@@ -8,24 +8,26 @@ use Rattle.words.specs.declared.call.Reply.{Reply}
 use Rattle.arena.specs.declared.broker.SlotId.{SlotId}
 use Rattle.events.specs.History.{IsHistory}
 use Rattle.events.specs.declared.event.Event.{Event}
-use Rattle.events.specs.declared.event.Event.TheVariants.{Call as call_event, Return as return_event, Crash as crash_event}
-use Rattle.events.proofs.Growing.{begins_within, no_end_longer}
-use Rattle.events.proofs.Lists.{get_last, get_push_cases}
+use Rattle.events.specs.declared.event.Event.TheVariants.{Call as call_event, Return as return_event}
+use Rattle.events.specs.declared.event.Event.TheVariants.{Crash as crash_event}
+use Rattle.events.proofs.Facts.{begins_within, get_last, get_push_cases, no_end_longer}
 use Rattle.interleave.specs.State.{State}
 use Rattle.named.specs.Brokers.{is_down, world_at}
-use Rattle.named.proofs.Kept.{get_set_other}
+use Rattle.named.proofs.Facts.{get_set_other}
 use Rattle.session.specs.Promises.{IsReplyAt, KeepsNumbers}
 use Rattle.session.specs.Requests.{number_or_zero}
 use Rattle.session.specs.Sessions.{Sessioned}
 use Rattle.workers.specs.Answers.{entry_of}
 use Rattle.workers.specs.Following.{AreFollowed, IsFollowed, AreOpenCutOff}
-use Rattle.workers.specs.Lists.{HasEndedAs, HasNoNumberZero, HasNotReturned, IsCutOff, IsKeptReply, IsListOf, LastIsOf, OnlyLastIsOpen, RanAt, ends_open, events_at, events_of, is_open, with_end}
+use Rattle.workers.specs.Lists.{HasEndedAs, HasNoNumberZero, HasNotReturned, IsCutOff, IsKeptReply, IsListOf, LastIsOf}
+use Rattle.workers.specs.Lists.{OnlyLastIsOpen, RanAt, ends_open, events_at, events_of, is_open, with_end}
 use Rattle.workers.specs.declared.entry.End.{End}
 use Rattle.workers.specs.declared.entry.End.TheVariants.{Answered, Interrupted, Open}
 use Rattle.workers.specs.declared.entry.Entry.{Entry}
 use Rattle.workers.specs.declared.entry.Request.{Request}
 use Rattle.workers.proofs.Carried.{CallsNow, HasNext, IsCarriedFor, IsCrashed, IsLost, IsNotOf, IsStillFor, RepliesStay}
-use Rattle.workers.proofs.Histories.{cut_off_if_lost, cut_off_longer, end_or_none, list_answered, list_called, list_elsewhere, list_ended_elsewhere, list_interrupted, list_longer, ran_within}
+use Rattle.workers.proofs.Histories.{cut_off_if_lost, cut_off_longer, end_or_none, list_answered, list_called}
+use Rattle.workers.proofs.Histories.{list_elsewhere, list_ended_elsewhere, list_interrupted, list_longer, ran_within}
 use Rattle.workers.proofs.Lists.{all_ended, last_is_open, length_with_end, with_end_at}
 
 -- each history of a session that keeps its numbers may arise

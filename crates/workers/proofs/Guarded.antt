@@ -12,9 +12,7 @@ use Rattle.session.specs.Sessions.{Sessioned}
 use Rattle.named.specs.Brokers.{Brokered, IsStepCreated, IsWell, is_creating, is_down, world_at}
 use Rattle.named.specs.Slots.{answered}
 use Rattle.named.specs.GoingOn.{BrokerGoesOn}
-use Rattle.named.proofs.Begun.{listed_open}
-use Rattle.named.proofs.Kept.{get_set_other}
-use Rattle.named.proofs.Queues.{its_queue}
+use Rattle.named.proofs.Facts.{get_set_other, its_queue, listed_open}
 use Rattle.interleave.specs.Calls.{is_no_memory}
 use Rattle.interleave.specs.State.{State, recover_result, recover_result_with}
 use Rattle.recover.specs.declared.recovery.Recovery.{Recovery}

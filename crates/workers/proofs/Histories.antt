@@ -10,17 +10,18 @@ use Rattle.arena.specs.declared.broker.SlotId.{SlotId}
 use Rattle.events.specs.History.{BeginsAt, CallAt, HasNoEnd, IsEnd, IsHistory}
 use Rattle.events.specs.declared.event.Event.{Event}
 use Rattle.events.specs.declared.event.Event.TheVariants.{Call as call_event, Return as return_event}
-use Rattle.events.proofs.Growing.{begins_before, no_end_longer, open_less}
-use Rattle.events.proofs.Lists.{get_last, get_longer, get_push_cases}
+use Rattle.events.proofs.Facts.{begins_before, get_last, get_longer, get_push_cases, no_end_longer, open_less}
 use Rattle.session.specs.Requests.{number_or_zero}
 use Rattle.workers.specs.Answers.{entry_of}
-use Rattle.workers.specs.Lists.{HasEndedAs, HasEntryAt, HasNotReturned, HasReturned, IsCutOff, IsListOf, IsRunRight, OnlyLastIsOpen, RanAt, with_end}
+use Rattle.workers.specs.Lists.{HasEndedAs, HasEntryAt, HasNotReturned, HasReturned, IsCutOff, IsListOf, IsRunRight}
+use Rattle.workers.specs.Lists.{OnlyLastIsOpen, RanAt, with_end}
 use Rattle.workers.specs.declared.entry.End.{End}
 use Rattle.workers.specs.declared.entry.End.TheVariants.{Answered, Interrupted, Open}
 use Rattle.workers.specs.declared.entry.Entry.{Entry}
 use Rattle.workers.specs.declared.entry.Request.{Request}
 use Rattle.workers.proofs.Carried.{CallsNow, IsNotOf, IsStillFor}
-use Rattle.workers.proofs.Endings.{NoReturnIn, closed_grown, cut_off_grown, end_or_none_before, ended_grown, get_added, not_returned_grown, returned_grown}
+use Rattle.workers.proofs.Endings.{NoReturnIn, closed_grown, cut_off_grown, end_or_none_before, ended_grown, get_added}
+use Rattle.workers.proofs.Endings.{not_returned_grown, returned_grown}
 use Rattle.workers.proofs.Lists.{last_or_before, with_end_at, with_end_before, with_end_last}
 
 -- the end of the client's call at p, or none up to the end of the history

@@ -2,8 +2,8 @@
 use Rattle.std.proofs.Common.{◌≡◌, ◌⊎◌, ◌∙◌, ◌++◌, inl, inr, ℕ, zero, suc, List, [], ◌∷◌, Option, Some, None, slice_get, set, refl, sym, ap, subst, append_assoc, append-nil}
 use Rattle.std.proofs.lemmas.Bool.{cases_eq}
 use Rattle.std.proofs.lemmas.Option.{same_Some, slice_get_within}
-use Rattle.interleave.proofs.AloneLaws.{get_set}
-use Rattle.roll.proofs.Places.{get_set_else}
+use Rattle.interleave.proofs.Facts.{get_set}
+use Rattle.roll.proofs.Facts.{get_set_else}
 use Rattle.workers.specs.Deeds.{AreAmong}
 use Rattle.workers.specs.declared.deeds.Deed.{Deed}
 

@@ -4,7 +4,7 @@ use Rattle.words.specs.declared.call.Client.{Client}
 use Rattle.arena.specs.declared.broker.TheConstants.{SLOTS}
 use Rattle.interleave.specs.Verdicts.{number_under_way}
 use Rattle.named.specs.Brokers.{Brokered, IsWell}
-use Rattle.session.proofs.Clients.{accepted_within}
+use Rattle.session.proofs.Facts.{accepted_within}
 use Rattle.workers.specs.Opening.{IsCalling}
 
 -- the queue of a call under way is in one of the slots

@@ -1,30 +1,31 @@
-pub mod SeenStill
-pub mod Answering
-pub mod Beginning
-pub mod Booking
-pub mod Carried
-pub mod Comings
-pub mod Counting
-pub mod Endings
-pub mod Follows
-pub mod Guarded
-pub mod Histories
-pub mod Honouring
-pub mod Idling
-pub mod QueueKinds
-pub mod Readying
-pub mod Lists
-pub mod Momentary
-pub mod Names
-pub mod Seating
-pub mod SlotsOn
-pub mod Starts
-pub mod Steps
-pub mod Stops
-pub mod Telling
-pub mod Turning
-pub mod Turns
-pub mod Refusing
-pub mod Renewals
-pub mod Roomy
-pub mod Unstopped
+mod SeenStill
+mod Answering
+mod Beginning
+mod Booking
+mod Carried
+mod Comings
+mod Counting
+mod Endings
+mod Follows
+mod Guarded
+mod Histories
+mod Honouring
+mod Idling
+mod QueueKinds
+mod Readying
+mod Lists
+mod Momentary
+mod Names
+mod Seating
+mod SlotsOn
+mod Starts
+mod Steps
+mod Stops
+mod Telling
+mod Turning
+mod Turns
+mod Refusing
+mod Renewals
+mod Roomy
+mod Unstopped
+pub mod Facts

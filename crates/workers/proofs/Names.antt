@@ -3,7 +3,7 @@ use Rattle.std.proofs.Common.{ℕ, List, [], ◌∷◌, ◌++◌, inl, inr, sym,
 use Rattle.directory.specs.Directory.{Directory, IsNamed}
 use Rattle.named.specs.Brokers.{Brokered}
 use Rattle.named.specs.GoingOn.{BrokerGoesOn}
-use Rattle.events.proofs.Lists.{get_push_cases}
+use Rattle.events.proofs.Facts.{get_push_cases}
 use Rattle.workers.specs.Lists.{AreNamed, with_end}
 use Rattle.workers.specs.declared.entry.End.{End}
 use Rattle.workers.specs.declared.entry.Entry.{Entry}

@@ -15,8 +15,7 @@ use Rattle.named.specs.declared.recovery.BrokerRecovery.{BrokerRecovery}
 use Rattle.named.specs.declared.recovery.BrokerRecovery.TheVariants.{ReadDirectory, RecoverQueue}
 use Rattle.named.specs.declared.slot.Slot.{Slot}
 use Rattle.named.specs.declared.slot.Slot.TheVariants.{Closed, Open}
-use Rattle.named.proofs.Begun.{listed_open}
-use Rattle.named.proofs.Queues.{its_queue}
+use Rattle.named.proofs.Facts.{its_queue, listed_open}
 use Rattle.workers.specs.Recovered.{is_ready_after}
 
 -- no number is below itself

@@ -23,7 +23,8 @@ use Rattle.directory.specs.Directory.{HasName, HasQueue, IsNamed}
 use Rattle.directory.specs.declared.queue.Queue.{Queue as AnyQueue}
 use Rattle.interleave.specs.Calls.{idle_result, is_no_memory}
 use Rattle.interleave.specs.Queue.{number_check}
-use Rattle.interleave.specs.State.{State, is_down, number_of_idle, number_to_start, start_result, start_result_with, used_by}
+use Rattle.interleave.specs.State.{State, is_down, number_of_idle, number_to_start, start_result, start_result_with}
+use Rattle.interleave.specs.State.{used_by}
 use Rattle.interleave.specs.Verdicts.{number_of_call, number_under_way}
 use Rattle.interleave.specs.declared.queue.Queue.{Queue as ClientsQueue}
 use Rattle.interleave.specs.declared.queue.Queue.TheVariants.{Durable, Log}
@@ -35,15 +36,17 @@ use Rattle.named.specs.Brokers.{is_down as is_broker_down}
 use Rattle.named.specs.Rotating.{has_calls_in, rotate_result}
 use Rattle.named.specs.Slots.{answered}
 use Rattle.named.specs.declared.recovery.BrokerRecovery.{BrokerRecovery}
-use Rattle.named.proofs.Begun.{listed_open}
+use Rattle.named.proofs.Facts.{listed_open}
 use Rattle.session.specs.Keeping.{IsSettled}
 use Rattle.session.specs.Numbers.{by_last, by_number, by_outcome, missed}
-use Rattle.session.specs.Requests.{IsBegunBy, answer_to, as_begun, is_kind, number_or_zero, queue_admission, request_admission}
+use Rattle.session.specs.Requests.{IsBegunBy, answer_to, as_begun, is_kind, number_or_zero, queue_admission}
+use Rattle.session.specs.Requests.{request_admission}
 use Rattle.session.specs.Sessions.{IsLogClient, Sessioned, kept_at}
-use Rattle.session.proofs.Worlds.{clients_there, holds_there, up_there}
+use Rattle.session.proofs.Facts.{clients_there, holds_there, up_there}
 use Rattle.workers.specs.Following.{Guarded, IsGuardedWell}
 use Rattle.workers.specs.Lists.{ends_open, events_at, events_of}
-use Rattle.workers.specs.Refusals.{IsSettledStart, IsWhyNotTold, IsWhyRefused, WasSettled, is_rotation_refusal, is_settled_refusal, kind_asked}
+use Rattle.workers.specs.Refusals.{IsSettledStart, IsWhyNotTold, IsWhyRefused, WasSettled, is_rotation_refusal}
+use Rattle.workers.specs.Refusals.{is_settled_refusal, kind_asked}
 use Rattle.workers.specs.declared.entry.Entry.{Entry}
 use Rattle.workers.specs.Coming.{CameThrough}
 use Rattle.workers.specs.declared.entry.Request.{Request}

@@ -13,15 +13,16 @@ use Rattle.directory.specs.Directory.{Directory}
 use Rattle.directory.specs.declared.recovery.DirectoryRecovery.{DirectoryRecovery}
 use Rattle.protocol.specs.Machine.{next_recovery, recovery_left}
 use Rattle.interleave.specs.Calls.{is_no_memory}
-use Rattle.interleave.specs.State.{State, after_recover, is_ready, machine, recover_result, recover_result_with, recover_with}
+use Rattle.interleave.specs.State.{State, after_recover, is_ready, machine, recover_result, recover_result_with}
+use Rattle.interleave.specs.State.{recover_with}
 use Rattle.named.specs.Brokers.{Brokered, IsWell, quiet, room_at, world_at}
 use Rattle.named.specs.Renewing.{HasRoomInEach, IsRenewedAt}
 use Rattle.named.specs.Slots.{acted, answered}
-use Rattle.named.specs.Stopping.{IsDirectoryRead, IsFound, IsFoundIn, IsQueueOn, IsQueueRecovered, IsReadOn, IsRecoveryStep, creation_after, found_by}
+use Rattle.named.specs.Stopping.{IsDirectoryRead, IsFound, IsFoundIn, IsQueueOn, IsQueueRecovered, IsReadOn}
+use Rattle.named.specs.Stopping.{IsRecoveryStep, creation_after, found_by}
 use Rattle.named.specs.declared.recovery.BrokerRecovery.{BrokerRecovery}
 use Rattle.named.specs.declared.recovery.BrokerRecovery.TheVariants.{ReadDirectory, RecoverQueue}
-use Rattle.named.proofs.Begun.{listed_open}
-use Rattle.named.proofs.Queues.{its_queue}
+use Rattle.named.proofs.Facts.{its_queue, listed_open}
 use Rattle.workers.specs.Recovered.{IsRecoveryRefusal}
 use Rattle.workers.specs.Renewing.{HasRoomToRecover}
 use Rattle.workers.proofs.Readying.{waits_there}

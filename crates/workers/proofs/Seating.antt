@@ -2,7 +2,7 @@
 use Rattle.std.proofs.Common.{length, ◌≤◌, ◌≡◌, ◌⊎◌, ℕ, ◌+◌, List, [], ◌∷◌, ◌++◌, Some, slice_get, sym, ap, ◌∙◌, inl, inr}
 use Rattle.std.proofs.Common.{⊎_elim, length-append, subst}
 use Rattle.words.specs.declared.call.Client.{Client}
-use Rattle.events.proofs.Lists.{get_push_cases}
+use Rattle.events.proofs.Facts.{get_push_cases}
 use Rattle.session.specs.Sessions.{Sessioned}
 use Rattle.workers.specs.Coming.{CameThrough}
 use Rattle.workers.specs.Following.{Guarded, IsGuardedWell, beginnings}

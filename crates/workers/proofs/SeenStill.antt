@@ -7,7 +7,7 @@ use Rattle.arena.specs.declared.broker.SlotId.{SlotId}
 use Rattle.directory.specs.Directory.{Directory, HasName, HasQueue, IsDirectory, IsFree, IsNamed}
 use Rattle.directory.specs.declared.queue.Queue.{Queue}
 use Rattle.named.specs.Brokers.{Brokered}
-use Rattle.named.proofs.Begun.{get_there}
+use Rattle.named.proofs.Facts.{get_there}
 use Rattle.workers.specs.Coming.{CameThrough}
 use Rattle.workers.proofs.Comings.{queues_through}
 use Rattle.workers.specs.Looking.{IsFoundOf, IsListedOf}

@@ -11,18 +11,16 @@ use Rattle.events.specs.declared.event.Event.{Event}
 use Rattle.protocol.specs.declared.acts.Act.{Act}
 use Rattle.interleave.specs.Holds.{Holds}
 use Rattle.interleave.specs.State.{State, after_attempt}
-use Rattle.interleave.proofs.verdicts.Carried.{uncounted}
-use Rattle.interleave.proofs.verdicts.Recalled.{base_stays, reply_on}
+use Rattle.interleave.proofs.Facts.{base_stays, reply_on, uncounted}
 use Rattle.named.specs.Acting.{IsSameBeside}
 use Rattle.named.specs.Brokers.{Brokered, IsWell, admission, quiet, world_after, world_at}
 use Rattle.named.specs.GoingOn.{IsGoneOn}
 use Rattle.named.specs.Slots.{acted}
 use Rattle.named.specs.declared.recovery.BrokerRecovery.{BrokerRecovery}
-use Rattle.named.proofs.GoingOn.{on_by_act, on_if_quiet, world_holds}
-use Rattle.named.proofs.Kept.{some_is}
+use Rattle.named.proofs.Facts.{on_by_act, on_if_quiet, some_is, world_holds}
 use Rattle.session.specs.Promises.{IsReplyIn}
 use Rattle.session.specs.Sessions.{Sessioned}
-use Rattle.session.proofs.Worlds.{none_some}
+use Rattle.session.proofs.Facts.{none_some}
 use Rattle.workers.specs.Lists.{events_at, events_of}
 use Rattle.workers.proofs.Carried.{HasNext, IsCarriedFor, IsDownRightly, IsNotOf}
 

@@ -22,17 +22,15 @@ use Rattle.interleave.specs.State.{start_result, start_result_with, start_with, 
 use Rattle.interleave.specs.Verdicts.{number_under_way}
 use Rattle.interleave.specs.declared.queue.Queue.{Queue}
 use Rattle.interleave.specs.declared.queue.Queue.TheVariants.{Durable, Log}
-use Rattle.interleave.proofs.EveryAct.{act_adds_one}
+use Rattle.interleave.proofs.Facts.{act_adds_one}
 use Rattle.named.specs.Brokers.{Brokered, admission, answer_if, world_at}
-use Rattle.named.proofs.Kept.{some_is}
+use Rattle.named.proofs.Facts.{some_is}
 use Rattle.session.specs.Promises.{KeepsNumbers}
 use Rattle.session.specs.Numbers.{by_number}
 use Rattle.session.specs.Requests.{IsBegunBy, IsStarted, answer_to, as_begun, is_kind, number_or_zero, queue_admission}
 use Rattle.session.specs.Requests.{request_admission}
 use Rattle.session.specs.Sessions.{Sessioned, kept_at}
-use Rattle.session.proofs.Calling.{IsAnsweredAt, answered_at}
-use Rattle.session.proofs.Opens.{open_after, open_answer}
-use Rattle.session.proofs.Worlds.{holds_there}
+use Rattle.session.proofs.Facts.{IsAnsweredAt, answered_at, holds_there, open_after, open_answer}
 use Rattle.workers.proofs.Carried.{HasNext, IsCarriedFor}
 use Rattle.workers.proofs.SlotsOn.{IsOnBy, goes_by_act, next_came, nothing_carried, quiet_carried, stays_by_client}
 

@@ -18,18 +18,15 @@ use Rattle.protocol.specs.invariants.Worlds.{InvAt, IsCalling, IsReady, KnowsCal
 use Rattle.interleave.specs.Calls.{is_no_memory, waiting_result}
 use Rattle.interleave.specs.Holds.{Holds, from_invariant}
 use Rattle.interleave.specs.State.{State, after_step, is_down, machine, step_result, step_result_with, step_with}
-use Rattle.interleave.proofs.HoldsKept.{waiting_is}
-use Rattle.interleave.proofs.TurnLaws.{step_adds, step_adds_none}
+use Rattle.interleave.proofs.Facts.{step_adds, step_adds_none, waiting_is}
 use Rattle.named.specs.Brokers.{IsWell, admission, answer_if, world_at}
 use Rattle.named.specs.Slots.{acted, answered}
 use Rattle.named.specs.declared.recovery.BrokerRecovery.{BrokerRecovery}
-use Rattle.named.proofs.Kept.{some_is}
+use Rattle.named.proofs.Facts.{some_is}
 use Rattle.session.specs.Promises.{KeepsNumbers}
 use Rattle.session.specs.Requests.{IsAdvanced}
 use Rattle.session.specs.Sessions.{Sessioned}
-use Rattle.session.proofs.Calling.{answered_at}
-use Rattle.session.proofs.Opens.{open_after, open_answer}
-use Rattle.session.proofs.Worlds.{clients_there, holds_there, up_there}
+use Rattle.session.proofs.Facts.{answered_at, clients_there, holds_there, open_after, open_answer, up_there}
 use Rattle.workers.specs.Lists.{events_at, events_of}
 use Rattle.workers.proofs.Carried.{CallsNow, HasNext, IsCarriedFor, IsLost}
 use Rattle.workers.proofs.SlotsOn.{goes_by_act, next_came, quiet_carried, stays_by_client, stays_if_same}

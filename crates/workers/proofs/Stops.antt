@@ -26,7 +26,7 @@ use Rattle.interleave.specs.Holds.{Holds}
 use Rattle.interleave.specs.OneEvent.{ready_events, ready_events_by}
 use Rattle.interleave.specs.Rotation.{after_rotation}
 use Rattle.interleave.specs.State.{State, after_recover, after_stop, machine, recover_with}
-use Rattle.interleave.proofs.EveryAct.{act_adds_one}
+use Rattle.interleave.proofs.Facts.{act_adds_one}
 use Rattle.named.specs.Brokers.{Brokered, IsStepCreated, IsWell, is_down, quiet, world_at, world_of}
 use Rattle.named.specs.Rotating.{IsRotated, has_calls_in, rotate_result}
 use Rattle.named.specs.Slots.{acted, kind_in, world_in}
@@ -36,8 +36,7 @@ use Rattle.named.specs.declared.recovery.BrokerRecovery.{BrokerRecovery}
 use Rattle.named.specs.declared.recovery.BrokerRecovery.TheVariants.{ReadDirectory, RecoverQueue}
 use Rattle.named.specs.declared.slot.Slot.{Slot}
 use Rattle.named.specs.declared.slot.Slot.TheVariants.{Closed, Open}
-use Rattle.named.proofs.GoingOn.{world_holds}
-use Rattle.named.proofs.Opened.{is_free}
+use Rattle.named.proofs.Facts.{is_free, world_holds}
 use Rattle.session.specs.Promises.{KeepsNumbers}
 use Rattle.session.specs.Sessions.{Sessioned}
 use Rattle.workers.specs.Lists.{events_at, events_of}

@@ -22,7 +22,7 @@ use Rattle.named.specs.Brokers.{world_at}
 use Rattle.session.specs.Promises.{KeepsNumbers}
 use Rattle.session.specs.Requests.{number_or_zero}
 use Rattle.session.specs.Sessions.{Sessioned}
-use Rattle.session.proofs.Worlds.{holds_there}
+use Rattle.session.proofs.Facts.{holds_there}
 use Rattle.workers.specs.Accounts.{IsAnsweredAs, IsToldOfCall}
 use Rattle.workers.specs.Lists.{HasEndedAs, HasEntryAt, IsRecorded, IsRunRight, events_of}
 use Rattle.workers.specs.declared.entry.End.{End}

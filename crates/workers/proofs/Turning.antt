@@ -5,8 +5,8 @@ use Rattle.std.proofs.lemmas.Option.{same_Some, slice_get_within}
 use mathlib.Core.Logic.{dite}
 use native.Mathlib.Decide.{ℕ_discrete}
 use Rattle.words.specs.declared.call.Client.{Client}
-use Rattle.events.proofs.Lists.{get_push_cases}
-use Rattle.roll.proofs.Places.{get_set_else}
+use Rattle.events.proofs.Facts.{get_push_cases}
+use Rattle.roll.proofs.Facts.{get_set_else}
 use Rattle.workers.proofs.Seating.{client_of}
 use Rattle.workers.specs.Seats.{AreAllInOrder, AreEmpty}
 use Rattle.workers.specs.declared.entry.Entry.{Entry}

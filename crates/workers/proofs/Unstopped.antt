@@ -5,7 +5,7 @@ use Rattle.words.specs.declared.call.Client.{Client}
 use Rattle.events.specs.History.{CrashAt}
 use Rattle.events.specs.declared.event.Event.{Event}
 use Rattle.events.specs.declared.event.Event.TheVariants.{Crash as crash_event}
-use Rattle.events.proofs.Lists.{get_before}
+use Rattle.events.proofs.Facts.{get_before}
 use Rattle.named.specs.Brokers.{is_down}
 use Rattle.session.specs.Sessions.{Sessioned}
 use Rattle.workers.specs.Deeds.{IsUnstopped}

@@ -23,7 +23,7 @@ use Rattle.protocol.specs.declared.UnderWay.{UnderWay}
 use Rattle.protocol.specs.declared.acts.Act.{Act}
 use Rattle.protocol.specs.declared.acts.Act.TheVariants.{Start, Step, Evict, Crash, Recover}
 use Rattle.protocol.specs.invariants.Worlds.{Inv}
-use Rattle.protocol.proofs.worlds.Facts.{no_calls}
+use Rattle.protocol.proofs.Facts.{no_calls}
 use Rattle.interleave.specs.Calls.{waiting_result}
 use Rattle.interleave.specs.Floors.{AreFloorsRightIn}
 use Rattle.interleave.specs.Holds.{Holds, from_invariant}
@@ -38,8 +38,8 @@ use Rattle.interleave.specs.State.{used_by}
 use Rattle.interleave.specs.Verdicts.{IsIdle, floor_in, kept_told}
 use Rattle.interleave.specs.declared.queue.Queue.{Queue}
 use Rattle.interleave.specs.declared.queue.Queue.TheVariants.{Durable, Log}
-use Rattle.interleave.proofs.HoldsKept.{evicted_is, gone_on_is, holds_after_recover, may_step, waiting_is}
-use Rattle.interleave.proofs.KeptTells.{tells_crashed, tells_evicted, tells_on}
+use Rattle.interleave.proofs.machine.Holding.{evicted_is, gone_on_is, holds_after_recover, may_step, waiting_is}
+use Rattle.interleave.proofs.words.KeptWords.{tells_crashed, tells_evicted, tells_on}
 use Rattle.interleave.proofs.verdicts.Steps.{IsToldStill, machine_told, told_evicted, told_stepped}
 use Rattle.interleave.proofs.verdicts.Tells.{IsToldOfNumber, kept_is}
 

@@ -33,8 +33,8 @@ use Rattle.interleave.specs.State.{used_by}
 use Rattle.interleave.specs.Verdicts.{IsLast, IsRecalled, floor_in, number_of_call, number_under_way}
 use Rattle.interleave.specs.declared.queue.Queue.{Queue}
 use Rattle.interleave.specs.declared.queue.Queue.TheVariants.{Durable, Log}
-use Rattle.interleave.proofs.AloneServed.{holds_alone, unanswered}
-use Rattle.interleave.proofs.HoldsKept.{number_fits_kind, waiting_is}
+use Rattle.interleave.proofs.runs.AloneReplies.{holds_alone, unanswered}
+use Rattle.interleave.proofs.machine.Holding.{number_fits_kind, waiting_is}
 use Rattle.interleave.proofs.verdicts.Acts.{floor_below}
 use Rattle.interleave.proofs.verdicts.Last.{IsGiven, answered, last_after}
 use Rattle.interleave.proofs.verdicts.Recalled.{recalled_after}

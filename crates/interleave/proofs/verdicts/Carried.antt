@@ -11,10 +11,11 @@ use Rattle.interleave.specs.Rotation.{IsQuiet, after_rotation, queue_with_told, 
 use Rattle.interleave.specs.State.{State, kept_tells}
 use Rattle.interleave.specs.Queue.{told_in}
 use Rattle.logqueue.specs.Numbers.{floor_of, verdict_of}
-use Rattle.interleave.specs.Verdicts.{IsIdle, IsLast, IsRecalled, IsReplyOf, IsRested, floor_by, floor_in, kept_told, told_as}
+use Rattle.interleave.specs.Verdicts.{IsIdle, IsLast, IsRecalled, IsReplyOf, IsRested, floor_by, floor_in, kept_told}
+use Rattle.interleave.specs.Verdicts.{told_as}
 use Rattle.interleave.specs.declared.queue.Queue.{Queue}
 use Rattle.interleave.specs.declared.queue.Queue.TheVariants.{Durable, Log}
-use Rattle.interleave.proofs.Rotated.{quiet_at, told_with}
+use Rattle.interleave.proofs.order.Rotations.{quiet_at, told_with}
 use Rattle.interleave.proofs.verdicts.Acts.{floor_idle}
 use Rattle.interleave.proofs.verdicts.Given.{kept_at, kept_verdict}
 

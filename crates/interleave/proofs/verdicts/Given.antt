@@ -25,15 +25,13 @@ use Rattle.recover.specs.declared.recovery.Recovery.{Recovery}
 use Rattle.events.specs.History.{CallAt}
 use Rattle.events.specs.Orders.{IsTakenAs}
 use Rattle.events.specs.Trace.{queue_of}
-use Rattle.events.proofs.Interrupted.{one_reply as one_reply_at}
-use Rattle.events.proofs.Members.{in_order_from_taken}
+use Rattle.events.proofs.Facts.{in_order_from_taken, one_reply as one_reply_at}
 use Rattle.protocol.specs.Kept.{TellsBy, TellsOf}
 use Rattle.protocol.specs.Machine.{World}
 use Rattle.protocol.specs.invariants.Records.{IsEntry}
 use Rattle.protocol.specs.invariants.Sound.{memory_at_rest}
 use Rattle.protocol.specs.invariants.Worlds.{InvAt}
-use Rattle.protocol.proofs.boot.Booted.{told_at}
-use Rattle.protocol.proofs.worlds.Rotated.{tells_now}
+use Rattle.protocol.proofs.Facts.{tells_now, told_at}
 use Rattle.interleave.specs.Holds.{Holds, from_invariant}
 use Rattle.interleave.specs.Numbers.{AreNumbersRisingIn, NumbersRise, told_floor}
 use Rattle.interleave.specs.Queue.{new_queue, told_in}
@@ -43,10 +41,10 @@ use Rattle.interleave.specs.Verdicts.{IsIdle, IsLast, IsRecalled, IsReplyOf, IsR
 use Rattle.interleave.specs.Verdicts.{IsToldAbove, NoneIsAbove, floor_by, floor_in, kept_told, taken_as, told_as}
 use Rattle.interleave.specs.declared.queue.Queue.{Queue}
 use Rattle.interleave.specs.declared.queue.Queue.TheVariants.{Durable, Log}
-use Rattle.interleave.proofs.HoldsKept.{explained_world, holds_after_recover}
-use Rattle.interleave.proofs.KeptTells.{tells_on, told_by_kept}
-use Rattle.interleave.proofs.NumberLaws.{there_at, told_covers}
-use Rattle.interleave.proofs.ValueLaws.{zero_at}
+use Rattle.interleave.proofs.machine.Holding.{explained_world, holds_after_recover}
+use Rattle.interleave.proofs.words.KeptWords.{tells_on, told_by_kept}
+use Rattle.interleave.proofs.numbers.Uniqueness.{there_at, told_covers}
+use Rattle.interleave.proofs.words.Values.{zero_at}
 use Rattle.interleave.proofs.verdicts.Acts.{floor_ready, log_ready, nobody_ready}
 use Rattle.interleave.proofs.verdicts.Tells.{IsLogTold, kept_is, told_now}
 

@@ -20,14 +20,13 @@ use Rattle.helping.specs.declared.op.Op.{Op}
 use Rattle.events.specs.History.{CallAt}
 use Rattle.events.specs.declared.event.Event.{Event}
 use Rattle.events.specs.declared.event.Event.TheVariants.{Return as return_event}
-use Rattle.events.proofs.Lists.{get_longer}
+use Rattle.events.proofs.Facts.{get_longer}
 use Rattle.protocol.specs.Machine.{World, MayStep, next_of, with_next}
 use Rattle.protocol.specs.declared.UnderWay.{UnderWay}
 use Rattle.protocol.specs.declared.acts.Act.{Act}
 use Rattle.protocol.specs.declared.acts.Act.TheVariants.{Step, Evict}
 use Rattle.protocol.specs.invariants.Worlds.{Inv}
-use Rattle.protocol.proofs.worlds.Facts.{is_ready}
-use Rattle.protocol.proofs.worlds.Moments.{calling}
+use Rattle.protocol.proofs.Facts.{calling, is_ready}
 use Rattle.interleave.specs.Calls.{answer_of, waiting_result}
 use Rattle.interleave.specs.Holds.{Holds, from_invariant}
 use Rattle.interleave.specs.Queue.{told_in}
@@ -35,10 +34,11 @@ use Rattle.interleave.specs.State.{State, machine, after_attempt, after_evict, a
 use Rattle.interleave.specs.State.{is_down, queue_left, step_result, step_result_with, step_with}
 use Rattle.interleave.specs.Verdicts.{IsIdle, IsLast, IsReplyOf, IsRested, floor_in, kept_told, number_of_call}
 use Rattle.interleave.specs.Verdicts.{number_under_way, taken_as}
-use Rattle.interleave.proofs.HoldsKept.{gone_on_is, may_step, waiting_is}
+use Rattle.interleave.proofs.machine.Holding.{gone_on_is, may_step, waiting_is}
 use Rattle.interleave.proofs.verdicts.Acts.{floor_answered, floor_below, told_after}
 use Rattle.interleave.proofs.verdicts.Moves.{moves}
-use Rattle.interleave.proofs.verdicts.Steps.{begins_answered, events_answered, machine_told, taken_answered, told_answered}
+use Rattle.interleave.proofs.verdicts.Steps.{begins_answered, events_answered, machine_told, taken_answered}
+use Rattle.interleave.proofs.verdicts.Steps.{told_answered}
 use Rattle.interleave.proofs.verdicts.Tells.{kept_is}
 
 none_some : {X : Type 0} {x : X} → None ≡ Some x → ⊥

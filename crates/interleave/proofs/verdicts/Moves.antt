@@ -23,8 +23,7 @@ use Rattle.protocol.specs.Machine.{call_begun, begun_of, next_of, with_next}
 use Rattle.protocol.specs.declared.UnderWay.{UnderWay}
 use Rattle.protocol.specs.declared.acts.Act.{Act}
 use Rattle.protocol.specs.declared.acts.Act.TheVariants.{Start, Step, Evict, Crash, Recover}
-use Rattle.protocol.proofs.worlds.Facts.{is_ready}
-use Rattle.protocol.proofs.worlds.Moments.{calling}
+use Rattle.protocol.proofs.Facts.{calling, is_ready}
 use Rattle.interleave.specs.Calls.{answer_of, waiting_result}
 use Rattle.interleave.specs.Holds.{Holds, from_invariant}
 use Rattle.interleave.specs.State.{State, machine, after_attempt, after_bump_load, after_call_began, after_one_access}
@@ -34,7 +33,7 @@ use Rattle.interleave.specs.State.{step_result_with, step_with, used_by}
 use Rattle.interleave.specs.Verdicts.{floor_in}
 use Rattle.interleave.specs.declared.queue.Queue.{Queue}
 use Rattle.interleave.specs.declared.queue.Queue.TheVariants.{Durable, Log}
-use Rattle.interleave.proofs.HoldsKept.{number_fits_kind, ready_if_called, waiting_is}
+use Rattle.interleave.proofs.machine.Holding.{number_fits_kind, ready_if_called, waiting_is}
 use Rattle.interleave.proofs.verdicts.Acts.{floor_answered, floor_below}
 
 none_some : {X : Type 0} {x : X} → None ≡ Some x → ⊥

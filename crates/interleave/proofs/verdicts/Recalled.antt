@@ -20,9 +20,8 @@ use Rattle.recover.specs.declared.recovery.Recovery.{Recovery}
 use Rattle.events.specs.History.{CallAt}
 use Rattle.events.specs.declared.event.Entry.{Entry}
 use Rattle.events.specs.declared.event.Event.{Event}
-use Rattle.events.proofs.Lists.{get_longer}
-use Rattle.events.proofs.Members.{contains_from_in, in_from_contains, in_part}
-use Rattle.protocol.proofs.worlds.Facts.{no_calls}
+use Rattle.events.proofs.Facts.{contains_from_in, get_longer, in_from_contains, in_part}
+use Rattle.protocol.proofs.Facts.{no_calls}
 use Rattle.protocol.specs.declared.UnderWay.{UnderWay}
 use Rattle.protocol.specs.declared.acts.Act.{Act}
 use Rattle.protocol.specs.declared.acts.Act.TheVariants.{Start, Step, Evict, Crash, Recover}
@@ -34,9 +33,9 @@ use Rattle.interleave.specs.State.{State, machine, after_attempt, after_bump_loa
 use Rattle.interleave.specs.State.{is_down, number_to_start, order_in, recover_with, start_with, step_with}
 use Rattle.interleave.specs.State.{used_by}
 use Rattle.interleave.specs.Verdicts.{IsRecalled, IsReplyOf, IsToldAbove, floor_by, floor_in, kept_told, told_as}
-use Rattle.interleave.proofs.ActLaws.{goes_on_after}
-use Rattle.interleave.proofs.DownLaws.{became_ready, start_down, step_down}
-use Rattle.interleave.proofs.RunLaws.{crash_down, down_evicted}
+use Rattle.interleave.proofs.machine.Outcomes.{goes_on_after}
+use Rattle.interleave.proofs.recovery.Downtime.{became_ready, start_down, step_down}
+use Rattle.interleave.proofs.runs.Attempts.{crash_down, down_evicted}
 use Rattle.interleave.proofs.verdicts.Acts.{floor_below, floor_ready, told_after}
 use Rattle.interleave.proofs.verdicts.Moves.{floor_rises}
 use Rattle.interleave.proofs.verdicts.Tells.{IsToldOfNumber}

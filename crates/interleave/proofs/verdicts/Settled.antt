@@ -18,7 +18,7 @@ use Rattle.logqueue.specs.Numbers.{floor_from, floor_of}
 use Rattle.arena.specs.Words.{announcements}
 use Rattle.events.specs.Telling.{Says}
 use Rattle.events.specs.declared.event.Entry.{Entry}
-use Rattle.events.proofs.Members.{in_order_from_taken}
+use Rattle.events.proofs.Facts.{in_order_from_taken}
 use Rattle.interleave.specs.Holds.{Holds}
 use Rattle.interleave.specs.Numbers.{AreNumbersRisingIn, told_floor}
 use Rattle.interleave.specs.Ranges.{IsOfKind}
@@ -27,7 +27,7 @@ use Rattle.interleave.specs.Verdicts.{IsIdle, IsLast, IsReplyOf, IsTakenByBase, 
 use Rattle.interleave.specs.Verdicts.{floor_by, kept_told, taken_as, told_as}
 use Rattle.interleave.specs.declared.queue.Queue.{Queue}
 use Rattle.interleave.specs.declared.queue.Queue.TheVariants.{Durable, Log}
-use Rattle.interleave.proofs.NumberLaws.{told_covers}
+use Rattle.interleave.proofs.numbers.Uniqueness.{told_covers}
 use Rattle.interleave.proofs.verdicts.Given.{one_reply, told_reply}
 use Rattle.interleave.proofs.verdicts.Tells.{IsLogTold, told_now}
 

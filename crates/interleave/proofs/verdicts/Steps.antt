@@ -28,21 +28,16 @@ use Rattle.events.specs.Telling.{IsOutcome, IsToldOf, Says}
 use Rattle.events.specs.declared.event.Entry.{Entry}
 use Rattle.events.specs.declared.event.Event.{Event}
 use Rattle.events.specs.declared.event.Event.TheVariants.{Return as return_event}
-use Rattle.events.proofs.Growing.{begins_longer, no_end_longer}
-use Rattle.events.proofs.Interrupted.{one_reply}
-use Rattle.events.proofs.Lists.{get_last}
-use Rattle.events.proofs.Members.{in_order_from_taken}
-use Rattle.protocol.specs.Machine.{Memory, World, MayStep, after_keeping, effects_after, events_after, next_of, with_access}
+use Rattle.events.proofs.Facts.{begins_longer, get_last, in_order_from_taken, no_end_longer, one_reply}
+use Rattle.protocol.specs.Machine.{Memory, World, MayStep, after_keeping, effects_after, events_after, next_of}
+use Rattle.protocol.specs.Machine.{with_access}
 use Rattle.protocol.specs.Machine.{with_eviction, with_fence, with_step}
 use Rattle.protocol.specs.declared.UnderWay.{UnderWay}
 use Rattle.protocol.specs.invariants.Ledger.{Ledger, asked_call, held_token}
 use Rattle.protocol.specs.invariants.Worlds.{Inv, IsCalling, IsReady, ledger_of, record_of_call}
-use Rattle.protocol.proofs.calls.Rows.{KnowsNext, ledger_after}
-use Rattle.protocol.proofs.records.RecordStores.{acting_announced}
-use Rattle.protocol.proofs.worlds.Acts.{step_noted, step_noted_now, step_row}
-use Rattle.protocol.proofs.worlds.Facts.{explained, inv_evicted, inv_stepped, is_ready, part_evicted, part_stepped}
-use Rattle.protocol.proofs.worlds.Moments.{calling, keep_noted}
-use Rattle.protocol.proofs.worlds.ReadyWorlds.{access_kept}
+use Rattle.protocol.proofs.Facts.{KnowsNext, access_kept, acting_announced, calling, explained, inv_evicted}
+use Rattle.protocol.proofs.Facts.{inv_stepped, is_ready, keep_noted, ledger_after, part_evicted, part_stepped}
+use Rattle.protocol.proofs.Facts.{step_noted, step_noted_now, step_row}
 use Rattle.interleave.specs.Verdicts.{taken_as}
 use Rattle.interleave.proofs.verdicts.Tells.{IsToldOfNumber, comes_announced, own_says, told_in_world, told_on}
 

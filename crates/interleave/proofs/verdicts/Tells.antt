@@ -26,9 +26,8 @@ use Rattle.events.specs.Telling.{IsOutcome, IsToldOf, Says}
 use Rattle.events.specs.declared.event.Effect.{Effect}
 use Rattle.events.specs.declared.event.Entry.{Entry}
 use Rattle.events.specs.declared.event.Event.{Event}
-use Rattle.events.proofs.Growing.{begins_within}
-use Rattle.events.proofs.Interrupted.{one_reply}
-use Rattle.events.proofs.Members.{contains_from_in, in_from_contains, in_order_from_taken, in_part}
+use Rattle.events.proofs.Facts.{begins_within, contains_from_in, in_from_contains, in_order_from_taken, in_part}
+use Rattle.events.proofs.Facts.{one_reply}
 use Rattle.protocol.specs.Announced.{IsCallOf}
 use Rattle.protocol.specs.Machine.{Memory, World}
 use Rattle.protocol.specs.declared.Issued.{Issued}
@@ -37,13 +36,8 @@ use Rattle.protocol.specs.invariants.Ledger.{Ledger}
 use Rattle.protocol.specs.invariants.Records.{IsAnnouncing}
 use Rattle.protocol.specs.invariants.Told.{IsTold, Names, NamesNobody, RightlyTold}
 use Rattle.protocol.specs.invariants.Worlds.{Inv, InvAt, IsReady, Working, ledger_of, record_of_call}
-use Rattle.protocol.proofs.boot.Booted.{told_at}
-use Rattle.protocol.proofs.changes.Puts.{put_cases}
-use Rattle.protocol.proofs.told.Issuing.{call_once}
-use Rattle.protocol.proofs.told.Rightly.{KeptBy, call_begun_fits}
-use Rattle.protocol.proofs.told.Tells.{more_by_stage}
-use Rattle.protocol.proofs.worlds.Moments.{Noted, calling, holder}
-use Rattle.protocol.proofs.worlds.Rotated.{tells_now}
+use Rattle.protocol.proofs.Facts.{KeptBy, Noted, call_begun_fits, call_once, calling, holder, more_by_stage, put_cases}
+use Rattle.protocol.proofs.Facts.{tells_now, told_at}
 use Rattle.interleave.specs.Holds.{Holds, from_invariant}
 use Rattle.interleave.specs.Reuse.{issued_as}
 use Rattle.interleave.specs.State.{State, machine}

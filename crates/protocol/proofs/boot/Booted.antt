@@ -9,11 +9,11 @@ use Rattle.arena.specs.Content.{kept_content}
 use Rattle.arena.specs.Place.{IsPlace}
 use Rattle.arena.specs.Shape.{Shape}
 use Rattle.arena.specs.declared.place.Place.{Place}
-use Rattle.events.proofs.TraceGrows.{begun}
+use Rattle.events.proofs.Facts.{begun}
 use Rattle.recover.specs.Sound.{IsSound}
 use Rattle.recover.specs.Told.{told_by, tells_by}
 use Rattle.recover.specs.Table.{boot_recovery}
-use Rattle.recover.proofs.Alike.{sound_like}
+use Rattle.recover.proofs.Facts.{sound_like}
 use Rattle.protocol.specs.Booted.{world_at_boot, MayBoot}
 use Rattle.protocol.specs.Kept.{TellsOf}
 use Rattle.protocol.proofs.boot.BootedWords.{p, boot_sound}

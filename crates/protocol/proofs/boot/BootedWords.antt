@@ -3,7 +3,7 @@ use Rattle.std.proofs.Common.{◌≡◌, ◌≢◌, ℕ, ◌+◌, ◌≤◌, ◌
 use Rattle.std.proofs.lemmas.Bool.{cases_eq, cases_lt}
 use Rattle.arena.specs.declared.place.Part.{Part}
 use Rattle.arena.specs.declared.place.Part.TheVariants.{Length, First, Second, Third}
-use Rattle.words.proofs.Parts.{parts_blank}
+use Rattle.words.proofs.Facts.{parts_blank}
 use Rattle.words.specs.PlainQueue.{Value}
 use Rattle.words.specs.declared.call.Kind.{Kind}
 use Rattle.words.specs.declared.call.Kind.TheVariants.{Durable, Log}
@@ -14,21 +14,24 @@ use Rattle.arena.specs.Content.{chain_of, kept_content}
 use Rattle.arena.specs.Place.{IsPlace, IsRecord, number_of}
 use Rattle.arena.specs.Ranges.{Fits, IsReadByCalls}
 use Rattle.arena.specs.Shape.{Shape, greatest}
-use Rattle.arena.specs.Words.{links, marks, part_at, values, HoldsItem, IsBlankItem, bumps, announcements, inserts, cells, numbers, entry_kinds, statuses, entry_nodes, IsWritten}
+use Rattle.arena.specs.Words.{links, marks, part_at, values, HoldsItem, IsBlankItem, bumps, announcements, inserts}
+use Rattle.arena.specs.Words.{cells, numbers, entry_kinds, statuses, entry_nodes, IsWritten}
 use Rattle.arena.specs.declared.place.Place.{Place}
-use Rattle.arena.specs.declared.place.Place.TheVariants.{Head, Tail, Announcement, Bump, Item, Next, Mark, Cell, Insert, Number, EntryKind, Status, EntryNode}
+use Rattle.arena.specs.declared.place.Place.TheVariants.{Head, Tail, Announcement, Bump, Item, Next, Mark, Cell, Insert}
+use Rattle.arena.specs.declared.place.Place.TheVariants.{Number, EntryKind, Status, EntryNode}
 use Rattle.helping.specs.Table.{token_of, node_of}
-use Rattle.recover.specs.Sound.{IsSound, IsOnChain, IsClaimed, IsPassed as has_passed, IsBlank, IsBlankAnswer, IsBlankEntry, IsRead, IsResult, IsClaimOf, AnswersAreSound, RowsAreSound, EntriesAreSound, IsIssued, IsOwn}
-use Rattle.recover.proofs.Chains.{is_among_or_not}
-use Rattle.recover.proofs.Range.{sound_fits}
-use Rattle.recover.proofs.Surveys.{claimed_by_mark}
+use Rattle.recover.specs.Sound.{IsSound, IsOnChain, IsClaimed, IsPassed as has_passed, IsBlank, IsBlankAnswer}
+use Rattle.recover.specs.Sound.{IsBlankEntry, IsRead, IsResult, IsClaimOf, AnswersAreSound, RowsAreSound}
+use Rattle.recover.specs.Sound.{EntriesAreSound, IsIssued, IsOwn}
+use Rattle.recover.proofs.Facts.{claimed_by_mark, is_among_or_not, sound_fits}
 use Rattle.protocol.specs.Recovered.{end_of}
 use Rattle.protocol.proofs.chain.Chains.{in_chain, in_parts, linked_by, leads_from}
 use Rattle.protocol.specs.invariants.Places.{IsOfRecord, IsOfKind, SaysEmpty}
 use Rattle.protocol.specs.invariants.Base.{Blank, Absent, AllFit}
 use Rattle.protocol.specs.invariants.Ledger.Stage.{Unmoved, Took}
 use Rattle.protocol.proofs.changes.Fences.{cell_says, status_says}
-use Rattle.protocol.specs.invariants.Records.{IsPath, IsAnswered, AnsweredTo, IsEnqueued, CellRight, NodeRight, StatusRight, IsEntry, Records}
+use Rattle.protocol.specs.invariants.Records.{IsPath, IsAnswered, AnsweredTo, IsEnqueued, CellRight, NodeRight}
+use Rattle.protocol.specs.invariants.Records.{StatusRight, IsEntry, Records}
 use Rattle.protocol.specs.invariants.Sound.{memory_at_rest, idle_ledger, Sound}
 use Rattle.protocol.proofs.worlds.Facts.{waiting_is, zero_fits}
 

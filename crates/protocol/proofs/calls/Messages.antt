@@ -3,7 +3,7 @@ use Rattle.std.proofs.Common.{◌≡◌, ◌≢◌, ℕ, ◌+◌, ◌≤◌, ◌
 use Rattle.std.specs.Prelude.{slice_get}
 use Rattle.std.proofs.lemmas.Bool.{cases_lt}
 use Rattle.words.specs.PlainQueue.{Value, FitsValue}
-use Rattle.words.proofs.Parts.{parts_cut}
+use Rattle.words.proofs.Facts.{parts_cut}
 use Rattle.words.specs.declared.call.Call.{Call}
 use Rattle.words.specs.declared.call.Call.TheVariants.{Enq}
 use Rattle.words.specs.declared.call.NodeId.{NodeId}
@@ -22,7 +22,8 @@ use Rattle.protocol.specs.invariants.Base.{IsMessage}
 use Rattle.protocol.specs.invariants.Knows.{Preparing, Unstored}
 use Rattle.protocol.specs.invariants.Ledger.{Ledger}
 use Rattle.protocol.specs.invariants.Places.{IsOfRecord}
-use Rattle.protocol.proofs.calls.Preparations.{IsPlanned, given, message_at, part_written, planned, planned_write, turn_item, turn_of}
+use Rattle.protocol.proofs.calls.Preparations.{IsPlanned, given, message_at, part_written, planned, planned_write}
+use Rattle.protocol.proofs.calls.Preparations.{turn_item, turn_of}
 use Rattle.protocol.proofs.changes.Puts.{put_cases}
 
 -- the length is the first part, and a part is known by its number

@@ -5,7 +5,8 @@ use Rattle.std.proofs.lemmas.Bool.{cases_eq, eqb-true, eqb-false}
 use Rattle.arena.specs.declared.place.Part.TheVariants.{Length, First, Second, Third}
 use Rattle.stepper.specs.Loading.{part_next, loaded_with, IsLoaded}
 use Rattle.stepper.specs.declared.loading.Loading.{Loading}
-use Rattle.stepper.specs.declared.loading.Loading.TheVariants.{Length as at_length, First as at_first, Second as at_second, Third as at_third}
+use Rattle.stepper.specs.declared.loading.Loading.TheVariants.{Length as at_length, First as at_first}
+use Rattle.stepper.specs.declared.loading.Loading.TheVariants.{Second as at_second, Third as at_third}
 use Rattle.protocol.proofs.calls.Messages.{message_stored}
 use Rattle.arena.specs.declared.place.Part.{Part}
 use Rattle.words.specs.PlainQueue.{Value}
@@ -36,24 +37,39 @@ use Rattle.helping.specs.Table.{node_of, token_of, access_of, successor, first_f
 use Rattle.helping.specs.declared.dequeue.Claim.{Claim}
 use Rattle.helping.specs.declared.dequeue.Claim.TheVariants.{Won, LostTo}
 use Rattle.helping.specs.declared.op.Op.{Op}
-use Rattle.helping.specs.declared.op.Op.TheVariants.{PrepareStore, PrepareFlush, PrepareFence, EnqueueLoadTail, EnqueueLoadNext, EnqueueCheckTail, EnqueueLink, EnqueueMoveTail, EnqueueHelpTail, DequeueLoadHead, DequeueLoadTail, DequeueLoadNext, DequeueCheckHead, DequeueStoreEmpty, DequeueHelpTail, DequeueLoadItem, DequeueClaim, DequeueStoreResult, DequeueMoveHead, Flush as FlushPoint, Fence as FencePoint}
-use Rattle.helping.specs.declared.keeping.Keeping.TheVariants.{Link as KeepLink, PassedLink as KeepPassedLink, Empty as KeepEmpty, DequeuePassedLink as KeepDequeuePassedLink, Claim as KeepClaim, Result as KeepResult}
+use Rattle.helping.specs.declared.op.Op.TheVariants.{PrepareStore, PrepareFlush, PrepareFence, EnqueueLoadTail}
+use Rattle.helping.specs.declared.op.Op.TheVariants.{EnqueueLoadNext, EnqueueCheckTail, EnqueueLink, EnqueueMoveTail}
+use Rattle.helping.specs.declared.op.Op.TheVariants.{EnqueueHelpTail, DequeueLoadHead, DequeueLoadTail, DequeueLoadNext}
+use Rattle.helping.specs.declared.op.Op.TheVariants.{DequeueCheckHead, DequeueStoreEmpty, DequeueHelpTail}
+use Rattle.helping.specs.declared.op.Op.TheVariants.{DequeueLoadItem, DequeueClaim, DequeueStoreResult, DequeueMoveHead}
+use Rattle.helping.specs.declared.op.Op.TheVariants.{Flush as FlushPoint, Fence as FencePoint}
+use Rattle.helping.specs.declared.keeping.Keeping.TheVariants.{Link as KeepLink, PassedLink as KeepPassedLink}
+use Rattle.helping.specs.declared.keeping.Keeping.TheVariants.{Empty as KeepEmpty}
+use Rattle.helping.specs.declared.keeping.Keeping.TheVariants.{DequeuePassedLink as KeepDequeuePassedLink}
+use Rattle.helping.specs.declared.keeping.Keeping.TheVariants.{Claim as KeepClaim, Result as KeepResult}
 use Rattle.protocol.specs.Machine.{Memory, put, with_store, with_fence, with_access}
 use Rattle.recover.specs.Sound.{IsIssued, IsOwn}
-use Rattle.arena.proofs.Chains.{leads_at, leads_trans, leads_one, in_left}
+use Rattle.arena.proofs.Facts.{in_left, leads_at, leads_one, leads_trans}
 use Rattle.protocol.proofs.chain.Chains.{upd, upd_same, upd_other, leads_from, leads_in, leads_next, in_chain}
 use Rattle.protocol.specs.invariants.Ledger.{Stage, Ledger, held_token, asked_call}
 use Rattle.protocol.specs.invariants.Places.{IsOwnWord, IsOfRecord, Says, SaysEmpty, empties}
 use Rattle.protocol.specs.invariants.Base.{IsMessage, IsLinking, IsClaiming, IsAnswering, Empties, Base}
-use Rattle.protocol.specs.invariants.Knows.{Mine, Loose, Before, Written, Unwritten, UnwrittenBelow, Unstored, Preparing, Prepared, Acting, Enqueuing, Linked, Dequeuing, IsPassed, Claims, Knows}
+use Rattle.protocol.specs.invariants.Knows.{Mine, Loose, Before, Written, Unwritten, UnwrittenBelow, Unstored}
+use Rattle.protocol.specs.invariants.Knows.{Preparing, Prepared, Acting, Enqueuing, Linked, Dequeuing, IsPassed, Claims}
+use Rattle.protocol.specs.invariants.Knows.{Knows}
 use Rattle.protocol.specs.invariants.Grows.{Grows}
 use Rattle.protocol.specs.invariants.Ledger.Stage.{Unmoved, Seen, Took}
 use Rattle.protocol.proofs.changes.Puts.{IsEmptyWord, empty_word, put_cases, put_same, put_other, put_empties}
 use Rattle.protocol.proofs.calls.Stable.{empty_own, IsOwnWrite, own_write, stable}
 use Rattle.protocol.proofs.changes.Keeps.{restaged, kept_ledger, Kept}
 use Rattle.protocol.proofs.changes.Fences.{chain_part, keep_any}
-use Rattle.protocol.proofs.calls.Preparations.{IsLastWrite, IsPlanned, planned, planned_write, turn_of, one_plan, prepared_issued, written_issued, all_written, prepared_part, prepared_value}
-use Rattle.protocol.proofs.changes.Stores.{none_grows, same_links, same_marks, own_store_grows, no_result, MayStore, own_base, head_base, tail_base, link_base, claim_base, empty_base, result_base, head_grows, tail_grows, link_grows, claim_grows, empty_grows, result_grows}
+use Rattle.protocol.proofs.calls.Preparations.{IsLastWrite, IsPlanned, planned, planned_write, turn_of, one_plan}
+use Rattle.protocol.proofs.calls.Preparations.{prepared_issued, written_issued, all_written, prepared_part}
+use Rattle.protocol.proofs.calls.Preparations.{prepared_value}
+use Rattle.protocol.proofs.changes.Stores.{none_grows, same_links, same_marks, own_store_grows, no_result, MayStore}
+use Rattle.protocol.proofs.changes.Stores.{own_base, head_base, tail_base, link_base, claim_base, empty_base}
+use Rattle.protocol.proofs.changes.Stores.{result_base, head_grows, tail_grows, link_grows, claim_grows, empty_grows}
+use Rattle.protocol.proofs.changes.Stores.{result_grows}
 
 -- what a call knows after a step, or that it took effect with its answer
 abbrev pub KnowsNext : Shape → Memory → Ledger → ℕ → After Op Reply → Type 0

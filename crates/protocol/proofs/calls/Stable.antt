@@ -5,7 +5,8 @@ use Rattle.arena.specs.declared.place.Part.{Part}
 use Rattle.arena.specs.declared.place.Part.TheVariants.{Length, First, Second, Third}
 use Rattle.stepper.specs.Loading.{IsLoaded}
 use Rattle.stepper.specs.declared.loading.Loading.{Loading}
-use Rattle.stepper.specs.declared.loading.Loading.TheVariants.{Length as at_length, First as at_first, Second as at_second, Third as at_third}
+use Rattle.stepper.specs.declared.loading.Loading.TheVariants.{Length as at_length, First as at_first}
+use Rattle.stepper.specs.declared.loading.Loading.TheVariants.{Second as at_second, Third as at_third}
 use Rattle.protocol.proofs.changes.Puts.{values_same}
 use Rattle.words.specs.PlainQueue.{Value}
 use Rattle.words.specs.declared.call.Call.{Call}
@@ -21,7 +22,8 @@ use Rattle.arena.specs.Shape.{Shape, owner}
 use Rattle.arena.specs.Words.{links, marks, values, announcements, part_at, IsWritten}
 use Rattle.arena.specs.declared.place.Write.{Write}
 use Rattle.arena.specs.declared.place.Place.{Place}
-use Rattle.arena.specs.declared.place.Place.TheVariants.{Head, Tail, Announcement, Bump, Item, Next, Mark, Cell, Insert, Number, EntryKind, Status, EntryNode}
+use Rattle.arena.specs.declared.place.Place.TheVariants.{Head, Tail, Announcement, Bump, Item, Next, Mark, Cell, Insert}
+use Rattle.arena.specs.declared.place.Place.TheVariants.{Number, EntryKind, Status, EntryNode}
 use Rattle.stepper.specs.Preparation.{preparation_of, preparation_from, part_write, bump, announcement, write}
 use Rattle.stepper.specs.declared.prepare.Begun.{Begun}
 use Rattle.helping.specs.Claims.{winner}
@@ -29,15 +31,25 @@ use Rattle.helping.specs.Table.{token_of, node_of}
 use Rattle.helping.specs.declared.dequeue.Claim.{Claim}
 use Rattle.helping.specs.declared.dequeue.Claim.TheVariants.{Won, LostTo}
 use Rattle.helping.specs.declared.op.Op.{Op}
-use Rattle.helping.specs.declared.op.Op.TheVariants.{PrepareStore, PrepareFlush, PrepareFence, EnqueueLoadTail, EnqueueLoadNext, EnqueueCheckTail, EnqueueLink, EnqueueMoveTail, EnqueueHelpTail, DequeueLoadHead, DequeueLoadTail, DequeueLoadNext, DequeueCheckHead, DequeueStoreEmpty, DequeueHelpTail, DequeueLoadItem, DequeueClaim, DequeueStoreResult, DequeueMoveHead, Flush as FlushPoint, Fence as FencePoint}
+use Rattle.helping.specs.declared.op.Op.TheVariants.{PrepareStore, PrepareFlush, PrepareFence, EnqueueLoadTail}
+use Rattle.helping.specs.declared.op.Op.TheVariants.{EnqueueLoadNext, EnqueueCheckTail, EnqueueLink, EnqueueMoveTail}
+use Rattle.helping.specs.declared.op.Op.TheVariants.{EnqueueHelpTail, DequeueLoadHead, DequeueLoadTail, DequeueLoadNext}
+use Rattle.helping.specs.declared.op.Op.TheVariants.{DequeueCheckHead, DequeueStoreEmpty, DequeueHelpTail}
+use Rattle.helping.specs.declared.op.Op.TheVariants.{DequeueLoadItem, DequeueClaim, DequeueStoreResult, DequeueMoveHead}
+use Rattle.helping.specs.declared.op.Op.TheVariants.{Flush as FlushPoint, Fence as FencePoint}
 use Rattle.helping.specs.declared.keeping.Keeping.{Keeping}
-use Rattle.helping.specs.declared.keeping.Keeping.TheVariants.{Link as KeepLink, PassedLink as KeepPassedLink, Empty as KeepEmpty, DequeuePassedLink as KeepDequeuePassedLink, Claim as KeepClaim, Result as KeepResult}
+use Rattle.helping.specs.declared.keeping.Keeping.TheVariants.{Link as KeepLink, PassedLink as KeepPassedLink}
+use Rattle.helping.specs.declared.keeping.Keeping.TheVariants.{Empty as KeepEmpty}
+use Rattle.helping.specs.declared.keeping.Keeping.TheVariants.{DequeuePassedLink as KeepDequeuePassedLink}
+use Rattle.helping.specs.declared.keeping.Keeping.TheVariants.{Claim as KeepClaim, Result as KeepResult}
 use Rattle.protocol.specs.Machine.{Memory}
-use Rattle.arena.proofs.Chains.{leads_trans}
+use Rattle.arena.proofs.Facts.{leads_trans}
 use Rattle.protocol.proofs.chain.Chains.{leads_grows}
 use Rattle.protocol.specs.invariants.Places.{IsOfRecord, IsOwnWord, IsAnswer, home, SaysEmpty}
 use Rattle.protocol.specs.invariants.Ledger.{Ledger, asked_call}
-use Rattle.protocol.specs.invariants.Knows.{Unstored, Mine, Loose, Before, Preparing, Prepared, Acting, Enqueuing, Linked, Dequeuing, IsPassed, WasTail, Claims, Claimer, Claimed, Knows, KnowsKeeping}
+use Rattle.protocol.specs.invariants.Knows.{Unstored, Mine, Loose, Before, Preparing, Prepared, Acting, Enqueuing}
+use Rattle.protocol.specs.invariants.Knows.{Linked, Dequeuing, IsPassed, WasTail, Claims, Claimer, Claimed, Knows}
+use Rattle.protocol.specs.invariants.Knows.{KnowsKeeping}
 use Rattle.protocol.specs.invariants.Grows.{Grows}
 
 -- where an empty answer is written

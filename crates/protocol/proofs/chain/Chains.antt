@@ -6,7 +6,7 @@ use Rattle.std.proofs.lemmas.Bool.{cases_eq, eq-eqb, eqb-true, ne_eqb, or_cases}
 use Rattle.std.proofs.lemmas.Map.Steps.{length-le_from_distinct_below}
 use Rattle.arena.specs.Chain.{IsChain, IsAmong, IsFirst, LeadsTo, walk}
 use Rattle.arena.specs.Chain.LeadsTo.{there, on}
-use Rattle.arena.proofs.Chains.{Distinct, in_left, distinct, parts_apart, leads_at}
+use Rattle.arena.proofs.Facts.{Distinct, distinct, in_left, leads_at, parts_apart}
 use Rattle.protocol.specs.Recovered.{end_of}
 
 -- f with v at i

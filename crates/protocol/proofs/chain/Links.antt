@@ -2,8 +2,9 @@
 use Rattle.std.proofs.Common.{◌≡◌, ◌≢◌, ℕ, inl, inr, List, [], ◌∷◌, ◌++◌, drop, refl, sym, ◌∙◌, ap, subst, arith, append_assoc}
 use Rattle.std.proofs.lemmas.Bool.{cases_eq}
 use Rattle.arena.specs.Chain.{IsChain, IsAmong, IsFirst}
-use Rattle.arena.proofs.Chains.{in_left, in_end, in_end_cases}
-use Rattle.protocol.proofs.chain.Chains.{upd, upd_same, upd_other, upd_cases, one_end, linked_by, grown, in_parts, in_chain, next_in, has_next}
+use Rattle.arena.proofs.Facts.{in_end, in_end_cases, in_left}
+use Rattle.protocol.proofs.chain.Chains.{upd, upd_same, upd_other, upd_cases, one_end, linked_by, grown, in_parts}
+use Rattle.protocol.proofs.chain.Chains.{in_chain, next_in, has_next}
 use Rattle.protocol.specs.invariants.Links.{Links, Marks}
 
 -- a kept word that stands is the cached one: where the cached one is 0, or another, there is none

@@ -17,18 +17,21 @@ use Rattle.arena.specs.Place.{number_of}
 use Rattle.arena.specs.Shape.{Shape, owner}
 use Rattle.arena.specs.Words.{links, marks, part_at, values, bumps}
 use Rattle.arena.specs.declared.place.Place.{Place}
-use Rattle.arena.specs.declared.place.Place.TheVariants.{Head, Tail, Announcement, Bump, Item, Next, Mark, Cell, Insert, Number, EntryKind, Status, EntryNode}
+use Rattle.arena.specs.declared.place.Place.TheVariants.{Head, Tail, Announcement, Bump, Item, Next, Mark, Cell, Insert}
+use Rattle.arena.specs.declared.place.Place.TheVariants.{Number, EntryKind, Status, EntryNode}
 use Rattle.helping.specs.Table.{token_of}
 use Rattle.protocol.specs.Machine.{Memory, put, with_fence}
-use Rattle.arena.proofs.Chains.{in_left, in_right}
+use Rattle.arena.proofs.Facts.{in_left, in_right}
 use Rattle.protocol.proofs.chain.Chains.{upd, upd_at, upd_other, upd_cases, linked_by, leads_from, leads_in, map_agree}
 use Rattle.protocol.specs.invariants.Ledger.{Stage, Ledger, held_token}
 use Rattle.protocol.specs.invariants.Places.{Says, empties}
 use Rattle.protocol.specs.invariants.Base.{Absent, AllFit, IsLinking, IsClaiming, IsAnswering, Empties, Base}
 use Rattle.protocol.specs.invariants.Ledger.Stage.{Unmoved, Seen, Took}
-use Rattle.protocol.proofs.changes.Puts.{IsEmptyWord, put_same, put_other, put_id, put_absent, put_fits, put_empties, Issues, issues_fenced, parts_fenced, values_fenced, messages_fenced}
+use Rattle.protocol.proofs.changes.Puts.{IsEmptyWord, put_same, put_other, put_id, put_absent, put_fits, put_empties}
+use Rattle.protocol.proofs.changes.Puts.{Issues, issues_fenced, parts_fenced, values_fenced, messages_fenced}
 use Rattle.protocol.proofs.calls.Stable.{empty_number}
-use Rattle.protocol.proofs.changes.Keeps.{restaged, counted, noticed_ledger, kept_ledger, Kept, still, keep_grows, link_kept, mark_kept}
+use Rattle.protocol.proofs.changes.Keeps.{restaged, counted, noticed_ledger, kept_ledger, Kept, still, keep_grows}
+use Rattle.protocol.proofs.changes.Keeps.{link_kept, mark_kept}
 
 -- a node of the chain has its message kept
 pub chain_part : (s : Shape) (m : Memory) (l : Ledger) (claimed waiting : List ℕ) → Base s m l claimed waiting → (x : ℕ) → IsAmong x (claimed ++ waiting) → (part : Part) → part_at m.cached x part ≡ part_at m.kept x part

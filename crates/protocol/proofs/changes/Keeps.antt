@@ -11,9 +11,10 @@ use Rattle.arena.specs.Words.{links, marks, part_at, values}
 use Rattle.arena.specs.declared.place.Place.{Place}
 use Rattle.arena.specs.declared.place.Place.TheVariants.{Head, Tail, Next, Mark, Cell, Status}
 use Rattle.protocol.specs.Machine.{Memory, with_fence}
-use Rattle.arena.proofs.Chains.{in_left}
+use Rattle.arena.proofs.Facts.{in_left}
 use Rattle.protocol.proofs.chain.Chains.{upd, upd_at, upd_other, upd_cases, leads_grows}
-use Rattle.protocol.proofs.chain.Links.{kept_apart, keep_new_link, no_link_ahead, keep_new_mark, more_waiting, claimed_split}
+use Rattle.protocol.proofs.chain.Links.{kept_apart, keep_new_link, no_link_ahead, keep_new_mark, more_waiting}
+use Rattle.protocol.proofs.chain.Links.{claimed_split}
 use Rattle.protocol.specs.invariants.Links.{Links, Marks}
 use Rattle.protocol.specs.invariants.Ledger.{Stage, Ledger, held_token, asked_call}
 use Rattle.protocol.specs.invariants.Places.{SaysEmpty, empties}
@@ -21,7 +22,8 @@ use Rattle.protocol.specs.invariants.Base.{IsLinking, IsClaiming, IsAnswering, E
 use Rattle.protocol.specs.invariants.Knows.{Loose}
 use Rattle.protocol.specs.invariants.Grows.{Grows}
 use Rattle.protocol.specs.invariants.Ledger.Stage.{Unmoved, Seen, Took}
-use Rattle.protocol.proofs.changes.Puts.{put_cases, put_absent, put_fits, put_empties, Issues, issues_fenced, parts_fenced}
+use Rattle.protocol.proofs.changes.Puts.{put_cases, put_absent, put_fits, put_empties, Issues, issues_fenced}
+use Rattle.protocol.proofs.changes.Puts.{parts_fenced}
 
 -- client i's call is at another stage, and the queue is this one
 abbrev pub restaged : Ledger → ℕ → Stage → List Value → Ledger

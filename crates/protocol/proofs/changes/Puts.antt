@@ -4,7 +4,7 @@ use Rattle.std.proofs.lemmas.Bool.{cases_Bool, cases_eq, false≢true}
 use mathlib.Core.Path.{fun_ext}
 use Rattle.arena.specs.declared.place.Part.TheVariants.{Length, First, Second, Third}
 use Rattle.words.specs.Item.{AreParts}
-use Rattle.words.proofs.Parts.{parts_blank, parts_cut}
+use Rattle.words.proofs.Facts.{parts_blank, parts_cut}
 use Rattle.words.specs.declared.call.NodeId.{NodeId}
 use Rattle.arena.specs.declared.place.Part.{Part}
 use Rattle.words.specs.declared.call.Kind.{Kind}

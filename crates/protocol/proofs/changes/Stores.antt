@@ -15,23 +15,28 @@ use Rattle.arena.specs.Ranges.{Fits}
 use Rattle.arena.specs.Shape.{Shape, owner, greatest}
 use Rattle.arena.specs.Words.{links, marks, part_at, values, bumps, announcements}
 use Rattle.arena.specs.declared.place.Place.{Place}
-use Rattle.arena.specs.declared.place.Place.TheVariants.{Head, Tail, Announcement, Bump, Item, Next, Mark, Cell, Insert, Number, EntryKind, Status, EntryNode}
+use Rattle.arena.specs.declared.place.Place.TheVariants.{Head, Tail, Announcement, Bump, Item, Next, Mark, Cell, Insert}
+use Rattle.arena.specs.declared.place.Place.TheVariants.{Number, EntryKind, Status, EntryNode}
 use Rattle.helping.specs.Table.{token_of, node_of}
 use Rattle.protocol.specs.Machine.{Memory, put, with_store}
 use Rattle.recover.specs.Sound.{IsIssued, IsOwn}
-use Rattle.arena.proofs.Chains.{Distinct, distinct, not_again, parts_apart, leads_at, leads_trans, in_left, in_right}
-use Rattle.protocol.proofs.chain.Chains.{upd, upd_same, upd_other, upd_cases, leads_in, leads_next, leads_last, rest_chain, first_among, in_chain, linked_by}
-use Rattle.protocol.proofs.chain.Links.{kept_none, off_chain, no_link_of, new_link, new_mark, first_waiting, first_split, first_one}
+use Rattle.arena.proofs.Facts.{Distinct, distinct, in_left, in_right, leads_at, leads_trans, not_again, parts_apart}
+use Rattle.protocol.proofs.chain.Chains.{upd, upd_same, upd_other, upd_cases, leads_in, leads_next, leads_last}
+use Rattle.protocol.proofs.chain.Chains.{rest_chain, first_among, in_chain, linked_by}
+use Rattle.protocol.proofs.chain.Links.{kept_none, off_chain, no_link_of, new_link, new_mark, first_waiting}
+use Rattle.protocol.proofs.chain.Links.{first_split, first_one}
 use Rattle.protocol.specs.invariants.Links.{Links, Marks}
 use Rattle.std.proofs.lemmas.Bool.{cases_eq}
 use Rattle.words.specs.declared.call.Reply.TheVariants.{Done}
 use Rattle.protocol.specs.invariants.Knows.{WasTail, Enqueuing, Dequeuing, Claims}
 use Rattle.protocol.specs.invariants.Ledger.{Ledger, held_token, asked_call}
 use Rattle.protocol.specs.invariants.Places.{IsOfRecord, IsOwnWord, IsAnswer, IsOfKind, home, Says, empties}
-use Rattle.protocol.specs.invariants.Base.{Blank, Absent, AllFit, IsMessage, IsLinking, IsClaiming, IsAnswering, Empties, Base}
+use Rattle.protocol.specs.invariants.Base.{Blank, Absent, AllFit, IsMessage, IsLinking, IsClaiming, IsAnswering}
+use Rattle.protocol.specs.invariants.Base.{Empties, Base}
 use Rattle.protocol.specs.invariants.Grows.{Grows}
 use Rattle.protocol.specs.invariants.Ledger.Stage.{Unmoved, Seen, Took}
-use Rattle.protocol.proofs.changes.Puts.{IsEmptyWord, put_cases, put_other, put_blank, put_absent, put_fits, put_empties, parts_elsewhere, values_elsewhere, messages_put}
+use Rattle.protocol.proofs.changes.Puts.{IsEmptyWord, put_cases, put_other, put_blank, put_absent, put_fits}
+use Rattle.protocol.proofs.changes.Puts.{put_empties, parts_elsewhere, values_elsewhere, messages_put}
 use Rattle.protocol.proofs.calls.Stable.{empty_own, empty_home, empty_number, result_own}
 use Rattle.protocol.proofs.changes.Fences.{cell_empties, status_empties}
 

@@ -12,13 +12,14 @@ use Rattle.arena.specs.Chain.{IsAmong}
 use Rattle.arena.specs.Shape.{Shape, owner}
 use Rattle.arena.specs.Words.{links, marks, part_at, values, cells, entry_kinds, entry_nodes, statuses, announcements}
 use Rattle.arena.specs.declared.place.Place.{Place}
-use Rattle.arena.specs.declared.place.Place.TheVariants.{Head, Tail, Announcement, Bump, Item, Next, Mark, Cell, Insert, Number, EntryKind, Status, EntryNode}
+use Rattle.arena.specs.declared.place.Place.TheVariants.{Head, Tail, Announcement, Bump, Item, Next, Mark, Cell, Insert}
+use Rattle.arena.specs.declared.place.Place.TheVariants.{Number, EntryKind, Status, EntryNode}
 use Rattle.stepper.specs.declared.prepare.Begun.{Begun}
 use Rattle.helping.specs.Table.{token_of, node_of}
 use Rattle.events.specs.Telling.{IsToldOf}
 use Rattle.protocol.specs.Machine.{Memory, put, with_store, with_fence}
 use Rattle.protocol.specs.Recovered.{end_of}
-use Rattle.arena.proofs.Chains.{in_left, in_end_cases}
+use Rattle.arena.proofs.Facts.{in_end_cases, in_left}
 use Rattle.protocol.proofs.chain.Chains.{upd_same, upd_cases, linked_by}
 use Rattle.protocol.proofs.chain.Links.{kept_apart}
 use Rattle.protocol.specs.invariants.Ledger.{Stage, Ledger, held_token}
@@ -29,7 +30,8 @@ use Rattle.protocol.specs.invariants.Ledger.Stage.{Unmoved, Seen, Took}
 use Rattle.protocol.proofs.changes.Puts.{put_cases, put_same, values_same}
 use Rattle.protocol.proofs.changes.Keeps.{restaged, counted, noticed_ledger, kept_ledger}
 use Rattle.protocol.proofs.changes.Fences.{cell_says, status_says, keep_any}
-use Rattle.protocol.specs.invariants.Records.{Both, IsPath, answer, IsAnswered, AnsweredTo, IsEnqueued, CellRight, NodeRight, StatusRight, IsEntry, TookBy, IsAnnouncing, Records}
+use Rattle.protocol.specs.invariants.Records.{Both, IsPath, answer, IsAnswered, AnsweredTo, IsEnqueued, CellRight}
+use Rattle.protocol.specs.invariants.Records.{NodeRight, StatusRight, IsEntry, TookBy, IsAnnouncing, Records}
 
 pub path_longer : (k : ℕ → ℕ) (from : ℕ) (ns : List ℕ) (x : ℕ) → IsPath k from ns → k (end_of from ns) ≡ x → x ≢ 0 → IsPath k from (ns ++ x ∷ [])
 path_longer k from [] x p e some = (e, some, tt)

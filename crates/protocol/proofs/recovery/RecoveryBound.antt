@@ -17,26 +17,41 @@ use Rattle.arena.specs.Shape.{Shape, greatest}
 use Rattle.arena.specs.Words.{links, value_of}
 use Rattle.stepper.specs.Loading.{part_next, loaded_with, parts_left}
 use Rattle.stepper.specs.declared.loading.Loading.{Loading}
-use Rattle.stepper.specs.declared.loading.Loading.TheVariants.{Length as at_length, First as at_first, Second as at_second, Third as at_third}
+use Rattle.stepper.specs.declared.loading.Loading.TheVariants.{Length as at_length, First as at_first}
+use Rattle.stepper.specs.declared.loading.Loading.TheVariants.{Second as at_second, Third as at_third}
 use Rattle.protocol.proofs.calls.Bound.{loading_most}
 use Rattle.arena.specs.declared.place.Place.{Place}
 use Rattle.arena.specs.declared.place.Place.TheVariants.{Head, Announcement, Item, Next, Mark, Cell, Status, EntryNode}
 use Rattle.helping.specs.Table.{node_of}
 use Rattle.stepper.specs.Step.{place_of}
-use Rattle.recover.specs.Table.{access_of, successor, boot_recovery, to_answer, to_outcome, to_row, got_with, removed_with, taken_as, not_taken_as, no_call, report_of, after_report, recovery_at, recovery_after, node_at, token_at, point_at_the_end, point_past_status, to_node, past_head}
+use Rattle.recover.specs.Table.{access_of, successor, boot_recovery, to_answer, to_outcome, to_row, got_with}
+use Rattle.recover.specs.Table.{removed_with, taken_as, not_taken_as, no_call, report_of, after_report, recovery_at}
+use Rattle.recover.specs.Table.{recovery_after, node_at, token_at, point_at_the_end, point_past_status, to_node}
+use Rattle.recover.specs.Table.{past_head}
 use Rattle.stepper.specs.declared.resume.After.TheVariants.{More, Done as Ready}
 use Rattle.recover.specs.declared.recovery.Recovery.{Recovery}
 use Rattle.recover.specs.declared.point.RecoveryPoint.{RecoveryPoint}
 use Rattle.recover.specs.declared.point.Report.{Report}
-use Rattle.recover.specs.declared.point.RecoveryPoint.TheVariants.{RecoveryLoadHead, RecoveryLoadNext, RecoveryLoadInsert, RecoveryStoreStatus, RecoveryLoadMark, RecoveryStoreResult, RecoveryStoreHead, RecoveryStoreTail, RecoveryLoadAnnouncement, RecoveryLoadCell, RecoveryLoadGot, RecoveryLoadNumber, RecoveryLoadKind, RecoveryLoadStatus, RecoveryLoadRemove, RecoveryLoadEntryNode, RecoveryLoadRemovedItem, Flush as FlushPoint, Fence as FencePoint}
+use Rattle.recover.specs.declared.point.RecoveryPoint.TheVariants.{RecoveryLoadHead, RecoveryLoadNext}
+use Rattle.recover.specs.declared.point.RecoveryPoint.TheVariants.{RecoveryLoadInsert, RecoveryStoreStatus}
+use Rattle.recover.specs.declared.point.RecoveryPoint.TheVariants.{RecoveryLoadMark, RecoveryStoreResult}
+use Rattle.recover.specs.declared.point.RecoveryPoint.TheVariants.{RecoveryStoreHead, RecoveryStoreTail}
+use Rattle.recover.specs.declared.point.RecoveryPoint.TheVariants.{RecoveryLoadAnnouncement, RecoveryLoadCell}
+use Rattle.recover.specs.declared.point.RecoveryPoint.TheVariants.{RecoveryLoadGot, RecoveryLoadNumber}
+use Rattle.recover.specs.declared.point.RecoveryPoint.TheVariants.{RecoveryLoadKind, RecoveryLoadStatus}
+use Rattle.recover.specs.declared.point.RecoveryPoint.TheVariants.{RecoveryLoadRemove, RecoveryLoadEntryNode}
+use Rattle.recover.specs.declared.point.RecoveryPoint.TheVariants.{RecoveryLoadRemovedItem, Flush as FlushPoint}
+use Rattle.recover.specs.declared.point.RecoveryPoint.TheVariants.{Fence as FencePoint}
 use Rattle.words.specs.declared.limits.TheConstants.{STEPS_PER_RECORD}
 use Rattle.stepper.specs.Steps.{keep_steps, load_steps}
 use Rattle.recover.specs.declared.keeping.RecoveryKeeping.{RecoveryKeeping}
-use Rattle.recover.specs.declared.keeping.RecoveryKeeping.TheVariants.{Status as KeepStatus, Result as KeepResult, Head as KeepHead, Tail as KeepTail}
+use Rattle.recover.specs.declared.keeping.RecoveryKeeping.TheVariants.{Status as KeepStatus, Result as KeepResult}
+use Rattle.recover.specs.declared.keeping.RecoveryKeeping.TheVariants.{Head as KeepHead, Tail as KeepTail}
 use Rattle.stepper.specs.declared.resume.After.{After}
 use Rattle.protocol.specs.Machine.{Memory, with_access}
-use Rattle.protocol.specs.Measure.{most_steps, rest, steps_beyond, steps_on_arrival, steps_onward, steps_to_tell, steps_to_tell_all, weight}
-use Rattle.arena.proofs.Chains.{rest_of, distinct}
+use Rattle.protocol.specs.Measure.{most_steps, rest, steps_beyond, steps_on_arrival, steps_onward, steps_to_tell}
+use Rattle.protocol.specs.Measure.{steps_to_tell_all, weight}
+use Rattle.arena.proofs.Facts.{distinct, rest_of}
 use Rattle.protocol.proofs.chain.Chains.{chain_like, few, linked_by, walked}
 use Rattle.protocol.specs.invariants.Sound.{Sound}
 use Rattle.protocol.specs.invariants.Recovery.{Same, SameBut, Ahead, At, AtKeeping, AtPoint}

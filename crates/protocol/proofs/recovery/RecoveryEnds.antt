@@ -18,22 +18,34 @@ use Rattle.arena.specs.Ranges.{Fits}
 use Rattle.arena.specs.Shape.{Shape, greatest}
 use Rattle.arena.specs.Words.{links, marks, values, cells, statuses, value_of, values_fit}
 use Rattle.arena.specs.declared.place.Place.{Place}
-use Rattle.arena.specs.declared.place.Place.TheVariants.{Head, Tail, Announcement, Bump, Item, Next, Mark, Cell, Number, EntryKind, Status}
+use Rattle.arena.specs.declared.place.Place.TheVariants.{Head, Tail, Announcement, Bump, Item, Next, Mark, Cell, Number}
+use Rattle.arena.specs.declared.place.Place.TheVariants.{EntryKind, Status}
 use Rattle.helping.specs.Table.{token_of, node_of}
-use Rattle.recover.specs.Table.{after_report, successor, node_at, token_at, point_at_the_end, point_past_status, to_node, past_head}
+use Rattle.recover.specs.Table.{after_report, successor, node_at, token_at, point_at_the_end, point_past_status}
+use Rattle.recover.specs.Table.{to_node, past_head}
 use Rattle.stepper.specs.declared.resume.After.TheVariants.{More, Done as Ready}
 use Rattle.recover.specs.declared.recovery.Recovery.{Recovery}
 use Rattle.recover.specs.declared.point.RecoveryPoint.{RecoveryPoint}
 use Rattle.recover.specs.declared.point.Report.{Report}
-use Rattle.recover.specs.declared.point.RecoveryPoint.TheVariants.{RecoveryLoadHead, RecoveryLoadNext, RecoveryLoadInsert, RecoveryStoreStatus, RecoveryLoadMark, RecoveryStoreResult, RecoveryStoreHead, RecoveryStoreTail, RecoveryLoadAnnouncement, RecoveryLoadCell, RecoveryLoadGot, RecoveryLoadNumber, RecoveryLoadKind, RecoveryLoadStatus, RecoveryLoadRemove, RecoveryLoadEntryNode, RecoveryLoadRemovedItem, Flush as FlushPoint, Fence as FencePoint}
+use Rattle.recover.specs.declared.point.RecoveryPoint.TheVariants.{RecoveryLoadHead, RecoveryLoadNext}
+use Rattle.recover.specs.declared.point.RecoveryPoint.TheVariants.{RecoveryLoadInsert, RecoveryStoreStatus}
+use Rattle.recover.specs.declared.point.RecoveryPoint.TheVariants.{RecoveryLoadMark, RecoveryStoreResult}
+use Rattle.recover.specs.declared.point.RecoveryPoint.TheVariants.{RecoveryStoreHead, RecoveryStoreTail}
+use Rattle.recover.specs.declared.point.RecoveryPoint.TheVariants.{RecoveryLoadAnnouncement, RecoveryLoadCell}
+use Rattle.recover.specs.declared.point.RecoveryPoint.TheVariants.{RecoveryLoadGot, RecoveryLoadNumber}
+use Rattle.recover.specs.declared.point.RecoveryPoint.TheVariants.{RecoveryLoadKind, RecoveryLoadStatus}
+use Rattle.recover.specs.declared.point.RecoveryPoint.TheVariants.{RecoveryLoadRemove, RecoveryLoadEntryNode}
+use Rattle.recover.specs.declared.point.RecoveryPoint.TheVariants.{RecoveryLoadRemovedItem, Flush as FlushPoint}
+use Rattle.recover.specs.declared.point.RecoveryPoint.TheVariants.{Fence as FencePoint}
 use Rattle.recover.specs.declared.keeping.RecoveryKeeping.{RecoveryKeeping}
-use Rattle.recover.specs.declared.keeping.RecoveryKeeping.TheVariants.{Status as KeepStatus, Result as KeepResult, Head as KeepHead, Tail as KeepTail}
+use Rattle.recover.specs.declared.keeping.RecoveryKeeping.TheVariants.{Status as KeepStatus, Result as KeepResult}
+use Rattle.recover.specs.declared.keeping.RecoveryKeeping.TheVariants.{Head as KeepHead, Tail as KeepTail}
 use Rattle.stepper.specs.declared.resume.After.{After}
 use Rattle.protocol.specs.Machine.{Memory, put, with_store, with_fence}
 use Rattle.recover.specs.Sound.{IsIssued}
 use Rattle.protocol.specs.Kept.{TellsOf}
 use Rattle.protocol.specs.Recovered.{end_of}
-use Rattle.arena.proofs.Chains.{in_left, same_chain, in_end_cases}
+use Rattle.arena.proofs.Facts.{in_end_cases, in_left, same_chain}
 use Rattle.protocol.proofs.chain.Chains.{in_end_of, linked_by, leads_from}
 use Rattle.protocol.specs.invariants.Places.{IsOwnWord, IsAnswer, IsOfKind, SaysEmpty}
 use Rattle.protocol.proofs.changes.Puts.{put_cases, put_same, put_other, put_id}
@@ -44,8 +56,10 @@ use Rattle.protocol.specs.invariants.Records.{Both, IsPath, IsAnswered, Answered
 use Rattle.protocol.proofs.records.Records.{path_longer, end_longer, answered_next}
 use Rattle.protocol.proofs.records.RecordStores.{entry_stored, one_two, result_node}
 use Rattle.protocol.specs.invariants.Sound.{memory_at_rest, Sound}
-use Rattle.protocol.proofs.recovery.Recovering.{put_tells, MayKeep, put_sound, put_ahead, put_claim, put_last, put_last_node, status_may, head_may, tail_may, node_fits}
-use Rattle.protocol.specs.invariants.Recovery.{Same, SameBut, TakenTo, Position, Ahead, Claim, LastClaimed, LastNode, At, AtKeeping, AtPoint, nothing_told}
+use Rattle.protocol.proofs.recovery.Recovering.{put_tells, MayKeep, put_sound, put_ahead, put_claim, put_last}
+use Rattle.protocol.proofs.recovery.Recovering.{put_last_node, status_may, head_may, tail_may, node_fits}
+use Rattle.protocol.specs.invariants.Recovery.{Same, SameBut, TakenTo, Position, Ahead, Claim, LastClaimed, LastNode}
+use Rattle.protocol.specs.invariants.Recovery.{At, AtKeeping, AtPoint, nothing_told}
 
 result_kind : (kind : Kind) (t : Token) (n : NodeId) → t.0 ≢ 0 → IsOfKind kind (result_of kind t n).place
 result_kind Durable t n some = (refl, some)

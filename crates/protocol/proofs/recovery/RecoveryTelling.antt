@@ -18,21 +18,26 @@ use Rattle.words.specs.declared.told.Told.TheVariants.{None as told_none, Verdic
 use Rattle.arena.specs.Answers.{result_of}
 use Rattle.arena.specs.Chain.{IsChain, IsAmong}
 use Rattle.arena.specs.Shape.{Shape}
-use Rattle.arena.specs.Words.{links, marks, part_at, value_of, values, announcements, cells, numbers, statuses, entry_kinds, entry_nodes}
+use Rattle.arena.specs.Words.{links, marks, part_at, value_of, values, announcements, cells, numbers, statuses}
+use Rattle.arena.specs.Words.{entry_kinds, entry_nodes}
 use Rattle.arena.specs.declared.place.Part.TheVariants.{Length, First, Second, Third}
 use Rattle.arena.specs.declared.place.Place.TheVariants.{Announcement, Item, Mark, Cell, Status, EntryNode}
 use Rattle.stepper.specs.Loading.{part_next, loaded_with, IsLoaded}
 use Rattle.stepper.specs.declared.loading.Loading.{Loading}
-use Rattle.stepper.specs.declared.loading.Loading.TheVariants.{Length as at_length, First as at_first, Second as at_second, Third as at_third}
+use Rattle.stepper.specs.declared.loading.Loading.TheVariants.{Length as at_length, First as at_first}
+use Rattle.stepper.specs.declared.loading.Loading.TheVariants.{Second as at_second, Third as at_third}
 use Rattle.helping.specs.Table.{token_of, node_of}
-use Rattle.recover.specs.Table.{successor, node_at, token_at, to_row, got_with, removed_with, taken_as, not_taken_as, report_of, no_call, to_answer, to_outcome}
+use Rattle.recover.specs.Table.{successor, node_at, token_at, to_row, got_with, removed_with, taken_as, not_taken_as}
+use Rattle.recover.specs.Table.{report_of, no_call, to_answer, to_outcome}
 use Rattle.stepper.specs.declared.resume.After.TheVariants.{More, Done as Ready}
 use Rattle.recover.specs.declared.point.RecoveryPoint.{RecoveryPoint}
-use Rattle.recover.specs.declared.point.RecoveryPoint.TheVariants.{RecoveryLoadAnnouncement, RecoveryLoadStatus, RecoveryLoadRemove, RecoveryLoadEntryNode, RecoveryLoadRemovedItem, RecoveryLoadGot}
+use Rattle.recover.specs.declared.point.RecoveryPoint.TheVariants.{RecoveryLoadAnnouncement, RecoveryLoadStatus}
+use Rattle.recover.specs.declared.point.RecoveryPoint.TheVariants.{RecoveryLoadRemove, RecoveryLoadEntryNode}
+use Rattle.recover.specs.declared.point.RecoveryPoint.TheVariants.{RecoveryLoadRemovedItem, RecoveryLoadGot}
 use Rattle.protocol.specs.Machine.{Memory}
 use Rattle.protocol.specs.Kept.{OutcomeBy, RowBy, TellsBy, TellsOf}
 use Rattle.protocol.specs.Recovered.{end_of}
-use Rattle.arena.proofs.Chains.{in_left, not_again}
+use Rattle.arena.proofs.Facts.{in_left, not_again}
 use Rattle.protocol.proofs.chain.Chains.{in_chain, in_parts, linked_by, in_end_of}
 use Rattle.protocol.specs.invariants.Records.{IsPath, IsAnswered, AnsweredTo, IsEntry}
 use Rattle.protocol.specs.invariants.Sound.{memory_at_rest, Sound}

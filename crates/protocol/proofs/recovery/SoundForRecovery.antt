@@ -13,11 +13,14 @@ use Rattle.arena.specs.Place.{IsRecord, number_of}
 use Rattle.arena.specs.Shape.{Shape}
 use Rattle.arena.specs.Words.{links, marks, values, cells, entry_kinds, statuses, entry_nodes, announcements}
 use Rattle.arena.specs.declared.place.Place.{Place}
-use Rattle.arena.specs.declared.place.Place.TheVariants.{Head, Tail, Bump, Item, Next, Mark, Cell, Insert, Number, EntryKind, Status, EntryNode}
+use Rattle.arena.specs.declared.place.Place.TheVariants.{Head, Tail, Bump, Item, Next, Mark, Cell, Insert, Number}
+use Rattle.arena.specs.declared.place.Place.TheVariants.{EntryKind, Status, EntryNode}
 use Rattle.helping.specs.Table.{token_of, node_of}
-use Rattle.recover.specs.Sound.{IsBlankAnswer, IsOnChain, IsClaimed, IsClaimOf, IsPassed, StatusIsSound, RemovedIsSound, LogIsSound, RecordsAreSound, ChainIsSound, ClaimsAreSound, EndsAreSound, RowsAreSound, EntriesAreSound, AnswersAreSound, IsIssued, IsSound}
+use Rattle.recover.specs.Sound.{IsBlankAnswer, IsOnChain, IsClaimed, IsClaimOf, IsPassed, StatusIsSound, RemovedIsSound}
+use Rattle.recover.specs.Sound.{LogIsSound, RecordsAreSound, ChainIsSound, ClaimsAreSound, EndsAreSound, RowsAreSound}
+use Rattle.recover.specs.Sound.{EntriesAreSound, AnswersAreSound, IsIssued, IsSound}
 use Rattle.protocol.specs.Recovered.{end_of}
-use Rattle.arena.proofs.Chains.{in_left, not_again, parts_apart, distinct}
+use Rattle.arena.proofs.Facts.{distinct, in_left, not_again, parts_apart}
 use Rattle.protocol.proofs.chain.Chains.{in_parts, in_chain, linked_by, leads_in}
 use Rattle.protocol.specs.invariants.Places.{IsOfRecord}
 use Rattle.protocol.proofs.changes.Fences.{cell_says, status_says}

@@ -1,5 +1,5 @@
 -- What holds after any acts.
-use Rattle.words.proofs.Parts.{fits_told}
+use Rattle.words.proofs.Facts.{fits_told}
 use Rattle.std.proofs.Common.{if◌then◌else◌, Option, zero, suc, slice_get, inl, inr, Bool, true, false, ◌&&◌, ◌≡◌, ℕ, List, [], ◌∷◌, ◌++◌, Some, None, ◌==◌, nat_lt, nat_le, refl, sym, ◌∙◌, ap, subst}
 use Rattle.std.proofs.lemmas.Bool.{eqb-true, ltb-true, leb-true}
 use Rattle.words.specs.declared.call.Call.{Call}
@@ -15,18 +15,20 @@ use Rattle.arena.specs.Words.{bumps, links}
 use Rattle.arena.specs.declared.place.Place.{Place}
 use Rattle.events.specs.Effects.{order_of}
 use Rattle.events.specs.Parts.{IsPartOf}
-use Rattle.events.proofs.TraceQueue.{queue_of_order}
-use Rattle.events.proofs.Members.{part_same, part_of_part}
+use Rattle.events.proofs.Facts.{part_of_part, part_same, queue_of_order}
 use Rattle.recover.specs.declared.recovery.Recovery.{Recovery}
-use Rattle.protocol.specs.Acts.{number_fits, call_fits, may_start, start_attempt, step_attempt, recovery_attempt, with_act, run, IsNew, IsExplained, TellsByKept}
+use Rattle.protocol.specs.Acts.{number_fits, call_fits, may_start, start_attempt, step_attempt, recovery_attempt}
+use Rattle.protocol.specs.Acts.{with_act, run, IsNew, IsExplained, TellsByKept}
 use Rattle.protocol.specs.declared.acts.Act.{Act}
 use Rattle.recover.specs.Sound.{IsSound}
 use Rattle.protocol.specs.declared.acts.Act.TheVariants.{Start, Step, Evict, Crash, Recover}
 use Rattle.protocol.specs.Machine.{World, with_start, new_world, MayStart, MayStep, FitsKind, FitsCall}
 use Rattle.protocol.specs.declared.UnderWay.{UnderWay}
 use Rattle.protocol.specs.invariants.Worlds.{Inv}
-use Rattle.protocol.proofs.worlds.Facts.{inv_new, inv_started, inv_stepped, inv_evicted, inv_crashed, inv_recovered, part_started, part_stepped, part_evicted, part_crashed, part_recovered, in_log, explained, agrees, told_is, words_sound}
-use Rattle.arena.proofs.Chains.{Distinct, distinct}
+use Rattle.protocol.proofs.worlds.Facts.{inv_new, inv_started, inv_stepped, inv_evicted, inv_crashed, inv_recovered}
+use Rattle.protocol.proofs.worlds.Facts.{part_started, part_stepped, part_evicted, part_crashed, part_recovered, in_log}
+use Rattle.protocol.proofs.worlds.Facts.{explained, agrees, told_is, words_sound}
+use Rattle.arena.proofs.Facts.{Distinct, distinct}
 
 both_true : (a b : Bool) → (a && b) ≡ true → (a ≡ true) × (b ≡ true)
 both_true true b e = (refl, e)

@@ -29,10 +29,8 @@ use Rattle.events.specs.declared.event.Effect.{Effect}
 use Rattle.events.specs.declared.event.Entry.{Entry}
 use Rattle.events.specs.declared.event.Event.{Event}
 use Rattle.events.specs.declared.event.Event.TheVariants.{Call as call_event}
-use Rattle.events.proofs.Growing.{begins_within, open_less}
-use Rattle.events.proofs.GrowingTold.{IsMoreBy, says_longer}
-use Rattle.events.proofs.Lists.{get_longer, get_before}
-use Rattle.events.proofs.Members.{in_part, in_from_contains, contains_from_in}
+use Rattle.events.proofs.Facts.{IsMoreBy, begins_within, contains_from_in, get_before, get_longer, in_from_contains}
+use Rattle.events.proofs.Facts.{in_part, open_less, says_longer}
 use Rattle.protocol.specs.Machine.{Memory}
 use Rattle.protocol.specs.declared.UnderWay.{UnderWay}
 use Rattle.protocol.specs.declared.Issued.{Issued}

@@ -17,8 +17,7 @@ use Rattle.arena.specs.Shape.{Shape}
 use Rattle.arena.specs.Words.{links, marks, values, cells, numbers, entry_kinds, statuses, announcements}
 use Rattle.arena.specs.declared.place.Place.{Place}
 use Rattle.recover.specs.Told.{told_by}
-use Rattle.recover.proofs.Chains.{is_among_or_not}
-use Rattle.recover.proofs.ToldBy.{told_nobody}
+use Rattle.recover.proofs.Facts.{is_among_or_not, told_nobody}
 use Rattle.protocol.specs.Kept.{OutcomeBy, TellsBy, TellsOf}
 use Rattle.protocol.specs.invariants.Sound.{Sound}
 use Rattle.protocol.proofs.worlds.Facts.{chain_is}

@@ -30,14 +30,13 @@ use Rattle.events.specs.Trace.{IsEffect, IsNumberOf, queue_of}
 use Rattle.events.specs.Parts.{IsPartOf}
 use Rattle.events.specs.declared.event.Effect.{Effect}
 use Rattle.events.specs.declared.event.Event.{Event}
-use Rattle.events.specs.declared.event.Event.TheVariants.{Call as call_event, Return as return_event, Crash as crash_event, Ready as ready_event}
-use Rattle.events.proofs.Growing.{begins_within, open_before, open_less}
-use Rattle.events.proofs.Lists.{get_longer, get_last, get_push_cases}
-use Rattle.events.proofs.TraceGrows.{called, answered}
-use Rattle.events.proofs.TraceQueue.{queue_with_events}
-use Rattle.events.proofs.Members.{part_same}
-use Rattle.events.proofs.Openings.{EndsBy, open_push}
-use Rattle.protocol.specs.Machine.{Memory, World, with_access, with_fence, after_keeping, effects_after, events_after, with_call, with_next, next_of, with_step, begun_of, call_begun, with_start, with_eviction, FitsKind, FitsCall, MayStart, MayStep}
+use Rattle.events.specs.declared.event.Event.TheVariants.{Call as call_event, Return as return_event}
+use Rattle.events.specs.declared.event.Event.TheVariants.{Crash as crash_event, Ready as ready_event}
+use Rattle.events.proofs.Facts.{EndsBy, answered, begins_within, called, get_last, get_longer, get_push_cases}
+use Rattle.events.proofs.Facts.{open_before, open_less, open_push, part_same, queue_with_events}
+use Rattle.protocol.specs.Machine.{Memory, World, with_access, with_fence, after_keeping, effects_after, events_after}
+use Rattle.protocol.specs.Machine.{with_call, with_next, next_of, with_step, begun_of, call_begun, with_start}
+use Rattle.protocol.specs.Machine.{with_eviction, FitsKind, FitsCall, MayStart, MayStep}
 use Rattle.protocol.specs.declared.UnderWay.{UnderWay}
 use Rattle.recover.specs.Sound.{IsIssued}
 use Rattle.protocol.proofs.chain.Chains.{upd, upd_same, upd_at, upd_other}
@@ -54,9 +53,11 @@ use Rattle.protocol.specs.invariants.Records.{Both, IsAnnouncing, Records}
 use Rattle.protocol.proofs.records.Records.{keep_records}
 use Rattle.protocol.proofs.records.RecordStores.{acting_announced, row_records, rebegun_records}
 use Rattle.protocol.proofs.worlds.Stages.{unmoved_of_none, taken_as_took}
-use Rattle.protocol.specs.invariants.Worlds.{record_of_call, stage_of, ledger_from, ledger_of, IsCalling, KnowsCall, Working}
+use Rattle.protocol.specs.invariants.Worlds.{record_of_call, stage_of, ledger_from, ledger_of, IsCalling, KnowsCall}
+use Rattle.protocol.specs.invariants.Worlds.{Working}
 use Rattle.protocol.proofs.worlds.Moments.{Noted, calling, nothing_noted, keep_noted, looked_noted}
-use Rattle.protocol.proofs.calls.Rebegun.{rebegun, IsNew, IsThrough, rebegun_base, rebegun_grows, none_new, record_owner, next_unissued, unissued_silent, unissued_loose, unissued_new}
+use Rattle.protocol.proofs.calls.Rebegun.{rebegun, IsNew, IsThrough, rebegun_base, rebegun_grows, none_new}
+use Rattle.protocol.proofs.calls.Rebegun.{record_owner, next_unissued, unissued_silent, unissued_loose, unissued_new}
 
 -- what others know outlasts an act of client i
 others_know : (w : World) → Working w → (i : ℕ) (n : Memory) (k : Ledger) → Grows i w.shape w.memory (ledger_of w) n k → (j : ℕ) → j ≢ i → (x : UnderWay) → w.calls j ≡ Some x → Knows w.shape n k j x.op

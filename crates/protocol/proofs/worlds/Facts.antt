@@ -1,5 +1,5 @@
 -- What callers of the machine may rely on.
-use Rattle.words.proofs.Parts.{parts_blank}
+use Rattle.words.proofs.Facts.{parts_blank}
 use Rattle.std.proofs.Common.{Option, ◌≡◌, ◌≢◌, ℕ, ◌+◌, ◌*◌, ◌≤◌, ◌<◌, inl, inr, List, [], ◌∷◌, ◌++◌, length, map, filter, not, Some, None, ◌==◌, refl, sym, ◌∙◌, ap, subst, arith}
 use Rattle.std.specs.Prelude.{slice_get}
 use Rattle.std.specs.List.{AllByRecursion, AllPairs}
@@ -23,7 +23,8 @@ use Rattle.arena.specs.Ranges.{Fits, IsReadByCalls}
 use Rattle.arena.specs.Shape.{Shape, greatest}
 use Rattle.arena.specs.Words.{links, marks, values}
 use Rattle.arena.specs.declared.place.Place.{Place}
-use Rattle.arena.specs.declared.place.Place.TheVariants.{Head, Tail, Announcement, Bump, Item, Next, Mark, Cell, Insert, Number, EntryKind, Status, EntryNode}
+use Rattle.arena.specs.declared.place.Place.TheVariants.{Head, Tail, Announcement, Bump, Item, Next, Mark, Cell, Insert}
+use Rattle.arena.specs.declared.place.Place.TheVariants.{Number, EntryKind, Status, EntryNode}
 use Rattle.helping.specs.Table.{node_of, token_of}
 use Rattle.events.specs.Effects.{order_of}
 use Rattle.events.specs.Explains.{Explains}
@@ -31,12 +32,11 @@ use Rattle.events.specs.History.{IsHistory}
 use Rattle.events.specs.Trace.{IsTrace, IsEffect, queue_of}
 use Rattle.events.specs.Parts.{IsPartOf}
 use Rattle.events.specs.declared.event.Effect.{Effect}
-use Rattle.events.proofs.TraceExplains.{trace_arises, trace_explains}
-use Rattle.events.proofs.TraceGrows.{begun}
-use Rattle.events.proofs.Members.{part_same}
-use Rattle.events.proofs.Lists.{pairs_map}
+use Rattle.events.proofs.Facts.{begun, pairs_map, part_same, trace_arises, trace_explains}
 use Rattle.stepper.specs.declared.resume.After.{After}
-use Rattle.protocol.specs.Machine.{World, with_start, with_step, with_eviction, with_crash, with_recovery_step, next_recovery, recovery_left, after_keeping, effects_after, new_world, MayStart, MayStep}
+use Rattle.protocol.specs.Machine.{World, with_start, with_step, with_eviction, with_crash, with_recovery_step}
+use Rattle.protocol.specs.Machine.{next_recovery, recovery_left, after_keeping, effects_after, new_world, MayStart}
+use Rattle.protocol.specs.Machine.{MayStep}
 use Rattle.protocol.specs.declared.UnderWay.{UnderWay}
 use Rattle.protocol.specs.Announced.{IsToldOfAnnounced}
 use Rattle.protocol.proofs.told.Issuing.{told_of_announced}
@@ -44,7 +44,7 @@ use Rattle.protocol.specs.Kept.{TellsOf}
 use Rattle.protocol.specs.Measure.{most_steps, weight, steps_left_at, steps_left}
 use Rattle.protocol.specs.Recovered.{end_of, IsRecovered}
 use Rattle.protocol.proofs.recovery.RecoveryBound.{IsLess, falls, few_at}
-use Rattle.arena.proofs.Chains.{distinct, parts_apart}
+use Rattle.arena.proofs.Facts.{distinct, parts_apart}
 use Rattle.protocol.proofs.chain.Chains.{any_in, few, linked_by, walked}
 use Rattle.protocol.specs.invariants.Base.{AllFit}
 use Rattle.protocol.specs.invariants.Places.{SaysEmpty}
@@ -56,7 +56,10 @@ use Rattle.protocol.proofs.worlds.Acts.{evicted_part, stepped_part, step_noted}
 use Rattle.protocol.proofs.worlds.ReadyWorlds.{evicted_ready, stepped_ready, started_ready, fresh_told}
 use Rattle.protocol.proofs.recovery.RecoveryEnds.{Woken}
 use Rattle.protocol.proofs.recovery.RecoveryTelling.{all_answered}
-use Rattle.protocol.proofs.worlds.RecoveringWorlds.{RecoveredTo, evicted_recovering, evicted_recovering_part, ready_crashed, recovering_crashed, crashed_part, recovered_works, recovered_part, nobody_kept, nobody_fenced, point_fits, reads_fit, woken, told_woken}
+use Rattle.protocol.proofs.worlds.RecoveringWorlds.{RecoveredTo, evicted_recovering, evicted_recovering_part}
+use Rattle.protocol.proofs.worlds.RecoveringWorlds.{ready_crashed, recovering_crashed, crashed_part, recovered_works}
+use Rattle.protocol.proofs.worlds.RecoveringWorlds.{recovered_part, nobody_kept, nobody_fenced, point_fits, reads_fit}
+use Rattle.protocol.proofs.worlds.RecoveringWorlds.{woken, told_woken}
 use Rattle.stepper.specs.Step.{place_of, kept_by}
 use Rattle.recover.specs.Table.{access_of, IsPoint}
 use Rattle.recover.specs.Told.{tells_by}

@@ -16,18 +16,19 @@ use Rattle.arena.specs.Shape.{owner}
 use Rattle.arena.specs.Words.{links, marks, values}
 use Rattle.protocol.proofs.changes.Puts.{values_same}
 use Rattle.arena.specs.declared.place.Place.{Place}
-use Rattle.arena.specs.declared.place.Place.TheVariants.{Head, Tail, Announcement, Bump, Item, Next, Mark, Cell, Insert, Number, EntryKind, Status, EntryNode}
+use Rattle.arena.specs.declared.place.Place.TheVariants.{Head, Tail, Announcement, Bump, Item, Next, Mark, Cell, Insert}
+use Rattle.arena.specs.declared.place.Place.TheVariants.{Number, EntryKind, Status, EntryNode}
 use Rattle.events.specs.Effects.{order_of, with_effect, with_pending, without_pending, with_settled}
 use Rattle.events.specs.Trace.{IsTrace, IsPending, queue_of}
 use Rattle.events.specs.Parts.{IsPartOf}
 use Rattle.events.specs.Replay.{IsServed, call_at, call_of, queue_after_call}
 use Rattle.events.specs.declared.event.Effect.{Effect}
 use Rattle.events.specs.declared.event.Event.TheVariants.{Call as call_event}
-use Rattle.events.proofs.TraceEffects.{took, found, forgot, settled}
-use Rattle.events.proofs.TraceQueue.{queue_with_effect, queue_with_pending, queue_without_pending, queue_with_settled, part_with_effect, part_with_pending, part_without_pending}
-use Rattle.events.proofs.EffectLists.{part_with_settled}
-use Rattle.events.proofs.Members.{part_same, part_of_part}
-use Rattle.protocol.specs.Machine.{World, effects_on_keep, after_keeping, effects_on_look, effects_on_take as took_by, effects_on_count}
+use Rattle.events.proofs.Facts.{forgot, found, part_of_part, part_same, part_with_effect, part_with_pending}
+use Rattle.events.proofs.Facts.{part_with_settled, part_without_pending, queue_with_effect, queue_with_pending}
+use Rattle.events.proofs.Facts.{queue_with_settled, queue_without_pending, settled, took}
+use Rattle.protocol.specs.Machine.{World, effects_on_keep, after_keeping, effects_on_look, effects_on_take as took_by}
+use Rattle.protocol.specs.Machine.{effects_on_count}
 use Rattle.protocol.specs.declared.UnderWay.{UnderWay}
 use Rattle.protocol.proofs.chain.Chains.{upd, upd_at, upd_other}
 use Rattle.protocol.proofs.chain.Links.{kept_apart, kept_none, none_waiting}
@@ -42,8 +43,10 @@ use Rattle.protocol.proofs.calls.Rows.{looked_stage}
 use Rattle.protocol.specs.invariants.Records.{Both}
 use Rattle.protocol.proofs.records.RecordStores.{acting_announced, acting_of}
 use Rattle.events.specs.Telling.{IsToldOf}
-use Rattle.protocol.proofs.worlds.Stages.{none_of_unmoved, stage_push_other, stage_push, unseen, stage_forgotten, stage_forgotten_other, stage_settled_other, stage_settled}
-use Rattle.protocol.specs.invariants.Worlds.{record_of_call, stage_of, ledger_from, ledger_of, IsCalling, KnowsCall, Working}
+use Rattle.protocol.proofs.worlds.Stages.{none_of_unmoved, stage_push_other, stage_push, unseen, stage_forgotten}
+use Rattle.protocol.proofs.worlds.Stages.{stage_forgotten_other, stage_settled_other, stage_settled}
+use Rattle.protocol.specs.invariants.Worlds.{record_of_call, stage_of, ledger_from, ledger_of, IsCalling, KnowsCall}
+use Rattle.protocol.specs.invariants.Worlds.{Working}
 
 -- one call's stage is another at most; if that call may be told of, its record is announced
 abbrev pub Moved : World → List Effect → Type 0

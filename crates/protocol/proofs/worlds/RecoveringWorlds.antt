@@ -7,7 +7,8 @@ use Rattle.std.proofs.lemmas.Option.{slice_get_within}
 use mathlib.Core.Path.{fun_ext}
 use Rattle.stepper.specs.Loading.{part_next, loaded_with, IsLoaded}
 use Rattle.stepper.specs.declared.loading.Loading.{Loading}
-use Rattle.stepper.specs.declared.loading.Loading.TheVariants.{Length as at_length, First as at_first, Second as at_second, Third as at_third}
+use Rattle.stepper.specs.declared.loading.Loading.TheVariants.{Length as at_length, First as at_first}
+use Rattle.stepper.specs.declared.loading.Loading.TheVariants.{Second as at_second, Third as at_third}
 use Rattle.words.specs.declared.call.NodeId.{NodeId}
 use Rattle.words.specs.declared.told.Row.TheVariants.{Open, Empty as row_empty}
 use Rattle.words.specs.declared.told.Told.TheVariants.{Row as told_row}
@@ -21,7 +22,8 @@ use Rattle.arena.specs.Ranges.{Fits, IsReadByCalls}
 use Rattle.arena.specs.Shape.{Shape, owner, greatest}
 use Rattle.arena.specs.Words.{links, marks, values, numbers, inserts, announcements, entry_kinds, entry_nodes}
 use Rattle.arena.specs.declared.place.Place.{Place}
-use Rattle.arena.specs.declared.place.Place.TheVariants.{Head, Tail, Announcement, Bump, Item, Next, Mark, Cell, Insert, Number, EntryKind, Status, EntryNode}
+use Rattle.arena.specs.declared.place.Place.TheVariants.{Head, Tail, Announcement, Bump, Item, Next, Mark, Cell, Insert}
+use Rattle.arena.specs.declared.place.Place.TheVariants.{Number, EntryKind, Status, EntryNode}
 use Rattle.stepper.specs.Step.{place_of, kept_by}
 use Rattle.stepper.specs.declared.prepare.Begun.{Begun}
 use Rattle.helping.specs.Table.{node_of}
@@ -31,34 +33,46 @@ use Rattle.words.specs.declared.call.Kind.{Kind}
 use Rattle.words.specs.declared.call.Kind.TheVariants.{Durable, Log}
 use Rattle.words.specs.declared.call.Token.{Token}
 use Rattle.arena.specs.declared.codes.TheConstants.{EMPTY_STATUS, TAKEN_STATUS}
-use Rattle.recover.specs.Table.{access_of, successor, boot_recovery, taken_as, not_taken_as, no_call, report_of, recovery_at, recovery_after, point_at_the_end, point_past_status, to_node, to_row, got_with, removed_with, to_answer, to_outcome, past_head, node_at, token_at, IsPoint, kept_place, IsKeeping}
+use Rattle.recover.specs.Table.{access_of, successor, boot_recovery, taken_as, not_taken_as, no_call, report_of}
+use Rattle.recover.specs.Table.{recovery_at, recovery_after, point_at_the_end, point_past_status, to_node, to_row}
+use Rattle.recover.specs.Table.{got_with, removed_with, to_answer, to_outcome, past_head, node_at, token_at, IsPoint}
+use Rattle.recover.specs.Table.{kept_place, IsKeeping}
 use Rattle.words.specs.declared.call.Reply.TheVariants.{Done, Got, Empty}
 use Rattle.words.specs.declared.told.Outcome.TheVariants.{Taken}
 use Rattle.stepper.specs.declared.resume.After.TheVariants.{More, Done as Ready}
 use Rattle.recover.specs.declared.recovery.Recovery.{Recovery}
 use Rattle.recover.specs.declared.point.RecoveryPoint.{RecoveryPoint}
 use Rattle.recover.specs.declared.point.Report.{Report}
-use Rattle.recover.specs.declared.point.RecoveryPoint.TheVariants.{RecoveryLoadHead, RecoveryLoadNext, RecoveryLoadInsert, RecoveryStoreStatus, RecoveryLoadMark, RecoveryStoreResult, RecoveryStoreHead, RecoveryStoreTail, RecoveryLoadAnnouncement, RecoveryLoadCell, RecoveryLoadGot, RecoveryLoadNumber, RecoveryLoadKind, RecoveryLoadStatus, RecoveryLoadRemove, RecoveryLoadEntryNode, RecoveryLoadRemovedItem, Flush as FlushPoint, Fence as FencePoint}
+use Rattle.recover.specs.declared.point.RecoveryPoint.TheVariants.{RecoveryLoadHead, RecoveryLoadNext}
+use Rattle.recover.specs.declared.point.RecoveryPoint.TheVariants.{RecoveryLoadInsert, RecoveryStoreStatus}
+use Rattle.recover.specs.declared.point.RecoveryPoint.TheVariants.{RecoveryLoadMark, RecoveryStoreResult}
+use Rattle.recover.specs.declared.point.RecoveryPoint.TheVariants.{RecoveryStoreHead, RecoveryStoreTail}
+use Rattle.recover.specs.declared.point.RecoveryPoint.TheVariants.{RecoveryLoadAnnouncement, RecoveryLoadCell}
+use Rattle.recover.specs.declared.point.RecoveryPoint.TheVariants.{RecoveryLoadGot, RecoveryLoadNumber}
+use Rattle.recover.specs.declared.point.RecoveryPoint.TheVariants.{RecoveryLoadKind, RecoveryLoadStatus}
+use Rattle.recover.specs.declared.point.RecoveryPoint.TheVariants.{RecoveryLoadRemove, RecoveryLoadEntryNode}
+use Rattle.recover.specs.declared.point.RecoveryPoint.TheVariants.{RecoveryLoadRemovedItem, Flush as FlushPoint}
+use Rattle.recover.specs.declared.point.RecoveryPoint.TheVariants.{Fence as FencePoint}
 use Rattle.recover.specs.declared.keeping.RecoveryKeeping.{RecoveryKeeping}
-use Rattle.recover.specs.declared.keeping.RecoveryKeeping.TheVariants.{Status as KeepStatus, Result as KeepResult, Head as KeepHead, Tail as KeepTail}
+use Rattle.recover.specs.declared.keeping.RecoveryKeeping.TheVariants.{Status as KeepStatus, Result as KeepResult}
+use Rattle.recover.specs.declared.keeping.RecoveryKeeping.TheVariants.{Head as KeepHead, Tail as KeepTail}
 use Rattle.events.specs.Effects.{order_of, settled_effects}
 use Rattle.events.specs.History.{BeginsAt, IsOpenFrom, IsDown}
 use Rattle.events.specs.Trace.{IsTrace, queue_of}
 use Rattle.events.specs.Parts.{IsPartOf}
 use Rattle.events.specs.declared.event.Event.{Event}
-use Rattle.events.specs.declared.event.Event.TheVariants.{Call as call_event, Crash as crash_event, Ready as ready_event}
-use Rattle.events.proofs.EffectLists.{order_settled_effects}
-use Rattle.events.proofs.Growing.{begins_within, open_before, open_less}
-use Rattle.events.proofs.Lists.{get_last, get_push_cases}
-use Rattle.events.proofs.TraceEffects.{settled_effects_alone}
-use Rattle.events.proofs.TraceGrows.{crashed as log_crashed, ready as log_ready}
-use Rattle.events.proofs.TraceQueue.{queue_with_events, queue_settled_effects, part_settled_effects, all_settled}
-use Rattle.events.proofs.Members.{part_same}
+use Rattle.events.specs.declared.event.Event.TheVariants.{Call as call_event, Crash as crash_event}
+use Rattle.events.specs.declared.event.Event.TheVariants.{Ready as ready_event}
+use Rattle.events.proofs.Facts.{all_settled, begins_within, crashed as log_crashed, get_last, get_push_cases}
+use Rattle.events.proofs.Facts.{open_before, open_less, order_settled_effects, part_same, part_settled_effects}
+use Rattle.events.proofs.Facts.{queue_settled_effects, queue_with_events, ready as log_ready, settled_effects_alone}
 use Rattle.stepper.specs.declared.resume.After.{After}
-use Rattle.protocol.specs.Machine.{Memory, World, with_fence, with_access, effects_on_take, effects_on_count, effects_on_keep, after_keeping, after_fence, with_eviction, with_crash, with_recovery_step, next_recovery, recovery_left, recovery_events}
+use Rattle.protocol.specs.Machine.{Memory, World, with_fence, with_access, effects_on_take, effects_on_count}
+use Rattle.protocol.specs.Machine.{effects_on_keep, after_keeping, after_fence, with_eviction, with_crash}
+use Rattle.protocol.specs.Machine.{with_recovery_step, next_recovery, recovery_left, recovery_events}
 use Rattle.protocol.specs.Kept.{TellsOf}
 use Rattle.protocol.specs.Recovered.{end_of}
-use Rattle.arena.proofs.Chains.{in_left}
+use Rattle.arena.proofs.Facts.{in_left}
 use Rattle.protocol.proofs.chain.Chains.{in_end_of}
 use Rattle.protocol.specs.invariants.Ledger.{Stage, Ledger, nobody}
 use Rattle.protocol.specs.invariants.Base.{AllFit, Base}
@@ -66,7 +80,8 @@ use Rattle.protocol.specs.invariants.Ledger.Stage.{Unmoved}
 use Rattle.protocol.proofs.changes.Puts.{put_same, put_cases}
 use Rattle.protocol.specs.invariants.Records.{AnsweredTo, IsEntry, Records}
 use Rattle.protocol.proofs.records.Records.{path_linked}
-use Rattle.protocol.specs.invariants.Worlds.{record_of_call, stage_of, ledger_of, KnowsCall, Working, IsReady, Recovering}
+use Rattle.protocol.specs.invariants.Worlds.{record_of_call, stage_of, ledger_of, KnowsCall, Working, IsReady}
+use Rattle.protocol.specs.invariants.Worlds.{Recovering}
 use Rattle.events.specs.Telling.{IsToldSome, IsToldBase}
 use Rattle.protocol.specs.invariants.Told.{IsTold, RightlyTold}
 use Rattle.protocol.proofs.told.Tells.{IsTold-push, told_rightly}
@@ -74,10 +89,16 @@ use Rattle.protocol.proofs.told.Rightly.{KeptBy}
 use Rattle.protocol.proofs.worlds.ReadyWorlds.{access_kept, none_at_end}
 use Rattle.protocol.specs.invariants.Sound.{memory_at_rest, idle_ledger, Sound}
 use Rattle.protocol.proofs.recovery.Sound.{crash_sound, wake_base}
-use Rattle.protocol.specs.invariants.Recovery.{Same, SameBut, TakenTo, Position, Claim, Unclaimed, Announced, At, AtKeeping, AtPoint, IsUntold, nothing_told}
+use Rattle.protocol.specs.invariants.Recovery.{Same, SameBut, TakenTo, Position, Claim, Unclaimed, Announced, At}
+use Rattle.protocol.specs.invariants.Recovery.{AtKeeping, AtPoint, IsUntold, nothing_told}
 use Rattle.protocol.proofs.recovery.Recovering.{node_fits}
-use Rattle.protocol.proofs.recovery.RecoveryEnds.{answered_among, result_fits, Recovers, RecoversAt, RecoversOn, Woken, RecoversNext, but_stored, keep_at, hand_may, tells_kept, row_LoadNext, row_LoadMark, row_KeepStatus, row_KeepResult, row_KeepHead, row_KeepTail}
-use Rattle.protocol.proofs.recovery.RecoveryTelling.{dequeue_entry, row_LoadAnnouncement, row_LoadCell, row_LoadGot, row_LoadStatus, row_LoadRemove, row_LoadEntryNode, row_LoadRemovedItem}
+use Rattle.protocol.proofs.recovery.RecoveryEnds.{answered_among, result_fits, Recovers, RecoversAt, RecoversOn, Woken}
+use Rattle.protocol.proofs.recovery.RecoveryEnds.{RecoversNext, but_stored, keep_at, hand_may, tells_kept, row_LoadNext}
+use Rattle.protocol.proofs.recovery.RecoveryEnds.{row_LoadMark, row_KeepStatus, row_KeepResult, row_KeepHead}
+use Rattle.protocol.proofs.recovery.RecoveryEnds.{row_KeepTail}
+use Rattle.protocol.proofs.recovery.RecoveryTelling.{dequeue_entry, row_LoadAnnouncement, row_LoadCell, row_LoadGot}
+use Rattle.protocol.proofs.recovery.RecoveryTelling.{row_LoadStatus, row_LoadRemove, row_LoadEntryNode}
+use Rattle.protocol.proofs.recovery.RecoveryTelling.{row_LoadRemovedItem}
 
 -- each step of recovery leads to what it knows next
 point_row : (s : Shape) (m : Memory) (claimed waiting : List ℕ) (queue : List Value) → Sound s m.kept claimed waiting queue → 0 < s.clients

@@ -4,7 +4,7 @@ use Rattle.std.proofs.Common.{◌≡◌, ℕ, inr, List, [], Option, Some, None,
 use mathlib.Core.Path.{fun_ext}
 use Rattle.arena.specs.Content.{kept_content}
 use Rattle.recover.specs.Told.{told_by, tells_by}
-use Rattle.events.proofs.TraceGrows.{begun}
+use Rattle.events.proofs.Facts.{begun}
 use Rattle.protocol.specs.Kept.{TellsOf}
 use Rattle.protocol.specs.Machine.{World}
 use Rattle.protocol.specs.Rotated.{with_rotation}

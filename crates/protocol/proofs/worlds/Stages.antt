@@ -10,8 +10,8 @@ use Rattle.events.specs.Effects.{entry_of, order_of, without_pending, with_settl
 use Rattle.events.specs.declared.event.Effect.{Effect}
 use Rattle.events.specs.declared.event.Entry.{Entry}
 use Rattle.events.specs.Orders.{IsTakenAs, InOrder}
-use Rattle.events.proofs.EffectLists.{entry_if_settled, order_first, entry_in_order}
-use Rattle.events.proofs.Members.{IsIn, contains_from_in, in_from_contains, taken_from_in_order, in_order_from_taken}
+use Rattle.events.proofs.Facts.{IsIn, contains_from_in, entry_if_settled, entry_in_order, in_from_contains}
+use Rattle.events.proofs.Facts.{in_order_from_taken, order_first, taken_from_in_order}
 use Rattle.protocol.specs.invariants.Ledger.{Stage, seen_or, stage_by, stage_at}
 use Rattle.protocol.specs.invariants.Ledger.Stage.{Unmoved, Seen, Took}
 

@@ -1,4 +1,4 @@
-use Rattle.session.proofs.Uncalled.{uncalled_new}
+use Rattle.session.proofs.Facts.{uncalled_new}
 use Rattle.bench_load.proofs.work.over_a_broker.Goals as goal
 
 pub open-requires : goal.open-requires

@@ -4,8 +4,8 @@ use Rattle.std.specs.Prelude.{Some}
 use Rattle.interleave.specs.State.{State, kept_content}
 use Rattle.named.specs.Brokers.{world_at}
 use Rattle.broker_script.specs.Play.{the_world}
-use Rattle.broker_script.proofs.Worlds.{open_world}
-use Rattle.explore.proofs.Explained.{AreOf, explained, left}
+use Rattle.broker_script.proofs.Facts.{open_world}
+use Rattle.explore.proofs.Facts.{AreOf, explained, left}
 use Rattle.broker_points.proofs.Explaining.{of_world}
 use Rattle.broker_points.proofs.kept.is_explained.Goals as goal
 

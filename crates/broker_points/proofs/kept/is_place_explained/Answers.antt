@@ -1,6 +1,6 @@
 use Rattle.std.proofs.Common.{ap, ◌∙◌}
 use Rattle.std.specs.Prelude.{Some}
-use Rattle.broker_script.proofs.Worlds.{listed_open}
+use Rattle.broker_script.proofs.Facts.{listed_open}
 use Rattle.broker_points.proofs.kept.is_place_explained.Goals as goal
 
 pub is_explained-requires : goal.is_explained-requires

@@ -1,4 +1,4 @@
-use Rattle.directory.proofs.Rows.{names_equal}
+use Rattle.directory.proofs.Facts.{names_equal}
 use Rattle.broker_points.proofs.kept.is_same_name.Goals as goal
 
 pub returns : goal.returns

@@ -1,7 +1,7 @@
 use Rattle.std.proofs.Common.{sym, subst}
 use Rattle.directory.specs.Directory.{HasQueue}
 use Rattle.named.specs.Brokers.{Brokered}
-use Rattle.broker_script.proofs.Staying.{queues_noted}
+use Rattle.broker_script.proofs.Facts.{queues_noted}
 use Rattle.broker_points.specs.Points.{nowhere, further}
 use Rattle.broker_points.proofs.point.follow.Goals as goal
 

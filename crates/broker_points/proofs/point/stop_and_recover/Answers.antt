@@ -1,8 +1,8 @@
-use Rattle.named.proofs.GoingOn.{broker_goes_further}
+use Rattle.named.proofs.Facts.{broker_goes_further}
 use Rattle.broker_script.specs.Recovering.{Recovers}
 use Rattle.broker_script.specs.Transcript.{Crashes}
 use Rattle.broker_script.specs.Play.{session_of}
-use Rattle.broker_script.proofs.Staying.{recovered_on, recovered_ready, recovered_settled, session_goes_further}
+use Rattle.broker_script.proofs.Facts.{recovered_on, recovered_ready, recovered_settled, session_goes_further}
 use Rattle.broker_points.specs.Points.{nowhere, further}
 use Rattle.broker_points.proofs.point.stop_and_recover.Goals as goal
 

@@ -1,6 +1,6 @@
 use Rattle.std.proofs.Common.{ap, ◌∙◌}
 use Rattle.std.specs.Prelude.{Some}
-use Rattle.broker_script.proofs.Worlds.{listed_open}
+use Rattle.broker_script.proofs.Facts.{listed_open}
 use Rattle.broker_points.proofs.texts.write_place.Goals as goal
 
 pub write_queue-requires-clause-open : goal.write_queue-requires-clause-open

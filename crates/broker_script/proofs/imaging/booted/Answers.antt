@@ -1,4 +1,4 @@
-use Rattle.session.proofs.Uncalled.{uncalled_booted}
+use Rattle.session.proofs.Facts.{uncalled_booted}
 use Rattle.broker_script.proofs.imaging.booted.Goals as goal
 
 pub open-requires : goal.open-requires

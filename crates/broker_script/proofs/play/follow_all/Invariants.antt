@@ -1,5 +1,5 @@
 use Rattle.std.proofs.Common.{◌≡◌, ◌≤◌, ◌<◌, true, length}
-use Rattle.playing.proofs.Again.{pending}
+use Rattle.playing.proofs.Facts.{pending}
 use Rattle.broker_script.proofs.Going.{AllLead}
 use Rattle.broker_script.proofs.play.follow_all.Given as goal
 

@@ -1,6 +1,6 @@
 use Rattle.std.proofs.Common.{ap}
 use Rattle.std.specs.Prelude.{is_some}
-use Rattle.grammar.proofs.Cuts.{second_word}
+use Rattle.grammar.proofs.Facts.{second_word}
 use Rattle.broker_script.proofs.rows.one_name.Goals as goal
 
 pub returns-in_default-Some : goal.returns-in_default-Some

@@ -2,7 +2,7 @@ use Rattle.std.proofs.Common.{sym, ◌∙◌}
 use Rattle.std.specs.Prelude.{IsTrue}
 use Rattle.std.proofs.lemmas.Result.{IfOk-weaker}
 use Rattle.interleave.specs.State.{State}
-use Rattle.interleave.proofs.HoldsKept.{explained_world}
+use Rattle.interleave.proofs.Facts.{explained_world}
 use Rattle.explore.specs.Points.{recovered}
 use Rattle.explore.proofs.Copied.{recovered_begins, recovered_holds}
 use Rattle.explore.proofs.Explained.{AreOf, explained, left}

@@ -2,7 +2,7 @@ use Rattle.std.proofs.Common.{List, ℕ, ◌≡◌, length}
 use Rattle.words.specs.declared.told.Told.{Told}
 use Rattle.std.proofs.lemmas.Option.{slice_get_within}
 use Rattle.events.specs.History.{IsDurable, ReadyAt}
-use Rattle.events.proofs.Interrupted.{told_if_interrupted}
+use Rattle.events.proofs.Facts.{told_if_interrupted}
 use Rattle.history.proofs.checker.tells.Goals as goal
 
 pub returns-then-is_durable : goal.returns-then-is_durable

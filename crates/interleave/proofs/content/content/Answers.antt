@@ -6,8 +6,8 @@ use Rattle.interleave.specs.Content.{unclaimed_from}
 use Rattle.arena.specs.declared.place.Place.{Place}
 use Rattle.arena.specs.declared.place.Place.TheVariants.{Next}
 use Rattle.interleave.specs.Values.{value_of_place}
-use Rattle.interleave.proofs.ValueLaws.{shown_at}
-use Rattle.interleave.proofs.Contents.{content_from, content_end, content_next}
+use Rattle.interleave.proofs.words.Values.{shown_at}
+use Rattle.interleave.proofs.words.Contents.{content_from, content_end, content_next}
 use Rattle.interleave.proofs.content.content.Goals as goal
 
 pub returns-then-next-eq0-clause-content : goal.returns-then-next-eq0-clause-content

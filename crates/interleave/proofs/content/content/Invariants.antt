@@ -3,7 +3,7 @@ use Rattle.arena.specs.Shape.{greatest}
 use Rattle.arena.specs.Place.{IsNode}
 use Rattle.arena.specs.Content.{kept_content}
 use Rattle.interleave.specs.Values.{value_of_place}
-use Rattle.interleave.proofs.Contents.{content_from}
+use Rattle.interleave.proofs.words.Contents.{content_from}
 use Rattle.arena.specs.declared.place.Place.{Place}
 use Rattle.interleave.proofs.content.content.Given as goal
 

@@ -1,6 +1,6 @@
 use Rattle.std.proofs.Common.{◌≡◌, ◌-◌, ◌+◌, ◌<◌, length, ◌∙◌, refl, subst, sym, arith}
 use Rattle.std.proofs.lemmas.Option.{slice_get_read}
-use Rattle.interleave.proofs.Unsettled.{none_at_all, none_before, none_more, only_one, HasNoneFrom}
+use Rattle.interleave.proofs.order.PendingEffects.{none_at_all, none_before, none_more, only_one, HasNoneFrom}
 use Rattle.interleave.proofs.effects.unsettled.Goals as goal
 
 pub returns-then-effect-place : goal.returns-then-effect-place

@@ -1,5 +1,5 @@
 use Rattle.std.proofs.Common.{◌≡◌, ◌≤◌, length}
-use Rattle.interleave.proofs.Unsettled.{HasNoneFrom}
+use Rattle.interleave.proofs.order.PendingEffects.{HasNoneFrom}
 use Rattle.interleave.proofs.effects.unsettled.Given as goal
 
 abbrev pub invariant-loop-after : goal.invariant-loop-after

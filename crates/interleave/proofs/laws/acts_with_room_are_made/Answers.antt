@@ -1,4 +1,4 @@
-use Rattle.interleave.proofs.RunStates.{all_made, all_steps}
+use Rattle.interleave.proofs.runs.Runs.{all_made, all_steps}
 use Rattle.interleave.proofs.laws.acts_with_room_are_made.Goals as goal
 
 pub returns-clause-leaves : goal.returns-clause-leaves

@@ -1,5 +1,5 @@
-use Rattle.interleave.proofs.AloneEnds.{answers_soon}
-use Rattle.interleave.proofs.AloneServed.{served_alone}
+use Rattle.interleave.proofs.runs.AloneEnds.{answers_soon}
+use Rattle.interleave.proofs.runs.AloneReplies.{served_alone}
 use Rattle.interleave.proofs.laws.calls_alone_are_served.Goals as goal
 
 pub returns-clause-answered : goal.returns-clause-answered

@@ -1,4 +1,4 @@
-use Rattle.interleave.proofs.RunLaws.{grown_by_attempt, grown_by_acts}
+use Rattle.interleave.proofs.runs.Attempts.{grown_by_attempt, grown_by_acts}
 use Rattle.interleave.proofs.laws.histories_go_on.Goals as goal
 
 pub returns-clause-acts : goal.returns-clause-acts

@@ -1,4 +1,4 @@
-use Rattle.interleave.proofs.RunStates.{next_tells, same_told}
+use Rattle.interleave.proofs.runs.Runs.{next_tells, same_told}
 use Rattle.interleave.proofs.laws.kept_words_tell.Goals as goal
 
 pub returns-clause-by_words : goal.returns-clause-by_words

@@ -1,4 +1,4 @@
-use Rattle.interleave.proofs.Rotated.{numbers_told, told_rightly}
+use Rattle.interleave.proofs.order.Rotations.{numbers_told, told_rightly}
 use Rattle.interleave.proofs.laws.kept_words_tell_rightly.Goals as goal
 
 pub returns-clause-announced : goal.returns-clause-announced

@@ -1,4 +1,4 @@
-use Rattle.interleave.proofs.Rotated.{numbers_are_new}
+use Rattle.interleave.proofs.order.Rotations.{numbers_are_new}
 use Rattle.interleave.proofs.laws.numbers_are_new.Goals as goal
 
 pub returns : goal.returns

@@ -1,4 +1,4 @@
-use Rattle.interleave.proofs.EveryAct.{act_accesses, act_makes_one}
+use Rattle.interleave.proofs.machine.Acts.{act_accesses, act_makes_one}
 use Rattle.interleave.proofs.laws.one_access_an_act.Goals as goal
 
 pub returns-clause-accesses : goal.returns-clause-accesses

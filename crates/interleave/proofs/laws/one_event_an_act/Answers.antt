@@ -1,4 +1,4 @@
-use Rattle.interleave.proofs.EveryAct.{act_adds_one}
+use Rattle.interleave.proofs.machine.Acts.{act_adds_one}
 use Rattle.interleave.proofs.laws.one_event_an_act.Goals as goal
 
 pub returns : goal.returns

@@ -3,13 +3,13 @@ use Rattle.arena.specs.Shape.{Shape}
 use Rattle.stepper.specs.declared.resume.After.{After}
 use Rattle.stepper.specs.declared.resume.After.TheVariants.{More, Done}
 use Rattle.helping.specs.declared.op.Op.{Op}
-use Rattle.protocol.proofs.worlds.Facts.{recovery_point}
+use Rattle.protocol.proofs.Facts.{recovery_point}
 use Rattle.interleave.specs.Holds.{from_invariant}
 use Rattle.interleave.specs.Premises.{IsMoreInRange}
 use Rattle.interleave.specs.State.{machine}
-use Rattle.interleave.proofs.HoldsKept.{recovery_reads}
-use Rattle.interleave.proofs.InRange.{AfterFits, successor_fits}
-use Rattle.interleave.proofs.Safety.{call_fits, read_fits}
+use Rattle.interleave.proofs.machine.Holding.{recovery_reads}
+use Rattle.interleave.proofs.words.Accesses.{AfterFits, successor_fits}
+use Rattle.interleave.proofs.words.Ranges.{call_fits, read_fits}
 use Rattle.interleave.proofs.laws.steps_stay_in_range.Goals as goal
 
 as_more : (s : Shape) (after : After Op Reply) → AfterFits s after → IsMoreInRange s after

@@ -8,7 +8,7 @@ use Rattle.directory.specs.Directory.{Directory, HasQueue}
 use Rattle.directory.specs.Queue.{directory_of}
 use Rattle.directory.specs.declared.queue.Queue.{Queue}
 use Rattle.directory.specs.Sound.{counts_in}
-use Rattle.named.proofs.Kept.{some_is}
+use Rattle.named.proofs.acts.OneSlot.{some_is}
 use Rattle.named.proofs.booting.check_blocks.Goals as goal
 use Rattle.named.proofs.booting.check_blocks.Goals.{in-Some+in_ok-check_block, in_default}
 

@@ -1,4 +1,4 @@
-use Rattle.named.proofs.GoingOn.{broker_goes_further, broker_stays}
+use Rattle.named.proofs.acts.Continuity.{broker_goes_further, broker_stays}
 use Rattle.named.proofs.laws.brokers_go_on.Goals as goal
 
 pub returns-clause-none : goal.returns-clause-none

@@ -1,4 +1,4 @@
-use Rattle.named.proofs.Comings.{came_further, came_of_itself, came_over_rotation, came_unrotated, queues_came}
+use Rattle.named.proofs.acts.Comings.{came_further, came_of_itself, came_over_rotation, came_unrotated, queues_came}
 use Rattle.named.proofs.laws.brokers_outlast_rotations.Goals as goal
 
 pub returns-clause-none : goal.returns-clause-none

@@ -1,4 +1,4 @@
-use Rattle.named.proofs.GoingOn.{downtime_goes_further}
+use Rattle.named.proofs.acts.Continuity.{downtime_goes_further}
 use Rattle.named.proofs.laws.downtimes_go_on.Goals as goal
 
 pub returns : goal.returns

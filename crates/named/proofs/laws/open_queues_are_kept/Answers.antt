@@ -1,4 +1,4 @@
-use Rattle.named.proofs.KeptQueues.{kept_queue}
+use Rattle.named.proofs.promises.KeptQueues.{kept_queue}
 use Rattle.named.proofs.laws.open_queues_are_kept.Goals as goal
 
 pub returns : goal.returns

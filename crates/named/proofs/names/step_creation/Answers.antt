@@ -3,7 +3,7 @@ use Rattle.persist.specs.Lent.{port_lent}
 use Rattle.persist.specs.Memory.{MemoryState, asked_through}
 use Rattle.directory.specs.Creation.{access_of}
 use Rattle.named.specs.declared.broker.TheConstants.{CREATION_PORT}
-use Rattle.named.proofs.Askings.{one_lender, others_left}
+use Rattle.named.proofs.acts.Requests.{one_lender, others_left}
 use Rattle.named.proofs.names.step_creation.Goals as goal
 
 pub returns-clause-others : goal.returns-clause-others

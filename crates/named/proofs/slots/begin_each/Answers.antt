@@ -4,7 +4,7 @@ use Rattle.std.proofs.lemmas.List.{map-append, length-map}
 use Rattle.std.specs.Prelude.{map}
 use Rattle.words.specs.PlainQueue.{Value}
 use Rattle.named.specs.declared.slot.Slot.{Slot}
-use Rattle.named.proofs.Rotated.{AreBegunFrom, IsNext, begun_all, begun_more, next_slot}
+use Rattle.named.proofs.histories.Rotations.{AreBegunFrom, IsNext, begun_all, begun_more, next_slot}
 use Rattle.named.proofs.slots.begin_each.Goals as goal
 
 abbrev of_each : Vec Value Global → List Value

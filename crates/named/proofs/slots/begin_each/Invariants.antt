@@ -1,5 +1,5 @@
 use Rattle.std.specs.Prelude.{length, map}
-use Rattle.named.proofs.Rotated.{AreBegunFrom}
+use Rattle.named.proofs.histories.Rotations.{AreBegunFrom}
 use Rattle.named.proofs.slots.begin_each.Given as goal
 
 abbrev pub invariant-loop-base : goal.invariant-loop-base

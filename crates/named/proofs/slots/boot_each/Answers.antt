@@ -4,7 +4,7 @@ use Rattle.std.proofs.lemmas.Option.{slice_get_within}
 use Rattle.directory.specs.declared.queue.Queue.{Queue}
 use Rattle.named.specs.Booting.{IsSlotBooted}
 use Rattle.named.specs.declared.slot.Slot.{Slot}
-use Rattle.named.proofs.Booted.{slots_more}
+use Rattle.named.proofs.beginnings.Boots.{slots_more}
 use Rattle.named.proofs.slots.boot_each.Goals as goal
 
 pub loop-slot-preserved : goal.loop-slot-preserved

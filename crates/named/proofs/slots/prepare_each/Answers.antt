@@ -5,7 +5,7 @@ use Rattle.std.specs.Prelude.{is_ok, map, not}
 use Rattle.words.specs.PlainQueue.{Value}
 use Rattle.named.specs.Rotating.{IsBaseIn}
 use Rattle.named.specs.declared.slot.Slot.{Slot}
-use Rattle.named.proofs.Rotated.{bases_more}
+use Rattle.named.proofs.histories.Rotations.{bases_more}
 use Rattle.named.proofs.slots.prepare_each.Goals as goal
 
 pub prepare_rotation-requires-clause-quiet : goal.prepare_rotation-requires-clause-quiet

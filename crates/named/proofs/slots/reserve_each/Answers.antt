@@ -3,7 +3,7 @@ use Rattle.std.proofs.lemmas.Option.{slice_get_read, slice_get_within}
 use Rattle.named.specs.Each.{HasFullSlot, HasMoreRoom}
 use Rattle.named.specs.Slots.{HasRoomFor}
 use Rattle.named.specs.declared.slot.Slot.{Slot}
-use Rattle.named.proofs.Eaches.{all_of_them, as_it_was, each_more, one_more, so_many}
+use Rattle.named.proofs.acts.Loops.{all_of_them, as_it_was, each_more, one_more, so_many}
 use Rattle.named.proofs.slots.reserve_each.Goals as goal
 
 pub returns-in_err-make_room-clause-same : goal.returns-in_err-make_room-clause-same

@@ -2,7 +2,7 @@ use Rattle.std.proofs.Common.{◌≡◌, ◌∙◌, ◌<◌, Some, ap, length, s
 use Rattle.std.proofs.lemmas.Option.{slice_get_read}
 use Rattle.named.specs.Each.{HasStopped}
 use Rattle.named.specs.declared.slot.Slot.{Slot}
-use Rattle.named.proofs.Eaches.{all_of_them, one_more}
+use Rattle.named.proofs.acts.Loops.{all_of_them, one_more}
 use Rattle.named.proofs.slots.stop_each.Goals as goal
 
 pub loop-slot-preserved : goal.loop-slot-preserved

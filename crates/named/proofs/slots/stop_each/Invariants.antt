@@ -1,5 +1,5 @@
 use Rattle.named.specs.Each.{HasStopped}
-use Rattle.named.proofs.Eaches.{BecomeBelow}
+use Rattle.named.proofs.acts.Loops.{BecomeBelow}
 use Rattle.named.proofs.slots.stop_each.Given as goal
 
 abbrev pub invariant-loop-slot : goal.invariant-loop-slot

@@ -1,7 +1,7 @@
 use Rattle.std.proofs.Common.{◌≡◌, ◌≤◌, ◌<◌, ◌++◌, ◌∷◌, ◌+◌, ℕ, [], List, length, sym, ap, subst, ◌∙◌, arith, vec_capacity, Vec, Global}
 use Rattle.std.proofs.lemmas.Grind.{common_steps}
 use Rattle.persist.specs.declared.access.Change.{Change}
-use Rattle.persist.proofs.Overwrites.{partly}
+use Rattle.persist.proofs.Facts.{partly}
 use Rattle.notes.specs.Noting.{HasNoted}
 use Rattle.notes.proofs.Mixing.{noted_first, noted_next, noted_same}
 use Rattle.notes.proofs.differences.add_differences.Goals as goal

@@ -1,6 +1,6 @@
 use Rattle.std.proofs.Common.{◌≤◌, vec_capacity}
 use Rattle.notes.specs.Noting.{HasNoted}
-use Rattle.persist.proofs.Overwrites.{partly}
+use Rattle.persist.proofs.Facts.{partly}
 use Rattle.notes.proofs.differences.add_differences.Given as goal
 
 -- the words so far are noted

@@ -6,7 +6,7 @@ use Rattle.words.specs.declared.refusal.Refusal.{Refusal}
 use Rattle.words.specs.declared.refusal.Refusal.TheVariants.{NoRoom}
 use Rattle.arena.specs.Shape.{Counts}
 use Rattle.directory.specs.Sound.{counts_in}
-use Rattle.migration.proofs.Slots.{slot_more}
+use Rattle.migration.proofs.Facts.{slot_more}
 use Rattle.renewal.specs.Broker.{BlockFits, slot_block_renewed}
 use Rattle.renewal.proofs.Slots.{entry, fits_are, sound_at, words_are}
 use Rattle.renewal.proofs.broker.add_blocks.Goals as goal

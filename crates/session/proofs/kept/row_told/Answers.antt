@@ -1,7 +1,7 @@
 use Rattle.std.proofs.Common.{rules, ◌≡◌, Option, None, ◌∙◌, ap, arith, length-set}
 use Rattle.words.specs.declared.told.Verdict.{Verdict}
 use Rattle.session.specs.Keeping.{told_when_asked, verdict_heard}
-use Rattle.session.proofs.Places.{one_more_place}
+use Rattle.session.proofs.answers.Places.{one_more_place}
 use Rattle.session.proofs.kept.row_told.Goals as goal
 
 pub loop-client-init : goal.loop-client-init

@@ -1,4 +1,4 @@
-use Rattle.session.proofs.NotStale.{accepted}
+use Rattle.session.proofs.answers.Staleness.{accepted}
 use Rattle.session.proofs.laws.admitted_numbers_run.Goals as goal
 
 pub returns : goal.returns

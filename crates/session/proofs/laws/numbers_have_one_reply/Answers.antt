@@ -1,4 +1,4 @@
-use Rattle.interleave.proofs.verdicts.Given.{one_reply}
+use Rattle.interleave.proofs.Facts.{one_reply}
 use Rattle.session.proofs.laws.numbers_have_one_reply.Goals as goal
 
 pub returns : goal.returns

@@ -1,4 +1,4 @@
-use Rattle.session.proofs.Settled.{settled_told}
+use Rattle.session.proofs.answers.Settled.{settled_told}
 use Rattle.session.proofs.laws.settled_is_told.Goals as goal
 
 pub returns : goal.returns

@@ -1,4 +1,6 @@
-use Rattle.session.proofs.Uncalled.{uncalled_alike, uncalled_booted, uncalled_created, uncalled_durable, uncalled_evicted, uncalled_new, uncalled_recovered, uncalled_rotated, uncalled_stopped}
+use Rattle.session.proofs.downtime.Uncalled.{uncalled_alike, uncalled_booted, uncalled_created, uncalled_durable}
+use Rattle.session.proofs.downtime.Uncalled.{uncalled_evicted, uncalled_new, uncalled_recovered, uncalled_rotated}
+use Rattle.session.proofs.downtime.Uncalled.{uncalled_stopped}
 use Rattle.session.proofs.laws.uncalled_brokers.Goals as goal
 
 pub returns-clause-new : goal.returns-clause-new

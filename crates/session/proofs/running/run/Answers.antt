@@ -3,8 +3,8 @@ use Rattle.words.specs.declared.call.Reply.{Reply}
 use Rattle.words.specs.declared.refusal.Refusal.{Refusal}
 use Rattle.named.specs.Acting.{IsAloneAt}
 use Rattle.session.specs.Requests.{IsRun}
-use Rattle.session.proofs.Runs.{IsRoomMade, IsStartTried, never_refused, served, start_was_refused}
-use Rattle.named.proofs.GoingOn.{broker_goes_further}
+use Rattle.session.proofs.calls.Runs.{IsRoomMade, IsStartTried, never_refused, served, start_was_refused}
+use Rattle.named.proofs.Facts.{broker_goes_further}
 use Rattle.session.proofs.running.run.Goals as goal
 
 pub returns-in_err-start-clause-run : goal.returns-in_err-start-clause-run

@@ -1,4 +1,4 @@
-use Rattle.session.proofs.Uncalled.{uncalled_booted}
+use Rattle.session.proofs.Facts.{uncalled_booted}
 use Rattle.test_session.proofs.acts.boot.Goals as goal
 
 pub open-requires : goal.open-requires

@@ -2,7 +2,7 @@ use Rattle.std.proofs.Common.{rules, ◌≡◌, ◌∙◌, Some, ap, sym}
 use Rattle.std.specs.Prelude.{slice_get}
 use Rattle.std.proofs.lemmas.Option.{slice_get-get_or}
 use Rattle.directory.specs.declared.queue.Queue.{Queue}
-use Rattle.directory.proofs.Rows.{names_equal}
+use Rattle.directory.proofs.Facts.{names_equal}
 use Rattle.workers.proofs.creating.has.Goals as goal
 
 pub returns-then-eq : goal.returns-then-eq

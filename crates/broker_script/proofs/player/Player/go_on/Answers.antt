@@ -2,7 +2,8 @@ use Rattle.std.proofs.Common.{◌≡◌, ◌-◌, [], ◌∷◌, ap, sym, ◌∙
 use Rattle.std.proofs.lemmas.Result.{IfOk-weaker}
 use Rattle.std.specs.Prelude.{nat_lt, option_to_list}
 use Rattle.named.specs.Brokers.{IsWell}
-use Rattle.playing.proofs.Plays.{always_ok, ends_answered, ends_refused, gives_answered, gives_refused, gives_on, leads_on}
+use Rattle.playing.proofs.Facts.{always_ok, ends_answered, ends_refused, gives_answered, gives_on, gives_refused}
+use Rattle.playing.proofs.Facts.{leads_on}
 use Rattle.playing.specs.Play.{after_steps}
 use Rattle.playing.specs.Transcript.{step_lines}
 use Rattle.broker_script.specs.Play.{play_at}

@@ -1,5 +1,5 @@
 use Rattle.std.proofs.Common.{Some}
-use Rattle.interleave.proofs.Prefixes.{set_in_front}
+use Rattle.interleave.proofs.order.Prefixes.{set_in_front}
 use Rattle.interleave.proofs.calls.Calls.begin.Goals as goal
 
 pub returns : goal.returns

@@ -1,5 +1,5 @@
 use Rattle.std.proofs.Common.{None}
-use Rattle.interleave.proofs.Prefixes.{set_in_front}
+use Rattle.interleave.proofs.order.Prefixes.{set_in_front}
 use Rattle.interleave.proofs.calls.Calls.end.Goals as goal
 
 pub returns : goal.returns

@@ -1,7 +1,7 @@
 use Rattle.std.proofs.Common.{◌≡◌, ℕ, List, Option, Some, length, min, take, sym, ap, ◌∙◌, arith}
 use Rattle.std.proofs.lemmas.List.{length-take}
 use Rattle.protocol.specs.declared.UnderWay.{UnderWay}
-use Rattle.interleave.proofs.Prefixes.{get_in_front, set_in_front}
+use Rattle.interleave.proofs.order.Prefixes.{get_in_front, set_in_front}
 use Rattle.interleave.proofs.calls.Calls.go_on.Goals as goal
 
 pub go_on-requires : goal.go_on-requires

@@ -4,9 +4,9 @@ use Rattle.std.proofs.lemmas.Option.{slice_get_within}
 use Rattle.protocol.specs.Machine.{effects_after, next_of, with_next, with_step}
 use Rattle.protocol.specs.declared.UnderWay.{UnderWay}
 use Rattle.interleave.specs.Core.{CoreState, machine_over}
-use Rattle.interleave.proofs.CallLaws.{call_at, of_call, the_call}
-use Rattle.interleave.proofs.NoteLaws.{noted_is}
-use Rattle.interleave.proofs.Safety.{call_fits, next_is, IsSafe-stepped}
+use Rattle.interleave.proofs.machine.Calls.{call_at, of_call, the_call}
+use Rattle.interleave.proofs.machine.Effects.{noted_is}
+use Rattle.interleave.proofs.words.Ranges.{call_fits, next_is, IsSafe-stepped}
 use Rattle.interleave.proofs.lent.Core.advance.Goals as goal
 
 pub step_at-stepped-requires-clause-point : goal.step_at-stepped-requires-clause-point

@@ -1,8 +1,8 @@
 use Rattle.std.proofs.Common.{◌≡◌, ap, ◌∙◌, arith}
 use Rattle.arena.specs.Shape.{Shape}
 use Rattle.interleave.specs.Core.{CoreState}
-use Rattle.interleave.proofs.MachineFacts.{room_held}
-use Rattle.interleave.proofs.StartLaws.{client_in, used_few}
+use Rattle.interleave.proofs.machine.Invariants.{room_held}
+use Rattle.interleave.proofs.machine.Starts.{client_in, used_few}
 use Rattle.interleave.proofs.lent.Core.begin.Goals as goal
 
 pub reserve-requires : goal.reserve-requires

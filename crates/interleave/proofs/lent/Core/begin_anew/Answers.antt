@@ -11,8 +11,8 @@ use Rattle.interleave.specs.State.{State, kept_tells}
 use Rattle.interleave.specs.Trace.{state_with}
 use Rattle.interleave.specs.Values.{value_of_place}
 use Rattle.interleave.specs.declared.queue.Queue.{Queue}
-use Rattle.interleave.proofs.CrashLaws.{state_same}
-use Rattle.interleave.proofs.Rotated.{holds_rotated, quiet_at}
+use Rattle.interleave.proofs.machine.Recoveries.{state_same}
+use Rattle.interleave.proofs.order.Rotations.{holds_rotated, quiet_at}
 use Rattle.interleave.proofs.lent.Core.begin_anew.Goals as goal
 
 pub returns-clause-world : goal.returns-clause-world

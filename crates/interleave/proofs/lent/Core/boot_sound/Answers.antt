@@ -16,8 +16,8 @@ use Rattle.interleave.specs.Ranges.{WordsFit}
 use Rattle.interleave.specs.Trace.{state_with}
 use Rattle.interleave.specs.Values.{value_of_place}
 use Rattle.interleave.specs.declared.queue.Queue.{Queue}
-use Rattle.interleave.proofs.BootLaws.{booted_fit, booted_tells, holds_booted}
-use Rattle.interleave.proofs.CrashLaws.{state_same}
+use Rattle.interleave.proofs.words.Boots.{booted_fit, booted_tells, holds_booted}
+use Rattle.interleave.proofs.machine.Recoveries.{state_same}
 use Rattle.interleave.proofs.lent.Core.boot_sound.Goals as goal
 
 pub content-requires : goal.content-requires

@@ -4,7 +4,7 @@ use Rattle.recover.specs.Table.{boot_recovery}
 use Rattle.interleave.specs.Core.{CoreState, state_of}
 use Rattle.interleave.specs.Holds.{Holds}
 use Rattle.interleave.specs.State.{world_over}
-use Rattle.interleave.proofs.UnusedLaws.{booted_unused, holds_unused}
+use Rattle.interleave.proofs.words.UnusedQueues.{booted_unused, holds_unused}
 use Rattle.interleave.proofs.lent.Core.boot_unused.Goals as goal
 
 pub returns-clause-booted : goal.returns-clause-booted

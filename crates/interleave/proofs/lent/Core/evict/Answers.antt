@@ -14,10 +14,11 @@ use Rattle.interleave.specs.State.{machine_of, evict_with}
 use Rattle.interleave.specs.Core.{CoreState, machine_over, state_of}
 use Rattle.interleave.specs.Holds.{Holds}
 use Rattle.interleave.specs.Trace.{Traced, with_effects}
-use Rattle.interleave.proofs.ByRule.{if_refused}
-use Rattle.interleave.proofs.EvictLaws.{no_word, refused_word, evicted_fit, noted_room, evicted_world, evicted_change}
-use Rattle.interleave.proofs.HoldsKept.{holds_after_evict}
-use Rattle.interleave.proofs.MachineFacts.{sequence_held}
+use Rattle.interleave.proofs.machine.Rules.{if_refused}
+use Rattle.interleave.proofs.machine.Evictions.{no_word, refused_word, evicted_fit, noted_room, evicted_world}
+use Rattle.interleave.proofs.machine.Evictions.{evicted_change}
+use Rattle.interleave.proofs.machine.Holding.{holds_after_evict}
+use Rattle.interleave.proofs.machine.Invariants.{sequence_held}
 use Rattle.interleave.proofs.lent.Core.evict.Goals as goal
 
 -- an eviction that is refused is of a word past the memory

@@ -3,7 +3,7 @@ use Rattle.persist.specs.Memory.{MemoryState}
 use Rattle.interleave.specs.Asked.{AreAsked, requests_of}
 use Rattle.interleave.specs.Core.{state_of}
 use Rattle.interleave.specs.State.{State}
-use Rattle.interleave.proofs.AskedKept.{asked_evicted, unasked_for}
+use Rattle.interleave.proofs.words.Requests.{asked_evicted, unasked_for}
 use Rattle.interleave.proofs.lent.Core.evict_in.Goals as goal
 
 pub returns-clause-holds : goal.returns-clause-holds

@@ -3,7 +3,7 @@ use Rattle.arena.specs.Shape.{Shape}
 use Rattle.interleave.specs.Core.{CoreState, state_of}
 use Rattle.interleave.specs.Holds.{Holds}
 use Rattle.interleave.specs.State.{world_over}
-use Rattle.interleave.proofs.OverLaws.{holds_over}
+use Rattle.interleave.proofs.words.ZeroWords.{holds_over}
 use Rattle.interleave.proofs.lent.Core.new.Goals as goal
 
 pub returns-clause-holds : goal.returns-clause-holds

@@ -1,7 +1,7 @@
 use Rattle.std.proofs.Common.{sym, ap, subst, ◌∙◌}
 use Rattle.arena.specs.Place.{IsPlace}
 use Rattle.interleave.specs.Core.{CoreState}
-use Rattle.interleave.proofs.NoteLaws.{place_of_word}
+use Rattle.interleave.proofs.machine.Effects.{place_of_word}
 use Rattle.interleave.proofs.lent.Core.note_change.Goals as goal
 
 pub notice-requires-clause-place : goal.notice-requires-clause-place

@@ -6,7 +6,7 @@ use Rattle.interleave.specs.Calls.{is_no_memory}
 use Rattle.interleave.specs.Core.{CoreState, state_of}
 use Rattle.words.specs.declared.limits.TheConstants.{RECOVERY_PORT}
 use Rattle.interleave.specs.State.{State, after_recover}
-use Rattle.interleave.proofs.AskedKept.{Returned, around_recovered, asked_recovered, returned}
+use Rattle.interleave.proofs.words.Requests.{Returned, around_recovered, asked_recovered, returned}
 use Rattle.interleave.proofs.lent.Core.recover_step_in.Goals as goal
 
 pub returns-clause-holds : goal.returns-clause-holds

@@ -8,17 +8,17 @@ use Rattle.stepper.specs.Step.{after_one, lent_after_one, value_found}
 use Rattle.recover.specs.Table.{access_of as recovery_access, recovery_after}
 use Rattle.recover.specs.declared.recovery.Recovery.{Recovery}
 use Rattle.protocol.specs.Machine.{next_recovery, recovery_left, recovery_events}
-use Rattle.protocol.proofs.worlds.Facts.{recovery_point}
+use Rattle.protocol.proofs.Facts.{recovery_point}
 use Rattle.interleave.specs.Core.{CoreState, core_with_room, state_of}
 use Rattle.interleave.specs.Holds.{Holds, from_invariant}
 use Rattle.interleave.specs.Recoveries.{MayRecover}
 use Rattle.interleave.specs.State.{State, machine, is_ready, queue_at_ready, recover_with, recover_result_with}
 use Rattle.interleave.specs.Trace.{state_with}
 use Rattle.interleave.specs.declared.queue.Queue.{Queue}
-use Rattle.interleave.proofs.CrashLaws.{left_by_recovery, recovery_some, of_some}
-use Rattle.interleave.proofs.HoldsKept.{recovery_reads, recovery_next, holds_after_recover}
-use Rattle.interleave.proofs.MachineFacts.{room_held}
-use Rattle.interleave.proofs.Noting.{act_noted}
+use Rattle.interleave.proofs.machine.Recoveries.{left_by_recovery, recovery_some, of_some}
+use Rattle.interleave.proofs.machine.Holding.{recovery_reads, recovery_next, holds_after_recover}
+use Rattle.interleave.proofs.machine.Invariants.{room_held}
+use Rattle.interleave.proofs.machine.Changes.{act_noted}
 use Rattle.interleave.proofs.lent.Core.recover_step_noted.Goals as goal
 
 pub reserve-requires : goal.reserve-requires

@@ -4,7 +4,7 @@ use Rattle.interleave.specs.Calls.{is_no_memory}
 use Rattle.interleave.specs.Core.{state_of}
 use Rattle.interleave.specs.Rotation.{after_rotation, rotate_result}
 use Rattle.interleave.specs.State.{State}
-use Rattle.interleave.proofs.Rotated.{refused_so}
+use Rattle.interleave.proofs.order.Rotations.{refused_so}
 use Rattle.interleave.proofs.lent.Core.rotate.Goals as goal
 
 pub returns-in_err-base-clause-result : goal.returns-in_err-base-clause-result

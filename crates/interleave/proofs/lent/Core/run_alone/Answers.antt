@@ -7,11 +7,12 @@ use Rattle.interleave.specs.Calls.{answer_of, is_no_memory}
 use Rattle.interleave.specs.Core.{CoreState, state_of}
 use Rattle.interleave.specs.Holds.{Holds}
 use Rattle.interleave.specs.Rules.{waiting_in}
-use Rattle.interleave.specs.State.{State, machine, after_one_access, after_step, after_alone, IsAnsweredAlone, step_result}
-use Rattle.interleave.proofs.AskedKept.{own_stepped}
-use Rattle.interleave.proofs.AloneLaws.{left_in, left_few, step_is, answer_is, goes_on}
-use Rattle.interleave.proofs.HoldsKept.{waiting_is}
-use Rattle.interleave.proofs.MachineFacts.{room_held}
+use Rattle.interleave.specs.State.{State, machine, after_one_access, after_step, after_alone, IsAnsweredAlone}
+use Rattle.interleave.specs.State.{step_result}
+use Rattle.interleave.proofs.words.Requests.{own_stepped}
+use Rattle.interleave.proofs.runs.AloneCalls.{left_in, left_few, step_is, answer_is, goes_on}
+use Rattle.interleave.proofs.machine.Holding.{waiting_is}
+use Rattle.interleave.proofs.machine.Invariants.{room_held}
 use Rattle.interleave.proofs.lent.Core.run_alone.Goals as goal
 
 pub reserve-requires : goal.reserve-requires

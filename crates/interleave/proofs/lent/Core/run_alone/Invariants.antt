@@ -5,7 +5,7 @@ use Rattle.interleave.specs.Asked.{IfCallAsked, lent_after_alone}
 use Rattle.interleave.specs.Core.{state_of}
 use Rattle.interleave.specs.Holds.{Holds}
 use Rattle.interleave.specs.State.{after_alone}
-use Rattle.interleave.proofs.AloneLaws.{left_in}
+use Rattle.interleave.proofs.runs.AloneCalls.{left_in}
 use Rattle.interleave.proofs.lent.Core.run_alone.Given as goal
 
 -- the call goes on, with as many steps made and left as there are at most, and did not answer yet

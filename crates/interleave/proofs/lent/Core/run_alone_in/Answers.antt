@@ -10,7 +10,7 @@ use Rattle.words.specs.declared.call.Reply.{Reply}
 use Rattle.words.specs.declared.refusal.Refusal.{Refusal}
 use Rattle.interleave.specs.Rules.{IsByAlone}
 use Rattle.interleave.specs.State.{State, after_alone}
-use Rattle.interleave.proofs.AskedKept.{Returned, around_alone, asked_alone, asked_same, returned, all_same}
+use Rattle.interleave.proofs.words.Requests.{Returned, around_alone, asked_alone, asked_same, returned, all_same}
 use Rattle.interleave.proofs.lent.Core.run_alone_in.Goals as goal
 
 -- what is asked for once the call was answered, or refused

@@ -6,7 +6,7 @@ use Rattle.interleave.specs.Calls.{is_no_memory}
 use Rattle.interleave.specs.Core.{state_of}
 use Rattle.interleave.specs.Holds.{Holds}
 use Rattle.interleave.specs.State.{State, after_start}
-use Rattle.interleave.proofs.HoldsKept.{call_fits, holds_after_start}
+use Rattle.interleave.proofs.machine.Holding.{call_fits, holds_after_start}
 use Rattle.interleave.proofs.lent.Core.start.Goals as goal
 
 pub returns-clause-holds : goal.returns-clause-holds

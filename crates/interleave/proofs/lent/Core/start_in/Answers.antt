@@ -4,7 +4,7 @@ use Rattle.interleave.specs.Asked.{AreAsked, requests_of}
 use Rattle.interleave.specs.Calls.{is_no_memory}
 use Rattle.interleave.specs.Core.{state_of}
 use Rattle.interleave.specs.State.{State}
-use Rattle.interleave.proofs.AskedKept.{asked_started, unasked_for}
+use Rattle.interleave.proofs.words.Requests.{asked_started, unasked_for}
 use Rattle.interleave.proofs.lent.Core.start_in.Goals as goal
 
 pub returns-clause-holds : goal.returns-clause-holds

@@ -6,7 +6,7 @@ use Rattle.interleave.specs.Calls.{is_no_memory}
 use Rattle.interleave.specs.Core.{CoreState, roomy_over, state_of}
 use Rattle.interleave.specs.Rules.{stepping, IsByRule}
 use Rattle.interleave.specs.State.{State, after_step}
-use Rattle.interleave.proofs.AskedKept.{Returned, around_stepped, asked_stepped, returned}
+use Rattle.interleave.proofs.words.Requests.{Returned, around_stepped, asked_stepped, returned}
 use Rattle.interleave.proofs.lent.Core.step_in.Goals as goal
 
 pub returns-clause-by_rule : goal.returns-clause-by_rule

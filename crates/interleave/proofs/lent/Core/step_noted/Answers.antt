@@ -7,7 +7,7 @@ use Rattle.words.specs.declared.refusal.Refusal.{Refusal}
 use Rattle.helping.specs.Table.{access_of}
 use Rattle.protocol.specs.Machine.{effects_after, next_of}
 use Rattle.protocol.specs.declared.UnderWay.{UnderWay}
-use Rattle.protocol.proofs.worlds.Facts.{step_room}
+use Rattle.protocol.proofs.Facts.{step_room}
 use Rattle.interleave.specs.Asked.{lent_with}
 use Rattle.interleave.specs.Calls.{answer_of}
 use Rattle.interleave.specs.Core.{CoreState, machine_over, state_of}
@@ -17,12 +17,12 @@ use Rattle.interleave.specs.Queue.{after_return}
 use Rattle.interleave.specs.State.{after_step, machine, queue_left, step_result_with, step_with}
 use Rattle.interleave.specs.Trace.{state_with}
 use Rattle.interleave.specs.declared.queue.Queue.{Queue}
-use Rattle.interleave.proofs.CallLaws.{call_there, of_call, the_call}
-use Rattle.interleave.proofs.HoldsKept.{holds_after_step, may_step, waiting_is}
-use Rattle.interleave.proofs.MachineFacts.{room_held, sequence_held}
-use Rattle.interleave.proofs.Noting.{act_noted}
-use Rattle.interleave.proofs.Safety.{call_fits}
-use Rattle.interleave.proofs.Stepping.{queue_answered, queue_still, stepped_rest}
+use Rattle.interleave.proofs.machine.Calls.{call_there, of_call, the_call}
+use Rattle.interleave.proofs.machine.Holding.{holds_after_step, may_step, waiting_is}
+use Rattle.interleave.proofs.machine.Invariants.{room_held, sequence_held}
+use Rattle.interleave.proofs.machine.Changes.{act_noted}
+use Rattle.interleave.proofs.words.Ranges.{call_fits}
+use Rattle.interleave.proofs.machine.Steps.{queue_answered, queue_still, stepped_rest}
 use Rattle.interleave.proofs.lent.Core.step_noted.Goals as goal
 
 pub reserve-requires : goal.reserve-requires

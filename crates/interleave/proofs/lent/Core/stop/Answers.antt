@@ -3,7 +3,7 @@ use Rattle.persist.specs.Memory.{words_after_crash}
 use Rattle.interleave.specs.Core.{CoreState, state_of}
 use Rattle.interleave.specs.Holds.{Holds}
 use Rattle.interleave.specs.State.{after_stop}
-use Rattle.interleave.proofs.HoldsKept.{holds_after_crash}
+use Rattle.interleave.proofs.machine.Holding.{holds_after_crash}
 use Rattle.interleave.proofs.lent.Core.stop.Goals as goal
 
 pub returns-clause-holds : goal.returns-clause-holds

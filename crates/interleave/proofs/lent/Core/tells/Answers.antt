@@ -2,10 +2,10 @@ use Rattle.std.proofs.Common.{◌≡◌, ℕ, List, ap, ◌∙◌, sym}
 use Rattle.arena.specs.Shape.{Shape}
 use Rattle.recover.specs.Kept.{kept_in}
 use Rattle.recover.specs.Told.{tells_by}
-use Rattle.recover.proofs.AlikeTold.{tells_like}
+use Rattle.recover.proofs.Facts.{tells_like}
 use Rattle.interleave.specs.Core.{CoreState}
 use Rattle.interleave.specs.Values.{value_of_place}
-use Rattle.interleave.proofs.ValueLaws.{shown_at}
+use Rattle.interleave.proofs.words.Values.{shown_at}
 use Rattle.interleave.proofs.lent.Core.tells.Goals as goal
 
 pub returns : goal.returns

@@ -7,7 +7,8 @@ use Rattle.interleave.specs.Calls.{is_no_memory}
 use Rattle.interleave.specs.Holds.{Holds}
 use Rattle.interleave.specs.State.{after_attempt, is_accepted_with}
 use Rattle.interleave.specs.Trace.{Roomy}
-use Rattle.interleave.proofs.HoldsKept.{call_fits, holds_after_start, holds_after_step, holds_after_evict, holds_after_crash, holds_after_recover}
+use Rattle.interleave.proofs.machine.Holding.{call_fits, holds_after_start, holds_after_step, holds_after_evict}
+use Rattle.interleave.proofs.machine.Holding.{holds_after_crash, holds_after_recover}
 use Rattle.interleave.proofs.world.World.act.Goals as goal
 
 pub returns-in-Start-clause-attempt : goal.returns-in-Start-clause-attempt

@@ -5,7 +5,7 @@ use Rattle.interleave.specs.Booted.{booted_world}
 use Rattle.interleave.specs.Core.{state_of}
 use Rattle.interleave.specs.Holds.{Holds}
 use Rattle.interleave.specs.State.{State}
-use Rattle.interleave.proofs.AskedKept.{asked_at_boot}
+use Rattle.interleave.proofs.words.Requests.{asked_at_boot}
 use Rattle.interleave.proofs.world.World.boot.Goals as goal
 
 pub invariant_of-result : goal.invariant_of-result

@@ -7,11 +7,11 @@ use Rattle.interleave.specs.Holds.{Holds}
 use Rattle.interleave.specs.Rules.{GoesOnExplained, IsByRule, crashing}
 use Rattle.interleave.specs.State.{State, after_stop, kept_content, kept_tells, order_in}
 use Rattle.interleave.specs.Trace.{Roomy}
-use Rattle.interleave.proofs.AskedKept.{asked_at_boot}
-use Rattle.interleave.proofs.ByRule.{goes_on_explained}
-use Rattle.interleave.proofs.HoldsKept.{holds_after_crash, part_after_crash}
-use Rattle.interleave.proofs.KeptTells.{tells_crashed}
-use Rattle.interleave.proofs.MachineFacts.{room_held}
+use Rattle.interleave.proofs.words.Requests.{asked_at_boot}
+use Rattle.interleave.proofs.machine.Rules.{goes_on_explained}
+use Rattle.interleave.proofs.machine.Holding.{holds_after_crash, part_after_crash}
+use Rattle.interleave.proofs.words.KeptWords.{tells_crashed}
+use Rattle.interleave.proofs.machine.Invariants.{room_held}
 use Rattle.interleave.proofs.world.World.crash.Goals as goal
 
 pub crash-requires : goal.crash-requires

@@ -5,8 +5,8 @@ use Rattle.interleave.specs.Core.{roomy_over}
 use Rattle.interleave.specs.Rules.{GoesOnExplained, IsByRule, evicting}
 use Rattle.interleave.specs.State.{State, is_down, kept_content, kept_tells, steps_to_ready}
 use Rattle.interleave.specs.Trace.{Roomy}
-use Rattle.interleave.proofs.ByRule.{goes_on_explained}
-use Rattle.interleave.proofs.KeptTells.{left_evicted, tells_evicted}
+use Rattle.interleave.proofs.machine.Rules.{goes_on_explained}
+use Rattle.interleave.proofs.words.KeptWords.{left_evicted, tells_evicted}
 use Rattle.interleave.proofs.world.World.evict.Goals as goal
 
 pub returns-clause-by_rule : goal.returns-clause-by_rule

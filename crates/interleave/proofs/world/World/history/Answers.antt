@@ -3,7 +3,7 @@ use Rattle.interleave.specs.Holds.{Holds, IsExplained}
 use Rattle.interleave.specs.Core.{state_of}
 use Rattle.interleave.specs.State.{State}
 use Rattle.interleave.specs.Trace.{Roomy}
-use Rattle.interleave.proofs.HoldsKept.{explained_world}
+use Rattle.interleave.proofs.machine.Holding.{explained_world}
 use Rattle.interleave.proofs.world.World.history.Goals as goal
 
 pub returns-clause-explained : goal.returns-clause-explained

@@ -4,7 +4,7 @@ use Rattle.arena.specs.Layout.{size_of}
 use Rattle.arena.specs.Shape.{Shape}
 use Rattle.interleave.specs.Ranges.{AreUnused}
 use Rattle.interleave.specs.State.{world_over}
-use Rattle.interleave.proofs.Unused.{zero_words_are_unused}
+use Rattle.interleave.proofs.words.UnusedWords.{zero_words_are_unused}
 use Rattle.interleave.proofs.world.World.make.Goals as goal
 
 pub over-requires : goal.over-requires

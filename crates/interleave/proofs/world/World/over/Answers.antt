@@ -2,7 +2,7 @@ use Rattle.std.proofs.Common.{◌≡◌, sym, subst}
 use Rattle.interleave.specs.Asked.{AreAsked, requests_of}
 use Rattle.interleave.specs.Core.{state_of}
 use Rattle.interleave.specs.State.{State, world_over}
-use Rattle.interleave.proofs.AskedKept.{asked_at_first}
+use Rattle.interleave.proofs.words.Requests.{asked_at_first}
 use Rattle.interleave.proofs.world.World.over.Goals as goal
 
 pub invariant_of-result : goal.invariant_of-result

@@ -4,13 +4,14 @@ use Rattle.protocol.specs.declared.acts.Act.TheVariants.{Recover}
 use Rattle.interleave.specs.Calls.{is_no_memory}
 use Rattle.interleave.specs.Core.{roomy_over}
 use Rattle.interleave.specs.Rules.{GoesOnExplained, IsByRule, recovering}
-use Rattle.interleave.specs.State.{State, after_recover, kept_content, kept_tells, most_to_ready, order_in, steps_to_ready}
+use Rattle.interleave.specs.State.{State, after_recover, kept_content, kept_tells, most_to_ready, order_in}
+use Rattle.interleave.specs.State.{steps_to_ready}
 use Rattle.interleave.specs.Trace.{Roomy}
 use Rattle.interleave.specs.Telling.{IsToldAtReady}
-use Rattle.interleave.proofs.ActLaws.{told_at_ready}
-use Rattle.interleave.proofs.ByRule.{goes_on_explained}
-use Rattle.interleave.proofs.HoldsKept.{part_after_recover}
-use Rattle.interleave.proofs.KeptTells.{falls_on, few_to_ready, tells_on}
+use Rattle.interleave.proofs.machine.Outcomes.{told_at_ready}
+use Rattle.interleave.proofs.machine.Rules.{goes_on_explained}
+use Rattle.interleave.proofs.machine.Holding.{part_after_recover}
+use Rattle.interleave.proofs.words.KeptWords.{falls_on, few_to_ready, tells_on}
 use Rattle.interleave.proofs.world.World.recover_step.Goals as goal
 
 pub returns-clause-by_rule : goal.returns-clause-by_rule

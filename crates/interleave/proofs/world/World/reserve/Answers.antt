@@ -1,4 +1,4 @@
-use Rattle.interleave.proofs.MachineFacts.{room_held}
+use Rattle.interleave.proofs.machine.Invariants.{room_held}
 use Rattle.interleave.proofs.world.World.reserve.Goals as goal
 
 pub reserve-requires : goal.reserve-requires

@@ -6,11 +6,11 @@ use Rattle.interleave.specs.Holds.{Holds, IsExplained}
 use Rattle.interleave.specs.Rotation.{after_rotate, rotate_result, IsHandedOn}
 use Rattle.interleave.specs.State.{IsKeptSound, State, kept_content, kept_tells}
 use Rattle.interleave.specs.Trace.{Roomy}
-use Rattle.interleave.proofs.AskedKept.{asked_rotated}
-use Rattle.interleave.proofs.HoldsKept.{explained_world}
-use Rattle.interleave.proofs.KeptTells.{kept_sound}
-use Rattle.interleave.proofs.ActLaws.{rotated}
-use Rattle.interleave.proofs.Rotated.{holds_after_rotate, tells_rotated}
+use Rattle.interleave.proofs.words.Requests.{asked_rotated}
+use Rattle.interleave.proofs.machine.Holding.{explained_world}
+use Rattle.interleave.proofs.words.KeptWords.{kept_sound}
+use Rattle.interleave.proofs.machine.Outcomes.{rotated}
+use Rattle.interleave.proofs.order.Rotations.{holds_after_rotate, tells_rotated}
 use Rattle.interleave.proofs.world.World.rotate.Goals as goal
 
 pub rotate-requires-clause-fit : goal.rotate-requires-clause-fit

@@ -6,9 +6,9 @@ use Rattle.interleave.specs.Holds.{Holds}
 use Rattle.interleave.specs.Runs.{IsAttempt}
 use Rattle.interleave.specs.State.{State, count_of}
 use Rattle.interleave.specs.Trace.{Roomy}
-use Rattle.interleave.proofs.HoldsKept.{explained_world}
-use Rattle.interleave.proofs.KeptTells.{kept_sound}
-use Rattle.interleave.proofs.RunLaws.{SoFar, none_so_far, one_more, ended}
+use Rattle.interleave.proofs.machine.Holding.{explained_world}
+use Rattle.interleave.proofs.words.KeptWords.{kept_sound}
+use Rattle.interleave.proofs.runs.Attempts.{SoFar, none_so_far, one_more, ended}
 use mir.Val.{bool_byte}
 use Rattle.interleave.proofs.world.World.run.Goals as goal
 

@@ -1,6 +1,6 @@
 use Rattle.std.proofs.Common.{◌≡◌, ◌+◌, ◌≤◌, take}
 use Rattle.interleave.specs.Holds.{Holds}
-use Rattle.interleave.proofs.RunLaws.{SoFar}
+use Rattle.interleave.proofs.runs.Attempts.{SoFar}
 use Rattle.interleave.proofs.world.World.run.Given as goal
 
 -- how the acts so far went

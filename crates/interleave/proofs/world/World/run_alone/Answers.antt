@@ -6,9 +6,9 @@ use Rattle.interleave.specs.Rules.{GoesOnExplained, IsByAlone}
 use Rattle.interleave.specs.State.{State}
 use Rattle.interleave.specs.Trace.{Roomy}
 use Rattle.interleave.specs.Turn.{IsInTurn, IsServedAlone}
-use Rattle.interleave.proofs.AloneServed.{goes_on_after_alone, served_after_alone}
-use Rattle.interleave.proofs.HoldsKept.{explained_world}
-use Rattle.interleave.proofs.KeptTells.{kept_sound}
+use Rattle.interleave.proofs.runs.AloneReplies.{goes_on_after_alone, served_after_alone}
+use Rattle.interleave.proofs.machine.Holding.{explained_world}
+use Rattle.interleave.proofs.words.KeptWords.{kept_sound}
 use Rattle.interleave.proofs.world.World.run_alone.Goals as goal
 
 pub returns-clause-alone : goal.returns-clause-alone

@@ -10,10 +10,10 @@ use Rattle.interleave.specs.State.{State, order_in}
 use Rattle.interleave.specs.Trace.{Roomy}
 use Rattle.interleave.specs.Reuse.{EarlierLeftNothing}
 use Rattle.interleave.specs.Turn.{IsInTurn, NobodyCalls}
-use Rattle.interleave.proofs.ByRule.{goes_on_explained}
-use Rattle.interleave.proofs.HoldsKept.{call_fits, explained_world, part_after_start}
-use Rattle.interleave.proofs.Reused.{reused_left_nothing}
-use Rattle.interleave.proofs.TurnLaws.{started_in_turn}
+use Rattle.interleave.proofs.machine.Rules.{goes_on_explained}
+use Rattle.interleave.proofs.machine.Holding.{call_fits, explained_world, part_after_start}
+use Rattle.interleave.proofs.records.Reuse.{reused_left_nothing}
+use Rattle.interleave.proofs.order.TurnReplies.{started_in_turn}
 use Rattle.interleave.proofs.world.World.start.Goals as goal
 
 pub returns-clause-by_rule : goal.returns-clause-by_rule

@@ -4,7 +4,7 @@ use Rattle.interleave.specs.Calls.{is_no_memory}
 use Rattle.interleave.specs.Core.{roomy_over}
 use Rattle.interleave.specs.Rules.{GoesOnExplained, IsByRule, stepping}
 use Rattle.interleave.specs.Trace.{Roomy}
-use Rattle.interleave.proofs.ByRule.{goes_on_explained}
+use Rattle.interleave.proofs.machine.Rules.{goes_on_explained}
 use Rattle.interleave.proofs.world.World.step.Goals as goal
 
 pub returns-clause-by_rule : goal.returns-clause-by_rule

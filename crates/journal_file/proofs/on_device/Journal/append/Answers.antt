@@ -2,7 +2,7 @@ use Rattle.std.proofs.Common.{◌≡◌, ◌+◌, ◌++◌, true, false, length,
 use Rattle.std.specs.Io.KnownBytes.{append_known}
 use Rattle.persist.specs.Noted.{applied}
 use Rattle.journal.specs.Journal.{End}
-use Rattle.journal.proofs.FramesRead.{length-applied}
+use Rattle.journal.proofs.Facts.{length-applied}
 use Rattle.journal_file.specs.Appended.{AppendsPart}
 use Rattle.journal_file.specs.OnDevice.{HasMore, HasNoMore, OnDevice}
 use Rattle.journal_file.proofs.Steps.{append_done, append_failed, on, refused, size_of_words, written}

@@ -4,7 +4,7 @@ use Rattle.recover.specs.Sound.{AreSoundWords}
 use Rattle.interleave.specs.Core.{state_of}
 use Rattle.interleave.specs.Rotation.{after_rotation, rotate_result}
 use Rattle.interleave.specs.State.{State}
-use Rattle.interleave.proofs.KeptTells.{kept_sound}
+use Rattle.interleave.proofs.Facts.{kept_sound}
 use Rattle.named.specs.Blocks.{BlockState, IsWellIn, state_in}
 use Rattle.named.proofs.block.Block.begin_anew.Goals as goal
 

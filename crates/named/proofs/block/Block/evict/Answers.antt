@@ -6,9 +6,9 @@ use Rattle.interleave.specs.Core.{state_of}
 use Rattle.interleave.specs.Holds.{Holds}
 use Rattle.interleave.specs.State.{State, after_evict, evict_result}
 use Rattle.named.specs.Blocks.{BlockState, IsAskedIn, IsWellIn, IsWithinBlock, state_in}
-use Rattle.named.proofs.Evicted.{change_there, result_evicted, whole_evicted, within_block, words_evicted}
-use Rattle.named.proofs.Stays.{evict_alike}
-use Rattle.named.proofs.Windows.{ActedIn, Window, evicted_in, left_within, through_first, with_core}
+use Rattle.named.proofs.acts.Evictions.{change_there, result_evicted, whole_evicted, within_block, words_evicted}
+use Rattle.named.proofs.acts.Shapes.{evict_alike}
+use Rattle.named.proofs.acts.Windows.{ActedIn, Window, evicted_in, left_within, through_first, with_core}
 use Rattle.named.proofs.block.Block.evict.Goals as goal
 
 pub evict-requires : goal.evict-requires

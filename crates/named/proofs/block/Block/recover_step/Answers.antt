@@ -11,10 +11,10 @@ use Rattle.interleave.specs.Calls.{is_no_memory}
 use Rattle.interleave.specs.Core.{state_of}
 use Rattle.interleave.specs.Holds.{Holds}
 use Rattle.interleave.specs.Rules.{recovering}
-use Rattle.interleave.proofs.AskedKept.{around_recovered}
+use Rattle.interleave.proofs.Facts.{around_recovered}
 use Rattle.named.specs.Blocks.{BlockState, IsActIn, IsAskedIn, IsWellIn, state_in}
-use Rattle.named.proofs.Stays.{recovered_shape}
-use Rattle.named.proofs.Windows.{Window, act_in, noted_in, number_fits, recovered_in, with_core}
+use Rattle.named.proofs.acts.Shapes.{recovered_shape}
+use Rattle.named.proofs.acts.Windows.{Window, act_in, noted_in, number_fits, recovered_in, with_core}
 use Rattle.named.proofs.block.Block.recover_step.Goals as goal
 
 pub recover_step_noted-recovered-requires-clause-holds : goal.recover_step_noted-recovered-requires-clause-holds

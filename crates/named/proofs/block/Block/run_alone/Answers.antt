@@ -5,8 +5,8 @@ use Rattle.interleave.specs.Asked.{IfCallAsked}
 use Rattle.interleave.specs.Core.{state_of}
 use Rattle.interleave.specs.Holds.{Holds}
 use Rattle.named.specs.Blocks.{BlockState, IsAloneIn, IsAskedIn, IsWellIn, state_in}
-use Rattle.named.proofs.Stays.{alone_alike_by}
-use Rattle.named.proofs.Windows.{Window, alone_act, alone_in, alone_lender, with_core}
+use Rattle.named.proofs.acts.Shapes.{alone_alike_by}
+use Rattle.named.proofs.acts.Windows.{Window, alone_act, alone_in, alone_lender, with_core}
 use Rattle.named.proofs.block.Block.run_alone.Goals as goal
 
 pub run_alone-requires-clause-holds : goal.run_alone-requires-clause-holds

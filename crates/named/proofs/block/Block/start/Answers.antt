@@ -8,8 +8,8 @@ use Rattle.interleave.specs.Rules.{starting}
 use Rattle.interleave.specs.State.{State}
 use Rattle.named.specs.Blocks.{BlockState, IsActIn, IsAskedIn, IsWellIn, state_in}
 use Rattle.persist.specs.Noted.{IsNoted}
-use Rattle.named.proofs.Stays.{start_alike, start_kept}
-use Rattle.named.proofs.Windows.{Window, act_in, noted_in, started_in, through_first, with_core}
+use Rattle.named.proofs.acts.Shapes.{start_alike, start_kept}
+use Rattle.named.proofs.acts.Windows.{Window, act_in, noted_in, started_in, through_first, with_core}
 use Rattle.named.proofs.block.Block.start.Goals as goal
 
 pub start-requires : goal.start-requires

@@ -12,10 +12,10 @@ use Rattle.interleave.specs.Core.{state_of}
 use Rattle.interleave.specs.Holds.{Holds}
 use Rattle.interleave.specs.Rules.{stepping}
 use Rattle.interleave.specs.State.{State}
-use Rattle.interleave.proofs.AskedKept.{around_stepped}
+use Rattle.interleave.proofs.Facts.{around_stepped}
 use Rattle.named.specs.Blocks.{BlockState, IsActIn, IsAskedIn, IsWellIn, state_in}
-use Rattle.named.proofs.Stays.{step_alike}
-use Rattle.named.proofs.Windows.{Window, act_in, noted_in, number_fits, stepped_in, with_core}
+use Rattle.named.proofs.acts.Shapes.{step_alike}
+use Rattle.named.proofs.acts.Windows.{Window, act_in, noted_in, number_fits, stepped_in, with_core}
 use Rattle.named.proofs.block.Block.step.Goals as goal
 
 pub step_noted-stepped-requires-clause-holds : goal.step_noted-stepped-requires-clause-holds

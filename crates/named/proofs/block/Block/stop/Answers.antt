@@ -3,7 +3,7 @@ use Rattle.persist.specs.Memory.{Words, words_after_crash, words_in}
 use Rattle.interleave.specs.State.{State, after_stop}
 use Rattle.named.specs.Blocks.{BlockState, IsWellIn, state_in, LieInOnePlace}
 use Rattle.named.specs.Slots.{}
-use Rattle.named.proofs.Crashed.{inside_kept}
+use Rattle.named.proofs.downtime.CrashedParts.{inside_kept}
 use Rattle.named.proofs.block.Block.stop.Goals as goal
 
 pub returns-clause-state : goal.returns-clause-state

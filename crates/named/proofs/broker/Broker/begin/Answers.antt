@@ -3,9 +3,9 @@ use Rattle.persist.specs.Memory.{Words}
 use Rattle.directory.specs.declared.recovery.DirectoryRecovery.{DirectoryRecovery}
 use Rattle.named.specs.Brokers.{Brokered, IsWell}
 use Rattle.named.specs.declared.recovery.BrokerRecovery.TheVariants.{ReadDirectory}
-use Rattle.named.proofs.Booted.{booted_well, booted_worlds, read_kept}
-use Rattle.named.proofs.Askings.{booted_asked}
-use Rattle.named.proofs.Promises.{promises_well}
+use Rattle.named.proofs.beginnings.Boots.{booted_well, booted_worlds, read_kept}
+use Rattle.named.proofs.acts.Requests.{booted_asked}
+use Rattle.named.proofs.promises.Promises.{promises_well}
 use Rattle.named.proofs.broker.Broker.begin.Goals as goal
 
 pub boot_each-requires-clause-kept : goal.boot_each-requires-clause-kept

@@ -10,11 +10,11 @@ use Rattle.named.specs.Renewing.{IsAnewFor, IsRenewedAt}
 use Rattle.named.specs.Rotating.{rotate_result}
 use Rattle.named.specs.Stopping.{booting}
 use Rattle.named.specs.declared.recovery.BrokerRecovery.TheVariants.{ReadDirectory}
-use Rattle.named.proofs.Anew.{anew_renewed, anew_well, anew_worlds}
-use Rattle.named.proofs.Askings.{booted_asked}
-use Rattle.named.proofs.Promises.{promises_well}
-use Rattle.named.proofs.RenewedAt.{idle}
-use Rattle.named.proofs.Roomy.{room_in_each}
+use Rattle.named.proofs.beginnings.FreshSlots.{anew_renewed, anew_well, anew_worlds}
+use Rattle.named.proofs.acts.Requests.{booted_asked}
+use Rattle.named.proofs.promises.Promises.{promises_well}
+use Rattle.named.proofs.beginnings.RenewedQueues.{idle}
+use Rattle.named.proofs.histories.Room.{room_in_each}
 use Rattle.named.proofs.broker.Broker.begin_anew.Goals as goal
 
 abbrev was : goal.After-drop-block-inside-3 → Brokered

@@ -1,6 +1,6 @@
 use Rattle.std.proofs.Common.{◌≡◌, refl, sym, subst}
 use Rattle.persist.specs.Memory.{Words}
-use Rattle.named.proofs.Booted.{booted_crashed}
+use Rattle.named.proofs.beginnings.Boots.{booted_crashed}
 use Rattle.named.proofs.broker.Broker.boot.Goals as goal
 
 pub begin-requires-clause-read : goal.begin-requires-clause-read

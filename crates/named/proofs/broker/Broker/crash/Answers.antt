@@ -11,11 +11,12 @@ use Rattle.named.specs.Stopping.{IsSameButRoom, IsStopped, booting}
 use Rattle.named.specs.declared.recovery.BrokerRecovery.{BrokerRecovery}
 use Rattle.named.specs.declared.recovery.BrokerRecovery.TheVariants.{ReadDirectory}
 use Rattle.named.specs.declared.slot.Slot.{Slot}
-use Rattle.named.proofs.Downtimes.{crash_downtime}
-use Rattle.named.proofs.GoingOn.{crash_goes_on, same_goes_on}
-use Rattle.named.proofs.Stopped.{few_in_each, rooms_roomier, rooms_stopped, well_roomier, well_stopped, worlds_roomier, worlds_stopped}
-use Rattle.named.proofs.Askings.{same_asked, stopped_asked}
-use Rattle.named.proofs.Promises.{promises_well}
+use Rattle.named.proofs.downtime.Steps.{crash_downtime}
+use Rattle.named.proofs.acts.Continuity.{crash_goes_on, same_goes_on}
+use Rattle.named.proofs.downtime.Crashes.{few_in_each, rooms_roomier, rooms_stopped, well_roomier, well_stopped}
+use Rattle.named.proofs.downtime.Crashes.{worlds_roomier, worlds_stopped}
+use Rattle.named.proofs.acts.Requests.{same_asked, stopped_asked}
+use Rattle.named.proofs.promises.Promises.{promises_well}
 use Rattle.named.proofs.broker.Broker.crash.Goals as goal
 
 pub reserve_each-requires : goal.reserve_each-requires

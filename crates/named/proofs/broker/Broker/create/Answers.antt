@@ -3,11 +3,11 @@ use Rattle.directory.specs.Directory.{HasName}
 use Rattle.directory.specs.declared.creation.Creation.{Creation}
 use Rattle.directory.specs.declared.queue.Queue.{Queue}
 use Rattle.named.specs.Brokers.{Brokered, IsWell}
-use Rattle.named.proofs.Begun.{begun_well}
-use Rattle.named.proofs.GoingOn.{begun_goes_on, broker_stays}
-use Rattle.named.proofs.Kept.{ready_there}
-use Rattle.named.proofs.Askings.{begun_asked}
-use Rattle.named.proofs.Promises.{promises_well}
+use Rattle.named.proofs.creations.Beginnings.{begun_well}
+use Rattle.named.proofs.acts.Continuity.{begun_goes_on, broker_stays}
+use Rattle.named.proofs.acts.OneSlot.{ready_there}
+use Rattle.named.proofs.acts.Requests.{begun_asked}
+use Rattle.named.proofs.promises.Promises.{promises_well}
 use Rattle.named.proofs.broker.Broker.create.Goals as goal
 
 pub invariant_of-self : goal.invariant_of-self

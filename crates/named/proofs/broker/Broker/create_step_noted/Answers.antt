@@ -2,7 +2,7 @@ use Rattle.std.proofs.Common.{◌≡◌, Option, length, Some, None, Ok, Result,
 use Rattle.persist.specs.Memory.{Access, Words}
 use Rattle.persist.specs.Noted.{IsNoted}
 use Rattle.persist.specs.declared.access.Change.{Change}
-use Rattle.persist.proofs.Noting.{accessed_noted}
+use Rattle.persist.proofs.Facts.{accessed_noted}
 use Rattle.arena.specs.Shape.{Counts, shape_of}
 use Rattle.arena.specs.declared.broker.BrokerPlace.{BrokerPlace}
 use Rattle.arena.specs.declared.broker.SlotId.{SlotId}
@@ -13,16 +13,18 @@ use Rattle.directory.specs.Creation.{access_of, successor}
 use Rattle.directory.specs.Step.{after_one, at_word, change_by}
 use Rattle.directory.specs.declared.creation.Creation.{Creation}
 use Rattle.interleave.specs.State.{world_over}
-use Rattle.named.specs.Brokers.{Brokered, IsOpened, IsStepCreated, IsWell, block_words, quiet, room_at, words_created, world_at, world_of}
-use Rattle.named.proofs.Opened.{others_done, others_more, rest, room_now, rooms_opened, unused, well_done, well_more, world_opened}
+use Rattle.named.specs.Brokers.{Brokered, IsOpened, IsStepCreated, IsWell, block_words, quiet, room_at, words_created}
+use Rattle.named.specs.Brokers.{world_at, world_of}
+use Rattle.named.proofs.creations.Steps.{others_done, others_more, rest, room_now, rooms_opened, unused, well_done}
+use Rattle.named.proofs.creations.Steps.{well_more, world_opened}
 use Rattle.named.specs.declared.recovery.BrokerRecovery.{BrokerRecovery}
-use Rattle.named.proofs.Downtimes.{creation_step_goes_on, made_goes_on}
-use Rattle.named.proofs.GoingOn.{broker_stays}
-use Rattle.named.proofs.Kept.{length_set, ready_there}
+use Rattle.named.proofs.downtime.Steps.{creation_step_goes_on, made_goes_on}
+use Rattle.named.proofs.acts.Continuity.{broker_stays}
+use Rattle.named.proofs.acts.OneSlot.{length_set, ready_there}
 use Rattle.named.specs.Asked.{IsWorldAsked}
 use Rattle.named.specs.Slots.{IfWorld}
-use Rattle.named.proofs.Askings.{creation_stepped, each_slot, new_asked, next_asked, none_asked_for}
-use Rattle.named.proofs.Promises.{promises_kept, promises_well}
+use Rattle.named.proofs.acts.Requests.{creation_stepped, each_slot, new_asked, next_asked, none_asked_for}
+use Rattle.named.proofs.promises.Promises.{promises_kept, promises_well}
 use Rattle.named.proofs.broker.Broker.create_step_noted.Goals as goal
 
 pub invariant_of-self : goal.invariant_of-self

@@ -2,19 +2,20 @@ use Rattle.std.proofs.Common.{rules, arith, ◌≡◌, ◌⊎◌, ℕ, inl, inr,
 use Rattle.std.proofs.lemmas.Option.{slice_get_read, slice_get_within}
 use Rattle.std.proofs.lemmas.Bool.{cases_eq}
 use Rattle.persist.specs.Memory.{Words, seen_whole, words_after_eviction}
-use Rattle.interleave.proofs.AloneLaws.{get_set}
+use Rattle.interleave.proofs.Facts.{get_set}
 use Rattle.named.specs.Evicting.{IsInNoBlock, world_evicted}
 use Rattle.named.specs.Slots.{acted}
 use Rattle.named.specs.Brokers.{Brokered, IsWell, room_at, room_of, world_at, world_of}
-use Rattle.named.proofs.GoingOn.{eviction_downtime}
-use Rattle.named.proofs.Lastings.{left_evicted}
-use Rattle.named.proofs.Kept.{get_set_other, others_stay, slot_is_well, slot_now, still_well}
-use Rattle.named.proofs.EvictedWell.{outside_evicted, well_before, word_of_block, worlds_before, worlds_past, worlds_within}
-use Rattle.persist.proofs.Requests.{lent_alike}
+use Rattle.named.proofs.acts.Continuity.{eviction_downtime}
+use Rattle.named.proofs.downtime.StepsLeft.{left_evicted}
+use Rattle.named.proofs.acts.OneSlot.{get_set_other, others_stay, slot_is_well, slot_now, still_well}
+use Rattle.named.proofs.acts.EvictionOutcomes.{outside_evicted, well_before, word_of_block, worlds_before, worlds_past}
+use Rattle.named.proofs.acts.EvictionOutcomes.{worlds_within}
+use Rattle.persist.proofs.Facts.{lent_alike}
 use Rattle.named.specs.Asked.{IfCreationAsked}
 use Rattle.named.specs.declared.broker.TheConstants.{CREATION_PORT}
-use Rattle.named.proofs.Askings.{acted_asked, creation_waits, evicted_asked, slot_asked_here}
-use Rattle.named.proofs.Promises.{promises_well}
+use Rattle.named.proofs.acts.Requests.{acted_asked, creation_waits, evicted_asked, slot_asked_here}
+use Rattle.named.proofs.promises.Promises.{promises_well}
 use Rattle.named.proofs.broker.Broker.evict.Goals as goal
 
 pub evict-requires-clause-well : goal.evict-requires-clause-well

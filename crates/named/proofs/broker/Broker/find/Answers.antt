@@ -1,7 +1,7 @@
 use Rattle.std.proofs.Common.{subst}
 use Rattle.std.specs.Prelude.{IfSome, IsSome}
 use Rattle.named.specs.Brokers.{Brokered, world_at}
-use Rattle.named.proofs.Begun.{found_open}
+use Rattle.named.proofs.creations.Beginnings.{found_open}
 use Rattle.named.proofs.broker.Broker.find.Goals as goal
 
 pub returns-clause-open : goal.returns-clause-open

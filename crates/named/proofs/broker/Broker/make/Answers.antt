@@ -1,9 +1,9 @@
 use Rattle.std.proofs.Common.{rules, ◌≡◌, sym, subst}
 use Rattle.arena.specs.Limits.{AreCounts}
 use Rattle.arena.specs.Shape.{Counts}
-use Rattle.named.proofs.Made.{new_well}
-use Rattle.named.proofs.Askings.{closed_asked}
-use Rattle.named.proofs.Promises.{promises_well}
+use Rattle.named.proofs.beginnings.NewBrokers.{new_well}
+use Rattle.named.proofs.acts.Requests.{closed_asked}
+use Rattle.named.proofs.promises.Promises.{promises_well}
 use Rattle.named.proofs.broker.Broker.make.Goals as goal
 
 pub invariant_of-result : goal.invariant_of-result

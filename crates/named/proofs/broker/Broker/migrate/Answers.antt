@@ -4,7 +4,7 @@ use Rattle.persist.specs.Memory.{Words, words_at_rest}
 use Rattle.arena.specs.declared.form.Form.TheVariants.{OfValues}
 use Rattle.migration.specs.Words.{broker_migrated}
 use Rattle.named.specs.Booting.{AreBootWordsIn, MayRefuse}
-use Rattle.named.proofs.Migrated.{migrated_boots, migrated_if, refused_as_old}
+use Rattle.named.proofs.beginnings.Migrations.{migrated_boots, migrated_if, refused_as_old}
 use Rattle.named.proofs.broker.Broker.migrate.Goals as goal
 
 pub returns-clause-migrated : goal.returns-clause-migrated

@@ -2,7 +2,7 @@ use Rattle.std.proofs.Common.{◌≡◌, ◌≤◌, ◌+◌, ◌*◌, ◌∙◌,
 use Rattle.arena.specs.Shape.{Counts, Shape}
 use Rattle.named.specs.Brokers.{Brokered}
 use Rattle.named.specs.Lasting.{steps_left}
-use Rattle.named.proofs.Mosts.{few_product, recovery_most}
+use Rattle.named.proofs.downtime.MostSteps.{few_product, recovery_most}
 use Rattle.named.proofs.broker.Broker.more_than_recovery_steps.Goals as goal
 
 pub overflow_mul-each : goal.overflow_mul-each

@@ -9,9 +9,10 @@ use Rattle.named.specs.Brokers.{Brokered, block_words, room_at, room_of}
 use Rattle.named.specs.Slots.{kind_in, room_in}
 use Rattle.named.specs.Stopping.{IsFound, IsFoundFirst, IsReadingDirectory, found_world}
 use Rattle.named.specs.declared.slot.Slot.{Slot}
-use Rattle.named.proofs.Askings.{down_asked, found_asked, opened_asked}
-use Rattle.named.proofs.Eaches.{rooms_kept}
-use Rattle.named.proofs.Founds.{closed, found_first, found_here, found_known, found_waits, is_free, is_new, known_found, known_open, some_dropped, unused, well_found}
+use Rattle.named.proofs.acts.Requests.{down_asked, found_asked, opened_asked}
+use Rattle.named.proofs.acts.Loops.{rooms_kept}
+use Rattle.named.proofs.creations.OpenGates.{closed, found_first, found_here, found_known, found_waits, is_free, is_new}
+use Rattle.named.proofs.creations.OpenGates.{known_found, known_open, some_dropped, unused, well_found}
 use Rattle.named.proofs.broker.Broker.open_found.Goals as goal
 
 pub returns-then-not-is_closed-clause-known : goal.returns-then-not-is_closed-clause-known

@@ -7,10 +7,10 @@ use Rattle.named.specs.Each.{EachBecame, HasMoreRoom}
 use Rattle.named.specs.Renewing.{IsAnewFor, IsWhyNotRenewedAt, MayRenew}
 use Rattle.named.specs.Rotating.{rotate_result}
 use Rattle.named.specs.declared.slot.Slot.{Slot}
-use Rattle.named.proofs.Promises.{boots_well, head_is, promises_kept}
-use Rattle.named.proofs.Renewed.{may_be_renewed}
-use Rattle.named.proofs.RenewedAt.{known, may_renew, rests_as, why_at}
-use Rattle.named.proofs.Roomy.{booted_few, booted_roomier}
+use Rattle.named.proofs.promises.Promises.{boots_well, head_is, promises_kept}
+use Rattle.named.proofs.beginnings.Renewals.{may_be_renewed}
+use Rattle.named.proofs.beginnings.RenewedQueues.{known, may_renew, rests_as, why_at}
+use Rattle.named.proofs.histories.Room.{booted_few, booted_roomier}
 use Rattle.named.proofs.broker.Broker.prepared.Goals as goal
 
 pub fresh_queue-requires : goal.fresh_queue-requires

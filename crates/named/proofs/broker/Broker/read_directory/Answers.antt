@@ -13,10 +13,10 @@ use Rattle.directory.specs.Recovering.{most_left}
 use Rattle.directory.specs.Recovery.{access_of}
 use Rattle.directory.specs.Step.{value_found}
 use Rattle.named.specs.Lasting.{left_after_read, left_at, most_kept, steps_left}
-use Rattle.persist.proofs.Requests.{lent_alike}
-use Rattle.named.proofs.Askings.{all_quiet_asked, recovery_asked}
-use Rattle.named.proofs.Lastings.{read_falls}
-use Rattle.named.proofs.Readings.{found_opens, found_over, may_read_on, read_over, well_loaded, worlds_loaded}
+use Rattle.persist.proofs.Facts.{lent_alike}
+use Rattle.named.proofs.acts.Requests.{all_quiet_asked, recovery_asked}
+use Rattle.named.proofs.downtime.StepsLeft.{read_falls}
+use Rattle.named.proofs.downtime.Readings.{found_opens, found_over, may_read_on, read_over, well_loaded, worlds_loaded}
 use Rattle.named.proofs.broker.Broker.read_directory.Goals as goal
 
 pub invariant_of-self : goal.invariant_of-self

@@ -8,11 +8,11 @@ use Rattle.named.specs.Brokers.{Brokered, IsReading, IsWell, is_ready_at}
 use Rattle.named.specs.Stopping.{IsNext, IsReadingDirectory, MayReadOn}
 use Rattle.named.specs.Lasting.{left_after_read, left_at, most_kept}
 use Rattle.named.specs.declared.recovery.BrokerRecovery.{BrokerRecovery}
-use Rattle.named.proofs.Lastings.{few_next, most_is_kept}
-use Rattle.named.proofs.Recovers.{tells_read, well_read, well_read_on}
-use Rattle.named.proofs.Recovers.{well_read, well_read_on}
-use Rattle.named.proofs.Askings.{left_asked}
-use Rattle.named.proofs.Promises.{promises_well}
+use Rattle.named.proofs.downtime.StepsLeft.{few_next, most_is_kept}
+use Rattle.named.proofs.downtime.DirectorySteps.{tells_read, well_read, well_read_on}
+use Rattle.named.proofs.downtime.DirectorySteps.{well_read, well_read_on}
+use Rattle.named.proofs.acts.Requests.{left_asked}
+use Rattle.named.proofs.promises.Promises.{promises_well}
 use Rattle.named.proofs.broker.Broker.read_on.Goals as goal
 
 pub invariant_of-self : goal.invariant_of-self

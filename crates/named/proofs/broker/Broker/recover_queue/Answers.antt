@@ -13,11 +13,12 @@ use Rattle.named.specs.declared.slot.Slot.{Slot}
 use Rattle.named.specs.Lasting.{left_at, steps_left}
 use Rattle.interleave.specs.Calls.{is_no_memory}
 use Rattle.named.specs.Slots.{room_in}
-use Rattle.named.proofs.Eaches.{rooms_after, rooms_kept}
-use Rattle.named.proofs.Kept.{others_stay, slot_is_well, slot_now}
-use Rattle.named.proofs.Queues.{HasSpent, falls_ready, falls_yet, full_here, its_slot, ready_by, recovered, recovering, tells_ready, well_ready, well_recovering}
-use Rattle.named.proofs.Askings.{acted_asked, creation_waits, left_asked, slot_asked_here}
-use Rattle.named.proofs.Promises.{promises_well}
+use Rattle.named.proofs.acts.Loops.{rooms_after, rooms_kept}
+use Rattle.named.proofs.acts.OneSlot.{others_stay, slot_is_well, slot_now}
+use Rattle.named.proofs.downtime.QueueSteps.{HasSpent, falls_ready, falls_yet, full_here, its_slot, ready_by, recovered}
+use Rattle.named.proofs.downtime.QueueSteps.{recovering, tells_ready, well_ready, well_recovering}
+use Rattle.named.proofs.acts.Requests.{acted_asked, creation_waits, left_asked, slot_asked_here}
+use Rattle.named.proofs.promises.Promises.{promises_well}
 use Rattle.named.proofs.broker.Broker.recover_queue.Goals as goal
 
 pub recover_step-requires : goal.recover_step-requires

@@ -5,10 +5,10 @@ use Rattle.directory.specs.declared.recovery.DirectoryRecovery.{DirectoryRecover
 use Rattle.named.specs.Brokers.{Brokered, IsWell}
 use Rattle.named.specs.Lasting.{most_kept, steps_left}
 use Rattle.named.specs.declared.recovery.BrokerRecovery.TheVariants.{ReadDirectory, RecoverQueue}
-use Rattle.named.proofs.Downtimes.{directory_downtime, queue_downtime}
-use Rattle.named.proofs.GoingOn.{nothing_downtime}
-use Rattle.named.proofs.Lastings.{few_left}
-use Rattle.named.proofs.Promises.{promises_kept}
+use Rattle.named.proofs.downtime.Steps.{directory_downtime, queue_downtime}
+use Rattle.named.proofs.acts.Continuity.{nothing_downtime}
+use Rattle.named.proofs.downtime.StepsLeft.{few_left}
+use Rattle.named.proofs.promises.Promises.{promises_kept}
 use Rattle.named.proofs.broker.Broker.recover_step_noted.Goals as goal
 
 pub returns-in-Some-RecoverQueue-clause-few : goal.returns-in-Some-RecoverQueue-clause-few

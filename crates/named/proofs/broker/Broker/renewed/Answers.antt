@@ -8,8 +8,9 @@ use Rattle.renewal.specs.Broker.{IsBrokerRenewalOf, broker_renewed}
 use Rattle.named.specs.Booting.{AreBootWords}
 use Rattle.named.specs.Brokers.{Brokered}
 use Rattle.named.specs.Renewing.{AreCountsFor, IsWhyUnrenewed}
-use Rattle.named.proofs.Promises.{boots_well}
-use Rattle.named.proofs.Renewed.{may_be_renewed, not_both, not_refused, renewed_boots, renewed_if, unfit, unfit_as, unrenewed_if}
+use Rattle.named.proofs.promises.Promises.{boots_well}
+use Rattle.named.proofs.beginnings.Renewals.{may_be_renewed, not_both, not_refused, renewed_boots, renewed_if, unfit}
+use Rattle.named.proofs.beginnings.Renewals.{unfit_as, unrenewed_if}
 use Rattle.named.proofs.broker.Broker.renewed.Goals as goal
 
 pub unreachable-requires : goal.unreachable-requires

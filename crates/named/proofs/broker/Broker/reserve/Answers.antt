@@ -4,11 +4,11 @@ use Rattle.std.proofs.lemmas.Option.{slice_get_read}
 use Rattle.interleave.specs.State.{State}
 use Rattle.named.specs.Slots.{IsWhyUnread, world_in}
 use Rattle.named.specs.Brokers.{Brokered, room_at, room_of, world_at, world_of}
-use Rattle.named.proofs.GoingOn.{same_goes_on, broker_stays}
-use Rattle.named.proofs.Kept.{get_set_other, slot_is_well, still_well}
-use Rattle.named.proofs.Reserved.{few, room_here, rooms_kept, same_outside, slot_reserved, worlds_same}
-use Rattle.named.proofs.Askings.{same_asked}
-use Rattle.named.proofs.Promises.{promises_kept, promises_well}
+use Rattle.named.proofs.acts.Continuity.{same_goes_on, broker_stays}
+use Rattle.named.proofs.acts.OneSlot.{get_set_other, slot_is_well, still_well}
+use Rattle.named.proofs.histories.Reservations.{few, room_here, rooms_kept, same_outside, slot_reserved, worlds_same}
+use Rattle.named.proofs.acts.Requests.{same_asked}
+use Rattle.named.proofs.promises.Promises.{promises_kept, promises_well}
 use Rattle.named.proofs.broker.Broker.reserve.Goals as goal
 
 pub reserve-requires : goal.reserve-requires

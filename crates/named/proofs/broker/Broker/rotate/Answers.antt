@@ -7,10 +7,10 @@ use Rattle.words.specs.declared.refusal.Refusal.TheVariants.{NotReady}
 use Rattle.named.specs.Brokers.{Brokered, IsWell, room_at, room_of, world_at, world_of}
 use Rattle.named.specs.Rotating.{AreBegunAnew, AreQuiet, IsRotated, has_calls_in}
 use Rattle.named.specs.declared.slot.Slot.{Slot}
-use Rattle.named.proofs.Kept.{ready_there}
-use Rattle.named.proofs.Askings.{rotated_asked}
-use Rattle.named.proofs.Promises.{promises_kept, promises_well}
-use Rattle.named.proofs.Rotated.{all_quiet, rotated_rooms, rotated_well, rotated_worlds}
+use Rattle.named.proofs.acts.OneSlot.{ready_there}
+use Rattle.named.proofs.acts.Requests.{rotated_asked}
+use Rattle.named.proofs.promises.Promises.{promises_kept, promises_well}
+use Rattle.named.proofs.histories.Rotations.{all_quiet, rotated_rooms, rotated_well, rotated_worlds}
 use Rattle.named.proofs.broker.Broker.rotate.Goals as goal
 
 pub prepare_each-requires : goal.prepare_each-requires

@@ -4,11 +4,11 @@ use Rattle.named.specs.Acting.{IsAloneAt, IsSameBeside}
 use Rattle.named.specs.Brokers.{Brokered, IsWell, admission}
 use Rattle.named.specs.GoingOn.{BrokerGoesOn}
 use Rattle.named.specs.declared.slot.Slot.{Slot}
-use Rattle.named.proofs.Acting.{alone_at, alone_on, nothing_beside, same_beside, still_over}
-use Rattle.named.proofs.Askings.{admitted_client, slot_asked_here}
-use Rattle.named.proofs.GoingOn.{broker_stays}
-use Rattle.named.proofs.Kept.{slot_is_well}
-use Rattle.named.proofs.Promises.{promises_kept, promises_well}
+use Rattle.named.proofs.acts.Acts.{alone_at, alone_on, nothing_beside, same_beside, still_over}
+use Rattle.named.proofs.acts.Requests.{admitted_client, slot_asked_here}
+use Rattle.named.proofs.acts.Continuity.{broker_stays}
+use Rattle.named.proofs.acts.OneSlot.{slot_is_well}
+use Rattle.named.proofs.promises.Promises.{promises_kept, promises_well}
 use Rattle.named.proofs.broker.Broker.run_alone.Goals as goal
 
 pub run_alone-requires : goal.run_alone-requires

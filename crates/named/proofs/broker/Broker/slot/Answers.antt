@@ -2,7 +2,7 @@ use Rattle.std.proofs.Common.{rules, ◌≡◌, ◌≤◌, ◌<◌, length, Some
 use Rattle.std.proofs.lemmas.Option.{slice_get_past, slice_get_read}
 use Rattle.named.specs.Brokers.{Brokered, world_at, world_of}
 use Rattle.named.specs.Slots.{IsSlotWell}
-use Rattle.named.proofs.Kept.{slot_is_well}
+use Rattle.named.proofs.acts.OneSlot.{slot_is_well}
 use Rattle.named.proofs.broker.Broker.slot.Goals as goal
 
 pub returns-in-Some-clause-well : goal.returns-in-Some-clause-well

@@ -6,11 +6,11 @@ use Rattle.named.specs.Acting.{IsActAt, IsSameBeside}
 use Rattle.named.specs.Brokers.{Brokered, IsWell, admission}
 use Rattle.named.specs.GoingOn.{BrokerGoesOn}
 use Rattle.named.specs.declared.slot.Slot.{Slot}
-use Rattle.named.proofs.Acting.{act_at, goes_on_at, nothing_beside, same_beside, still_over}
-use Rattle.named.proofs.Askings.{slot_asked_here}
-use Rattle.named.proofs.GoingOn.{broker_stays}
-use Rattle.named.proofs.Kept.{slot_is_well}
-use Rattle.named.proofs.Promises.{promises_kept, promises_well}
+use Rattle.named.proofs.acts.Acts.{act_at, goes_on_at, nothing_beside, same_beside, still_over}
+use Rattle.named.proofs.acts.Requests.{slot_asked_here}
+use Rattle.named.proofs.acts.Continuity.{broker_stays}
+use Rattle.named.proofs.acts.OneSlot.{slot_is_well}
+use Rattle.named.proofs.promises.Promises.{promises_kept, promises_well}
 use Rattle.named.proofs.broker.Broker.start.Goals as goal
 
 pub start-requires : goal.start-requires

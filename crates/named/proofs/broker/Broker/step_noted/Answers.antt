@@ -3,17 +3,17 @@ use Rattle.std.proofs.lemmas.Option.{slice_get_read, slice_get_within}
 use Rattle.persist.specs.Noted.{answer_in}
 use Rattle.protocol.specs.declared.acts.Act.TheVariants.{Step}
 use Rattle.interleave.specs.Rules.{stepping}
-use Rattle.interleave.proofs.AloneLaws.{get_set}
+use Rattle.interleave.proofs.Facts.{get_set}
 use Rattle.named.specs.Slots.{room_in}
 use Rattle.named.specs.Acting.{IsActAt, IsSameBeside}
 use Rattle.named.specs.Brokers.{Brokered, IsWell, admission, room_at, room_of}
 use Rattle.named.specs.GoingOn.{BrokerGoesOn}
 use Rattle.named.specs.declared.slot.Slot.{Slot}
-use Rattle.named.proofs.Acting.{act_at, goes_on_at, nothing_beside, same_beside, still_over}
-use Rattle.named.proofs.Askings.{admitted_client, slot_asked_here}
-use Rattle.named.proofs.GoingOn.{broker_stays}
-use Rattle.named.proofs.Kept.{slot_is_well}
-use Rattle.named.proofs.Promises.{promises_kept, promises_well}
+use Rattle.named.proofs.acts.Acts.{act_at, goes_on_at, nothing_beside, same_beside, still_over}
+use Rattle.named.proofs.acts.Requests.{admitted_client, slot_asked_here}
+use Rattle.named.proofs.acts.Continuity.{broker_stays}
+use Rattle.named.proofs.acts.OneSlot.{slot_is_well}
+use Rattle.named.proofs.promises.Promises.{promises_kept, promises_well}
 use Rattle.named.proofs.broker.Broker.step_noted.Goals as goal
 
 pub step-requires : goal.step-requires

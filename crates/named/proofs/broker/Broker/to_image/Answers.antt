@@ -1,7 +1,7 @@
 use Rattle.std.proofs.Common.{subst}
 use Rattle.named.specs.Booting.{AreBootWords}
 use Rattle.named.specs.Brokers.{Brokered}
-use Rattle.named.proofs.Promises.{boots_well}
+use Rattle.named.proofs.promises.Promises.{boots_well}
 use Rattle.named.proofs.broker.Broker.to_image.Goals as goal
 
 pub returns-clause-boots : goal.returns-clause-boots

@@ -1,4 +1,4 @@
-use Rattle.named.proofs.Promises.{promises_kept}
+use Rattle.named.proofs.promises.Promises.{promises_kept}
 use Rattle.named.proofs.broker.Broker.told.Goals as goal
 
 pub returns-in_err-admit-clause-promises : goal.returns-in_err-admit-clause-promises

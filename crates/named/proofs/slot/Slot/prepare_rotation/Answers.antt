@@ -1,6 +1,6 @@
 use Rattle.std.proofs.Common.{subst}
 use Rattle.named.specs.Rotating.{IsQuietIn}
-use Rattle.named.proofs.Rotated.{for_memory}
+use Rattle.named.proofs.histories.Rotations.{for_memory}
 use Rattle.named.proofs.slot.Slot.prepare_rotation.Goals as goal
 
 pub returns-in-Open-clause-errors : goal.returns-in-Open-clause-errors

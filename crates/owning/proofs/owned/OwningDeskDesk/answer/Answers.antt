@@ -3,7 +3,7 @@ use Rattle.wire.specs.declared.request.Request.{Request}
 use Rattle.owning.specs.Serving.{Owned}
 use Rattle.arena.specs.Shape.{Counts}
 use Rattle.desk.specs.Requests.{NamesNoClient}
-use Rattle.desk.proofs.Keeping.{answered_more}
+use Rattle.desk.proofs.Facts.{answered_more}
 use Rattle.owning.proofs.Fitting.{answer_fits, none_is_told}
 use Rattle.owning.proofs.Going.{goes_further}
 use Rattle.owning.proofs.Leading.{leads_more}

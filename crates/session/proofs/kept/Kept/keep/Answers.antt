@@ -1,7 +1,7 @@
 use Rattle.std.proofs.Common.{◌<◌, List, Option, Some, slice_index_or, slice_set, length, [], subst, arith}
 use Rattle.words.specs.declared.told.Verdict.{Verdict}
 use Rattle.session.specs.Keeping.{IsKeptNow}
-use Rattle.session.proofs.Places.{kept_now}
+use Rattle.session.proofs.answers.Places.{kept_now}
 use Rattle.session.proofs.kept.Kept.keep.Goals as goal
 
 pub returns : goal.returns

@@ -2,7 +2,7 @@ use Rattle.std.proofs.Common.{rules, inl, inr, List, [], Option, None, slice_ind
 use Rattle.words.specs.declared.told.Verdict.{Verdict}
 use Rattle.std.proofs.lemmas.Bool.{cases_lt}
 use Rattle.std.proofs.lemmas.List.{get_or_past}
-use Rattle.session.proofs.Places.{one_more_place}
+use Rattle.session.proofs.answers.Places.{one_more_place}
 use Rattle.session.proofs.kept.Kept.told.Invariants.{IsRowOf}
 use Rattle.session.proofs.kept.Kept.told.Goals as goal
 

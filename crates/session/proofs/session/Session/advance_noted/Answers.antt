@@ -8,12 +8,13 @@ use Rattle.session.specs.Keeping.{IsKeptNow, SessionGoesOn}
 use Rattle.session.specs.Promises.{IsReplyIfNumbered}
 use Rattle.session.specs.Requests.{IsAdvanced, call_number, last_after}
 use Rattle.session.specs.Sessions.{Sessioned, kept_in}
-use Rattle.session.proofs.Acting.{advanced_on, advanced_reply, advanced_right, kept_heard, kept_refused, number_heard}
-use Rattle.session.proofs.Calling.{answered_at}
-use Rattle.session.proofs.Promised.{numbers_kept, numbers_shown}
-use Rattle.session.proofs.Worlds.{open_below}
-use Rattle.named.proofs.GoingOn.{broker_stays}
-use Rattle.session.proofs.GoneOn.{queues_on}
+use Rattle.session.proofs.calls.Sessions.{advanced_on, advanced_reply, advanced_right, kept_heard, kept_refused}
+use Rattle.session.proofs.calls.Sessions.{number_heard}
+use Rattle.session.proofs.calls.SlotCalls.{answered_at}
+use Rattle.session.proofs.answers.Promises.{numbers_kept, numbers_shown}
+use Rattle.session.proofs.brokers.Worlds.{open_below}
+use Rattle.named.proofs.Facts.{broker_stays}
+use Rattle.session.proofs.calls.Queues.{queues_on}
 use Rattle.session.proofs.session.Session.advance_noted.Goals as goal
 
 pub returns-in_err-number-clause-promises : goal.returns-in_err-number-clause-promises

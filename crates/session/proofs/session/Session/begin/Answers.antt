@@ -4,17 +4,16 @@ use Rattle.words.specs.declared.refusal.Refusal.{Refusal}
 use Rattle.words.specs.declared.refusal.Refusal.TheVariants.{StaleNumber}
 use Rattle.interleave.specs.Calls.{is_no_memory}
 use Rattle.interleave.specs.State.{after_start}
-use Rattle.named.proofs.Stays.{start_alike}
+use Rattle.named.proofs.Facts.{broker_stays, start_alike}
 use Rattle.session.specs.Keeping.{SessionGoesOn}
 use Rattle.session.specs.Requests.{IsBegunBy, IsStarted, answer_to, as_begun, number_or_zero}
 use Rattle.session.specs.Sessions.{IsRight, Sessioned}
-use Rattle.session.proofs.NotStale.{answer_to_other, begun_above}
-use Rattle.session.proofs.Promised.{numbers_kept, numbers_shown}
-use Rattle.session.proofs.Serving.{answered_reply, started_right}
-use Rattle.session.proofs.Clients.{goes_on_kept, laid_out_act}
-use Rattle.session.proofs.Starts.{begun_if_runs, number_is, started_by}
-use Rattle.named.proofs.GoingOn.{broker_stays}
-use Rattle.session.proofs.GoneOn.{queues_on}
+use Rattle.session.proofs.answers.Staleness.{answer_to_other, begun_above}
+use Rattle.session.proofs.answers.Promises.{numbers_kept, numbers_shown}
+use Rattle.session.proofs.calls.Requests.{answered_reply, started_right}
+use Rattle.session.proofs.calls.Clients.{goes_on_kept, laid_out_act}
+use Rattle.session.proofs.calls.Starts.{begun_if_runs, number_is, started_by}
+use Rattle.session.proofs.calls.Queues.{queues_on}
 use Rattle.session.proofs.session.Session.begin.Goals as goal
 
 pub returns-in_err-start-clause-begun : goal.returns-in_err-start-clause-begun

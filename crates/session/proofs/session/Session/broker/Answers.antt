@@ -1,4 +1,4 @@
-use Rattle.session.proofs.Promised.{numbers_shown}
+use Rattle.session.proofs.answers.Promises.{numbers_shown}
 use Rattle.session.proofs.session.Session.broker.Goals as goal
 
 pub returns-clause-promises : goal.returns-clause-promises

@@ -3,9 +3,9 @@ use Rattle.std.specs.Prelude.{OnErr}
 use Rattle.words.specs.declared.refusal.Refusal.{Refusal}
 use Rattle.named.specs.Stopping.{IsSameButRoom}
 use Rattle.session.specs.Sessions.{IsRight, Sessioned}
-use Rattle.session.proofs.Downs.{right_roomier, right_stopped}
-use Rattle.session.proofs.Promised.{numbers_kept}
-use Rattle.session.proofs.GoneOn.{downtime_on, queues_on}
+use Rattle.session.proofs.downtime.Crashes.{right_roomier, right_stopped}
+use Rattle.session.proofs.answers.Promises.{numbers_kept}
+use Rattle.session.proofs.calls.Queues.{downtime_on, queues_on}
 use Rattle.session.proofs.session.Session.crash.Goals as goal
 
 pub invariant_of-self : goal.invariant_of-self

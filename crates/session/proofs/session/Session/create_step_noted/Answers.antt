@@ -2,9 +2,9 @@ use Rattle.std.proofs.Common.{subst}
 use Rattle.persist.specs.Noted.{answer_in}
 use Rattle.session.specs.Keeping.{SessionGoesOn}
 use Rattle.session.specs.Sessions.{Sessioned}
-use Rattle.session.proofs.Promised.{numbers_kept}
-use Rattle.session.proofs.Queueing.{creation_on, creation_right}
-use Rattle.session.proofs.GoneOn.{queues_on}
+use Rattle.session.proofs.answers.Promises.{numbers_kept}
+use Rattle.session.proofs.brokers.Histories.{creation_on, creation_right}
+use Rattle.session.proofs.calls.Queues.{queues_on}
 use Rattle.session.proofs.session.Session.create_step_noted.Goals as goal
 
 pub invariant_of-self : goal.invariant_of-self

@@ -1,8 +1,8 @@
 use Rattle.std.proofs.Common.{ap}
 use Rattle.named.specs.Brokers.{Brokered}
-use Rattle.session.proofs.Downs.{right_evicted}
-use Rattle.session.proofs.Promised.{numbers_kept}
-use Rattle.session.proofs.GoneOn.{downtime_on}
+use Rattle.session.proofs.downtime.Crashes.{right_evicted}
+use Rattle.session.proofs.answers.Promises.{numbers_kept}
+use Rattle.session.proofs.calls.Queues.{downtime_on}
 use Rattle.session.proofs.session.Session.evict.Goals as goal
 
 pub invariant_of-self : goal.invariant_of-self

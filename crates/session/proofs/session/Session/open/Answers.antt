@@ -1,5 +1,5 @@
-use Rattle.session.proofs.Heard.{right_asked}
-use Rattle.session.proofs.Promised.{numbers_kept}
+use Rattle.session.proofs.answers.Tellings.{right_asked}
+use Rattle.session.proofs.answers.Promises.{numbers_kept}
 use Rattle.session.proofs.session.Session.open.Goals as goal
 
 pub invariant_of-result : goal.invariant_of-result

@@ -3,15 +3,15 @@ use Rattle.words.specs.declared.call.Kind.TheVariants.{Durable as durable_kind}
 use Rattle.words.specs.PlainQueue.{Value, FitsValue}
 use Rattle.words.specs.declared.call.Call.TheVariants.{Enq}
 use Rattle.protocol.specs.Machine.{FitsCall}
-use Rattle.interleave.proofs.HoldsKept.{call_fits}
+use Rattle.interleave.proofs.Facts.{call_fits}
 use Rattle.session.specs.Keeping.{SessionGoesOn}
 use Rattle.session.specs.Requests.{request_admission}
 use Rattle.session.specs.Sessions.{Sessioned}
-use Rattle.session.proofs.Promised.{numbers_kept, numbers_shown}
-use Rattle.session.proofs.Serving.{plain_run_right}
-use Rattle.session.proofs.Clients.{goes_on_kept, laid_out_each, laid_out_run, others_run}
-use Rattle.named.proofs.GoingOn.{broker_stays}
-use Rattle.session.proofs.GoneOn.{queues_on}
+use Rattle.session.proofs.answers.Promises.{numbers_kept, numbers_shown}
+use Rattle.session.proofs.calls.Requests.{plain_run_right}
+use Rattle.session.proofs.calls.Clients.{goes_on_kept, laid_out_each, laid_out_run, others_run}
+use Rattle.named.proofs.Facts.{broker_stays}
+use Rattle.session.proofs.calls.Queues.{queues_on}
 use Rattle.session.proofs.session.Session.plain.Goals as goal
 
 pub returns-clause-goes_on : goal.returns-clause-goes_on

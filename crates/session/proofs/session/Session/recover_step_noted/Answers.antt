@@ -4,9 +4,9 @@ use Rattle.persist.specs.Noted.{answer_in}
 use Rattle.named.specs.Lasting.{most_kept, steps_left}
 use Rattle.session.specs.Keeping.{SessionGoesOn}
 use Rattle.session.specs.Sessions.{Sessioned}
-use Rattle.session.proofs.Answered.{ready_goes_on, right_ready, right_unready, unready_goes_on}
-use Rattle.session.proofs.Promised.{numbers_kept}
-use Rattle.session.proofs.GoneOn.{downtime_on}
+use Rattle.session.proofs.answers.RecoverySteps.{ready_goes_on, right_ready, right_unready, unready_goes_on}
+use Rattle.session.proofs.answers.Promises.{numbers_kept}
+use Rattle.session.proofs.calls.Queues.{downtime_on}
 use Rattle.session.proofs.session.Session.recover_step_noted.Goals as goal
 
 -- the step is refused

@@ -3,8 +3,8 @@ use Rattle.std.specs.Prelude.{IfErr}
 use Rattle.named.specs.Renewing.{IsWhyNotRenewedAt}
 use Rattle.session.specs.Keeping.{SessionGoesOn}
 use Rattle.session.specs.Sessions.{Sessioned}
-use Rattle.session.proofs.Promised.{numbers_kept}
-use Rattle.session.proofs.Renewed.{renewal_goes_on, right_renewed}
+use Rattle.session.proofs.answers.Promises.{numbers_kept}
+use Rattle.session.proofs.brokers.Renewals.{renewal_goes_on, right_renewed}
 use Rattle.session.proofs.session.Session.renew_noted.Goals as goal
 
 pub invariant_of-self : goal.invariant_of-self

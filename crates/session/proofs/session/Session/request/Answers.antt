@@ -5,20 +5,20 @@ use Rattle.words.specs.declared.call.Call.TheVariants.{Enq}
 use Rattle.words.specs.declared.refusal.Refusal.{Refusal}
 use Rattle.words.specs.declared.refusal.Refusal.TheVariants.{StaleNumber}
 use Rattle.protocol.specs.Machine.{FitsCall}
-use Rattle.interleave.proofs.HoldsKept.{call_fits}
+use Rattle.interleave.proofs.Facts.{call_fits}
 use Rattle.interleave.specs.Verdicts.{taken_as}
 use Rattle.session.specs.Keeping.{SessionGoesOn}
 use Rattle.session.specs.Numbers.{by_number}
 use Rattle.session.specs.Requests.{IsUnserved, request_admission, request_answer}
 use Rattle.session.specs.Sessions.{IsRight, Sessioned, kept_at}
-use Rattle.session.proofs.NotStale.{answer_other, unserved_above}
-use Rattle.session.proofs.Promised.{numbers_kept, numbers_shown}
-use Rattle.session.proofs.Serving.{kept_reply, run_reply, run_right, runs_admitted, unserved_right}
-use Rattle.session.proofs.Clients.{goes_on_kept, goes_on_kept_now, laid_out_each, laid_out_run, others_run}
-use Rattle.session.proofs.Numbering.{answer_runs, answered_below}
-use Rattle.session.proofs.Worlds.{open_below}
-use Rattle.named.proofs.GoingOn.{broker_stays}
-use Rattle.session.proofs.GoneOn.{queues_on}
+use Rattle.session.proofs.answers.Staleness.{answer_other, unserved_above}
+use Rattle.session.proofs.answers.Promises.{numbers_kept, numbers_shown}
+use Rattle.session.proofs.calls.Requests.{kept_reply, run_reply, run_right, runs_admitted, unserved_right}
+use Rattle.session.proofs.calls.Clients.{goes_on_kept, goes_on_kept_now, laid_out_each, laid_out_run, others_run}
+use Rattle.session.proofs.answers.NextNumbers.{answer_runs, answered_below}
+use Rattle.session.proofs.brokers.Worlds.{open_below}
+use Rattle.named.proofs.Facts.{broker_stays}
+use Rattle.session.proofs.calls.Queues.{queues_on}
 use Rattle.session.proofs.session.Session.request.Goals as goal
 
 pub returns-in_err-reply-2-clause-goes_on : goal.returns-in_err-reply-2-clause-goes_on

@@ -1,6 +1,6 @@
-use Rattle.session.proofs.Promised.{numbers_kept}
-use Rattle.session.proofs.Queueing.{alike_right}
-use Rattle.session.proofs.GoneOn.{queues_on}
+use Rattle.session.proofs.answers.Promises.{numbers_kept}
+use Rattle.session.proofs.brokers.Histories.{alike_right}
+use Rattle.session.proofs.calls.Queues.{queues_on}
 use Rattle.session.proofs.session.Session.reserve.Goals as goal
 
 pub returns-clause-promises : goal.returns-clause-promises

@@ -1,5 +1,5 @@
-use Rattle.session.proofs.Promised.{numbers_kept}
-use Rattle.session.proofs.Queueing.{rotated_right}
+use Rattle.session.proofs.answers.Promises.{numbers_kept}
+use Rattle.session.proofs.brokers.Histories.{rotated_right}
 use Rattle.session.proofs.session.Session.rotate.Goals as goal
 
 pub invariant_of-self : goal.invariant_of-self

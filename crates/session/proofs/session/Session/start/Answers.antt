@@ -1,15 +1,15 @@
 use Rattle.std.proofs.Common.{refl, subst}
 use Rattle.interleave.specs.Calls.{is_no_memory}
 use Rattle.interleave.specs.State.{after_start}
-use Rattle.named.proofs.Stays.{start_alike}
+use Rattle.named.proofs.Facts.{start_alike}
 use Rattle.session.specs.Keeping.{SessionGoesOn}
 use Rattle.session.specs.Requests.{as_begun}
 use Rattle.session.specs.Sessions.{Sessioned}
-use Rattle.session.proofs.Clients.{goes_on_kept, laid_out_act}
-use Rattle.session.proofs.GoneOn.{queues_on}
-use Rattle.session.proofs.Promised.{numbers_kept}
-use Rattle.session.proofs.Serving.{started_right}
-use Rattle.session.proofs.Starts.{started_by}
+use Rattle.session.proofs.calls.Clients.{goes_on_kept, laid_out_act}
+use Rattle.session.proofs.calls.Queues.{queues_on}
+use Rattle.session.proofs.answers.Promises.{numbers_kept}
+use Rattle.session.proofs.calls.Requests.{started_right}
+use Rattle.session.proofs.calls.Starts.{started_by}
 use Rattle.session.proofs.session.Session.start.Goals as goal
 
 pub invariant_of-self : goal.invariant_of-self

@@ -1,7 +1,7 @@
 use Rattle.std.proofs.Common.{subst}
 use Rattle.session.specs.Sessions.{Sessioned}
 use Rattle.session.specs.Telling.{IsSettledTold}
-use Rattle.session.proofs.Settled.{settled_told}
+use Rattle.session.proofs.answers.Settled.{settled_told}
 use Rattle.session.proofs.session.Session.tells_settled.Goals as goal
 
 pub returns : goal.returns

@@ -3,7 +3,7 @@ use Rattle.std.specs.Prelude.{IfOk}
 use Rattle.named.specs.Lasting.{steps_left}
 use Rattle.workers.proofs.Booking.{promised_on}
 use Rattle.words.specs.declared.refusal.Refusal.{Refusal}
-use Rattle.named.proofs.GoingOn.{broker_goes_further, broker_stays}
+use Rattle.named.proofs.Facts.{broker_goes_further, broker_stays}
 use Rattle.workers.specs.Recovered.{is_ready_after}
 use Rattle.workers.proofs.locked.Locked.recover_all.Goals as goal
 

@@ -1,0 +1,2 @@
+-- What crates above may cite of this one's proofs.
+pub use Rattle.history.proofs.CountSteps.{IsCounted, counted_more, front_reply, put_more, reply_at_front}

@@ -1,0 +1,12 @@
+pub mod Holding
+pub mod Invariants
+pub mod Rules
+pub mod Recoveries
+pub mod Evictions
+pub mod Starts
+pub mod Steps
+pub mod Calls
+pub mod Acts
+pub mod Changes
+pub mod Effects
+pub mod Outcomes

@@ -1,0 +1,3 @@
+pub mod Uniqueness
+pub mod Numbers
+pub mod Floors

@@ -1,0 +1,9 @@
+pub mod Beginnings
+pub mod Entries
+pub mod Ends
+pub mod PendingEffects
+pub mod Prefixes
+pub mod Standing
+pub mod Turns
+pub mod TurnReplies
+pub mod Rotations

@@ -1,0 +1,2 @@
+pub mod Downtime
+pub mod Tellings

@@ -1,0 +1,5 @@
+pub mod Attempts
+pub mod Runs
+pub mod AloneCalls
+pub mod AloneEnds
+pub mod AloneReplies

@@ -1,0 +1,12 @@
+pub mod Accesses
+pub mod Ranges
+pub mod Values
+pub mod Parts
+pub mod ZeroWords
+pub mod UnusedWords
+pub mod UnusedQueues
+pub mod Boots
+pub mod KeptWords
+pub mod Contents
+pub mod RecordNumbers
+pub mod Requests

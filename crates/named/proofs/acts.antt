@@ -1,0 +1,10 @@
+pub mod Acts
+pub mod Shapes
+pub mod OneSlot
+pub mod Windows
+pub mod Requests
+pub mod Evictions
+pub mod EvictionOutcomes
+pub mod Loops
+pub mod Continuity
+pub mod Comings

@@ -1,0 +1,9 @@
+pub mod CrashedParts
+pub mod Crashes
+pub mod Steps
+pub mod QueueSteps
+pub mod Readings
+pub mod DirectorySteps
+pub mod Nexts
+pub mod StepsLeft
+pub mod MostSteps

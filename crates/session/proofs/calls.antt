@@ -1,0 +1,10 @@
+pub mod Sessions
+pub mod SlotCalls
+pub mod Starts
+pub mod Runs
+pub mod Requests
+pub mod Clients
+pub mod Numbers
+pub mod Admissions
+pub mod Queues
+pub mod Slots
