@@ -2,8 +2,8 @@ use Rattle.std.proofs.Common.{◌≡◌, ◌<◌, sym, ap, ◌∙◌, [], arith,
 use Rattle.std.proofs.lemmas.List.{length-set}
 use Rattle.roll.specs.Rule.{keeper}
 use Rattle.workers.specs.declared.entry.Entry.{Entry}
-use Rattle.workers.proofs.Turning.{AreTurned, empty_below_more, empty_from_below, front_taken}
-use Rattle.workers.proofs.Turning.{turned_empty, turned_first, turned_more, turned_order}
+use Rattle.workers.proofs.seats.Turns.{AreTurned, empty_below_more, empty_from_below, front_taken}
+use Rattle.workers.proofs.seats.Turns.{turned_empty, turned_first, turned_more, turned_order}
 use Rattle.workers.proofs.closing.all_emptied.Goals as goal
 
 pub loop-preserved : goal.loop-preserved

@@ -1,6 +1,6 @@
 use Rattle.std.proofs.Common.{◌≡◌, length}
 use Rattle.roll.specs.Rule.{IsKeeper}
-use Rattle.workers.proofs.Turning.{AreEmptyBelow, AreTurned}
+use Rattle.workers.proofs.seats.Turns.{AreEmptyBelow, AreTurned}
 use Rattle.workers.proofs.closing.all_emptied.Given as goal
 
 abbrev pub invariant-loop : goal.invariant-loop

@@ -2,7 +2,7 @@ use Rattle.std.proofs.Common.{rules, ◌≡◌, [], List, Some, ap, ◌∙◌, s
 use Rattle.std.specs.Prelude.{slice_get}
 use Rattle.roll.specs.Rule.{keeper, rows_of}
 use Rattle.workers.specs.declared.entry.Entry.{Entry}
-use Rattle.workers.proofs.Seating.{left_popped, rows_from_none_left}
+use Rattle.workers.proofs.seats.GivenSeats.{left_popped, rows_from_none_left}
 use Rattle.workers.proofs.closing.all_known.Goals as goal
 
 pub loop-seat-preserved : goal.loop-seat-preserved

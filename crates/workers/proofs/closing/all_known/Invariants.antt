@@ -1,6 +1,6 @@
 use Rattle.std.proofs.Common.{vec_len}
 use Rattle.roll.specs.Rule.{IsKeeper, rows_of}
-use Rattle.workers.proofs.Seating.{AreLeft}
+use Rattle.workers.proofs.seats.GivenSeats.{AreLeft}
 use Rattle.workers.proofs.closing.all_known.Given as goal
 
 abbrev pub invariant-loop-seat : goal.invariant-loop-seat

@@ -1,6 +1,6 @@
 use Rattle.std.proofs.Common.{rules, ◌≡◌, [], ap, sym, ◌∙◌}
 use Rattle.roll.specs.Rule.{keeper}
-use Rattle.workers.proofs.Honouring.{all_out, none_out, one_out}
+use Rattle.workers.proofs.lists.Receipts.{all_out, none_out, one_out}
 use Rattle.workers.proofs.deeds.honoured.Goals as goal
 
 pub loop-receipt-init : goal.loop-receipt-init

@@ -1,6 +1,6 @@
 use Rattle.std.proofs.Common.{vec_len}
 use Rattle.roll.specs.Rule.{IsKeeper, place_of, rows_of}
-use Rattle.workers.proofs.Honouring.{AreOut}
+use Rattle.workers.proofs.lists.Receipts.{AreOut}
 use Rattle.workers.proofs.deeds.honoured.Given as goal
 
 abbrev pub invariant-loop-receipt : goal.invariant-loop-receipt

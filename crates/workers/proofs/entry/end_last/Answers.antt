@@ -1,5 +1,5 @@
 use Rattle.std.proofs.Common.{rules, arith, ◌-◌}
-use Rattle.workers.proofs.Lists.{last_is_open, with_end_written}
+use Rattle.workers.proofs.lists.LastCalls.{last_is_open, with_end_written}
 use Rattle.workers.proofs.entry.end_last.Goals as goal
 
 pub returns : goal.returns

@@ -1,7 +1,7 @@
 use Rattle.std.proofs.Common.{rules, arith, sym, ◌∙◌, ◌-◌, ◌≡◌, length, suc}
 use Rattle.std.proofs.lemmas.Option.{slice_get-get_or}
 use Rattle.workers.specs.declared.entry.Entry.{Entry}
-use Rattle.workers.proofs.Lists.{ends_as_last}
+use Rattle.workers.proofs.lists.LastCalls.{ends_as_last}
 use Rattle.workers.proofs.entry.has_open_call.Goals as goal
 
 pub returns : goal.returns

@@ -1,4 +1,4 @@
-use Rattle.workers.proofs.Counting.{list_counted}
+use Rattle.workers.proofs.lists.Counts.{list_counted}
 use Rattle.workers.specs.Lists.{events_at}
 use Rattle.workers.proofs.laws.calls_are_counted.Goals as goal
 

@@ -1,4 +1,4 @@
-use Rattle.workers.proofs.Telling.{answered_taken, interrupted_told}
+use Rattle.workers.proofs.lists.Tellings.{answered_taken, interrupted_told}
 use Rattle.workers.proofs.laws.interrupted_calls_are_told.Goals as goal
 
 pub returns-clause-interrupted : goal.returns-clause-interrupted

@@ -1,6 +1,6 @@
 use Rattle.std.proofs.Common.{◌∙◌, sym, ap, arith}
 use Rattle.named.specs.Brokers.{is_creating}
-use Rattle.workers.proofs.Idling.{calls_within}
+use Rattle.workers.proofs.guard.Idleness.{calls_within}
 use Rattle.workers.proofs.opening.is_in_use.Goals as goal
 
 pub returns-clause-idle : goal.returns-clause-idle

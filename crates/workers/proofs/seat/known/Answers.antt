@@ -1,6 +1,6 @@
 use Rattle.std.proofs.Common.{ap, ◌∙◌, [], Some}
 use Rattle.roll.specs.Rule.{keeper}
-use Rattle.workers.proofs.Turning.{set_as_was}
+use Rattle.workers.proofs.seats.Turns.{set_as_was}
 use Rattle.workers.proofs.seat.known.Goals as goal
 
 pub returns-clause-keeper : goal.returns-clause-keeper

@@ -1,7 +1,7 @@
 use Rattle.std.proofs.Common.{subst, Err}
 use Rattle.named.specs.Brokers.{Brokered}
 use Rattle.named.specs.Finding.{IsPlaced}
-use Rattle.workers.proofs.Refusing.{unplaced, unplaced_settled}
+use Rattle.workers.proofs.guard.Refusals.{unplaced, unplaced_settled}
 use Rattle.workers.proofs.locked.Locked.begin.Goals as goal
 
 pub returns-in-Err-clause-errors : goal.returns-in-Err-clause-errors

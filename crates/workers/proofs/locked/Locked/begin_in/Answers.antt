@@ -3,10 +3,10 @@ use Rattle.directory.specs.Directory.{IsNamed}
 use Rattle.workers.specs.Following.{Held}
 use Rattle.roll.specs.Rule.{keeper, rows_of}
 use Rattle.session.specs.Requests.{answer_to, number_or_zero}
-use Rattle.workers.proofs.Guarded.{with_rows}
-use Rattle.workers.proofs.Refusing.{settled_start, why_refused}
-use Rattle.workers.proofs.Booking.{booked_same, created_same}
-use Rattle.workers.proofs.Turns.{begun_beside, guarded_begun, guarded_unbegun}
+use Rattle.workers.proofs.guard.Guarded.{with_rows}
+use Rattle.workers.proofs.guard.Refusals.{settled_start, why_refused}
+use Rattle.workers.proofs.guard.Notes.{booked_same, created_same}
+use Rattle.workers.proofs.guard.SeatCalls.{begun_beside, guarded_begun, guarded_unbegun}
 use Rattle.workers.proofs.locked.Locked.begin_in.Goals as goal
 
 pub invariant_of-self : goal.invariant_of-self

@@ -5,11 +5,11 @@ use Rattle.workers.specs.Deeds.{CameBy}
 use Rattle.workers.specs.Deeds.CameBy.{renewal}
 use Rattle.workers.specs.declared.deeds.Deed.{Deed}
 use Rattle.workers.specs.Following.{beginnings}
-use Rattle.workers.proofs.Comings.{through_renewal}
-use Rattle.workers.proofs.Booking.{booked_none, created_none}
-use Rattle.workers.proofs.Guarded.{named_begun, rows_begun, session_further}
-use Rattle.workers.proofs.Renewals.{known_if_renewed, renewal_refused, renewed_empty}
-use Rattle.workers.proofs.Roomy.{room_when_renewed}
+use Rattle.workers.proofs.brokers.Comings.{through_renewal}
+use Rattle.workers.proofs.guard.Notes.{booked_none, created_none}
+use Rattle.workers.proofs.guard.Guarded.{named_begun, rows_begun, session_further}
+use Rattle.workers.proofs.histories.Renewals.{known_if_renewed, renewal_refused, renewed_empty}
+use Rattle.workers.proofs.guard.Room.{room_when_renewed}
 use Rattle.workers.proofs.locked.Locked.begin_renewed.Goals as goal
 
 pub invariant_of-self-2 : goal.invariant_of-self-2

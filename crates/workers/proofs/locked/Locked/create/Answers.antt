@@ -4,10 +4,10 @@ use Rattle.session.specs.Sessions.{Sessioned}
 use Rattle.roll.specs.Rule.{rows_of}
 use Rattle.workers.specs.Following.{IsGuardedWell, guarded_in}
 use Rattle.workers.specs.Noting.{IsBooked}
-use Rattle.workers.proofs.Booking.{booked_back, booked_more, created_first}
-use Rattle.workers.proofs.Guarded.{guarded_still, known_if_begun}
-use Rattle.workers.proofs.Refusing.{taken_still}
-use Rattle.workers.proofs.Stops.{created_carried}
+use Rattle.workers.proofs.guard.Notes.{booked_back, booked_more, created_first}
+use Rattle.workers.proofs.guard.Guarded.{guarded_still, known_if_begun}
+use Rattle.workers.proofs.guard.Refusals.{taken_still}
+use Rattle.workers.proofs.histories.Stops.{created_carried}
 use Rattle.workers.proofs.locked.Locked.create.Goals as goal
 
 pub invariant_of-self : goal.invariant_of-self

@@ -2,7 +2,7 @@ use Rattle.std.proofs.Common.{sym, subst}
 use Rattle.directory.specs.Directory.{IsDirectory}
 use Rattle.named.specs.Brokers.{Brokered}
 use Rattle.workers.specs.Coming.{CameThrough}
-use Rattle.workers.proofs.SeenStill.{found_in}
+use Rattle.workers.proofs.seats.QueuesSeen.{found_in}
 use Rattle.workers.proofs.locked.Locked.find.Goals as goal
 
 pub returns-clause-found : goal.returns-clause-found

@@ -5,8 +5,8 @@ use Rattle.roll.specs.Seated.{TableId}
 use Rattle.roll.specs.Rule.{IsHolder, holder, keeper, row_of}
 use Rattle.workers.specs.Noting.{IsBooked, OfRoll}
 use Rattle.workers.specs.declared.book.Book.{Book}
-use Rattle.workers.proofs.Booking.{book_of, booked_handed, holds_longer, keeps_longer, no_book, same_row}
-use Rattle.workers.proofs.Momentary.{moment_of}
+use Rattle.workers.proofs.guard.Notes.{book_of, booked_handed, holds_longer, keeps_longer, no_book, same_row}
+use Rattle.workers.proofs.guard.Moments.{moment_of}
 use Rattle.workers.proofs.locked.Locked.hand_on.Goals as goal
 
 pub unreachable-requires : goal.unreachable-requires

@@ -7,7 +7,7 @@ use Rattle.words.specs.declared.told.Told.{Told}
 use Rattle.named.specs.Brokers.{Brokered}
 use Rattle.named.specs.Finding.{IsPlaced}
 use Rattle.workers.specs.Refusals.{IsWhyNotTold}
-use Rattle.workers.proofs.Refusing.{told_refused, unplaced_told}
+use Rattle.workers.proofs.guard.Refusals.{told_refused, unplaced_told}
 use Rattle.workers.proofs.locked.Locked.last_told.Goals as goal
 
 pub returns-in_err-queue-clause-errors : goal.returns-in_err-queue-clause-errors

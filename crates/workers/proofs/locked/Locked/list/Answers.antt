@@ -2,7 +2,7 @@ use Rattle.std.proofs.Common.{◌∙◌, sym, subst, ap, slice_get}
 use Rattle.directory.specs.Directory.{Directory, IsDirectory}
 use Rattle.named.specs.Brokers.{Brokered}
 use Rattle.workers.specs.Coming.{CameThrough}
-use Rattle.workers.proofs.SeenStill.{listed_still}
+use Rattle.workers.proofs.seats.QueuesSeen.{listed_still}
 use Rattle.workers.proofs.locked.Locked.list.Goals as goal
 
 pub returns-clause-queues : goal.returns-clause-queues

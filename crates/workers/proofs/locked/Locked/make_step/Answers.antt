@@ -6,10 +6,11 @@ use Rattle.workers.specs.Following.{Held}
 use Rattle.workers.specs.Noting.{to_create}
 use Rattle.workers.specs.declared.locked.Creating.{Creating}
 use Rattle.workers.specs.declared.locked.Creating.TheVariants.{Nothing}
-use Rattle.workers.proofs.Booking.{booked_less, booked_promised, created_step, one_left, promised_less}
-use Rattle.workers.proofs.Guarded.{done_by_last, guarded_still, known_after_last, known_after_step, under_way_is, with_deeds}
-use Rattle.workers.proofs.SeenStill.{free_before}
-use Rattle.workers.proofs.Stops.{creation_carried, creation_free}
+use Rattle.workers.proofs.guard.Notes.{booked_less, booked_promised, created_step, one_left, promised_less}
+use Rattle.workers.proofs.guard.Guarded.{done_by_last, guarded_still, known_after_last, known_after_step, under_way_is}
+use Rattle.workers.proofs.guard.Guarded.{with_deeds}
+use Rattle.workers.proofs.seats.QueuesSeen.{free_before}
+use Rattle.workers.proofs.histories.Stops.{creation_carried, creation_free}
 use Rattle.workers.proofs.locked.Locked.make_step.Goals as goal
 
 pub invariant_of-self : goal.invariant_of-self

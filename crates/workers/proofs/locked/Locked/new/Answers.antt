@@ -8,8 +8,8 @@ use Rattle.session.specs.Sessions.{Sessioned}
 use Rattle.session.specs.Keeping.{SessionGoesOn}
 use Rattle.workers.specs.Following.{IsBeginning, beginnings}
 use Rattle.workers.specs.Lists.{events_at}
-use Rattle.workers.proofs.Comings.{through_itself}
-use Rattle.workers.proofs.Guarded.{named_begun, rows_begun, session_stays}
+use Rattle.workers.proofs.brokers.Comings.{through_itself}
+use Rattle.workers.proofs.guard.Guarded.{named_begun, rows_begun, session_stays}
 use Rattle.workers.proofs.locked.Locked.new.Goals as goal
 
 pub invariant_of-result : goal.invariant_of-result

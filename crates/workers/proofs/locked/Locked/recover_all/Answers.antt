@@ -1,7 +1,7 @@
 use Rattle.std.proofs.Common.{◌<◌, ◌∙◌, Bool, Result, ap, subst, true≢false, sym}
 use Rattle.std.specs.Prelude.{IfOk}
 use Rattle.named.specs.Lasting.{steps_left}
-use Rattle.workers.proofs.Booking.{promised_on}
+use Rattle.workers.proofs.guard.Notes.{promised_on}
 use Rattle.words.specs.declared.refusal.Refusal.{Refusal}
 use Rattle.named.proofs.Facts.{broker_goes_further, broker_stays}
 use Rattle.workers.specs.Recovered.{is_ready_after}

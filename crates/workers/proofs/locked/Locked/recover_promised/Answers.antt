@@ -7,11 +7,11 @@ use Rattle.workers.specs.Following.{Held}
 use Rattle.workers.specs.Recovered.{is_ready_after}
 use Rattle.workers.specs.Renewing.{HasRoomToRecover}
 use Rattle.workers.specs.Noting.{HasPromised, promised_in, to_create}
-use Rattle.workers.proofs.Booking.{booked_spent, created_recovered, promised_less}
-use Rattle.workers.proofs.Guarded.{guarded_still, known_after_recovery, recovery_errors, with_deeds}
-use Rattle.workers.proofs.Readying.{ready_after}
-use Rattle.workers.proofs.Roomy.{never_full, only_ready, room_after}
-use Rattle.workers.proofs.Stops.{recovered_carried}
+use Rattle.workers.proofs.guard.Notes.{booked_spent, created_recovered, promised_less}
+use Rattle.workers.proofs.guard.Guarded.{guarded_still, known_after_recovery, recovery_errors, with_deeds}
+use Rattle.workers.proofs.brokers.Readiness.{ready_after}
+use Rattle.workers.proofs.guard.Room.{never_full, only_ready, room_after}
+use Rattle.workers.proofs.histories.Stops.{recovered_carried}
 use Rattle.workers.proofs.locked.Locked.recover_promised.Goals as goal
 
 few_more : {few many : ℕ} → few ≤ many → few + 1 ≤ many + 1

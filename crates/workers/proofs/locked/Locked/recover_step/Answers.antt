@@ -1,6 +1,6 @@
 use Rattle.std.proofs.Common.{sym, subst}
 use Rattle.workers.specs.Noting.{IsBooked}
-use Rattle.workers.proofs.Booking.{booked_promise}
+use Rattle.workers.proofs.guard.Notes.{booked_promise}
 use Rattle.workers.proofs.locked.Locked.recover_step.Goals as goal
 
 pub invariant_of-self : goal.invariant_of-self

@@ -1,6 +1,6 @@
 use Rattle.std.proofs.Common.{ap, ◌∙◌}
 use Rattle.workers.specs.Following.{Held}
-use Rattle.workers.proofs.Booking.{booked_none, created_none}
+use Rattle.workers.proofs.guard.Notes.{booked_none, created_none}
 use Rattle.workers.proofs.locked.Locked.renew.Goals as goal
 
 pub invariant_of-self : goal.invariant_of-self

@@ -7,11 +7,11 @@ use Rattle.workers.specs.Deeds.{CameBy}
 use Rattle.workers.specs.Deeds.CameBy.{rotation}
 use Rattle.workers.specs.declared.deeds.Deed.{Deed}
 use Rattle.workers.specs.Following.{beginnings}
-use Rattle.workers.proofs.Comings.{through_rotation}
-use Rattle.workers.proofs.Booking.{booked_same, created_same}
-use Rattle.workers.proofs.Guarded.{known_if_same, named_begun, rows_begun, session_further}
-use Rattle.workers.proofs.Refusing.{rotation_refused}
-use Rattle.workers.proofs.Stops.{rotated_empty}
+use Rattle.workers.proofs.brokers.Comings.{through_rotation}
+use Rattle.workers.proofs.guard.Notes.{booked_same, created_same}
+use Rattle.workers.proofs.guard.Guarded.{known_if_same, named_begun, rows_begun, session_further}
+use Rattle.workers.proofs.guard.Refusals.{rotation_refused}
+use Rattle.workers.proofs.histories.Stops.{rotated_empty}
 use Rattle.workers.proofs.locked.Locked.rotate.Goals as goal
 
 pub invariant_of-self-2 : goal.invariant_of-self-2

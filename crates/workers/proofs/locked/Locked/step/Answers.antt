@@ -4,9 +4,9 @@ use Rattle.words.specs.declared.refusal.Refusal.{Refusal}
 use Rattle.roll.specs.Rule.{keeper, rows_of}
 use Rattle.session.specs.Requests.{IsAdvanced}
 use Rattle.workers.specs.Noting.{IsBooked}
-use Rattle.workers.proofs.Booking.{booked_step, created_same}
-use Rattle.workers.proofs.Guarded.{with_rows}
-use Rattle.workers.proofs.Turns.{guarded_answered, guarded_interrupted, guarded_more, guarded_unstepped}
+use Rattle.workers.proofs.guard.Notes.{booked_step, created_same}
+use Rattle.workers.proofs.guard.Guarded.{with_rows}
+use Rattle.workers.proofs.guard.SeatCalls.{guarded_answered, guarded_interrupted, guarded_more, guarded_unstepped}
 use Rattle.workers.proofs.locked.Locked.step.Goals as goal
 
 pub invariant_of-self : goal.invariant_of-self

@@ -3,7 +3,7 @@ use Rattle.roll.specs.Rule.{keeper, rows_of}
 use Rattle.workers.specs.Deeds.{IsTold}
 use Rattle.workers.specs.Deeds.CameBy.{telling}
 use Rattle.workers.specs.Following.{Held}
-use Rattle.workers.proofs.Guarded.{with_deeds}
+use Rattle.workers.proofs.guard.Guarded.{with_deeds}
 use Rattle.workers.proofs.locked.Locked.told.Goals as goal
 
 pub invariant_of-self : goal.invariant_of-self

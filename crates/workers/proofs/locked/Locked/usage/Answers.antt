@@ -5,7 +5,7 @@ use Rattle.named.specs.Brokers.{Brokered, world_at}
 use Rattle.named.specs.Slots.{IsWhyUnread}
 use Rattle.workers.specs.Refusals.{IsWhyNoUsage}
 use Rattle.workers.specs.declared.looks.Usage.{Usage}
-use Rattle.workers.proofs.Renewals.{usage_is, usage_refused}
+use Rattle.workers.proofs.histories.Renewals.{usage_is, usage_refused}
 use Rattle.workers.proofs.locked.Locked.usage.Goals as goal
 
 pub returns-in_err-content-clause-errors : goal.returns-in_err-content-clause-errors

@@ -1,7 +1,7 @@
 use Rattle.std.proofs.Common.{rules, arith, sym, ap, ◌∙◌, [], ◌∷◌, ◌++◌, List, length, length-append, ◌≡◌}
 use Rattle.roll.specs.Rule.{keeper, rows_of}
 use Rattle.workers.specs.declared.entry.Entry.{Entry}
-use Rattle.workers.proofs.Seating.{empty_pushed, order_pushed}
+use Rattle.workers.proofs.seats.GivenSeats.{empty_pushed, order_pushed}
 use Rattle.workers.proofs.opening.Opened.shared.Goals as goal
 
 pub loop-client-preserved : goal.loop-client-preserved

@@ -1,5 +1,6 @@
 use Rattle.std.proofs.Common.{◌∙◌, ap, Ok}
-use Rattle.workers.proofs.Answering.{begun_open, remembers, settled_refused, settled_replies, settled_runs_not, under_way_begun}
+use Rattle.workers.proofs.lists.Answers.{begun_open, remembers, settled_refused, settled_replies, settled_runs_not}
+use Rattle.workers.proofs.lists.Answers.{under_way_begun}
 use Rattle.workers.proofs.shared.Shared.call.Goals as goal
 
 pub go_on-requires : goal.go_on-requires

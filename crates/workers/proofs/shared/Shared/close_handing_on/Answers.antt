@@ -3,7 +3,7 @@ use Rattle.std.specs.Prelude.{slice_get}
 use Rattle.roll.specs.Rule.{rows_of}
 use Rattle.workers.specs.declared.entry.Entry.{Entry}
 use Rattle.workers.specs.Following.{guarded_in}
-use Rattle.workers.proofs.Seating.{accounted_by_rows}
+use Rattle.workers.proofs.seats.GivenSeats.{accounted_by_rows}
 use Rattle.workers.proofs.shared.Shared.close_handing_on.Goals as goal
 
 pub returns-clause-lists : goal.returns-clause-lists

@@ -6,7 +6,7 @@ use Rattle.workers.specs.declared.entry.Entry.{Entry}
 use Rattle.workers.specs.Following.{guarded_in}
 use Rattle.workers.specs.Deeds.{CameBy}
 use Rattle.workers.specs.declared.deeds.Deed.{Deed}
-use Rattle.workers.proofs.Seating.{accounted_by_rows}
+use Rattle.workers.proofs.seats.GivenSeats.{accounted_by_rows}
 use Rattle.workers.proofs.shared.Shared.close_with.Goals as goal
 
 pub returns-clause-lists : goal.returns-clause-lists

@@ -9,7 +9,7 @@ use Rattle.directory.specs.declared.queue.Queue.{Queue}
 use Rattle.named.specs.Brokers.{Brokered}
 use Rattle.named.proofs.Facts.{get_there}
 use Rattle.workers.specs.Coming.{CameThrough}
-use Rattle.workers.proofs.Comings.{queues_through}
+use Rattle.workers.proofs.brokers.Comings.{queues_through}
 use Rattle.workers.specs.Looking.{IsFoundOf, IsListedOf}
 
 -- a slot that has a queue now had that queue, or was free

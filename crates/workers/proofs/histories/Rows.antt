@@ -25,10 +25,12 @@ use Rattle.workers.specs.declared.entry.End.{End}
 use Rattle.workers.specs.declared.entry.End.TheVariants.{Answered, Interrupted, Open}
 use Rattle.workers.specs.declared.entry.Entry.{Entry}
 use Rattle.workers.specs.declared.entry.Request.{Request}
-use Rattle.workers.proofs.Carried.{CallsNow, HasNext, IsCarriedFor, IsCrashed, IsLost, IsNotOf, IsStillFor, RepliesStay}
-use Rattle.workers.proofs.Histories.{cut_off_if_lost, cut_off_longer, end_or_none, list_answered, list_called}
-use Rattle.workers.proofs.Histories.{list_elsewhere, list_ended_elsewhere, list_interrupted, list_longer, ran_within}
-use Rattle.workers.proofs.Lists.{all_ended, last_is_open, length_with_end, with_end_at}
+use Rattle.workers.proofs.guard.Acts.{CallsNow, HasNext, IsCarriedFor, IsCrashed, IsLost, IsNotOf, IsStillFor}
+use Rattle.workers.proofs.guard.Acts.{RepliesStay}
+use Rattle.workers.proofs.histories.Histories.{cut_off_if_lost, cut_off_longer, end_or_none, list_answered, list_called}
+use Rattle.workers.proofs.histories.Histories.{list_elsewhere, list_ended_elsewhere, list_interrupted, list_longer}
+use Rattle.workers.proofs.histories.Histories.{ran_within}
+use Rattle.workers.proofs.lists.LastCalls.{all_ended, last_is_open, length_with_end, with_end_at}
 
 -- each history of a session that keeps its numbers may arise
 nothing_arises : IsHistory []

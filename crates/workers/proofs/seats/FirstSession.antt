@@ -27,10 +27,10 @@ use Rattle.workers.specs.Opening.{IsCalling}
 use Rattle.workers.specs.declared.entry.End.{End}
 use Rattle.workers.specs.declared.entry.End.TheVariants.{Answered, Interrupted, Open}
 use Rattle.workers.specs.declared.entry.Entry.{Entry}
-use Rattle.workers.proofs.Comings.{counts_through, through_unrotated}
-use Rattle.workers.proofs.Carried.{CallsNow}
-use Rattle.workers.proofs.Lists.{all_ended}
-use Rattle.workers.proofs.Steps.{not_now}
+use Rattle.workers.proofs.brokers.Comings.{counts_through, through_unrotated}
+use Rattle.workers.proofs.guard.Acts.{CallsNow}
+use Rattle.workers.proofs.lists.LastCalls.{all_ended}
+use Rattle.workers.proofs.histories.Steps.{not_now}
 
 module _ (all : ℕ) (first : Sessioned) (g : Guarded) (well : IsGuardedWell all first g) where
   pub all_clients : g.session.broker.counts.clients ≡ all

@@ -22,12 +22,13 @@ use Rattle.workers.specs.declared.entry.End.{End}
 use Rattle.workers.specs.declared.entry.End.TheVariants.{Answered, Interrupted, Open}
 use Rattle.workers.specs.declared.entry.Entry.{Entry}
 use Rattle.workers.specs.declared.entry.Request.{Request}
-use Rattle.workers.proofs.Carried.{HasNext, IsCarriedFor, IsNotOf}
-use Rattle.workers.proofs.Follows.{followed_answered, followed_called, followed_carried, followed_interrupted, followed_kept, next_carried, same_carried, still_grows}
-use Rattle.workers.proofs.Names.{name_on, named_on, named_push, named_with_end}
-use Rattle.workers.proofs.Guarded.{IsOn, guarded_of, guarded_still, known_if_same}
-use Rattle.workers.proofs.Starts.{begun_kept, begun_refused, begun_run, never_zero}
-use Rattle.workers.proofs.Steps.{advanced_answered, advanced_lost, advanced_more, advanced_refused}
+use Rattle.workers.proofs.guard.Acts.{HasNext, IsCarriedFor, IsNotOf}
+use Rattle.workers.proofs.histories.Rows.{followed_answered, followed_called, followed_carried, followed_interrupted}
+use Rattle.workers.proofs.histories.Rows.{followed_kept, next_carried, same_carried, still_grows}
+use Rattle.workers.proofs.lists.Names.{name_on, named_on, named_push, named_with_end}
+use Rattle.workers.proofs.guard.Guarded.{IsOn, guarded_of, guarded_still, known_if_same}
+use Rattle.workers.proofs.histories.Starts.{begun_kept, begun_refused, begun_run, never_zero}
+use Rattle.workers.proofs.histories.Steps.{advanced_answered, advanced_lost, advanced_more, advanced_refused}
 
 -- another client than the one at t
 other_client : (u : ℕ) (client : Client) → u ≢ client.0 → (let other : Client = record { 0 = u } in other) ≢ client

@@ -9,8 +9,8 @@ use Rattle.events.proofs.Facts.{get_before}
 use Rattle.named.specs.Brokers.{is_down}
 use Rattle.session.specs.Sessions.{Sessioned}
 use Rattle.workers.specs.Deeds.{IsUnstopped}
-use Rattle.workers.proofs.Carried.{IsCarriedFor, IsStillFor}
-use Rattle.workers.proofs.Endings.{get_added}
+use Rattle.workers.proofs.guard.Acts.{IsCarriedFor, IsStillFor}
+use Rattle.workers.proofs.histories.Endings.{get_added}
 
 -- a crash that stands in a history stood there before
 was_there : (client : Client) (old new : List Event) → IsStillFor false client old new → (place : ℕ) → CrashAt new place

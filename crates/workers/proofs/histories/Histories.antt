@@ -19,10 +19,11 @@ use Rattle.workers.specs.declared.entry.End.{End}
 use Rattle.workers.specs.declared.entry.End.TheVariants.{Answered, Interrupted, Open}
 use Rattle.workers.specs.declared.entry.Entry.{Entry}
 use Rattle.workers.specs.declared.entry.Request.{Request}
-use Rattle.workers.proofs.Carried.{CallsNow, IsNotOf, IsStillFor}
-use Rattle.workers.proofs.Endings.{NoReturnIn, closed_grown, cut_off_grown, end_or_none_before, ended_grown, get_added}
-use Rattle.workers.proofs.Endings.{not_returned_grown, returned_grown}
-use Rattle.workers.proofs.Lists.{last_or_before, with_end_at, with_end_before, with_end_last}
+use Rattle.workers.proofs.guard.Acts.{CallsNow, IsNotOf, IsStillFor}
+use Rattle.workers.proofs.histories.Endings.{NoReturnIn, closed_grown, cut_off_grown, end_or_none_before, ended_grown}
+use Rattle.workers.proofs.histories.Endings.{get_added}
+use Rattle.workers.proofs.histories.Endings.{not_returned_grown, returned_grown}
+use Rattle.workers.proofs.lists.LastCalls.{last_or_before, with_end_at, with_end_before, with_end_last}
 
 -- the end of the client's call at p, or none up to the end of the history
 pub end_or_none : (events : List Event) (client : Client) (p : ℕ)

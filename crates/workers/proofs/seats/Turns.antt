@@ -7,7 +7,7 @@ use native.Mathlib.Decide.{ℕ_discrete}
 use Rattle.words.specs.declared.call.Client.{Client}
 use Rattle.events.proofs.Facts.{get_push_cases}
 use Rattle.roll.proofs.Facts.{get_set_else}
-use Rattle.workers.proofs.Seating.{client_of}
+use Rattle.workers.proofs.seats.GivenSeats.{client_of}
 use Rattle.workers.specs.Seats.{AreAllInOrder, AreEmpty}
 use Rattle.workers.specs.declared.entry.Entry.{Entry}
 

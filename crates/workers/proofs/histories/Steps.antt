@@ -28,8 +28,8 @@ use Rattle.session.specs.Requests.{IsAdvanced}
 use Rattle.session.specs.Sessions.{Sessioned}
 use Rattle.session.proofs.Facts.{answered_at, clients_there, holds_there, open_after, open_answer, up_there}
 use Rattle.workers.specs.Lists.{events_at, events_of}
-use Rattle.workers.proofs.Carried.{CallsNow, HasNext, IsCarriedFor, IsLost}
-use Rattle.workers.proofs.SlotsOn.{goes_by_act, next_came, quiet_carried, stays_by_client, stays_if_same}
+use Rattle.workers.proofs.guard.Acts.{CallsNow, HasNext, IsCarriedFor, IsLost}
+use Rattle.workers.proofs.histories.Slots.{goes_by_act, next_came, quiet_carried, stays_by_client, stays_if_same}
 
 -- a ready world knows the calls under way, and says so of each client
 working_there : (w : State) → Holds w → w.recovery ≡ None → Working (machine w)

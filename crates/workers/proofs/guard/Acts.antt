@@ -4,7 +4,8 @@ use Rattle.words.specs.declared.call.Client.{Client}
 use Rattle.words.specs.declared.call.Reply.{Reply}
 use Rattle.events.specs.History.{IsUnderWay}
 use Rattle.events.specs.declared.event.Event.{Event}
-use Rattle.events.specs.declared.event.Event.TheVariants.{Call as call_event, Return as return_event, Crash as crash_event, Ready as ready_event}
+use Rattle.events.specs.declared.event.Event.TheVariants.{Call as call_event, Return as return_event}
+use Rattle.events.specs.declared.event.Event.TheVariants.{Crash as crash_event, Ready as ready_event}
 use Rattle.named.specs.Brokers.{is_down}
 use Rattle.session.specs.Promises.{IsReplyAt}
 use Rattle.session.specs.Sessions.{Sessioned}

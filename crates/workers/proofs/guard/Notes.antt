@@ -26,7 +26,7 @@ use Rattle.workers.specs.Noting.{with_promised}
 use Rattle.workers.specs.declared.book.Book.{Book}
 use Rattle.workers.specs.declared.locked.Creating.{Creating}
 use Rattle.workers.specs.declared.locked.Creating.TheVariants.{Interrupted, Nothing, UnderWay}
-use Rattle.workers.proofs.Guarded.{Steps, none_is_more, under_way_is}
+use Rattle.workers.proofs.guard.Guarded.{Steps, none_is_more, under_way_is}
 
 -- room that is promised
 pub promised_less : (few many : ℕ) (o : Option ℕ) → few ≤ many → HasPromised many o → HasPromised few o

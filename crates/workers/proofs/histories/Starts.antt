@@ -31,8 +31,9 @@ use Rattle.session.specs.Requests.{IsBegunBy, IsStarted, answer_to, as_begun, is
 use Rattle.session.specs.Requests.{request_admission}
 use Rattle.session.specs.Sessions.{Sessioned, kept_at}
 use Rattle.session.proofs.Facts.{IsAnsweredAt, answered_at, holds_there, open_after, open_answer}
-use Rattle.workers.proofs.Carried.{HasNext, IsCarriedFor}
-use Rattle.workers.proofs.SlotsOn.{IsOnBy, goes_by_act, next_came, nothing_carried, quiet_carried, stays_by_client}
+use Rattle.workers.proofs.guard.Acts.{HasNext, IsCarriedFor}
+use Rattle.workers.proofs.histories.Slots.{IsOnBy, goes_by_act, next_came, nothing_carried, quiet_carried}
+use Rattle.workers.proofs.histories.Slots.{stays_by_client}
 
 -- a start that is refused adds nothing: all that it may come to is the load of a bump word
 refused_adds_none : (full : Bool) (w : State) (client : Client) (number : ℕ) (call : Call) (refusal : Refusal)

@@ -7,7 +7,7 @@ use Rattle.events.proofs.Facts.{get_push_cases}
 use Rattle.workers.specs.Lists.{AreNamed, with_end}
 use Rattle.workers.specs.declared.entry.End.{End}
 use Rattle.workers.specs.declared.entry.Entry.{Entry}
-use Rattle.workers.proofs.Lists.{with_end_at}
+use Rattle.workers.proofs.lists.LastCalls.{with_end_at}
 
 -- a queue keeps its name
 pub name_on : (old new : Brokered) → BrokerGoesOn old new → (slot : ℕ) (name : List ℕ)

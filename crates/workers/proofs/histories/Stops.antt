@@ -40,9 +40,9 @@ use Rattle.named.proofs.Facts.{is_free, world_holds}
 use Rattle.session.specs.Promises.{KeepsNumbers}
 use Rattle.session.specs.Sessions.{Sessioned}
 use Rattle.workers.specs.Lists.{events_at, events_of}
-use Rattle.workers.proofs.Carried.{IsCarriedFor, IsCrashed, IsDownRightly}
-use Rattle.workers.proofs.SlotsOn.{IsOnBy, IsSlotCarried, carried_each, goes_by_act, nothing_of, one_not_of}
-use Rattle.workers.proofs.SlotsOn.{same_carried, still_down, stays_if_opened, stays_if_quiet, stays_if_same}
+use Rattle.workers.proofs.guard.Acts.{IsCarriedFor, IsCrashed, IsDownRightly}
+use Rattle.workers.proofs.histories.Slots.{IsOnBy, IsSlotCarried, carried_each, goes_by_act, nothing_of, one_not_of}
+use Rattle.workers.proofs.histories.Slots.{same_carried, still_down, stays_if_opened, stays_if_quiet, stays_if_same}
 
 -- a creation that begins leaves the queues
 pub created_carried : (old new : Sessioned)

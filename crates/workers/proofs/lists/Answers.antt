@@ -2,7 +2,7 @@
 use Rattle.std.proofs.Common.{◌≡◌, refl, true, List, Option, Some, None, Result, Ok, Err, ap, ◌∙◌, subst}
 use Rattle.words.specs.declared.call.Reply.{Reply as AnyReply}
 use Rattle.words.specs.declared.refusal.Refusal.{Refusal}
-use Rattle.workers.proofs.Lists.{ends_open_push, with_end_push}
+use Rattle.workers.proofs.lists.LastCalls.{ends_open_push, with_end_push}
 use Rattle.workers.specs.Answers.{Finishes, IsListBegun, IsAddedOpen, Remembers, entry_of}
 use Rattle.workers.specs.Lists.{ends_open, with_end}
 use Rattle.workers.specs.Refusals.{IsSettledStart, is_settled_refusal}

@@ -39,11 +39,11 @@ use Rattle.workers.specs.declared.entry.Entry.{Entry}
 use Rattle.workers.specs.declared.locked.Creating.{Creating}
 use Rattle.workers.specs.declared.locked.Creating.TheVariants.{Interrupted, Nothing, UnderWay}
 use Rattle.workers.specs.Seats.{AreEmpty}
-use Rattle.workers.proofs.Comings.{through_further}
-use Rattle.workers.proofs.Carried.{IsCarriedFor}
-use Rattle.workers.proofs.Follows.{followed_empty, row_changed, rows_carried, set_here}
-use Rattle.workers.proofs.Names.{named_on}
-use Rattle.workers.proofs.Unstopped.{unstopped}
+use Rattle.workers.proofs.brokers.Comings.{through_further}
+use Rattle.workers.proofs.guard.Acts.{IsCarriedFor}
+use Rattle.workers.proofs.histories.Rows.{followed_empty, row_changed, rows_carried, set_here}
+use Rattle.workers.proofs.lists.Names.{named_on}
+use Rattle.workers.proofs.guard.Unstopped.{unstopped}
 
 -- what was settled once stays so over two acts
 pub session_further : (old now new : Sessioned) → SessionGoesOn old now → SessionGoesOn now new → SessionGoesOn old new

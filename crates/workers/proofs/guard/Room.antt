@@ -25,7 +25,7 @@ use Rattle.named.specs.declared.recovery.BrokerRecovery.TheVariants.{ReadDirecto
 use Rattle.named.proofs.Facts.{its_queue, listed_open}
 use Rattle.workers.specs.Recovered.{IsRecoveryRefusal}
 use Rattle.workers.specs.Renewing.{HasRoomToRecover}
-use Rattle.workers.proofs.Readying.{waits_there}
+use Rattle.workers.proofs.brokers.Readiness.{waits_there}
 
 -- a broker that began in fresh records has it
 pub room_when_renewed : (old new : Brokered) (slot : ℕ) → IsRenewedAt old new slot → HasRoomInEach new 1

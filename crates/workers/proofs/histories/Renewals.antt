@@ -28,8 +28,8 @@ use Rattle.workers.specs.Refusals.{IsWhyNotRenewed, IsWhyNoUsage}
 use Rattle.workers.specs.Usage.{IsUsageOf}
 use Rattle.workers.specs.declared.locked.Creating.{Creating}
 use Rattle.workers.specs.declared.looks.Usage.{Usage}
-use Rattle.workers.proofs.Beginning.{all_clients}
-use Rattle.workers.proofs.Comings.{counts_through, queues_through}
+use Rattle.workers.proofs.seats.FirstSession.{all_clients}
+use Rattle.workers.proofs.brokers.Comings.{counts_through, queues_through}
 
 -- nothing happened yet in a queue that begins
 booted_empty : (c : Counts) (slot : ℕ) (ws : Words) (place : Option Queue) (now : Option State)

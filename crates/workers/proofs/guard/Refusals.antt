@@ -50,11 +50,11 @@ use Rattle.workers.specs.Refusals.{is_settled_refusal, kind_asked}
 use Rattle.workers.specs.declared.entry.Entry.{Entry}
 use Rattle.workers.specs.Coming.{CameThrough}
 use Rattle.workers.specs.declared.entry.Request.{Request}
-use Rattle.workers.proofs.Comings.{queues_through}
-use Rattle.workers.proofs.Beginning.{all_clients, is_client, none_calls}
-use Rattle.workers.proofs.Carried.{CallsNow}
-use Rattle.workers.proofs.QueueKinds.{kind_of_queue}
-use Rattle.workers.proofs.Steps.{calls_now}
+use Rattle.workers.proofs.brokers.Comings.{queues_through}
+use Rattle.workers.proofs.seats.FirstSession.{all_clients, is_client, none_calls}
+use Rattle.workers.proofs.guard.Acts.{CallsNow}
+use Rattle.workers.proofs.brokers.QueueKinds.{kind_of_queue}
+use Rattle.workers.proofs.histories.Steps.{calls_now}
 
 -- a name that a queue had at the beginning is taken for good
 pub taken_still : (first now : Brokered) (was : Bool) (name : List ℕ) → CameThrough first was now → HasName first.directory name

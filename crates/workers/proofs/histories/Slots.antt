@@ -22,7 +22,7 @@ use Rattle.session.specs.Promises.{IsReplyIn}
 use Rattle.session.specs.Sessions.{Sessioned}
 use Rattle.session.proofs.Facts.{none_some}
 use Rattle.workers.specs.Lists.{events_at, events_of}
-use Rattle.workers.proofs.Carried.{HasNext, IsCarriedFor, IsDownRightly, IsNotOf}
+use Rattle.workers.proofs.guard.Acts.{HasNext, IsCarriedFor, IsDownRightly, IsNotOf}
 
 -- the history went on by these events, and the reply of each number stays
 pub record IsOnBy (was : Option State) (events : List Event) (now : Option State) : Type 0 where

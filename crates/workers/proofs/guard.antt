@@ -1,0 +1,9 @@
+pub mod Guarded
+pub mod Notes
+pub mod Moments
+pub mod SeatCalls
+pub mod Acts
+pub mod Idleness
+pub mod Refusals
+pub mod Room
+pub mod Unstopped

@@ -1,0 +1,6 @@
+pub mod Answers
+pub mod Counts
+pub mod LastCalls
+pub mod Names
+pub mod Tellings
+pub mod Receipts

@@ -1,0 +1,4 @@
+pub mod GivenSeats
+pub mod Turns
+pub mod FirstSession
+pub mod QueuesSeen
