@@ -9,9 +9,9 @@ use Rattle.logqueue.specs.Numbers.{told_queue}
 use Rattle.words.specs.declared.refusal.Refusal.{Refusal}
 use Rattle.words.specs.declared.refusal.Refusal.TheVariants.{NoMemory}
 use Rattle.arena.specs.Shape.{Shape}
-use Rattle.recover.specs.Sound.{AreSoundWords, IsDamaged}
+use Rattle.sound_words.specs.Sound.{AreSoundWords, IsDamaged}
 use Rattle.recover.specs.Table.{boot_recovery}
-use Rattle.recover.specs.Told.{tells_by}
+use Rattle.sound_words.specs.Told.{tells_by}
 use Rattle.interleave.specs.Values.{value_of_place}
 use Rattle.interleave.specs.State.{State}
 use Rattle.interleave.specs.declared.queue.Queue.{Queue}

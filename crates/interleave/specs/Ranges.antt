@@ -8,7 +8,7 @@ use Rattle.arena.specs.Shape.{Shape}
 use Rattle.arena.specs.Place.{IsPlace}
 use Rattle.arena.specs.Ranges.{Fits, IsReadByCalls}
 use Rattle.arena.specs.declared.place.Place.{Place}
-use Rattle.recover.specs.Sound.{SizeIsSound}
+use Rattle.sound_words.specs.Sound.{SizeIsSound}
 use Rattle.stepper.specs.Preparation.{IsBegun}
 use Rattle.helping.specs.Table.{IsPoint}
 use Rattle.words.specs.declared.call.Kind.{Kind}

@@ -3,7 +3,7 @@ use Rattle.std.specs.Prelude.{◌≡◌, ℕ, ◌≤◌, ◌<◌, ◌⊎◌, Lis
 use Rattle.words.specs.declared.call.Client.{Client}
 use Rattle.arena.specs.Shape.{record_of}
 use Rattle.arena.specs.Words.{bumps}
-use Rattle.recover.specs.Sound.{IsBlank, IsIssued}
+use Rattle.sound_words.specs.Sound.{IsBlank, IsIssued}
 use Rattle.events.specs.Effects.{order_of}
 use Rattle.events.specs.History.{CrashAt, IsEnd}
 use Rattle.events.specs.Orders.{InOrder}

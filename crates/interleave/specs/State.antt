@@ -22,8 +22,8 @@ use Rattle.helping.specs.Table.{access_of}
 use Rattle.helping.specs.declared.op.Op.{Op}
 use Rattle.events.specs.Effects.{order_of}
 use Rattle.events.specs.declared.event.Entry.{Entry}
-use Rattle.recover.specs.Sound.{AreSoundWords}
-use Rattle.recover.specs.Told.{tells_by}
+use Rattle.sound_words.specs.Sound.{AreSoundWords}
+use Rattle.sound_words.specs.Told.{tells_by}
 use Rattle.recover.specs.Table.{boot_recovery, access_of as recovery_access}
 use Rattle.stepper.specs.declared.resume.After.TheVariants.{More as go_on, Done as Ready}
 use Rattle.recover.specs.declared.recovery.Recovery.{Recovery}

@@ -2,7 +2,7 @@
 
 ghost use Rattle.std.specs.Prelude.{◌≡◌, ◌≤◌, ◌<◌, length, is_some, slice_index_or, IfOk, IfErr, OnOk, OnErr, Some, None};
 ghost use Rattle.persist.specs.Memory.{Words, words_after_crash};
-ghost use Rattle.recover.specs.Sound.{AreSoundWords};
+ghost use Rattle.sound_words.specs.Sound.{AreSoundWords};
 ghost use Rattle.recover.specs.Table.{boot_recovery};
 ghost use Rattle.interleave.specs.Booted.{booted_world, MayRefuse};
 ghost use Rattle.interleave.specs.Core.{core_with_room, state_of};
@@ -22,7 +22,7 @@ use crate::trace::Trace;
 use arena::Layout;
 use events::{History, Order, Sequence, copied};
 use persist::KeptWords;
-use recover::{sound, tells};
+use sound_words::{sound, tells};
 use std::alloc::Global;
 use std::marker::Model;
 use words::{Client, Refusal, Told, Value};

@@ -3,8 +3,8 @@
 ghost use Rattle.std.specs.Prelude.{◌≡◌, ◌≤◌, true, false, Ok, Err, IfOk, IfErr, OnOk};
 ghost use Rattle.persist.specs.Memory.{Words};
 ghost use Rattle.arena.specs.Content.{kept_content as content_of};
-ghost use Rattle.recover.specs.Sound.{AreSoundWords};
-ghost use Rattle.recover.specs.Told.{tells_by};
+ghost use Rattle.sound_words.specs.Sound.{AreSoundWords};
+ghost use Rattle.sound_words.specs.Told.{tells_by};
 ghost use Rattle.interleave.specs.Calls.{is_no_memory};
 ghost use Rattle.interleave.specs.Core.{state_of};
 ghost use Rattle.interleave.specs.Holds.{Holds};
@@ -16,7 +16,7 @@ use crate::content::content;
 use crate::lent::Core;
 use events::copied;
 use persist::KeptWords;
-use recover::tells;
+use sound_words::tells;
 use words::{Refusal, Reports, Value};
 
 impl Core {

@@ -3,7 +3,7 @@
 ghost use Rattle.std.specs.Prelude.{◌≡◌, ◌≤◌, ◌<◌, ◌+◌, length, true, false, Ok, IfOk, IfErr, OnOk, OnErr};
 ghost use Rattle.words.specs.declared.call.Call.{Call as AnyCall};
 ghost use Rattle.protocol.specs.declared.acts.Act.{Act};
-ghost use Rattle.recover.specs.Sound.{AreSoundWords};
+ghost use Rattle.sound_words.specs.Sound.{AreSoundWords};
 ghost use Rattle.interleave.specs.Booted.{booted_world, MayRefuse};
 ghost use Rattle.interleave.specs.Calls.{is_no_memory};
 ghost use Rattle.interleave.specs.Holds.{Holds, IsExplained};

@@ -22,10 +22,10 @@ use Rattle.arena.specs.Words.{values_in}
 use Rattle.arena.specs.declared.form.Form.TheVariants.{OfItems, OfValues}
 use Rattle.arena.specs.declared.place.Part.TheVariants.{Length, First, Second, Third}
 use Rattle.arena.specs.declared.place.Place.{Place}
-use Rattle.recover.specs.Table.{no_call}
-use Rattle.recover.specs.Told.{node_claimed_by, row_in, enqueue_outcome, dequeue_outcome_in, outcome_in, report_in}
-use Rattle.recover.specs.Told.{told_in, tells_in}
-use Rattle.recover.proofs.Facts.{among_any}
+use Rattle.sound_words.specs.Told.{no_call}
+use Rattle.sound_words.specs.Told.{node_claimed_by, row_in, enqueue_outcome, dequeue_outcome_in, outcome_in, report_in}
+use Rattle.sound_words.specs.Told.{told_in, tells_in}
+use Rattle.sound_words.proofs.Facts.{among_any}
 use Rattle.migration.specs.Migrated.{cell_migrated, migrated, part_migrated}
 use Rattle.migration.proofs.Values.{value_fits}
 

@@ -9,7 +9,7 @@ use Rattle.persist.specs.Memory.{Words}
 use Rattle.arena.specs.Broker.{block_in}
 use Rattle.arena.specs.Shape.{Counts, shape_of}
 use Rattle.arena.specs.declared.form.Form.TheVariants.{OfValues}
-use Rattle.recover.specs.Sound.{AreSoundWordsIn}
+use Rattle.sound_words.specs.Sound.{AreSoundWordsIn}
 use Rattle.directory.specs.Directory.{Directory}
 use Rattle.directory.specs.Queue.{slot_in}
 use Rattle.directory.specs.declared.queue.Queue.{Queue}

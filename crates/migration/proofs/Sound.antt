@@ -15,12 +15,12 @@ use Rattle.arena.specs.declared.form.Form.TheVariants.{OfItems, OfValues}
 use Rattle.arena.specs.declared.place.Part.{Part}
 use Rattle.arena.specs.declared.place.Part.TheVariants.{Length, First, Second, Third}
 use Rattle.arena.specs.declared.place.Place.{Place}
-use Rattle.recover.specs.Sound.{AnswersAreSoundIn, ChainIsSoundIn, ClaimsAreSoundIn, EndsAreSound, EntriesAreSound}
-use Rattle.recover.specs.Sound.{IsAnnounced, IsBlankAnswer, IsBlankRecordIn, IsClaimOf, IsClaimed, IsIssued}
-use Rattle.recover.specs.Sound.{IsOfSomeCall, IsOnChain, IsOwn, IsPassed, IsResultIn, IsSoundIn, RecordsAreSoundIn}
-use Rattle.recover.specs.Sound.{RemovedIsSound, RowsAreSoundIn, StatusIsSound}
-use Rattle.recover.specs.Told.{node_claimed_by}
-use Rattle.recover.proofs.Facts.{among_any, among_none, is_among_or_not}
+use Rattle.sound_words.specs.Sound.{AnswersAreSoundIn, ChainIsSoundIn, ClaimsAreSoundIn, EndsAreSound, EntriesAreSound}
+use Rattle.sound_words.specs.Sound.{IsAnnounced, IsBlankAnswer, IsBlankRecordIn, IsClaimOf, IsClaimed, IsIssued}
+use Rattle.sound_words.specs.Sound.{IsOfSomeCall, IsOnChain, IsOwn, IsPassed, IsResultIn, IsSoundIn, RecordsAreSoundIn}
+use Rattle.sound_words.specs.Sound.{RemovedIsSound, RowsAreSoundIn, StatusIsSound}
+use Rattle.sound_words.specs.Told.{node_claimed_by}
+use Rattle.sound_words.proofs.Facts.{among_any, among_none, is_among_or_not}
 use Rattle.migration.specs.Migrated.{cell_migrated, claimed_node, migrated, node_or_none, part_migrated}
 use Rattle.migration.proofs.Alike.{cell_named}
 use Rattle.migration.proofs.Values.{value_fits}

@@ -8,9 +8,9 @@ use Rattle.arena.specs.Content.{chain_of}
 use Rattle.arena.specs.Shape.{Shape}
 use Rattle.arena.specs.Words.{marks}
 use Rattle.arena.specs.declared.place.Place.{Place}
-use Rattle.recover.specs.Order.{IsClaimTable, IsOrder}
-use Rattle.recover.specs.Told.{node_claimed_by}
-use Rattle.recover.proofs.Facts.{among_any, among_none}
+use Rattle.sound_words.specs.Order.{IsClaimTable, IsOrder}
+use Rattle.sound_words.specs.Told.{node_claimed_by}
+use Rattle.sound_words.proofs.Facts.{among_any, among_none}
 use Rattle.migration.specs.Migrated.{claimed_node, node_or_none}
 
 pub off_chain : (s : Shape) (k : Place → ℕ) (place : ℕ → ℕ) → IsOrder s k place → (n : ℕ) → place n ≡ 0

@@ -11,10 +11,10 @@ use Rattle.arena.specs.Place.{IsPlace}
 use Rattle.arena.specs.Shape.{Counts, Shape, shape_of}
 use Rattle.arena.specs.declared.form.Form.TheVariants.{OfItems, OfValues}
 use Rattle.arena.specs.declared.place.Place.{Place}
-use Rattle.recover.specs.Kept.{kept_by, kept_in}
-use Rattle.recover.specs.Sound.{AreSoundWords, IsSoundIn}
-use Rattle.recover.specs.Told.{tells_by, tells_in}
-use Rattle.recover.proofs.Facts.{content_like as kept_content_like, sound_like, tells_like as kept_tells_like}
+use Rattle.sound_words.specs.Kept.{kept_by, kept_in}
+use Rattle.sound_words.specs.Sound.{AreSoundWords, IsSoundIn}
+use Rattle.sound_words.specs.Told.{tells_by, tells_in}
+use Rattle.sound_words.proofs.Facts.{content_like as kept_content_like, sound_like, tells_like as kept_tells_like}
 use Rattle.migration.specs.Migrated.{migrated}
 use Rattle.migration.specs.Words.{HaveQueueOf, block_migrated, migrated_or_zero, word_migrated}
 use Rattle.migration.proofs.Alike.{content_like, tells_like}

@@ -10,7 +10,7 @@ use Rattle.arena.specs.declared.place.Place.TheVariants.{Item, Cell}
 use Rattle.arena.specs.Content.{chain_of}
 use Rattle.arena.specs.Shape.{Shape}
 use Rattle.arena.specs.Words.{item_part, values_in}
-use Rattle.recover.specs.Told.{node_claimed_by}
+use Rattle.sound_words.specs.Told.{node_claimed_by}
 
 -- a part of the message of a node: on the chain that of its value's four bytes, and 0 off it
 abbrev pub part_migrated : Bool → Value → Part → ℕ

@@ -10,9 +10,9 @@ use Rattle.arena.specs.Shape.{Counts, Shape, shape_of}
 use Rattle.arena.specs.declared.broker.TheConstants.{BLOCKS_FROM, SLOTS}
 use Rattle.arena.specs.declared.form.Form.TheVariants.{OfItems, OfValues}
 use Rattle.arena.specs.declared.place.Place.{Place}
-use Rattle.recover.specs.Kept.{kept_by, kept_in}
-use Rattle.recover.specs.Sound.{AreSoundWords, AreSoundWordsIn}
-use Rattle.recover.specs.Told.{tells_by, tells_in}
+use Rattle.sound_words.specs.Kept.{kept_by, kept_in}
+use Rattle.sound_words.specs.Sound.{AreSoundWords, AreSoundWordsIn}
+use Rattle.sound_words.specs.Told.{tells_by, tells_in}
 use Rattle.directory.specs.Directory.{Directory, HasQueue}
 use Rattle.directory.specs.Queue.{directory_of, slot_in}
 use Rattle.directory.specs.Sound.{AreBrokerWordsIn, counts_in}

@@ -8,15 +8,15 @@ ghost use Rattle.arena.specs.Place.{IsNode, IsPlace, IsRecord};
 ghost use Rattle.arena.specs.Shape.{Counts};
 ghost use Rattle.arena.specs.declared.form.Form.TheVariants.{OfItems, OfValues};
 ghost use Rattle.arena.specs.declared.place.Place.TheVariants.{Cell, Item};
-ghost use Rattle.recover.specs.Kept.{kept_of};
-ghost use Rattle.recover.specs.Order.{IsSurveyOf};
-ghost use Rattle.recover.specs.Sound.{AreSoundWordsIn, IsSoundIn};
+ghost use Rattle.sound_words.specs.Kept.{kept_of};
+ghost use Rattle.sound_words.specs.Order.{IsSurveyOf};
+ghost use Rattle.sound_words.specs.Sound.{AreSoundWordsIn, IsSoundIn};
 ghost use Rattle.migration.specs.Migrated.{migrated};
 ghost use Rattle.migration.specs.Words.{block_migrated, word_migrated};
 
 use arena::{Form, GOT_CELL, Layout, Part, Place, block_size, item_part};
 use persist::KeptWords;
-use recover::{KeptQueue, Survey, surveyed};
+use sound_words::{KeptQueue, Survey, surveyed};
 use std::alloc::AllocError;
 use words::{NodeId, Token, Value};
 

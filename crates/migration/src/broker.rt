@@ -6,7 +6,7 @@ ghost use Rattle.arena.specs.Broker.{block_in, broker_size_in};
 ghost use Rattle.arena.specs.Shape.{shape_of};
 ghost use Rattle.arena.specs.declared.form.Form.TheVariants.{OfValues};
 ghost use Rattle.directory.specs.Sound.{counts_in};
-ghost use Rattle.recover.specs.Sound.{AreSoundWordsIn};
+ghost use Rattle.sound_words.specs.Sound.{AreSoundWordsIn};
 ghost use Rattle.migration.specs.Words.{MayBeMigrated, broker_migrated, slot_block_migrated, slot_migrated};
 
 use crate::block::add_block;

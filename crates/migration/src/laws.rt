@@ -10,8 +10,8 @@ ghost use Rattle.arena.specs.declared.place.Place.{Place};
 ghost use Rattle.directory.specs.Queue.{directory_of, slot_in};
 ghost use Rattle.directory.specs.Sound.{AreBrokerWords, AreBrokerWordsIn, HeadIsSoundIn, counts_in};
 ghost use Rattle.directory.specs.declared.queue.Queue.{Queue};
-ghost use Rattle.recover.specs.Sound.{AreSoundWordsIn, IsSound, IsSoundIn};
-ghost use Rattle.recover.specs.Told.{tells_by, tells_in};
+ghost use Rattle.sound_words.specs.Sound.{AreSoundWordsIn, IsSound, IsSoundIn};
+ghost use Rattle.sound_words.specs.Told.{tells_by, tells_in};
 ghost use Rattle.migration.specs.Migrated.{migrated};
 ghost use Rattle.migration.specs.Words.{
   HasSoundQueue,

@@ -15,7 +15,7 @@ use Rattle.directory.specs.Sound.{AreBrokerWordsIn, IsBrokerDamagedIn, counts_in
 use Rattle.directory.specs.declared.queue.Queue.{Queue}
 use Rattle.interleave.specs.Booted.{booted_world}
 use Rattle.interleave.specs.State.{State}
-use Rattle.recover.specs.Sound.{AreSoundWordsIn, IsDamagedIn}
+use Rattle.sound_words.specs.Sound.{AreSoundWordsIn, IsDamagedIn}
 use Rattle.named.specs.Brokers.{Brokered, IsSlotAt, block_words, world_at}
 use Rattle.named.specs.Slots.{kind_in, world_in}
 use Rattle.named.specs.Stopping.{booting}

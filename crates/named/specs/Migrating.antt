@@ -5,8 +5,8 @@ use Rattle.arena.specs.Broker.{block_in}
 use Rattle.arena.specs.Content.{content_in}
 use Rattle.arena.specs.Shape.{Shape, shape_of}
 use Rattle.arena.specs.declared.form.Form.TheVariants.{OfValues}
-use Rattle.recover.specs.Kept.{kept_by}
-use Rattle.recover.specs.Told.{tells_in}
+use Rattle.sound_words.specs.Kept.{kept_by}
+use Rattle.sound_words.specs.Told.{tells_in}
 use Rattle.directory.specs.Directory.{HasQueue}
 use Rattle.directory.specs.Queue.{directory_of}
 use Rattle.directory.specs.Sound.{counts_in}

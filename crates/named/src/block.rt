@@ -6,7 +6,7 @@ ghost use Rattle.persist.specs.Changes.{change_at, change_of};
 ghost use Rattle.persist.specs.Noted.{answer_in, change_behind, change_in, IsNoted};
 ghost use Rattle.persist.specs.declared.memory.TheConstants.{PORTS};
 ghost use Rattle.persist.specs.Memory.{Words, words_in, words_after_crash, words_after_eviction};
-ghost use Rattle.recover.specs.Sound.{AreSoundWords};
+ghost use Rattle.sound_words.specs.Sound.{AreSoundWords};
 ghost use Rattle.recover.specs.Table.{boot_recovery};
 ghost use Rattle.interleave.specs.Booted.{booted_world};
 ghost use Rattle.interleave.specs.Queue.{told_in, told_to};

@@ -3,7 +3,7 @@
 ghost use Rattle.std.specs.Prelude.{◌≡◌, ◌≢◌, ◌↔◌, ◌⊎◌, ◌<◌, ◌≤◌, ◌+◌, ℕ, true, length, replicate, slice_set, Ok, Err, IfOk, IfErr, OnOk, OnErr, IfSome, IfNone, IsSome, None, if◌then◌else◌};
 ghost use Rattle.arena.specs.Broker.{block_in, broker_size_in};
 ghost use Rattle.arena.specs.Shape.{shape_of};
-ghost use Rattle.recover.specs.Sound.{AreSoundWordsIn, IsDamagedIn};
+ghost use Rattle.sound_words.specs.Sound.{AreSoundWordsIn, IsDamagedIn};
 ghost use Rattle.named.specs.Booting.{AreBootWords, AreBootWordsIn, AreRead, AreReadIn, IsBlockDamagedIn, IsBooted, MayRefuse};
 ghost use Rattle.named.specs.Promises.{KeepsPromises};
 
@@ -13,7 +13,7 @@ use crate::slots::boot_each;
 use arena::{BrokerLayout, Form, SLOTS, SlotId};
 use directory::{DirectoryRecovery, KeptBroker, sound as sound_directory};
 use persist::Memory;
-use recover::sound_in as sound_queue;
+use sound_words::sound_in as sound_queue;
 use std::alloc::Global;
 use words::{Kind, Refusal};
 

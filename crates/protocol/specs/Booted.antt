@@ -6,9 +6,9 @@ use Rattle.arena.specs.Content.{kept_content}
 use Rattle.arena.specs.Place.{IsPlace}
 use Rattle.arena.specs.Shape.{Shape}
 use Rattle.arena.specs.declared.place.Place.{Place}
-use Rattle.recover.specs.Sound.{IsSound}
+use Rattle.sound_words.specs.Sound.{IsSound}
 use Rattle.recover.specs.Table.{boot_recovery}
-use Rattle.recover.specs.Told.{tells_by}
+use Rattle.sound_words.specs.Told.{tells_by}
 use Rattle.protocol.specs.Machine.{World}
 
 -- recovery begins; nobody calls, and the history is empty. What the words hold and tell is what it begins with

@@ -1,7 +1,7 @@
 -- A rotation of the machine: its history ends, and another begins on what the kept words hold and tell.
 use Rattle.std.specs.Prelude.{[]}
 use Rattle.arena.specs.Content.{kept_content}
-use Rattle.recover.specs.Told.{tells_by}
+use Rattle.sound_words.specs.Told.{tells_by}
 use Rattle.protocol.specs.Machine.{Trace, World}
 
 -- of a history in which nothing happened yet

@@ -17,8 +17,8 @@ ghost use Rattle.protocol.specs.Measure.{most_steps};
 ghost use Rattle.protocol.specs.Recovered.{IsRecovered};
 ghost use Rattle.protocol.specs.declared.acts.Act.{Act};
 ghost use Rattle.protocol.specs.declared.acts.Act.TheVariants.{Step, Recover};
-ghost use Rattle.recover.specs.Sound.{IsSound};
-ghost use Rattle.recover.specs.Told.{tells_by};
+ghost use Rattle.sound_words.specs.Sound.{IsSound};
+ghost use Rattle.sound_words.specs.Told.{tells_by};
 
 /// The history is explained by the effects as they came, which the kept words hold.
 pub fn every_history_is_explained()

@@ -10,7 +10,7 @@ use Rattle.words.specs.declared.call.Reply.{Reply}
 use Rattle.words.specs.declared.call.Reply.TheVariants.{Done, Got, Empty}
 use Rattle.words.specs.declared.told.Outcome.TheVariants.{NotTaken, Taken}
 use Rattle.words.specs.declared.told.Row.{Row}
-use Rattle.words.specs.declared.told.Row.TheVariants.{NoCall, Open, Empty as row_empty, Got as row_got}
+use Rattle.words.specs.declared.told.Row.TheVariants.{Open, Empty as row_empty, Got as row_got}
 use Rattle.words.specs.declared.told.Told.{Told}
 use Rattle.words.specs.declared.told.Told.TheVariants.{None as told_none, Verdict as told_verdict, Row as told_row}
 use Rattle.words.specs.declared.limits.TheConstants.{MAX_CALL_NUMBER, MAX_CLIENTS}
@@ -22,6 +22,7 @@ use Rattle.arena.specs.Answers.{result_of}
 use Rattle.arena.specs.declared.place.Write.{Write}
 use Rattle.arena.specs.declared.place.Place.{Place}
 use Rattle.arena.specs.declared.place.Place.TheVariants.{Head, Tail, Announcement, Item, Next, Mark, Cell, Insert, Number, EntryKind, Status, EntryNode}
+use Rattle.sound_words.specs.Told.{no_call}
 use Rattle.stepper.specs.Loading.{part_next, loaded_with}
 use Rattle.stepper.specs.declared.loading.Loading.{Loading}
 use Rattle.stepper.specs.declared.loading.Loading.TheVariants.{Length as at_length}
@@ -101,10 +102,6 @@ not_taken_as number = told_verdict (record { number = number; outcome = NotTaken
 -- a client is told this
 abbrev pub report_of : Client → Told → After RecoveryPoint Report
 report_of client told = Ended (record { client = client; told = told })
-
-abbrev pub no_call : Kind → Told
-no_call Durable = told_row NoCall
-no_call Log = told_none
 
 -- what a cell says: of a node that it names the message comes
 abbrev pub to_row : Client → ℕ → After RecoveryPoint Report

@@ -11,7 +11,7 @@ use Rattle.arena.specs.Form.{running}
 use Rattle.arena.specs.Limits.{AreCounts}
 use Rattle.arena.specs.Shape.{Counts, shape_of}
 use Rattle.persist.specs.Memory.{Words}
-use Rattle.recover.specs.Sound.{AreSoundWords}
+use Rattle.sound_words.specs.Sound.{AreSoundWords}
 use Rattle.directory.specs.Directory.{Directory, IsDirectory}
 use Rattle.directory.specs.Queue.{directory_of, slot_in}
 use Rattle.directory.specs.Sound.{AreBrokerWords, DirectoryIsSound, IsBlockZero, SlotIsSound, counts_in}

@@ -11,8 +11,8 @@ use Rattle.arena.specs.Shape.{Shape, greatest, owner, record_of}
 use Rattle.arena.specs.Words.{links}
 use Rattle.arena.specs.declared.place.Place.{Place}
 use Rattle.arena.proofs.Facts.{Distinct}
-use Rattle.recover.specs.Sound.{IsIssued}
-use Rattle.recover.proofs.Facts.{owner_below}
+use Rattle.sound_words.specs.Sound.{IsIssued}
+use Rattle.sound_words.proofs.Facts.{owner_below}
 use Rattle.renewal.specs.Renewal.{Renewal}
 use Rattle.renewal.specs.Renewed.{chain, has_node, removed, renewed, waiting}
 use Rattle.renewal.specs.Roles.{first_record, item_record, role_of, second_record, used_for}

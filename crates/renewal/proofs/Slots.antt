@@ -5,8 +5,8 @@ use Rattle.persist.specs.Memory.{Words}
 use Rattle.arena.specs.Broker.{block_in}
 use Rattle.arena.specs.Form.{running}
 use Rattle.arena.specs.Shape.{Counts, Shape, shape_of}
-use Rattle.recover.specs.Kept.{kept_in}
-use Rattle.recover.specs.Sound.{AreSoundWords}
+use Rattle.sound_words.specs.Kept.{kept_in}
+use Rattle.sound_words.specs.Sound.{AreSoundWords}
 use Rattle.directory.specs.Directory.{Directory, IsDirectory}
 use Rattle.directory.specs.Queue.{slot_in}
 use Rattle.directory.specs.Sound.{counts_in}

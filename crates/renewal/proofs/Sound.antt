@@ -22,10 +22,10 @@ use Rattle.arena.specs.declared.place.Part.{Part}
 use Rattle.arena.specs.declared.place.Part.TheVariants.{Length, First as first_part, Second as second_part, Third}
 use Rattle.arena.specs.declared.place.Place.{Place}
 use Rattle.arena.proofs.Facts.{in_left, in_right}
-use Rattle.recover.specs.Sound.{AnswersAreSound, ChainIsSound, ClaimsAreSound, EndsAreSound, EntriesAreSound}
-use Rattle.recover.specs.Sound.{IsAnnounced, IsBlank, IsBlankAnswer, IsClaimOf, IsClaimed, IsInserted, IsIssued}
-use Rattle.recover.specs.Sound.{IsOnChain, IsOwn, IsPassed, IsResult, IsSound, LogIsSound, RecordsAreSound}
-use Rattle.recover.specs.Sound.{RemovedIsSound, RowIsSound, RowsAreSound, StatusIsSound}
+use Rattle.sound_words.specs.Sound.{AnswersAreSound, ChainIsSound, ClaimsAreSound, EndsAreSound, EntriesAreSound}
+use Rattle.sound_words.specs.Sound.{IsAnnounced, IsBlank, IsBlankAnswer, IsClaimOf, IsClaimed, IsInserted, IsIssued}
+use Rattle.sound_words.specs.Sound.{IsOnChain, IsOwn, IsPassed, IsResult, IsSound, LogIsSound, RecordsAreSound}
+use Rattle.sound_words.specs.Sound.{RemovedIsSound, RowIsSound, RowsAreSound, StatusIsSound}
 use Rattle.renewal.specs.Renewal.{Renewal, told_in}
 use Rattle.renewal.specs.Renewed.{announced, cell, cell_told, chain, entry_kind, entry_node, has_node, has_verdict}
 use Rattle.renewal.specs.Renewed.{is_linked, mark, message, number, number_at, number_told, outcome_node}

@@ -21,10 +21,10 @@ use Rattle.arena.specs.Content.{chain_of, kept_content}
 use Rattle.arena.specs.Shape.{Shape}
 use Rattle.arena.specs.Words.{cells, entry_kinds, item_again, marks, numbers, statuses, values}
 use Rattle.arena.specs.declared.place.Place.{Place}
-use Rattle.recover.specs.Sound.{IsOnChain}
-use Rattle.recover.specs.Table.{no_call}
-use Rattle.recover.specs.Told.{dequeue_outcome, node_claimed_by, outcome_by, report_on, row_with, told_by}
-use Rattle.recover.proofs.Facts.{among_any, told_empty, told_nothing, told_of}
+use Rattle.sound_words.specs.Sound.{IsOnChain}
+use Rattle.sound_words.specs.Told.{no_call}
+use Rattle.sound_words.specs.Told.{dequeue_outcome, node_claimed_by, outcome_by, report_on, row_with, told_by}
+use Rattle.sound_words.proofs.Facts.{among_any, told_empty, told_nothing, told_of}
 use Rattle.renewal.specs.Renewal.{Renewal, item_in, told_in}
 use Rattle.renewal.specs.Renewed.{announced, cell_told, has_node, has_verdict, message, number_told, outcome_node}
 use Rattle.renewal.specs.Renewed.{outcome_record, outcome_status, removed, renewed, status, told_node, told_status}

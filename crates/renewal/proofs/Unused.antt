@@ -14,7 +14,7 @@ use Rattle.arena.specs.declared.form.Form.TheVariants.{OfItems}
 use Rattle.arena.specs.declared.place.Part.TheVariants.{Length, First, Second, Third}
 use Rattle.arena.specs.declared.place.Place.{Place}
 use Rattle.arena.specs.declared.place.Place.TheVariants.{Head, Tail, Announcement, Bump, Item, Next, Mark, Cell, Insert, Number, EntryKind, Status, EntryNode}
-use Rattle.recover.specs.Sound.{IsBlank, IsBlankAnswer}
+use Rattle.sound_words.specs.Sound.{IsBlank, IsBlankAnswer}
 use Rattle.renewal.specs.Renewal.{Renewal}
 use Rattle.renewal.specs.Renewed.{renewed}
 use Rattle.renewal.specs.Roles.{first_record, used_for}

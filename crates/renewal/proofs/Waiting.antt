@@ -10,8 +10,8 @@ use Rattle.arena.specs.Place.{IsNode}
 use Rattle.arena.specs.Words.{links, marks, values}
 use Rattle.arena.specs.declared.place.Place.{Place}
 use Rattle.arena.specs.declared.place.Place.TheVariants.{Next}
-use Rattle.recover.specs.Sound.{IsSound}
-use Rattle.recover.proofs.Facts.{sound_fits, walk_end, walk_next}
+use Rattle.sound_words.specs.Sound.{IsSound}
+use Rattle.sound_words.proofs.Facts.{sound_fits, walk_end, walk_next}
 
 -- the unclaimed nodes that so many links from a node on reach
 abbrev pub waiting_from : (Place → ℕ) → ℕ → ℕ → List ℕ

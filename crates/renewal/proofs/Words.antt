@@ -16,11 +16,11 @@ use Rattle.arena.specs.Shape.{Shape}
 use Rattle.arena.specs.declared.place.Place.{Place}
 use Rattle.arena.specs.declared.place.Place.TheVariants.{Bump}
 use Rattle.arena.proofs.Facts.{queue_fits}
-use Rattle.recover.specs.Kept.{kept_in}
-use Rattle.recover.specs.Sound.{AreSoundWords}
-use Rattle.recover.specs.Table.{no_call}
-use Rattle.recover.specs.Told.{told_by}
-use Rattle.recover.proofs.Facts.{content_like, sound_like, told_like, told_nobody}
+use Rattle.sound_words.specs.Kept.{kept_in}
+use Rattle.sound_words.specs.Sound.{AreSoundWords}
+use Rattle.sound_words.specs.Told.{no_call}
+use Rattle.sound_words.specs.Told.{told_by}
+use Rattle.sound_words.proofs.Facts.{content_like, sound_like, told_like, told_nobody}
 use Rattle.renewal.specs.Renewal.{Renewal, told_in}
 use Rattle.renewal.specs.Renewed.{renewed}
 use Rattle.renewal.specs.Words.{IsRenewalOf, MayBeRenewed, MayBecome, block_renewed, renewal_of, renewed_or_zero}

@@ -7,8 +7,8 @@ use Rattle.arena.specs.Content.{kept_content}
 use Rattle.arena.specs.Form.{running}
 use Rattle.arena.specs.Shape.{Counts, shape_of}
 use Rattle.arena.specs.declared.broker.TheConstants.{DIRECTORY_WORDS, HEAD_WORDS, SLOTS}
-use Rattle.recover.specs.Kept.{kept_in}
-use Rattle.recover.specs.Sound.{AreSoundWords}
+use Rattle.sound_words.specs.Kept.{kept_in}
+use Rattle.sound_words.specs.Sound.{AreSoundWords}
 use Rattle.directory.specs.Directory.{Directory, HasQueue}
 use Rattle.directory.specs.Queue.{directory_of, slot_in}
 use Rattle.directory.specs.Sound.{AreBrokerWords, counts_in}

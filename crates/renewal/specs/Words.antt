@@ -21,10 +21,10 @@ use Rattle.arena.specs.Place.{IsClient, IsNode}
 use Rattle.arena.specs.Shape.{Shape, greatest}
 use Rattle.arena.specs.Words.{bumps}
 use Rattle.arena.specs.declared.place.Place.{Place}
-use Rattle.recover.specs.Kept.{kept_in}
-use Rattle.recover.specs.Sound.{AreSoundWords}
-use Rattle.recover.specs.Table.{no_call}
-use Rattle.recover.specs.Told.{tells_by, told_by}
+use Rattle.sound_words.specs.Kept.{kept_in}
+use Rattle.sound_words.specs.Sound.{AreSoundWords}
+use Rattle.sound_words.specs.Told.{no_call}
+use Rattle.sound_words.specs.Told.{tells_by, told_by}
 use Rattle.renewal.specs.Renewal.{Renewal, item_in, told_in}
 use Rattle.renewal.specs.Renewed.{chain, follower, renewed}
 use Rattle.renewal.specs.Roles.{used_for}

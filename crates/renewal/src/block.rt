@@ -4,8 +4,8 @@ ghost use Rattle.std.specs.Prelude.{◌≡◌, ◌↔◌, ◌⊎◌, ◌≤◌, 
 ghost use Rattle.arena.specs.Content.{kept_content};
 ghost use Rattle.arena.specs.Limits.{AreCounts};
 ghost use Rattle.arena.specs.Shape.{greatest};
-ghost use Rattle.recover.specs.Kept.{kept_in};
-ghost use Rattle.recover.specs.Sound.{AreSoundWords};
+ghost use Rattle.sound_words.specs.Kept.{kept_in};
+ghost use Rattle.sound_words.specs.Sound.{AreSoundWords};
 ghost use Rattle.renewal.specs.Words.{FitFresh, IsRenewalOf, block_renewed, renewal_of};
 
 use crate::fresh::fresh_block;

@@ -6,7 +6,7 @@ ghost use Rattle.arena.specs.Broker.{block_in, broker_size};
 ghost use Rattle.arena.specs.Form.{running};
 ghost use Rattle.arena.specs.Limits.{AreCounts};
 ghost use Rattle.arena.specs.Shape.{shape_of};
-ghost use Rattle.recover.specs.Sound.{AreSoundWords};
+ghost use Rattle.sound_words.specs.Sound.{AreSoundWords};
 ghost use Rattle.directory.specs.Sound.{counts_in};
 ghost use Rattle.renewal.specs.Broker.{
   BlockFits,
@@ -24,7 +24,7 @@ use crate::content::count;
 use arena::{BLOCKS_FROM, BrokerLayout, HEAD_WORDS, SLOTS, SlotId};
 use directory::{KeptBroker, Queue};
 use persist::{KeptWords, Memory};
-use recover::KeptQueue;
+use sound_words::KeptQueue;
 use std::alloc::{AllocError, Global};
 use words::{Kind, Refusal};
 

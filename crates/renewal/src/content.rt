@@ -6,12 +6,12 @@ ghost use Rattle.arena.specs.Limits.{AreCounts};
 ghost use Rattle.arena.specs.Place.{IsNode};
 ghost use Rattle.arena.specs.Words.{values};
 ghost use Rattle.arena.specs.declared.form.Form.TheVariants.{OfItems};
-ghost use Rattle.recover.specs.Kept.{kept_of};
-ghost use Rattle.recover.specs.Sound.{IsSound};
+ghost use Rattle.sound_words.specs.Kept.{kept_of};
+ghost use Rattle.sound_words.specs.Sound.{IsSound};
 
 use arena::{Layout, Part, Place, value_of};
 use persist::KeptWords;
-use recover::KeptQueue;
+use sound_words::KeptQueue;
 use std::alloc::{AllocError, Global};
 use words::{MAX_RECORD_NUMBER, NodeId, Value};
 

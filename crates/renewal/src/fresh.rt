@@ -3,8 +3,8 @@
 ghost use Rattle.std.specs.Prelude.{◌≡◌, ◌↔◌, ◌⊎◌, ◌≤◌, ◌<◌, ℕ, IfOk, IfErr, OnOk, Err, length, slice_index};
 ghost use Rattle.arena.specs.Content.{kept_content};
 ghost use Rattle.arena.specs.Place.{IsNode};
-ghost use Rattle.recover.specs.Kept.{kept_in};
-ghost use Rattle.recover.specs.Sound.{AreSoundWords};
+ghost use Rattle.sound_words.specs.Kept.{kept_in};
+ghost use Rattle.sound_words.specs.Sound.{AreSoundWords};
 ghost use Rattle.renewal.specs.Renewed.{chain, follower};
 ghost use Rattle.renewal.specs.Words.{FitFresh, IsRenewalOf, MayBeRenewed, block_renewed, renewal_of, word_renewed};
 
@@ -14,7 +14,7 @@ use crate::renewal::Renewal;
 use crate::zeros::is_noted;
 use arena::{Layout, block_size};
 use persist::KeptWords;
-use recover::{KeptQueue, tells};
+use sound_words::{KeptQueue, tells};
 use std::alloc::{AllocError, Global};
 use std::marker::Model;
 use words::{Refusal, Reports, Value};

@@ -4,7 +4,7 @@ ghost use Rattle.std.specs.Prelude.{◌≡◌, ◌+◌, ◌<◌, ◌≤◌, ◌�
 ghost use Rattle.arena.specs.Broker.{block_from, block_in, broker_size};
 ghost use Rattle.arena.specs.Form.{running};
 ghost use Rattle.arena.specs.Shape.{shape_of};
-ghost use Rattle.recover.specs.Sound.{AreSoundWords};
+ghost use Rattle.sound_words.specs.Sound.{AreSoundWords};
 ghost use Rattle.directory.specs.Sound.{counts_in};
 ghost use Rattle.persist.specs.Memory.{overwritten};
 ghost use Rattle.renewal.specs.Broker.{BlockFits, MayBeRenewedTo, SlotFits, slot_renewed};

@@ -12,8 +12,8 @@ use Rattle.directory.specs.Directory.{HasQueue}
 use Rattle.directory.specs.Queue.{directory_of}
 use Rattle.directory.specs.Sound.{counts_in}
 use Rattle.directory.specs.declared.queue.Queue.{Queue}
-use Rattle.recover.specs.Kept.{kept_in}
-use Rattle.recover.specs.Told.{tells_by}
+use Rattle.sound_words.specs.Kept.{kept_in}
+use Rattle.sound_words.specs.Told.{tells_by}
 use Rattle.migration.specs.Words.{broker_migrated}
 use Rattle.renewal.specs.Broker.{broker_renewed}
 use Rattle.interleave.specs.Queue.{told_in}

@@ -7,7 +7,7 @@ use Rattle.words.specs.declared.refusal.Refusal.{Refusal}
 use Rattle.words.specs.declared.refusal.Refusal.TheVariants.{NoWord}
 use Rattle.persist.specs.declared.access.Change.{Change}
 use Rattle.events.specs.declared.event.Effect.{Effect}
-use Rattle.recover.specs.Sound.{SizeIsSound}
+use Rattle.sound_words.specs.Sound.{SizeIsSound}
 use Rattle.std.specs.Prelude.{MatchOption}
 use Rattle.persist.specs.Changes.{change_of}
 use Rattle.persist.specs.Memory.{Words, words_after_eviction}

@@ -15,7 +15,7 @@ use Rattle.words.specs.declared.told.Told.{Told}
 use Rattle.words.specs.declared.told.Told.TheVariants.{None as told_none}
 use Rattle.logqueue.specs.Numbers.{floor_of}
 use Rattle.arena.specs.Words.{announcements}
-use Rattle.recover.specs.Told.{told_by}
+use Rattle.sound_words.specs.Told.{told_by}
 use Rattle.events.specs.Trace.{IsNumberOf}
 use Rattle.protocol.specs.Kept.{TellsOf}
 use Rattle.protocol.specs.declared.UnderWay.{UnderWay}

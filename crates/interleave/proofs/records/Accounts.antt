@@ -17,7 +17,7 @@ use Rattle.stepper.specs.declared.resume.After.{After}
 use Rattle.stepper.specs.declared.resume.After.TheVariants.{More, Done}
 use Rattle.helping.specs.Table.{access_of}
 use Rattle.helping.specs.declared.op.Op.{Op}
-use Rattle.recover.specs.Sound.{IsIssued}
+use Rattle.sound_words.specs.Sound.{IsIssued}
 use Rattle.recover.specs.Table.{access_of as recovery_access}
 use Rattle.recover.specs.declared.recovery.Recovery.{Recovery}
 use Rattle.events.specs.Effects.{order_of, settled_effects}

@@ -15,7 +15,7 @@ use Rattle.arena.specs.declared.place.Part.TheVariants.{Length, First, Second, T
 use Rattle.arena.specs.declared.place.Place.TheVariants.{Item, Next, Mark, Cell, Insert}
 use Rattle.arena.specs.declared.place.Place.TheVariants.{Number, EntryKind, Status, EntryNode}
 use Rattle.helping.specs.Table.{node_of, token_of}
-use Rattle.recover.specs.Sound.{IsBlank, IsBlankAnswer, IsIssued}
+use Rattle.sound_words.specs.Sound.{IsBlank, IsBlankAnswer, IsIssued}
 use Rattle.protocol.specs.Machine.{FitsCall, MayStart, Memory}
 use Rattle.protocol.specs.invariants.Base.{Blank}
 use Rattle.protocol.specs.invariants.Worlds.{Working, ledger_of}

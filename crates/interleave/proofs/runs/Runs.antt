@@ -3,7 +3,7 @@ use Rattle.std.proofs.Common.{◌≡◌, ℕ, ◌+◌, ◌-◌, ◌≤◌, ◌<�
 use Rattle.std.proofs.lemmas.List.{length_push}
 use Rattle.words.specs.declared.told.Told.{Told}
 use Rattle.arena.specs.Shape.{Shape}
-use Rattle.recover.specs.Told.{tells_by}
+use Rattle.sound_words.specs.Told.{tells_by}
 use Rattle.protocol.specs.Acts.{recovery_step_of, recoveries}
 use Rattle.protocol.specs.declared.acts.Act.{Act}
 use Rattle.protocol.specs.declared.acts.Act.TheVariants.{Start, Step, Evict, Crash, Recover}

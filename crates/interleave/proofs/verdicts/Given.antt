@@ -20,7 +20,7 @@ use Rattle.logqueue.specs.Numbers.{floor_of, verdict_of}
 use Rattle.arena.specs.Shape.{Shape}
 use Rattle.arena.specs.Words.{announcements, numbers}
 use Rattle.arena.specs.declared.place.Place.{Place}
-use Rattle.recover.specs.Told.{told_by}
+use Rattle.sound_words.specs.Told.{told_by}
 use Rattle.recover.specs.declared.recovery.Recovery.{Recovery}
 use Rattle.events.specs.History.{CallAt}
 use Rattle.events.specs.Orders.{IsTakenAs}

@@ -20,7 +20,7 @@ use Rattle.stepper.specs.declared.resume.After.{After}
 use Rattle.stepper.specs.declared.resume.After.TheVariants.{Done}
 use Rattle.helping.specs.Table.{access_of}
 use Rattle.helping.specs.declared.op.Op.{Op}
-use Rattle.recover.specs.Told.{told_by}
+use Rattle.sound_words.specs.Told.{told_by}
 use Rattle.events.specs.Effects.{order_of}
 use Rattle.events.specs.History.{BeginsAt, CallAt, IsEnd, IsOpenFrom, ReturnAt}
 use Rattle.events.specs.Orders.{IsNew, IsTakenAs}

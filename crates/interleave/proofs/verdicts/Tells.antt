@@ -16,7 +16,7 @@ use Rattle.words.specs.declared.told.Told.TheVariants.{None as told_none, Verdic
 use Rattle.arena.specs.Words.{announcements}
 use Rattle.arena.specs.declared.place.Place.{Place}
 use Rattle.arena.specs.declared.place.Place.TheVariants.{Announcement}
-use Rattle.recover.specs.Told.{told_by}
+use Rattle.sound_words.specs.Told.{told_by}
 use Rattle.recover.specs.declared.recovery.Recovery.{Recovery}
 use Rattle.events.specs.Effects.{order_of}
 use Rattle.events.specs.History.{BeginsAt}

@@ -13,10 +13,10 @@ use Rattle.arena.specs.Ranges.{Fits, IsReadByCalls}
 use Rattle.arena.specs.Shape.{Shape}
 use Rattle.arena.specs.declared.place.Place.{Place}
 use Rattle.recover.specs.Table.{boot_recovery}
-use Rattle.recover.specs.Sound.{AreSoundWords, SizeIsSound}
-use Rattle.recover.specs.Kept.{kept_in}
-use Rattle.recover.specs.Told.{told_by, tells_by}
-use Rattle.recover.proofs.Facts.{tells_like}
+use Rattle.sound_words.specs.Sound.{AreSoundWords, SizeIsSound}
+use Rattle.sound_words.specs.Kept.{kept_in}
+use Rattle.sound_words.specs.Told.{told_by, tells_by}
+use Rattle.sound_words.proofs.Facts.{tells_like}
 use Rattle.protocol.specs.Booted.{MayBoot, world_at_boot}
 use Rattle.protocol.specs.Machine.{World}
 use Rattle.protocol.specs.declared.UnderWay.{UnderWay}

@@ -10,12 +10,12 @@ use Rattle.words.specs.declared.refusal.Refusal.{Refusal}
 use Rattle.arena.specs.Layout.{place_at}
 use Rattle.arena.specs.Content.{kept_content as content_of}
 use Rattle.arena.specs.declared.place.Place.{Place}
-use Rattle.recover.specs.Kept.{kept_in}
-use Rattle.recover.specs.Told.{tells_by}
+use Rattle.sound_words.specs.Kept.{kept_in}
+use Rattle.sound_words.specs.Told.{tells_by}
 use Rattle.stepper.specs.declared.resume.After.{After}
 use Rattle.stepper.specs.declared.resume.After.TheVariants.{More as go_on, Done as Ready}
 use Rattle.recover.specs.declared.recovery.Recovery.{Recovery}
-use Rattle.recover.proofs.Facts.{sound_like}
+use Rattle.sound_words.proofs.Facts.{sound_like}
 use Rattle.protocol.specs.Machine.{World, next_recovery}
 use Rattle.protocol.proofs.Facts.{few_left, leaves_right, left_falls, still_alike, still_alike_evicted, told_announced}
 use Rattle.protocol.proofs.Facts.{told_are_now, words_sound}

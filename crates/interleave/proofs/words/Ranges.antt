@@ -13,7 +13,7 @@ use Rattle.arena.specs.Layout.{laid_out, size_of, word_at}
 use Rattle.arena.specs.Shape.{Shape, record_of}
 use Rattle.arena.specs.Place.{IsPlace, is_same, is_same-true}
 use Rattle.arena.specs.Ranges.{Fits, IsReadByCalls}
-use Rattle.recover.specs.Sound.{SizeIsSound}
+use Rattle.sound_words.specs.Sound.{SizeIsSound}
 use Rattle.arena.specs.Laws.{at-written}
 use Rattle.arena.specs.declared.place.Place.{Place}
 use Rattle.arena.specs.declared.place.Place.TheVariants.{Bump}

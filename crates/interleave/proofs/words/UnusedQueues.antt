@@ -16,7 +16,7 @@ use Rattle.arena.specs.Shape.{Shape, greatest}
 use Rattle.arena.specs.Words.{links, marks, values}
 use Rattle.arena.specs.declared.place.Place.{Place}
 use Rattle.recover.specs.Table.{boot_recovery}
-use Rattle.recover.specs.Told.{told_by, tells_by}
+use Rattle.sound_words.specs.Told.{told_by, tells_by}
 use Rattle.protocol.proofs.Facts.{told_at}
 use Rattle.interleave.specs.Booted.{booted_world, queue_at_boot}
 use Rattle.interleave.specs.Holds.{Holds}

@@ -8,7 +8,7 @@ use Rattle.arena.specs.Shape.{Shape}
 use Rattle.arena.specs.declared.place.Place.{Place}
 use Rattle.protocol.specs.Machine.{World, Memory}
 use Rattle.protocol.proofs.Facts.{zero_fits}
-use Rattle.recover.specs.Sound.{SizeIsSound}
+use Rattle.sound_words.specs.Sound.{SizeIsSound}
 use Rattle.interleave.specs.Floors.{AreFloorsRightIn}
 use Rattle.interleave.specs.Holds.{Holds, Invariant}
 use Rattle.interleave.specs.Queue.{new_queue}

@@ -18,8 +18,8 @@ use Rattle.arena.specs.Limits.{AreCounts}
 use Rattle.arena.specs.Shape.{Counts, Shape, shape_of}
 use Rattle.arena.proofs.Facts.{block_ends}
 use Rattle.arena.specs.declared.place.Place.{Place}
-use Rattle.recover.specs.Kept.{kept_in}
-use Rattle.recover.specs.Sound.{AnswersAreSound, AreSoundWords, EntriesAreSound, IfKind, Obeys, RowsAreSound}
+use Rattle.sound_words.specs.Kept.{kept_in}
+use Rattle.sound_words.specs.Sound.{AnswersAreSound, AreSoundWords, EntriesAreSound, IfKind, Obeys, RowsAreSound}
 use Rattle.directory.specs.Directory.{Directory, IsDirectory}
 use Rattle.directory.specs.Queue.{directory_of, queue_in, slot_in}
 use Rattle.directory.specs.Sound.{IsBlockZero, SlotIsSound, counts_in}

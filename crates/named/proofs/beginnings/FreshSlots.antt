@@ -8,7 +8,7 @@ use Rattle.arena.specs.Broker.{broker_size}
 use Rattle.arena.specs.Content.{kept_content as content_of}
 use Rattle.arena.specs.Shape.{Counts, Shape, shape_of}
 use Rattle.recover.specs.Table.{boot_recovery}
-use Rattle.recover.specs.Told.{tells_by}
+use Rattle.sound_words.specs.Told.{tells_by}
 use Rattle.directory.specs.Directory.{Directory, HasQueue}
 use Rattle.directory.specs.Queue.{directory_of, slot_in}
 use Rattle.directory.specs.Sound.{counts_in}

@@ -18,10 +18,10 @@ use Rattle.persist.specs.Memory.{Words, words_at_rest}
 use Rattle.arena.specs.Broker.{block_in}
 use Rattle.arena.specs.Shape.{Counts, Shape, shape_of}
 use Rattle.arena.specs.declared.form.Form.TheVariants.{OfItems, OfValues}
-use Rattle.recover.specs.Kept.{kept_in}
-use Rattle.recover.specs.Sound.{AreSoundWords, IsDamaged}
-use Rattle.recover.specs.Told.{tells_by}
-use Rattle.recover.proofs.Facts.{content_like, tells_like}
+use Rattle.sound_words.specs.Kept.{kept_in}
+use Rattle.sound_words.specs.Sound.{AreSoundWords, IsDamaged}
+use Rattle.sound_words.specs.Told.{tells_by}
+use Rattle.sound_words.proofs.Facts.{content_like, tells_like}
 use Rattle.directory.specs.Directory.{Directory, HasQueue}
 use Rattle.directory.specs.Queue.{directory_of, slot_in}
 use Rattle.directory.specs.Sound.{AreBrokerWords, IsBrokerDamaged, counts_in}

@@ -14,10 +14,10 @@ use Rattle.arena.specs.Form.{running}
 use Rattle.arena.specs.Limits.{AreCounts}
 use Rattle.arena.specs.Place.{IsClient}
 use Rattle.arena.specs.Shape.{Counts, Shape, shape_of}
-use Rattle.recover.specs.Kept.{kept_in}
-use Rattle.recover.specs.Sound.{AreSoundWords}
-use Rattle.recover.specs.Told.{tells_by, told_by}
-use Rattle.recover.proofs.Facts.{content_like, tells_like}
+use Rattle.sound_words.specs.Kept.{kept_in}
+use Rattle.sound_words.specs.Sound.{AreSoundWords}
+use Rattle.sound_words.specs.Told.{tells_by, told_by}
+use Rattle.sound_words.proofs.Facts.{content_like, tells_like}
 use Rattle.directory.specs.Directory.{Directory, HasQueue}
 use Rattle.directory.specs.Queue.{directory_of, slot_in}
 use Rattle.directory.specs.Sound.{counts_in}

@@ -13,9 +13,9 @@ use Rattle.arena.specs.Broker.{block_in}
 use Rattle.arena.specs.Content.{kept_content as content_of}
 use Rattle.arena.specs.Form.{running}
 use Rattle.arena.specs.Shape.{Counts, Shape, shape_of}
-use Rattle.recover.specs.Kept.{kept_in}
-use Rattle.recover.specs.Sound.{AreSoundWords}
-use Rattle.recover.specs.Told.{tells_by}
+use Rattle.sound_words.specs.Kept.{kept_in}
+use Rattle.sound_words.specs.Sound.{AreSoundWords}
+use Rattle.sound_words.specs.Told.{tells_by}
 use Rattle.directory.specs.Directory.{Directory, HasQueue}
 use Rattle.directory.specs.Queue.{directory_of, slot_in}
 use Rattle.directory.specs.Sound.{counts_in}

@@ -11,7 +11,7 @@ use Rattle.persist.proofs.Facts.{index_within}
 use Rattle.arena.specs.Broker.{block_from, block_size_of, broker_size}
 use Rattle.arena.specs.Limits.{AreCounts}
 use Rattle.arena.specs.Shape.{Counts, Shape, shape_of}
-use Rattle.recover.specs.Sound.{AreSoundWords}
+use Rattle.sound_words.specs.Sound.{AreSoundWords}
 use Rattle.directory.specs.Directory.{Directory, HasQueue, IsDirectory, IsFree}
 use Rattle.directory.specs.Sound.{AreFreeBlocksZero, DirectoryIsSound, HeadIsSound, IsBlockZero, counts_in}
 use Rattle.directory.specs.UnderWay.{IsAtRest}

@@ -10,10 +10,10 @@ use Rattle.arena.specs.Place.{IsPlace}
 use Rattle.arena.specs.Shape.{Shape}
 use Rattle.arena.specs.declared.place.Place.{Place}
 use Rattle.events.proofs.Facts.{begun}
-use Rattle.recover.specs.Sound.{IsSound}
-use Rattle.recover.specs.Told.{told_by, tells_by}
+use Rattle.sound_words.specs.Sound.{IsSound}
+use Rattle.sound_words.specs.Told.{told_by, tells_by}
 use Rattle.recover.specs.Table.{boot_recovery}
-use Rattle.recover.proofs.Facts.{sound_like}
+use Rattle.sound_words.proofs.Facts.{sound_like}
 use Rattle.protocol.specs.Booted.{world_at_boot, MayBoot}
 use Rattle.protocol.specs.Kept.{TellsOf}
 use Rattle.protocol.proofs.boot.BootedWords.{p, boot_sound}

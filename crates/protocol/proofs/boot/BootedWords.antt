@@ -20,10 +20,10 @@ use Rattle.arena.specs.declared.place.Place.{Place}
 use Rattle.arena.specs.declared.place.Place.TheVariants.{Head, Tail, Announcement, Bump, Item, Next, Mark, Cell, Insert}
 use Rattle.arena.specs.declared.place.Place.TheVariants.{Number, EntryKind, Status, EntryNode}
 use Rattle.helping.specs.Table.{token_of, node_of}
-use Rattle.recover.specs.Sound.{IsSound, IsOnChain, IsClaimed, IsPassed as has_passed, IsBlank, IsBlankAnswer}
-use Rattle.recover.specs.Sound.{IsBlankEntry, IsRead, IsResult, IsClaimOf, AnswersAreSound, RowsAreSound}
-use Rattle.recover.specs.Sound.{EntriesAreSound, IsIssued, IsOwn}
-use Rattle.recover.proofs.Facts.{claimed_by_mark, is_among_or_not, sound_fits}
+use Rattle.sound_words.specs.Sound.{IsSound, IsOnChain, IsClaimed, IsPassed as has_passed, IsBlank, IsBlankAnswer}
+use Rattle.sound_words.specs.Sound.{IsBlankEntry, IsRead, IsResult, IsClaimOf, AnswersAreSound, RowsAreSound}
+use Rattle.sound_words.specs.Sound.{EntriesAreSound, IsIssued, IsOwn}
+use Rattle.sound_words.proofs.Facts.{claimed_by_mark, is_among_or_not, sound_fits}
 use Rattle.protocol.specs.Recovered.{end_of}
 use Rattle.protocol.proofs.chain.Chains.{in_chain, in_parts, linked_by, leads_from}
 use Rattle.protocol.specs.invariants.Places.{IsOfRecord, IsOfKind, SaysEmpty}

@@ -21,7 +21,7 @@ use Rattle.arena.specs.declared.place.Place.TheVariants.{Announcement, Bump, Ite
 use Rattle.stepper.specs.Preparation.{preparation_of, preparation_from, part_write, bump, announcement, write, IsBegun}
 use Rattle.stepper.specs.declared.prepare.Begun.{Begun}
 use Rattle.protocol.specs.Machine.{Memory}
-use Rattle.recover.specs.Sound.{IsIssued}
+use Rattle.sound_words.specs.Sound.{IsIssued}
 use Rattle.protocol.specs.invariants.Places.{IsOfRecord, IsOfKind}
 use Rattle.protocol.specs.invariants.Knows.{Written, Prepared}
 use Rattle.protocol.proofs.changes.Puts.{IsEmptyWord}

@@ -15,7 +15,7 @@ use Rattle.arena.specs.declared.place.Place.{Place}
 use Rattle.stepper.specs.declared.prepare.Begun.{Begun}
 use Rattle.helping.specs.Table.{token_of}
 use Rattle.protocol.specs.Machine.{Memory}
-use Rattle.recover.specs.Sound.{IsIssued}
+use Rattle.sound_words.specs.Sound.{IsIssued}
 use Rattle.protocol.proofs.chain.Chains.{upd, upd_at, upd_other}
 use Rattle.protocol.specs.invariants.Ledger.{Stage, Ledger, held_token}
 use Rattle.protocol.specs.invariants.Places.{IsOfRecord, SaysEmpty, empties}

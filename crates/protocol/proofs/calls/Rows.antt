@@ -48,7 +48,7 @@ use Rattle.helping.specs.declared.keeping.Keeping.TheVariants.{Empty as KeepEmpt
 use Rattle.helping.specs.declared.keeping.Keeping.TheVariants.{DequeuePassedLink as KeepDequeuePassedLink}
 use Rattle.helping.specs.declared.keeping.Keeping.TheVariants.{Claim as KeepClaim, Result as KeepResult}
 use Rattle.protocol.specs.Machine.{Memory, put, with_store, with_fence, with_access}
-use Rattle.recover.specs.Sound.{IsIssued, IsOwn}
+use Rattle.sound_words.specs.Sound.{IsIssued, IsOwn}
 use Rattle.arena.proofs.Facts.{in_left, leads_at, leads_one, leads_trans}
 use Rattle.protocol.proofs.chain.Chains.{upd, upd_same, upd_other, leads_from, leads_in, leads_next, in_chain}
 use Rattle.protocol.specs.invariants.Ledger.{Stage, Ledger, held_token, asked_call}

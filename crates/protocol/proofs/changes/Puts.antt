@@ -19,7 +19,7 @@ use Rattle.arena.specs.declared.place.Place.{Place}
 use Rattle.arena.specs.declared.place.Place.TheVariants.{Announcement, Bump, Cell, Status, Item}
 use Rattle.helping.specs.Table.{token_of}
 use Rattle.protocol.specs.Machine.{Memory, put, with_fence}
-use Rattle.recover.specs.Sound.{IsIssued, IsOwn}
+use Rattle.sound_words.specs.Sound.{IsIssued, IsOwn}
 use Rattle.protocol.specs.invariants.Ledger.{Ledger}
 use Rattle.protocol.specs.invariants.Places.{IsOfRecord, IsOfKind, empties}
 use Rattle.protocol.specs.invariants.Base.{Blank, Absent, AllFit, IsMessage, Base}

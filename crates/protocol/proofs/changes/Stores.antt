@@ -19,7 +19,7 @@ use Rattle.arena.specs.declared.place.Place.TheVariants.{Head, Tail, Announcemen
 use Rattle.arena.specs.declared.place.Place.TheVariants.{Number, EntryKind, Status, EntryNode}
 use Rattle.helping.specs.Table.{token_of, node_of}
 use Rattle.protocol.specs.Machine.{Memory, put, with_store}
-use Rattle.recover.specs.Sound.{IsIssued, IsOwn}
+use Rattle.sound_words.specs.Sound.{IsIssued, IsOwn}
 use Rattle.arena.proofs.Facts.{Distinct, distinct, in_left, in_right, leads_at, leads_trans, not_again, parts_apart}
 use Rattle.protocol.proofs.chain.Chains.{upd, upd_same, upd_other, upd_cases, leads_in, leads_next, leads_last}
 use Rattle.protocol.proofs.chain.Chains.{rest_chain, first_among, in_chain, linked_by}

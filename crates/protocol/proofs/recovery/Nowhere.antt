@@ -9,7 +9,7 @@ use Rattle.arena.specs.Shape.{Shape, owner, greatest}
 use Rattle.arena.specs.Words.{bumps, announcements}
 use Rattle.arena.specs.declared.place.Place.{Place}
 use Rattle.arena.specs.declared.place.Place.TheVariants.{Head, Tail, Announcement, Bump, Item, Next, Mark, Cell, Insert, Number, EntryKind, Status, EntryNode}
-use Rattle.recover.specs.Sound.{IsIssued, IsOwn}
+use Rattle.sound_words.specs.Sound.{IsIssued, IsOwn}
 use Rattle.protocol.specs.invariants.Places.{IsOfRecord, IsOfKind}
 use Rattle.protocol.specs.invariants.Sound.{Sound}
 

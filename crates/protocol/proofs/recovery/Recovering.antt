@@ -23,7 +23,7 @@ use Rattle.arena.specs.declared.place.Place.{Place}
 use Rattle.arena.specs.declared.place.Place.TheVariants.{Head, Tail, Next, Cell, Insert, EntryKind, Status, EntryNode}
 use Rattle.helping.specs.Table.{token_of, node_of}
 use Rattle.protocol.specs.Machine.{put, with_store}
-use Rattle.recover.specs.Sound.{IsIssued, IsOwn}
+use Rattle.sound_words.specs.Sound.{IsIssued, IsOwn}
 use Rattle.protocol.specs.Kept.{OutcomeBy, RowBy, TellsBy, TellsOf}
 use Rattle.protocol.specs.Recovered.{end_of}
 use Rattle.protocol.proofs.chain.Chains.{chain_like, leads_grows, map_agree, linked_by}

@@ -42,7 +42,7 @@ use Rattle.recover.specs.declared.keeping.RecoveryKeeping.TheVariants.{Status as
 use Rattle.recover.specs.declared.keeping.RecoveryKeeping.TheVariants.{Head as KeepHead, Tail as KeepTail}
 use Rattle.stepper.specs.declared.resume.After.{After}
 use Rattle.protocol.specs.Machine.{Memory, put, with_store, with_fence}
-use Rattle.recover.specs.Sound.{IsIssued}
+use Rattle.sound_words.specs.Sound.{IsIssued}
 use Rattle.protocol.specs.Kept.{TellsOf}
 use Rattle.protocol.specs.Recovered.{end_of}
 use Rattle.arena.proofs.Facts.{in_end_cases, in_left, same_chain}

@@ -11,7 +11,7 @@ use Rattle.arena.specs.declared.place.Place.TheVariants.{Head, Tail, Insert, Num
 use Rattle.helping.specs.Table.{token_of, node_of}
 use Rattle.protocol.proofs.changes.Puts.{kept_item}
 use Rattle.protocol.specs.Machine.{Memory}
-use Rattle.recover.specs.Sound.{IsIssued}
+use Rattle.sound_words.specs.Sound.{IsIssued}
 use Rattle.protocol.specs.Recovered.{end_of}
 use Rattle.protocol.proofs.chain.Chains.{in_end_of, after_end, leads_end, end_is_last}
 use Rattle.protocol.specs.invariants.Links.{Marks}

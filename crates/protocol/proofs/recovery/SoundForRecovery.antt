@@ -16,9 +16,9 @@ use Rattle.arena.specs.declared.place.Place.{Place}
 use Rattle.arena.specs.declared.place.Place.TheVariants.{Head, Tail, Bump, Item, Next, Mark, Cell, Insert, Number}
 use Rattle.arena.specs.declared.place.Place.TheVariants.{EntryKind, Status, EntryNode}
 use Rattle.helping.specs.Table.{token_of, node_of}
-use Rattle.recover.specs.Sound.{IsBlankAnswer, IsOnChain, IsClaimed, IsClaimOf, IsPassed, StatusIsSound, RemovedIsSound}
-use Rattle.recover.specs.Sound.{LogIsSound, RecordsAreSound, ChainIsSound, ClaimsAreSound, EndsAreSound, RowsAreSound}
-use Rattle.recover.specs.Sound.{EntriesAreSound, AnswersAreSound, IsIssued, IsSound}
+use Rattle.sound_words.specs.Sound.{IsBlankAnswer, IsOnChain, IsClaimed, IsClaimOf, IsPassed, StatusIsSound, RemovedIsSound}
+use Rattle.sound_words.specs.Sound.{LogIsSound, RecordsAreSound, ChainIsSound, ClaimsAreSound, EndsAreSound, RowsAreSound}
+use Rattle.sound_words.specs.Sound.{EntriesAreSound, AnswersAreSound, IsIssued, IsSound}
 use Rattle.protocol.specs.Recovered.{end_of}
 use Rattle.arena.proofs.Facts.{distinct, in_left, not_again, parts_apart}
 use Rattle.protocol.proofs.chain.Chains.{in_parts, in_chain, linked_by, leads_in}

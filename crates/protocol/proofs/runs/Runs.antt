@@ -20,7 +20,7 @@ use Rattle.recover.specs.declared.recovery.Recovery.{Recovery}
 use Rattle.protocol.specs.Acts.{number_fits, call_fits, may_start, start_attempt, step_attempt, recovery_attempt}
 use Rattle.protocol.specs.Acts.{with_act, run, IsNew, IsExplained, TellsByKept}
 use Rattle.protocol.specs.declared.acts.Act.{Act}
-use Rattle.recover.specs.Sound.{IsSound}
+use Rattle.sound_words.specs.Sound.{IsSound}
 use Rattle.protocol.specs.declared.acts.Act.TheVariants.{Start, Step, Evict, Crash, Recover}
 use Rattle.protocol.specs.Machine.{World, with_start, new_world, MayStart, MayStep, FitsKind, FitsCall}
 use Rattle.protocol.specs.declared.UnderWay.{UnderWay}

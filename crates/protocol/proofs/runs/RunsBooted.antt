@@ -2,7 +2,7 @@
 use Rattle.std.proofs.Common.{◌≡◌, ℕ, ◌+◌, ◌*◌, ◌≤◌, List, None, arith}
 use Rattle.arena.specs.Shape.{Shape}
 use Rattle.arena.specs.declared.place.Place.{Place}
-use Rattle.recover.specs.Told.{tells_by}
+use Rattle.sound_words.specs.Told.{tells_by}
 use Rattle.recover.specs.Table.{boot_recovery}
 use Rattle.protocol.specs.Acts.{run, recoveries, HasNoCrash, IsExplained}
 use Rattle.protocol.specs.declared.acts.Act.{Act}

@@ -7,8 +7,8 @@ use Rattle.words.specs.declared.told.Told.{Told}
 use Rattle.arena.specs.Content.{kept_content}
 use Rattle.arena.specs.Shape.{Shape}
 use Rattle.arena.specs.declared.place.Place.{Place}
-use Rattle.recover.specs.Sound.{IsSound}
-use Rattle.recover.specs.Told.{tells_by}
+use Rattle.sound_words.specs.Sound.{IsSound}
+use Rattle.sound_words.specs.Told.{tells_by}
 use Rattle.recover.specs.declared.recovery.Recovery.{Recovery}
 use Rattle.protocol.specs.Acts.{StaysDown, start_attempt, step_attempt, recovery_attempt, with_act, run, IsNew}
 use Rattle.protocol.specs.declared.acts.Act.{Act}

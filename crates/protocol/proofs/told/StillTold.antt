@@ -8,7 +8,7 @@ use Rattle.arena.specs.Shape.{Shape}
 use Rattle.arena.specs.declared.place.Place.{Place}
 use Rattle.events.specs.Trace.{queue_of}
 use Rattle.recover.specs.Table.{access_of}
-use Rattle.recover.specs.Told.{tells_by}
+use Rattle.sound_words.specs.Told.{tells_by}
 use Rattle.stepper.specs.declared.resume.After.TheVariants.{Done as Ready}
 use Rattle.recover.specs.declared.recovery.Recovery.{Recovery}
 use Rattle.protocol.specs.Machine.{World, put, with_access, with_recovery_step, next_recovery}

@@ -20,11 +20,11 @@ use Rattle.arena.specs.Shape.{Shape, greatest}
 use Rattle.arena.specs.Words.{links, marks, values, cells, numbers, entry_kinds, statuses, announcements}
 use Rattle.arena.specs.declared.place.Place.{Place}
 use Rattle.helping.specs.Table.{token_of}
-use Rattle.recover.specs.Table.{no_call}
-use Rattle.recover.specs.Told.{node_claimed_by, row_with, enqueue_outcome, dequeue_outcome, outcome_by, report_on}
-use Rattle.recover.specs.Told.{told_by, tells_by}
-use Rattle.recover.proofs.Facts.{IsTellable, row_is_empty, row_is_got, row_is_open, told_done, told_empty, told_got}
-use Rattle.recover.proofs.Facts.{told_nobody, told_not_dequeued, told_not_enqueued, told_nothing, told_of}
+use Rattle.sound_words.specs.Told.{no_call}
+use Rattle.sound_words.specs.Told.{node_claimed_by, row_with, enqueue_outcome, dequeue_outcome, outcome_by, report_on}
+use Rattle.sound_words.specs.Told.{told_by, tells_by}
+use Rattle.sound_words.proofs.Facts.{IsTellable, row_is_empty, row_is_got, row_is_open, told_done, told_empty, told_got}
+use Rattle.sound_words.proofs.Facts.{told_nobody, told_not_dequeued, told_not_enqueued, told_nothing, told_of}
 use Rattle.protocol.specs.Machine.{put}
 use Rattle.protocol.specs.Kept.{OutcomeBy, RowBy, TellsBy, TellsOf}
 use Rattle.arena.proofs.Facts.{in_left}

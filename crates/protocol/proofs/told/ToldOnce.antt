@@ -16,8 +16,8 @@ use Rattle.arena.specs.Content.{chain_of}
 use Rattle.arena.specs.Shape.{Shape}
 use Rattle.arena.specs.Words.{links, marks, values, cells, numbers, entry_kinds, statuses, announcements}
 use Rattle.arena.specs.declared.place.Place.{Place}
-use Rattle.recover.specs.Told.{told_by}
-use Rattle.recover.proofs.Facts.{is_among_or_not, told_nobody}
+use Rattle.sound_words.specs.Told.{told_by}
+use Rattle.sound_words.proofs.Facts.{is_among_or_not, told_nobody}
 use Rattle.protocol.specs.Kept.{OutcomeBy, TellsBy, TellsOf}
 use Rattle.protocol.specs.invariants.Sound.{Sound}
 use Rattle.protocol.proofs.worlds.Facts.{chain_is}

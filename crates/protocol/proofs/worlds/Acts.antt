@@ -38,7 +38,7 @@ use Rattle.protocol.specs.Machine.{Memory, World, with_access, with_fence, after
 use Rattle.protocol.specs.Machine.{with_call, with_next, next_of, with_step, begun_of, call_begun, with_start}
 use Rattle.protocol.specs.Machine.{with_eviction, FitsKind, FitsCall, MayStart, MayStep}
 use Rattle.protocol.specs.declared.UnderWay.{UnderWay}
-use Rattle.recover.specs.Sound.{IsIssued}
+use Rattle.sound_words.specs.Sound.{IsIssued}
 use Rattle.protocol.proofs.chain.Chains.{upd, upd_same, upd_at, upd_other}
 use Rattle.protocol.specs.invariants.Knows.{Acting, Before, Knows}
 use Rattle.protocol.specs.invariants.Ledger.{Stage, Ledger, stage_at, nobody}

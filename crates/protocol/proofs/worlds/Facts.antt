@@ -62,8 +62,8 @@ use Rattle.protocol.proofs.worlds.RecoveringWorlds.{recovered_part, nobody_kept,
 use Rattle.protocol.proofs.worlds.RecoveringWorlds.{woken, told_woken}
 use Rattle.stepper.specs.Step.{place_of, kept_by}
 use Rattle.recover.specs.Table.{access_of, IsPoint}
-use Rattle.recover.specs.Told.{tells_by}
-use Rattle.recover.specs.Sound.{IsSound}
+use Rattle.sound_words.specs.Told.{tells_by}
+use Rattle.sound_words.specs.Sound.{IsSound}
 use Rattle.protocol.proofs.recovery.Sound.{crash_sound}
 use Rattle.protocol.proofs.recovery.SoundForRecovery.{sound_for_recovery}
 use Rattle.protocol.proofs.recovery.Nowhere.{nowhere}

@@ -20,7 +20,7 @@ use Rattle.stepper.specs.declared.resume.After.{After}
 use Rattle.stepper.specs.declared.resume.After.TheVariants.{More, Done}
 use Rattle.helping.specs.Table.{access_of}
 use Rattle.helping.specs.declared.op.Op.{Op}
-use Rattle.recover.specs.Table.{no_call}
+use Rattle.sound_words.specs.Told.{no_call}
 use Rattle.events.specs.Effects.{order_of}
 use Rattle.events.specs.Trace.{IsTrace, IsEffect}
 use Rattle.events.specs.Orders.{InOrder}
@@ -29,7 +29,7 @@ use Rattle.events.specs.declared.event.Event.{Event}
 use Rattle.events.specs.declared.event.Event.TheVariants.{Call as call_event, Return as return_event}
 use Rattle.protocol.specs.Machine.{with_call, with_next, begun_of, call_begun, Memory, World, with_store, with_fence, with_access, after_keeping, effects_after, events_after, next_of, with_step, with_start, with_eviction, MayStart, MayStep}
 use Rattle.protocol.specs.declared.UnderWay.{UnderWay}
-use Rattle.recover.specs.Sound.{IsIssued, IsOwn}
+use Rattle.sound_words.specs.Sound.{IsIssued, IsOwn}
 use Rattle.protocol.specs.Kept.{TellsBy, TellsOf}
 use Rattle.protocol.specs.invariants.Ledger.Stage.{Unmoved, Took}
 use Rattle.protocol.proofs.changes.Keeps.{kept_ledger}

@@ -3,7 +3,7 @@ use Rattle.words.specs.PlainQueue.{Value}
 use Rattle.std.proofs.Common.{◌≡◌, ℕ, inr, List, [], Option, Some, None, sym, ◌∙◌, ap, subst, arith}
 use mathlib.Core.Path.{fun_ext}
 use Rattle.arena.specs.Content.{kept_content}
-use Rattle.recover.specs.Told.{told_by, tells_by}
+use Rattle.sound_words.specs.Told.{told_by, tells_by}
 use Rattle.events.proofs.Facts.{begun}
 use Rattle.protocol.specs.Kept.{TellsOf}
 use Rattle.protocol.specs.Machine.{World}

@@ -13,7 +13,7 @@ use Rattle.arena.specs.declared.place.Part.TheVariants.{Length, First, Second, T
 use Rattle.words.specs.Item.{AreParts}
 use Rattle.arena.specs.declared.place.Place.{Place}
 use Rattle.arena.specs.declared.place.Place.TheVariants.{Head, Tail}
-use Rattle.recover.specs.Sound.{IsIssued, IsOwn}
+use Rattle.sound_words.specs.Sound.{IsIssued, IsOwn}
 use Rattle.protocol.specs.Machine.{Memory}
 use Rattle.protocol.specs.invariants.Ledger.{Ledger, asked_call, held_token}
 use Rattle.protocol.specs.invariants.Ledger.Stage.{Unmoved, Seen, Took}

@@ -6,7 +6,7 @@ use Rattle.arena.specs.Shape.{Shape}
 use Rattle.arena.specs.Words.{announcements, bumps, links, marks, values, HoldsItem}
 use Rattle.arena.specs.declared.place.Place.{Place}
 use Rattle.arena.specs.declared.place.Place.TheVariants.{Tail}
-use Rattle.recover.specs.Sound.{IsIssued, IsOwn}
+use Rattle.sound_words.specs.Sound.{IsIssued, IsOwn}
 use Rattle.protocol.specs.Machine.{Memory}
 use Rattle.protocol.specs.invariants.Base.{Absent, AllFit, Blank}
 use Rattle.protocol.specs.invariants.Ledger.{Ledger, nobody}

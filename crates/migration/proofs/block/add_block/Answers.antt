@@ -5,7 +5,7 @@ use Rattle.std.proofs.lemmas.List.FromFn.{map-range_with_len_more}
 use Rattle.arena.specs.Broker.{block_size_of}
 use Rattle.arena.specs.Shape.{Shape}
 use Rattle.arena.specs.declared.form.Form.TheVariants.{OfValues}
-use Rattle.recover.specs.Kept.{Kept, kept_by, kept_of}
+use Rattle.sound_words.specs.Kept.{Kept, kept_by, kept_of}
 use Rattle.migration.specs.Words.{block_migrated, word_migrated}
 use Rattle.migration.proofs.block.add_block.Invariants.{IsAddedUpTo}
 use Rattle.migration.proofs.block.add_block.Goals as goal

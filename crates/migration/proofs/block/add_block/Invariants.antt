@@ -1,6 +1,6 @@
 use Rattle.std.proofs.Common.{◌≡◌, ◌++◌, ℕ, List, map}
 use Rattle.std.specs.List.{range_with_len}
-use Rattle.recover.specs.Kept.{Kept, kept_of}
+use Rattle.sound_words.specs.Kept.{Kept, kept_of}
 use Rattle.migration.specs.Words.{word_migrated}
 use Rattle.migration.proofs.block.add_block.Given as goal
 

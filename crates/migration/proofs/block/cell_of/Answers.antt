@@ -1,6 +1,6 @@
 use Rattle.std.proofs.Common.{◌≢◌, ◌≤◌, ◌+◌, ℕ, sym, ap, ◌∙◌, arith}
 use Rattle.arena.specs.declared.place.Place.TheVariants.{Cell}
-use Rattle.recover.specs.Kept.{kept_of}
+use Rattle.sound_words.specs.Kept.{kept_of}
 use Rattle.migration.specs.Migrated.{claimed_node}
 use Rattle.migration.proofs.Alike.{cell_named}
 use Rattle.migration.proofs.Surveys.{claimed_is}

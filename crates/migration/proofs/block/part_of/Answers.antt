@@ -3,7 +3,7 @@ use Rattle.std.specs.Int.{w32, to_le_bytes}
 use Rattle.words.specs.PlainQueue.{Value}
 use Rattle.arena.specs.Words.{item_part, values_in}
 use Rattle.arena.specs.declared.form.Form.TheVariants.{OfValues}
-use Rattle.recover.specs.Kept.{kept_of}
+use Rattle.sound_words.specs.Kept.{kept_of}
 use Rattle.migration.specs.Migrated.{part_migrated}
 use Rattle.migration.proofs.Surveys.{off_chain, on_chain}
 use Rattle.migration.proofs.block.part_of.Goals as goal

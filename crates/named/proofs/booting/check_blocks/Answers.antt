@@ -3,7 +3,7 @@ use Rattle.std.proofs.lemmas.Bool.{cases_eq}
 use Rattle.std.proofs.lemmas.Option.{slice_get-get_or, slice_get_within}
 use Rattle.arena.specs.Broker.{block_in}
 use Rattle.arena.specs.Shape.{Counts, shape_of}
-use Rattle.recover.specs.Sound.{AreSoundWordsIn}
+use Rattle.sound_words.specs.Sound.{AreSoundWordsIn}
 use Rattle.directory.specs.Directory.{Directory, HasQueue}
 use Rattle.directory.specs.Queue.{directory_of}
 use Rattle.directory.specs.declared.queue.Queue.{Queue}

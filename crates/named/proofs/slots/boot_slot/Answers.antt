@@ -1,7 +1,7 @@
 use Rattle.std.proofs.Common.{◌≡◌, ℕ, List, Some, length, ap, sym, subst, ◌∙◌, arith}
 use Rattle.std.proofs.lemmas.Option.{slice_get-get_or}
 use Rattle.arena.specs.Shape.{Counts, shape_of}
-use Rattle.recover.specs.Sound.{AreSoundWords}
+use Rattle.sound_words.specs.Sound.{AreSoundWords}
 use Rattle.directory.specs.Directory.{Directory, HasQueue}
 use Rattle.directory.specs.Queue.{directory_of}
 use Rattle.named.specs.Booting.{kept_block}

@@ -2,7 +2,7 @@ use Rattle.std.proofs.Common.{◌≡◌, ℕ, List, [], ◌∷◌, ◌++◌, map
 use Rattle.arena.specs.Place.{IsNode}
 use Rattle.arena.specs.Words.{links, values}
 use Rattle.arena.specs.declared.place.Place.{Place}
-use Rattle.recover.specs.Kept.{Kept, kept_of}
+use Rattle.sound_words.specs.Kept.{Kept, kept_of}
 use Rattle.renewal.proofs.Waiting.{found_all, found_claimed, found_end, found_next, link_within, one_more}
 use Rattle.renewal.proofs.content.content.Goals as goal
 use Rattle.renewal.proofs.content.content.Goals.{then-kept_at-eq0+in_ok-push, else-kept_at-eq0}

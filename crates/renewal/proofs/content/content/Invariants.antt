@@ -1,6 +1,6 @@
 use Rattle.std.proofs.Common.{◌≡◌, ℕ, List, map}
 use Rattle.arena.specs.Words.{values}
-use Rattle.recover.specs.Kept.{kept_of}
+use Rattle.sound_words.specs.Kept.{kept_of}
 use Rattle.renewal.proofs.Waiting.{IsFoundUpTo}
 use Rattle.renewal.proofs.content.content.Given as goal
 

@@ -4,7 +4,7 @@ use Rattle.arena.specs.Content.{waiting_of}
 use Rattle.arena.specs.Place.{IsNode}
 use Rattle.arena.specs.Words.{links, values}
 use Rattle.arena.specs.declared.place.Place.{Place}
-use Rattle.recover.specs.Kept.{Kept, kept_of}
+use Rattle.sound_words.specs.Kept.{Kept, kept_of}
 use Rattle.renewal.proofs.Waiting.{found_all, found_claimed, found_end, found_next, link_within}
 use Rattle.renewal.proofs.content.count.Goals as goal
 use Rattle.renewal.proofs.content.count.Goals.{then-kept_at-eq0, else-kept_at-eq0}

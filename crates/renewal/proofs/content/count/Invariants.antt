@@ -1,5 +1,5 @@
 use Rattle.std.proofs.Common.{◌≡◌, ℕ, List, length}
-use Rattle.recover.specs.Kept.{kept_of}
+use Rattle.sound_words.specs.Kept.{kept_of}
 use Rattle.renewal.proofs.Waiting.{IsFoundUpTo}
 use Rattle.renewal.proofs.content.count.Given as goal
 

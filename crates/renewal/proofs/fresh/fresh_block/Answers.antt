@@ -4,8 +4,8 @@ use Rattle.words.specs.declared.told.Told.{Told}
 use Rattle.arena.specs.Content.{kept_content}
 use Rattle.arena.specs.Shape.{Shape}
 use Rattle.arena.specs.declared.form.Form.TheVariants.{OfItems}
-use Rattle.recover.specs.Kept.{Kept, kept_in, kept_of}
-use Rattle.recover.specs.Told.{tells_by}
+use Rattle.sound_words.specs.Kept.{Kept, kept_in, kept_of}
+use Rattle.sound_words.specs.Told.{tells_by}
 use Rattle.renewal.specs.Renewal.{Renewal}
 use Rattle.renewal.specs.Words.{FitFresh, IsRenewalOf, MayBeRenewed, MayBecome, block_renewed, renewal_of}
 use Rattle.renewal.proofs.Kept.{kept_may}

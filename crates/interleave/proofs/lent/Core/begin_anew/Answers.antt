@@ -1,7 +1,7 @@
 use Rattle.std.proofs.Common.{◌≡◌, ℕ, false, List, sym, ap, subst, ◌∙◌}
 use Rattle.arena.specs.Content.{kept_content}
 use Rattle.arena.specs.Shape.{Shape}
-use Rattle.recover.specs.Told.{tells_by}
+use Rattle.sound_words.specs.Told.{tells_by}
 use Rattle.protocol.specs.Machine.{Trace}
 use Rattle.protocol.specs.Rotated.{empty_trace}
 use Rattle.interleave.specs.Core.{CoreState, state_of}

@@ -4,10 +4,10 @@ use Rattle.words.specs.declared.told.Told.{Told}
 use Rattle.persist.specs.Memory.{Words, words_after_crash}
 use Rattle.arena.specs.Content.{kept_content}
 use Rattle.arena.specs.Shape.{Shape}
-use Rattle.recover.specs.Sound.{AreSoundWords}
-use Rattle.recover.specs.Kept.{kept_in}
+use Rattle.sound_words.specs.Sound.{AreSoundWords}
+use Rattle.sound_words.specs.Kept.{kept_in}
 use Rattle.recover.specs.Table.{boot_recovery}
-use Rattle.recover.specs.Told.{tells_by}
+use Rattle.sound_words.specs.Told.{tells_by}
 use Rattle.protocol.specs.Machine.{Trace}
 use Rattle.protocol.specs.declared.UnderWay.{UnderWay}
 use Rattle.interleave.specs.Booted.{queue_at_boot}

@@ -1,8 +1,8 @@
 use Rattle.std.proofs.Common.{◌≡◌, ℕ, List, ap, ◌∙◌, sym}
 use Rattle.arena.specs.Shape.{Shape}
-use Rattle.recover.specs.Kept.{kept_in}
-use Rattle.recover.specs.Told.{tells_by}
-use Rattle.recover.proofs.Facts.{tells_like}
+use Rattle.sound_words.specs.Kept.{kept_in}
+use Rattle.sound_words.specs.Told.{tells_by}
+use Rattle.sound_words.proofs.Facts.{tells_like}
 use Rattle.interleave.specs.Core.{CoreState}
 use Rattle.interleave.specs.Values.{value_of_place}
 use Rattle.interleave.proofs.words.Values.{shown_at}

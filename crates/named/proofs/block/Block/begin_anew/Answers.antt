@@ -1,6 +1,6 @@
 use Rattle.std.proofs.Common.{◌≡◌, false, Ok, ap, subst, sym, ◌∙◌}
 use Rattle.persist.specs.Memory.{words_in}
-use Rattle.recover.specs.Sound.{AreSoundWords}
+use Rattle.sound_words.specs.Sound.{AreSoundWords}
 use Rattle.interleave.specs.Core.{state_of}
 use Rattle.interleave.specs.Rotation.{after_rotation, rotate_result}
 use Rattle.interleave.specs.State.{State}

@@ -1,7 +1,0 @@
-use Rattle.std.proofs.Common.{ℕ, ◌≤◌, ◌<◌}
-use Rattle.recover.specs.Kept.{kept_of}
-use Rattle.recover.specs.Order.{EntryTells}
-use Rattle.recover.proofs.kept.KeptQueue.are_entries_right.Given as goal
-
-abbrev pub invariant-loop-entry : goal.invariant-loop-entry
-invariant-loop-entry g l = (n : ℕ) → n < l.entry → 1 ≤ n → EntryTells l.self.shape (kept_of l.self) n

@@ -1,5 +1,0 @@
-use Rattle.std.proofs.Common.{below_more}
-use Rattle.recover.proofs.kept.KeptQueue.are_in_turn.Goals as goal
-
-pub loop-node-preserved : goal.loop-node-preserved
-loop-node-preserved g c = below_more _ _ c.loop-node.invariant (λ low. c.is_in_turn.ensures.0 c.if-not-is_in_turn.false)

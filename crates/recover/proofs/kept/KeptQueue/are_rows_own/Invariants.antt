@@ -1,7 +1,0 @@
-use Rattle.std.proofs.Common.{ℕ, ◌<◌}
-use Rattle.recover.specs.Kept.{kept_of}
-use Rattle.recover.specs.Sound.{RowIsSound}
-use Rattle.recover.proofs.kept.KeptQueue.are_rows_own.Given as goal
-
-abbrev pub invariant-loop-t : goal.invariant-loop-t
-invariant-loop-t g l = (n : ℕ) → n < l.t → RowIsSound l.self.shape (kept_of l.self) n

@@ -1,0 +1,5 @@
+pub mod Kept
+pub mod Told
+pub mod Seen
+pub mod Sound
+pub mod Order
