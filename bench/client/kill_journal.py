@@ -1,6 +1,5 @@
 """kill_journal.py PQD PQX LIBRARY MINUTES: what bench/kill.sh --journal does. LIBRARY is tests/killing.c, built."""
 
-import json
 import os
 import random
 import resource
@@ -107,7 +106,7 @@ class Life(Killed):
         said = process.communicate()[0]
         self.seen["kills right after a start" if said else "kills within a start"] += 1
 
-    def kill_at_moment(self, how, seconds=10):
+    def kill_at_moment(self, how, seconds=3):
         """The library kills the server at its moment; else it is killed now."""
         try:
             self.server.process.wait(seconds)
@@ -194,6 +193,7 @@ class Life(Killed):
 
 
 def main(pqd, pqx, library, minutes):
+    orders.test()
     live(
         lambda folder, pool: Life(pqd, pqx, library, folder, pool),
         minutes,

@@ -5,6 +5,7 @@ import subprocess
 from collections import Counter
 from pathlib import Path
 
+import histories
 import order
 from load import KINDS, Different
 
@@ -82,6 +83,22 @@ def with_values_put_once(lines):
                 line = {**line, "value": f"{value}, {tries[value]} times again"}
             tries[value] += 1
         yield line
+
+
+def test():
+    """Each kind of wrong order is found, and a right one passes."""
+    calls = [(("put", 1), 0, 1, True), (("put", 2), 2, 3, True), (("put", 3), 4, 9, False), (("take", 1), 5, 8, True)]
+    effects = [effect for effect, *_ in calls]
+    right = [effects[0], effects[1], effects[3]]
+    assert broken_calls(calls, right)[0] is None
+    assert broken_calls(calls, effects)[0] is None
+    assert "answered" in broken_calls(calls, right[:2])[0]
+    assert "twice" in broken_calls(calls, [*right, effects[0]])[0]
+    assert "nobody" in broken_calls(calls, [*right, ("take", 2)])[0]
+    assert "behind" in broken_calls(calls, [effects[1], effects[0], effects[3]])[0]
+    places = broken_calls(calls, right)[1]
+    assert broken_empties(calls, places, right, [histories.Take(None, 0, 1)]) is None
+    assert "not empty" in broken_empties(calls, places, right, [histories.Take(None, 2, 3)])
 
 
 def recording(queue, players, drainers, crashes):
