@@ -98,7 +98,10 @@ def kept_beginning(data):
 def begun(broker):
     """The beginning of the story that a broker has, by its list and by what it tells. Each told reply is the story's,
     and so is the reply to a number that is sent again."""
-    made = len(broker.ask({"op": "list"})["queues"])
+    listed = broker.ask({"op": "list"})
+    if listed is None:
+        raise Wrong("a server does not begin on what is left:", broker.end()[1])
+    made = len(listed["queues"])
     if made < CREATIONS:
         return made
     tells = [broker.ask({"op": "told", "client": client, "queue": "a"}) for client in (0, 1)]
