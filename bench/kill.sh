@@ -8,9 +8,9 @@
 # names another pqd than the one that `rt run` left, RECORDS how many calls each client has in a queue (512).
 #
 # With --journal the server has one, kept by a policy that is drawn, and with renewals or not; each client has 64 calls
-# in a queue, so that renewals come often. It is killed while clients call, while it starts, and at calls of the system by
-# which it compacts its journal or writes what a renewal changed (tests/killing.c), while it recovers after a crash, or
-# its files are full again and again, so that compactions come often. It begins again on its journal: nothing that was
+# in a queue, so that renewals come often. It is killed while clients call, while it starts, while it recovers after a
+# crash, and at calls of the system by which it compacts its journal or writes what a renewal changed (tests/killing.c).
+# Compactions come often where its files are full again and again. It begins again on its journal: nothing that was
 # answered is lost. Each client is told of its last call, a number without an answer is sent again, and a reply that was
 # told stays the same. At each stop in order the journal leaves the words of the image, as a plain program reads it. At
 # the end each history over all kills is explained, with all that the queues held: by the order that all files of the

@@ -1,5 +1,5 @@
-"""The story of requests that tests of `pqd --journal` play, and a broker that answers them: of the program that the first
-word of the command line names."""
+"""The story of requests that tests of `pqd --journal` play, and a broker that answers them: of the program that the
+first word of the command line names."""
 
 import json
 import os

@@ -1,7 +1,8 @@
 """journaled.py PQD KILLING REFUSING: `pqd --journal` that is stopped, or whose device fails, at each call of the system
 by which it writes its journal (the library tests/killing.c), or which is refused memory (tests/refusing.c). A client
-plays a story of requests, and after each stop sends again the one that was not answered, to a server that begins on what
-is left: every reply is the story's. Journals are cut off, damaged, and locked. Prints what was seen, and what is wrong."""
+plays a story of requests, and after each stop sends again the one that was not answered, to a server that begins on
+what is left: every reply is the story's. Journals are cut off, damaged, and locked. Prints what was seen, and what is
+wrong."""
 
 import json
 import os

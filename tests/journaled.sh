@@ -1,8 +1,8 @@
 #!/usr/bin/env bash
-# `pqd` with a journal: killed behind replies, stopped before and after each call of the system by which it writes, each
-# such call failing, full files, refused memory, journals that are cut off, damaged, in use or none; and a machine that
-# loses its power there. It takes the program that the last `rt ci`, or `rt run` in crates/pqd, left, or the one that PQD
-# names.
+# `pqd` with a journal: killed behind replies, stopped before, within and after each call of the system by which it
+# writes, each such call failing, full files, refused memory, journals that are cut off, damaged, in use or none; and a
+# machine that loses its power there. It takes the program that the last `rt ci`, or `rt run` in crates/pqd, left, or
+# the one that PQD names.
 set -eu
 cd "$(dirname "$0")/.."
 . tests/cases.sh

@@ -3,15 +3,15 @@
 //
 // KILLED names the moment: `open`, `write`, `fdatasync`, `fsync` or `rename`, before it is made, or after it, where
 // KILLED has `after-` before the name; at `within-write` half of the bytes are written. FAILED names a call that fails
-// instead of being made; of a `write` that fails the first byte is written. With TURN=N it is the N-th call of that name,
-// and the first one else; a call behind it that FAILED names fails too, if FAILING is set. An `open` counts where the
-// file's name ends with `.new`, a `write` and an `fdatasync` of such a file alone, also once it is renamed; with LEAST=N
-// a `write` of N bytes at least.
+// instead of being made; of a `write` that fails the first byte is written. With TURN=N it is the N-th call of that
+// name, and the first one else; a call behind it that FAILED names fails too, if FAILING is set. An `open` counts where
+// the file's name ends with `.new`, a `write` and an `fdatasync` of such a file alone, also once it is renamed; with
+// LEAST=N a `write` of N bytes at least.
 //
 // SYNCED names a file that is told what would outlast a loss of power: `file INODE SIZE`, so many bytes of that file;
 // `renamed N`, a file has the name of another one, of which the folder does not know yet, and `folder`, it does. With
-// KEPT the other one stays, behind its name `.N`, the first such one that is free; N is 0 where there was none. It needs
-// no header, so that the kit's compiler is enough.
+// KEPT the other one stays, behind its name `.N`, the first such one that is free; N is 0 where there was none. It
+// needs no header, so that the kit's compiler is enough.
 extern void *dlsym(void *, const char *);
 extern char *getenv(const char *);
 extern int getpid(void);

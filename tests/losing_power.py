@@ -1,8 +1,9 @@
 """losing_power.py PQD LIBRARY: `pqd --journal` on a machine that loses its power at each call of the system by which it
-writes its journal. The library tests/killing.c ends the program there, and tells which bytes of its files would be left,
-and which names. Bytes behind those are dropped, cut off somewhere, zeros, or some blocks of them are zeros; a renaming of
-which the folder does not know is undone, or not. A server that begins on what is left has a beginning of the story that
-was played, and goes on with it: of --sync always all that was answered. Prints what was seen, and what is wrong."""
+writes its journal. The library tests/killing.c ends the program there, and tells which bytes of its files would be
+left, and which names. Bytes behind those are dropped, cut off somewhere, zeros, or some blocks of them are zeros; a
+renaming of which the folder does not know is undone, or not. A server that begins on what is left has a beginning of
+the story that was played, and goes on with it: of --sync always all that was answered. Prints what was seen, and what
+is wrong."""
 
 import os
 import random
@@ -111,8 +112,10 @@ def begun(broker):
         if not calls:
             continue
         request, reply = calls[-1]
-        require(told["told"] == "nottaken" or told == {**reply, "number": request["number"], "told": "taken"}, told, reply)
-        again = broker.ask(request) if told["told"] == "taken" else reply
+        if told["told"] == "nottaken":
+            continue
+        require(told == {**reply, "number": request["number"], "told": "taken"}, f"{told} is told of {request}")
+        again = broker.ask(request)
         require(again == reply, f"{request}, sent again, was answered {again}, and not {reply}")
     return at
 

@@ -92,7 +92,7 @@ class Life(Killed):
 
     def kill_within_start(self):
         """At a moment of the library, or after a while that no start takes much longer than."""
-        words = [self.pqd, "serve", "--clients", str(CLIENTS), "--records", str(RECORDS), "--port", "0", "--workers", "8"]
+        words = [self.pqd, "serve", "--clients", str(CLIENTS), "--records", str(RECORDS), "--port", "0"]
         words += ["--journal", self.journal, "--sync", random.choice(POLICIES)]
         words += ["--renew"] if random.random() < 0.5 else []
         killed = self.moment("start") if random.random() < 0.5 else {}

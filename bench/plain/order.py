@@ -12,8 +12,8 @@ DIRECTORY = 34
 
 
 def frames(data):
-    """The words on which a journal begins, and the changes of its frames, as far as each says the sum of the one before.
-    The sums are not worked out: what is wrong with them, `reading` of journal finds."""
+    """The words on which a journal begins, and the changes of its frames, as far as each says the sum of the one
+    before. The sums are not worked out: what is wrong with them, `reading` of journal finds."""
     (count,) = struct.unpack_from("<Q", data, 8)
     at = HEAD + 8 * count
     words, changes = list(struct.unpack_from(f"<{count}Q", data, 16)), []
