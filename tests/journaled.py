@@ -18,7 +18,7 @@ sys.path.insert(0, str(Path(__file__).parent.parent / "bench" / "plain"))
 
 import image
 import journal
-from journal_story import CALLS, MOMENTS, PQD, STORY, THERE, Broker, Wrong, clear, go_on, is_torn, require
+from journal_story import CALLS, MOMENTS, MOST, PQD, STORY, THERE, Broker, Wrong, clear, go_on, is_torn, require
 
 LIBRARY, REFUSING = sys.argv[2:]
 # How many of the story's requests are made while memory is refused.
@@ -227,7 +227,14 @@ def in_use(file):
     second = Broker(file)
     require(second.ask({"op": "list"}) == {"queues": []}, "it does not serve once the first one is killed")
     second.end()
-    return "two servers: the second one is refused"
+    clear(file)
+    # Its files are full again and again, so that it goes on as another one.
+    first = Broker(file, most=MOST)
+    for request, wanted in STORY:
+        require(first.ask(request) == wanted, request)
+        refused(file, "32 InUse")
+    first.end()
+    return "two servers: the second one is refused, also where the first one compacts its journal"
 
 
 def with_images(file):

@@ -5,7 +5,6 @@ renaming of which the folder does not know is undone, or not. A server that begi
 the story that was played, and goes on with it: of --sync always all that was answered. Prints what was seen, and what
 is wrong."""
 
-import os
 import random
 import sys
 import tempfile
@@ -17,60 +16,11 @@ sys.path.insert(0, str(Path(__file__).parent.parent / "bench" / "plain"))
 
 import image
 import journal
-from journal_story import MOMENTS, STORY, Broker, Wrong, clear, require
+from journal_story import MOMENTS, MOST, STORY, Broker, Wrong, clear, require
+from power import Disk, left
 
 LIBRARY = sys.argv[2]
 CREATIONS = sum(request["op"] == "create" for request, _ in STORY)
-# Files are full at so many bytes: then the journal goes on as a shorter one, some times in a story.
-MOST = 24400
-# The size of a block that a disk writes whole.
-BLOCK = 512
-
-
-class Disk:
-    """What the library told of the files of a journal: how much of each is kept, and which renaming is not."""
-
-    def __init__(self, file, told):
-        self.file = file
-        self.kept = {}
-        self.renamed = None
-        for line in Path(told).read_text().splitlines() if os.path.exists(told) else ():
-            what, *numbers = line.split()
-            if what == "file":
-                self.kept[int(numbers[0])] = int(numbers[1])
-            else:
-                self.renamed = int(numbers[0]) if what == "renamed" else None
-
-    def found(self, suffix):
-        """A file beside the journal: all its bytes, and how many are kept; or None."""
-        path = self.file + suffix
-        if not os.path.exists(path):
-            return None
-        data = Path(path).read_bytes()
-        return data, self.kept.get(os.stat(path).st_ino, len(data))
-
-    def journals(self):
-        """What may be the journal: the one that has its name, and the one before, where the folder may not know yet."""
-        yield self.found("")
-        if self.renamed is not None:
-            yield self.found(f".{self.renamed}") if self.renamed else None
-
-
-def left(draw, data, kept):
-    """What may be left of these bytes, of which so many are kept."""
-    yield data[:kept]
-    if kept == len(data):
-        return
-    yield data
-    cut = draw.randint(kept, len(data))
-    yield data[:cut]
-    yield data[:cut] + bytes(len(data) - cut)
-    blocks = bytearray(data)
-    for begin in range(kept // BLOCK * BLOCK, len(data), BLOCK):
-        if draw.random() < 0.5:
-            end = min(begin + BLOCK, len(data))
-            blocks[max(begin, kept):end] = bytes(end - max(begin, kept))
-    yield bytes(blocks)
 
 
 def done_by(told):

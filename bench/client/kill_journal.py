@@ -20,6 +20,7 @@ import orders
 from kill import Killed, live, told_of
 from layout import block_size
 from load import CLIENTS, PLAYERS, Connection, Different, Server
+from power import Disk, left
 from resending import Resending, play
 
 RECORDS = int(os.environ.get("RECORDS", 64))
@@ -43,6 +44,7 @@ class Life(Killed):
         self.pqx = pqx
         self.library = library
         self.journal = f"{folder}/journal"
+        self.told = f"{folder}/told"
         self.crashes = []
         self.begin_time = 0.1
         self.begin("kill")
@@ -53,7 +55,8 @@ class Life(Killed):
         def prepare():
             signal.signal(signal.SIGXFSZ, signal.SIG_IGN)
             resource.setrlimit(resource.RLIMIT_FSIZE, (most, most))
-        environment = {**os.environ, "LD_PRELOAD": self.library, "KEPT": "1", **killed}
+        Path(self.told).unlink(missing_ok=True)
+        environment = {**os.environ, "LD_PRELOAD": self.library, "KEPT": "1", "SYNCED": self.told, **killed}
         how = {"env": environment, "preexec_fn": prepare, "restore_signals": False}
         return {**how, "stderr": subprocess.DEVNULL}
 
@@ -73,8 +76,8 @@ class Life(Killed):
         """A server that begins on the journal, for a turn of this kind."""
         renews = how == "renewal" or random.random() < 0.5
         most = HEAD + GROWTH[renews] if how in ("compaction", "full") else resource.RLIM_INFINITY
-        policy = random.choice(POLICIES)
-        options = ["--journal", self.journal, "--sync", policy, *(["--renew"] if renews else [])]
+        self.policy = random.choice(POLICIES)
+        options = ["--journal", self.journal, "--sync", self.policy, *(["--renew"] if renews else [])]
         begin = time.monotonic()
         self.server = Server(self.pqd, self.image, RECORDS, options, **self.started(most, **self.moment(how)))
         self.begin_time = time.monotonic() - begin
@@ -93,7 +96,8 @@ class Life(Killed):
     def kill_within_start(self):
         """At a moment of the library, or after a while that no start takes much longer than."""
         words = [self.pqd, "serve", "--clients", str(CLIENTS), "--records", str(RECORDS), "--port", "0"]
-        words += ["--journal", self.journal, "--sync", random.choice(POLICIES)]
+        self.policy = random.choice(POLICIES)
+        words += ["--journal", self.journal, "--sync", self.policy]
         words += ["--renew"] if random.random() < 0.5 else []
         killed = self.moment("start") if random.random() < 0.5 else {}
         started = self.started(resource.RLIM_INFINITY, **killed)
@@ -105,6 +109,20 @@ class Life(Killed):
         process.kill()
         said = process.communicate()[0]
         self.seen["kills right after a start" if said else "kills within a start"] += 1
+        self.lose_power()
+
+    def lose_power(self):
+        """Now and then the kill is a loss of power, where all that was answered is synced."""
+        if self.policy != "always" or random.random() < 0.5:
+            return
+        disk = Disk(self.journal, self.told)
+        kept = random.choice(list(disk.journals()))
+        if kept != disk.found(""):
+            # The renaming is undone.
+            os.replace(f"{self.journal}.{disk.renamed}", self.journal)
+        data = random.choice(list(left(random, *kept)))
+        Path(self.journal).write_bytes(data)
+        self.seen["losses of power"] += 1
 
     def kill_at_moment(self, how, seconds=3):
         """The library kills the server at its moment; else it is killed now."""
@@ -153,10 +171,11 @@ class Life(Killed):
             self.play(seconds, self.kill_within_recovery)
         else:
             self.play(seconds, self.kill if how == "kill" else None)
-        self.crashes.append(time.monotonic_ns())
         if how in ("stop", "full"):
-            self.crashes.pop()
             self.stop()
+        else:
+            self.crashes.append(time.monotonic_ns())
+            self.lose_power()
         while random.random() < 0.3:
             self.kill_within_start()
         self.begin(following)
