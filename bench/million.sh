@@ -1,8 +1,8 @@
 #!/usr/bin/env bash
 # million.sh [PAIRS]: a million pairs of a put and a take through one queue of `pqd serve --renew`, by eight connections
 # with 16 pairs in flight on each. Each item comes out once, and those of one connection in their order. Printed are the
-# pairs a second, and the most memory that was resident so far, after ten thousand pairs, a hundred thousand and at the
-# end. It ends with status 1 where an item is lost, doubled or overtaken, or a reply is another one. PQD names another
+# pairs a second, the memory that is resident, and the most that was so far, after ten thousand pairs, a hundred thousand
+# and at the end. It ends with status 1 where an item is lost, doubled or overtaken, or a reply is another one. PQD names another
 # pqd than the one that `rt run` left. MALLOC_ARENA_MAX=1 takes away what the C library keeps for each thread.
 set -eu
 pqd=$(realpath -m "${PQD:-$(dirname "$0")/../crates/pqd/out/pqd}")

@@ -72,4 +72,5 @@ def main():
         print("take:", reader.take(number))
 
 
-main()
+if __name__ == "__main__":
+    main()

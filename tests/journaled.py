@@ -1,7 +1,8 @@
-"""journaled.py PQD LIBRARY: `pqd --journal` that is stopped, or whose device fails, at each call of the system by which
-it writes its journal (the library tests/killing.c). A client plays a story of requests, and after each stop sends again
-the one that was not answered, to a server that begins on what is left: every reply is the story's. Journals are cut
-off, damaged, and locked. Prints what was seen, and what is wrong."""
+"""journaled.py PQD KILLING REFUSING: `pqd --journal` that is stopped, or whose device fails, at each call of the system
+by which it writes its journal (the library tests/killing.c), or which is refused memory (tests/refusing.c). A client
+plays a story of requests, and after each stop sends again the one that was not answered, to a server that begins on
+what is left: every reply is the story's. Journals are cut off, damaged, and locked. Prints what was seen, and what is
+wrong."""
 
 import json
 import os
@@ -17,119 +18,28 @@ sys.path.insert(0, str(Path(__file__).parent.parent / "bench" / "plain"))
 
 import image
 import journal
+from journal_story import CALLS, MOMENTS, MOST, PQD, STORY, THERE, Broker, Wrong, clear, go_on, is_torn, require
 
-PQD, LIBRARY = sys.argv[1:]
-CALLS = ("open", "write", "fdatasync", "fsync", "rename")
-
-
-class Wrong(Exception):
-    """What was found, and what was wanted."""
-
-
-def require(holds, *said):
-    if not holds:
-        raise Wrong(*said)
-
-
-def story():
-    """Requests and their replies: two clients of a log queue, beside a list. Nobody runs out of records."""
-    yield {"op": "create", "queue": "a", "kind": "log"}, {"reply": "created", "slot": 0}
-    yield {"op": "create", "queue": "b", "kind": "durable"}, {"reply": "created", "slot": 1}
-    held, numbers = [], [0, 0]
-    for turn in range(12):
-        client = turn // 2 % 2
-        numbers[client] += 1
-        call = {"client": client, "queue": "a", "number": numbers[client]}
-        if turn % 5 in (0, 1, 3):
-            held.append(f"{turn:02x}" * (turn + 1))
-            yield {"op": "put", **call, "value": held[-1]}, {"reply": "done"}
-        elif held:
-            yield {"op": "take", **call}, {"got": held.pop(0), "reply": "got"}
-        else:
-            yield {"op": "take", **call}, {"reply": "empty"}
-
-
-STORY = list(story())
-# What a creation that was not answered may be answered when it is sent again.
-THERE = "Exists"
-
-
-class Broker:
-    """A `pqd pipe` with a journal, which answers one line after another."""
-
-    def __init__(self, file, *options, **environment):
-        words = [PQD, "pipe", "--clients", "2", "--records", "16", "--journal", file, *options]
-        self.process = subprocess.Popen(
-            words, stdin=subprocess.PIPE, stdout=subprocess.PIPE, stderr=subprocess.PIPE, env={**os.environ, **environment}
-        )
-
-    def ask(self, request):
-        """The reply, or None where there is none."""
-        try:
-            self.process.stdin.write(json.dumps(request).encode() + b"\n")
-            self.process.stdin.flush()
-        except BrokenPipeError:
-            return None
-        line = self.process.stdout.readline()
-        return json.loads(line) if line.endswith(b"\n") else None
-
-    def end(self):
-        """Its status, and what it said on standard error."""
-        said = self.process.communicate()[1].decode()
-        return self.process.returncode, said
-
-    def play(self, at):
-        """The story from there on. How far it was answered as the story is."""
-        while at < len(STORY):
-            request, wanted = STORY[at]
-            reply = self.ask(request)
-            if reply is None:
-                return at
-            require(reply == wanted, f"{request} was answered {reply}, and not {wanted}")
-            at += 1
-        return at
-
-
-def resend(broker, at):
-    """Sends again the request that was not answered."""
-    request, wanted = STORY[at]
-    reply = broker.ask(request)
-    there = request["op"] == "create" and reply.get("name") == THERE
-    require(there or reply == wanted, f"{request}, sent again, was answered {reply}, and not {wanted}")
-
-
-def go_on(file, at, *options):
-    """The rest of the story, on what is left of the journal."""
-    broker = Broker(file, *options)
-    if at < len(STORY):
-        resend(broker, at)
-        at = broker.play(at + 1)
-    require(at == len(STORY), f"only {at} requests were answered, and nothing failed", broker.process.poll())
-    status, said = broker.end()
-    require(status == 0, f"status {status}", said)
-    return said
-
-
-def is_torn(said):
-    return "torn frame" in said
+LIBRARY, REFUSING = sys.argv[2:]
+# How many of the story's requests are made while memory is refused.
+SHORT = 7
 
 
 def stopped_everywhere(file, policy):
     """A stop before and after each call of the system."""
     stops = torn = 0
-    for name in CALLS:
-        for moment in (name, f"after-{name}"):
-            for turn in count(1):
-                clear(file)
-                broker = Broker(file, "--sync", policy, KILLED=moment, TURN=str(turn), LD_PRELOAD=LIBRARY)
-                at = broker.play(0)
-                status, said = broker.end()
-                if status == 0:
-                    break
-                require(status == -9, f"{moment} {turn}: status {status}", said)
-                require(os.path.exists(file) or at == 0, f"{moment} {turn}: no journal is left, and {at} were answered")
-                torn += is_torn(go_on(file, at, "--sync", policy))
-                stops += 1
+    for moment in MOMENTS:
+        for turn in count(1):
+            clear(file)
+            broker = Broker(file, "--sync", policy, KILLED=moment, TURN=str(turn), LD_PRELOAD=LIBRARY)
+            at = broker.play(0)
+            status, said = broker.end()
+            if status == 0:
+                break
+            require(status == -9, f"{moment} {turn}: status {status}", said)
+            require(os.path.exists(file) or at == 0, f"{moment} {turn}: no journal is left, and {at} were answered")
+            torn += is_torn(go_on(file, at, "--sync", policy))
+            stops += 1
     return f"--sync {policy}: stopped at {stops} moments, {torn} frames torn; each reply is the story's"
 
 
@@ -174,21 +84,12 @@ def happened(name, turn, policy, file):
     return turn <= WRITTEN[name, policy]
 
 
-def clear(file):
-    for suffix in ("", ".new", ".torn", ".lock"):
-        Path(file + suffix).unlink(missing_ok=True)
-
-
 def full(file, policy):
     """Files that take so many bytes and no more: a journal that has grown goes on as a shorter one."""
     sizes = over = 0
     for size in range(20000, 28000, 400):
         clear(file)
-        words = [sys.executable, "-B", "tests/devices.py", "full", str(size), PQD, "pipe", "--clients", "2"]
-        words += ["--records", "16", "--journal", file, "--sync", policy]
-        process = subprocess.Popen(words, stdin=subprocess.PIPE, stdout=subprocess.PIPE, stderr=subprocess.PIPE)
-        broker = Broker.__new__(Broker)
-        broker.process = process
+        broker = Broker(file, "--sync", policy, most=size)
         at = broker.play(0)
         status, said = broker.end()
         if status != 0:
@@ -220,6 +121,41 @@ def ends_of(data):
         changes = int.from_bytes(data[ends[-1] + 16:ends[-1] + 20], "little")
         ends.append(ends[-1] + 28 + 12 * changes)
     return ends
+
+
+def refused_memory(file):
+    """Each allocation is refused in turn. What was refused memory is asked once more; a server that ends left a journal
+    from which the next one goes on."""
+    said_so = {"pqd: 6 NoMemory\n": 0, "pqd: 27 WriteFailed\n": 0}
+    again = 0
+    clear(file)
+    broker = Broker(file, REFUSED="0", LD_PRELOAD=REFUSING)
+    for request, _ in STORY[:SHORT]:
+        broker.ask(request)
+    for number in range(1, int(broker.end()[1]) + 1):
+        clear(file)
+        broker = Broker(file, REFUSED=str(number), LD_PRELOAD=REFUSING)
+        at = tries = 0
+        while at < SHORT:
+            request, wanted = STORY[at]
+            reply = broker.ask(request)
+            if reply is None:
+                break
+            if reply.get("name", reply.get("reply")) in ("NoMemory", "unfinished", "Busy") and tries < 4:
+                tries += 1
+                continue
+            there = request["op"] == "create" and reply.get("name") == THERE and tries > 0
+            require(there or reply == wanted, f"allocation {number} refused: {request} was answered {reply}")
+            at += 1
+        again += tries
+        status, said = broker.end()
+        require(status == (said != "") and (said == "" or said in said_so), f"allocation {number}: {status}", said)
+        if said:
+            said_so[said] += 1
+        require(at == SHORT or said, f"allocation {number}: only {at} were answered")
+        go_on(file, at)
+    require(again > 0 and all(said_so.values()), again, said_so)
+    return "each allocation refused: asked again, or said; each reply is the story's"
 
 
 def cut_off(file):
@@ -291,7 +227,14 @@ def in_use(file):
     second = Broker(file)
     require(second.ask({"op": "list"}) == {"queues": []}, "it does not serve once the first one is killed")
     second.end()
-    return "two servers: the second one is refused"
+    clear(file)
+    # Its files are full again and again, so that it goes on as another one.
+    first = Broker(file, most=MOST)
+    for request, wanted in STORY:
+        require(first.ask(request) == wanted, request)
+        refused(file, "32 InUse")
+    first.end()
+    return "two servers: the second one is refused, also where the first one compacts its journal"
 
 
 def with_images(file):
@@ -353,7 +296,7 @@ def main():
             print(stopped_everywhere(file, policy))
             print(failing_everywhere(file, policy))
             print(full(file, policy))
-        for rows in (cut_off, damaged, in_use, with_images):
+        for rows in (refused_memory, cut_off, damaged, in_use, with_images):
             print(rows(file))
         print(odd_files(file, folder))
 

@@ -1,20 +1,25 @@
 #!/usr/bin/env bash
-# `pqd` with a journal: killed behind replies, stopped before and after each call of the system by which it writes, each
-# such call failing, full files, journals that are cut off, damaged, in use or none. It takes the program that the last
-# `rt ci`, or `rt run` in crates/pqd, left, or the one that PQD names.
+# `pqd` with a journal: killed behind replies, stopped before, within and after each call of the system by which it
+# writes, each such call failing, full files, refused memory, journals that are cut off, damaged, in use or none; and a
+# machine that loses its power there. It takes the program that the last `rt ci`, or `rt run` in crates/pqd, left, or
+# the one that PQD names.
 set -eu
 cd "$(dirname "$0")/.."
 . tests/cases.sh
 pqd=${PQD:-$PWD/crates/pqd/out/pqd}
 need "$pqd"
-"$(dirname "$(rt doc)")/toolchain/bin/clang" --target=x86_64-unknown-linux-gnu -shared -fPIC -nostdlib -fuse-ld=lld \
-    -o "$work/killing.so" tests/killing.c
+for library in killing refusing; do
+    "$(dirname "$(rt doc)")/toolchain/bin/clang" --target=x86_64-unknown-linux-gnu -shared -fPIC -nostdlib \
+        -fuse-ld=lld -o "$work/$library.so" "tests/$library.c"
+done
 
-journaled() {
-    python3 -B tests/journaled.py "$pqd" "$work/killing.so" > "$work/out" 2>&1 || true
-    difference 'journaled' tests/journaled.txt "$work/out"
+# A program of tests/ prints the lines that are stored beside it: NAME LIBRARY..
+tells() {
+    python3 -B "tests/$1.py" "$pqd" "${@:2}" > "$work/out" 2>&1 || true
+    difference "$1" "tests/$1.txt" "$work/out"
 }
-judge 'journaled' "$(journaled)"
+judge 'journaled' "$(tells journaled "$work/killing.so" "$work/refusing.so")"
+judge 'losing power' "$(tells losing_power "$work/killing.so")"
 # The replies with a journal are those without one.
 for run in first second third; do
     status=0

@@ -2,10 +2,16 @@
 // stop of the machine would, or lets one fail.
 //
 // KILLED names the moment: `open`, `write`, `fdatasync`, `fsync` or `rename`, before it is made, or after it, where
-// KILLED has `after-` before the name. FAILED names a call that fails instead of being made; of a `write` that fails the
-// first byte is written. With TURN=N it is the N-th call of that name, and the first one else; a call behind it that
-// FAILED names fails too, if FAILING is set. An `open` counts where the file's name ends with `.new`, a `write` and an
-// `fdatasync` of such a file alone, also once it is renamed. It needs no header, so that the kit's compiler is enough.
+// KILLED has `after-` before the name; at `within-write` half of the bytes are written. FAILED names a call that fails
+// instead of being made; of a `write` that fails the first byte is written. With TURN=N it is the N-th call of that
+// name, and the first one else; a call behind it that FAILED names fails too, if FAILING is set. An `open` counts where
+// the file's name ends with `.new`, a `write` and an `fdatasync` of such a file alone, also once it is renamed; with
+// LEAST=N a `write` of N bytes at least.
+//
+// SYNCED names a file that is told what would outlast a loss of power: `file INODE SIZE`, so many bytes of that file;
+// `renamed N`, a file has the name of another one, of which the folder does not know yet, and `folder`, it does. With
+// KEPT the other one stays, behind its name `.N`, the first such one that is free; N is 0 where there was none. It
+// needs no header, so that the kit's compiler is enough.
 extern void *dlsym(void *, const char *);
 extern char *getenv(const char *);
 extern int getpid(void);
@@ -13,9 +19,13 @@ extern int kill(int, int);
 extern int strcmp(const char *, const char *);
 extern unsigned long strlen(const char *);
 extern int atoi(const char *);
+extern int dprintf(int, const char *, ...);
+extern int snprintf(char *, unsigned long, const char *, ...);
+extern int fstat(int, void *);
+extern int link(const char *, const char *);
 extern int *__errno_location(void);
 
-enum { FILES = 64, NO_SPACE = 28 };
+enum { FILES = 64, NO_SPACE = 28, EXISTS = 17, APPENDING = 02102, PATH = 4096, STATUS = 32, INODE = 1, SIZE = 6 };
 
 static int turns[5];
 static char written[FILES];
@@ -58,6 +68,41 @@ static int is_written(int file) {
     return file >= 0 && file < FILES && written[file];
 }
 
+// Whether a write of so many bytes counts.
+static int is_counted(unsigned long size) {
+    const char *least = getenv("LEAST");
+    return !least || size >= (unsigned long)atoi(least);
+}
+
+// The file that is told what is kept, or -1.
+static int told(void) {
+    static int file = -1;
+    const char *named = getenv("SYNCED");
+    int (*opens)(const char *, int, int) = next("open");
+    if (named && file < 0)
+        file = opens(named, APPENDING, 0600);
+    return file;
+}
+
+// Tells that the first so many bytes of a file are kept; all that it has, where `size` is negative.
+static void tell_kept(int file, long size) {
+    unsigned long status[STATUS];
+    if (told() >= 0 && fstat(file, status) == 0)
+        dprintf(told(), "file %lu %lu\n", status[INODE], size < 0 ? status[SIZE] : (unsigned long)size);
+}
+
+// Keeps a file that is to be replaced, behind its name a number, which this answers; 0 where there is none.
+static int keep_replaced(const char *name) {
+    char other[PATH];
+    int number = 0, linked = -1;
+    if (!getenv("KEPT"))
+        return 0;
+    do
+        snprintf(other, PATH, "%s.%d", name, ++number);
+    while ((linked = link(name, other)) != 0 && *__errno_location() == EXISTS);
+    return linked == 0 ? number : 0;
+}
+
 int open(const char *path, int flags, int mode) {
     int (*opens)(const char *, int, int) = next("open");
     if (!is_new(path)) {
@@ -73,16 +118,27 @@ int open(const char *path, int flags, int mode) {
     int file = opens(path, flags, mode);
     if (file >= 0 && file < FILES)
         written[file] = 1;
+    tell_kept(file, 0);
     at("after-open", count);
     return file;
 }
 
+int close(int file) {
+    int (*closes)(int) = next("close");
+    if (file >= 0 && file < FILES)
+        written[file] = 0;
+    return closes(file);
+}
+
 long write(int file, const void *bytes, unsigned long size) {
     long (*writes)(int, const void *, unsigned long) = next("write");
-    if (!is_written(file))
+    if (!is_written(file) || !is_counted(size))
         return writes(file, bytes, size);
     int count = ++turns[1];
     at("write", count);
+    if (is_named("KILLED", "within-write") && count == turn())
+        writes(file, bytes, size / 2);
+    at("within-write", count);
     if (fails("write", count)) {
         writes(file, bytes, size > 0);
         *__errno_location() = NO_SPACE;
@@ -102,6 +158,7 @@ int fdatasync(int file) {
     if (fails("fdatasync", count))
         return -1;
     int done = syncs(file);
+    tell_kept(file, -1);
     at("after-fdatasync", count);
     return done;
 }
@@ -113,6 +170,8 @@ int fsync(int file) {
     if (fails("fsync", count))
         return -1;
     int done = syncs(file);
+    if (told() >= 0)
+        dprintf(told(), "folder\n");
     at("after-fsync", count);
     return done;
 }
@@ -123,7 +182,10 @@ int rename(const char *from, const char *to) {
     at("rename", count);
     if (fails("rename", count))
         return -1;
+    int replaced = keep_replaced(to);
     int done = renames(from, to);
+    if (told() >= 0)
+        dprintf(told(), "renamed %d\n", replaced);
     at("after-rename", count);
     return done;
 }

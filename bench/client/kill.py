@@ -64,16 +64,45 @@ def play(player, port, until):
     return player
 
 
-class Round:
-    """A broker's life over stops and kills. `players` are as they are now, `kept` as they were when the image was
-    written that the broker would begin on."""
+class Killed:
+    """A broker's life over kills. `players` are as they are now, and `play` is what each of them does."""
 
-    def __init__(self, pqd, folder, pool):
+    def __init__(self, pqd, folder, pool, players, play):
         self.pqd = pqd
         self.pool = pool
         self.image = f"{folder}/image"
         self.seen = Counter()
-        self.players = [Remembering(client) for client in range(PLAYERS)]
+        self.players = players
+        self.play_one = play
+        self.server = None
+
+    def play(self, seconds, kill=None):
+        """All players at once, until the time is over; then the server is killed while they call, or they end."""
+        until = time.monotonic() + seconds + (60 if kill else 0)
+        before = sum(player.calls for player in self.players)
+        playing = self.pool.starmap_async(self.play_one, [(player, self.server.port, until) for player in self.players])
+        if kill:
+            kill(seconds)
+        self.players = playing.get()
+        self.seen["calls"] += sum(player.calls for player in self.players) - before
+
+    def end_server(self):
+        self.server.process.send_signal(signal.SIGKILL)
+        self.server.process.wait()
+        self.server.process.stdout.close()
+
+    def kill(self, seconds=0):
+        time.sleep(seconds)
+        self.end_server()
+        self.seen["kills"] += 1
+
+
+class Round(Killed):
+    """A life whose server has an image. `kept` are the players as they were when the image was written that the broker
+    would begin on."""
+
+    def __init__(self, pqd, folder, pool):
+        super().__init__(pqd, folder, pool, [Remembering(client) for client in range(PLAYERS)], play)
         self.server = Server(pqd, self.image, RECORDS)
         load.create_queues(self.server.port)
         self.stop()
@@ -84,23 +113,6 @@ class Round:
     def bytes(self):
         with open(self.image, "rb") as file:
             return file.read()
-
-    def play(self, seconds, is_killed):
-        """All players at once, until the time is over; then the server is killed while they call, or they end."""
-        until = time.monotonic() + seconds + (60 if is_killed else 0)
-        before = sum(player.calls for player in self.players)
-        playing = self.pool.starmap_async(play, [(player, self.server.port, until) for player in self.players])
-        if is_killed:
-            time.sleep(seconds)
-            self.kill()
-        self.players = playing.get()
-        self.seen["calls"] += sum(player.calls for player in self.players) - before
-
-    def kill(self):
-        self.server.process.send_signal(signal.SIGKILL)
-        self.server.process.wait()
-        self.server.process.stdout.close()
-        self.seen["kills"] += 1
 
     def stop(self):
         self.server.stop()
@@ -176,7 +188,7 @@ class Round:
     def turn(self):
         how = random.choice(["kill", "kill", "stop", "stop and kill"])
         self.begin()
-        self.play(random.uniform(0.05, 0.6), how == "kill")
+        self.play(random.uniform(0.05, 0.6), self.kill if how == "kill" else None)
         if how == "kill":
             self.go_back()
         elif how == "stop":
@@ -197,7 +209,8 @@ class Round:
         return self.seen
 
 
-def main(pqd, minutes):
+def live(make, minutes, said):
+    """One broker's life after another, for so many minutes. Prints what was seen in them."""
     histories.test()
     begin = time.monotonic()
     seen, until = Counter(), begin + 60 * float(minutes)
@@ -205,7 +218,7 @@ def main(pqd, minutes):
     with context.Pool(PLAYERS) as pool:
         while time.monotonic() < until:
             with tempfile.TemporaryDirectory() as folder:
-                life = Round(pqd, folder, pool)
+                life = make(folder, pool)
                 try:
                     seen += life.run(until)
                 finally:
@@ -213,12 +226,25 @@ def main(pqd, minutes):
             seen["brokers"] += 1
     counts = ", ".join(f"{kind} {count}" for kind, count in sorted(seen.items()))
     print(f"seconds {time.monotonic() - begin:.0f}, {counts}")
-    print("each image is that of the last stop, and beside what came after one nothing is lost and nothing doubled: 0")
+    print(said)
 
 
-if __name__ == "__main__":
+def told_of(main):
+    """Does this with the words of the command line. A difference is printed, and leaves the status 1."""
     try:
         main(*sys.argv[1:])
     except (Different, Cut, OSError) as difference:
         print(f"different: {difference}")
         sys.exit(1)
+
+
+def main(pqd, minutes):
+    live(
+        lambda folder, pool: Round(pqd, folder, pool),
+        minutes,
+        "each image is that of the last stop, and beside what came after one nothing is lost and nothing doubled: 0",
+    )
+
+
+if __name__ == "__main__":
+    told_of(main)

@@ -45,11 +45,11 @@ class Connection:
 
 
 class Server:
-    """A running `pqd serve`."""
+    """A running `pqd serve`, begun as `started` says."""
 
-    def __init__(self, pqd, image, records=RECORDS, options=()):
+    def __init__(self, pqd, image, records=RECORDS, options=(), **started):
         words = [pqd, "serve", "--clients", str(CLIENTS), "--records", str(records), "--port", "0", "--workers", "8"]
-        self.process = subprocess.Popen([*words, "--image", image, *options], stdout=subprocess.PIPE)
+        self.process = subprocess.Popen([*words, "--image", image, *options], stdout=subprocess.PIPE, **started)
         self.listen()
 
     def listen(self):

@@ -72,10 +72,11 @@ def run(port, begin, end):
             raise Wrong(f"an item of client {client} was lost or doubled")
 
 
-def most_resident(process):
-    """Kilobytes, at any moment so far."""
+def resident(process):
+    """Kilobytes: now, and at most at any moment so far."""
     with open(f"/proc/{process.pid}/status") as status:
-        return int(re.search(r"VmHWM:\s*(\d+)", status.read())[1])
+        said = status.read()
+    return tuple(int(re.search(rf"{name}:\s*(\d+)", said)[1]) for name in ("VmRSS", "VmHWM"))
 
 
 def ask(port, line):
@@ -97,10 +98,10 @@ def main(pqd, pairs):
             begun = time.monotonic()
             run(port, made // CONNECTIONS, stage // CONNECTIONS)
             rate = (stage - made) / (time.monotonic() - begun)
-            made, now = stage, most_resident(server)
-            first = first or now
-            print(f"{made:,} pairs, each item once and in order: {rate:,.0f} a second; at most {now:,} KB, "
-                  f"{now / first:.2f} of the first", flush=True)
+            made, (now, most) = stage, resident(server)
+            first = first or (now, most)
+            print(f"{made:,} pairs, each item once and in order: {rate:,.0f} a second; {now:,} KB, "
+                  f"{now / first[0]:.2f} of the first, and at most {most:,}, {most / first[1]:.2f} of that", flush=True)
         ask(port, b'{"op":"stop"}\n')
         server.wait(timeout=60)
     finally:

@@ -1,10 +1,18 @@
 -- What the bytes of a journal's file are taken for.
-use Rattle.std.specs.Prelude.{◌≡◌, ◌-◌, ◌<◌, List, ℕ, length, Ok}
+use Rattle.std.specs.Prelude.{◌≡◌, ◌≢◌, ◌-◌, ◌<◌, ◌≤◌, List, ℕ, drop, get_or, length, Ok}
 use Rattle.journal.specs.Reading.{HidesKept, reading}
 use Rattle.journal_store.specs.declared.found.Found.{Found}
 
--- they are a journal that leaves these words, and a tail of so many bytes, of which none was kept
+-- so many bytes are those up to the last one that is not 0
+pub record EndsAt (bytes : List ℕ) (n : ℕ) : Type 0 where
+  pub within : n ≤ length bytes
+  pub last : 0 < n → get_or bytes (n - 1) 0 ≢ 0
+  pub zeros : (i : ℕ) → n ≤ i → get_or bytes i 0 ≡ 0
+
+-- they are a journal that leaves these words, so many bytes of which none was kept, and zeros
 pub record IsFoundIn (bytes : List ℕ) (found : Found) : Type 0 where
   pub key : List ℕ
-  pub read : reading bytes ≡ Ok (record { key = key; words = found.words.items; cut = found.torn })
-  pub unkept : 0 < found.torn → ¬ (HidesKept key (length bytes - found.torn) bytes)
+  pub cut : ℕ
+  pub read : reading bytes ≡ Ok (record { key = key; words = found.words.items; cut = cut })
+  pub torn : EndsAt (drop (length bytes - cut) bytes) found.torn
+  pub unkept : 0 < found.torn → ¬ (HidesKept key (length bytes - cut) bytes)
