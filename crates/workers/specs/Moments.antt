@@ -25,11 +25,6 @@ pub record IsMomentOf (first session : Sessioned) (kept : List ℕ) : Type 0 whe
   pub boots : AreBootWords kept
   pub told : IsSettledTold session
 
--- they are those of a moment
-pub record IsMoment (first : Sessioned) (kept : List ℕ) : Type 0 where
-  pub session : Sessioned
-  pub of : IsMomentOf first session kept
-
 -- what was handed on: the changes, and the session as it was at the last time, or when the seats were given
 pub record HandedOn : Type 0 where
   pub changes : List Change
