@@ -5,7 +5,7 @@ ghost use Rattle.persist.specs.Noted.{applied};
 ghost use Rattle.lasting.specs.Lasting.{EndsAtMomentOf, HasMoments, HasMomentsUntil, IsKept};
 ghost use Rattle.session.specs.Keeping.{SessionGoesOn};
 ghost use Rattle.session.specs.Promises.{KeepsNumbers};
-ghost use Rattle.workers.specs.Moments.{IsMomentOf};
+ghost use Rattle.workers.specs.Moments.{GoesOnLater, IsMomentOf};
 ghost use Rattle.workers.specs.Seats.{AreAllInOrder, AreSeatsRecorded};
 
 use journal::KEY_BYTES;
@@ -113,6 +113,7 @@ impl<J: Naming, F: Appender + Drop> Journaled<J, F> {
         ensures all { OnOk result.1 (result.0.pending ≡ []) }
         ensures words { OnOk result.1
             (result.0.journal.words ≡ applied result.0.handed J.first.broker.words.kept) }
+        ensures later { GoesOnLater self.last result.0.last }
     {
         let mut kept = self;
         if let Err(refusal) = kept.append_pending(alloc) {
@@ -134,6 +135,7 @@ impl<J: Naming, F: Appender + Drop> Journaled<J, F> {
         shared: &Shared<J>,
     ) -> (Self, Result<(), Refusal>)
         requires { self.pending ≡ [] }
+        ensures later { GoesOnLater self.last result.0.last }
     {
         let Journaled {
             handed,

@@ -1,4 +1,4 @@
-use Rattle.std.proofs.Common.{rules, refl, sym, ap, ◌∙◌, [], ◌∷◌, ◌++◌, length}
+use Rattle.std.proofs.Common.{rules, refl, ap, ◌∙◌, [], ◌∷◌, ◌++◌, length}
 use Rattle.roll.specs.Rule.{holder, keeper, keeper_and_holder}
 use Rattle.roll.proofs.Steps.{adds_at, begins, hands_out_at}
 use Rattle.roll.proofs.agreement.Agreement.open.Goals as goal
