@@ -1,8 +1,6 @@
 -- Batches that each end at a moment, and the later of two moments goes on from the earlier.
-use Rattle.std.proofs.Common.{◌≡◌, ◌≢◌, ◌≤◌, ◌⊎◌, inl, inr, ◌++◌, ◌∷◌, [], ℕ, ◌+◌, false, eqb, List, length-append, Some, length, take, refl, sym, ap, ◌∙◌, subst, append-nil, arith}
-use Rattle.std.specs.Map.{update}
-use Rattle.std.proofs.lemmas.Bool.{cases_eq}
-use Rattle.std.proofs.lemmas.Map.{update_apart, update_here}
+use Rattle.std.proofs.Common.{◌≡◌, ◌≢◌, ◌≤◌, ◌⊎◌, inl, inr, ◌++◌, ◌∷◌, [], ℕ, ◌+◌, Bool, false, eqb, if◌then◌else◌, List, length-append, Some, length, take, refl, sym, ap, ◌∙◌, subst, append-nil, arith}
+use Rattle.std.proofs.lemmas.Bool.{cases_eq, eq-eqb, ne_eqb}
 use Rattle.std.proofs.lemmas.List.Sums.{fold-append}
 use Rattle.std.proofs.lemmas.List.{take-append-le, take_all}
 use Rattle.persist.specs.declared.access.Change.{Change}
@@ -59,15 +57,14 @@ killed_moment first key base batches count j session bytes n moments of going ha
 
 -- the sessions, with another one for so many batches
 abbrev pub with_session : (ℕ → Sessioned) → ℕ → Sessioned → ℕ → Sessioned
-with_session session at last = update eqb session at last
+with_session session at last n = if eqb n at then last else session n
 
 with_here : (session : ℕ → Sessioned) (at : ℕ) (last : Sessioned) (n : ℕ) → n ≡ at → with_session session at last n ≡ last
-with_here session at last n same =
-    ap (λ (k : ℕ). with_session session at last k) same ∙ update_here session at last
+with_here session at last n same = ap (λ (b : Bool). if b then last else session n) (eq-eqb n at same)
 
 with_else : (session : ℕ → Sessioned) (at : ℕ) (last : Sessioned) (n : ℕ) → n ≢ at
     → with_session session at last n ≡ session n
-with_else session at last n apart = update_apart session at last n apart
+with_else session at last n apart = ap (λ (b : Bool). if b then last else session n) (ne_eqb n at apart)
 
 -- no batch
 pub moments_first : (first last : Sessioned) (base : List ℕ) → IsMomentOf first last base
@@ -90,7 +87,7 @@ module _ (first last : Sessioned) (base : List ℕ) (old new : List Batch) (sess
     (is_top : length new ≡ top) (moments : AreMoments first base old session)
     (before : (n : ℕ) → n ≤ length new → n ≢ top → (n ≤ length old) × (take n new ≡ take n old))
     (on : GoesOnLater (session (length old)) last) (moment : IsMomentOf first last (words_after new base)) where
-  now : ℕ → Sessioned
+  abbrev now : ℕ → Sessioned
   now = with_session session top last
 
   all : (n : ℕ) → n ≡ top → take n new ≡ new

@@ -46,7 +46,7 @@ through_unrenewed first now new was true before (rotated {was = w} {ended = e} {
 through_more : (first now new : Brokered) (was ended : Bool) → CameThrough first was now → CameThrough now ended new
     → Through first new
 through_more first now new was ended before (unrenewed came) = through_unrenewed first now new was ended before came
-through_more first now new was true before (renewed {was = w} {old = o} {begun = b} {slot = at} came explained renewal on) =
+through_more first now new was true before (renewed {was = w} {old = o} {begun = b} came explained renewal on) =
     let until : Through first o = through_more first now o was w before came in
     record { ended = true; came = renewed until.came explained renewal on }
 
