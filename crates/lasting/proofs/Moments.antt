@@ -62,7 +62,7 @@ with_session session at last n = if eqb n at then last else session n
 with_here : (session : ℕ → Sessioned) (at : ℕ) (last : Sessioned) (n : ℕ) → n ≡ at → with_session session at last n ≡ last
 with_here session at last n same = ap (λ (b : Bool). if b then last else session n) (eq-eqb n at same)
 
-with_else : (session : ℕ → Sessioned) (at : ℕ) (last : Sessioned) (n : ℕ) → n ≢ at
+pub with_else : (session : ℕ → Sessioned) (at : ℕ) (last : Sessioned) (n : ℕ) → n ≢ at
     → with_session session at last n ≡ session n
 with_else session at last n apart = ap (λ (b : Bool). if b then last else session n) (ne_eqb n at apart)
 
@@ -350,7 +350,7 @@ kept_more first k last handed batch is none more moment on =
     }
 
 -- the journal's words are those of a moment
-moment_now : (first last : Sessioned) (j : OnDevice) (until : HasMomentsUntil first last j)
+pub moment_now : (first last : Sessioned) (j : OnDevice) (until : HasMomentsUntil first last j)
     → IsMomentOf first (until.has.session (length until.has.batches)) j.words
 moment_now first last j until =
     let has = until.has in
