@@ -11,7 +11,8 @@ use Rattle.workers.specs.Moments.{GoesOnLater, IsMomentOf}
 
 -- the words after each beginning of these batches are those of a moment, of the session that is told for it; and the
 -- session of a longer beginning goes on from that of a shorter one
-pub record AreMoments (first : Sessioned) (base : List ℕ) (batches : List Batch) (session : ℕ → Sessioned) : Type 0 where
+pub record AreMoments (first : Sessioned) (base : List ℕ) (batches : List Batch) (session : ℕ → Sessioned)
+    : Type 0 where
   pub each : (n : ℕ) → n ≤ length batches → IsMomentOf first (session n) (words_after (take n batches) base)
   pub later : (m n : ℕ) → m ≤ n → n ≤ length batches → GoesOnLater (session m) (session n)
 
@@ -43,8 +44,8 @@ pub record Kept : Type 0 where
   pub pending : List Change
   pub journal : OnDevice
 
--- the journal has the changes that are not pending. It ends at a moment from which that of the last hand-on goes on, and
--- where nothing is pending it ends at that one
+-- the journal has the changes that are not pending. It ends at a moment from which that of the last hand-on goes on,
+-- and where nothing is pending it ends at that one
 pub record IsKept (first : Sessioned) (k : Kept) : Type 0 where
   pub done : List Change
   pub split : k.handed ≡ done ++ k.pending

@@ -9,9 +9,9 @@ use atomic_table::{Seat, Table};
 use std::alloc::{AllocError, Global};
 use std::marker::Model;
 
-/// A roll of one row, which has one value: a keeper and a holder know it alike. Unlike an entry of a [`crate::Roll`] the
-/// value is only looked at, so that it may be one that cannot be copied. The idea is that of the ghost variables of
-/// Iris, with a half for each.
+/// A roll of one row, which has one value: a keeper and a holder know it alike. Unlike an entry of a [`crate::Roll`]
+/// the value is only looked at, so that it may be one that cannot be copied. The idea is that of the ghost variables
+/// of Iris, with a half for each.
 #[derive(Drop)]
 pub struct Agreement<E> {
     table: Table<E, View<E>, (), Agreed, Global>,

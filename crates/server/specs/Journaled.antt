@@ -6,8 +6,9 @@ use Rattle.named.specs.Brokers.{Brokered}
 use Rattle.session.specs.Sessions.{Sessioned}
 use Rattle.server.specs.Image.{IsImageAfter, IsOpenedOver}
 
--- The bytes are the image of what the session came to. The journal has the same words, and is kept whole. Each beginning
--- of its batches ends at a moment of the session, the last one at what it came to, and each goes on from those before.
+-- The bytes are the image of what the session came to. The journal has the same words, and is kept whole. Each
+-- beginning of its batches ends at a moment of the session, the last one at what it came to, and each goes on from
+-- those before.
 pub record IsLeftAfter (first : Sessioned) (bytes : List ℕ) (j : OnDevice) : Type 0 where
   pub image : IsImageAfter first bytes
   pub words : j.words ≡ image.last.broker.words.kept

@@ -30,8 +30,8 @@ pub record GoesOnFrom (s : Sessioned) (b : Brokered) : Type 0 where
       → IsQueueOpened w.shape w.words.kept (world_at b slot)
   pub settled : AreSettledBy s b
 
--- a session over the broker that was opened on what a stop left of a journal. The batches that are read of it begin with
--- so many at whose end the earlier session was at a moment
+-- a session over the broker that was opened on what a stop left of a journal. The batches that are read of it begin
+-- with so many at whose end the earlier session was at a moment
 pub record IsRestartedFrom (earlier next : Sessioned) : Type 0 where
   pub first : Sessioned
   pub key : List ℕ

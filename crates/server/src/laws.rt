@@ -13,8 +13,8 @@ ghost use Rattle.server.specs.Opening.{IsOpened};
 ghost use Rattle.server.specs.Restarting.{AreSettledBy, GoesOnFrom, IsRestartedFrom, LivesOn};
 
 /// The broker that is opened on the kept words of a moment, as [`crate::reopened`] is on what a stop leaves of a
-/// journal, goes on from there: it has each queue, with what it held, and each number that was settled at that moment is
-/// settled by what its client is told.
+/// journal, goes on from there: it has each queue, with what it held, and each number that was settled at that moment
+/// is settled by what its client is told.
 pub fn restarts_go_on()
     ensures { (first session : Sessioned) (kept : List ℕ) (b : Brokered) → IsMomentOf first session kept
         → IsOpened (words_at_rest kept) b → GoesOnFrom session b }

@@ -79,7 +79,8 @@ pub record IsBeginning (all : ℕ) (first : Sessioned) : Type 0 where
 -- what holds of it whenever the lock is free, where there are so many clients, and the session was this one when the
 -- seats were given: each call is in the queue of its name; what was settled then is so still, the clients of its log
 -- queues are such clients still, and the queues that it had then are there, each with a history that went on from where
--- it began, or ended with a rotation or a renewal. The session goes on from what it was when changes were handed on last
+-- it began, or ended with a rotation or a renewal. The session goes on from what it was when changes were handed on
+-- last
 pub record IsGuardedWell (all : ℕ) (first : Sessioned) (g : Guarded) : Type 0 where
   pub beginning : IsBeginning all first
   pub clients : length g.rows ≡ all
