@@ -199,6 +199,7 @@ impl Opened {
         ensures order { IfOk result (λ r. AreAllInOrder (λ seat. seat.client) J.clients r.1.items) }
         ensures empty { IfOk result (λ r. AreEmpty (λ seat. seat.list.items) r.1.items) }
         ensures operator { IfOk result (λ r. r.2 ≡ []) }
+        ensures last { IfOk result (λ r. r.3 ≡ J.first) }
         ensures errors { IfErr result (λ not. (not.refusal ≡ Refusal.NoMemory) × (not.session ≡ self.session)) }
     {
         let Opened {

@@ -35,12 +35,13 @@ use Rattle.stepper.specs.declared.resume.After.TheVariants.{Done, More}
 use Rattle.workers.specs.Recovered.{IsRecoveryRefusal}
 use Rattle.workers.specs.Following.{AreFollowed, Guarded, IsFollowed, IsGuardedWell, beginnings}
 use Rattle.workers.specs.Lists.{AreNamed, events_at}
+use Rattle.workers.specs.Moments.{GoesOnLater}
 use Rattle.workers.specs.declared.entry.Entry.{Entry}
 use Rattle.workers.specs.declared.locked.Creating.{Creating}
 use Rattle.workers.specs.declared.locked.Creating.TheVariants.{Interrupted, Nothing, UnderWay}
 use Rattle.workers.specs.Seats.{AreEmpty}
 use Rattle.workers.proofs.brokers.Comings.{through_further}
-use Rattle.workers.proofs.guard.Laters.{later_further, session_further}
+use Rattle.workers.proofs.guard.Laters.{later_further, later_itself, session_further}
 use Rattle.workers.proofs.guard.Acts.{IsCarriedFor}
 use Rattle.workers.proofs.histories.Rows.{followed_empty, row_changed, rows_carried, set_here}
 use Rattle.workers.proofs.lists.Names.{named_on}
@@ -72,6 +73,22 @@ with_deeds all first g deeds kept same well came = record {
   came = well.came;
   done = subst (λ (rows : List (List Deed)). CameBy first.broker rows g.session.broker) (sym same) came;
   later = well.later;
+}
+
+-- where the session that was handed on last is this very one
+pub with_last : (all : ℕ) (first : Sessioned) (g : Guarded) (last : Sessioned) → last ≡ g.session
+    → IsGuardedWell all first g → IsGuardedWell all first (record g { last = last })
+with_last all first g last same well = record {
+  beginning = well.beginning;
+  clients = well.clients;
+  followed = well.followed;
+  named = well.named;
+  promises = well.promises;
+  creation = well.creation;
+  goes_on = well.goes_on;
+  came = well.came;
+  done = well.done;
+  later = subst (λ (s : Sessioned). GoesOnLater s g.session) (sym same) (later_itself g.session);
 }
 
 -- a crash comes to the operator's row

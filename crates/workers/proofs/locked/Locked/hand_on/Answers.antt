@@ -9,6 +9,7 @@ use Rattle.workers.specs.Moments.{GoesOnLater, HandedOn, IsMomentOf}
 use Rattle.workers.specs.Noting.{IsBooked, OfRoll}
 use Rattle.workers.specs.declared.book.Book.{Book}
 use Rattle.workers.proofs.guard.Notes.{book_of, booked_handed, holds_longer, keeps_longer, no_book, same_row}
+use Rattle.workers.proofs.guard.Guarded.{with_last}
 use Rattle.workers.proofs.guard.Moments.{moment_of}
 use Rattle.workers.proofs.locked.Locked.hand_on.Goals as goal
 
@@ -78,7 +79,7 @@ invariant_of-self-2 g c =
     let done = booked_handed of.0 g.J.Naming.first.broker.words.kept c.self.inside.session.broker c.self.inside.creating
     c.in-Some.book now c.args.handed.changes c.in-Ok.batch.items of.2 same c.in-Ok.ensures.changes refl longer c.in-Ok.ensures.emptied in (
       c.self.invariant.0,
-      c.self.invariant.1,
+      with_last g.J.Naming.clients g.J.Naming.first _ c.tell-last.new.self c.tell-last.ensures.kept c.self.invariant.1,
       c.self.invariant.2,
       subst (λ (o : Option TableId). IsBooked o g.J.Naming.first.broker.words.kept c.self.inside.session.broker
           c.self.inside.creating (let b : Option Book = Some now in b)) (sym of.1) done.0,
