@@ -1,1 +1,2 @@
-mod Moments
+pub mod Moments
+pub mod Assured

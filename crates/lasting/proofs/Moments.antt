@@ -1,6 +1,6 @@
--- Batches that each end at a moment.
-use Rattle.std.proofs.Common.{◌≡◌, ◌≢◌, ◌≤◌, ◌⊎◌, inl, inr, ◌++◌, ◌∷◌, [], ℕ, ◌+◌, false, List, length-append, Some, length, take, refl, sym, ap, ◌∙◌, subst, append-nil, arith}
-use Rattle.std.proofs.lemmas.Bool.{cases_eq}
+-- Batches that each end at a moment, and the later of two moments goes on from the earlier.
+use Rattle.std.proofs.Common.{◌≡◌, ◌≢◌, ◌≤◌, ◌⊎◌, inl, inr, ◌++◌, ◌∷◌, [], ℕ, ◌+◌, Bool, false, eqb, if◌then◌else◌, List, length-append, Some, length, take, refl, sym, ap, ◌∙◌, subst, append-nil, arith}
+use Rattle.std.proofs.lemmas.Bool.{cases_eq, eq-eqb, ne_eqb}
 use Rattle.std.proofs.lemmas.List.Sums.{fold-append}
 use Rattle.std.proofs.lemmas.List.{take-append-le, take_all}
 use Rattle.persist.specs.declared.access.Change.{Change}
@@ -10,59 +10,70 @@ use Rattle.journal.specs.Journal.{words_after}
 use Rattle.journal.specs.Stops.{LeftByStop}
 use Rattle.journal_file.specs.OnDevice.{HasMore, HasNoMore, IsOf, KeepsAll, OnDevice}
 use Rattle.journal_file.specs.Restart.{ReadsBeginning}
-use Rattle.journal_file.proofs.Facts.{killed, stopped}
-use Rattle.lasting.specs.Lasting.{AreMoments, HasMoments, IsKept, Kept, ReadsMoment}
+use Rattle.journal_file.proofs.Restarts.{killed, stopped}
+use Rattle.lasting.specs.Lasting.{AreMoments, EndsAtMomentOf, HasMoments, HasMomentsUntil, IsKept, Kept, ReadsMoment}
 use Rattle.session.specs.Promises.{KeepsNumbers}
 use Rattle.session.specs.Sessions.{Sessioned}
 use Rattle.session.specs.Telling.{IsSettledTold}
-use Rattle.notes.specs.Noting.{IsMadeBy}
-use Rattle.session.specs.Keeping.{SessionGoesOn}
-use Rattle.workers.specs.Moments.{IsMoment}
-use Rattle.workers.specs.Seats.{AreSeatsRecorded}
-use Rattle.workers.specs.declared.entry.Entry.{Entry}
-use Rattle.workers.proofs.Facts.{session_stays, through_itself}
+use Rattle.workers.specs.Moments.{GoesOnLater, IsMomentOf}
+use Rattle.workers.proofs.Facts.{later_itself, later_still}
 
-pub first_moment : (first : Sessioned) → KeepsNumbers first → IsSettledTold first → IsMoment first first.broker.words.kept
+pub first_moment : (first : Sessioned) → KeepsNumbers first → IsSettledTold first
+    → IsMomentOf first first first.broker.words.kept
 first_moment first keeps told = record {
-  session = first;
   words = refl;
-  goes_on = session_stays first;
-  ended = false;
-  came = through_itself first.broker;
+  goes_on = later_itself first;
   promises = keeps;
   boots = keeps.broker.boots;
   told = told;
 }
 
-reads_moment : (first : Sessioned) (key base : List ℕ) (batches : List Batch) (count : ℕ) (bytes : List ℕ)
-    → AreMoments first base batches → ReadsBeginning key base batches count bytes → ReadsMoment first key base batches count bytes
-reads_moment first key base batches count bytes moments reads = record {
+reads_moment : (first : Sessioned) (key base : List ℕ) (batches : List Batch) (count : ℕ) (session : ℕ → Sessioned)
+    (bytes : List ℕ) → AreMoments first base batches session → ReadsBeginning key base batches count bytes
+    → ReadsMoment first key base batches count session bytes
+reads_moment first key base batches count session bytes moments reads = record {
   whole = reads.whole;
   those = reads.those;
   some = reads.some;
   cut = reads.cut;
   read = reads.read;
   moment = moments.each reads.whole reads.some;
+  later = λ m few. moments.later m reads.whole few reads.some;
 }
 
-pub stopped_moment : (first : Sessioned) (key base : List ℕ) (batches : List Batch) (count : ℕ) (j : OnDevice) (left : List ℕ)
-    → AreMoments first base batches → IsOf key base batches count j → LeftByStop key base batches j.kept left
-    → ReadsMoment first key base batches count left
-stopped_moment first key base batches count j left moments of stop =
-    reads_moment first key base batches count left moments (stopped key base batches count j left of stop)
+pub stopped_moment : (first : Sessioned) (key base : List ℕ) (batches : List Batch) (count : ℕ) (j : OnDevice)
+    (session : ℕ → Sessioned) (left : List ℕ) → AreMoments first base batches session → IsOf key base batches count j
+    → LeftByStop key base batches j.kept left → ReadsMoment first key base batches count session left
+stopped_moment first key base batches count j session left moments of stop =
+    reads_moment first key base batches count session left moments (stopped key base batches count j left of stop)
 
-pub killed_moment : (first : Sessioned) (key base : List ℕ) (batches : List Batch) (count : ℕ) (j : OnDevice) (bytes : List ℕ) (n : ℕ)
-    → AreMoments first base batches → IsOf key base batches count j → j.failed ≡ false → j.appended ≡ Some bytes
-    → j.lasting ≤ n → ReadsMoment first key base batches count (take n bytes)
-killed_moment first key base batches count j bytes n moments of going has lasting =
-    reads_moment first key base batches count (take n bytes) moments (killed key base batches count j bytes n of going has lasting)
+pub killed_moment : (first : Sessioned) (key base : List ℕ) (batches : List Batch) (count : ℕ) (j : OnDevice)
+    (session : ℕ → Sessioned) (bytes : List ℕ) (n : ℕ) → AreMoments first base batches session
+    → IsOf key base batches count j → j.failed ≡ false → j.appended ≡ Some bytes → j.lasting ≤ n
+    → ReadsMoment first key base batches count session (take n bytes)
+killed_moment first key base batches count j session bytes n moments of going has lasting =
+    reads_moment first key base batches count session (take n bytes) moments
+    (killed key base batches count j bytes n of going has lasting)
+
+-- the sessions, with another one for so many batches
+abbrev pub with_session : (ℕ → Sessioned) → ℕ → Sessioned → ℕ → Sessioned
+with_session session at last n = if eqb n at then last else session n
+
+with_here : (session : ℕ → Sessioned) (at : ℕ) (last : Sessioned) (n : ℕ) → n ≡ at → with_session session at last n ≡ last
+with_here session at last n same = ap (λ (b : Bool). if b then last else session n) (eq-eqb n at same)
+
+pub with_else : (session : ℕ → Sessioned) (at : ℕ) (last : Sessioned) (n : ℕ) → n ≢ at
+    → with_session session at last n ≡ session n
+with_else session at last n apart = ap (λ (b : Bool). if b then last else session n) (ne_eqb n at apart)
 
 -- no batch
-pub moments_first : (first : Sessioned) (base : List ℕ) → IsMoment first base → AreMoments first base []
-moments_first first base moment = record {
+pub moments_first : (first last : Sessioned) (base : List ℕ) → IsMomentOf first last base
+    → AreMoments first base [] (λ n. last)
+moments_first first last base moment = record {
   each = λ n few.
       let none : n ≡ 0 = omega (arith, few) in
-      subst (λ (k : ℕ). IsMoment first (words_after (take k []) base)) (sym none) moment;
+      subst (λ (k : ℕ). IsMomentOf first last (words_after (take k []) base)) (sym none) moment;
+  later = λ m n less few. later_itself last;
 }
 
 words_after_more : (batches : List Batch) (batch : Batch) (base : List ℕ)
@@ -70,69 +81,179 @@ words_after_more : (batches : List Batch) (batch : Batch) (base : List ℕ)
 words_after_more [] batch base = refl
 words_after_more (other ∷ batches) batch base = words_after_more batches batch (applied other.changes base)
 
--- one batch more
-pub moments_more : (first : Sessioned) (base : List ℕ) (batches : List Batch) (batch : Batch) → AreMoments first base batches
-    → IsMoment first (applied batch.changes (words_after batches base)) → AreMoments first base (batches ++ batch ∷ [])
-moments_more first base batches batch moments more = record { each = λ n few. at n few (cases_eq n (length batches + 1)) }
-  where
-    long : length (batches ++ batch ∷ []) ≡ length batches + 1
-    long = length-append batches (batch ∷ [])
+-- the last one, of all these batches, is of a session that goes on from what was the last one: at the same words, or
+-- with one batch more
+module _ (first last : Sessioned) (base : List ℕ) (old new : List Batch) (session : ℕ → Sessioned) (top : ℕ)
+    (is_top : length new ≡ top) (moments : AreMoments first base old session)
+    (before : (n : ℕ) → n ≤ length new → n ≢ top → (n ≤ length old) × (take n new ≡ take n old))
+    (on : GoesOnLater (session (length old)) last) (moment : IsMomentOf first last (words_after new base)) where
+  abbrev now : ℕ → Sessioned
+  now = with_session session top last
 
-    at : (n : ℕ) → n ≤ length (batches ++ batch ∷ []) → (n ≡ length batches + 1) ⊎ (n ≢ length batches + 1)
-        → IsMoment first (words_after (take n (batches ++ batch ∷ [])) base)
-    at n few (inl last) =
-        subst (λ (bs : List Batch). IsMoment first (words_after bs base))
-        (sym (take_all n (batches ++ batch ∷ []) (omega (arith, last, long))))
-        (subst (IsMoment first) (sym (words_after_more batches batch base)) more)
-    at n few (inr before) =
-        let less : n ≤ length batches = omega (arith, few, long, before) in
-        subst (λ (bs : List Batch). IsMoment first (words_after bs base))
-        (sym (take-append-le n batches (batch ∷ []) less)) (moments.each n less)
+  all : (n : ℕ) → n ≡ top → take n new ≡ new
+  all n same = take_all n new (omega (arith, same, is_top))
+
+  each_now : (n : ℕ) → n ≤ length new → (n ≡ top) ⊎ (n ≢ top) → IsMomentOf first (now n) (words_after (take n new) base)
+  each_now n few (inl same) =
+      subst (λ (s : Sessioned). IsMomentOf first s (words_after (take n new) base)) (sym (with_here session top last n same))
+      (subst (λ (bs : List Batch). IsMomentOf first last (words_after bs base)) (sym (all n same)) moment)
+  each_now n few (inr apart) =
+      let was = before n few apart in
+      subst (λ (s : Sessioned). IsMomentOf first s (words_after (take n new) base)) (sym (with_else session top last n apart))
+      (subst (λ (bs : List Batch). IsMomentOf first (session n) (words_after bs base)) (sym was.1) (moments.each n was.0))
+
+  later_now : (m n : ℕ) → m ≤ n → n ≤ length new → (m ≡ top) ⊎ (m ≢ top) → (n ≡ top) ⊎ (n ≢ top)
+      → GoesOnLater (now m) (now n)
+  later_now m n less few (inl one) (inl other) =
+      subst (λ (s : Sessioned). GoesOnLater s (now n)) (with_here session top last n other ∙ sym (with_here session top last m one))
+      (later_itself (now n))
+  later_now m n less few (inl one) (inr other) = absurd (other (omega (arith, less, few, one, is_top)))
+  later_now m n less few (inr one) (inl other) =
+      let was = before m (omega (arith, less, few)) one in
+      subst (λ (s : Sessioned). GoesOnLater s (now n)) (sym (with_else session top last m one))
+      (subst (λ (s : Sessioned). GoesOnLater (session m) s) (sym (with_here session top last n other))
+      (later_still (session m) (session (length old)) last (moments.later m (length old) was.0 (omega arith)) on))
+  later_now m n less few (inr one) (inr other) =
+      let was = before n few other in
+      subst (λ (s : Sessioned). GoesOnLater s (now n)) (sym (with_else session top last m one))
+      (subst (λ (s : Sessioned). GoesOnLater (session m) s) (sym (with_else session top last n other))
+      (moments.later m n less was.0))
+
+  moments_last : AreMoments first base new now
+  moments_last = record {
+    each = λ n few. each_now n few (cases_eq n top);
+    later = λ m n less few. later_now m n less few (cases_eq m top) (cases_eq n top);
+  }
+
+  moments_latest : now (length new) ≡ last
+  moments_latest = with_here session top last (length new) is_top
+
+-- one batch more
+batches_before : (batches : List Batch) (batch : Batch) (n : ℕ) → n ≤ length (batches ++ batch ∷ [])
+    → n ≢ length (batches ++ batch ∷ [])
+    → (n ≤ length batches) × (take n (batches ++ batch ∷ []) ≡ take n batches)
+batches_before batches batch n few apart =
+    let long : length (batches ++ batch ∷ []) ≡ length batches + 1 = length-append batches (batch ∷ []) in
+    let less : n ≤ length batches = omega (arith, few, long, apart) in
+    (less, take-append-le n batches (batch ∷ []) less)
 
 -- a journal that begins at a moment
-pub begins : (first : Sessioned) (key base : List ℕ) (j : OnDevice) → IsMoment first base → IsOf key base [] 0 j
-    → HasMoments first j
-begins first key base j moment of = record {
-  key = key;
-  base = base;
-  batches = [];
-  count = 0;
-  of = of;
-  moments = moments_first first base moment;
+pub begins : (first last : Sessioned) (key base : List ℕ) (j : OnDevice) → IsMomentOf first last base
+    → IsOf key base [] 0 j → EndsAtMomentOf first last j
+begins first last key base j moment of = record {
+  has = record {
+    key = key;
+    base = base;
+    batches = [];
+    count = 0;
+    session = λ n. last;
+    of = of;
+    moments = moments_first first last base moment;
+  };
+  latest = refl;
+}
+
+-- one that ends at the moment of a session has moments until then
+pub ends_until : (first last : Sessioned) (j : OnDevice) → EndsAtMomentOf first last j → HasMomentsUntil first last j
+ends_until first last j ends = record {
+  has = ends.has;
+  later = subst (GoesOnLater (ends.has.session (length ends.has.batches))) ends.latest
+      (later_itself (ends.has.session (length ends.has.batches)));
 }
 
 -- one that has a batch more, whose changes lead to a moment
-pub has_more : (first : Sessioned) (batch : Batch) (old new : OnDevice) → HasMoments first old → HasMore batch old new
-    → IsMoment first (applied batch.changes old.words) → HasMoments first new
-has_more first batch old new has more moment = record {
-  key = has.key;
-  base = has.base;
-  batches = has.batches ++ batch ∷ [];
-  count = has.count;
-  of = more has.key has.base has.batches has.count has.of;
-  moments = moments_more first has.base has.batches batch has.moments
-      (subst (λ (ws : List ℕ). IsMoment first (applied batch.changes ws)) has.of.words moment);
-}
+pub has_more : (first last : Sessioned) (batch : Batch) (old new : OnDevice) → HasMomentsUntil first last old
+    → HasMore batch old new → IsMomentOf first last (applied batch.changes old.words) → EndsAtMomentOf first last new
+has_more first last batch old new until more moment =
+    let has = until.has in
+    let batches = has.batches ++ batch ∷ [] in
+    let there : IsMomentOf first last (words_after batches has.base) =
+    subst (IsMomentOf first last) (sym (words_after_more has.batches batch has.base))
+    (subst (λ (ws : List ℕ). IsMomentOf first last (applied batch.changes ws)) has.of.words moment) in
+    record {
+      has = record {
+        key = has.key;
+        base = has.base;
+        batches = batches;
+        count = has.count;
+        session = with_session has.session (length batches) last;
+        of = more has.key has.base has.batches has.count has.of;
+        moments = moments_last first last has.base has.batches batches has.session (length batches) refl has.moments
+            (batches_before has.batches batch) until.later there;
+      };
+      latest = with_here has.session (length batches) last (length batches) refl;
+    }
 
-pub has_no_more : (first : Sessioned) (old new : OnDevice) → HasMoments first old → HasNoMore old new → HasMoments first new
-has_no_more first old new has same = record {
+-- the last moment is of a session that goes on from what was the last one, at the same words
+pub has_same : (first was last : Sessioned) (j : OnDevice) → EndsAtMomentOf first was j → GoesOnLater was last
+    → IsMomentOf first last j.words → EndsAtMomentOf first last j
+has_same first was last j ends on moment =
+    let has = ends.has in
+    let top = length has.batches in
+    record {
+      has = record {
+        key = has.key;
+        base = has.base;
+        batches = has.batches;
+        count = has.count;
+        session = with_session has.session top last;
+        of = has.of;
+        moments = moments_last first last has.base has.batches has.batches has.session top refl has.moments
+            (λ n few apart. (few, refl))
+            (subst (λ (s : Sessioned). GoesOnLater s last) (sym ends.latest) on)
+            (subst (IsMomentOf first last) has.of.words moment);
+      };
+      latest = with_here has.session top last top refl;
+    }
+
+-- the same batches, of which other ones were there when all was last kept
+has_count : (first : Sessioned) (old new : OnDevice) (has : HasMoments first old) (count : ℕ)
+    → IsOf has.key has.base has.batches count new → HasMoments first new
+has_count first old new has count of = record {
   key = has.key;
   base = has.base;
   batches = has.batches;
-  count = has.count;
-  of = same has.key has.base has.batches has.count has.of;
+  count = count;
+  session = has.session;
+  of = of;
   moments = has.moments;
 }
 
-pub has_kept : (first : Sessioned) (old new : OnDevice) → HasMoments first old → KeepsAll old new → HasMoments first new
-has_kept first old new has keeps = record {
-  key = has.key;
-  base = has.base;
-  batches = has.batches;
-  count = length has.batches;
-  of = keeps has.key has.base has.batches has.count has.of;
-  moments = has.moments;
-}
+pub until_no_more : (first last : Sessioned) (old new : OnDevice) → HasMomentsUntil first last old → HasNoMore old new
+    → HasMomentsUntil first last new
+until_no_more first last old new until same =
+    let has = until.has in
+    record {
+      has = has_count first old new has has.count (same has.key has.base has.batches has.count has.of);
+      later = until.later;
+    }
+
+pub ends_no_more : (first last : Sessioned) (old new : OnDevice) → EndsAtMomentOf first last old → HasNoMore old new
+    → EndsAtMomentOf first last new
+ends_no_more first last old new ends same =
+    let has = ends.has in
+    record {
+      has = has_count first old new has has.count (same has.key has.base has.batches has.count has.of);
+      latest = ends.latest;
+    }
+
+pub until_kept : (first last : Sessioned) (old new : OnDevice) → HasMomentsUntil first last old → KeepsAll old new
+    → HasMomentsUntil first last new
+until_kept first last old new until keeps =
+    let has = until.has in
+    record {
+      has = has_count first old new has (length has.batches) (keeps has.key has.base has.batches has.count has.of);
+      later = until.later;
+    }
+
+pub ends_kept : (first last : Sessioned) (old new : OnDevice) → EndsAtMomentOf first last old → KeepsAll old new
+    → EndsAtMomentOf first last new
+ends_kept first last old new ends keeps =
+    let has = ends.has in
+    record {
+      has = has_count first old new has (length has.batches) (keeps has.key has.base has.batches has.count has.of);
+      latest = ends.latest;
+    }
 
 -- where nothing is pending it has all
 pub kept_all : (first : Sessioned) (k : Kept) → IsKept first k → k.pending ≡ []
@@ -148,27 +269,92 @@ pending_made first k is =
     ap (λ (cs : List Change). applied cs first.broker.words.kept) is.split
     ∙ (fold-append change_made first.broker.words.kept is.done k.pending ∙ ap (applied k.pending) (sym is.words))
 
--- they were appended
+-- a journal that ends at the moment of the last hand-on, and nothing is pending
+kept_ending : (first last : Sessioned) (handed pending : List Change) (j : OnDevice) → pending ≡ []
+    → j.words ≡ applied handed first.broker.words.kept
+    → IsMomentOf first last (applied handed first.broker.words.kept) → EndsAtMomentOf first last j
+    → IsKept first (record { handed = handed; last = last; pending = pending; journal = j })
+kept_ending first last handed pending j none words moment ends = record {
+  done = handed;
+  split = sym (append-nil handed) ∙ ap (λ (cs : List Change). handed ++ cs) (sym none);
+  words = words;
+  now = moment;
+  journal = ends_until first last j ends;
+  latest = λ empty. ends;
+}
+
+-- it begins
+pub kept_begun : (first last : Sessioned) (handed pending : List Change) (key words : List ℕ) (j : OnDevice)
+    → pending ≡ [] → words ≡ applied handed first.broker.words.kept → IsMomentOf first last words
+    → IsOf key words [] 0 j → IsKept first (record { handed = handed; last = last; pending = pending; journal = j })
+kept_begun first last handed pending key words j none made moment of =
+    kept_ending first last handed pending j none (of.words ∙ made) (subst (IsMomentOf first last) made moment)
+    (begins first last key words j moment of)
+
+-- what was pending was appended
 pub kept_appended : (first : Sessioned) (k : Kept) (new : OnDevice) (pending changes : List Change) → IsKept first k
     → pending ≡ [] → changes ≡ k.pending → HasMore (record { kept = k.journal.kept; changes = changes }) k.journal new
     → new.words ≡ applied changes k.journal.words
-    → IsKept first (record { handed = k.handed; pending = pending; journal = new })
+    → IsKept first (record { handed = k.handed; last = k.last; pending = pending; journal = new })
 kept_appended first k new pending changes is none those more words =
     let made : applied k.handed first.broker.words.kept ≡ applied changes k.journal.words =
     pending_made first k is ∙ ap (λ (cs : List Change). applied cs k.journal.words) (sym those) in
+    kept_ending first k.last k.handed pending new none (words ∙ sym made) is.now
+    (has_more first k.last (record { kept = k.journal.kept; changes = changes }) k.journal new is.journal more
+    (subst (IsMomentOf first k.last) made is.now))
+
+-- it was not, or something else of the device changed
+pub kept_no_more : (first : Sessioned) (k : Kept) (new : OnDevice) → IsKept first k → HasNoMore k.journal new
+    → new.words ≡ k.journal.words
+    → IsKept first (record { handed = k.handed; last = k.last; pending = k.pending; journal = new })
+kept_no_more first k new is same words = record {
+  done = is.done;
+  split = is.split;
+  words = words ∙ is.words;
+  now = is.now;
+  journal = until_no_more first k.last k.journal new is.journal same;
+  latest = λ none. ends_no_more first k.last k.journal new (is.latest none) same;
+}
+
+pub kept_kept : (first : Sessioned) (k : Kept) (new : OnDevice) → IsKept first k → KeepsAll k.journal new
+    → new.words ≡ k.journal.words
+    → IsKept first (record { handed = k.handed; last = k.last; pending = k.pending; journal = new })
+kept_kept first k new is keeps words = record {
+  done = is.done;
+  split = is.split;
+  words = words ∙ is.words;
+  now = is.now;
+  journal = until_kept first k.last k.journal new is.journal keeps;
+  latest = λ none. ends_kept first k.last k.journal new (is.latest none) keeps;
+}
+
+-- more was handed on, where nothing was pending: the moment goes on from that of the hand-on before
+pub kept_more : (first : Sessioned) (k : Kept) (last : Sessioned) (handed batch : List Change) → IsKept first k
+    → k.pending ≡ [] → handed ≡ k.handed ++ batch → IsMomentOf first last (applied handed first.broker.words.kept)
+    → GoesOnLater k.last last
+    → IsKept first (record { handed = handed; last = last; pending = batch; journal = k.journal })
+kept_more first k last handed batch is none more moment on =
+    let all = kept_all first k is none in
+    let ends = is.latest none in
     record {
       done = k.handed;
-      split = sym (append-nil k.handed) ∙ ap (λ (cs : List Change). k.handed ++ cs) (sym none);
-      words = words ∙ sym made;
-      now = is.now;
-      journal = has_more first (record { kept = k.journal.kept; changes = changes }) k.journal new is.journal more
-          (subst (IsMoment first) made is.now);
+      split = more;
+      words = all;
+      now = moment;
+      journal = record { has = ends.has; later = subst (λ (s : Sessioned). GoesOnLater s last) (sym ends.latest) on };
+      latest = λ empty.
+          let same : handed ≡ k.handed = more ∙ (ap (λ (cs : List Change). k.handed ++ cs) empty ∙ append-nil k.handed) in
+          has_same first k.last last k.journal ends on
+          (subst (IsMomentOf first last)
+          (ap (λ (cs : List Change). applied cs first.broker.words.kept) same ∙ sym all) moment);
     }
 
 -- the journal's words are those of a moment
-pub moment_now : (first : Sessioned) (j : OnDevice) → HasMoments first j → IsMoment first j.words
-moment_now first j has =
-    subst (IsMoment first)
+pub moment_now : (first last : Sessioned) (j : OnDevice) (until : HasMomentsUntil first last j)
+    → IsMomentOf first (until.has.session (length until.has.batches)) j.words
+moment_now first last j until =
+    let has = until.has in
+    subst (IsMomentOf first (has.session (length has.batches)))
     (ap (λ (bs : List Batch). words_after bs has.base) (take_all (length has.batches) has.batches (omega arith)) ∙ sym has.of.words)
     (has.moments.each (length has.batches) (omega arith))
 
@@ -178,42 +364,22 @@ kept_whole key base j of = of.kept ∙ sym of.size
 
 -- it goes on as its words and no batch
 pub kept_compacted : (first : Sessioned) (k : Kept) (key : List ℕ) (new : OnDevice) → IsKept first k
-    → IsOf key k.journal.words [] 0 new → IsKept first (record { handed = k.handed; pending = k.pending; journal = new })
-kept_compacted first k key new is of = record {
-  done = is.done;
-  split = is.split;
-  words = of.words ∙ is.words;
-  now = is.now;
-  journal = begins first key k.journal.words new (moment_now first k.journal is.journal) of;
-}
-
--- what was handed on at the end makes the words of a moment
-pub last_moment : {S : Type 0} (list : S → List Entry) (seats : List S) (first last : Sessioned) (handed : List Change)
-    → AreSeatsRecorded list first seats last → SessionGoesOn first last → KeepsNumbers last → IsSettledTold last
-    → IsMadeBy handed first.broker.words.kept last.broker.words.kept
-    → IsMoment first (applied handed first.broker.words.kept)
-last_moment list seats first last handed lists on keeps told made =
-    subst (IsMoment first) made.words (record {
-      session = last;
-      words = refl;
-      goes_on = on;
-      ended = lists.rotated;
-      came = lists.came;
-      promises = keeps;
-      boots = keeps.broker.boots;
-      told = told;
-    })
-
--- and it is pending, where nothing else was
-pub kept_last : {S : Type 0} (list : S → List Entry) (seats : List S) (first last : Sessioned) (k : Kept) (handed batch : List Change)
-    → IsKept first k → k.pending ≡ [] → handed ≡ k.handed ++ batch → AreSeatsRecorded list first seats last
-    → SessionGoesOn first last → KeepsNumbers last → IsSettledTold last
-    → IsMadeBy handed first.broker.words.kept last.broker.words.kept
-    → IsKept first (record { handed = handed; pending = batch; journal = k.journal })
-kept_last list seats first last k handed batch is none more lists on keeps told made = record {
-  done = k.handed;
-  split = more;
-  words = kept_all first k is none;
-  now = last_moment list seats first last handed lists on keeps told made;
-  journal = is.journal;
-}
+    → IsOf key k.journal.words [] 0 new
+    → IsKept first (record { handed = k.handed; last = k.last; pending = k.pending; journal = new })
+kept_compacted first k key new is of =
+    let until = is.journal in
+    let was = until.has.session (length until.has.batches) in
+    let ends : EndsAtMomentOf first was new =
+    begins first was key k.journal.words new (moment_now first k.last k.journal until) of in
+    record {
+      done = is.done;
+      split = is.split;
+      words = of.words ∙ is.words;
+      now = is.now;
+      journal = record { has = ends.has; later = subst (λ (s : Sessioned). GoesOnLater s k.last) (sym ends.latest) until.later };
+      latest = λ none.
+          let before = is.latest none in
+          let at : HasMomentsUntil first k.last k.journal = ends_until first k.last k.journal before in
+          begins first k.last key k.journal.words new
+          (subst (λ (s : Sessioned). IsMomentOf first s k.journal.words) before.latest (moment_now first k.last k.journal at)) of;
+    }

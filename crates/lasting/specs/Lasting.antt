@@ -1,5 +1,5 @@
--- Journals of shared sessions, of which each beginning ends at a moment.
-use Rattle.std.specs.Prelude.{◌≡◌, ◌≤◌, ◌++◌, ℕ, List, length, take, Ok}
+-- Journals of shared sessions, of which each beginning ends at a moment, and the later of two goes on from the earlier.
+use Rattle.std.specs.Prelude.{◌≡◌, ◌≤◌, ◌++◌, [], ℕ, List, length, take, Ok}
 use Rattle.persist.specs.declared.access.Change.{Change}
 use Rattle.persist.specs.Noted.{applied}
 use Rattle.journal.specs.Frame.{Batch}
@@ -7,11 +7,14 @@ use Rattle.journal.specs.Journal.{words_after}
 use Rattle.journal.specs.Reading.{reading}
 use Rattle.journal_file.specs.OnDevice.{IsOf, OnDevice}
 use Rattle.session.specs.Sessions.{Sessioned}
-use Rattle.workers.specs.Moments.{IsMoment}
+use Rattle.workers.specs.Moments.{GoesOnLater, IsMomentOf}
 
--- the words after each beginning of these batches are those of a moment
-pub record AreMoments (first : Sessioned) (base : List ℕ) (batches : List Batch) : Type 0 where
-  pub each : (n : ℕ) → n ≤ length batches → IsMoment first (words_after (take n batches) base)
+-- the words after each beginning of these batches are those of a moment, of the session that is told for it; and the
+-- session of a longer beginning goes on from that of a shorter one
+pub record AreMoments (first : Sessioned) (base : List ℕ) (batches : List Batch) (session : ℕ → Sessioned)
+    : Type 0 where
+  pub each : (n : ℕ) → n ≤ length batches → IsMomentOf first (session n) (words_after (take n batches) base)
+  pub later : (m n : ℕ) → m ≤ n → n ≤ length batches → GoesOnLater (session m) (session n)
 
 -- the journal has such batches, of which so many were there when all was last kept
 pub record HasMoments (first : Sessioned) (j : OnDevice) : Type 0 where
@@ -19,29 +22,57 @@ pub record HasMoments (first : Sessioned) (j : OnDevice) : Type 0 where
   pub base : List ℕ
   pub batches : List Batch
   pub count : ℕ
+  pub session : ℕ → Sessioned
   pub of : IsOf key base batches count j
-  pub moments : AreMoments first base batches
+  pub moments : AreMoments first base batches session
 
--- a journal, and the changes that were handed on for it: all of them, and those that it does not have yet
+-- and this session goes on from that of the last of them
+pub record HasMomentsUntil (first last : Sessioned) (j : OnDevice) : Type 0 where
+  pub has : HasMoments first j
+  pub later : GoesOnLater (has.session (length has.batches)) last
+
+-- or is that of the last of them
+pub record EndsAtMomentOf (first last : Sessioned) (j : OnDevice) : Type 0 where
+  pub has : HasMoments first j
+  pub latest : has.session (length has.batches) ≡ last
+
+-- a journal, and what was handed on for it: all changes with the session as it was at the last time, and those that the
+-- journal does not have yet
 pub record Kept : Type 0 where
   pub handed : List Change
+  pub last : Sessioned
   pub pending : List Change
   pub journal : OnDevice
 
--- the journal has the changes that are not pending, and ends at a moment, as with these it would
+-- the journal has the changes that are not pending. It ends at a moment from which that of the last hand-on goes on,
+-- and where nothing is pending it ends at that one
 pub record IsKept (first : Sessioned) (k : Kept) : Type 0 where
   pub done : List Change
   pub split : k.handed ≡ done ++ k.pending
   pub words : k.journal.words ≡ applied done first.broker.words.kept
-  pub now : IsMoment first (applied k.handed first.broker.words.kept)
-  pub journal : HasMoments first k.journal
+  pub now : IsMomentOf first k.last (applied k.handed first.broker.words.kept)
+  pub journal : HasMomentsUntil first k.last k.journal
+  pub latest : k.pending ≡ [] → EndsAtMomentOf first k.last k.journal
 
--- bytes are read as the words of a moment, after a beginning of the batches that has so many of them at least
-pub record ReadsMoment (first : Sessioned) (key base : List ℕ) (batches : List Batch) (count : ℕ) (bytes : List ℕ)
-    : Type 0 where
+-- it has batches until this session. Whatever a stop leaves of it is read as the words of a moment that goes on from an
+-- earlier session: that of the last batch which was there when all was last kept does
+pub record IsAssured (first earlier last : Sessioned) (j : OnDevice) : Type 0 where
+  pub until : HasMomentsUntil first last j
+  pub sure : GoesOnLater earlier (until.has.session until.has.count)
+
+-- so it stays, of each earlier session
+abbrev pub StaysAssured : Sessioned → Kept → Kept → Type 0
+StaysAssured first old new =
+    (earlier : Sessioned) → IsAssured first earlier old.last old.journal → IsAssured first earlier new.last new.journal
+
+-- Bytes are read as the words of a moment, after a beginning of the batches that has so many of them at least. Its
+-- session goes on from that of each shorter beginning
+pub record ReadsMoment (first : Sessioned) (key base : List ℕ) (batches : List Batch) (count : ℕ)
+    (session : ℕ → Sessioned) (bytes : List ℕ) : Type 0 where
   pub whole : ℕ
   pub those : count ≤ whole
   pub some : whole ≤ length batches
   pub cut : ℕ
   pub read : reading bytes ≡ Ok (record { key = key; words = words_after (take whole batches) base; cut = cut })
-  pub moment : IsMoment first (words_after (take whole batches) base)
+  pub moment : IsMomentOf first (session whole) (words_after (take whole batches) base)
+  pub later : (m : ℕ) → m ≤ whole → GoesOnLater (session m) (session whole)

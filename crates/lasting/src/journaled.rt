@@ -2,10 +2,10 @@
 
 ghost use Rattle.std.specs.Prelude.{◌≡◌, ◌⊎◌, [], false, IfErr, IfOk, OnErr, OnOk};
 ghost use Rattle.persist.specs.Noted.{applied};
-ghost use Rattle.lasting.specs.Lasting.{HasMoments, IsKept};
+ghost use Rattle.lasting.specs.Lasting.{EndsAtMomentOf, HasMoments, HasMomentsUntil, IsKept};
 ghost use Rattle.session.specs.Keeping.{SessionGoesOn};
 ghost use Rattle.session.specs.Promises.{KeepsNumbers};
-ghost use Rattle.workers.specs.Moments.{IsMoment};
+ghost use Rattle.workers.specs.Moments.{GoesOnLater, IsMomentOf};
 ghost use Rattle.workers.specs.Seats.{AreAllInOrder, AreSeatsRecorded};
 
 use journal::KEY_BYTES;
@@ -32,9 +32,19 @@ impl<J: Naming, F: Appender + Drop> Model for Journaled<J, F> {
 
     ghost Value = { Kept };
 
-    ghost view = { λ k. record { handed = k.handed; pending = k.pending.items; journal = k.journal } };
+    ghost view = { λ k. record {
+      handed = k.handed.changes;
+      last = k.handed.last;
+      pending = k.pending.items;
+      journal = k.journal;
+    } };
 
-    ghost invariant = { λ k. IsKept J.first (record { handed = k.handed; pending = k.pending.items; journal = k.journal }) };
+    ghost invariant = { λ k. IsKept J.first (record {
+      handed = k.handed.changes;
+      last = k.handed.last;
+      pending = k.pending.items;
+      journal = k.journal;
+    }) };
 }
 
 impl<J: Naming, F: Appender + Drop> Journaled<J, F> {
@@ -51,9 +61,9 @@ impl<J: Naming, F: Appender + Drop> Journaled<J, F> {
         words: Vec<u64>,
     ) -> Result<Self, Refusal>
         requires fresh { IsFresh (F.appended device) }
-        requires words { words.items ≡ applied handed J.first.broker.words.kept }
-        requires moment { IsMoment J.first words.items }
-        ensures handed { IfOk result (λ k. k.handed ≡ handed) }
+        requires words { words.items ≡ applied handed.changes J.first.broker.words.kept }
+        requires moment { IsMomentOf J.first handed.last words.items }
+        ensures handed { IfOk result (λ k. k.handed ≡ handed.changes) }
         ensures all { IfOk result (λ k. k.pending ≡ []) }
         ensures going { IfOk result (λ k. k.journal.failed ≡ false) }
     {
@@ -65,10 +75,10 @@ impl<J: Naming, F: Appender + Drop> Journaled<J, F> {
         })
     }
 
-    /// The journal. Each beginning of its batches ends at a moment of the session.
+    /// The journal. Each beginning of its batches ends at a moment of the session, which goes on from those before.
     pub fn journal(&self) -> &Journal<F>
         ensures journal { result.now ≡ self.now.journal }
-        ensures moments { HasMoments J.first self.now.journal }
+        ensures moments { HasMomentsUntil J.first self.now.last self.now.journal }
     {
         &self.journal
     }
@@ -79,6 +89,7 @@ impl<J: Naming, F: Appender + Drop> Journaled<J, F> {
         ensures words { OnOk result
             (self.new.journal.words ≡ applied self.new.handed J.first.broker.words.kept) }
         ensures handed { self.new.handed ≡ self.old.handed }
+        ensures last { self.new.last ≡ self.old.last }
         ensures pending { OnErr result (self.new.pending ≡ self.old.pending) }
         ensures same { OnErr result (self.new.journal.words ≡ self.old.journal.words) }
     {
@@ -102,6 +113,7 @@ impl<J: Naming, F: Appender + Drop> Journaled<J, F> {
         ensures all { OnOk result.1 (result.0.pending ≡ []) }
         ensures words { OnOk result.1
             (result.0.journal.words ≡ applied result.0.handed J.first.broker.words.kept) }
+        ensures later { GoesOnLater self.last result.0.last }
     {
         let mut kept = self;
         if let Err(refusal) = kept.append_pending(alloc) {
@@ -123,6 +135,7 @@ impl<J: Naming, F: Appender + Drop> Journaled<J, F> {
         shared: &Shared<J>,
     ) -> (Self, Result<(), Refusal>)
         requires { self.pending ≡ [] }
+        ensures later { GoesOnLater self.last result.0.last }
     {
         let Journaled {
             handed,
@@ -152,6 +165,7 @@ impl<J: Naming, F: Appender + Drop> Journaled<J, F> {
     /// Keeps all batches that were appended, as [`Journal::keep`] does, and is refused as that is.
     pub fn keep(&mut self) -> Result<(), Refusal>
         ensures handed { self.new.handed ≡ self.old.handed }
+        ensures last { self.new.last ≡ self.old.last }
         ensures pending { self.new.pending ≡ self.old.pending }
         ensures words { self.new.journal.words ≡ self.old.journal.words }
         ensures size { self.new.journal.size ≡ self.old.journal.size }
@@ -164,6 +178,7 @@ impl<J: Naming, F: Appender + Drop> Journaled<J, F> {
     /// Keeps all that was appended, where some of it is not kept yet, and is refused as [`Journaled::keep`] is.
     pub fn keep_all(&mut self) -> Result<(), Refusal>
         ensures handed { self.new.handed ≡ self.old.handed }
+        ensures last { self.new.last ≡ self.old.last }
         ensures pending { self.new.pending ≡ self.old.pending }
         ensures words { self.new.journal.words ≡ self.old.journal.words }
         ensures kept { OnOk result (self.new.journal.kept ≡ self.new.journal.size) }
@@ -185,6 +200,7 @@ impl<J: Naming, F: Appender + Drop> Journaled<J, F> {
     ) -> Result<(), Refusal>
         requires { IsFresh (F.appended device) }
         ensures handed { self.new.handed ≡ self.old.handed }
+        ensures last { self.new.last ≡ self.old.last }
         ensures pending { self.new.pending ≡ self.old.pending }
         ensures words { self.new.journal.words ≡ self.old.journal.words }
         ensures journal { OnOk result (IsOf key.now self.old.journal.words [] 0 self.new.journal) }
@@ -200,7 +216,8 @@ impl<J: Naming, F: Appender + Drop> Journaled<J, F> {
 
     /// Takes the session back, as [`Shared::close`] does, with the changes that were not handed on yet, and nothing
     /// follows them. Those are appended as one batch, behind what is pending, and all is kept. At Ok the journal has
-    /// exactly the kept words of the session. Else it is refused as [`Journaled::settle`] and [`Journaled::keep`] are.
+    /// exactly the kept words of the session, which is that of its last moment. Else it is refused as
+    /// [`Journaled::settle`] and [`Journaled::keep`] are.
     pub fn close(
         self,
         alloc: Global,
@@ -214,6 +231,7 @@ impl<J: Naming, F: Appender + Drop> Journaled<J, F> {
         ensures words { OnOk result.2 (result.1.words ≡ result.0.broker.words.kept) }
         ensures kept { OnOk result.2 (result.1.kept ≡ result.1.size) }
         ensures moments { HasMoments J.first result.1 }
+        ensures ends { OnOk result.2 (EndsAtMomentOf J.first result.0 result.1) }
     {
         let mut kept = self;
         let appended = kept.append_pending(alloc);
@@ -229,7 +247,6 @@ impl<J: Naming, F: Appender + Drop> Journaled<J, F> {
         match batch {
             Err(refusal) => (session, journal, Err(refusal)),
             Ok(batch) => {
-                session.tells_settled();
                 let (journal, ended) = Journaled::ended(alloc, handed, batch, journal);
                 (session, journal, ended)
             }
@@ -243,23 +260,31 @@ impl<J: Naming, F: Appender + Drop> Journaled<J, F> {
         rest: Vec<Change>,
         journal: Journal<F>,
     ) -> (Journal<F>, Result<(), Refusal>)
-        requires { IsKept J.first (record { handed = handed; pending = rest.items; journal = journal }) }
-        ensures words { OnOk result.1 (result.0.words ≡ applied handed J.first.broker.words.kept) }
+        requires { IsKept J.first (record {
+          handed = handed.changes;
+          last = handed.last;
+          pending = rest.items;
+          journal = journal;
+        }) }
+        ensures words { OnOk result.1 (result.0.words ≡ applied handed.changes J.first.broker.words.kept) }
         ensures kept { OnOk result.1 (result.0.kept ≡ result.0.size) }
         ensures moments { HasMoments J.first result.0 }
+        ensures ends { OnOk result.1 (EndsAtMomentOf J.first handed.last result.0) }
     {
-        let mut last = Journaled {
+        let mut kept = Journaled {
             handed,
             pending: rest,
             journal,
         };
-        let ended = last.append_and_keep(alloc);
-        (last.journal, ended)
+        let ended = kept.append_and_keep(alloc);
+        (kept.journal, ended)
     }
 
     /// Appends what is pending, and keeps all.
     fn append_and_keep(&mut self, alloc: Global) -> Result<(), Refusal>
+        ensures all { OnOk result (self.new.pending ≡ []) }
         ensures handed { self.new.handed ≡ self.old.handed }
+        ensures last { self.new.last ≡ self.old.last }
         ensures words { OnOk result
             (self.new.journal.words ≡ applied self.new.handed J.first.broker.words.kept) }
         ensures kept { OnOk result (self.new.journal.kept ≡ self.new.journal.size) }

@@ -8,23 +8,26 @@ ghost use Rattle.lasting.specs.Lasting.{AreMoments, ReadsMoment};
 ghost use Rattle.session.specs.Promises.{KeepsNumbers};
 ghost use Rattle.session.specs.Sessions.{Sessioned};
 ghost use Rattle.session.specs.Telling.{IsSettledTold};
-ghost use Rattle.workers.specs.Moments.{IsMoment};
+ghost use Rattle.workers.specs.Moments.{IsMomentOf};
 
 /// A session is at a moment when the seats are given: what it promises then, [`session::Session::broker`] and
 /// [`session::Session::tells_settled`] say of any session.
 pub fn firsts_are_moments()
     ensures { (first : Sessioned) → KeepsNumbers first → IsSettledTold first
-        → IsMoment first first.broker.words.kept }
+        → IsMomentOf first first first.broker.words.kept }
 {}
 
 /// A restart: whatever a stop leaves of such a journal is read as the words of a moment, with all batches that were
-/// there when all was last kept (`stopped`). So it is of a device that has not failed and loses nothing from the front on
-/// but what was not kept (`killed`).
+/// there when all was last kept (`stopped`). The session of that moment goes on from the one at the end of each batch
+/// before. So it is of a device that has not failed and loses nothing from the front on but what was not kept
+/// (`killed`).
 pub fn stops_leave_a_moment()
     ensures stopped { (first : Sessioned) (key base : List ℕ) (batches : List Batch) (count : ℕ) (j : OnDevice)
-        (left : List ℕ) → AreMoments first base batches → IsOf key base batches count j
-        → LeftByStop key base batches j.kept left → ReadsMoment first key base batches count left }
+        (session : ℕ → Sessioned) (left : List ℕ) → AreMoments first base batches session
+        → IsOf key base batches count j → LeftByStop key base batches j.kept left
+        → ReadsMoment first key base batches count session left }
     ensures killed { (first : Sessioned) (key base : List ℕ) (batches : List Batch) (count : ℕ) (j : OnDevice)
-        (bytes : List ℕ) (n : ℕ) → AreMoments first base batches → IsOf key base batches count j → j.failed ≡ false
-        → j.appended ≡ Some bytes → j.lasting ≤ n → ReadsMoment first key base batches count (take n bytes) }
+        (session : ℕ → Sessioned) (bytes : List ℕ) (n : ℕ) → AreMoments first base batches session
+        → IsOf key base batches count j → j.failed ≡ false → j.appended ≡ Some bytes → j.lasting ≤ n
+        → ReadsMoment first key base batches count session (take n bytes) }
 {}

@@ -2,11 +2,11 @@
 
 ghost use Rattle.std.specs.Prelude.{◌≡◌, [], false, is_err, true, IfOk, OnErr, OnOk};
 ghost use Rattle.persist.specs.Noted.{applied};
-ghost use Rattle.lasting.specs.Lasting.{HasMoments};
+ghost use Rattle.lasting.specs.Lasting.{EndsAtMomentOf, HasMoments};
 ghost use Rattle.lasting.specs.Settling.{HasSettled, IsKeptBy};
 ghost use Rattle.session.specs.Keeping.{SessionGoesOn};
 ghost use Rattle.session.specs.Promises.{KeepsNumbers};
-ghost use Rattle.workers.specs.Moments.{IsMoment};
+ghost use Rattle.workers.specs.Moments.{IsMomentOf};
 ghost use Rattle.workers.specs.Seats.{AreAllInOrder, AreSeatsRecorded};
 
 use crate::journaled::Journaled;
@@ -66,9 +66,9 @@ impl<J: Naming, F: Appender + Drop> Settler<J, F> {
         storage: &S,
         policy: Policy,
     ) -> Result<Self, Refusal>
-        requires words { words.items ≡ applied handed J.first.broker.words.kept }
-        requires moment { IsMoment J.first words.items }
-        ensures handed { IfOk result (λ s. s.kept.handed ≡ handed) }
+        requires words { words.items ≡ applied handed.changes J.first.broker.words.kept }
+        requires moment { IsMomentOf J.first handed.last words.items }
+        ensures handed { IfOk result (λ s. s.kept.handed ≡ handed.changes) }
         ensures all { IfOk result (λ s. s.kept.pending ≡ []) }
         ensures policy { IfOk result (λ s. s.policy ≡ policy) }
         ensures going { IfOk result (λ s. s.failed ≡ false) }
@@ -307,6 +307,7 @@ impl<J: Naming, F: Appender + Drop> Settler<J, F> {
         ensures words { OnOk result.2 (result.1.words ≡ result.0.broker.words.kept) }
         ensures kept { OnOk result.2 (result.1.kept ≡ result.1.size) }
         ensures moments { HasMoments J.first result.1 }
+        ensures ends { OnOk result.2 (EndsAtMomentOf J.first result.0 result.1) }
         ensures over { self.failed ≡ true → is_err result.2 ≡ true }
     {
         let failed = self.failed;

@@ -1,7 +1,7 @@
 -- What is left of a session that connections shared, and of its journal.
 use Rattle.std.proofs.Common.{◌≡◌, List, ℕ, Ok, subst}
 use Rattle.journal_file.specs.OnDevice.{OnDevice}
-use Rattle.lasting.specs.Lasting.{HasMoments}
+use Rattle.lasting.specs.Lasting.{EndsAtMomentOf}
 use Rattle.named.specs.Booting.{AreBootWords}
 use Rattle.named.specs.Brokers.{Brokered}
 use Rattle.persist.specs.Image.{image_of, reading}
@@ -17,7 +17,7 @@ use Rattle.server.specs.Journaled.{IsLeftAfter}
 pub left_after : {S : Type 0} (list : S → List Entry) (seats : List S) (first last : Sessioned) (b : Brokered)
     (bytes : List ℕ) (j : OnDevice) → b ≡ last.broker → AreSeatsRecorded list first seats last
     → SessionGoesOn first last → KeepsNumbers last → bytes ≡ image_of b.words.kept → reading bytes ≡ Ok b.words.kept
-    → AreBootWords b.words.kept → j.words ≡ last.broker.words.kept → j.kept ≡ j.size → HasMoments first j
+    → AreBootWords b.words.kept → j.words ≡ last.broker.words.kept → j.kept ≡ j.size → EndsAtMomentOf first last j
     → IsLeftAfter first bytes j
 left_after list seats first last b bytes j same lists on keeps image read boots words kept moments =
     let after : IsImageAfter first bytes = record {

@@ -1,19 +1,55 @@
--- A broker that goes on from the kept words of a moment.
-use Rattle.std.specs.Prelude.{◌≡◌, ◌<◌, ℕ, Some}
+-- A broker that goes on from the kept words of a moment, and the session over it.
+use Rattle.std.specs.Prelude.{◌≡◌, ◌<◌, ◌≤◌, ℕ, List, Some, take}
 use Rattle.words.specs.declared.call.Client.{Client}
 use Rattle.words.specs.declared.call.Kind.TheVariants.{Log as log_kind}
 use Rattle.words.specs.declared.call.Reply.{Reply}
+use Rattle.persist.specs.Memory.{words_at_rest}
+use Rattle.journal.specs.Frame.{Batch}
+use Rattle.journal.specs.Journal.{words_after}
 use Rattle.interleave.specs.State.{State}
 use Rattle.named.specs.Brokers.{Brokered, world_at}
 use Rattle.session.specs.Keeping.{IsSettled, told_when_asked}
 use Rattle.session.specs.Sessions.{Sessioned, kept_at}
-use Rattle.server.specs.Opening.{IsQueueOpened}
+use Rattle.workers.specs.Moments.{GoesOnLater}
+use Rattle.lasting.specs.Lasting.{ReadsMoment}
+use Rattle.server.specs.Image.{IsOpenedOver}
+use Rattle.server.specs.Opening.{IsOpened, IsQueueOpened}
 
--- it has each queue of the session: of its shape, and it holds and tells what that one kept. Each number of a client of
--- a log queue that is settled in the session is so by what the client is told now
+-- each number of a client of a log queue that is settled in the session is so, with its reply, by what the broker tells
+-- the client
+abbrev pub AreSettledBy : Sessioned → Brokered → Type 0
+AreSettledBy s b =
+    (slot : ℕ) (w : State) (client : Client) (number : ℕ) (reply : Reply) → world_at s.broker slot ≡ Some w
+    → w.shape.kind ≡ log_kind → client.0 < w.shape.clients → IsSettled (kept_at s slot client) number reply
+    → IsSettled (told_when_asked b slot client.0) number reply
+
+-- it has each queue of the session: of its shape, and it holds and tells what that one kept. What is settled in the
+-- session is so by what it tells
 pub record GoesOnFrom (s : Sessioned) (b : Brokered) : Type 0 where
   pub queues : (slot : ℕ) (w : State) → world_at s.broker slot ≡ Some w
       → IsQueueOpened w.shape w.words.kept (world_at b slot)
-  pub settled : (slot : ℕ) (w : State) (client : Client) (number : ℕ) (reply : Reply)
-      → world_at s.broker slot ≡ Some w → w.shape.kind ≡ log_kind → client.0 < w.shape.clients
-      → IsSettled (kept_at s slot client) number reply → IsSettled (told_when_asked b slot client.0) number reply
+  pub settled : AreSettledBy s b
+
+-- a session over the broker that was opened on what a stop left of a journal. The batches that are read of it begin
+-- with so many at whose end the earlier session was at a moment
+pub record IsRestartedFrom (earlier next : Sessioned) : Type 0 where
+  pub first : Sessioned
+  pub key : List ℕ
+  pub base : List ℕ
+  pub batches : List Batch
+  pub count : ℕ
+  pub session : ℕ → Sessioned
+  pub left : List ℕ
+  pub reads : ReadsMoment first key base batches count session left
+  pub few : ℕ
+  pub among : few ≤ reads.whole
+  pub earlier_is : session few ≡ earlier
+  pub broker : Brokered
+  pub opened : IsOpened (words_at_rest (words_after (take reads.whole batches) base)) broker
+  pub over : IsOpenedOver broker next
+
+-- the session came of the earlier one over several lives: it goes on from there, or from a restart
+pub data LivesOn (earlier : Sessioned) : Sessioned → Type 0 where
+  within : {now : Sessioned} (on : GoesOnLater earlier now) → LivesOn earlier now
+  restarted : {last next now : Sessioned} (before : LivesOn earlier last) (restart : IsRestartedFrom last next)
+      (on : GoesOnLater next now) → LivesOn earlier now

@@ -18,7 +18,7 @@ pub use journals::{Journaling, Left, Unserved};
 pub use json_lines::JsonLines;
 pub use lasting_net::net_lasting;
 pub use lasting_pipe::pipe_lasting;
-pub use laws::restarts_go_on;
+pub use laws::{lives_go_on, restarts_go_on, settled_numbers_outlast_restarts};
 pub use listening::{Service, net};
 pub use opening::{opened, renewed};
 pub use piping::pipe;

@@ -1,3 +1,4 @@
+pub mod Laters
 pub mod Guarded
 pub mod Notes
 pub mod Moments

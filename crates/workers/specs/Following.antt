@@ -8,6 +8,7 @@ use Rattle.session.specs.Sessions.{Sessioned}
 use Rattle.workers.specs.Coming.{CameThrough}
 use Rattle.workers.specs.Creating.{IsCreationKnown}
 use Rattle.workers.specs.Deeds.{CameBy}
+use Rattle.workers.specs.Moments.{GoesOnLater}
 use Rattle.workers.specs.Opening.{IsNotInUse}
 use Rattle.workers.specs.Lists.{AreNamed, IsCutOff, IsRecorded, OnlyLastIsOpen, RanAt, events_at}
 use Rattle.workers.specs.declared.deeds.Deed.{Deed}
@@ -38,13 +39,15 @@ pub record AreFollowed (since : ℕ → ℕ) (s : Sessioned) (rows : List (List 
   pub each : (t : ℕ) (row : List Entry) → slice_get rows t ≡ Some row → IsFollowed since s (record { 0 = t }) row
 
 -- what lies under the lock: the session, the rows that the keeper knows, what was done to all of the session, the
--- creation that threads know of, and whether the histories have ended since the seats were given
+-- creation that threads know of, whether the histories have ended since the seats were given, and the session as it was
+-- when changes of kept words were handed on last, or the seats were given
 pub record Guarded : Type 0 where
   pub session : Sessioned
   pub rows : List (List Entry)
   pub deeds : List (List Deed)
   pub creating : Creating
   pub rotated : Bool
+  pub last : Sessioned
 
 -- what a contract sees of what lies under the lock: this, and, where changes of kept words are noted, for how many more
 -- there is room
@@ -54,6 +57,7 @@ pub record Held : Type 0 where
   pub deeds : List (List Deed)
   pub creating : Creating
   pub rotated : Bool
+  pub last : Sessioned
   pub promised : Option ℕ
 
 abbrev pub guarded_in : Held → Guarded
@@ -63,6 +67,7 @@ guarded_in h = record {
   deeds = h.deeds;
   creating = h.creating;
   rotated = h.rotated;
+  last = h.last;
 }
 
 -- the session may be shared as it is: it has so many clients, nobody uses it, and it keeps its promises
@@ -74,7 +79,8 @@ pub record IsBeginning (all : ℕ) (first : Sessioned) : Type 0 where
 -- what holds of it whenever the lock is free, where there are so many clients, and the session was this one when the
 -- seats were given: each call is in the queue of its name; what was settled then is so still, the clients of its log
 -- queues are such clients still, and the queues that it had then are there, each with a history that went on from where
--- it began, or ended with a rotation or a renewal
+-- it began, or ended with a rotation or a renewal. The session goes on from what it was when changes were handed on
+-- last
 pub record IsGuardedWell (all : ℕ) (first : Sessioned) (g : Guarded) : Type 0 where
   pub beginning : IsBeginning all first
   pub clients : length g.rows ≡ all
@@ -85,3 +91,4 @@ pub record IsGuardedWell (all : ℕ) (first : Sessioned) (g : Guarded) : Type 0 
   pub goes_on : SessionGoesOn first g.session
   pub came : CameThrough first.broker g.rotated g.session.broker
   pub done : CameBy first.broker g.deeds g.session.broker
+  pub later : GoesOnLater g.last g.session

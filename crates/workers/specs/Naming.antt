@@ -5,18 +5,19 @@ use Rattle.named.specs.Memory.{words_at_rest}
 use Rattle.named.specs.Brokers.{Brokered}
 use Rattle.session.specs.Sessions.{Sessioned}
 
--- the rolls of a shared session: that of the seats' lists, that of what was done to all of it, and, where changes of
--- kept words are noted, that of the changes that were handed on
+-- the rolls of a shared session: that of the seats' lists, that of what was done to all of it, where changes of kept
+-- words are noted, that of the changes that were handed on, and the agreement on the session as it was then
 pub record Rolls : Type 0 where
   pub lists : TableId
   pub deeds : TableId
   pub changes : Option TableId
+  pub last : TableId
 
 abbrev pub no_table : TableId
 no_table = record { words = 0; slots = 0; views_name = 0; atom = 0; block = 0; offset = 0; slot_names = [] }
 
 abbrev pub no_roll : Rolls
-no_roll = record { lists = no_table; deeds = no_table; changes = None }
+no_roll = record { lists = no_table; deeds = no_table; changes = None; last = no_table }
 
 abbrev pub no_broker : Brokered
 no_broker = record {

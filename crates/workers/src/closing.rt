@@ -3,9 +3,11 @@
 ghost use Rattle.std.specs.Prelude.{◌≡◌, ◌++◌, [], length, IfErr, IfOk, IsTrue, OnErr, OnOk, slice_set};
 ghost use Rattle.named.specs.Rotating.{IsRotated};
 ghost use Rattle.notes.specs.Noting.{IsMadeBy};
+ghost use Rattle.persist.specs.Noted.{applied};
 ghost use Rattle.roll.specs.Rule.{IsKeeper, rows_of};
 ghost use Rattle.session.specs.Keeping.{SessionGoesOn};
 ghost use Rattle.session.specs.Promises.{KeepsNumbers};
+ghost use Rattle.workers.specs.Moments.{GoesOnLater, IsMomentOf};
 ghost use Rattle.workers.specs.Refusals.{is_rotation_refusal};
 ghost use Rattle.workers.specs.declared.deeds.Deed.{Deed as AnyDeed};
 ghost use Rattle.workers.specs.Deeds.{AreHonoured};
@@ -147,7 +149,7 @@ impl<J: Naming> Shared<J> {
     }
 
     /// As [`Shared::close`], with a last hand-on, which nothing follows: all that was handed on makes exactly the kept
-    /// words of the session. Of the batch it is refused as [`Shared::hand_on`] is.
+    /// words of the session, which is at its last moment. Of the batch it is refused as [`Shared::hand_on`] is.
     pub fn close_handing_on(
         self,
         alloc: Global,
@@ -158,9 +160,13 @@ impl<J: Naming> Shared<J> {
         ensures lists { AreSeatsRecorded (λ seat. seat.list.items) J.first seats.items result.0 }
         ensures goes_on { SessionGoesOn J.first result.0 }
         ensures promises { KeepsNumbers result.0 }
-        ensures row { IfOk result.2 (λ batch. result.1 ≡ handed ++ batch.items) }
+        ensures row { IfOk result.2 (λ batch. result.1.changes ≡ handed.changes ++ batch.items) }
         ensures made { OnOk result.2
-            (IsMadeBy result.1 J.first.broker.words.kept result.0.broker.words.kept) }
+            (IsMadeBy result.1.changes J.first.broker.words.kept result.0.broker.words.kept) }
+        ensures last { OnOk result.2 (result.1.last ≡ result.0) }
+        ensures moment { OnOk result.2
+            (IsMomentOf J.first result.1.last (applied result.1.changes J.first.broker.words.kept)) }
+        ensures later { OnOk result.2 (GoesOnLater handed.last result.1.last) }
         ensures same { OnErr result.2 (result.1 ≡ handed) }
         ensures errors { IfErr result.2 (λ e. e ≡ Refusal.NoMemory) }
     {

@@ -4,9 +4,10 @@ ghost use Rattle.std.specs.Prelude.{◌≡◌, ◌<◌, ◌++◌, [], length, Al
 ghost use Rattle.persist.specs.Noted.{applied};
 ghost use Rattle.notes.specs.Noting.{IsMadeBy};
 ghost use Rattle.roll.specs.Rule.{IsHolder, row_of};
-ghost use Rattle.workers.specs.Moments.{IsMoment};
+ghost use Rattle.workers.specs.Moments.{GoesOnLater, IsMomentOf};
 ghost use Rattle.workers.specs.Noting.{OfRoll};
 
+use crate::last::KnownLast;
 use crate::locked::Locked;
 use crate::naming::Naming;
 use crate::shared::Shared;
@@ -24,41 +25,43 @@ use words::Refusal;
 #[derive(Drop)]
 pub struct Handed<J: Naming> {
     token: Token<Change>,
+    last: KnownLast<J>,
     of: PhantomData<J>,
 }
 
-/// A contract sees the changes that were handed on, the first one first.
+/// A contract sees the changes that were handed on, the first one first, and the session as it was at the last time.
 impl<J: Naming> Model for Handed<J> {
-    ghost use Rattle.std.specs.Prelude.{List};
-    ghost use Rattle.persist.specs.declared.access.Change.{Change};
     ghost use Rattle.roll.specs.Rule.{IsHolder, row_of};
+    ghost use Rattle.workers.specs.Moments.{HandedOn};
     ghost use Rattle.workers.specs.Noting.{OfRoll};
 
-    ghost Value = { List Change };
+    ghost Value = { HandedOn };
 
-    ghost view = { λ h. row_of h.token };
+    ghost view = { λ h. record { changes = row_of h.token; last = h.last } };
 
     ghost invariant = { λ h. OfRoll J.roll.changes (λ roll. IsHolder roll 0 (row_of h.token) h.token) };
 }
 
 impl<J: Naming> Handed<J> {
-    /// The one of this token.
-    pub(crate) fn new(token: Token<Change>) -> Self
+    /// The one of this token, who knows that session.
+    pub(crate) fn new(token: Token<Change>, last: KnownLast<J>) -> Self
         requires { OfRoll J.roll.changes (λ roll. IsHolder roll 0 (row_of token) token) }
-        ensures { result ≡ row_of token }
+        ensures { result ≡ record { changes = row_of token; last = last } }
     {
         Handed {
             token,
+            last,
             of: PhantomData,
         }
     }
 
-    /// His token.
-    fn into_token(self) -> Token<Change>
-        ensures row { row_of result ≡ self }
-        ensures holder { OfRoll J.roll.changes (λ roll. IsHolder roll 0 self result) }
+    /// His token, and what he knows of the session.
+    fn into_parts(self) -> (Token<Change>, KnownLast<J>)
+        ensures row { row_of result.0 ≡ self.changes }
+        ensures holder { OfRoll J.roll.changes (λ roll. IsHolder roll 0 self.changes result.0) }
+        ensures last { result.1 ≡ self.last }
     {
-        self.token
+        (self.token, self.last)
     }
 }
 
@@ -71,43 +74,49 @@ impl<J: Naming> Locked<J> {
         fresh: Vec<Change>,
     ) -> (Handed<J>, Result<Vec<Change>, Refusal>)
         requires { fresh.items ≡ [] }
-        ensures row { IfOk result.1 (λ batch. result.0 ≡ handed ++ batch.items) }
+        ensures row { IfOk result.1 (λ batch. result.0.changes ≡ handed.changes ++ batch.items) }
         ensures made { OnOk result.1
-            (IsMadeBy result.0 J.first.broker.words.kept self.new.session.broker.words.kept) }
-        ensures moment { OnOk result.1 (IsMoment J.first (applied result.0 J.first.broker.words.kept)) }
+            (IsMadeBy result.0.changes J.first.broker.words.kept self.new.session.broker.words.kept) }
+        ensures last { OnOk result.1 (result.0.last ≡ self.new.session) }
+        ensures moment { OnOk result.1
+            (IsMomentOf J.first result.0.last (applied result.0.changes J.first.broker.words.kept)) }
+        ensures later { OnOk result.1 (GoesOnLater handed.last result.0.last) }
         ensures session { self.new.session ≡ self.old.session }
         ensures same { OnErr result.1 (result.0 ≡ handed) }
         ensures errors { IfErr result.1 (λ e. e ≡ Refusal.NoMemory) }
     {
         self.session.tells_settled();
-        let token = handed.into_token();
+        let (token, last) = handed.into_parts();
         let Some(book) = &mut self.book else {
             // Who has changes to hand on is of a session whose changes are noted.
             unreachable!();
         };
         let Ok(batch) = book.notes.hand_out(fresh) else {
-            return (Handed::new(token), Err(Refusal::NoMemory));
+            return (Handed::new(token, last), Err(Refusal::NoMemory));
         };
         let token = book.roll.extend(&mut book.keeper, token, &batch);
-        (Handed::new(token), Ok(batch))
+        let last = self.last.tell(last, &self.session);
+        (Handed::new(token, last), Ok(batch))
     }
 }
 
 impl<J: Naming> Shared<J> {
     /// Hands on all changes of kept words that were noted and not handed on yet, in the order of the acts that made
     /// them. All that were handed on so far make of the kept words that there were when the seats were given those of
-    /// a moment. The lock is held for the exchange of two vectors alone. It is refused for want of memory (NoMemory),
-    /// and then nothing is handed on.
+    /// a moment, at which the session goes on from what it was at the hand-on before. The lock is held for the exchange
+    /// of two vectors alone. It is refused for want of memory (NoMemory), and then nothing is handed on.
     pub fn hand_on<R: Wait>(
         &self,
         rt: &R,
         alloc: Global,
         handed: Handed<J>,
     ) -> (Handed<J>, Result<Vec<Change>, Refusal>)
-        ensures row { IfOk result.1 (λ batch. result.0 ≡ handed ++ batch.items) }
+        ensures row { IfOk result.1 (λ batch. result.0.changes ≡ handed.changes ++ batch.items) }
         ensures within { OnOk result.1
-            (All (λ change. change.word < length J.first.broker.words.kept) result.0) }
-        ensures moment { OnOk result.1 (IsMoment J.first (applied result.0 J.first.broker.words.kept)) }
+            (All (λ change. change.word < length J.first.broker.words.kept) result.0.changes) }
+        ensures moment { OnOk result.1
+            (IsMomentOf J.first result.0.last (applied result.0.changes J.first.broker.words.kept)) }
+        ensures later { OnOk result.1 (GoesOnLater handed.last result.0.last) }
         ensures same { OnErr result.1 (result.0 ≡ handed) }
         ensures errors { IfErr result.1 (λ e. e ≡ Refusal.NoMemory) }
     {

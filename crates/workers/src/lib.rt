@@ -9,6 +9,7 @@ mod deeds;
 mod entry;
 mod gate;
 mod handed;
+mod last;
 mod laws;
 mod locked;
 mod looks;

@@ -1,7 +1,7 @@
 //! How a session comes to be shared.
 
-ghost use Rattle.std.specs.Prelude.{◌≡◌, ◌⊎◌, [], false, true, IfErr, IfOk, OnOk};
-ghost use Rattle.roll.specs.Rule.{IsKeeper};
+ghost use Rattle.std.specs.Prelude.{◌≡◌, ◌⊎◌, ◌∷◌, [], false, true, IfErr, IfOk, OnOk};
+ghost use Rattle.roll.specs.Rule.{IsHolder, IsKeeper};
 ghost use Rattle.workers.specs.Noting.{IsBooked};
 ghost use Rattle.workers.specs.Opening.{IsInUse, IsNameOf, IsNotInUse, HasNoCall};
 ghost use Rattle.workers.specs.Seats.{AreAllInOrder, AreEmpty};
@@ -10,6 +10,7 @@ use crate::book::Book;
 use crate::deeds::{Deed, Register};
 use crate::entry::Entry;
 use crate::handed::Handed;
+use crate::last::{KnownLast, Last};
 use crate::locked::{Creating, Locked};
 use crate::naming::Naming;
 use crate::operator::Operator;
@@ -18,7 +19,7 @@ use crate::shared::Shared;
 use arena::{SLOTS, SlotId};
 use notes::Notes;
 use persist::Change;
-use roll::{Roll, Token};
+use roll::{Agreement, Half, Roll, Token};
 use session::Session;
 use std::alloc::{AllocError, Global};
 use std::marker::Model;
@@ -33,22 +34,27 @@ pub struct Opened {
     keeper: Token<Entry>,
     deeds: Roll<Deed>,
     register: Register,
+    last: Agreement<Session>,
+    last_keeper: Half<Session>,
+    last_holder: Half<Session>,
 }
 
 impl Model for Opened {
-    ghost use Rattle.std.specs.Prelude.{[], None};
-    ghost use Rattle.roll.specs.Rule.{IsKeeper};
+    ghost use Rattle.std.specs.Prelude.{◌∷◌, [], None};
+    ghost use Rattle.roll.specs.Rule.{IsHolder, IsKeeper};
     ghost use Rattle.workers.specs.Opening.{IsNotInUse, Unnamed};
 
     ghost Value = { Unnamed };
 
     ghost view = { λ o. record {
-      roll = record { lists = o.roll; deeds = o.deeds; changes = None };
+      roll = record { lists = o.roll; deeds = o.deeds; changes = None; last = o.last };
       session = o.session;
     } };
 
     ghost invariant = { λ o. IsKeeper o.roll [] o.keeper × IsNotInUse o.session.broker
-        × IsKeeper o.deeds [] o.register.keeper };
+        × IsKeeper o.deeds [] o.register.keeper
+        × IsKeeper o.last ((o.session ∷ []) ∷ []) o.last_keeper
+        × IsHolder o.last 0 (o.session ∷ []) o.last_holder };
 }
 
 /// Why a session is not shared; it is handed back.
@@ -115,13 +121,24 @@ impl Opened {
                 session,
             });
         }
-        match (Roll::open(alloc), registered(alloc)) {
-            (Ok((roll, keeper)), Ok((deeds, register))) => Ok(Opened {
+        match (
+            Roll::open(alloc),
+            registered(alloc),
+            Agreement::open(alloc, &session),
+        ) {
+            (
+                Ok((roll, keeper)),
+                Ok((deeds, register)),
+                Ok((last, last_keeper, last_holder)),
+            ) => Ok(Opened {
                 session,
                 roll,
                 keeper,
                 deeds,
                 register,
+                last,
+                last_keeper,
+                last_holder,
             }),
             _ => Err(NotOpened {
                 refusal: Refusal::NoMemory,
@@ -161,23 +178,28 @@ impl Opened {
         ensures operator { IfOk result (λ r. r.2 ≡ []) }
         ensures errors { IfErr result (λ not. (not.refusal ≡ Refusal.NoMemory) × (not.session ≡ self.session)) }
     {
-        self.shared(alloc, None)
+        match self.shared(alloc, None) {
+            Ok((shared, seats, operator, _last)) => Ok((shared, seats, operator)),
+            Err(not) => Err(not),
+        }
     }
 
-    /// It, with this book.
+    /// It, with this book, and what who hands changes on knows.
     fn shared<J: Naming>(
         self,
         alloc: Global,
         book: Option<Book>,
-    ) -> Result<(Shared<J>, Vec<Seat<J>>, Operator<J>), NotOpened>
+    ) -> Result<(Shared<J>, Vec<Seat<J>>, Operator<J>, KnownLast<J>), NotOpened>
         requires lists { self.roll.lists ≡ J.roll.lists }
         requires deeds { self.roll.deeds ≡ J.roll.deeds }
+        requires last { self.roll.last ≡ J.roll.last }
         requires clients { self.session.broker.counts.clients ≡ J.clients }
         requires first { self.session ≡ J.first }
         requires book { IsBooked J.roll.changes J.first.broker.words.kept self.session.broker Creating.Nothing book }
         ensures order { IfOk result (λ r. AreAllInOrder (λ seat. seat.client) J.clients r.1.items) }
         ensures empty { IfOk result (λ r. AreEmpty (λ seat. seat.list.items) r.1.items) }
         ensures operator { IfOk result (λ r. r.2 ≡ []) }
+        ensures last { IfOk result (λ r. r.3 ≡ J.first) }
         ensures errors { IfErr result (λ not. (not.refusal ≡ Refusal.NoMemory) × (not.session ≡ self.session)) }
     {
         let Opened {
@@ -186,6 +208,9 @@ impl Opened {
             mut keeper,
             deeds,
             mut register,
+            last,
+            last_keeper,
+            last_holder,
         } = self;
         let clients = session.broker().clients();
         let mut seats = Vec::new(alloc);
@@ -201,13 +226,14 @@ impl Opened {
             seats.push_reserved(seat_of(Client(client as u8), list, token));
         }
         let operator = register.appoint(&deeds);
-        let locked = Mutex::new(Locked::new(session, keeper, register, book));
+        let last = Last::new(last, last_keeper);
+        let locked = Mutex::new(Locked::new(session, keeper, register, book, last));
         let shared = Shared {
             roll,
             deeds,
             locked,
         };
-        Ok((shared, seats, operator))
+        Ok((shared, seats, operator, KnownLast::new(last_holder)))
     }
 }
 
@@ -227,7 +253,12 @@ impl Model for Noting {
     ghost Value = { Unnamed };
 
     ghost view = { λ o. record {
-      roll = record { lists = o.opened.roll.lists; deeds = o.opened.roll.deeds; changes = Some o.changes };
+      roll = record {
+        lists = o.opened.roll.lists;
+        deeds = o.opened.roll.deeds;
+        changes = Some o.changes;
+        last = o.opened.roll.last;
+      };
       session = o.opened.session;
     } };
 
@@ -244,7 +275,7 @@ impl Noting {
         ensures order { IfOk result (λ r. AreAllInOrder (λ seat. seat.client) J.clients r.1.items) }
         ensures empty { IfOk result (λ r. AreEmpty (λ seat. seat.list.items) r.1.items) }
         ensures operator { IfOk result (λ r. r.2 ≡ []) }
-        ensures handed { IfOk result (λ r. r.3 ≡ []) }
+        ensures handed { IfOk result (λ r. r.3 ≡ record { changes = []; last = J.first }) }
         ensures errors { IfErr result (λ not. (not.refusal ≡ Refusal.NoMemory) × (not.session ≡ self.session)) }
     {
         let Noting {
@@ -252,14 +283,16 @@ impl Noting {
             changes,
             mut keeper,
         } = self;
-        let handed = Handed::new(changes.enroll(&mut keeper, &Vec::new(alloc)));
+        let token = changes.enroll(&mut keeper, &Vec::new(alloc));
         let book = Book {
             roll: changes,
             keeper,
             notes: Notes::new(alloc),
         };
         match opened.shared(alloc, Some(book)) {
-            Ok((shared, seats, operator)) => Ok((shared, seats, operator, handed)),
+            Ok((shared, seats, operator, last)) => {
+                Ok((shared, seats, operator, Handed::new(token, last)))
+            }
             Err(not) => Err(not),
         }
     }

@@ -35,28 +35,17 @@ use Rattle.stepper.specs.declared.resume.After.TheVariants.{Done, More}
 use Rattle.workers.specs.Recovered.{IsRecoveryRefusal}
 use Rattle.workers.specs.Following.{AreFollowed, Guarded, IsFollowed, IsGuardedWell, beginnings}
 use Rattle.workers.specs.Lists.{AreNamed, events_at}
+use Rattle.workers.specs.Moments.{GoesOnLater}
 use Rattle.workers.specs.declared.entry.Entry.{Entry}
 use Rattle.workers.specs.declared.locked.Creating.{Creating}
 use Rattle.workers.specs.declared.locked.Creating.TheVariants.{Interrupted, Nothing, UnderWay}
 use Rattle.workers.specs.Seats.{AreEmpty}
 use Rattle.workers.proofs.brokers.Comings.{through_further}
+use Rattle.workers.proofs.guard.Laters.{later_further, later_itself, session_further}
 use Rattle.workers.proofs.guard.Acts.{IsCarriedFor}
 use Rattle.workers.proofs.histories.Rows.{followed_empty, row_changed, rows_carried, set_here}
 use Rattle.workers.proofs.lists.Names.{named_on}
 use Rattle.workers.proofs.guard.Unstopped.{unstopped}
-
--- what was settled once stays so over two acts
-pub session_further : (old now new : Sessioned) → SessionGoesOn old now → SessionGoesOn now new → SessionGoesOn old new
-session_further old now new one other = record {
-  clients = λ slot client is. other.clients slot client (one.clients slot client is);
-  answers = λ slot client number reply is settled.
-      other.answers slot client number reply (one.clients slot client is)
-      (one.answers slot client number reply is settled);
-}
-
--- and over none
-pub session_stays : (s : Sessioned) → SessionGoesOn s s
-session_stays s = record { clients = λ slot client is. is; answers = λ slot client number reply is settled. settled }
 
 -- what an act says that is no rotation: what was settled stays so, and the queues and their histories go on
 pub record IsOn (old new : Sessioned) : Type 0 where
@@ -83,6 +72,23 @@ with_deeds all first g deeds kept same well came = record {
   goes_on = well.goes_on;
   came = well.came;
   done = subst (λ (rows : List (List Deed)). CameBy first.broker rows g.session.broker) (sym same) came;
+  later = well.later;
+}
+
+-- where the session that was handed on last is this very one
+pub with_last : (all : ℕ) (first : Sessioned) (g : Guarded) (last : Sessioned) → last ≡ g.session
+    → IsGuardedWell all first g → IsGuardedWell all first (record g { last = last })
+with_last all first g last same well = record {
+  beginning = well.beginning;
+  clients = well.clients;
+  followed = well.followed;
+  named = well.named;
+  promises = well.promises;
+  creation = well.creation;
+  goes_on = well.goes_on;
+  came = well.came;
+  done = well.done;
+  later = subst (λ (s : Sessioned). GoesOnLater s g.session) (sym same) (later_itself g.session);
 }
 
 -- a crash comes to the operator's row
@@ -103,6 +109,7 @@ module _ (all : ℕ) (first : Sessioned) (old : Guarded) (well : IsGuardedWell a
         deeds = deeds;
         creating = creating;
         rotated = old.rotated;
+        last = old.last;
       })
   guarded_by new deeds creating carried keeps on known done = record {
     beginning = well.beginning;
@@ -116,6 +123,7 @@ module _ (all : ℕ) (first : Sessioned) (old : Guarded) (well : IsGuardedWell a
     goes_on = session_further first old.session new well.goes_on on.numbers;
     came = through_further first.broker old.rotated old.session.broker new.broker well.came on.queues;
     done = done;
+    later = later_further old.last old.session new well.later on.numbers on.queues;
   }
 
   -- no crash came
@@ -127,6 +135,7 @@ module _ (all : ℕ) (first : Sessioned) (old : Guarded) (well : IsGuardedWell a
         deeds = old.deeds;
         creating = creating;
         rotated = old.rotated;
+        last = old.last;
       })
   guarded_still new creating carried keeps on known =
       guarded_by new old.deeds creating carried keeps on known
@@ -142,6 +151,7 @@ module _ (all : ℕ) (first : Sessioned) (old : Guarded) (well : IsGuardedWell a
         deeds = slice_set old.deeds 0 (stops ++ Crash ∷ []);
         creating = creating;
         rotated = old.rotated;
+        last = old.last;
       })
   guarded_stopped new creating stops at carried keeps on known stopped =
       guarded_by new (slice_set old.deeds 0 (stops ++ Crash ∷ [])) creating carried keeps on known
@@ -159,6 +169,7 @@ module _ (all : ℕ) (first : Sessioned) (old : Guarded) (well : IsGuardedWell a
         deeds = old.deeds;
         creating = old.creating;
         rotated = old.rotated;
+        last = old.last;
       })
   guarded_of new t row begun carried its named keeps on known = record {
     beginning = well.beginning;
@@ -180,6 +191,7 @@ module _ (all : ℕ) (first : Sessioned) (old : Guarded) (well : IsGuardedWell a
     came = through_further first.broker old.rotated old.session.broker new.broker well.came on.queues;
     done = act well.done on.queues
         (unstopped (record { 0 = suc t }) old.session new (carried (suc t) (λ same. absurd (omega (arith, same)))));
+    later = later_further old.last old.session new well.later on.numbers on.queues;
   }
 
 -- rows that have no calls yet, since histories of these lengths

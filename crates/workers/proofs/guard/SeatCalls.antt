@@ -55,6 +55,7 @@ module _ (all : ℕ) (first : Sessioned) (old : Guarded) (well : IsGuardedWell a
     deeds = old.deeds;
     creating = old.creating;
     rotated = old.rotated;
+    last = old.last;
   }
 
   pub guarded_unbegun : (number : ℕ) (call : Call) (refusal : Refusal) (answer : Result (Option Reply) Refusal)
@@ -122,6 +123,7 @@ module _ (all : ℕ) (first : Sessioned) (old : Guarded) (well : IsGuardedWell a
     deeds = old.deeds;
     creating = old.creating;
     rotated = old.rotated;
+    last = old.last;
   }
 
   was_followed : IsFollowed since old.session client list

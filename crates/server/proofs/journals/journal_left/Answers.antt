@@ -1,4 +1,5 @@
 use Rattle.std.proofs.Common.{◌≡◌, rules}
+use Rattle.lasting.specs.Lasting.{EndsAtMomentOf}
 use Rattle.server.proofs.Lefts.{left_after}
 use Rattle.server.proofs.journals.journal_left.Goals as goal
 
@@ -7,7 +8,8 @@ returns-in-Ok-to_image g c =
     let closed = c.close-session.ensures in
     let image = c.in-Ok-to_image.ensures in
     let words : c.close-session.result.1.words ≡ c.close-session.result.0.broker.words.kept = search rules in
+    let ends : EndsAtMomentOf g.J.Naming.first c.close-session.result.0 c.close-session.result.1 = search rules in
     let kept : c.close-session.result.1.kept ≡ c.close-session.result.1.size = search rules in
     left_after _ _ g.J.Naming.first c.close-session.result.0 c.broker.result.now c.in-Ok-to_image.image.items c.close-session.result.1
     c.broker.ensures.broker closed.lists closed.goes_on closed.promises image.image image.read image.boots words kept
-    closed.moments
+    ends

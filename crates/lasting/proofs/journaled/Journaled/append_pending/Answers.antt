@@ -4,6 +4,11 @@ use Rattle.lasting.proofs.journaled.Journaled.append_pending.Goals as goal
 
 pub invariant_of-self-2 : goal.invariant_of-self-2
 invariant_of-self-2 g c =
-    let old : Kept = record { handed = c.self.inside.handed; pending = c.self.inside.pending.items; journal = c.self.inside.journal } in
+    let old : Kept = record {
+      handed = c.self.inside.handed.changes;
+      last = c.self.inside.handed.last;
+      pending = c.self.inside.pending.items;
+      journal = c.self.inside.journal;
+    } in
     kept_appended g.J.Naming.first old c.append.new.self c.clear.new.self.items c.deref.result.now c.self.invariant
     c.clear.ensures.items c.deref.ensures.value c.in_ok-append.ensures.journal c.in_ok-append.ensures.words

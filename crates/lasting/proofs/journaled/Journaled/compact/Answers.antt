@@ -4,5 +4,10 @@ use Rattle.lasting.proofs.journaled.Journaled.compact.Goals as goal
 
 pub invariant_of-self : goal.invariant_of-self
 invariant_of-self g c =
-    let old : Kept = record { handed = c.self.inside.handed; pending = c.self.inside.pending.items; journal = c.self.inside.journal } in
+    let old : Kept = record {
+      handed = c.self.inside.handed.changes;
+      last = c.self.inside.handed.last;
+      pending = c.self.inside.pending.items;
+      journal = c.self.inside.journal;
+    } in
     kept_compacted g.J.Naming.first old c.args.key.now c.in_ok-compacted.compacted c.self.invariant c.in_ok-compacted.ensures.journal

@@ -9,7 +9,9 @@ use Rattle.session.specs.Keeping.{SessionGoesOn}
 use Rattle.workers.specs.Following.{IsBeginning, beginnings}
 use Rattle.workers.specs.Lists.{events_at}
 use Rattle.workers.proofs.brokers.Comings.{through_itself}
-use Rattle.workers.proofs.guard.Guarded.{named_begun, rows_begun, session_stays}
+use Rattle.workers.proofs.guard.Guarded.{named_begun, rows_begun}
+use Rattle.workers.proofs.guard.Laters.{later_itself, session_stays}
+use Rattle.workers.specs.Moments.{GoesOnLater}
 use Rattle.workers.proofs.locked.Locked.new.Goals as goal
 
 pub invariant_of-result : goal.invariant_of-result
@@ -29,6 +31,7 @@ invariant_of-result g c =
         done = subst (λ (rows : List (List Deed)). CameBy g.J.Naming.first.broker rows c.args.session.broker)
             (sym (ap (λ m. m.0.rows) r.register.1))
             (subst (λ (s : Sessioned). CameBy s.broker ([] ∷ []) c.args.session.broker) r.first nothing);
+        later = subst (λ (s : Sessioned). GoesOnLater s c.args.session) (r.first ∙ sym r.last) (later_itself c.args.session);
       },
       (r.register.0, r.register.1 ∙ sym (ap (λ m. (keeper m.0.rows, [])) r.register.1)),
       r.book,
