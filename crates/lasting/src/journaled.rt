@@ -1,10 +1,11 @@
 //! The journal of a shared session.
 
-ghost use Rattle.std.specs.Prelude.{◌≡◌, ◌⊎◌, [], false, IfErr, IfOk, OnErr, OnOk};
+ghost use Rattle.std.specs.Prelude.{◌≡◌, ◌⊎◌, [], false, length, true, IfErr, IfOk, OnErr, OnOk};
 ghost use Rattle.persist.specs.Noted.{applied};
 ghost use Rattle.lasting.specs.Lasting.{HasMoments, IsKept};
 ghost use Rattle.session.specs.Keeping.{SessionGoesOn};
 ghost use Rattle.session.specs.Promises.{KeepsNumbers};
+ghost use Rattle.workers.specs.Counts.{IsCountOf};
 ghost use Rattle.workers.specs.Moments.{IsMoment};
 ghost use Rattle.workers.specs.Seats.{AreAllInOrder, AreSeatsRecorded};
 
@@ -71,6 +72,29 @@ impl<J: Naming, F: Appender + Drop> Journaled<J, F> {
         ensures moments { HasMoments J.first self.now.journal }
     {
         &self.journal
+    }
+
+    /// How many changes were handed on, those that are pending among them.
+    pub fn count(&self) -> u64
+        ensures { IsCountOf result (length self.now.handed) }
+    {
+        self.handed.count()
+    }
+
+    /// Whether the journal has every change that was handed on.
+    pub fn has_all(&self) -> bool
+        ensures all { result ≡ true → self.now.pending ≡ [] }
+        ensures words { result ≡ true
+            → self.now.journal.words ≡ applied self.now.handed J.first.broker.words.kept }
+    {
+        self.pending.is_empty()
+    }
+
+    /// Whether it is known to keep all that was appended.
+    pub fn keeps_all(&self) -> bool
+        ensures { result ≡ true → self.now.journal.kept ≡ self.now.journal.size }
+    {
+        self.journal.kept() == self.journal.size()
     }
 
     /// Appends what is pending, if anything is. It is refused as [`Journal::append`] is, and then it stays pending.
@@ -169,7 +193,7 @@ impl<J: Naming, F: Appender + Drop> Journaled<J, F> {
         ensures kept { OnOk result (self.new.journal.kept ≡ self.new.journal.size) }
         ensures going { OnOk result (self.old.journal.failed ≡ false → self.new.journal.failed ≡ false) }
     {
-        if self.journal.kept() == self.journal.size() {
+        if self.keeps_all() {
             return Ok(());
         }
         self.keep()

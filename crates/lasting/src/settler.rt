@@ -1,6 +1,6 @@
 //! The journal of a shared session where its storage has it.
 
-ghost use Rattle.std.specs.Prelude.{◌≡◌, [], false, is_err, true, IfOk, OnErr, OnOk};
+ghost use Rattle.std.specs.Prelude.{◌≡◌, ◌<◌, ◌≤◌, [], false, is_err, length, true, IfOk, OnErr, OnOk};
 ghost use Rattle.persist.specs.Noted.{applied};
 ghost use Rattle.lasting.specs.Lasting.{HasMoments};
 ghost use Rattle.lasting.specs.Settling.{HasSettled, IsKeptBy};
@@ -102,6 +102,40 @@ impl<J: Naming, F: Appender + Drop> Settler<J, F> {
         ensures { result ≡ self.now.failed }
     {
         self.failed
+    }
+
+    /// Whether what the policy is to have kept is kept.
+    fn is_kept_by_policy(&self) -> bool
+        ensures { result ≡ true → IsKeptBy self.now.policy self.now }
+    {
+        match self.policy {
+            Policy::Always => self.journaled.keeps_all(),
+            Policy::EachSecond | Policy::Never => true,
+        }
+    }
+
+    /// Whether every change that was handed on is settled, as after a settle that was answered Ok.
+    fn has_settled(&self) -> bool
+        ensures settled { result ≡ true → HasSettled J.first self.now }
+        ensures going { result ≡ true → self.now.failed ≡ false }
+    {
+        !self.failed
+            && self.journaled.has_all()
+            && !self.journaled.journal().has_failed()
+            && self.is_kept_by_policy()
+    }
+
+    /// How many changes are settled, where every one is that was handed on; else 0.
+    pub fn settled(&self) -> u64
+        ensures part { result ≤ length self.now.kept.handed }
+        ensures settled { 0 < result → HasSettled J.first self.now }
+        ensures going { 0 < result → self.now.failed ≡ false }
+    {
+        if self.has_settled() {
+            self.journaled.count()
+        } else {
+            0
+        }
     }
 
     /// The journal goes on as its present words on a fresh device, which takes the place of the one in use. Where it

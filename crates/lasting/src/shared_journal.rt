@@ -1,6 +1,7 @@
 //! The journal of a shared session, for the threads that share it.
 
-ghost use Rattle.std.specs.Prelude.{IsSome};
+ghost use Rattle.std.specs.Prelude.{◌≡◌, ◌≤◌, ℕ, true, IsSome};
+ghost use Rattle.workers.specs.Counts.{IsCountOf};
 
 use crate::policy::Policy;
 use crate::settler::Settler;
@@ -8,7 +9,7 @@ use devices::Failed;
 use journal_file::{Appender, Storage};
 use settling::Settles;
 use std::alloc::Global;
-use std::sync::atomic::{AtomicBool, Ordering};
+use std::sync::atomic::{AtomicBool, AtomicU64, Ordering};
 use std::sync::{Mutex, Wait};
 use std::thread::sleep;
 use std::time::{Clock, Duration};
@@ -37,33 +38,54 @@ impl<J: Naming, F: Appender + Drop> Place<J, F> {
         }
     }
 
-    /// It settles, and answers also whether it has failed for good.
+    /// Whether whoever is there has failed for good.
+    fn has_failed(&self) -> bool {
+        match &self.settler {
+            Some(settler) => settler.has_failed(),
+            None => unreachable!(),
+        }
+    }
+
+    /// How many changes are settled, as [`Settler::settled`] says.
+    fn settled(&self) -> u64 {
+        match &self.settler {
+            Some(settler) => settler.settled(),
+            None => unreachable!(),
+        }
+    }
+
+    /// It settles.
     fn settle<R: Wait, S: Storage<F>>(
         &mut self,
         rt: &R,
         alloc: Global,
         shared: &Shared<J>,
         storage: &S,
-    ) -> (Result<(), Failed>, bool) {
+    ) -> Result<(), Failed> {
         let Some(settler) = self.settler.take() else {
             unreachable!()
         };
         let (settler, settled) = settler.settle(rt, alloc, shared, storage);
-        let failed = settler.has_failed();
         self.settler = Some(settler);
-        (settled, failed)
+        settled
     }
 
-    /// It keeps all that was appended, and answers also whether it has failed for good.
-    fn keep_up<S: Storage<F>>(&mut self, alloc: Global, storage: &S) -> (Result<(), Failed>, bool) {
+    /// It keeps all that was appended.
+    fn keep_up<S: Storage<F>>(&mut self, alloc: Global, storage: &S) -> Result<(), Failed> {
         let Some(mut settler) = self.settler.take() else {
             unreachable!()
         };
         let kept = settler.keep_up(alloc, storage);
-        let failed = settler.has_failed();
         self.settler = Some(settler);
-        (kept, failed)
+        kept
     }
+}
+
+/// Whether all changes that were noted are among the first ones, so many of which are settled.
+fn is_among(noted: u64, settled: u64) -> bool
+    ensures { result ≡ true → ((all : ℕ) → IsCountOf noted all → all ≤ settled) }
+{
+    noted <= settled && noted < u64::MAX
 }
 
 /// The journal of a shared session, for the threads that share it. Who settles appends what all of them have noted: the
@@ -75,6 +97,8 @@ pub struct SharedJournal<'a, J: Naming, F: Appender + Drop, S: Storage<F>> {
     storage: &'a S,
     policy: Policy,
     failed: AtomicBool,
+    /// How many changes were settled when the lock of the place was held last.
+    settled: AtomicU64,
     /// This lock is taken before the session's. It is held while the device works, so that a thread sleeps for it.
     place: Mutex<Place<J, F>>,
 }
@@ -89,6 +113,7 @@ impl<'a, J: Naming, F: Appender + Drop, S: Storage<F>> SharedJournal<'a, J, F, S
     ) -> Self {
         let policy = settler.policy();
         let failed = AtomicBool::new(settler.has_failed());
+        let settled = AtomicU64::new(settler.settled());
         let place = Mutex::new(Place {
             settler: Some(settler),
         });
@@ -98,6 +123,7 @@ impl<'a, J: Naming, F: Appender + Drop, S: Storage<F>> SharedJournal<'a, J, F, S
             storage,
             policy,
             failed,
+            settled,
             place,
         }
     }
@@ -117,17 +143,19 @@ impl<'a, J: Naming, F: Appender + Drop, S: Storage<F>> SharedJournal<'a, J, F, S
         self.place.into_inner().into_settler()
     }
 
-    /// Says it where the journal has failed for good.
-    fn note(&self, failed: bool) {
-        if failed {
+    /// Says to those who do not have the lock what is settled, and whether the journal has failed for good.
+    fn note(&self, place: &Place<J, F>) {
+        self.settled.store(place.settled(), Ordering::SeqCst);
+        if place.has_failed() {
             self.failed.store(true, Ordering::SeqCst);
         }
     }
 
     /// Keeps all that was appended, as [`Settler::keep_up`] does.
     pub fn keep_up<R: Wait>(&self, rt: &R) -> Result<(), Failed> {
-        let (kept, failed) = self.place.lock(rt).keep_up(self.alloc, self.storage);
-        self.note(failed);
+        let mut place = self.place.lock(rt);
+        let kept = place.keep_up(self.alloc, self.storage);
+        self.note(&place);
         kept
     }
 
@@ -163,16 +191,23 @@ fn rests_a_second<R: Clock>(rt: &R, ended: &AtomicBool) -> bool {
 }
 
 impl<J: Naming, F: Appender + Drop, S: Storage<F>> Settles for SharedJournal<'_, J, F, S> {
-    /// Settles as [`Settler::settle`] does. Where others have settled all, it finds nothing to append and nothing to keep.
+    /// Settles as [`Settler::settle`] does. What was noted before is counted first: where others have settled so many, as
+    /// they do while it waits for the lock, it neither appends nor keeps anything. Where that is known before, it takes
+    /// no lock but the session's.
     fn settle<R: Wait>(&self, rt: &R) -> Result<(), Failed> {
         if self.has_failed() {
             return Err(Failed);
         }
-        let (settled, failed) = self
-            .place
-            .lock(rt)
-            .settle(rt, self.alloc, self.shared, self.storage);
-        self.note(failed);
+        let noted = self.shared.noted(rt);
+        if is_among(noted, self.settled.load(Ordering::SeqCst)) {
+            return Ok(());
+        }
+        let mut place = self.place.lock(rt);
+        if is_among(noted, place.settled()) {
+            return Ok(());
+        }
+        let settled = place.settle(rt, self.alloc, self.shared, self.storage);
+        self.note(&place);
         settled
     }
 

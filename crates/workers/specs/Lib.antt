@@ -1,6 +1,7 @@
 pub mod Lists
 pub mod Accounts
 pub mod Coming
+pub mod Counts
 pub mod Noting
 pub mod Moments
 pub mod Following

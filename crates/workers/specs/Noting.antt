@@ -1,5 +1,5 @@
 -- The changes of kept words that are noted under the lock, and handed on.
-use Rattle.std.specs.Prelude.{◌≡◌, ◌≤◌, ◌+◌, ◌++◌, ◌∷◌, [], ℕ, List, Option, Some, None}
+use Rattle.std.specs.Prelude.{◌≡◌, ◌≤◌, ◌+◌, ◌++◌, ◌∷◌, [], ℕ, List, Option, Some, None, length}
 use Rattle.persist.specs.declared.access.Change.{Change}
 use Rattle.notes.specs.Noting.{HasNoted, IsMadeBy}
 use Rattle.roll.specs.Rule.{IsKeeper}
@@ -7,6 +7,7 @@ use Rattle.roll.specs.Seated.{TableId}
 use Rattle.directory.specs.Creation.{left_at}
 use Rattle.directory.specs.declared.creation.Creation.{Creation}
 use Rattle.named.specs.Brokers.{Brokered}
+use Rattle.workers.specs.Counts.{IsCountOf}
 use Rattle.workers.specs.declared.book.Book.{Book}
 use Rattle.workers.specs.declared.locked.Creating.{Creating}
 use Rattle.workers.specs.declared.locked.Creating.TheVariants.{Nothing, UnderWay, Interrupted}
@@ -19,7 +20,8 @@ to_create UnderWay None = 0
 to_create UnderWay (Some creation) = left_at creation.at
 
 -- The changes that were handed on, as the keeper of their row knows them, and those that were noted since make the kept
--- words of those that there were when the seats were given. There is room for those of the creation
+-- words of those that there were when the seats were given. There is room for those of the creation. Those
+-- that were handed on are counted
 pub record IsBookRight (roll : TableId) (first : List ℕ) (now : Brokered) (creating : Creating) (book : Book)
     : Type 0 where
   pub same : book.roll ≡ roll
@@ -27,6 +29,7 @@ pub record IsBookRight (roll : TableId) (first : List ℕ) (now : Brokered) (cre
   pub keeper : IsKeeper roll (handed ∷ []) book.keeper
   pub made : IsMadeBy (handed ++ book.notes.changes) first now.words.kept
   pub promised : to_create creating now.creation ≤ book.notes.promised
+  pub counted : IsCountOf book.count (length handed)
 
 -- there is a book exactly where the name says that changes are noted, and it is right
 abbrev pub IsBooked : Option TableId → List ℕ → Brokered → Creating → Option Book → Type 0

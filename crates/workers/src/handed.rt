@@ -4,9 +4,11 @@ ghost use Rattle.std.specs.Prelude.{◌≡◌, ◌<◌, ◌++◌, [], length, Al
 ghost use Rattle.persist.specs.Noted.{applied};
 ghost use Rattle.notes.specs.Noting.{IsMadeBy};
 ghost use Rattle.roll.specs.Rule.{IsHolder, row_of};
+ghost use Rattle.workers.specs.Counts.{IsCountOf};
 ghost use Rattle.workers.specs.Moments.{IsMoment};
 ghost use Rattle.workers.specs.Noting.{OfRoll};
 
+use crate::book::{counted, noted_so_far};
 use crate::locked::Locked;
 use crate::naming::Naming;
 use crate::shared::Shared;
@@ -24,33 +26,46 @@ use words::Refusal;
 #[derive(Drop)]
 pub struct Handed<J: Naming> {
     token: Token<Change>,
+    /// How many they are.
+    count: u64,
     of: PhantomData<J>,
 }
 
 /// A contract sees the changes that were handed on, the first one first.
 impl<J: Naming> Model for Handed<J> {
-    ghost use Rattle.std.specs.Prelude.{List};
+    ghost use Rattle.std.specs.Prelude.{List, length};
     ghost use Rattle.persist.specs.declared.access.Change.{Change};
     ghost use Rattle.roll.specs.Rule.{IsHolder, row_of};
+    ghost use Rattle.workers.specs.Counts.{IsCountOf};
     ghost use Rattle.workers.specs.Noting.{OfRoll};
 
     ghost Value = { List Change };
 
     ghost view = { λ h. row_of h.token };
 
-    ghost invariant = { λ h. OfRoll J.roll.changes (λ roll. IsHolder roll 0 (row_of h.token) h.token) };
+    ghost invariant = { λ h. OfRoll J.roll.changes (λ roll. IsHolder roll 0 (row_of h.token) h.token)
+        × IsCountOf h.count (length (row_of h.token)) };
 }
 
 impl<J: Naming> Handed<J> {
-    /// The one of this token.
-    pub(crate) fn new(token: Token<Change>) -> Self
-        requires { OfRoll J.roll.changes (λ roll. IsHolder roll 0 (row_of token) token) }
+    /// The one of this token, whose row has so many changes.
+    pub(crate) fn new(token: Token<Change>, count: u64) -> Self
+        requires holder { OfRoll J.roll.changes (λ roll. IsHolder roll 0 (row_of token) token) }
+        requires count { IsCountOf count (length (row_of token)) }
         ensures { result ≡ row_of token }
     {
         Handed {
             token,
+            count,
             of: PhantomData,
         }
+    }
+
+    /// How many changes were handed on.
+    pub fn count(&self) -> u64
+        ensures { IsCountOf result (length self.now) }
+    {
+        self.count
     }
 
     /// His token.
@@ -80,16 +95,24 @@ impl<J: Naming> Locked<J> {
         ensures errors { IfErr result.1 (λ e. e ≡ Refusal.NoMemory) }
     {
         self.session.tells_settled();
+        let so_far = handed.count();
         let token = handed.into_token();
         let Some(book) = &mut self.book else {
             // Who has changes to hand on is of a session whose changes are noted.
             unreachable!();
         };
         let Ok(batch) = book.notes.hand_out(fresh) else {
-            return (Handed::new(token), Err(Refusal::NoMemory));
+            return (Handed::new(token, so_far), Err(Refusal::NoMemory));
         };
         let token = book.roll.extend(&mut book.keeper, token, &batch);
-        (Handed::new(token), Ok(batch))
+        let count = counted(so_far, batch.len());
+        book.count = count;
+        (Handed::new(token, count), Ok(batch))
+    }
+
+    /// How many changes were handed on and noted since.
+    fn noted(&self) -> u64 {
+        noted_so_far(&self.book)
     }
 }
 
@@ -116,5 +139,11 @@ impl<J: Naming> Shared<J> {
             return (handed, Err(Refusal::NoMemory));
         }
         lock(rt, &self.locked).hand_on(handed, fresh)
+    }
+
+    /// How many changes of kept words were noted so far; none where they are not noted. Every act that has ended before
+    /// is among them.
+    pub fn noted<R: Wait>(&self, rt: &R) -> u64 {
+        lock(rt, &self.locked).noted()
     }
 }

@@ -252,11 +252,12 @@ impl Noting {
             changes,
             mut keeper,
         } = self;
-        let handed = Handed::new(changes.enroll(&mut keeper, &Vec::new(alloc)));
+        let handed = Handed::new(changes.enroll(&mut keeper, &Vec::new(alloc)), 0);
         let book = Book {
             roll: changes,
             keeper,
             notes: Notes::new(alloc),
+            count: 0,
         };
         match opened.shared(alloc, Some(book)) {
             Ok((shared, seats, operator)) => Ok((shared, seats, operator, handed)),

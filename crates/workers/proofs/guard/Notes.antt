@@ -1,5 +1,5 @@
 -- What is noted of kept words stays right over each act.
-use Rattle.std.proofs.Common.{◌≡◌, ◌<◌, ◌≤◌, ◌+◌, ◌++◌, ◌∷◌, [], ℕ, List, Option, Some, None, Result, Ok, Bool, refl, sym, ap, ◌∙◌, append-nil, subst, arith}
+use Rattle.std.proofs.Common.{◌≡◌, ◌<◌, ◌≤◌, ◌+◌, ◌++◌, ◌∷◌, [], ℕ, List, Option, Some, None, Result, Ok, Bool, length, refl, sym, ap, ◌∙◌, append-nil, subst, arith}
 use Rattle.std.specs.Prelude.{IfSome, IsSome, slice_get, slice_set}
 use Rattle.std.proofs.lemmas.Option.{same_Some}
 use Rattle.words.specs.declared.refusal.Refusal.{Refusal}
@@ -21,6 +21,7 @@ use Rattle.named.specs.Brokers.{Brokered, IsBegun, IsStepCreated}
 use Rattle.named.specs.Stopping.{IsRecoveryStep}
 use Rattle.named.specs.declared.recovery.BrokerRecovery.{BrokerRecovery}
 use Rattle.workers.specs.Creating.{IsCreationKnown, creating_after_crash}
+use Rattle.workers.specs.Counts.{IsCountOf}
 use Rattle.workers.specs.Noting.{HasPromised, IsBooked, IsBookOn, IsBookRight, OfRoll, promised_in, to_create}
 use Rattle.workers.specs.Noting.{with_promised}
 use Rattle.workers.specs.declared.book.Book.{Book}
@@ -100,6 +101,7 @@ module _ (roll : Option TableId) (first : List ℕ) where
         keeper = subst (λ (x : Book). IsKeeper r (is.handed ∷ []) x.keeper) (sym on.0) is.keeper;
         made = made_by_notes is.handed a.notes.changes b.notes.changes first old.words.kept new.words.kept is.made on.1;
         promised = has;
+        counted = subst (λ (x : Book). IsCountOf x.count (length is.handed)) (sym on.0) is.counted;
       }
 
   -- one that uses room up
@@ -278,15 +280,16 @@ of_roll (Some roll) P is = (roll, refl, is)
 
 -- a book at first
 pub booked_first : (roll : TableId) (now : Brokered) (first : List ℕ) (book : Book) → book.roll ≡ roll
-    → IsKeeper roll ([] ∷ []) book.keeper → book.notes.changes ≡ [] → now.words.kept ≡ first
+    → IsKeeper roll ([] ∷ []) book.keeper → book.notes.changes ≡ [] → book.count ≡ 0 → now.words.kept ≡ first
     → IsBookRight roll first now Nothing book
-booked_first roll now first book same keeper none words = record {
+booked_first roll now first book same keeper none count words = record {
   same = same;
   handed = [];
   keeper = keeper;
   made = subst (λ (cs : List Change). IsMadeBy cs first now.words.kept) (sym none)
       (subst (λ (ws : List ℕ). IsMadeBy [] ws now.words.kept) words (made_by_none now.words.kept));
   promised = omega arith;
+  counted = subst (λ (n : ℕ). IsCountOf n 0) (sym count) (record { part = omega arith; whole = λ less. omega arith });
 }
 
 -- who hands on what is noted in a book is of its roll
@@ -305,9 +308,9 @@ no_book (Some roll) first now creating P is of = absurd is
 pub booked_handed : (roll : TableId) (first : List ℕ) (now : Brokered) (creating : Creating) (was book : Book) (row batch : List Change)
     → (right : IsBookRight roll first now creating was) → right.handed ≡ row
     → batch ≡ was.notes.changes → book.roll ≡ was.roll → IsKeeper roll ((row ++ batch) ∷ []) book.keeper
-    → book.notes ≡ record was.notes { changes = [] }
+    → book.notes ≡ record was.notes { changes = [] } → IsCountOf book.count (length (row ++ batch))
     → IsBookRight roll first now creating book × IsMadeBy (row ++ batch) first now.words.kept
-booked_handed roll first now creating was book row batch right same all roll_is keeper emptied =
+booked_handed roll first now creating was book row batch right same all roll_is keeper emptied counted =
     let made : IsMadeBy (row ++ batch) first now.words.kept =
     subst (λ (cs : List Change). IsMadeBy (row ++ cs) first now.words.kept) (sym all)
     (subst (λ (cs : List Change). IsMadeBy (cs ++ was.notes.changes) first now.words.kept) same right.made) in (
@@ -318,6 +321,7 @@ booked_handed roll first now creating was book row batch right same all roll_is 
         made = subst (λ (n : Noting). IsMadeBy ((row ++ batch) ++ n.changes) first now.words.kept) (sym emptied)
             (subst (λ (cs : List Change). IsMadeBy cs first now.words.kept) (sym (append-nil (row ++ batch))) made);
         promised = subst (λ (n : Noting). to_create creating now.creation ≤ n.promised) (sym emptied) right.promised;
+        counted = counted;
       },
       made,
     )

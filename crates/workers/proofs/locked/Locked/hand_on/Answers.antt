@@ -54,7 +54,7 @@ invariant_of-self g c = (
   c.self.invariant.1,
   c.self.invariant.2,
   subst (λ (n : Noting). IsBooked g.J.Naming.roll.changes g.J.Naming.first.broker.words.kept c.self.inside.session.broker c.self.inside.creating
-      (let o : Option Book = Some (record { roll = c.in-Some.book.roll; keeper = c.in-Some.book.keeper; notes = n }) in o))
+      (let o : Option Book = Some (record { roll = c.in-Some.book.roll; keeper = c.in-Some.book.keeper; notes = n; count = c.in-Some.book.count }) in o))
       (sym c.in_default-hand_out.ensures.same)
       (subst (λ (o : Option Book). IsBooked g.J.Naming.roll.changes g.J.Naming.first.broker.words.kept c.self.inside.session.broker c.self.inside.creating o) c.in-Some.is c.self.invariant.3),
 )
@@ -71,9 +71,10 @@ invariant_of-self-2 g c =
     c.extend-token.new.keeper c.into_token-token.result c.extend-token.result of.2.keeper of.3 e.before in
     let longer = keeps_longer of.0 c.in-Some.book.roll of.2.same row c.args.handed c.in-Ok.batch.items c.in-Some.book.keeper
     c.extend-token.new.keeper c.into_token-token.result c.extend-token.result of.2.keeper of.3 e.keeper in
-    let now : Book = record { roll = c.in-Some.book.roll; keeper = c.extend-token.new.keeper; notes = c.hand_out.new.self } in
+    let now : Book = record { roll = c.in-Some.book.roll; keeper = c.extend-token.new.keeper; notes = c.hand_out.new.self; count = c.counted-count.result } in
     let done = booked_handed of.0 g.J.Naming.first.broker.words.kept c.self.inside.session.broker c.self.inside.creating
-    c.in-Some.book now c.args.handed c.in-Ok.batch.items of.2 same c.in-Ok.ensures.changes refl longer c.in-Ok.ensures.emptied in (
+    c.in-Some.book now c.args.handed c.in-Ok.batch.items of.2 same c.in-Ok.ensures.changes refl longer c.in-Ok.ensures.emptied
+    (counted_more g c) in (
       c.self.invariant.0,
       c.self.invariant.1,
       c.self.invariant.2,
@@ -103,9 +104,10 @@ returns-clause-made g c =
     c.extend-token.new.keeper c.into_token-token.result c.extend-token.result of.2.keeper of.3 e.before in
     let longer = keeps_longer of.0 c.in-Some.book.roll of.2.same row c.args.handed c.in-Ok.batch.items c.in-Some.book.keeper
     c.extend-token.new.keeper c.into_token-token.result c.extend-token.result of.2.keeper of.3 e.keeper in
-    let now : Book = record { roll = c.in-Some.book.roll; keeper = c.extend-token.new.keeper; notes = c.hand_out.new.self } in
+    let now : Book = record { roll = c.in-Some.book.roll; keeper = c.extend-token.new.keeper; notes = c.hand_out.new.self; count = c.counted-count.result } in
     let done = booked_handed of.0 g.J.Naming.first.broker.words.kept c.self.inside.session.broker c.self.inside.creating
-    c.in-Some.book now c.args.handed c.in-Ok.batch.items of.2 same c.in-Ok.ensures.changes refl longer c.in-Ok.ensures.emptied in
+    c.in-Some.book now c.args.handed c.in-Ok.batch.items of.2 same c.in-Ok.ensures.changes refl longer c.in-Ok.ensures.emptied
+    (counted_more g c) in
     subst (λ (cs : List Change). IsMadeBy cs g.J.Naming.first.broker.words.kept c.self.inside.session.broker.words.kept)
     (sym (returns-clause-row g c)) done.1
 
