@@ -5,7 +5,8 @@ ghost use Rattle.persist.specs.Noted.{applied};
 ghost use Rattle.lasting.specs.Lasting.{HasMoments, IsKept};
 ghost use Rattle.session.specs.Keeping.{SessionGoesOn};
 ghost use Rattle.session.specs.Promises.{KeepsNumbers};
-ghost use Rattle.workers.specs.Counts.{IsCountOf};
+ghost use Rattle.witness.specs.Counts.{IsCountOf};
+ghost use Rattle.witness.specs.Rule.{Begins};
 ghost use Rattle.workers.specs.Moments.{IsMoment};
 ghost use Rattle.workers.specs.Seats.{AreAllInOrder, AreSeatsRecorded};
 
@@ -17,7 +18,7 @@ use std::alloc::Global;
 use std::marker::Model;
 use std::sync::Wait;
 use words::Refusal;
-use workers::{Handed, Naming, Seat, Shared};
+use workers::{Handed, Marked, Naming, Seat, Shared};
 
 /// The journal of a shared session, with the one who hands its changes on. Changes that were handed on and could not be
 /// appended are pending, and appended first the next time.
@@ -79,6 +80,31 @@ impl<J: Naming, F: Appender + Drop> Journaled<J, F> {
         ensures { IsCountOf result (length self.now.handed) }
     {
         self.handed.count()
+    }
+
+    /// Whether all changes that were marked were handed on. All comes back as it was.
+    pub fn has_handed<R: Wait>(
+        self,
+        rt: &R,
+        shared: &Shared<J>,
+        marked: Marked<J>,
+    ) -> (Self, Marked<J>, bool)
+        ensures handed { result.2 ≡ true → Begins marked self.handed }
+        ensures same { result.0 ≡ self }
+        ensures mark { result.1 ≡ marked }
+    {
+        let Journaled {
+            handed,
+            pending,
+            journal,
+        } = self;
+        let (handed, marked, has) = shared.has_handed(rt, handed, marked);
+        let journaled = Journaled {
+            handed,
+            pending,
+            journal,
+        };
+        (journaled, marked, has)
     }
 
     /// Whether the journal has every change that was handed on.

@@ -6,6 +6,7 @@ ghost use Rattle.lasting.specs.Lasting.{HasMoments};
 ghost use Rattle.lasting.specs.Settling.{HasSettled, IsKeptBy};
 ghost use Rattle.session.specs.Keeping.{SessionGoesOn};
 ghost use Rattle.session.specs.Promises.{KeepsNumbers};
+ghost use Rattle.witness.specs.Rule.{Begins};
 ghost use Rattle.workers.specs.Moments.{IsMoment};
 ghost use Rattle.workers.specs.Seats.{AreAllInOrder, AreSeatsRecorded};
 
@@ -18,7 +19,7 @@ use std::alloc::Global;
 use std::marker::Model;
 use std::sync::Wait;
 use words::Refusal;
-use workers::{Handed, Naming, Seat, Shared};
+use workers::{Handed, Marked, Naming, Seat, Shared};
 
 /// How many bytes of frames a journal has at least when it is compacted.
 pub const LEAST_FRAMES: u64 = 0x100_0000;
@@ -305,6 +306,83 @@ impl<J: Naming, F: Appender + Drop> Settler<J, F> {
         }
         let settled = settler.compact_if_long(alloc, storage);
         (settler, settled)
+    }
+
+    /// Whether all changes that were marked were handed on. All comes back as it was.
+    fn has_handed<R: Wait>(
+        self,
+        rt: &R,
+        shared: &Shared<J>,
+        marked: Marked<J>,
+    ) -> (Self, Marked<J>, bool)
+        ensures handed { result.2 ≡ true → Begins marked self.kept.handed }
+        ensures same { result.0 ≡ self }
+        ensures mark { result.1 ≡ marked }
+    {
+        let Settler {
+            journaled,
+            policy,
+            enough,
+            failed,
+        } = self;
+        let (journaled, marked, has) = journaled.has_handed(rt, shared, marked);
+        let settler = Settler {
+            journaled,
+            policy,
+            enough,
+            failed,
+        };
+        (settler, marked, has)
+    }
+
+    /// Settles, and then says whether all was handed on that was marked, as it was where it had been noted before.
+    fn settle_marked<R: Wait, S: Storage<F>>(
+        self,
+        rt: &R,
+        alloc: Global,
+        shared: &Shared<J>,
+        storage: &S,
+        marked: Marked<J>,
+    ) -> (Self, Marked<J>, Result<(), Failed>)
+        ensures settled { OnOk result.2 (HasSettled J.first result.0) }
+        ensures marked { OnOk result.2 (Begins marked result.0.kept.handed) }
+        ensures policy { result.0.policy ≡ self.policy }
+        ensures mark { result.1 ≡ marked }
+        ensures over { self.failed ≡ true → (result.0 ≡ self) × (is_err result.2 ≡ true) }
+    {
+        let (settler, settled) = self.settle(rt, alloc, shared, storage);
+        let (settler, marked, has) = settler.has_handed(rt, shared, marked);
+        if has {
+            (settler, marked, settled)
+        } else {
+            (settler, marked, Err(Failed))
+        }
+    }
+
+    /// Settles as [`Settler::settle`] does, where not all that was marked is settled. At Ok the journal has all changes
+    /// that were marked: those that were handed on go on from them.
+    pub fn settle_up_to<R: Wait, S: Storage<F>>(
+        self,
+        rt: &R,
+        alloc: Global,
+        shared: &Shared<J>,
+        storage: &S,
+        marked: Marked<J>,
+    ) -> (Self, Marked<J>, Result<(), Failed>)
+        ensures settled { OnOk result.2 (HasSettled J.first result.0) }
+        ensures marked { OnOk result.2 (Begins marked result.0.kept.handed) }
+        ensures policy { result.0.policy ≡ self.policy }
+        ensures mark { result.1 ≡ marked }
+        ensures over { self.failed ≡ true → (result.0 ≡ self) × (is_err result.2 ≡ true) }
+    {
+        if !self.has_settled() {
+            return self.settle_marked(rt, alloc, shared, storage, marked);
+        }
+        let (settler, marked, has) = self.has_handed(rt, shared, marked);
+        if has {
+            return (settler, marked, Ok(()));
+        }
+        settler.settle_marked(rt, alloc, shared, storage, marked)
     }
 
     /// Keeps all that was appended, whatever the policy is. Where the device fails, it goes on as

@@ -1,7 +1,6 @@
 //! The journal of a shared session, for the threads that share it.
 
-ghost use Rattle.std.specs.Prelude.{◌≡◌, ◌≤◌, ℕ, true, IsSome};
-ghost use Rattle.workers.specs.Counts.{IsCountOf};
+ghost use Rattle.std.specs.Prelude.{IsSome};
 
 use crate::policy::Policy;
 use crate::settler::Settler;
@@ -13,7 +12,8 @@ use std::sync::atomic::{AtomicBool, AtomicU64, Ordering};
 use std::sync::{Mutex, Wait};
 use std::thread::sleep;
 use std::time::{Clock, Duration};
-use workers::{Naming, Shared};
+use witness::is_among;
+use workers::{Marked, Naming, Shared};
 
 /// How long the thread that keeps each second rests at once: a stop waits for it no longer.
 const NAP_MILLIS: u64 = 50;
@@ -54,18 +54,19 @@ impl<J: Naming, F: Appender + Drop> Place<J, F> {
         }
     }
 
-    /// It settles.
+    /// It settles up to a mark.
     fn settle<R: Wait, S: Storage<F>>(
         &mut self,
         rt: &R,
         alloc: Global,
         shared: &Shared<J>,
         storage: &S,
+        marked: Marked<J>,
     ) -> Result<(), Failed> {
         let Some(settler) = self.settler.take() else {
             unreachable!()
         };
-        let (settler, settled) = settler.settle(rt, alloc, shared, storage);
+        let (settler, _marked, settled) = settler.settle_up_to(rt, alloc, shared, storage, marked);
         self.settler = Some(settler);
         settled
     }
@@ -79,13 +80,6 @@ impl<J: Naming, F: Appender + Drop> Place<J, F> {
         self.settler = Some(settler);
         kept
     }
-}
-
-/// Whether all changes that were noted are among the first ones, so many of which are settled.
-fn is_among(noted: u64, settled: u64) -> bool
-    ensures { result ≡ true → ((all : ℕ) → IsCountOf noted all → all ≤ settled) }
-{
-    noted <= settled && noted < u64::MAX
 }
 
 /// The journal of a shared session, for the threads that share it. Who settles appends what all of them have noted: the
@@ -191,22 +185,22 @@ fn rests_a_second<R: Clock>(rt: &R, ended: &AtomicBool) -> bool {
 }
 
 impl<J: Naming, F: Appender + Drop, S: Storage<F>> Settles for SharedJournal<'_, J, F, S> {
-    /// Settles as [`Settler::settle`] does. What was noted before is counted first: where others have settled so many, as
-    /// they do while it waits for the lock, it neither appends nor keeps anything. Where that is known before, it takes
-    /// no lock but the session's.
+    /// Settles as [`Settler::settle_up_to`] does, up to a mark of all that was noted before. Where others have settled so
+    /// much, as they do while it waits for the lock, it neither appends nor keeps anything. Where that is known before,
+    /// it takes no lock but the session's.
     fn settle<R: Wait>(&self, rt: &R) -> Result<(), Failed> {
         if self.has_failed() {
             return Err(Failed);
         }
-        let noted = self.shared.noted(rt);
-        if is_among(noted, self.settled.load(Ordering::SeqCst)) {
+        let Some(marked) = self.shared.mark_noted(rt) else {
+            // Nothing is handed on of a session whose changes are not noted.
+            return Err(Failed);
+        };
+        if is_among(marked.count(), self.settled.load(Ordering::SeqCst)) {
             return Ok(());
         }
         let mut place = self.place.lock(rt);
-        if is_among(noted, place.settled()) {
-            return Ok(());
-        }
-        let settled = place.settle(rt, self.alloc, self.shared, self.storage);
+        let settled = place.settle(rt, self.alloc, self.shared, self.storage, marked);
         self.note(&place);
         settled
     }

@@ -1,3 +1,4 @@
-pub mod Beginnings
-pub mod Tokens
-pub mod Steps
+mod Beginnings
+mod Tokens
+mod Steps
+pub mod Facts

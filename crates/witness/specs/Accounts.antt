@@ -9,7 +9,7 @@ pub record LedgerId : Type 0 where
 
 -- all that was handed on, and what a witness may know
 pub record Accounted (E : Type 0) : Type 0 where
-  pub ledger : LedgerId
+  pub id : LedgerId
   pub handed : List E
   pub told : List E
 

@@ -38,7 +38,7 @@ impl<E> Model for Ledger<E> {
     ghost Value = { Accounted E };
 
     ghost view = { λ l. record {
-      ledger = record { roll = l.roll; row = l.row };
+      id = record { roll = l.roll; row = l.row };
       handed = handed_of l.teller;
       told = row_of l.teller;
     } };
@@ -126,7 +126,7 @@ pub fn is_among(some: u64, all: u64) -> bool
 impl<E: Drop> Ledger<E> {
     /// A ledger of no entry, and who hands its row on.
     pub fn open(alloc: Global) -> Result<(Self, Hander<E>), AllocError>
-        ensures ledger { IfOk result (λ r. r.1.ledger ≡ r.0.ledger) }
+        ensures ledger { IfOk result (λ r. r.1.ledger ≡ r.0.id) }
         ensures handed { IfOk result (λ r. r.0.handed ≡ []) }
         ensures told { IfOk result (λ r. r.0.told ≡ []) }
         ensures row { IfOk result (λ r. r.1.row ≡ []) }
@@ -154,9 +154,9 @@ impl<E: Drop> Ledger<E> {
     /// A mark of all that was noted: what was handed on, and these entries.
     pub fn mark(&mut self, noted: &Vec<E>) -> Mark<E>
         requires { Begins self.old.told (self.old.handed ++ noted.now.items) }
-        ensures row { result.row ≡ self.old.ledger.row }
+        ensures row { result.row ≡ self.old.id.row }
         ensures begins { result.begins ≡ self.old.handed ++ noted.now.items }
-        ensures ledger { self.new.ledger ≡ self.old.ledger }
+        ensures ledger { self.new.id ≡ self.old.id }
         ensures handed { self.new.handed ≡ self.old.handed }
         ensures told { self.new.told ≡ self.old.handed ++ noted.now.items }
     {
@@ -167,12 +167,12 @@ impl<E: Drop> Ledger<E> {
 
     /// A mark of all that was noted, as [`Ledger::mark`] makes it, in the place of an earlier one, which it goes on from.
     pub fn mark_further(&mut self, before: Mark<E>, noted: &Vec<E>) -> Mark<E>
-        requires row { before.row ≡ self.old.ledger.row }
+        requires row { before.row ≡ self.old.id.row }
         requires told { Begins self.old.told (self.old.handed ++ noted.now.items) }
         ensures before { Begins before.begins result.begins }
-        ensures row { result.row ≡ self.old.ledger.row }
+        ensures row { result.row ≡ self.old.id.row }
         ensures begins { result.begins ≡ self.old.handed ++ noted.now.items }
-        ensures ledger { self.new.ledger ≡ self.old.ledger }
+        ensures ledger { self.new.id ≡ self.old.id }
         ensures handed { self.new.handed ≡ self.old.handed }
         ensures told { self.new.told ≡ self.old.handed ++ noted.now.items }
     {
@@ -183,10 +183,10 @@ impl<E: Drop> Ledger<E> {
 
     /// These entries, which are all that was noted, are handed on.
     pub fn hand_on(&mut self, hander: Hander<E>, batch: &Vec<E>) -> Hander<E>
-        requires ledger { hander.ledger ≡ self.old.ledger }
+        requires ledger { hander.ledger ≡ self.old.id }
         requires told { Begins self.old.told (self.old.handed ++ batch.now.items) }
         ensures before { hander.row ≡ self.old.handed }
-        ensures ledger { self.new.ledger ≡ self.old.ledger }
+        ensures ledger { self.new.id ≡ self.old.id }
         ensures handed { self.new.handed ≡ self.old.handed ++ batch.now.items }
         ensures told { self.new.told ≡ self.old.handed ++ batch.now.items }
         ensures row { result.row ≡ hander.row ++ batch.now.items }
@@ -210,8 +210,8 @@ impl<E: Drop> Ledger<E> {
 
     /// Whether all that a mark knows was handed on. Both are handed back as they were.
     pub fn has_handed(&self, hander: Hander<E>, mark: Mark<E>) -> (Hander<E>, Mark<E>, bool)
-        requires ledger { hander.ledger ≡ self.now.ledger }
-        requires row { mark.row ≡ self.now.ledger.row }
+        requires ledger { hander.ledger ≡ self.now.id }
+        requires row { mark.row ≡ self.now.id.row }
         ensures handed { result.2 ≡ true → Begins mark.begins hander.row }
         ensures hander { result.0 ≡ hander }
         ensures mark { result.1 ≡ mark }

@@ -1,9 +1,9 @@
 pub mod Lists
 pub mod Accounts
 pub mod Coming
-pub mod Counts
 pub mod Noting
 pub mod Moments
+pub mod Marks
 pub mod Following
 pub mod Answers
 pub mod Made

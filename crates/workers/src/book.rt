@@ -1,47 +1,25 @@
 //! The changes of kept words, where they are noted.
 
-ghost use Rattle.std.specs.Prelude.{◌≡◌, ◌+◌, ℕ, List, false, length, true, IfErr, IfSome, None, OnErr, OnOk};
+ghost use Rattle.std.specs.Prelude.{◌≡◌, ◌+◌, ℕ, List, false, true, IfErr, None, OnErr, OnOk};
 ghost use Rattle.persist.specs.Noted.{answer_in, change_in, IsNoted};
 ghost use Rattle.named.specs.Lasting.{steps_left};
 ghost use Rattle.named.specs.Renewing.{HasRoomInEach, IsRenewedAt, IsWhyNotRenewedAt, MayRenew};
 ghost use Rattle.session.specs.Keeping.{SessionGoesOn};
 ghost use Rattle.session.specs.Promises.{KeepsNumbers};
-ghost use Rattle.workers.specs.Counts.{IsCountOf};
 ghost use Rattle.workers.specs.Noting.{HasPromised, IsBookOn, promised_in, with_promised};
 
 use arena::SlotId;
 use notes::Notes;
 use persist::{Change, Noted};
-use roll::{Roll, Token};
 use session::Session;
+use witness::Ledger;
 use words::Refusal;
 
-/// The changes of kept words: the keeper of those that were handed on, and those that were noted since.
+/// The changes of kept words: the ledger of those that were handed on, and those that were noted since.
 #[derive(Drop)]
 pub(crate) struct Book {
-    pub(crate) roll: Roll<Change>,
-    pub(crate) keeper: Token<Change>,
+    pub(crate) ledger: Ledger<Change>,
     pub(crate) notes: Notes,
-    /// How many were handed on.
-    pub(crate) count: u64,
-}
-
-/// A count, once there are so many more.
-pub(crate) fn counted(count: u64, more: usize) -> u64
-    ensures { (all : ℕ) → IsCountOf count all → IsCountOf result (all + more) }
-{
-    count.saturating_add(more as u64)
-}
-
-/// How many changes were handed on and noted since; none where they are not noted.
-pub(crate) fn noted_so_far(book: &Option<Book>) -> u64
-    ensures { IfSome book.now (λ b. (handed : ℕ) → IsCountOf b.count handed
-        → IsCountOf result (handed + length b.notes.changes)) }
-{
-    match book {
-        None => 0,
-        Some(book) => counted(book.count, book.notes.changes().len()),
-    }
 }
 
 /// Promises room for so many changes more, where changes are noted; if there is memory for it.

@@ -22,7 +22,7 @@ mod shared;
 pub use deeds::{Deed, Receipt};
 pub use entry::{Answer, End, Entry, Request};
 pub use gate::{Gate, OpenGate};
-pub use handed::Handed;
+pub use handed::{Handed, Marked};
 pub use laws::{calls_are_counted, interrupted_calls_are_told};
 pub use looks::Usage;
 pub use naming::Naming;
