@@ -147,7 +147,7 @@ impl Calls {
 }
 
 /// The number of a client's record.
-#[tactic(auto, using(crate::proofs::Records::record_in_range))]
+#[tactic(auto, using(crate::proofs::words::RecordNumbers::record_in_range))]
 pub(crate) fn record_number(clients: u32, records: u32, client: Client, used: u32) -> Token
     requires client { client.0 < clients }
     requires clients { clients ≤ MAX_CLIENTS }

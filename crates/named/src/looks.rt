@@ -61,7 +61,7 @@ impl Broker {
     /// What the client was last told in the queue of a slot: what the last recovery read, and at first what the base
     /// tells. It is refused, in this order, where there is no such client (NoClient), while the broker recovers
     /// (NotReady), and where the slot is closed (NoQueue).
-    #[tactic(auto, using(crate::proofs::Promises::promises_well))]
+    #[tactic(auto, using(crate::proofs::promises::Promises::promises_well))]
     pub fn told(&self, slot: SlotId, client: Client) -> Result<Told, Refusal>
         ensures told { result ≡ answer_at (λ w. Ok (told_to (told_in w.queue) client)) self.now slot.0 client }
         ensures promises { KeepsPromises self.now }
@@ -72,7 +72,7 @@ impl Broker {
     }
 
     /// Which kind of queue a slot has. It is refused where the slot is closed (NoQueue).
-    #[tactic(auto, using(crate::proofs::Promises::promises_well))]
+    #[tactic(auto, using(crate::proofs::promises::Promises::promises_well))]
     pub fn kind(&self, slot: SlotId) -> Result<Kind, Refusal>
         ensures kind { result ≡ answered (λ w. Ok w.shape.kind) (world_at self.now slot.0) }
         ensures promises { KeepsPromises self.now }
@@ -93,7 +93,7 @@ impl Broker {
 
     /// What happened in the queue of a slot since the history begins. It takes no memory, and is refused where the slot
     /// is closed (NoQueue). What is promised of every queue holds at every moment, as any broker has it.
-    #[tactic(auto, using(crate::proofs::Promises::promises_well))]
+    #[tactic(auto, using(crate::proofs::promises::Promises::promises_well))]
     pub fn history(&self, slot: SlotId) -> Result<&History, Refusal>
         ensures base { IfOk result (λ h. IfWorld (world_at self.now slot.0) (λ w. h.now.base.items ≡ w.base)) }
         ensures told { IfOk result (λ h. IfWorld (world_at self.now slot.0) (λ w. h.now.told ≡ w.told)) }

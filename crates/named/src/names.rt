@@ -96,7 +96,7 @@ impl Broker {
     /// Begins to create a queue of this name, in the lowest free slot. It is refused, in this order, where these bytes
     /// are no name (BadName), while recovery is under way (NotReady), where another creation is (Busy), where there is
     /// a queue of this name (Exists), and where there are eight queues (DirectoryFull).
-    #[tactic(auto, using(crate::proofs::GoingOn::broker_stays))]
+    #[tactic(auto, using(crate::proofs::acts::Continuity::broker_stays))]
     pub fn create(&mut self, name: &[u8], kind: Kind) -> Result<(), Refusal>
         ensures may { OnOk result (MayCreate self.old name.now) }
         ensures begun { OnOk result (IfSome self.new.creation (IsBegun self.old name.now kind)) }
