@@ -104,7 +104,10 @@ impl<'a, J: Naming, F: Appender + Drop, S: Storage<F>> SharedJournal<'a, J, F, S
         shared: &'a Shared<J>,
         storage: &'a S,
         settler: Settler<J, F>,
-    ) -> Self {
+    ) -> Self
+        ensures shared { result.shared.now ≡ shared.now }
+        ensures policy { result.policy ≡ settler.policy }
+    {
         let policy = settler.policy();
         let failed = AtomicBool::new(settler.has_failed());
         let settled = AtomicU64::new(settler.settled());
@@ -123,12 +126,16 @@ impl<'a, J: Naming, F: Appender + Drop, S: Storage<F>> SharedJournal<'a, J, F, S
     }
 
     /// The session.
-    pub fn shared(&self) -> &Shared<J> {
+    pub fn shared(&self) -> &Shared<J>
+        ensures { result.now ≡ self.now.shared.now }
+    {
         self.shared
     }
 
     /// The settler's policy.
-    pub fn policy(&self) -> Policy {
+    pub fn policy(&self) -> Policy
+        ensures { result ≡ self.now.policy }
+    {
         self.policy
     }
 
