@@ -23,7 +23,7 @@ pub use deeds::{Deed, Receipt};
 pub use entry::{Answer, End, Entry, Request};
 pub use gate::{Gate, OpenGate};
 pub use handed::{Handed, Marked};
-pub use laws::{calls_are_counted, interrupted_calls_are_told};
+pub use laws::{calls_are_counted, interrupted_calls_are_told, marked_answers_are_told};
 pub use looks::Usage;
 pub use naming::Naming;
 pub use opening::{NotOpened, Noting, Opened, is_in_use};
