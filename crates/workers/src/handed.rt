@@ -145,11 +145,10 @@ impl<J: Naming> Locked<J> {
             // Who has changes to hand on is of a session whose changes are noted.
             unreachable!();
         };
-        let Ok(batch) = book.notes.hand_out(fresh) else {
-            return (Handed::new(hander), Err(Refusal::NoMemory));
-        };
-        let hander = book.ledger.hand_on(hander, &batch);
-        (Handed::new(hander), Ok(batch))
+        match book.hand_on(hander, fresh) {
+            (hander, Ok(batch)) => (Handed::new(hander), Ok(batch)),
+            (hander, Err(_)) => (Handed::new(hander), Err(Refusal::NoMemory)),
+        }
     }
 
     /// Whether all that was marked was handed on.
